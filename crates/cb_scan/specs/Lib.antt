@@ -1,1 +1,5 @@
+pub mod Lexeme
+pub mod Lines
+pub mod Pieces
 pub mod TextFacts
+pub mod steps

@@ -4,10 +4,15 @@
 //! The layer above uses the contract of [`scan`]: the facts are the definitions of the text.
 #![tactic(auto)]
 
+mod cut;
 mod facts;
+pub mod laws;
+mod lexeme;
+mod lined;
 mod piece;
 mod source;
 
+pub use cut::pieces;
 pub use facts::{Def, Facts, Kind};
-pub use piece::{Class, Piece, Span};
+pub use piece::{Class, Piece, Pieces, Span};
 pub use source::{ScanError, Source};
