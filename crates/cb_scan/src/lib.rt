@@ -16,3 +16,6 @@ pub use cut::pieces;
 pub use facts::{Def, Facts, Kind};
 pub use piece::{Class, Piece, Pieces, Span};
 pub use source::{ScanError, Source};
+
+#[cfg(test)]
+mod tests;
