@@ -1,9 +1,10 @@
 -- The pieces of short texts, computed.
 use Rattle.std.specs.Prelude.{◌≡◌, ℕ, [], ◌∷◌, codes, refl}
+use Rattle.std.proofs.Common.{arith, inr, lit≤}
 use Rattle.cb_scan.specs.declared.piece.Class.{Class}
 use Rattle.cb_scan.specs.declared.piece.Class.TheVariants.{Name, Number, Str, LineNote, BlockNote, Blank, Newline, Byte}
 use Rattle.cb_scan.specs.declared.piece.Piece.{Piece}
-use Rattle.cb_scan.specs.Lexeme.{first_is}
+use Rattle.cb_scan.specs.Lexeme.{first_is, IsLexeme, not_closed, quoted_byte}
 use Rattle.cb_scan.specs.steps.Cut.{ends_join, class_at, number_len, blank_len, note_escape, ends_note, note_len, literal_escape, ends_literal, literal_len, block_len, length_in, pieces_from, pieces}
 
 -- the piece of this class from one place to another
@@ -73,3 +74,7 @@ closed_note = refl
 pub joined_note : pieces (47 ∷ 47 ∷ 92 ∷ 13 ∷ 10 ∷ 98 ∷ 10 ∷ []) ≡ piece LineNote 0 6 ∷ piece Newline 6 7 ∷ []
 unfolding cutting
 joined_note = refl
+
+-- `"a` before an LF is a literal
+pub open_lexeme : IsLexeme Str (34 ∷ 97 ∷ 10 ∷ []) 2
+open_lexeme = (refl, lit≤ tt, quoted_byte (λ e. omega arith) (λ e. omega arith) (λ e. omega arith) (not_closed (inr refl)))

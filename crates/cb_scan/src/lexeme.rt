@@ -23,7 +23,7 @@ use memchr::memmem;
 
 /// What stands directly before a byte of a note or literal: nothing of note, a `\`, or a `\` and a carriage return.
 #[derive(Clone, Copy, Debug, PartialEq, Eq)]
-pub enum Escape {
+pub(crate) enum Escape {
     Plain,
     Backslash,
     Return,
