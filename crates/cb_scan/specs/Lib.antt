@@ -1,1 +1,3 @@
 pub mod TextFacts
+pub mod Lines
+pub mod Reserved

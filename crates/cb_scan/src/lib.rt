@@ -5,9 +5,13 @@
 #![tactic(auto)]
 
 mod facts;
+mod meter;
+mod name;
 mod piece;
 mod source;
 
 pub use facts::{Def, Facts, Kind};
+pub use meter::Meter;
+pub use name::is_name;
 pub use piece::{Class, Piece, Span};
 pub use source::{ScanError, Source};

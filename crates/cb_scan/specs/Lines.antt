@@ -1,0 +1,16 @@
+-- The lines of a text.
+use Rattle.std.specs.Prelude.{◌+◌, ◌-◌, ◌==◌, ℕ, List, [], take, map, count_by}
+use Rattle.std.specs.List.{slice_index_or}
+use Rattle.bstr.specs.Text.{lines_of, without_terminator}
+
+-- the shown lines: the text cut after each line feed, each part without its line feed and one carriage return before that (POSIX text lines)
+abbrev pub lines : List ℕ → List (List ℕ)
+lines text = map without_terminator (lines_of text)
+
+-- the shown line n, counted from 1; no bytes where there is none
+abbrev pub line_text : List ℕ → ℕ → List ℕ
+line_text text n = slice_index_or (lines text) (n - 1) []
+
+-- the line of a place: one more than the line feeds before it
+abbrev pub line_of : List ℕ → ℕ → ℕ
+line_of text place = count_by (λ b. b == 10) (take place text) + 1
