@@ -1,3 +1,9 @@
 pub mod TextFacts
 pub mod Lines
 pub mod Reserved
+pub mod Tokens
+pub mod Code
+pub mod Depth
+pub mod Functions
+pub mod Definitions
+pub mod steps

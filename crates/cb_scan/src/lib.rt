@@ -5,10 +5,12 @@
 #![tactic(auto)]
 
 mod facts;
+mod machine;
 mod meter;
 mod name;
 mod piece;
 mod source;
+mod token;
 
 pub use facts::{Def, Facts, Kind};
 pub use meter::Meter;
