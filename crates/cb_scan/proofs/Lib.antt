@@ -1,1 +1,3 @@
 pub mod WordLemmas
+pub mod HeadLemmas
+pub mod FunctionLemmas
