@@ -100,7 +100,7 @@ module _ (ts : List Token) (k : ℕ) (m : Machine) (at : IsAt ts k m) where
   found_is : option_to_list (found m (token_at ts k)) ≡ map function_def (function_at ts k)
   found_is =
       let inside : option_map (def_of m.head.has_static) (defined m.head) ≡ option_map (def_of (list_any (λ (t : Token). is_static t.role) (head ts k))) (defined_name (head ts k)) =
-          (λ i. option_map (def_of ((ap (λ h. h.has_static) at.head_is ∙ static_is (head ts k)) i)) ((ap defined at.head_is ∙ defined_of (head ts k)) i)) in
+      (λ i. option_map (def_of ((ap (λ h. h.has_static) at.head_is ∙ static_is (head ts k)) i)) ((ap defined at.head_is ∙ defined_of (head ts k)) i)) in
       (λ i. option_to_list (if (is_mark 123 (token_at ts k).role && not (at.linkage_is i)) && at.depth_is i == 0 then inside i else None))
       ∙ defs_at (is_counted ts k && depth ts k == 0) (defined_name (head ts k))
     where
@@ -111,7 +111,6 @@ module _ (ts : List Token) (k : ℕ) (m : Machine) (at : IsAt ts k m) where
 
 -- the pass from token k on finds the functions from there on
 from : (ts : List Token) (k : ℕ) (m : Machine) (rest : List Token) → drop k ts ≡ rest → IsAt ts k m → defs_from m rest ≡ map function_def (flat_map (function_at ts) (range_with_len k (length rest)))
-unfolding defs_from
 from ts k m [] left at = refl
 from ts k m (t ∷ rest) left at =
     let within : k < length ts = omega (arith, length-drop k ts, ap length left) in

@@ -1,2 +1,4 @@
+pub mod Code
 pub mod Cut
+pub mod Lined
 pub mod Machine

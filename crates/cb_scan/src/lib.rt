@@ -5,10 +5,12 @@
 #![tactic(auto)]
 
 mod facts;
+mod lined;
 mod machine;
 mod meter;
 mod name;
 mod piece;
+mod scanner;
 mod source;
 mod token;
 

@@ -71,7 +71,11 @@ impl Head {
     {
         Head {
             last: Some(token),
-            begins_with_typedef: if self.last.is_none() { token.is_typedef() } else { self.begins_with_typedef },
+            begins_with_typedef: if self.last.is_none() {
+                token.is_typedef()
+            } else {
+                self.begins_with_typedef
+            },
             has_equals: self.has_equals || token.is_mark(b'='),
             has_static: self.has_static || token.is_static(),
             called: called_after(self.called, self.last, token),
@@ -83,7 +87,10 @@ impl Head {
         ensures { result ≡ defined self }
     {
         match self.last {
-            Some(last) if !self.begins_with_typedef && !self.has_equals && (last.is_mark(b')') || last.is_name()) => self.called,
+            Some(last)
+                if !self.begins_with_typedef
+                    && !self.has_equals
+                    && (last.is_mark(b')') || last.is_name()) => self.called,
             _ => None,
         }
     }
@@ -146,7 +153,11 @@ impl Machine {
         Machine {
             depth,
             before: before_after(self.before, token),
-            head: if self.stops(token, depth) { Head::new() } else { self.head.add(token) },
+            head: if self.stops(token, depth) {
+                Head::new()
+            } else {
+                self.head.add(token)
+            },
         }
     }
 

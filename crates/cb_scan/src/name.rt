@@ -5,20 +5,36 @@ ghost use Rattle.std.specs.Str.{bytes_eq};
 ghost use Rattle.cb_scan.specs.Reserved.{begins_with_letter, continues_name, is_letter, is_name, is_reserved};
 
 const TWO: [&[u8]; 2] = [b"do", b"if"];
+
 const THREE: [&[u8]; 3] = [b"for", b"int", b"asm"];
+
 const FOUR: [&[u8]; 8] = [
     b"auto", b"case", b"char", b"else", b"enum", b"goto", b"long", b"void",
 ];
+
 const FIVE: [&[u8]; 7] = [
     b"break", b"const", b"float", b"short", b"union", b"while", b"_Bool",
 ];
+
 const SIX: [&[u8]; 9] = [
-    b"double", b"extern", b"inline", b"return", b"signed", b"sizeof", b"static", b"struct", b"switch",
+    b"double", b"extern", b"inline", b"return", b"signed", b"sizeof", b"static", b"struct",
+    b"switch",
 ];
+
 const SEVEN: [&[u8]; 5] = [b"default", b"typedef", b"_Atomic", b"__asm__", b"defined"];
+
 const EIGHT: [&[u8]; 9] = [
-    b"continue", b"register", b"restrict", b"unsigned", b"volatile", b"_Alignas", b"_Alignof", b"_Complex", b"_Generic",
+    b"continue",
+    b"register",
+    b"restrict",
+    b"unsigned",
+    b"volatile",
+    b"_Alignas",
+    b"_Alignof",
+    b"_Complex",
+    b"_Generic",
 ];
+
 const LONGER: [&[u8]; 7] = [
     b"_Noreturn",
     b"_Imaginary",

@@ -1,9 +1,11 @@
 //! Tokens: the pieces that the rules on definitions speak of, each with what it is for them.
 ghost use Rattle.std.specs.Prelude.{◌≡◌, ◌≤◌, ◌<◌, length};
 ghost use Rattle.std.specs.Str.{bytes_eq};
-ghost use Rattle.cb_scan.specs.Tokens.{bytes_of, is_mark, is_name_token, is_static, is_typedef, role_of, starts_line, token_of, word_of};
-ghost use Rattle.cb_scan.specs.Lines.{line_of};
+ghost use Rattle.cb_scan.specs.Tokens.{bytes_of, is_mark, is_name_token, is_static, is_typedef, role_of, starts_line, word_of};
+ghost use Rattle.cb_scan.specs.steps.Lined.{Within};
+ghost use Rattle.cb_scan.specs.steps.Code.{lined_token};
 
+use crate::lined::Lined;
 use crate::name::is_reserved;
 use crate::piece::{Class, Piece, Span};
 
@@ -80,19 +82,16 @@ fn starts_line(text: &[u8], place: u32) -> bool
     place == 0 || text[place as usize - 1] == b'\n'
 }
 
-/// The token of a piece that stands on the line.
-pub(crate) fn token_of(text: &[u8], piece: Piece, line: u32) -> Token
-    requires start { piece.span.start < length text.now }
-    requires order { piece.span.start ≤ piece.span.end }
-    requires end { piece.span.end ≤ length text.now }
-    requires line { line ≡ line_of text.now piece.span.start }
-    ensures { result ≡ token_of text.now piece }
+/// The token of a piece.
+pub(crate) fn token_of(text: &[u8], lined: Lined) -> Token
+    requires { Within text.now lined }
+    ensures { result ≡ lined_token text.now lined }
 {
     Token {
-        role: role_of(text, piece),
-        span: piece.span,
-        line,
-        starts_line: starts_line(text, piece.span.start),
+        role: role_of(text, lined.piece),
+        span: lined.piece.span,
+        line: lined.line,
+        starts_line: starts_line(text, lined.piece.span.start),
     }
 }
 

@@ -83,6 +83,6 @@ abbrev pub found : Machine → Token → Option Def
 found m t = if counts m t && m.depth == 0 then option_map (def_of m.head.has_static) (defined m.head) else None
 
 -- the functions of the tokens from a state on
-unfoldable pub defs_from : Machine → List Token → List Def
+abbrev pub defs_from : Machine → List Token → List Def
 defs_from m [] = []
 defs_from m (t ∷ ts) = option_to_list (found m t) ++ defs_from (next m t) ts
