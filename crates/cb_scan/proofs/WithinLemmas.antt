@@ -12,6 +12,7 @@ use Rattle.cb_scan.specs.Functions.{Function, called_name, may_define, head, fun
 use Rattle.cb_scan.specs.Depth.{depth, head_start, is_counted}
 use Rattle.cb_scan.specs.declared.facts.Def.{Def}
 use Rattle.cb_scan.specs.steps.Cut.{pieces}
+use Rattle.cb_scan.specs.Pieces.{LiesIn}
 use Rattle.cb_scan.specs.Tokens.{tokens, token_of, is_significant, is_name_token, is_mark, is_static}
 
 -- each of a list of lists
@@ -51,26 +52,23 @@ module _ {X : Type 0} (P : X → Type 0) where
   all-split test (x ∷ xs) a =
       elim (test x) as (λ b. AllOfAll P (cond b ([] ∷ slice_split test xs) (onto_first x (slice_split test xs)))) [ true ↦ (tt, all-split test xs a.1) | false ↦ all-onto_first x (slice_split test xs) a.0 (all-split test xs a.1) ]
 
--- a piece lies in the text, and has a byte at least
-abbrev pub PieceWithin : List ℕ → Piece → Type 0
-PieceWithin text p = (p.span.start < p.span.end) × (p.span.end ≤ length text)
-
+-- a token lies in the text, and has a byte at least
 abbrev TokenWithin : List ℕ → Token → Type 0
 TokenWithin text t = (t.span.start < t.span.end) × (t.span.end ≤ length text)
 
-tokens-within : (text : List ℕ) (ps : List Piece) → AllByRecursion (PieceWithin text) ps → AllByRecursion (TokenWithin text) (tokens text ps)
+tokens-within : (text : List ℕ) (ps : List Piece) → AllByRecursion (LiesIn text) ps → AllByRecursion (TokenWithin text) (tokens text ps)
 tokens-within text [] a = tt
 tokens-within text (p ∷ ps) a =
     elim (is_significant p.class) as (λ b. AllByRecursion (TokenWithin text) (map (token_of text) (cond b (p ∷ filter (λ q. is_significant q.class) ps) (filter (λ q. is_significant q.class) ps)))) [ true ↦ (a.0, tokens-within text ps a.1) | false ↦ tokens-within text ps a.1 ]
 
-lines-within : (text : List ℕ) (ls : List (List Piece)) → AllOfAll (PieceWithin text) ls → AllOfAll (TokenWithin text) (map (tokens text) ls)
+lines-within : (text : List ℕ) (ls : List (List Piece)) → AllOfAll (LiesIn text) ls → AllOfAll (TokenWithin text) (map (tokens text) ls)
 lines-within text [] a = tt
 lines-within text (l ∷ ls) a = (tokens-within text l a.0, lines-within text ls a.1)
 
 -- the code of pieces that lie in the text
-pub code-within : (text : List ℕ) (ps : List Piece) → AllByRecursion (PieceWithin text) ps → AllByRecursion (TokenWithin text) (code_of_lines (lines_of_tokens text ps))
+pub code-within : (text : List ℕ) (ps : List Piece) → AllByRecursion (LiesIn text) ps → AllByRecursion (TokenWithin text) (code_of_lines (lines_of_tokens text ps))
 code-within text ps a =
-    all-joined (TokenWithin text) _ (all-filter (AllByRecursion (TokenWithin text)) (λ l. not (is_directive l)) (lines_of_tokens text ps) (lines-within text _ (all-split (PieceWithin text) (λ p. is_newline p.class) ps a)))
+    all-joined (TokenWithin text) _ (all-filter (AllByRecursion (TokenWithin text)) (λ l. not (is_directive l)) (lines_of_tokens text ps) (lines-within text _ (all-split (LiesIn text) (λ p. is_newline p.class) ps a)))
 
 -- the first called name of some tokens is one of them
 called-among : (P : Token → Type 0) (h : List Token) → AllByRecursion P h → MatchOption (called_name h) (Unit {0}) P
@@ -108,6 +106,6 @@ functions-within text ts k (suc n) a =
     (all-append (DefWithin text) _ _ (function-within text ts k a) (functions-within text ts (k + 1) n a))
 
 -- the definitions of a text whose pieces lie in it
-pub definitions-within : (text : List ℕ) → AllByRecursion (PieceWithin text) (pieces text) → AllByRecursion (DefWithin text) (definitions text)
+pub definitions-within : (text : List ℕ) → AllByRecursion (LiesIn text) (pieces text) → AllByRecursion (DefWithin text) (definitions text)
 unfolding definitions
 definitions-within text a = functions-within text (code text) 0 (length (code text)) (code-within text (pieces text) a)

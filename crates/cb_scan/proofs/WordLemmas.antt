@@ -1,7 +1,8 @@
--- A word can only equal words of its own length.
-use Rattle.std.proofs.Common.{◌≡◌, ℕ, Bool, true, false, List, [], ◌∷◌, length, refl, sym, ap, ◌∙◌}
-use Rattle.std.specs.Prelude.{filter, ◌||◌, cond}
-use Rattle.std.specs.List.{list_any}
+-- Words: what an identifier is by its first byte and the others, and that a word can only equal words of its own length.
+use Rattle.std.proofs.Common.{◌≡◌, ◌≤◌, ◌<◌, get_or, drop, arith, ℕ, Bool, true, false, List, [], ◌∷◌, length, refl, sym, ap, ◌∙◌}
+use Rattle.std.specs.Prelude.{filter, ◌||◌, ◌&&◌, cond}
+use Rattle.std.specs.List.{list_all, list_any}
+use Rattle.cb_scan.specs.Lexeme.{is_identifier, is_letter, is_word}
 use Rattle.std.specs.Str.{bytes_eq}
 use Rattle.std.proofs.lemmas.Bool.{false≢true, false_from_ne_true}
 use Rattle.std.proofs.lemmas.Slice.Eq.{bytes_eq-Decides}
@@ -21,3 +22,14 @@ pub among_by_length : (q : ℕ → Bool) (words : List (List ℕ)) (word : List 
 among_by_length q [] word long = refl
 among_by_length q (r ∷ rs) word long =
     among_step (λ w. bytes_eq w word) (q (length r)) r (filter (λ w. q (length w)) rs) rs (differs q r word long) (among_by_length q rs word long)
+
+-- an identifier by its first byte and the others
+pub identifier-parts : (bs : List ℕ) → 1 ≤ length bs → (is_letter (get_or bs 0 0) && list_all is_word (drop 1 bs)) ≡ is_identifier bs
+unfolding is_identifier
+identifier-parts [] some = absurd (omega arith)
+identifier-parts (b ∷ bs) some = refl
+
+pub identifier-none : (bs : List ℕ) → length bs < 1 → false ≡ is_identifier bs
+unfolding is_identifier
+identifier-none [] none = refl
+identifier-none (b ∷ bs) none = absurd (omega arith)

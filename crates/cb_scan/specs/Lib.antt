@@ -1,9 +1,11 @@
-pub mod TextFacts
-pub mod Lines
-pub mod Reserved
-pub mod Tokens
 pub mod Code
+pub mod Definitions
 pub mod Depth
 pub mod Functions
-pub mod Definitions
+pub mod Lexeme
+pub mod Lines
+pub mod Pieces
+pub mod Reserved
+pub mod TextFacts
+pub mod Tokens
 pub mod steps

@@ -12,5 +12,5 @@ abbrev pub line_text : List ℕ → ℕ → List ℕ
 line_text text n = slice_index_or (lines text) (n - 1) []
 
 -- the line of a place: one more than the line feeds before it
-unfoldable pub line_of : List ℕ → ℕ → ℕ
+abbrev pub line_of : List ℕ → ℕ → ℕ
 line_of text place = count_by (λ b. b == 10) (take place text) + 1

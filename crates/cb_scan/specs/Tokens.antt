@@ -70,11 +70,11 @@ is_mark b Str = false
 is_mark b Other = false
 
 -- a word that passes a test
-abbrev pub is_word : (WordKind → Bool) → Role → Bool
-is_word test (Word w) = test w
-is_word test (Mark x) = false
-is_word test Str = false
-is_word test Other = false
+abbrev pub has_kind : (WordKind → Bool) → Role → Bool
+has_kind test (Word w) = test w
+has_kind test (Mark x) = false
+has_kind test Str = false
+has_kind test Other = false
 
 -- a string
 abbrev pub is_str : Role → Bool
@@ -101,13 +101,13 @@ kind_is_static _ = false
 
 -- a name; one of three reserved words
 abbrev pub is_name_token : Role → Bool
-is_name_token = is_word kind_is_name
+is_name_token = has_kind kind_is_name
 
 abbrev pub is_typedef : Role → Bool
-is_typedef = is_word kind_is_typedef
+is_typedef = has_kind kind_is_typedef
 
 abbrev pub is_extern : Role → Bool
-is_extern = is_word kind_is_extern
+is_extern = has_kind kind_is_extern
 
 abbrev pub is_static : Role → Bool
-is_static = is_word kind_is_static
+is_static = has_kind kind_is_static

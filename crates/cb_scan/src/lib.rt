@@ -4,7 +4,10 @@
 //! The layer above uses the contract of [`scan`]: the facts are the definitions of the text.
 #![tactic(auto)]
 
+mod cut;
 mod facts;
+pub mod laws;
+mod lexeme;
 mod lined;
 mod machine;
 mod meter;
@@ -14,8 +17,10 @@ mod scanner;
 mod source;
 mod token;
 
+pub use cut::pieces;
 pub use facts::{Def, Facts, Kind};
 pub use meter::Meter;
 pub use name::is_name;
-pub use piece::{Class, Piece, Span};
+pub use piece::{Class, Piece, Pieces, Span};
+pub use scanner::scan;
 pub use source::{ScanError, Source};

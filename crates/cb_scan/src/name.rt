@@ -2,7 +2,10 @@
 ghost use Rattle.std.specs.Prelude.{◌≡◌};
 ghost use Rattle.std.specs.List.{list_all, list_any};
 ghost use Rattle.std.specs.Str.{bytes_eq};
-ghost use Rattle.cb_scan.specs.Reserved.{begins_with_letter, continues_name, is_letter, is_name, is_reserved};
+ghost use Rattle.cb_scan.specs.Lexeme.{is_identifier, is_letter, is_word};
+ghost use Rattle.cb_scan.specs.Reserved.{is_name, is_reserved};
+
+use crate::lexeme::is_word;
 
 const TWO: [&[u8]; 2] = [b"do", b"if"];
 
@@ -45,20 +48,6 @@ const LONGER: [&[u8]; 7] = [
     b"_Static_assert",
 ];
 
-/// Whether the byte can begin a name.
-pub(crate) fn is_letter(byte: u8) -> bool
-    ensures { result ≡ is_letter byte }
-{
-    byte.is_ascii_alphabetic() || byte == b'_'
-}
-
-/// Whether the byte can stand in a name after its first.
-pub(crate) fn continues_name(byte: u8) -> bool
-    ensures { result ≡ continues_name byte }
-{
-    byte.is_ascii_alphanumeric() || byte == b'_'
-}
-
 fn is_among(words: &[&[u8]], word: &[u8]) -> bool
     ensures { result ≡ list_any (λ w. bytes_eq w.now word.now) words.now }
 {
@@ -83,21 +72,30 @@ pub(crate) fn is_reserved(word: &[u8]) -> bool
     }
 }
 
-fn begins_with_letter(bytes: &[u8]) -> bool
-    ensures { result ≡ begins_with_letter bytes.now }
+fn is_identifier(bytes: &[u8]) -> bool
+    ensures { result ≡ is_identifier bytes.now }
 {
-    !bytes.is_empty() && is_letter(bytes[0])
+    match bytes {
+        [first, others @ ..] => is_letter(*first) && all_word_bytes(others),
+        [] => false,
+    }
 }
 
-fn all_continue(bytes: &[u8]) -> bool
-    ensures { result ≡ list_all continues_name bytes.now }
+fn is_letter(byte: u8) -> bool
+    ensures { result ≡ is_letter byte }
 {
-    bytes.iter().all(|b| continues_name(*b))
+    matches!(byte, b'A'..=b'Z' | b'a'..=b'z' | b'_')
+}
+
+fn all_word_bytes(bytes: &[u8]) -> bool
+    ensures { result ≡ list_all is_word bytes.now }
+{
+    bytes.iter().all(|byte| is_word(*byte))
 }
 
 /// Whether the bytes are an identifier that is not reserved (ISO C 2011, 6.4.2.1 and 6.4.1; six words more are reserved).
 pub fn is_name(bytes: &[u8]) -> bool
     ensures { result ≡ is_name bytes.now }
 {
-    begins_with_letter(bytes) && all_continue(bytes) && !is_reserved(bytes)
+    is_identifier(bytes) && !is_reserved(bytes)
 }

@@ -68,3 +68,18 @@ fn definitions(alloc: Global, text: &[u8]) -> Result<Vec<Def>, AllocError>
     }
     Ok(defs)
 }
+
+/// What the text defines. The meter counts the bytes of the source, also where memory was refused, which is the only error.
+pub fn scan(alloc: Global, meter: &mut Meter, source: &Source) -> Result<Facts, ScanError>
+    ensures facts { IfOk result (λ f. f ≡ facts_of source.now) }
+    ensures within { IfOk result (λ f. AllByRecursion (λ d. IsWithin source.now d.name) f.defs) }
+    ensures memory { IfErr result (λ e. e ≡ ScanError.OutOfMemory) }
+    ensures counted { meter.new ≡ min (meter.old + length source.now) (2 ^ 64 - 1) }
+{
+    let text = source.bytes();
+    meter.add(text.len() as u64);
+    match definitions(alloc, text) {
+        Ok(defs) => Ok(Facts::new(defs)),
+        Err(_) => Err(ScanError::OutOfMemory),
+    }
+}

@@ -1,7 +1,122 @@
--- STUB of the pieces
-use Rattle.std.specs.Prelude.{ℕ, List, []}
+-- The pieces of a text as they are computed: one byte after the other, the first byte decides the class.
+use Rattle.std.specs.Prelude.{◌+◌, ℕ, zero, suc, Bool, false, ◌==◌, ◌||◌, ◌&&◌, not, if◌then◌else◌, List, [], ◌∷◌, length, drop}
+use Rattle.std.specs.List.{prefix_len}
+use Rattle.cb_scan.specs.declared.lexeme.Escape.{Escape}
+use Rattle.cb_scan.specs.declared.lexeme.Escape.TheVariants.{Plain, Backslash, Return}
+use Rattle.cb_scan.specs.declared.piece.Class.{Class}
+use Rattle.cb_scan.specs.declared.piece.Class.TheVariants.{Name, Number, Str, Chr, LineNote, BlockNote, Blank, Newline, Byte}
 use Rattle.cb_scan.specs.declared.piece.Piece.{Piece}
+use Rattle.cb_scan.specs.Lexeme.{is_letter, is_digit, is_word, is_blank, goes_on, first_is}
+
+-- the first byte is b
+abbrev pub begins : ℕ → List ℕ → Bool
+begins b rest = first_is (λ a. a == b) rest
+
+-- the bytes behind a `\` make it a join
+unfoldable pub ends_join : List ℕ → Bool
+ends_join [] = false
+ends_join (b ∷ rest) = b == 10 || (b == 13 && begins 10 rest)
+
+-- the class of the piece that begins here
+unfoldable pub class_at : List ℕ → Class
+class_at [] = Byte
+class_at (b ∷ rest) =
+    if is_letter b then Name
+    else if is_digit b || (b == 46 && first_is is_digit rest) then Number
+    else if b == 34 then Str
+    else if b == 39 then Chr
+    else if b == 47 && begins 47 rest then LineNote
+    else if b == 47 && begins 42 rest then BlockNote
+    else if is_blank b || (b == 92 && ends_join rest) then Blank
+    else if b == 10 then Newline
+    else Byte
+
+-- how many bytes go on a number behind the byte `last`
+unfoldable pub number_len : ℕ → List ℕ → ℕ
+number_len last [] = 0
+number_len last (b ∷ rest) = if goes_on last b then suc (number_len b rest) else 0
+
+-- b goes on a blank, in a join or out of one
+abbrev pub goes_on_blank : Bool → ℕ → List ℕ → Bool
+goes_on_blank joining b rest = is_blank b || (joining && b == 10) || (b == 92 && ends_join rest)
+
+-- how many bytes go on a blank; `joining` says that a join has begun whose LF is still to come
+unfoldable pub blank_len : Bool → List ℕ → ℕ
+blank_len joining [] = 0
+blank_len joining (b ∷ rest) =
+    if goes_on_blank joining b rest then suc (blank_len (b == 92 || (joining && not (b == 10))) rest) else 0
+
+-- what stands behind b in a line note
+unfoldable pub note_escape : Escape → ℕ → Escape
+note_escape Plain b = if b == 92 then Backslash else Plain
+note_escape Backslash b = if b == 92 then Backslash else if b == 13 then Return else Plain
+note_escape Return b = if b == 92 then Backslash else Plain
+
+-- b ends a line note
+unfoldable pub ends_note : Escape → ℕ → Bool
+ends_note Plain b = b == 10
+ends_note Backslash b = false
+ends_note Return b = false
+
+-- how many bytes go on a line note
+unfoldable pub note_len : Escape → List ℕ → ℕ
+note_len e [] = 0
+note_len e (b ∷ rest) = if ends_note e b then 0 else suc (note_len (note_escape e b) rest)
+
+-- what stands behind b in a literal
+unfoldable pub literal_escape : Escape → ℕ → Escape
+literal_escape Plain b = if b == 92 then Backslash else Plain
+literal_escape Backslash b = if b == 13 then Return else Plain
+literal_escape Return b = if b == 92 then Backslash else Plain
+
+-- b ends a literal with the quote q
+unfoldable pub ends_literal : ℕ → Escape → ℕ → Bool
+ends_literal q Plain b = b == q || b == 10
+ends_literal q Backslash b = false
+ends_literal q Return b = b == q
+
+-- how many bytes go on a literal with the quote q, with its closing quote
+unfoldable pub literal_len : ℕ → Escape → List ℕ → ℕ
+literal_len q e [] = 0
+literal_len q e (b ∷ rest) =
+    if ends_literal q e b then (if b == q then 1 else 0) else suc (literal_len q (literal_escape e b) rest)
+
+-- how many bytes go on a block note, with its `*/`; `star` says that a `*` stands directly before
+unfoldable pub block_len : Bool → List ℕ → ℕ
+block_len star [] = 0
+block_len star (b ∷ rest) = if star && b == 47 then 1 else suc (block_len (b == 42) rest)
+
+-- how many bytes the piece of this class takes that begins here
+unfoldable pub length_in : Class → List ℕ → ℕ
+length_in Name rest = prefix_len is_word rest
+length_in Number rest = number_len 46 rest
+length_in Str rest = suc (literal_len 34 Plain (drop 1 rest))
+length_in Chr rest = suc (literal_len 39 Plain (drop 1 rest))
+length_in LineNote rest = suc (suc (note_len Plain (drop 2 rest)))
+length_in BlockNote rest = suc (suc (block_len false (drop 2 rest)))
+length_in Blank rest = blank_len false rest
+length_in Newline rest = 1
+length_in Byte rest = 1
+
+-- how many bytes the piece takes that begins here
+abbrev pub piece_len : List ℕ → ℕ
+piece_len rest = length_in (class_at rest) rest
+
+-- the piece that begins at this place, where so much is left of the text
+abbrev pub piece_at : ℕ → List ℕ → Piece
+piece_at place rest = record { class = class_at rest; span = record { start = place; end = place + piece_len rest } }
+
+-- the pieces from a place on: fuel is at least the number of bytes left
+unfoldable pub pieces_from : ℕ → ℕ → List ℕ → List Piece
+pieces_from zero place rest = []
+pieces_from (suc fuel) place [] = []
+pieces_from (suc fuel) place (b ∷ rest) =
+    piece_at place (b ∷ rest) ∷ pieces_from fuel (place + piece_len (b ∷ rest)) (drop (piece_len (b ∷ rest)) (b ∷ rest))
+
+-- the pieces from a place on, where so much is left of the text
+abbrev pub pieces_at : ℕ → List ℕ → List Piece
+pieces_at place rest = pieces_from (length rest) place rest
 
 -- the pieces of a text
-unfoldable pub pieces : List ℕ → List Piece
-pieces text = []
+abbrev pub pieces : List ℕ → List Piece
+pieces text = pieces_at 0 text

@@ -1,10 +1,14 @@
 -- The pieces of a text with their lines.
-use Rattle.std.specs.Prelude.{◌<◌, ◌≤◌, ℕ, Bool, true, false, List, length}
+use Rattle.std.specs.Prelude.{◌<◌, ◌≤◌, ◌==◌, ℕ, Bool, true, false, List, length}
 use Rattle.cb_scan.specs.declared.lined.Lined.{Lined}
 use Rattle.cb_scan.specs.declared.piece.Class.{Class}
 use Rattle.cb_scan.specs.declared.piece.Class.TheVariants.{Name, Number, Str, Chr, LineNote, BlockNote, Blank, Newline, Byte}
 use Rattle.cb_scan.specs.declared.piece.Piece.{Piece}
 use Rattle.cb_scan.specs.Lines.{line_of}
+
+-- the byte is a line feed
+abbrev pub is_feed : ℕ → Bool
+is_feed b = b == 10
 
 -- a piece of the text with the line of its first byte
 unfoldable pub lined : List ℕ → Piece → Lined

@@ -1,0 +1,22 @@
+//! What holds of the pieces of every text, as functions that do nothing and whose contracts are the laws.
+ghost use Rattle.std.specs.Prelude.{◌≡◌, ◌<◌, ◌≤◌, ℕ, List, length};
+ghost use Rattle.std.specs.List.{AllByRecursion};
+ghost use Rattle.cb_scan.specs.declared.piece.Piece.{Piece};
+ghost use Rattle.cb_scan.specs.Pieces.{IsPieces, Adjoin, LiesIn};
+ghost use Rattle.cb_scan.specs.steps.Cut.{pieces};
+
+/// The computed pieces of a text are its pieces.
+pub fn pieces_are()
+    ensures { (text : List ℕ) → IsPieces text (pieces text) }
+{}
+
+/// A text has no other list of pieces.
+pub fn pieces_only()
+    ensures { (text : List ℕ) (ps : List Piece) → IsPieces text ps → ps ≡ pieces text }
+{}
+
+/// The pieces of a text lie in it, in order: each begins where the one before it ends.
+pub fn pieces_in_order()
+    ensures within { (text : List ℕ) → AllByRecursion (LiesIn text) (pieces text) }
+    ensures order { (text : List ℕ) → Adjoin 0 (length text) (pieces text) }
+{}
