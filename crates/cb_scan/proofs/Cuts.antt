@@ -5,7 +5,7 @@ use Rattle.std.specs.List.{list_all, prefix_len}
 use Rattle.cb_scan.specs.declared.lexeme.Escape.TheVariants.{Plain}
 use Rattle.cb_scan.specs.declared.piece.Class.{Class}
 use Rattle.cb_scan.specs.declared.piece.Class.TheVariants.{Name, Number, Str, Chr, LineNote, BlockNote, Blank, Newline, Byte}
-use Rattle.cb_scan.specs.Lexeme.{is_letter, is_digit, is_word, is_blank, is_name, is_number, first_is, goes_on, all_go_on, note_end, Blanks, no_blank, a_blank, a_join, a_cr_join, Noted, Quoted, Spells, IsLexeme}
+use Rattle.cb_scan.specs.Lexeme.{is_letter, is_digit, is_word, is_blank, is_identifier, is_number, first_is, goes_on, all_go_on, note_end, Blanks, no_blank, a_blank, a_join, a_cr_join, Noted, Quoted, Spells, IsLexeme}
 use Rattle.cb_scan.specs.steps.Cut.{begins, ends_join, class_at, number_len, goes_on_blank, blank_len, note_len, literal_len, block_len, length_in, piece_len}
 use Rattle.cb_scan.proofs.Blocks.{block_len-within, block_len-found, finds_close}
 use Rattle.cb_scan.proofs.Fronts.{Front, front, at_name, at_number, at_str, at_chr, at_line_note, at_block_note, at_blank, at_newline, at_byte, class-letter, class-number, class-quote, class-apostrophe, class-line_note, class-block_note, class-blank, class-join, class-cr_join, class-feed}
@@ -134,7 +134,7 @@ number_front b rest more along t = ⊎_elim
 
 -- what the class at a place counts is a lexeme of that class
 spelled : (b : ℕ) (rest : List ℕ) (class : Class) → Front b rest class → Spells class (b ∷ rest) (length_in class (b ∷ rest)) ⊎ (class ≡ Byte)
-unfolding length_in is_name is_number
+unfolding length_in is_identifier is_number
 spelled b rest Name (at_name t) =
     let inner = prefix_within is_word rest in
     inl (subst (λ n. Spells Name (b ∷ rest) n) (sym (prefix-step is_word b rest (letter-word b t)))
@@ -193,8 +193,8 @@ two_from p q class known (a ∷ b ∷ rest) e =
     (subst (λ (c : ℕ). class_at (c ∷ b ∷ rest) ≡ class) x (subst (λ (d : ℕ). class_at (p ∷ d ∷ rest) ≡ class) y (known rest)), omega arith)
 
 -- a name's or a number's bytes, taken apart
-name_parts : (text : List ℕ) (n : ℕ) → n ≤ length text → is_name (take n text) ≡ true → (class_at text ≡ Name) × (n ≤ prefix_len is_word text)
-unfolding is_name
+name_parts : (text : List ℕ) (n : ℕ) → n ≤ length text → is_identifier (take n text) ≡ true → (class_at text ≡ Name) × (n ≤ prefix_len is_word text)
+unfolding is_identifier
 name_parts text zero le t = absurd (true≢false (sym t))
 name_parts [] (suc n) le t = absurd (let x : ⊥ = omega arith in x)
 name_parts (b ∷ rest) (suc n) le t =

@@ -1,6 +1,12 @@
 pub mod Blocks
+pub mod CodeLemmas
 pub mod Cuts
 pub mod Fronts
+pub mod FunctionLemmas
+pub mod HeadLemmas
 pub mod Lengths
+pub mod LineTable
 pub mod LinedPieces
 pub mod PieceLists
+pub mod WithinLemmas
+pub mod WordLemmas

@@ -26,10 +26,10 @@ unfoldable pub first_is : (ℕ → Bool) → List ℕ → Bool
 first_is p [] = false
 first_is p (b ∷ rest) = p b
 
--- a name (C11 6.4.2.1, in ASCII): a letter or `_`, then letters, digits and `_`
-unfoldable pub is_name : List ℕ → Bool
-is_name [] = false
-is_name (b ∷ bs) = is_letter b && list_all is_word bs
+-- an identifier (C11 6.4.2.1, in ASCII): a letter or `_`, then letters, digits and `_`
+unfoldable pub is_identifier : List ℕ → Bool
+is_identifier [] = false
+is_identifier (b ∷ bs) = is_letter b && list_all is_word bs
 
 -- b may follow `last` in a number: a letter, a digit, `_`, `.`, or a sign directly after e, E, p or P
 abbrev pub goes_on : ℕ → ℕ → Bool
@@ -92,7 +92,7 @@ IsBlockNote rest n = (take 2 rest ≡ codes "/*") × ((found : Option ℕ) × Fi
 
 -- the first n bytes spell a lexeme of a class other than `Byte`
 abbrev pub Spells : Class → List ℕ → ℕ → Type 0
-Spells Name rest n = (n ≤ length rest) × (is_name (take n rest) ≡ true)
+Spells Name rest n = (n ≤ length rest) × (is_identifier (take n rest) ≡ true)
 Spells Number rest n = (n ≤ length rest) × (is_number (take n rest) ≡ true)
 Spells Str rest n = IsLiteral 34 rest n
 Spells Chr rest n = IsLiteral 39 rest n

@@ -1,6 +1,12 @@
+pub mod Code
+pub mod Definitions
+pub mod Depth
+pub mod Functions
 pub mod Lexeme
 pub mod Lines
 pub mod PieceExamples
 pub mod Pieces
+pub mod Reserved
 pub mod TextFacts
+pub mod Tokens
 pub mod steps

@@ -1,2 +1,5 @@
+pub mod Code
 pub mod Cut
+pub mod LineStarts
 pub mod Lined
+pub mod Machine

@@ -76,8 +76,9 @@ pub(crate) fn class_at(text: &[u8]) -> Class
     }
 }
 
+/// A letter, a digit or `_`.
 #[inline]
-fn is_word(byte: u8) -> bool
+pub(crate) fn is_word(byte: u8) -> bool
     ensures { result ≡ is_word byte }
 {
     matches!(byte, b'A'..=b'Z' | b'a'..=b'z' | b'_' | b'0'..=b'9')

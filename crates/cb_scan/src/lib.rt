@@ -9,12 +9,20 @@ mod facts;
 pub mod laws;
 mod lexeme;
 mod lined;
+mod machine;
+mod meter;
+mod name;
 mod piece;
+mod scanner;
 mod source;
+mod token;
 
 pub use cut::pieces;
 pub use facts::{Def, Facts, Kind};
+pub use meter::Meter;
+pub use name::is_name;
 pub use piece::{Class, Piece, Pieces, Span};
+pub use scanner::scan;
 pub use source::{ScanError, Source};
 
 #[cfg(test)]
