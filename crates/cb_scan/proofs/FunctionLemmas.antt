@@ -12,7 +12,7 @@ use Rattle.cb_scan.specs.declared.machine.Before.{Before}
 use Rattle.cb_scan.specs.declared.machine.Before.TheVariants.{Anything, Extern, Linkage}
 use Rattle.cb_scan.specs.declared.token.Role.{Role}
 use Rattle.cb_scan.specs.declared.token.Role.TheVariants.{Word, Mark, Str, Other}
-use Rattle.cb_scan.specs.declared.token.WordKind.TheVariants.{Name, Typedef, Static, Reserved}
+use Rattle.cb_scan.specs.declared.token.WordKind.TheVariants.{Name, Define, Include, Typedef, Static, Reserved}
 use Rattle.cb_scan.specs.declared.token.WordKind.TheVariants as kind
 use Rattle.std.proofs.Math.Bool.{and-false}
 use Rattle.cb_scan.specs.Tokens.{is_mark, is_static, is_extern, is_str}
@@ -44,6 +44,8 @@ head_start_le ts (suc k) =
 -- what stands directly before the next token
 linkage_after : (b : Before) (r : Role) → is_after_linkage (if is_extern r then Extern else (if is_str r && is_after_extern b then Linkage else Anything)) ≡ (is_after_extern b && is_str r)
 linkage_after b (Word Name) = sym (and-false (is_after_extern b))
+linkage_after b (Word Define) = sym (and-false (is_after_extern b))
+linkage_after b (Word Include) = sym (and-false (is_after_extern b))
 linkage_after b (Word Typedef) = sym (and-false (is_after_extern b))
 linkage_after b (Word kind.Extern) = sym (and-false (is_after_extern b))
 linkage_after b (Word Static) = sym (and-false (is_after_extern b))
@@ -54,6 +56,8 @@ linkage_after b Str = elim (is_after_extern b) as (λ x. is_after_linkage (if x 
 
 extern_after : (b : Before) (r : Role) → is_after_extern (if is_extern r then Extern else (if is_str r && is_after_extern b then Linkage else Anything)) ≡ is_extern r
 extern_after b (Word Name) = refl
+extern_after b (Word Define) = refl
+extern_after b (Word Include) = refl
 extern_after b (Word Typedef) = refl
 extern_after b (Word kind.Extern) = refl
 extern_after b (Word Static) = refl

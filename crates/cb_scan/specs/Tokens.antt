@@ -9,7 +9,7 @@ use Rattle.cb_scan.specs.declared.token.Token.{Token}
 use Rattle.cb_scan.specs.declared.token.Role.{Role}
 use Rattle.cb_scan.specs.declared.token.Role.TheVariants.{Word, Mark, Str, Other}
 use Rattle.cb_scan.specs.declared.token.WordKind.{WordKind}
-use Rattle.cb_scan.specs.declared.token.WordKind.TheVariants.{Name, Typedef, Extern, Static, Reserved}
+use Rattle.cb_scan.specs.declared.token.WordKind.TheVariants.{Name, Define, Include, Typedef, Extern, Static, Reserved}
 use Rattle.cb_scan.specs.Lines.{line_of}
 use Rattle.cb_scan.specs.Reserved.{is_reserved}
 
@@ -29,10 +29,14 @@ is_significant class.Blank = false
 is_significant class.Newline = false
 is_significant class.Byte = true
 
--- a name, one of the reserved words that a rule asks for, or another reserved word
+-- a name, and the two that mean something as the own word of a directive
+abbrev pub name_kind : List ℕ → WordKind
+name_kind bytes = if bytes_eq bytes (codes "define") then Define else (if bytes_eq bytes (codes "include") then Include else Name)
+
+-- a name, two of which mean something as the own word of a directive; or a reserved word, three of which a rule asks for
 unfoldable pub word_of : List ℕ → WordKind
 word_of bytes =
-    if not (is_reserved bytes) then Name
+    if not (is_reserved bytes) then name_kind bytes
     else (if bytes_eq bytes (codes "typedef") then Typedef
     else (if bytes_eq bytes (codes "extern") then Extern
     else (if bytes_eq bytes (codes "static") then Static
@@ -85,6 +89,8 @@ is_str Other = false
 
 abbrev pub kind_is_name : WordKind → Bool
 kind_is_name Name = true
+kind_is_name Define = true
+kind_is_name Include = true
 kind_is_name _ = false
 
 abbrev pub kind_is_typedef : WordKind → Bool
@@ -98,6 +104,18 @@ kind_is_extern _ = false
 abbrev pub kind_is_static : WordKind → Bool
 kind_is_static Static = true
 kind_is_static _ = false
+
+abbrev pub kind_is_define : WordKind → Bool
+kind_is_define Define = true
+kind_is_define _ = false
+
+abbrev pub kind_is_include : WordKind → Bool
+kind_is_include Include = true
+kind_is_include _ = false
+
+-- a word of any kind
+abbrev pub is_any_word : Role → Bool
+is_any_word = has_kind (λ _. true)
 
 -- a name; one of three reserved words
 abbrev pub is_name_token : Role → Bool

@@ -1,7 +1,7 @@
 //! Tokens: the pieces that the rules on definitions speak of, each with what it is for them.
 ghost use Rattle.std.specs.Prelude.{◌≡◌, ◌≤◌, ◌<◌, length};
 ghost use Rattle.std.specs.Str.{bytes_eq};
-ghost use Rattle.cb_scan.specs.Tokens.{bytes_of, is_mark, is_name_token, is_static, is_typedef, role_of, starts_line, word_of};
+ghost use Rattle.cb_scan.specs.Tokens.{bytes_of, is_mark, is_name_token, is_static, is_typedef, name_kind, role_of, starts_line, word_of};
 ghost use Rattle.cb_scan.specs.steps.Lined.{Within};
 ghost use Rattle.cb_scan.specs.steps.Code.{lined_token};
 
@@ -9,10 +9,13 @@ use crate::lined::Lined;
 use crate::name::is_reserved;
 use crate::piece::{Class, Piece, Span};
 
-/// A `Name` piece: a name, one of the reserved words that a rule asks for, or another reserved word.
+/// A `Name` piece: a name, two of which mean something as the own word of a directive; or a reserved word, three of which
+/// a rule asks for.
 #[derive(Clone, Copy, Debug, PartialEq, Eq)]
 pub(crate) enum WordKind {
     Name,
+    Define,
+    Include,
     Typedef,
     Extern,
     Static,
@@ -43,12 +46,24 @@ fn is_same(word: &[u8], other: &[u8]) -> bool
     word == other
 }
 
+fn name_kind(name: &[u8]) -> WordKind
+    ensures { result ≡ name_kind name.now }
+{
+    if is_same(name, b"define") {
+        WordKind::Define
+    } else if is_same(name, b"include") {
+        WordKind::Include
+    } else {
+        WordKind::Name
+    }
+}
+
 #[tactic(auto, unfolding(crate::specs::Tokens::word_of))]
 fn word_of(word: &[u8]) -> WordKind
     ensures { result ≡ word_of word.now }
 {
     if !is_reserved(word) {
-        WordKind::Name
+        name_kind(word)
     } else if is_same(word, b"typedef") {
         WordKind::Typedef
     } else if is_same(word, b"extern") {
@@ -100,7 +115,7 @@ impl Token {
     pub(crate) fn is_name(self) -> bool
         ensures { result ≡ is_name_token self.role }
     {
-        matches!(self.role, Role::Word(WordKind::Name))
+        matches!(self.role, Role::Word(WordKind::Name | WordKind::Define | WordKind::Include))
     }
 
     pub(crate) fn is_typedef(self) -> bool
