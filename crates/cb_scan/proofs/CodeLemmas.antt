@@ -11,7 +11,8 @@ use Rattle.cb_scan.specs.declared.scanner.Place.{Place}
 use Rattle.cb_scan.specs.declared.scanner.Place.TheVariants.{Start, Code, Directive}
 use Rattle.cb_scan.specs.declared.token.Token.{Token}
 use Rattle.cb_scan.specs.Code.{is_newline, is_directive, code, code_of_lines}
-use Rattle.cb_scan.specs.Definitions.{definitions}
+use Rattle.cb_scan.specs.Definitions.{function_def}
+use Rattle.cb_scan.specs.Functions.{functions}
 use Rattle.cb_scan.specs.Tokens.{tokens, token_of, is_significant, is_mark}
 use Rattle.cb_scan.specs.steps.Code.{code_from, code_in, place_next, place_after, in_code}
 use Rattle.cb_scan.specs.steps.Cut.{pieces}
@@ -117,7 +118,6 @@ from text place (p ∷ ps) =
 pub code_from_start : (text : List ℕ) → code_from text Start (map (lined text) (pieces text)) ≡ code text
 code_from_start text = from text Start (pieces text) ∙ whole_lines text (slice_split (λ (p : Piece). is_newline p.class) (pieces text))
 
--- the one pass over a text finds its definitions
-pub found_from_start : (text : List ℕ) → defs_from start (code_from text Start (map (lined text) (pieces text))) ≡ definitions text
-unfolding definitions
+-- the one pass over a text finds its functions
+pub found_from_start : (text : List ℕ) → defs_from start (code_from text Start (map (lined text) (pieces text))) ≡ map function_def (functions (code text))
 found_from_start text = ap (defs_from start) (code_from_start text) ∙ defs_from_start (code text)

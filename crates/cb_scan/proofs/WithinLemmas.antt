@@ -8,7 +8,7 @@ use Rattle.cb_scan.specs.declared.piece.Piece.{Piece}
 use Rattle.cb_scan.specs.declared.token.Token.{Token}
 use Rattle.cb_scan.specs.Code.{is_newline, is_directive, code, code_of_lines, lines_of_tokens}
 use Rattle.cb_scan.specs.Definitions.{IsWithin, definitions, function_def}
-use Rattle.cb_scan.specs.Functions.{Function, called_name, may_define, head, function_from, function_at, close_from}
+use Rattle.cb_scan.specs.Functions.{Function, called_name, may_define, head, function_from, function_at, functions, close_from}
 use Rattle.cb_scan.specs.Depth.{depth, head_start, is_counted}
 use Rattle.cb_scan.specs.declared.facts.Def.{Def}
 use Rattle.cb_scan.specs.steps.Cut.{pieces}
@@ -105,7 +105,6 @@ functions-within text ts k (suc n) a =
     subst (AllByRecursion (DefWithin text)) (sym (map-append function_def (function_at ts k) (flat_map (function_at ts) (range_with_len (k + 1) n))))
     (all-append (DefWithin text) _ _ (function-within text ts k a) (functions-within text ts (k + 1) n a))
 
--- the definitions of a text whose pieces lie in it
-pub definitions-within : (text : List ℕ) → AllByRecursion (LiesIn text) (pieces text) → AllByRecursion (DefWithin text) (definitions text)
-unfolding definitions
-definitions-within text a = functions-within text (code text) 0 (length (code text)) (code-within text (pieces text) a)
+-- the functions of a text whose pieces lie in it
+pub functions-lie : (text : List ℕ) → AllByRecursion (LiesIn text) (pieces text) → AllByRecursion (DefWithin text) (map function_def (functions (code text)))
+functions-lie text a = functions-within text (code text) 0 (length (code text)) (code-within text (pieces text) a)

@@ -1,23 +1,40 @@
--- The definitions of a text.
-use Rattle.std.specs.Prelude.{ℕ, ◌≤◌, List, length, map}
+-- The definitions of a text, and all that is found in it.
+use Rattle.std.specs.Prelude.{ℕ, ◌≤◌, false, List, ◌++◌, length, map}
+use Rattle.cb_scan.specs.declared.facts.Call.{Call}
 use Rattle.cb_scan.specs.declared.facts.Def.{Def}
 use Rattle.cb_scan.specs.declared.facts.Kind.TheVariants as kind
 use Rattle.cb_scan.specs.declared.piece.Span.{Span}
-use Rattle.cb_scan.specs.TextFacts.{TextFacts}
+use Rattle.cb_scan.specs.declared.token.Token.{Token}
 use Rattle.cb_scan.specs.Code.{code}
 use Rattle.cb_scan.specs.Functions.{Function, functions}
+use Rattle.cb_scan.specs.Macros.{Macro, macros}
+use Rattle.cb_scan.specs.Order.{call_cmp, def_cmp, in_order}
+use Rattle.cb_scan.specs.TextFacts.{TextFacts}
+use Rattle.cb_scan.specs.Typedefs.{typedefs}
+use Rattle.cb_scan.specs.Uses.{function_calls, includes, macro_calls, uses}
 
--- a function as a definition
+-- a function, a macro and a name of a typedef as definitions
 abbrev pub function_def : Function → Def
 function_def f = record { name = f.name.span; kind = kind.Function; line = f.name.line; local = f.local }
 
--- the definitions of a text, by place: its functions
+abbrev pub macro_def : Macro → Def
+macro_def m = record { name = m.name.span; kind = kind.Macro; line = m.name.line; local = false }
+
+abbrev pub typedef_def : Token → Def
+typedef_def t = record { name = t.span; kind = kind.Typedef; line = t.line; local = false }
+
+-- the definitions of a text, by place, a function before a typedef at one place
 unfoldable pub definitions : List ℕ → List Def
-definitions text = map function_def (functions (code text))
+definitions text =
+    in_order def_cmp (map function_def (functions (code text)) ++ map macro_def (macros text) ++ map typedef_def (typedefs (code text)))
+
+-- the calls of a text, by place
+unfoldable pub calls : List ℕ → List Call
+calls text = in_order call_cmp (function_calls (code text) ++ macro_calls (macros text))
 
 -- what is found in a text
 abbrev pub facts_of : List ℕ → TextFacts
-facts_of text = record { defs = definitions text }
+facts_of text = record { defs = definitions text; uses = uses text; calls = calls text; includes = includes text }
 
 -- the span lies in the text
 abbrev pub IsWithin : List ℕ → Span → Type 0

@@ -5,8 +5,13 @@ pub mod Functions
 pub mod Lexeme
 pub mod Lines
 pub mod PieceExamples
+pub mod Macros
+pub mod Order
 pub mod Pieces
 pub mod Reserved
+pub mod Scope
 pub mod TextFacts
 pub mod Tokens
+pub mod Typedefs
+pub mod Uses
 pub mod steps

@@ -21,10 +21,38 @@ pub struct Def {
     pub local: bool,
 }
 
+/// A use of a name: its bytes, its line (from 1), and the name of the macro or function around it.
+#[derive(Clone, Copy, Debug, PartialEq, Eq)]
+pub struct Use {
+    pub name: Span,
+    pub line: u32,
+    pub scope: Option<Span>,
+}
+
+/// A call: the called name, its line (from 1), and the name of the function or macro that calls it.
+#[derive(Clone, Copy, Debug, PartialEq, Eq)]
+pub struct Call {
+    pub callee: Span,
+    pub line: u32,
+    pub caller: Span,
+}
+
+/// An include: the header's bytes without its quotes or angle brackets, the line where they begin (from 1), and the name of
+/// the function around it.
+#[derive(Clone, Copy, Debug, PartialEq, Eq)]
+pub struct Include {
+    pub header: Span,
+    pub line: u32,
+    pub scope: Option<Span>,
+}
+
 /// The facts of a text, each list in the order of its places.
 #[derive(Debug, Drop)]
 pub struct Facts {
     defs: Vec<Def>,
+    uses: Vec<Use>,
+    calls: Vec<Call>,
+    includes: Vec<Include>,
 }
 
 impl Model for Facts {
@@ -32,14 +60,19 @@ impl Model for Facts {
 
     ghost Value = { TextFacts };
 
-    ghost view = { λ f. record { defs = f.defs.items } };
+    ghost view = { λ f. record { defs = f.defs.items; uses = f.uses.items; calls = f.calls.items; includes = f.includes.items } };
 }
 
 impl Facts {
-    pub(crate) fn new(defs: Vec<Def>) -> Facts
-        ensures { result.defs ≡ defs.items }
+    pub(crate) fn new(defs: Vec<Def>, uses: Vec<Use>, calls: Vec<Call>, includes: Vec<Include>) -> Facts
+        ensures { result ≡ record { defs = defs.items; uses = uses.items; calls = calls.items; includes = includes.items } }
     {
-        Facts { defs }
+        Facts {
+            defs,
+            uses,
+            calls,
+            includes,
+        }
     }
 
     /// The definitions.
@@ -47,5 +80,26 @@ impl Facts {
         ensures { result.now ≡ self.now.defs }
     {
         self.defs.as_slice()
+    }
+
+    /// The uses of names.
+    pub fn uses(&self) -> &[Use]
+        ensures { result.now ≡ self.now.uses }
+    {
+        self.uses.as_slice()
+    }
+
+    /// The calls.
+    pub fn calls(&self) -> &[Call]
+        ensures { result.now ≡ self.now.calls }
+    {
+        self.calls.as_slice()
+    }
+
+    /// The includes.
+    pub fn includes(&self) -> &[Include]
+        ensures { result.now ≡ self.now.includes }
+    {
+        self.includes.as_slice()
     }
 }

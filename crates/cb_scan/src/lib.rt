@@ -14,11 +14,12 @@ mod meter;
 mod name;
 mod piece;
 mod scanner;
+mod scope;
 mod source;
 mod token;
 
 pub use cut::pieces;
-pub use facts::{Def, Facts, Kind};
+pub use facts::{Call, Def, Facts, Include, Kind, Use};
 pub use meter::Meter;
 pub use name::is_name;
 pub use piece::{Class, Piece, Pieces, Span};

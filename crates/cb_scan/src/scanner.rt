@@ -1,7 +1,9 @@
 //! The scanner: one pass over the pieces of a text.
-ghost use Rattle.std.specs.Prelude.{◌≡◌, ◌+◌, ◌^◌, ◌-◌, ◌≤◌, min, length, IfOk, IfErr};
+ghost use Rattle.std.specs.Prelude.{◌≡◌, ◌+◌, ◌^◌, ◌-◌, ◌≤◌, min, length, map, IfOk, IfErr};
 ghost use Rattle.std.specs.List.{AllByRecursion};
-ghost use Rattle.cb_scan.specs.Definitions.{definitions, facts_of, IsWithin};
+ghost use Rattle.cb_scan.specs.Definitions.{facts_of, function_def, IsWithin};
+ghost use Rattle.cb_scan.specs.Code.{code};
+ghost use Rattle.cb_scan.specs.Functions.{functions};
 ghost use Rattle.cb_scan.specs.Tokens.{is_significant};
 ghost use Rattle.cb_scan.specs.steps.Code.{place_after};
 
@@ -45,9 +47,9 @@ fn is_significant(class: Class) -> bool
     )
 }
 
-fn definitions(alloc: Global, text: &[u8]) -> Result<Vec<Def>, AllocError>
+fn function_defs(alloc: Global, text: &[u8]) -> Result<Vec<Def>, AllocError>
     requires { length text.now ≤ 1000000 }
-    ensures { IfOk result (λ defs. defs.items ≡ definitions text.now) }
+    ensures { IfOk result (λ defs. defs.items ≡ map function_def (functions (code text.now))) }
 {
     let mut defs = Vec::new(alloc);
     let mut machine = Machine::start();
@@ -78,8 +80,8 @@ pub fn scan(alloc: Global, meter: &mut Meter, source: &Source) -> Result<Facts, 
 {
     let text = source.bytes();
     meter.add(text.len() as u64);
-    match definitions(alloc, text) {
-        Ok(defs) => Ok(Facts::new(defs)),
+    match function_defs(alloc, text) {
+        Ok(defs) => Ok(Facts::new(defs, Vec::new(alloc), Vec::new(alloc), Vec::new(alloc))),
         Err(_) => Err(ScanError::OutOfMemory),
     }
 }

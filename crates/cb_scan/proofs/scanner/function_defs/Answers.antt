@@ -5,7 +5,7 @@ use Rattle.cb_scan.specs.steps.Code.{code_from}
 use Rattle.cb_scan.specs.steps.Lined.{Within}
 use Rattle.cb_scan.specs.steps.Machine.{defs_from}
 use Rattle.cb_scan.proofs.CodeLemmas.{found_from_start}
-use Rattle.cb_scan.proofs.scanner.definitions.Goals as goal
+use Rattle.cb_scan.proofs.scanner.function_defs.Goals as goal
 
 -- nothing is found yet, and all is still to come
 pub loop-lined-init : goal.loop-lined-init
