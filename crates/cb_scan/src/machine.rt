@@ -1,8 +1,10 @@
 //! The one pass that finds functions: a small state that every token of the code moves.
 ghost use Rattle.std.specs.Prelude.{◌≡◌, ◌+◌, ◌<◌, ◌≤◌, ◌^◌};
-ghost use Rattle.cb_scan.specs.steps.Machine.{add, before_after, called_after, counts, defined, empty_head, found, next, next_depth, start, stops};
+ghost use Rattle.cb_scan.specs.steps.Machine.{add, before_after, called, called_after, closed, counts, defined, empty_head, found, left_open, next, next_body, next_depth, start, stops};
 
-use crate::facts::{Def, Kind};
+use crate::facts::{Call, Def, Kind};
+use crate::piece::Span;
+use crate::scope::Range;
 use crate::token::{Role, Token, WordKind};
 
 /// The tokens since the last stop, as far as the rule on functions asks.
@@ -23,12 +25,14 @@ pub(crate) enum Before {
     Linkage,
 }
 
-/// Where the pass stands: the depth in braces, what stands directly before, and the head so far.
+/// Where the pass stands: the depth in braces, what stands directly before, the head so far, and the name of the function
+/// whose body it is in.
 #[derive(Clone, Copy)]
 pub(crate) struct Machine {
     depth: u32,
     before: Before,
     head: Head,
+    body: Option<Span>,
 }
 
 /// The first called name so far, after one more token.
@@ -105,6 +109,7 @@ impl Machine {
             depth: 0,
             before: Before::Anything,
             head: Head::new(),
+            body: None,
         }
     }
 
@@ -142,8 +147,22 @@ impl Machine {
         }
     }
 
-    #[tactic(auto, unfolding(crate::specs::steps::Machine::next))]
+    /// The name of the function whose body the next token is in.
+    fn next_body(self, token: Token, after: u32) -> Option<Span>
+        requires { after ≡ next_depth self token }
+        ensures { result ≡ next_body self token }
+    {
+        if self.depth == 0 {
+            return match self.found(token) {
+                Some(def) => Some(def.name),
+                None => None,
+            };
+        }
+        if after == 0 { None } else { self.body }
+    }
+
     /// The state after a token of the code.
+    #[tactic(auto, unfolding(crate::specs::steps::Machine::next))]
     pub(crate) fn next(self, token: Token) -> Machine
         requires { self.depth + 1 < 2 ^ 32 }
         ensures value { result ≡ next self token }
@@ -158,6 +177,7 @@ impl Machine {
             } else {
                 self.head.add(token)
             },
+            body: self.next_body(token, depth),
         }
     }
 
@@ -175,5 +195,45 @@ impl Machine {
             line: name.line,
             local: self.head.has_static,
         })
+    }
+
+    /// The range of the function whose body the token ends, if it ends one.
+    pub(crate) fn closed(self, token: Token) -> Option<Range>
+        ensures { result ≡ closed self token }
+    {
+        let name = self.body?;
+        let ends = token.is_mark(b'}') && (token.starts_line || self.depth <= 1);
+        if ends {
+            Some(Range {
+                name,
+                end: token.span.end,
+            })
+        } else {
+            None
+        }
+    }
+
+    /// The call of the token before, if it is one.
+    pub(crate) fn called(self, token: Token) -> Option<Call>
+        ensures { result ≡ called self token }
+    {
+        match (self.body, self.head.last) {
+            (Some(caller), Some(name)) if name.is_name() && token.is_mark(b'(') => Some(Call {
+                callee: name.span,
+                line: name.line,
+                caller,
+            }),
+            _ => None,
+        }
+    }
+
+    /// The range of the function whose body the end of the text ends.
+    pub(crate) fn left_open(self, end: u32) -> Option<Range>
+        ensures { result ≡ left_open self end }
+    {
+        match self.body {
+            Some(name) => Some(Range { name, end }),
+            None => None,
+        }
     }
 }

@@ -1,13 +1,17 @@
 -- The state of the one pass that finds functions, a token at a time.
 use Rattle.std.specs.Prelude.{ℕ, Bool, true, false, ◌&&◌, ◌||◌, ◌==◌, not, List, [], ◌∷◌, ◌++◌, if◌then◌else◌, Option, None, Some}
 use Rattle.std.specs.Option.{option_map, option_to_list, is_none}
+use Rattle.cb_scan.specs.declared.facts.Call.{Call}
 use Rattle.cb_scan.specs.declared.facts.Def.{Def}
 use Rattle.cb_scan.specs.declared.facts.Kind.TheVariants as kind
 use Rattle.cb_scan.specs.declared.machine.Head.{Head}
 use Rattle.cb_scan.specs.declared.machine.Machine.{Machine}
 use Rattle.cb_scan.specs.declared.machine.Before.{Before}
 use Rattle.cb_scan.specs.declared.machine.Before.TheVariants.{Anything, Extern, Linkage}
+use Rattle.cb_scan.specs.declared.piece.Span.{Span}
+use Rattle.cb_scan.specs.declared.scope.Range.{Range}
 use Rattle.cb_scan.specs.declared.token.Token.{Token}
+use Rattle.cb_scan.specs.Uses.{call_of, is_call}
 use Rattle.cb_scan.specs.Tokens.{is_mark, is_name_token, is_typedef, is_static, is_extern, is_str}
 use Rattle.cb_scan.specs.Depth.{depth_after}
 
@@ -56,7 +60,7 @@ before_after b t = if is_extern t.role then Extern else (if is_str t.role && is_
 
 -- the beginning of the code
 abbrev pub start : Machine
-start = record { depth = 0; before = Anything; head = empty_head }
+start = record { depth = 0; before = Anything; head = empty_head; body = None }
 
 -- the token is a `{` that counts
 abbrev pub counts : Machine → Token → Bool
@@ -70,10 +74,6 @@ next_depth m t = depth_after (counts m t) t m.depth
 abbrev pub stops : Machine → Token → Bool
 stops m t = (is_mark 59 t.role && m.depth == 0) || (is_mark 125 t.role && next_depth m t == 0) || (is_mark 123 t.role && is_after_linkage m.before)
 
--- the state after the token
-unfoldable pub next : Machine → Token → Machine
-next m t = record { depth = next_depth m t; before = before_after m.before t; head = if stops m t then empty_head else add m.head t }
-
 -- the definition of a function of that name
 abbrev pub def_of : Bool → Token → Def
 def_of local name = record { name = name.span; kind = kind.Function; line = name.line; local = local }
@@ -82,7 +82,56 @@ def_of local name = record { name = name.span; kind = kind.Function; line = name
 abbrev pub found : Machine → Token → Option Def
 found m t = if counts m t && m.depth == 0 then option_map (def_of m.head.has_static) (defined m.head) else None
 
+-- the name of the function whose body the next token is in
+abbrev pub next_body : Machine → Token → Option Span
+next_body m t = if m.depth == 0 then option_map (λ (d : Def). d.name) (found m t) else (if next_depth m t == 0 then None else m.body)
+
+-- the state after the token
+unfoldable pub next : Machine → Token → Machine
+next m t = record {
+  depth = next_depth m t;
+  before = before_after m.before t;
+  head = if stops m t then empty_head else add m.head t;
+  body = next_body m t;
+}
+
+-- the token is a `}` after which the depth is 0
+abbrev pub ends_all : Machine → Token → Bool
+ends_all m t = is_mark 125 t.role && next_depth m t == 0
+
+-- a range that ends at a place
+abbrev pub range_to : ℕ → Span → Range
+range_to end name = record { name = name; end = end }
+
+-- the range of the function whose body the token ends
+abbrev pub closed : Machine → Token → Option Range
+closed m t = if ends_all m t then option_map (range_to t.span.end) m.body else None
+
+-- the range of the function whose body the end of the text ends
+abbrev pub left_open : Machine → ℕ → Option Range
+left_open m end = option_map (range_to end) m.body
+
+-- the call of a name in a body, where the token follows it
+abbrev pub call_before : Option Span → Option Token → Token → Option Call
+call_before (Some caller) (Some name) t = if is_call name t then Some (call_of caller name) else None
+call_before (Some caller) None t = None
+call_before None last t = None
+
+-- the call of the token before
+abbrev pub called : Machine → Token → Option Call
+called m t = call_before m.body m.head.last t
+
 -- the functions of the tokens from a state on
 abbrev pub defs_from : Machine → List Token → List Def
 defs_from m [] = []
 defs_from m (t ∷ ts) = option_to_list (found m t) ++ defs_from (next m t) ts
+
+-- the ranges of the functions whose bodies end from a state on, where the text ends at a place
+abbrev pub ranges_from : ℕ → Machine → List Token → List Range
+ranges_from end m [] = option_to_list (left_open m end)
+ranges_from end m (t ∷ ts) = option_to_list (closed m t) ++ ranges_from end (next m t) ts
+
+-- the calls in the bodies of functions from a state on
+abbrev pub calls_from : Machine → List Token → List Call
+calls_from m [] = []
+calls_from m (t ∷ ts) = option_to_list (called m t) ++ calls_from (next m t) ts
