@@ -23,16 +23,16 @@ use Rattle.cb_scan.specs.steps.Machine.{add, empty_head, defined, start, next, n
 use Rattle.cb_scan.proofs.HeadLemmas.{defined_of, static_is}
 
 -- `extern` stands directly before token k
-abbrev follows_extern : List Token → ℕ → Bool
+abbrev pub follows_extern : List Token → ℕ → Bool
 follows_extern ts zero = false
 follows_extern ts (suc k) = is_extern (token_at ts k).role
 
 -- the state before token k
-record IsAt (ts : List Token) (k : ℕ) (m : Machine) : Type 0 where
-  depth_is : m.depth ≡ depth ts k
-  linkage_is : is_after_linkage m.before ≡ follows_linkage ts k
-  extern_is : is_after_extern m.before ≡ follows_extern ts k
-  head_is : m.head ≡ fold add empty_head (head ts k)
+pub record IsAt (ts : List Token) (k : ℕ) (m : Machine) : Type 0 where
+  pub depth_is : m.depth ≡ depth ts k
+  pub linkage_is : is_after_linkage m.before ≡ follows_linkage ts k
+  pub extern_is : is_after_extern m.before ≡ follows_extern ts k
+  pub head_is : m.head ≡ fold add empty_head (head ts k)
 
 head_start_le : (ts : List Token) (k : ℕ) → head_start ts k ≤ k
 unfolding head_start
@@ -82,16 +82,16 @@ head_goes_on ts k false within =
     ∙ ap (λ l. fold add empty_head (drop (head_start ts k) l)) (sym (take-suc ts k no_token within))
 
 module _ (ts : List Token) (k : ℕ) (m : Machine) (at : IsAt ts k m) where
-  depth_next : next_depth m (token_at ts k) ≡ depth ts (suc k)
+  pub depth_next : next_depth m (token_at ts k) ≡ depth ts (suc k)
   unfolding depth
   depth_next = λ i. depth_after (is_mark 123 (token_at ts k).role && not (at.linkage_is i)) (token_at ts k) (at.depth_is i)
 
-  stops_is : stops m (token_at ts k) ≡ is_stop ts k
+  pub stops_is : stops m (token_at ts k) ≡ is_stop ts k
   stops_is =
       λ i. (is_mark 59 (token_at ts k).role && at.depth_is i == 0) || (is_mark 125 (token_at ts k).role && depth_next i == 0) || (is_mark 123 (token_at ts k).role && at.linkage_is i)
 
   -- a token later
-  step : k < length ts → IsAt ts (suc k) (next m (token_at ts k))
+  pub step : k < length ts → IsAt ts (suc k) (next m (token_at ts k))
   unfolding next head_start
   step within = record {
     depth_is = depth_next;
@@ -101,7 +101,7 @@ module _ (ts : List Token) (k : ℕ) (m : Machine) (at : IsAt ts k m) where
   }
 
   -- the definition of the function whose `{` is the token
-  found_is : option_to_list (found m (token_at ts k)) ≡ map function_def (function_at ts k)
+  pub found_is : option_to_list (found m (token_at ts k)) ≡ map function_def (function_at ts k)
   found_is =
       let inside : option_map (def_of m.head.has_static) (defined m.head) ≡ option_map (def_of (list_any (λ (t : Token). is_static t.role) (head ts k))) (defined_name (head ts k)) =
       (λ i. option_map (def_of ((ap (λ h. h.has_static) at.head_is ∙ static_is (head ts k)) i)) ((ap defined at.head_is ∙ defined_of (head ts k)) i)) in

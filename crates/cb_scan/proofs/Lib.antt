@@ -1,4 +1,5 @@
 pub mod Blocks
+pub mod BodyLemmas
 pub mod CodeLemmas
 pub mod Cuts
 pub mod Fronts
