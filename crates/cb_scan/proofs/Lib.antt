@@ -6,6 +6,7 @@ pub mod Fronts
 pub mod FunctionLemmas
 pub mod HeadLemmas
 pub mod Lengths
+pub mod LineLemmas
 pub mod LineTable
 pub mod LinedPieces
 pub mod PieceLists

@@ -1,5 +1,6 @@
 pub mod Code
 pub mod Cut
+pub mod Line
 pub mod LineStarts
 pub mod Lined
 pub mod Machine

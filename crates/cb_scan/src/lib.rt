@@ -8,6 +8,7 @@ mod cut;
 mod facts;
 pub mod laws;
 mod lexeme;
+mod line;
 mod lined;
 mod machine;
 mod meter;
