@@ -2,6 +2,7 @@ pub mod Blocks
 pub mod BodyLemmas
 pub mod CodeLemmas
 pub mod Cuts
+pub mod DirectiveLemmas
 pub mod Fronts
 pub mod FunctionLemmas
 pub mod HeadLemmas

@@ -1,0 +1,248 @@
+-- What a line gives, a token at a time, is what the definitions say of the whole line.
+use Rattle.std.proofs.Common.{◌≡◌, ◌∙◌, ⊎_elim, ℕ, Bool, true, false, List, [], ◌∷◌, ◌++◌, Option, Some, None, refl, sym, ap, map, append_assoc}
+use Rattle.std.proofs.lemmas.Bool.{true≢false, false≢true, cases_Bool}
+use Rattle.std.proofs.lemmas.List.{append-nil}
+use Rattle.std.proofs.Math.Bool.{and-false}
+use Rattle.std.specs.Prelude.{cond, not, filter, find, ◌&&◌, ◌==◌}
+use Rattle.std.specs.List.{flat_map}
+use Rattle.std.specs.Option.{option_map_or, option_to_list}
+use Rattle.cb_scan.specs.declared.facts.Call.{Call}
+use Rattle.cb_scan.specs.declared.facts.Def.{Def}
+use Rattle.cb_scan.specs.declared.facts.Include.{Include as IncludeFact}
+use Rattle.cb_scan.specs.declared.line.Line.{Line}
+use Rattle.cb_scan.specs.declared.line.Stage.{Stage}
+use Rattle.cb_scan.specs.declared.line.Stage.TheVariants.{Start, Code, Hash, Define, Name, Arguments, Body, Include, Angle, Included, Other}
+use Rattle.cb_scan.specs.declared.piece.Span.{Span}
+use Rattle.cb_scan.specs.declared.scope.Range.{Range}
+use Rattle.cb_scan.specs.declared.token.Role.{Role}
+use Rattle.cb_scan.specs.declared.token.Role.TheVariants.{Word, Mark, Str, Other as other}
+use Rattle.cb_scan.specs.declared.token.WordKind.TheVariants as kind
+use Rattle.cb_scan.specs.declared.token.Token.{Token}
+use Rattle.cb_scan.specs.Code.{code, directives, is_directive, logical_lines}
+use Rattle.cb_scan.specs.Definitions.{macro_def}
+use Rattle.cb_scan.specs.Macros.{Macro, after_arguments, defines_macro, line_end, macro_of, macros}
+use Rattle.cb_scan.specs.Scope.{macro_range, macro_ranges}
+use Rattle.cb_scan.specs.Tokens.{has_kind, is_any_word, is_mark, is_name_token, is_str, kind_is_define, kind_is_include}
+use Rattle.cb_scan.specs.Uses.{behind_own_word, call_of, calls_among, header_between, header_of, include_of, is_call, is_include, macro_calls, usable, used}
+use Rattle.cb_scan.specs.steps.Cut.{pieces}
+use Rattle.cb_scan.specs.steps.Line.{code_out, include_found, include_out, is_code, line_start, macro_call, macro_call_out, macro_ended, macro_found, macro_out, names_count, next_line, next_stage, no_range, nothing, range_finish, run, stage_after_name, stage_after_own, use_out, walk}
+use Rattle.cb_scan.specs.steps.Lined.{lined}
+use Rattle.cb_scan.proofs.LineLemmas.{walk_lines}
+
+-- a state that has come so far
+abbrev at : Stage → ℕ → Line
+at stage end = record { stage = stage; end = end }
+
+-- a filter, and then what each gives
+filtered : {A : Type 0} (f : List Token → List A) (ls : List (List Token)) → flat_map f (filter is_directive ls) ≡ flat_map (λ l. cond (is_directive l) (f l) []) ls
+filtered f [] = refl
+filtered f (l ∷ ls) =
+    elim (is_directive l) as (λ b. flat_map f (cond b (l ∷ filter is_directive ls) (filter is_directive ls)) ≡ cond b (f l) [] ++ flat_map (λ l. cond (is_directive l) (f l) []) ls) [
+      | true ↦ ap (λ c. f l ++ c) (filtered f ls)
+      | false ↦ filtered f ls
+    ]
+
+filtered_not : {A : Type 0} (f : List Token → List A) (ls : List (List Token)) → flat_map f (filter (λ l. not (is_directive l)) ls) ≡ flat_map (λ l. cond (is_directive l) [] (f l)) ls
+filtered_not f [] = refl
+filtered_not f (l ∷ ls) =
+    elim (is_directive l) as (λ b. flat_map f (cond (not b) (l ∷ filter (λ l. not (is_directive l)) ls) (filter (λ l. not (is_directive l)) ls)) ≡ cond b [] (f l) ++ flat_map (λ l. cond (is_directive l) [] (f l)) ls) [
+      | true ↦ filtered_not f ls
+      | false ↦ ap (λ c. f l ++ c) (filtered_not f ls)
+    ]
+
+-- ---- what stages give nothing of a list
+-- `closed` stages that give nothing and lead to each other
+module _ {A : Type 0} (out : Line → Token → List A) (finish : Line → List A) (quiet : Stage → Bool)
+    (silent : (s : Stage) (e : ℕ) (t : Token) → quiet s ≡ true → out (at s e) t ≡ []) (ends : (s : Stage) (e : ℕ) → quiet s ≡ true → finish (at s e) ≡ [])
+    (stays : (s : Stage) (t : Token) → quiet s ≡ true → quiet (next_stage s t) ≡ true) where
+  quiet_run : (s : Stage) (e : ℕ) (ts : List Token) → quiet s ≡ true → run out finish (at s e) ts ≡ []
+  quiet_run s e [] is = ends s e is
+  quiet_run s e (t ∷ ts) is = ap (λ c. c ++ run out finish (at (next_stage s t) t.span.end) ts) (silent s e t is) ∙ quiet_run (next_stage s t) t.span.end ts (stays s t is)
+
+-- ---- code
+directive_stage : Stage → Bool
+directive_stage Start = false
+directive_stage Code = false
+directive_stage _ = true
+
+directive_stays : (s : Stage) (t : Token) → directive_stage s ≡ true → directive_stage (next_stage s t) ≡ true
+unfolding directive_stage
+directive_stays Start t is = absurd (false≢true is)
+directive_stays Code t is = absurd (false≢true is)
+directive_stays Hash t is = elim (has_kind kind_is_define t.role) as (λ b. directive_stage (cond b Define (cond (has_kind kind_is_include t.role) Include Other)) ≡ true) [
+  | true ↦ refl
+  | false ↦ elim (has_kind kind_is_include t.role) as (λ b. directive_stage (cond b Include Other) ≡ true) [ true ↦ refl | false ↦ refl ]
+]
+directive_stays Define t is = elim (is_name_token t.role) as (λ b. directive_stage (cond b (Name t) Other) ≡ true) [ true ↦ refl | false ↦ refl ]
+directive_stays (Name n) t is = elim (is_mark 40 t.role && t.span.start == n.span.end) as (λ b. directive_stage (cond b (Arguments n.span) Other) ≡ true) [ true ↦ refl | false ↦ refl ]
+directive_stays (Arguments n) t is = elim (is_mark 41 t.role) as (λ b. directive_stage (cond b (Body n None) (Arguments n)) ≡ true) [ true ↦ refl | false ↦ refl ]
+directive_stays (Body n last) t is = refl
+directive_stays Include t is = elim (is_mark 60 t.role) as (λ b. directive_stage (cond b (Angle t) Included) ≡ true) [ true ↦ refl | false ↦ refl ]
+directive_stays (Angle a) t is = elim (is_mark 62 t.role) as (λ b. directive_stage (cond b Included (Angle a)) ≡ true) [ true ↦ refl | false ↦ refl ]
+directive_stays Included t is = refl
+directive_stays Other t is = refl
+
+directive_no_code : (s : Stage) → directive_stage s ≡ true → is_code s ≡ false
+unfolding directive_stage
+directive_no_code Start is = absurd (false≢true is)
+directive_no_code Code is = absurd (false≢true is)
+directive_no_code Hash is = refl
+directive_no_code Define is = refl
+directive_no_code (Name n) is = refl
+directive_no_code (Arguments n) is = refl
+directive_no_code (Body n last) is = refl
+directive_no_code Include is = refl
+directive_no_code (Angle a) is = refl
+directive_no_code Included is = refl
+directive_no_code Other is = refl
+
+all_code : (e : ℕ) (ts : List Token) → run code_out nothing (at Code e) ts ≡ ts
+all_code e [] = refl
+all_code e (t ∷ ts) = ap (λ c. t ∷ c) (all_code t.span.end ts)
+
+code_run : (l : List Token) → run code_out nothing line_start l ≡ cond (is_directive l) [] l
+unfolding directive_stage
+code_run [] = refl
+code_run (t ∷ ts) =
+    elim (is_mark 35 t.role) as (λ b. cond (is_code (cond b Hash Code)) (t ∷ []) [] ++ run code_out nothing (at (cond b Hash Code) t.span.end) ts ≡ cond b [] (t ∷ ts)) [
+      | true ↦ quiet_run code_out nothing directive_stage (λ s e u is. ap (λ b. cond b (u ∷ []) []) (directive_no_code (next_stage s u) (directive_stays s u is))) (λ s e is. refl) directive_stays Hash t.span.end ts refl
+      | false ↦ ap (λ c. t ∷ c) (all_code t.span.end ts)
+    ]
+
+pub code_is : (text : List ℕ) → walk code_out nothing text line_start (map (lined text) (pieces text)) ≡ code text
+code_is text =
+    walk_lines code_out nothing text
+    ∙ (λ i. flat_map (λ l. code_run l i) (logical_lines text))
+    ∙ sym (filtered_not (λ l. l) (logical_lines text))
+
+-- ---- uses
+include_stage : Stage → Bool
+include_stage Include = true
+include_stage (Angle t) = true
+include_stage Included = true
+include_stage _ = false
+
+include_stays : (s : Stage) (t : Token) → include_stage s ≡ true → include_stage (next_stage s t) ≡ true
+unfolding include_stage
+include_stays Include t is = elim (is_mark 60 t.role) as (λ b. include_stage (cond b (Angle t) Included) ≡ true) [ true ↦ refl | false ↦ refl ]
+include_stays (Angle a) t is = elim (is_mark 62 t.role) as (λ b. include_stage (cond b Included (Angle a)) ≡ true) [ true ↦ refl | false ↦ refl ]
+include_stays Included t is = refl
+include_stays Start t is = absurd (false≢true is)
+include_stays Code t is = absurd (false≢true is)
+include_stays Hash t is = absurd (false≢true is)
+include_stays Define t is = absurd (false≢true is)
+include_stays (Name n) t is = absurd (false≢true is)
+include_stays (Arguments n) t is = absurd (false≢true is)
+include_stays (Body n last) t is = absurd (false≢true is)
+include_stays Other t is = absurd (false≢true is)
+
+include_no_names : (s : Stage) → include_stage s ≡ true → names_count s ≡ false
+unfolding include_stage
+include_no_names Include is = refl
+include_no_names (Angle a) is = refl
+include_no_names Included is = refl
+include_no_names Start is = absurd (false≢true is)
+include_no_names Code is = absurd (false≢true is)
+include_no_names Hash is = absurd (false≢true is)
+include_no_names Define is = absurd (false≢true is)
+include_no_names (Name n) is = absurd (false≢true is)
+include_no_names (Arguments n) is = absurd (false≢true is)
+include_no_names (Body n last) is = absurd (false≢true is)
+include_no_names Other is = absurd (false≢true is)
+
+-- stages in which every name is a use, now and later
+open_stage : Stage → Bool
+open_stage Code = true
+open_stage Define = true
+open_stage (Name n) = true
+open_stage (Arguments n) = true
+open_stage (Body n last) = true
+open_stage Other = true
+open_stage _ = false
+
+open_stays : (s : Stage) (t : Token) → open_stage s ≡ true → (open_stage (next_stage s t) ≡ true) × (names_count s ≡ true)
+unfolding open_stage
+open_stays Code t is = (refl, refl)
+open_stays Define t is = (elim (is_name_token t.role) as (λ b. open_stage (cond b (Name t) Other) ≡ true) [ true ↦ refl | false ↦ refl ], refl)
+open_stays (Name n) t is = (elim (is_mark 40 t.role && t.span.start == n.span.end) as (λ b. open_stage (cond b (Arguments n.span) Other) ≡ true) [ true ↦ refl | false ↦ refl ], refl)
+open_stays (Arguments n) t is = (elim (is_mark 41 t.role) as (λ b. open_stage (cond b (Body n None) (Arguments n)) ≡ true) [ true ↦ refl | false ↦ refl ], refl)
+open_stays (Body n last) t is = (refl, refl)
+open_stays Other t is = (refl, refl)
+open_stays Start t is = absurd (false≢true is)
+open_stays Hash t is = absurd (false≢true is)
+open_stays Include t is = absurd (false≢true is)
+open_stays (Angle a) t is = absurd (false≢true is)
+open_stays Included t is = absurd (false≢true is)
+
+names : List Token → List Token
+names ts = filter (λ (t : Token). is_name_token t.role) ts
+
+-- a use, and the names after it
+use_step : (n c : Bool) (t : Token) (ts : List Token) → c ≡ true → cond (n && c) (t ∷ []) [] ++ ts ≡ cond n (t ∷ ts) ts
+use_step true c t ts is = ap (λ b. cond b (t ∷ []) [] ++ ts) is
+use_step false c t ts is = refl
+
+open_run : (s : Stage) (e : ℕ) (ts : List Token) → open_stage s ≡ true → run use_out nothing (at s e) ts ≡ names ts
+unfolding names
+open_run s e [] is = refl
+open_run s e (t ∷ ts) is =
+    ap (λ c. use_out (at s e) t ++ c) (open_run (next_stage s t) t.span.end ts (open_stays s t is).0)
+    ∙ use_step (is_name_token t.role) (names_count s) t (names ts) (open_stays s t is).1
+
+include_run : (s : Stage) (e : ℕ) (ts : List Token) → include_stage s ≡ true → run use_out nothing (at s e) ts ≡ []
+include_run s e ts is =
+    quiet_run use_out nothing include_stage (λ s e t is. ap (λ b. cond (is_name_token t.role && b) (t ∷ []) []) (include_no_names s is) ∙ ap (λ b. cond b (t ∷ []) []) (and-false (is_name_token t.role))) (λ s e is. refl) include_stays s e ts is
+
+-- the names behind the own word, by what that word is
+own_step : (r : Role) (own : Token) (e : ℕ) (rest : List Token) → run use_out nothing (at (cond (has_kind kind_is_define r) Define (cond (has_kind kind_is_include r) Include Other)) e) rest ≡ cond (has_kind kind_is_include r) [] (cond (is_any_word r) (names rest) (cond (is_name_token r) (own ∷ names rest) (names rest)))
+unfolding open_stage include_stage
+own_step (Word kind.Name) own e rest = open_run Other e rest refl
+own_step (Word kind.Define) own e rest = open_run Define e rest refl
+own_step (Word kind.Include) own e rest = include_run Include e rest refl
+own_step (Word kind.Typedef) own e rest = open_run Other e rest refl
+own_step (Word kind.Extern) own e rest = open_run Other e rest refl
+own_step (Word kind.Static) own e rest = open_run Other e rest refl
+own_step (Word kind.Reserved) own e rest = open_run Other e rest refl
+own_step (Mark x) own e rest = open_run Other e rest refl
+own_step Str own e rest = open_run Other e rest refl
+own_step other own e rest = open_run Other e rest refl
+
+names_of_cond : (a b : Bool) (xs ys : List Token) → names (cond a [] (cond b xs ys)) ≡ cond a [] (cond b (names xs) (names ys))
+unfolding names
+names_of_cond true b xs ys = refl
+names_of_cond false true xs ys = refl
+names_of_cond false false xs ys = refl
+
+hash_uses : (hash : Token) (e : ℕ) (ts : List Token) → run use_out nothing (at Hash e) ts ≡ names (cond (is_include (hash ∷ ts)) [] (behind_own_word (hash ∷ ts)))
+unfolding names
+hash_uses hash e [] = refl
+hash_uses hash e (own ∷ rest) =
+    ap (λ b. cond b (own ∷ []) [] ++ run use_out nothing (at (stage_after_own own) own.span.end) rest) (and-false (is_name_token own.role))
+    ∙ own_step own.role own own.span.end rest
+    ∙ sym (names_of_cond (has_kind kind_is_include own.role) (is_any_word own.role) rest (own ∷ rest))
+
+-- a lone byte is no name
+mark_no_name : (r : Role) (b : ℕ) → is_mark b r ≡ true → is_name_token r ≡ false
+mark_no_name (Word w) b is = absurd (false≢true is)
+mark_no_name (Mark x) b is = refl
+mark_no_name Str b is = refl
+mark_no_name other b is = refl
+
+use_run : (l : List Token) → run use_out nothing line_start l ≡ used l
+unfolding names open_stage
+use_run [] = refl
+use_run (t ∷ ts) =
+    ⊎_elim
+    (λ is.
+        (λ i. cond (mark_no_name t.role 35 is i && true) (t ∷ []) [] ++ run use_out nothing (at (cond (is i) Hash Code) t.span.end) ts)
+        ∙ hash_uses t t.span.end ts
+        ∙ ap (λ b. names (cond b (cond (is_include (t ∷ ts)) [] (behind_own_word (t ∷ ts))) (t ∷ ts))) (sym is))
+    (λ isnt.
+        ap (λ b. use_out line_start t ++ run use_out nothing (at (cond b Hash Code) t.span.end) ts) isnt
+        ∙ ap (λ c. use_out line_start t ++ c) (open_run Code t.span.end ts refl)
+        ∙ use_step (is_name_token t.role) true t (names ts) refl
+        ∙ ap (λ b. names (cond b (cond (is_include (t ∷ ts)) [] (behind_own_word (t ∷ ts))) (t ∷ ts))) (sym isnt))
+    (cases_Bool (is_mark 35 t.role))
+
+pub uses_are : (text : List ℕ) → walk use_out nothing text line_start (map (lined text) (pieces text)) ≡ flat_map used (logical_lines text)
+uses_are text = walk_lines use_out nothing text ∙ (λ i. flat_map (λ l. use_run l i) (logical_lines text))
