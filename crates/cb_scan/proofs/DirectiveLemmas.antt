@@ -3,6 +3,7 @@ use Rattle.std.proofs.Common.{◌≡◌, ◌∙◌, ⊎_elim, ℕ, Bool, true, f
 use Rattle.std.proofs.lemmas.Bool.{true≢false, false≢true, cases_Bool}
 use Rattle.std.proofs.lemmas.List.{append-nil}
 use Rattle.std.proofs.Math.Bool.{and-false}
+use Rattle.std.proofs.lemmas.List.Concat.{flat_map-append}
 use Rattle.std.specs.Prelude.{cond, not, filter, find, ◌&&◌, ◌==◌}
 use Rattle.std.specs.List.{flat_map}
 use Rattle.std.specs.Option.{option_map_or, option_to_list}
@@ -246,3 +247,208 @@ use_run (t ∷ ts) =
 
 pub uses_are : (text : List ℕ) → walk use_out nothing text line_start (map (lined text) (pieces text)) ≡ flat_map used (logical_lines text)
 uses_are text = walk_lines use_out nothing text ∙ (λ i. flat_map (λ l. use_run l i) (logical_lines text))
+
+-- ---- macros
+-- stages that lead to no macro
+past_name : Stage → Bool
+past_name Start = false
+past_name Hash = false
+past_name Define = false
+past_name (Name n) = false
+past_name _ = true
+
+past_name_stays : (s : Stage) (t : Token) → past_name s ≡ true → past_name (next_stage s t) ≡ true
+unfolding past_name
+past_name_stays Start t is = absurd (false≢true is)
+past_name_stays Hash t is = absurd (false≢true is)
+past_name_stays Define t is = absurd (false≢true is)
+past_name_stays (Name n) t is = absurd (false≢true is)
+past_name_stays Code t is = refl
+past_name_stays (Arguments n) t is = elim (is_mark 41 t.role) as (λ b. past_name (cond b (Body n None) (Arguments n)) ≡ true) [ true ↦ refl | false ↦ refl ]
+past_name_stays (Body n last) t is = refl
+past_name_stays Include t is = elim (is_mark 60 t.role) as (λ b. past_name (cond b (Angle t) Included) ≡ true) [ true ↦ refl | false ↦ refl ]
+past_name_stays (Angle a) t is = elim (is_mark 62 t.role) as (λ b. past_name (cond b Included (Angle a)) ≡ true) [ true ↦ refl | false ↦ refl ]
+past_name_stays Included t is = refl
+past_name_stays Other t is = refl
+
+past_name_silent : (s : Stage) (e : ℕ) (t : Token) → past_name s ≡ true → macro_out (at s e) t ≡ []
+unfolding past_name
+past_name_silent Start e t is = absurd (false≢true is)
+past_name_silent Hash e t is = absurd (false≢true is)
+past_name_silent Define e t is = absurd (false≢true is)
+past_name_silent (Name n) e t is = absurd (false≢true is)
+past_name_silent Code e t is = refl
+past_name_silent (Arguments n) e t is = refl
+past_name_silent (Body n last) e t is = refl
+past_name_silent Include e t is = refl
+past_name_silent (Angle a) e t is = refl
+past_name_silent Included e t is = refl
+past_name_silent Other e t is = refl
+
+past_name_run : (s : Stage) (e : ℕ) (ts : List Token) → past_name s ≡ true → run macro_out nothing (at s e) ts ≡ []
+past_name_run = quiet_run macro_out nothing past_name past_name_silent (λ s e is. refl) past_name_stays
+
+-- stages in which nothing more comes of a directive that defines no macro
+dull : Stage → Bool
+dull Code = true
+dull Include = true
+dull (Angle a) = true
+dull Included = true
+dull Other = true
+dull _ = false
+
+dull_stays : (s : Stage) (t : Token) → dull s ≡ true → dull (next_stage s t) ≡ true
+unfolding dull
+dull_stays Start t is = absurd (false≢true is)
+dull_stays Hash t is = absurd (false≢true is)
+dull_stays Define t is = absurd (false≢true is)
+dull_stays (Name n) t is = absurd (false≢true is)
+dull_stays (Arguments n) t is = absurd (false≢true is)
+dull_stays (Body n last) t is = absurd (false≢true is)
+dull_stays Code t is = refl
+dull_stays Include t is = elim (is_mark 60 t.role) as (λ b. dull (cond b (Angle t) Included) ≡ true) [ true ↦ refl | false ↦ refl ]
+dull_stays (Angle a) t is = elim (is_mark 62 t.role) as (λ b. dull (cond b Included (Angle a)) ≡ true) [ true ↦ refl | false ↦ refl ]
+dull_stays Included t is = refl
+dull_stays Other t is = refl
+
+dull_silent : (s : Stage) (t : Token) → dull s ≡ true → macro_call s t ≡ None
+unfolding dull
+dull_silent Start t is = absurd (false≢true is)
+dull_silent Hash t is = absurd (false≢true is)
+dull_silent Define t is = absurd (false≢true is)
+dull_silent (Name n) t is = absurd (false≢true is)
+dull_silent (Arguments n) t is = absurd (false≢true is)
+dull_silent (Body n last) t is = absurd (false≢true is)
+dull_silent Code t is = refl
+dull_silent Include t is = refl
+dull_silent (Angle a) t is = refl
+dull_silent Included t is = refl
+dull_silent Other t is = refl
+
+dull_ends : (s : Stage) (e : ℕ) → dull s ≡ true → range_finish (at s e) ≡ []
+unfolding dull
+dull_ends Start e is = absurd (false≢true is)
+dull_ends Hash e is = absurd (false≢true is)
+dull_ends Define e is = absurd (false≢true is)
+dull_ends (Name n) e is = absurd (false≢true is)
+dull_ends (Arguments n) e is = absurd (false≢true is)
+dull_ends (Body n last) e is = absurd (false≢true is)
+dull_ends Code e is = refl
+dull_ends Include e is = refl
+dull_ends (Angle a) e is = refl
+dull_ends Included e is = refl
+dull_ends Other e is = refl
+
+dull_calls : (s : Stage) (e : ℕ) (ts : List Token) → dull s ≡ true → run macro_call_out nothing (at s e) ts ≡ []
+dull_calls = quiet_run macro_call_out nothing dull (λ s e t is. ap option_to_list (dull_silent s t is)) (λ s e is. refl) dull_stays
+
+dull_ranges : (s : Stage) (e : ℕ) (ts : List Token) → dull s ≡ true → run no_range range_finish (at s e) ts ≡ []
+dull_ranges = quiet_run no_range range_finish dull (λ s e t is. refl) dull_ends dull_stays
+
+-- what the arguments and the body of a macro give
+body_range : (n : Span) (last : Option Token) (e : ℕ) (ts : List Token) → run no_range range_finish (at (Body n last) e) ts ≡ record { name = n; end = line_end e ts } ∷ []
+unfolding line_end
+body_range n last e [] = refl
+body_range n last e (t ∷ ts) = body_range n (Some t) t.span.end ts
+
+arguments_range : (n : Span) (e : ℕ) (ts : List Token) → run no_range range_finish (at (Arguments n) e) ts ≡ record { name = n; end = line_end e ts } ∷ []
+unfolding line_end
+arguments_range n e [] = refl
+arguments_range n e (t ∷ ts) =
+    elim (is_mark 41 t.role) as (λ b. run no_range range_finish (at (cond b (Body n None) (Arguments n)) t.span.end) ts ≡ record { name = n; end = line_end t.span.end ts } ∷ []) [
+      | true ↦ body_range n None t.span.end ts
+      | false ↦ arguments_range n t.span.end ts
+    ]
+
+body_calls : (n : Span) (last : Token) (e : ℕ) (ts : List Token) → run macro_call_out nothing (at (Body n (Some last)) e) ts ≡ calls_among n (last ∷ ts)
+unfolding calls_among
+body_calls n last e [] = refl
+body_calls n last e (t ∷ ts) =
+    ap (λ c. option_to_list (cond (is_call last t) (Some (call_of n last)) None) ++ c) (body_calls n t t.span.end ts)
+    ∙ elim (is_call last t) as (λ b. option_to_list (cond b (Some (call_of n last)) None) ++ calls_among n (t ∷ ts) ≡ cond b (call_of n last ∷ calls_among n (t ∷ ts)) (calls_among n (t ∷ ts))) [ true ↦ refl | false ↦ refl ]
+
+fresh_calls : (n : Span) (e : ℕ) (ts : List Token) → run macro_call_out nothing (at (Body n None) e) ts ≡ calls_among n ts
+unfolding calls_among
+fresh_calls n e [] = refl
+fresh_calls n e (t ∷ ts) = body_calls n t t.span.end ts
+
+arguments_calls : (n : Span) (e : ℕ) (ts : List Token) → run macro_call_out nothing (at (Arguments n) e) ts ≡ calls_among n (after_arguments ts)
+unfolding after_arguments calls_among
+arguments_calls n e [] = refl
+arguments_calls n e (t ∷ ts) =
+    elim (is_mark 41 t.role) as (λ b. run macro_call_out nothing (at (cond b (Body n None) (Arguments n)) t.span.end) ts ≡ calls_among n (cond b ts (after_arguments ts))) [
+      | true ↦ fresh_calls n t.span.end ts
+      | false ↦ arguments_calls n t.span.end ts
+    ]
+
+-- a directive as a macro, by what a macro gives
+module _ {A : Type 0} (out : Line → Token → List A) (finish : Line → List A) (give : Macro → List A)
+    (hash_silent : (e : ℕ) (t : Token) → out (at Hash e) t ≡ []) (define_silent : (e : ℕ) (t : Token) → out (at Define e) t ≡ [])
+    (hash_ends : (e : ℕ) → finish (at Hash e) ≡ []) (define_ends : (e : ℕ) → finish (at Define e) ≡ []) (name_ends : (n : Token) (e : ℕ) → finish (at (Name n) e) ≡ [])
+    (quiet : (s : Stage) (e : ℕ) (ts : List Token) → dull s ≡ true → run out finish (at s e) ts ≡ [])
+    (start_silent : (t : Token) → out line_start t ≡ []) (start_ends : finish line_start ≡ [])
+    (named : (own n p : Token) (e : ℕ) (ts : List Token) → (is_mark 40 p.role && p.span.start == n.span.end) ≡ true → out (at (Name n) e) p ++ run out finish (at (Arguments n.span) p.span.end) ts ≡ give (record { name = n; body = after_arguments ts; end = line_end p.span.end ts }))
+    (unnamed : (n p : Token) (e : ℕ) → (is_mark 40 p.role && p.span.start == n.span.end) ≡ false → out (at (Name n) e) p ≡ []) where
+  given : List Macro → List A
+  given ms = flat_map give ms
+
+  behind_name : (own n p : Token) (e : ℕ) (ts : List Token) (b : Bool) → (is_mark 40 p.role && p.span.start == n.span.end) ≡ b → out (at (Name n) e) p ++ run out finish (at (cond b (Arguments n.span) Other) p.span.end) ts ≡ flat_map give (cond b (record { name = n; body = after_arguments ts; end = line_end p.span.end ts } ∷ []) [])
+  unfolding dull
+  behind_name own n p e ts true is = named own n p e ts is ∙ sym (append-nil _)
+  behind_name own n p e ts false is = ap (λ c. c ++ run out finish (at Other p.span.end) ts) (unnamed n p e is) ∙ quiet Other p.span.end ts refl
+
+  behind_define : (hash own : Token) (e : ℕ) (ts : List Token) → has_kind kind_is_define own.role ≡ true → run out finish (at Define e) ts ≡ flat_map give (macro_of (hash ∷ own ∷ ts))
+  unfolding dull
+  behind_define hash own e [] is = define_ends e
+  behind_define hash own e (n ∷ []) is =
+      ap (λ c. c ++ finish (at (cond (is_name_token n.role) (Name n) Other) n.span.end)) (define_silent e n)
+      ∙ elim (is_name_token n.role) as (λ b. finish (at (cond b (Name n) Other) n.span.end) ≡ []) [ true ↦ name_ends n n.span.end | false ↦ quiet Other n.span.end [] refl ]
+  behind_define hash own e (n ∷ p ∷ ts) is =
+      ap (λ c. c ++ run out finish (at (cond (is_name_token n.role) (Name n) Other) n.span.end) (p ∷ ts)) (define_silent e n)
+      ∙ elim (is_name_token n.role) as (λ b. run out finish (at (cond b (Name n) Other) n.span.end) (p ∷ ts) ≡ flat_map give (cond (true && b && is_mark 40 p.role && p.span.start == n.span.end) (record { name = n; body = after_arguments ts; end = line_end p.span.end ts } ∷ []) [])) [
+        | true ↦ behind_name own n p n.span.end ts (is_mark 40 p.role && p.span.start == n.span.end) refl ∙ ap (λ b. flat_map give (cond b (record { name = n; body = after_arguments ts; end = line_end p.span.end ts } ∷ []) [])) (and_once (is_mark 40 p.role) (p.span.start == n.span.end))
+        | false ↦ quiet Other n.span.end (p ∷ ts) refl
+      ]
+      ∙ ap (λ d. flat_map give (cond (d && is_name_token n.role && is_mark 40 p.role && p.span.start == n.span.end) (record { name = n; body = after_arguments ts; end = line_end p.span.end ts } ∷ []) [])) (sym is)
+    where
+      and_once : (a b : Bool) → (a && b) ≡ (true && true && a && b)
+      and_once a b = refl
+
+  behind_hash : (hash : Token) (e : ℕ) (ts : List Token) → run out finish (at Hash e) ts ≡ flat_map give (macro_of (hash ∷ ts))
+  unfolding dull
+  behind_hash hash e [] = hash_ends e
+  behind_hash hash e (own ∷ ts) =
+      ap (λ c. c ++ run out finish (at (stage_after_own own) own.span.end) ts) (hash_silent e own)
+      ∙ ⊎_elim
+        (λ is. ap (λ b. run out finish (at (cond b Define (cond (has_kind kind_is_include own.role) Include Other)) own.span.end) ts) is ∙ behind_define hash own own.span.end ts is)
+        (λ isnt.
+            ap (λ b. run out finish (at (cond b Define (cond (has_kind kind_is_include own.role) Include Other)) own.span.end) ts) isnt
+            ∙ elim (has_kind kind_is_include own.role) as (λ b. run out finish (at (cond b Include Other) own.span.end) ts ≡ []) [ true ↦ quiet Include own.span.end ts refl | false ↦ quiet Other own.span.end ts refl ]
+            ∙ sym (none ts isnt))
+        (cases_Bool (has_kind kind_is_define own.role))
+    where
+      none : (ts : List Token) → has_kind kind_is_define own.role ≡ false → flat_map give (macro_of (hash ∷ own ∷ ts)) ≡ []
+      none [] isnt = refl
+      none (n ∷ []) isnt = refl
+      none (n ∷ p ∷ ts) isnt = ap (λ d. flat_map give (cond (d && is_name_token n.role && is_mark 40 p.role && p.span.start == n.span.end) (record { name = n; body = after_arguments ts; end = line_end p.span.end ts } ∷ []) [])) isnt
+
+  macro_line : (l : List Token) → run out finish line_start l ≡ cond (is_directive l) (flat_map give (macro_of l)) []
+  unfolding dull
+  macro_line [] = start_ends
+  macro_line (t ∷ ts) =
+      ap (λ c. c ++ run out finish (at (cond (is_mark 35 t.role) Hash Code) t.span.end) ts) (start_silent t)
+      ∙ elim (is_mark 35 t.role) as (λ b. run out finish (at (cond b Hash Code) t.span.end) ts ≡ cond b (flat_map give (macro_of (t ∷ ts))) []) [
+        | true ↦ behind_hash t t.span.end ts
+        | false ↦ quiet Code t.span.end ts refl
+      ]
+
+  all_macros : (text : List ℕ) → walk out finish text line_start (map (lined text) (pieces text)) ≡ flat_map give (macros text)
+  all_macros text =
+      walk_lines out finish text
+      ∙ (λ i. flat_map (λ l. macro_line l i) (logical_lines text))
+      ∙ sym (filtered (λ l. flat_map give (macro_of l)) (logical_lines text))
+      ∙ nested_map (directives text)
+    where
+      nested_map : (ls : List (List Token)) → flat_map (λ l. flat_map give (macro_of l)) ls ≡ flat_map give (flat_map macro_of ls)
+      nested_map [] = refl
+      nested_map (l ∷ ls) = ap (λ c. flat_map give (macro_of l) ++ c) (nested_map ls) ∙ sym (flat_map-append give (macro_of l) (flat_map macro_of ls))
