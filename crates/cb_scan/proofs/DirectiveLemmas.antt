@@ -1,5 +1,5 @@
 -- What a line gives, a token at a time, is what the definitions say of the whole line.
-use Rattle.std.proofs.Common.{◌≡◌, ◌∙◌, ⊎_elim, ℕ, Bool, true, false, List, [], ◌∷◌, ◌++◌, Option, Some, None, refl, sym, ap, map, append_assoc}
+use Rattle.std.proofs.Common.{◌≡◌, ◌∙◌, ◌+◌, ◌-◌, ⊎_elim, ℕ, Bool, true, false, List, [], ◌∷◌, ◌++◌, Option, Some, None, refl, sym, ap, map, append_assoc}
 use Rattle.std.proofs.lemmas.Bool.{true≢false, false≢true, cases_Bool}
 use Rattle.std.proofs.lemmas.List.{append-nil}
 use Rattle.std.proofs.Math.Bool.{and-false}
@@ -10,6 +10,7 @@ use Rattle.std.specs.Option.{option_map_or, option_to_list}
 use Rattle.cb_scan.specs.declared.facts.Call.{Call}
 use Rattle.cb_scan.specs.declared.facts.Def.{Def}
 use Rattle.cb_scan.specs.declared.facts.Include.{Include as IncludeFact}
+use Rattle.cb_scan.specs.declared.facts.Kind.TheVariants as fact_kind
 use Rattle.cb_scan.specs.declared.line.Line.{Line}
 use Rattle.cb_scan.specs.declared.line.Stage.{Stage}
 use Rattle.cb_scan.specs.declared.line.Stage.TheVariants.{Start, Code, Hash, Define, Name, Arguments, Body, Include, Angle, Included, Other}
@@ -23,8 +24,8 @@ use Rattle.cb_scan.specs.Code.{code, directives, is_directive, logical_lines}
 use Rattle.cb_scan.specs.Definitions.{macro_def}
 use Rattle.cb_scan.specs.Macros.{Macro, after_arguments, defines_macro, line_end, macro_of, macros}
 use Rattle.cb_scan.specs.Scope.{macro_range, macro_ranges}
-use Rattle.cb_scan.specs.Tokens.{has_kind, is_any_word, is_mark, is_name_token, is_str, kind_is_define, kind_is_include}
-use Rattle.cb_scan.specs.Uses.{behind_own_word, call_of, calls_among, header_between, header_of, include_of, is_call, is_include, macro_calls, usable, used}
+use Rattle.cb_scan.specs.Tokens.{bytes_of, has_kind, is_any_word, is_mark, is_name_token, is_str, kind_is_define, kind_is_include}
+use Rattle.cb_scan.specs.Uses.{behind_own_word, call_of, calls_among, header_between, header_of, include_of, is_call, is_include, macro_calls, quote_ends, usable, used}
 use Rattle.cb_scan.specs.steps.Cut.{pieces}
 use Rattle.cb_scan.specs.steps.Line.{code_out, include_found, include_out, is_code, line_start, macro_call, macro_call_out, macro_ended, macro_found, macro_out, names_count, next_line, next_stage, no_range, nothing, range_finish, run, stage_after_name, stage_after_own, use_out, walk}
 use Rattle.cb_scan.specs.steps.Lined.{lined}
@@ -452,3 +453,190 @@ module _ {A : Type 0} (out : Line → Token → List A) (finish : Line → List 
       nested_map : (ls : List (List Token)) → flat_map (λ l. flat_map give (macro_of l)) ls ≡ flat_map give (flat_map macro_of ls)
       nested_map [] = refl
       nested_map (l ∷ ls) = ap (λ c. flat_map give (macro_of l) ++ c) (nested_map ls) ∙ sym (flat_map-append give (macro_of l) (flat_map macro_of ls))
+
+-- ---- what macros give
+dull_past : (s : Stage) → dull s ≡ true → past_name s ≡ true
+unfolding dull past_name
+dull_past Start is = absurd (false≢true is)
+dull_past Hash is = absurd (false≢true is)
+dull_past Define is = absurd (false≢true is)
+dull_past (Name n) is = absurd (false≢true is)
+dull_past (Arguments n) is = refl
+dull_past (Body n last) is = refl
+dull_past Code is = refl
+dull_past Include is = refl
+dull_past (Angle a) is = refl
+dull_past Included is = refl
+dull_past Other is = refl
+
+pub macros_are : (text : List ℕ) → walk macro_out nothing text line_start (map (lined text) (pieces text)) ≡ map macro_def (macros text)
+unfolding past_name
+macros_are text =
+    all_macros macro_out nothing (λ m. macro_def m ∷ []) (λ e t. refl) (λ e t. refl) (λ e. refl) (λ e. refl) (λ n e. refl) (λ s e ts is. past_name_run s e ts (dull_past s is)) (λ t. refl) refl
+    (λ own n p e ts is.
+        ap (λ b. option_to_list (cond b (Some (macro_def (record { name = n; body = after_arguments ts; end = line_end p.span.end ts }))) None) ++ run macro_out nothing (at (Arguments n.span) p.span.end) ts) is
+        ∙ ap (λ c. macro_def (record { name = n; body = after_arguments ts; end = line_end p.span.end ts }) ∷ c) (past_name_run (Arguments n.span) p.span.end ts refl))
+    (λ n p e isnt. ap (λ b. option_to_list (cond b (Some (record { name = n.span; kind = fact_kind.Macro; line = n.line; local = false })) None)) isnt)
+    text
+    ∙ one_each (macros text)
+  where
+    one_each : (ms : List Macro) → flat_map (λ (m : Macro). macro_def m ∷ []) ms ≡ map macro_def ms
+    one_each [] = refl
+    one_each (m ∷ ms) = ap (λ c. macro_def m ∷ c) (one_each ms)
+
+
+pub macro_ranges_are : (text : List ℕ) → walk no_range range_finish text line_start (map (lined text) (pieces text)) ≡ macro_ranges text
+macro_ranges_are text =
+    all_macros no_range range_finish (λ m. macro_range m ∷ []) (λ e t. refl) (λ e t. refl) (λ e. refl) (λ e. refl) (λ n e. refl) dull_ranges (λ t. refl) refl
+    (λ own n p e ts is. arguments_range n.span p.span.end ts)
+    (λ n p e isnt. refl)
+    text
+    ∙ one_each (macros text)
+  where
+    one_each : (ms : List Macro) → flat_map (λ (m : Macro). macro_range m ∷ []) ms ≡ map macro_range ms
+    one_each [] = refl
+    one_each (m ∷ ms) = ap (λ c. macro_range m ∷ c) (one_each ms)
+
+pub macro_calls_are : (text : List ℕ) → walk macro_call_out nothing text line_start (map (lined text) (pieces text)) ≡ macro_calls (macros text)
+macro_calls_are text =
+    all_macros macro_call_out nothing (λ m. calls_among m.name.span m.body) (λ e t. refl) (λ e t. refl) (λ e. refl) (λ e. refl) (λ n e. refl) dull_calls (λ t. refl) refl
+    (λ own n p e ts is. arguments_calls n.span p.span.end ts)
+    (λ n p e isnt. refl)
+    text
+
+-- ---- includes
+no_include : Stage → Bool
+no_include Start = false
+no_include Hash = false
+no_include Include = false
+no_include (Angle a) = false
+no_include _ = true
+
+no_include_stays : (s : Stage) (t : Token) → no_include s ≡ true → no_include (next_stage s t) ≡ true
+unfolding no_include
+no_include_stays Start t is = absurd (false≢true is)
+no_include_stays Hash t is = absurd (false≢true is)
+no_include_stays Include t is = absurd (false≢true is)
+no_include_stays (Angle a) t is = absurd (false≢true is)
+no_include_stays Code t is = refl
+no_include_stays Define t is = elim (is_name_token t.role) as (λ b. no_include (cond b (Name t) Other) ≡ true) [ true ↦ refl | false ↦ refl ]
+no_include_stays (Name n) t is = elim (is_mark 40 t.role && t.span.start == n.span.end) as (λ b. no_include (cond b (Arguments n.span) Other) ≡ true) [ true ↦ refl | false ↦ refl ]
+no_include_stays (Arguments n) t is = elim (is_mark 41 t.role) as (λ b. no_include (cond b (Body n None) (Arguments n)) ≡ true) [ true ↦ refl | false ↦ refl ]
+no_include_stays (Body n last) t is = refl
+no_include_stays Included t is = refl
+no_include_stays Other t is = refl
+
+no_include_silent : (text : List ℕ) (s : Stage) (e : ℕ) (t : Token) → no_include s ≡ true → include_out text (at s e) t ≡ []
+unfolding no_include
+no_include_silent text Start e t is = absurd (false≢true is)
+no_include_silent text Hash e t is = absurd (false≢true is)
+no_include_silent text Include e t is = absurd (false≢true is)
+no_include_silent text (Angle a) e t is = absurd (false≢true is)
+no_include_silent text Code e t is = refl
+no_include_silent text Define e t is = refl
+no_include_silent text (Name n) e t is = refl
+no_include_silent text (Arguments n) e t is = refl
+no_include_silent text (Body n last) e t is = refl
+no_include_silent text Included e t is = refl
+no_include_silent text Other e t is = refl
+
+module _ (text : List ℕ) where
+  no_include_run : (s : Stage) (e : ℕ) (ts : List Token) → no_include s ≡ true → run (include_out text) nothing (at s e) ts ≡ []
+  no_include_run = quiet_run (include_out text) nothing no_include (no_include_silent text) (λ s e is. refl) no_include_stays
+
+  -- behind the `<` of a header
+  angle_run : (a : Token) (e : ℕ) (ts : List Token) → run (include_out text) nothing (at (Angle a) e) ts ≡ option_map_or (λ (g : Token). header_between a.span.end g.span.start a.line) (find (λ (u : Token). is_mark 62 u.role) ts) []
+  unfolding no_include
+  angle_run a e [] = refl
+  angle_run a e (t ∷ ts) =
+      elim (is_mark 62 t.role) as (λ b. cond b (header_between a.span.end t.span.start a.line) [] ++ run (include_out text) nothing (at (cond b Included (Angle a)) t.span.end) ts ≡ option_map_or (λ (g : Token). header_between a.span.end g.span.start a.line) (cond b (Some t) (find (λ (u : Token). is_mark 62 u.role) ts)) []) [
+        | true ↦ ap (λ c. header_between a.span.end t.span.start a.line ++ c) (no_include_run Included t.span.end ts refl) ∙ append-nil _
+        | false ↦ angle_run a t.span.end ts
+      ]
+
+  str_no_mark : (r : Role) (b : ℕ) → is_str r ≡ true → is_mark b r ≡ false
+  str_no_mark (Word w) b is = absurd (false≢true is)
+  str_no_mark (Mark x) b is = absurd (false≢true is)
+  str_no_mark Str b is = refl
+  str_no_mark other b is = absurd (false≢true is)
+
+  -- the header that a string is, and the one between angle brackets
+  string_header : Token → List IncludeFact
+  string_header t = cond (quote_ends 34 (bytes_of text (record { start = t.span.start + 1; end = t.span.end }))) (header_between (t.span.start + 1) (t.span.end - 1) t.line) []
+
+  angle_header : Token → List Token → List IncludeFact
+  angle_header t ts = cond (is_mark 60 t.role) (option_map_or (λ (g : Token). header_between t.span.end g.span.start t.line) (find (λ (u : Token). is_mark 62 u.role) ts) []) []
+
+  angled : (t : Token) (ts : List Token) → run (include_out text) nothing (at (cond (is_mark 60 t.role) (Angle t) Included) t.span.end) ts ≡ angle_header t ts
+  unfolding no_include angle_header
+  angled t ts =
+      elim (is_mark 60 t.role) as (λ b. run (include_out text) nothing (at (cond b (Angle t) Included) t.span.end) ts ≡ cond b (option_map_or (λ (g : Token). header_between t.span.end g.span.start t.line) (find (λ (u : Token). is_mark 62 u.role) ts) []) []) [
+        | true ↦ angle_run t t.span.end ts
+        | false ↦ no_include_run Included t.span.end ts refl
+      ]
+
+  third_run : (t : Token) (ts : List Token) → cond (is_str t.role) (header_of text t []) [] ++ run (include_out text) nothing (at (cond (is_mark 60 t.role) (Angle t) Included) t.span.end) ts ≡ header_of text t ts
+  unfolding no_include string_header angle_header
+  third_run t ts =
+      ⊎_elim
+      (λ str.
+          (λ i. cond (str i) (header_of text t []) [] ++ run (include_out text) nothing (at (cond (str_no_mark t.role 60 str i) (Angle t) Included) t.span.end) ts)
+          ∙ ap (λ c. header_of text t [] ++ c) (no_include_run Included t.span.end ts refl)
+          ∙ append-nil (header_of text t [])
+          ∙ ap (λ b. cond b (string_header t) (angle_header t [])) str
+          ∙ sym (ap (λ b. cond b (string_header t) (angle_header t ts)) str))
+      (λ no_str.
+          ap (λ b. cond b (header_of text t []) [] ++ run (include_out text) nothing (at (cond (is_mark 60 t.role) (Angle t) Included) t.span.end) ts) no_str
+          ∙ angled t ts
+          ∙ sym (ap (λ b. cond b (string_header t) (angle_header t ts)) no_str))
+      (cases_Bool (is_str t.role))
+
+  -- behind the own word
+  header_run : (hash own : Token) (e : ℕ) (ts : List Token) → has_kind kind_is_include own.role ≡ true → run (include_out text) nothing (at Include e) ts ≡ include_of text (hash ∷ own ∷ ts)
+  header_run hash own e [] is = refl
+  header_run hash own e (t ∷ ts) is = third_run t ts ∙ ap (λ b. cond b (header_of text t ts) []) (sym is)
+
+  include_no_define : (r : Role) → has_kind kind_is_include r ≡ true → has_kind kind_is_define r ≡ false
+  include_no_define (Word kind.Name) is = refl
+  include_no_define (Word kind.Define) is = absurd (false≢true is)
+  include_no_define (Word kind.Include) is = refl
+  include_no_define (Word kind.Typedef) is = refl
+  include_no_define (Word kind.Extern) is = refl
+  include_no_define (Word kind.Static) is = refl
+  include_no_define (Word kind.Reserved) is = refl
+  include_no_define (Mark x) is = refl
+  include_no_define Str is = refl
+  include_no_define other is = refl
+
+  hash_run : (hash : Token) (e : ℕ) (ts : List Token) → run (include_out text) nothing (at Hash e) ts ≡ include_of text (hash ∷ ts)
+  unfolding no_include
+  hash_run hash e [] = refl
+  hash_run hash e (own ∷ ts) =
+      ⊎_elim
+      (λ is.
+          (λ i. run (include_out text) nothing (at (cond (include_no_define own.role is i) Define (cond (is i) Include Other)) own.span.end) ts)
+          ∙ header_run hash own own.span.end ts is)
+      (λ isnt.
+          ap (λ b. run (include_out text) nothing (at (cond (has_kind kind_is_define own.role) Define (cond b Include Other)) own.span.end) ts) isnt
+          ∙ elim (has_kind kind_is_define own.role) as (λ b. run (include_out text) nothing (at (cond b Define Other) own.span.end) ts ≡ []) [ true ↦ no_include_run Define own.span.end ts refl | false ↦ no_include_run Other own.span.end ts refl ]
+          ∙ sym (none ts isnt))
+      (cases_Bool (has_kind kind_is_include own.role))
+    where
+      none : (ts : List Token) → has_kind kind_is_include own.role ≡ false → include_of text (hash ∷ own ∷ ts) ≡ []
+      none [] isnt = refl
+      none (t ∷ ts) isnt = ap (λ b. cond b (header_of text t ts) []) isnt
+
+  include_run_line : (l : List Token) → run (include_out text) nothing line_start l ≡ cond (is_directive l) (include_of text l) []
+  unfolding no_include
+  include_run_line [] = refl
+  include_run_line (t ∷ ts) =
+      elim (is_mark 35 t.role) as (λ b. run (include_out text) nothing (at (cond b Hash Code) t.span.end) ts ≡ cond b (include_of text (t ∷ ts)) []) [
+        | true ↦ hash_run t t.span.end ts
+        | false ↦ no_include_run Code t.span.end ts refl
+      ]
+
+  pub includes_are : walk (include_out text) nothing text line_start (map (lined text) (pieces text)) ≡ flat_map (include_of text) (directives text)
+  includes_are =
+      walk_lines (include_out text) nothing text
+      ∙ (λ i. flat_map (λ l. include_run_line l i) (logical_lines text))
+      ∙ sym (filtered (include_of text) (logical_lines text))
