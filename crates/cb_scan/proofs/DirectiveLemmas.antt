@@ -562,7 +562,7 @@ module _ (text : List ℕ) where
 
   -- the header that a string is, and the one between angle brackets
   string_header : Token → List IncludeFact
-  string_header t = cond (quote_ends 34 (bytes_of text (record { start = t.span.start + 1; end = t.span.end }))) (header_between (t.span.start + 1) (t.span.end - 1) t.line) []
+  string_header t = cond (quote_ends (bytes_of text (record { start = t.span.start + 1; end = t.span.end }))) (header_between (t.span.start + 1) (t.span.end - 1) t.line) []
 
   angle_header : Token → List Token → List IncludeFact
   angle_header t ts = cond (is_mark 60 t.role) (option_map_or (λ (g : Token). header_between t.span.end g.span.start t.line) (find (λ (u : Token). is_mark 62 u.role) ts) []) []

@@ -11,5 +11,6 @@ pub mod LineLemmas
 pub mod LineTable
 pub mod LinedPieces
 pub mod PieceLists
+pub mod QuoteLemmas
 pub mod WithinLemmas
 pub mod WordLemmas

@@ -1,5 +1,5 @@
 -- Uses of names, calls and includes. This is the project's profile.
-use Rattle.std.specs.Prelude.{ℕ, suc, ◌+◌, ◌-◌, Bool, true, false, ◌&&◌, ◌==◌, nat_lt, not, List, [], ◌∷◌, ◌++◌, Option, Some, None, if◌then◌else◌, filter, map, find}
+use Rattle.std.specs.Prelude.{ℕ, suc, ◌+◌, ◌-◌, Bool, true, false, ◌&&◌, ◌||◌, ◌==◌, nat_lt, not, List, [], ◌∷◌, ◌++◌, Option, Some, None, if◌then◌else◌, filter, map, find}
 use Rattle.std.specs.List.{flat_map, range_with_len}
 use Rattle.std.specs.Option.{option_map_or}
 use Rattle.cb_scan.specs.declared.piece.Span.{Span}
@@ -74,14 +74,17 @@ macro_calls ms = flat_map (λ (m : Macro). calls_among m.name.span m.body) ms
 
 -- ---- includes
 
--- the bytes of a literal behind its first quote end with a quote that no item takes (ISO C 2011, 6.4.5)
-unfoldable pub quote_ends : ℕ → List ℕ → Bool
-quote_ends q [] = false
-quote_ends q (b ∷ []) = b == q
-quote_ends q (b ∷ c ∷ []) = if b == 92 then false else (if b == q then true else c == q)
-quote_ends q (b ∷ c ∷ d ∷ rest) =
-    if b == q then true
-    else (if b == 92 then (if c == 13 && d == 10 then quote_ends q rest else quote_ends q (d ∷ rest)) else quote_ends q (c ∷ d ∷ rest))
+-- the bytes of a string behind its first quote have a quote that no item takes (ISO C 2011, 6.4.5): the items are `\` CR LF,
+-- else `\` and any byte, else any byte but a quote, `\` and LF
+unfoldable pub quote_ends : List ℕ → Bool
+quote_ends [] = false
+quote_ends (b ∷ []) = b == 34
+quote_ends (b ∷ c ∷ []) = if b == 34 then true else (if b == 10 || b == 92 then false else c == 34)
+quote_ends (b ∷ c ∷ d ∷ rest) =
+    if b == 34 then true
+    else (if b == 10 then false
+    else (if b == 92 then (if c == 13 && d == 10 then quote_ends rest else quote_ends (d ∷ rest))
+    else quote_ends (c ∷ d ∷ rest)))
 
 -- the header between two places, if it is not empty
 abbrev pub header_between : ℕ → ℕ → ℕ → List Include
@@ -91,7 +94,7 @@ header_between start end line = if nat_lt start end then record { header = recor
 -- 2011, 6.4.7 and 6.10.2). Its first byte stands on the token's line.
 abbrev pub header_of : List ℕ → Token → List Token → List Include
 header_of text t rest =
-    if is_str t.role then (if quote_ends 34 (bytes_of text (record { start = t.span.start + 1; end = t.span.end })) then header_between (t.span.start + 1) (t.span.end - 1) t.line else [])
+    if is_str t.role then (if quote_ends (bytes_of text (record { start = t.span.start + 1; end = t.span.end })) then header_between (t.span.start + 1) (t.span.end - 1) t.line else [])
     else (if is_mark 60 t.role then option_map_or (λ (g : Token). header_between t.span.end g.span.start t.line) (find (λ (u : Token). is_mark 62 u.role) rest) [] else [])
 
 -- the include that a directive is, if it is one; its scope is still to be found
