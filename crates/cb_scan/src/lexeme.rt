@@ -163,7 +163,7 @@ fn note_len(text: &[u8]) -> usize
 
 #[inline]
 #[tactic(auto, unfolding(crate::specs::steps::Cut::literal_escape))]
-fn literal_escape(escape: Escape, byte: u8) -> Escape
+pub(crate) fn literal_escape(escape: Escape, byte: u8) -> Escape
     ensures { result ≡ literal_escape escape byte }
 {
     match (escape, byte) {
@@ -176,7 +176,7 @@ fn literal_escape(escape: Escape, byte: u8) -> Escape
 
 #[inline]
 #[tactic(auto, unfolding(crate::specs::steps::Cut::ends_literal))]
-fn ends_literal(quote: u8, escape: Escape, byte: u8) -> bool
+pub(crate) fn ends_literal(quote: u8, escape: Escape, byte: u8) -> bool
     ensures { result ≡ ends_literal quote escape byte }
 {
     match escape {

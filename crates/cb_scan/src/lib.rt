@@ -6,6 +6,7 @@
 
 mod cut;
 mod facts;
+mod header;
 pub mod laws;
 mod lexeme;
 mod line;
