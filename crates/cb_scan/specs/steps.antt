@@ -5,3 +5,4 @@ pub mod LineStarts
 pub mod Lined
 pub mod Machine
 pub mod Quote
+pub mod Scopes

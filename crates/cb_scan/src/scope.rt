@@ -1,4 +1,6 @@
 //! The functions and macros around places.
+ghost use Rattle.std.specs.Prelude.{◌≡◌};
+ghost use Rattle.cb_scan.specs.steps.Scopes.{around, first_around, reached};
 
 use crate::piece::Span;
 
@@ -7,4 +9,56 @@ use crate::piece::Span;
 pub(crate) struct Range {
     pub name: Span,
     pub end: u32,
+}
+
+/// The ranges of functions and of macros that may hold a place, for places that come in order.
+#[derive(Clone, Copy)]
+pub(crate) struct Around<'a> {
+    pub functions: &'a [Range],
+    pub macros: &'a [Range],
+}
+
+/// The ranges without those at the front that end by a place.
+fn reached(ranges: &[Range], place: u32) -> &[Range]
+    ensures { result.now ≡ reached place ranges.now }
+{
+    for (i, range) in ranges.iter().enumerate() {
+        if place < range.end {
+            return &ranges[i..];
+        }
+    }
+    &ranges[ranges.len()..]
+}
+
+/// The name of the first range, if it has begun by a place.
+fn first_around(ranges: &[Range], place: u32) -> Option<Span>
+    ensures { result ≡ first_around place ranges.now }
+{
+    match ranges {
+        [first, ..] if first.name.start <= place => Some(first.name),
+        _ => None,
+    }
+}
+
+impl<'a> Around<'a> {
+    /// The ranges that may hold a place or one after it.
+    pub(crate) fn reached(self, place: u32) -> Around<'a>
+        ensures functions { result.functions.now ≡ reached place self.entry.functions.now }
+        ensures macros { result.macros.now ≡ reached place self.entry.macros.now }
+    {
+        Around {
+            functions: reached(self.functions, place),
+            macros: reached(self.macros, place),
+        }
+    }
+
+    /// The macro around a place that was reached, else the function.
+    pub(crate) fn scope(self, place: u32) -> Option<Span>
+        ensures { result ≡ around self.entry.functions.now self.entry.macros.now place }
+    {
+        match first_around(self.macros, place) {
+            Some(name) => Some(name),
+            None => first_around(self.functions, place),
+        }
+    }
 }
