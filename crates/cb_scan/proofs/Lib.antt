@@ -12,5 +12,6 @@ pub mod LineTable
 pub mod LinedPieces
 pub mod PieceLists
 pub mod QuoteLemmas
+pub mod Rising
 pub mod WithinLemmas
 pub mod WordLemmas

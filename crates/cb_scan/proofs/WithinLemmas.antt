@@ -20,21 +20,21 @@ abbrev AllOfAll : {X : Type 0} → (X → Type 0) → List (List X) → Type 0
 AllOfAll P ls = AllByRecursion (AllByRecursion P) ls
 
 module _ {X : Type 0} (P : X → Type 0) where
-  all-append : (xs ys : List X) → AllByRecursion P xs → AllByRecursion P ys → AllByRecursion P (xs ++ ys)
+  pub all-append : (xs ys : List X) → AllByRecursion P xs → AllByRecursion P ys → AllByRecursion P (xs ++ ys)
   all-append [] ys a b = b
   all-append (x ∷ xs) ys a b = (a.0, all-append xs ys a.1 b)
 
-  all-take : (k : ℕ) (xs : List X) → AllByRecursion P xs → AllByRecursion P (take k xs)
+  pub all-take : (k : ℕ) (xs : List X) → AllByRecursion P xs → AllByRecursion P (take k xs)
   all-take zero xs a = tt
   all-take (suc k) [] a = tt
   all-take (suc k) (x ∷ xs) a = (a.0, all-take k xs a.1)
 
-  all-drop : (k : ℕ) (xs : List X) → AllByRecursion P xs → AllByRecursion P (drop k xs)
+  pub all-drop : (k : ℕ) (xs : List X) → AllByRecursion P xs → AllByRecursion P (drop k xs)
   all-drop zero xs a = a
   all-drop (suc k) [] a = tt
   all-drop (suc k) (x ∷ xs) a = all-drop k xs a.1
 
-  all-filter : (test : X → Bool) (xs : List X) → AllByRecursion P xs → AllByRecursion P (filter test xs)
+  pub all-filter : (test : X → Bool) (xs : List X) → AllByRecursion P xs → AllByRecursion P (filter test xs)
   all-filter test [] a = tt
   all-filter test (x ∷ xs) a =
       elim (test x) as (λ b. AllByRecursion P (cond b (x ∷ filter test xs) (filter test xs))) [ true ↦ (a.0, all-filter test xs a.1) | false ↦ all-filter test xs a.1 ]
@@ -71,7 +71,7 @@ code-within text ps a =
     all-joined (TokenWithin text) _ (all-filter (AllByRecursion (TokenWithin text)) (λ l. not (is_directive l)) (lines_of_tokens text ps) (lines-within text _ (all-split (LiesIn text) (λ p. is_newline p.class) ps a)))
 
 -- the first called name of some tokens is one of them
-called-among : (P : Token → Type 0) (h : List Token) → AllByRecursion P h → MatchOption (called_name h) (Unit {0}) P
+pub called-among : (P : Token → Type 0) (h : List Token) → AllByRecursion P h → MatchOption (called_name h) (Unit {0}) P
 unfolding called_name
 called-among P [] a = tt
 called-among P (t ∷ []) a = tt
