@@ -71,7 +71,7 @@ no_name Str a b c is = refl
 no_name Other a b c is = refl
 no_name (Mark x) a b c is = refl
 
-and_left : (a b : Bool) → (a && b) ≡ true → a ≡ true
+pub and_left : (a b : Bool) → (a && b) ≡ true → a ≡ true
 and_left true b is = refl
 and_left false b is = is
 
@@ -80,7 +80,7 @@ and_right true b is = is
 and_right false b is = absurd (false≢true is)
 
 -- the depth stays above 0 where nothing ends all
-stays_deep : (c b s : Bool) (d : ℕ) → 0 < d → (b && (if c then d + 1 else (if b then (if s then 0 else d - 1) else d)) == 0) ≡ false → 0 < (if c then d + 1 else (if b then (if s then 0 else d - 1) else d))
+pub stays_deep : (c b s : Bool) (d : ℕ) → 0 < d → (b && (if c then d + 1 else (if b then (if s then 0 else d - 1) else d)) == 0) ≡ false → 0 < (if c then d + 1 else (if b then (if s then 0 else d - 1) else d))
 stays_deep true b s d deep open_ = omega arith
 stays_deep false false s d deep open_ = deep
 stays_deep false true true d deep open_ = absurd (true≢false open_)
@@ -108,7 +108,7 @@ abbrev def_name : Def → Span
 def_name d = d.name
 
 -- the functions that a `{` opens where the head names one
-abbrev function_named : List Token → ℕ → Option Token → List Function
+abbrev pub function_named : List Token → ℕ → Option Token → List Function
 function_named ts k o = option_map_or (λ name. record { name = name; local = list_any (λ (t : Token). is_static t.role) (head ts k); body = k; end = close_from ts (suc k) } ∷ []) o []
 
 -- the range and the calls of the function whose `{` is token k, by its name alone
@@ -129,7 +129,7 @@ module _ (text : List ℕ) (ts : List Token) (k : ℕ) where
       by_cases true None = refl
       by_cases false o = refl
 
-  none_here : (is_counted ts k && depth ts k == 0) ≡ false → function_at ts k ≡ []
+  pub none_here : (is_counted ts k && depth ts k == 0) ≡ false → function_at ts k ≡ []
   none_here closed_ = ap (λ b. cond b (function_named ts k (defined_name (head ts k))) []) closed_
 
 -- the names that are found

@@ -34,7 +34,7 @@ pub record IsAt (ts : List Token) (k : ℕ) (m : Machine) : Type 0 where
   pub extern_is : is_after_extern m.before ≡ follows_extern ts k
   pub head_is : m.head ≡ fold add empty_head (head ts k)
 
-head_start_le : (ts : List Token) (k : ℕ) → head_start ts k ≤ k
+pub head_start_le : (ts : List Token) (k : ℕ) → head_start ts k ≤ k
 unfolding head_start
 head_start_le ts zero = omega arith
 head_start_le ts (suc k) =

@@ -1,22 +1,29 @@
 -- Tokens come in the order of their places, and so does what is picked from them.
-use Rattle.std.proofs.Common.{◌≡◌, ◌∙◌, ◌≤◌, ◌<◌, ◌+◌, ◌-◌, ℕ, zero, suc, Bool, true, false, List, [], ◌∷◌, ◌++◌, Option, Some, None, refl, sym, ap, subst, map, take, drop, length, arith, take-append-drop}
-use Rattle.std.proofs.lemmas.List.{append-nil, drop-drop, drop-take}
-use Rattle.std.specs.Prelude.{◌&&◌, ◌==◌, cond, not, filter}
-use Rattle.std.specs.List.{AllByRecursion, flat_map, slice_split}
+use Rattle.std.proofs.Common.{◌≡◌, ◌∙◌, ◌≤◌, ◌<◌, ◌+◌, ◌-◌, ℕ, zero, suc, Bool, true, false, List, [], ◌∷◌, ◌++◌, Option, Some, None, refl, sym, ap, subst, map, take, drop, length, add-one, inl, inr, ⊎_elim, add-zero, length-take-le, arith, take-append-drop}
+use Rattle.std.proofs.lemmas.List.{append-nil, drop-drop, drop-take, drop_all, map-append}
+use Rattle.std.specs.Prelude.{◌⊎◌, ◌&&◌, ◌||◌, ◌==◌, cond, not, filter}
+use Rattle.std.specs.List.{AllByRecursion, flat_map, list_any, range_with_len}
+use Rattle.std.specs.Option.{MatchOption, option_map_or}
+use Rattle.std.proofs.lemmas.Bool.{cases_Bool, eqb-true, false_from_ne_true}
+use Rattle.std.proofs.Math.Bool.{and-false}
 use Rattle.cb_scan.specs.declared.line.Line.{Line}
 use Rattle.cb_scan.specs.declared.piece.Piece.{Piece}
 use Rattle.cb_scan.specs.declared.token.Token.{Token}
-use Rattle.cb_scan.specs.Code.{is_newline, is_directive, code, logical_lines}
+use Rattle.cb_scan.specs.Code.{is_newline, is_directive, code, directives, logical_lines}
+use Rattle.cb_scan.specs.Depth.{closes, depth, depth_after, head_start, is_counted, is_stop, is_uncounted, token_at}
+use Rattle.cb_scan.specs.Functions.{Function, called_name, close_from, function_at, functions, head, may_define}
 use Rattle.cb_scan.specs.Macros.{Macro, after_arguments, defines_macro, line_end, macro_of, macros}
 use Rattle.cb_scan.specs.Pieces.{Adjoin}
-use Rattle.cb_scan.specs.Tokens.{is_any_word, is_name_token, is_significant, token_of}
+use Rattle.cb_scan.specs.Tokens.{is_any_word, is_mark, is_name_token, is_static, is_significant, token_of}
 use Rattle.cb_scan.specs.Uses.{behind_own_word, is_include, usable, used}
 use Rattle.cb_scan.specs.steps.Cut.{pieces}
 use Rattle.cb_scan.specs.steps.Line.{line_start, next_line, nothing, run, walk}
 use Rattle.cb_scan.specs.steps.Lined.{lined}
+use Rattle.cb_scan.proofs.BodyLemmas.{and_left, function_named, none_here, stays_deep}
+use Rattle.cb_scan.proofs.FunctionLemmas.{head_start_le}
 use Rattle.cb_scan.proofs.LineLemmas.{walk_lines}
 use Rattle.cb_scan.proofs.PieceLists.{pieces-adjoin}
-use Rattle.cb_scan.proofs.WithinLemmas.{all-append, all-take, all-drop, all-filter}
+use Rattle.cb_scan.proofs.WithinLemmas.{all-append, all-take, all-drop, all-filter, called-among}
 
 -- the token begins at a place or behind it
 abbrev pub From : ℕ → Token → Type 0
@@ -205,3 +212,171 @@ macro_picks = record { all = names_all; rises = names_rise }
     names_rise (h ∷ o ∷ n ∷ []) r = tt
     names_rise (h ∷ o ∷ n ∷ p ∷ l) r =
         elim (defines_macro o n p) as (λ b. Rising (map (λ (m : Macro). m.name) (cond b (record { name = n; body = after_arguments l; end = line_end p.span.end l } ∷ []) []))) [ true ↦ (r.2.2.0, tt, tt) | false ↦ tt ]
+
+names_flat : (ls : List (List Token)) → flat_map macro_names ls ≡ map (λ (m : Macro). m.name) (flat_map macro_of ls)
+unfolding macro_names
+names_flat [] = refl
+names_flat (l ∷ ls) = ap (λ c. macro_names l ++ c) (names_flat ls) ∙ sym (map-append (λ (m : Macro). m.name) (macro_of l) (flat_map macro_of ls))
+
+only_directives : (ls : List (List Token)) (P : Token → Type 0) → AllByRecursion P (flat_map (λ l. l) ls) → AllByRecursion P (flat_map (λ l. l) (filter is_directive ls))
+only_directives [] P a = tt
+only_directives (l ∷ ls) P a =
+    let parts = all_front P l (flat_map (λ l. l) ls) a in
+    elim (is_directive l) as (λ b. AllByRecursion P (flat_map (λ l. l) (cond b (l ∷ filter is_directive ls) (filter is_directive ls)))) [
+      | true ↦ all-append P l _ parts.0 (only_directives ls P parts.1)
+      | false ↦ only_directives ls P parts.1
+    ]
+
+before_directives : (ls : List (List Token)) (xs : List Token) → Before xs (flat_map (λ l. l) ls) → Before xs (flat_map (λ l. l) (filter is_directive ls))
+before_directives ls [] b = tt
+before_directives ls (x ∷ xs) b = (only_directives ls (From x.span.end) b.0, before_directives ls xs b.1)
+
+directives_rise : (ls : List (List Token)) → Rising (flat_map (λ l. l) ls) → Rising (flat_map (λ l. l) (filter is_directive ls))
+directives_rise [] r = tt
+directives_rise (l ∷ ls) r =
+    let parts = rising-split l (flat_map (λ l. l) ls) r in
+    elim (is_directive l) as (λ b. Rising (flat_map (λ l. l) (cond b (l ∷ filter is_directive ls) (filter is_directive ls)))) [
+      | true ↦ rising-join l _ parts.0 (directives_rise ls parts.1) (before_directives ls l parts.2)
+      | false ↦ directives_rise ls parts.1
+    ]
+
+pub directive_tokens_rise : (text : List ℕ) → Rising (flat_map (λ l. l) (directives text))
+directive_tokens_rise text = directives_rise (logical_lines text) (all_rise text)
+
+pub macros_rise : (text : List ℕ) → Rising (map (λ (m : Macro). m.name) (macros text))
+macros_rise text = subst Rising (names_flat (directives text)) (rising-picked macro_names macro_picks (directives text) (directive_tokens_rise text))
+
+-- ---- the names of functions
+abbrev function_name : Function → Token
+function_name f = f.name
+
+-- a function is named by a token of its head
+named_in_head : (P : Token → Type 0) (ts : List Token) (k : ℕ) → AllByRecursion P (head ts k) → AllByRecursion P (map function_name (function_at ts k))
+named_in_head P ts k a = by_cases (is_counted ts k && depth ts k == 0) (may_define (head ts k))
+  where
+    made : Option Token → List Function
+    made o = option_map_or (λ name. record { name = name; local = list_any (λ (t : Token). is_static t.role) (head ts k); body = k; end = close_from ts (suc k) } ∷ []) o []
+
+    of_called : (o : Option Token) → MatchOption o (Unit {0}) P → AllByRecursion P (map function_name (option_map_or (λ name. record { name = name; local = list_any (λ (t : Token). is_static t.role) (head ts k); body = k; end = close_from ts (suc k) } ∷ []) o []))
+    of_called None p = tt
+    of_called (Some t) p = (p, tt)
+
+    by_cases : (b c : Bool) → AllByRecursion P (map function_name (cond b (option_map_or (λ name. record { name = name; local = list_any (λ (t : Token). is_static t.role) (head ts k); body = k; end = close_from ts (suc k) } ∷ []) (cond c (called_name (head ts k)) None) []) []))
+    by_cases true true = of_called (called_name (head ts k)) (called-among P (head ts k) a)
+    by_cases true false = tt
+    by_cases false c = tt
+
+-- from a depth above 0 on the depth stays above 0, or a head begins behind it
+deep_or_new : (ts : List Token) (a n : ℕ) → 0 < depth ts a → (0 < depth ts (a + n)) ⊎ (a < head_start ts (a + n))
+unfolding depth head_start
+deep_or_new ts a zero deep = inl (subst (λ k. 0 < depth ts k) (sym (add-zero a)) deep)
+deep_or_new ts a (suc n) deep =
+    let k = a + n in
+    let next : a + suc n ≡ suc k = omega arith in
+    let start_after : suc k ≡ a + suc n = omega arith in
+    subst (λ j. (0 < depth ts j) ⊎ (a < head_start ts j)) (sym next)
+    (⊎_elim
+     (λ ends.
+         let stop : is_stop ts k ≡ true = ap (λ b. (is_mark 59 (token_at ts k).role && depth ts k == 0) || b || is_uncounted ts k) ends ∙ or_mid (is_mark 59 (token_at ts k).role && depth ts k == 0) (is_uncounted ts k) in
+         let at : head_start ts (suc k) ≡ suc k = ap (λ b. cond b (suc k) (head_start ts k)) stop in
+         inr (omega arith))
+     (λ goes_on.
+         ⊎_elim
+         (λ above. inl (stays_deep (is_counted ts k) (is_mark 125 (token_at ts k).role) (token_at ts k).starts_line (depth ts k) above goes_on))
+         (λ new. inr (later_start ts k a new))
+         (deep_or_new ts a n deep))
+     (cases_Bool (closes ts k)))
+  where
+    or_mid : (a c : Bool) → (a || true || c) ≡ true
+    or_mid true c = refl
+    or_mid false c = refl
+
+    later_start : (ts : List Token) (k a : ℕ) → a < head_start ts k → a < head_start ts (suc k)
+    later_start ts k a new =
+        elim (is_stop ts k) as (λ b. a < cond b (suc k) (head_start ts k)) [ true ↦ omega (arith, new, head_start_le ts k) | false ↦ new ]
+
+-- a part of a list behind its first k tokens
+nothing_left : {X : Type 0} (P : X → Type 0) (h : ℕ) → AllByRecursion P (drop h [])
+nothing_left P zero = tt
+nothing_left P (suc h) = tt
+
+part_of_rest : {X : Type 0} (P : X → Type 0) (ts : List X) (k h m : ℕ) → k ≤ h → AllByRecursion P (drop k ts) → AllByRecursion P (drop h (take m ts))
+part_of_rest P [] k h zero behind a = nothing_left P h
+part_of_rest P [] k h (suc m) behind a = nothing_left P h
+part_of_rest P (x ∷ xs) k h zero behind a = nothing_left P h
+part_of_rest P (x ∷ xs) zero zero (suc m) behind a = (a.0, all-take P m xs a.1)
+part_of_rest P (x ∷ xs) (suc k) zero (suc m) behind a = absurd (omega arith)
+part_of_rest P (x ∷ xs) zero (suc h) (suc m) behind a = part_of_rest P xs zero h m (omega arith) a.1
+part_of_rest P (x ∷ xs) (suc k) (suc h) (suc m) behind a = part_of_rest P xs k h m (omega arith) a
+
+-- the functions whose `{` stands behind a body that token a is in are named by tokens behind token a
+later_names : (P : Token → Type 0) (ts : List Token) (a k n : ℕ) → a ≤ k → ((j : ℕ) → k ≤ j → (0 < depth ts j) ⊎ (a < head_start ts j)) → AllByRecursion P (drop a ts) → AllByRecursion P (map function_name (flat_map (function_at ts) (range_with_len k n)))
+later_names P ts a k zero behind new all = tt
+later_names P ts a k (suc n) behind new all =
+    subst (AllByRecursion P) (sym (map-append function_name (function_at ts k) (flat_map (function_at ts) (range_with_len (k + 1) n))))
+    (all-append P _ _ (⊎_elim in_body at_top (new k (omega arith))) (later_names P ts a (k + 1) n (omega arith) (λ j le. new j (omega arith)) all))
+  where
+    at_top : a < head_start ts k → AllByRecursion P (map function_name (function_at ts k))
+    at_top above = named_in_head P ts k (part_of_rest P ts a (head_start ts k) k (omega arith) all)
+
+    in_body : 0 < depth ts k → AllByRecursion P (map function_name (function_at ts k))
+    in_body deep =
+        let shut : (is_counted ts k && depth ts k == 0) ≡ false = ap (λ b. is_counted ts k && b) (false_from_ne_true (depth ts k == 0) (λ e. let none : depth ts k ≡ 0 = eqb-true (depth ts k) 0 e in absurd (omega arith))) ∙ and-false (is_counted ts k) in
+        subst (λ fs. AllByRecursion P (map function_name fs)) (sym (none_here [] ts k shut)) tt
+
+all_implied : {X : Type 0} (P Q : X → Type 0) → ((x : X) → P x → Q x) → (xs : List X) → AllByRecursion P xs → AllByRecursion Q xs
+all_implied P Q f [] a = tt
+all_implied P Q f (x ∷ xs) a = (f x a.0, all_implied P Q f xs a.1)
+
+-- each token has a byte at least
+HasByte : Token → Type 0
+HasByte t = t.span.start < t.span.end
+
+all_some : (ts : List Token) → Rising ts → AllByRecursion HasByte ts
+unfolding HasByte
+all_some [] r = tt
+all_some (t ∷ ts) r = (r.0, all_some ts r.2)
+
+one_rises : (ts : List Token) (k : ℕ) → AllByRecursion HasByte (head ts k) → Rising (map function_name (function_at ts k))
+unfolding HasByte
+one_rises ts k a = by_cases (is_counted ts k && depth ts k == 0) (may_define (head ts k))
+  where
+    of_called : (o : Option Token) → MatchOption o (Unit {0}) (λ t. t.span.start < t.span.end) → Rising (map function_name (function_named ts k o))
+    of_called None p = tt
+    of_called (Some t) p = (p, tt, tt)
+
+    by_cases : (b c : Bool) → Rising (map function_name (cond b (function_named ts k (cond c (called_name (head ts k)) None)) []))
+    by_cases true true = of_called (called_name (head ts k)) (called-among HasByte (head ts k) a)
+    by_cases true false = tt
+    by_cases false c = tt
+
+-- the functions behind one are named behind its `{`
+behind_it : (ts : List Token) (k n : ℕ) → (is_counted ts k && depth ts k == 0) ≡ true → (x : Token) → AllByRecursion (From x.span.end) (drop k ts) → AllByRecursion (From x.span.end) (map function_name (flat_map (function_at ts) (range_with_len (k + 1) n)))
+unfolding depth
+behind_it ts k n is x all =
+    let counted : is_counted ts k ≡ true = and_left (is_counted ts k) (depth ts k == 0) is in
+    let opened : depth ts (suc k) ≡ depth ts k + 1 = ap (λ b. depth_after b (token_at ts k) (depth ts k)) counted in
+    let deep : 0 < depth ts (k + 1) = subst (λ j. 0 < depth ts j) (sym (add-one k)) (omega arith) in
+    later_names (From x.span.end) ts (k + 1) (k + 1) n (omega arith)
+    (λ j le. let at : k + 1 + (j - (k + 1)) ≡ j = omega arith in subst (λ i. (0 < depth ts i) ⊎ (k + 1 < head_start ts i)) at (deep_or_new ts (k + 1) (j - (k + 1)) deep))
+    (subst (AllByRecursion (From x.span.end)) (drop-drop 1 k ts) (all-drop (From x.span.end) 1 (drop k ts) all))
+
+-- the names of the functions from token k on
+names_rise_from : (ts : List Token) (k n : ℕ) → Rising ts → Rising (map function_name (flat_map (function_at ts) (range_with_len k n)))
+names_rise_from ts k zero r = tt
+names_rise_from ts k (suc n) r =
+    subst Rising (sym (map-append function_name (function_at ts k) (flat_map (function_at ts) (range_with_len (k + 1) n))))
+    (by_cases (is_counted ts k && depth ts k == 0) refl (names_rise_from ts (k + 1) n r))
+  where
+    by_cases : (b : Bool) → (is_counted ts k && depth ts k == 0) ≡ b → Rising (map function_name (flat_map (function_at ts) (range_with_len (k + 1) n))) → Rising (map function_name (function_at ts k) ++ map function_name (flat_map (function_at ts) (range_with_len (k + 1) n)))
+    by_cases false is later = subst (λ fs. Rising (map function_name fs ++ map function_name (flat_map (function_at ts) (range_with_len (k + 1) n)))) (sym (none_here [] ts k is)) later
+    by_cases true is later =
+        let parts : Rising (take k ts) × Rising (drop k ts) × Before (take k ts) (drop k ts) = rising-split (take k ts) (drop k ts) (subst Rising (sym (take-append-drop k ts)) r) in
+        let Q : Token → Type 0 = λ x. AllByRecursion (From x.span.end) (map function_name (flat_map (function_at ts) (range_with_len (k + 1) n))) in
+        rising-join _ _
+        (one_rises ts k (all-drop HasByte (head_start ts k) (take k ts) (all_some (take k ts) parts.0)))
+        later
+        (named_in_head Q ts k (all-drop Q (head_start ts k) (take k ts) (all_implied (λ x. AllByRecursion (From x.span.end) (drop k ts)) Q (behind_it ts k n is) (take k ts) parts.2)))
+
+pub functions_rise : (text : List ℕ) → Rising (map function_name (functions (code text)))
+functions_rise text = names_rise_from (code text) 0 (length (code text)) (code_rises text)
