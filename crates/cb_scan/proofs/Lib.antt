@@ -13,5 +13,6 @@ pub mod LinedPieces
 pub mod PieceLists
 pub mod QuoteLemmas
 pub mod Rising
+pub mod ScopeLemmas
 pub mod WithinLemmas
 pub mod WordLemmas

@@ -38,15 +38,15 @@ Rising (t ∷ ts) = (t.span.start < t.span.end) × AllByRecursion (From t.span.e
 abbrev pub Before : List Token → List Token → Type 0
 Before xs ys = AllByRecursion (λ (x : Token). AllByRecursion (From x.span.end) ys) xs
 
-all_front : {X : Type 0} (P : X → Type 0) (xs ys : List X) → AllByRecursion P (xs ++ ys) → AllByRecursion P xs × AllByRecursion P ys
-all_front P [] ys a = (tt, a)
-all_front P (x ∷ xs) ys a = let later = all_front P xs ys a.1 in ((a.0, later.0), later.1)
+pub all-front : {X : Type 0} (P : X → Type 0) (xs ys : List X) → AllByRecursion P (xs ++ ys) → AllByRecursion P xs × AllByRecursion P ys
+all-front P [] ys a = (tt, a)
+all-front P (x ∷ xs) ys a = let later = all-front P xs ys a.1 in ((a.0, later.0), later.1)
 
 pub rising-split : (xs ys : List Token) → Rising (xs ++ ys) → Rising xs × Rising ys × Before xs ys
 rising-split [] ys r = (tt, r, tt)
 rising-split (x ∷ xs) ys r =
     let later = rising-split xs ys r.2 in
-    let parts = all_front (From x.span.end) xs ys r.1 in
+    let parts = all-front (From x.span.end) xs ys r.1 in
     ((r.0, parts.0, later.0), later.1, (parts.1, later.2))
 
 pub rising-join : (xs ys : List Token) → Rising xs → Rising ys → Before xs ys → Rising (xs ++ ys)
@@ -70,7 +70,7 @@ module _ (pick : List Token → List Token) (picks : Picks pick) where
   pub all-picked : (P : Token → Type 0) (ls : List (List Token)) → AllByRecursion P (flat_map (λ l. l) ls) → AllByRecursion P (flat_map pick ls)
   all-picked P [] a = tt
   all-picked P (l ∷ ls) a =
-      let parts = all_front P l (flat_map (λ l. l) ls) a in
+      let parts = all-front P l (flat_map (λ l. l) ls) a in
       all-append P (pick l) (flat_map pick ls) (picks.all P l parts.0) (all-picked P ls parts.1)
 
   each_before : (ls : List (List Token)) (xs : List Token) → Before xs (flat_map (λ l. l) ls) → Before xs (flat_map pick ls)
@@ -221,7 +221,7 @@ names_flat (l ∷ ls) = ap (λ c. macro_names l ++ c) (names_flat ls) ∙ sym (m
 only_directives : (ls : List (List Token)) (P : Token → Type 0) → AllByRecursion P (flat_map (λ l. l) ls) → AllByRecursion P (flat_map (λ l. l) (filter is_directive ls))
 only_directives [] P a = tt
 only_directives (l ∷ ls) P a =
-    let parts = all_front P l (flat_map (λ l. l) ls) a in
+    let parts = all-front P l (flat_map (λ l. l) ls) a in
     elim (is_directive l) as (λ b. AllByRecursion P (flat_map (λ l. l) (cond b (l ∷ filter is_directive ls) (filter is_directive ls)))) [
       | true ↦ all-append P l _ parts.0 (only_directives ls P parts.1)
       | false ↦ only_directives ls P parts.1
