@@ -10,6 +10,7 @@ pub mod Lengths
 pub mod LineLemmas
 pub mod LineTable
 pub mod LinedPieces
+pub mod OrderLemmas
 pub mod PieceLists
 pub mod QuoteLemmas
 pub mod Rising

@@ -8,7 +8,7 @@ use Rattle.cb_scan.specs.declared.token.Token.{Token}
 use Rattle.cb_scan.specs.Code.{code}
 use Rattle.cb_scan.specs.Functions.{Function, functions}
 use Rattle.cb_scan.specs.Macros.{Macro, macros}
-use Rattle.cb_scan.specs.Order.{call_cmp, def_cmp, in_order}
+use Rattle.cb_scan.specs.Order.{call_key, def_key, in_order}
 use Rattle.cb_scan.specs.TextFacts.{TextFacts}
 use Rattle.cb_scan.specs.Typedefs.{typedefs}
 use Rattle.cb_scan.specs.Uses.{function_calls, includes, macro_calls, uses}
@@ -26,11 +26,11 @@ typedef_def t = record { name = t.span; kind = kind.Typedef; line = t.line; loca
 -- the definitions of a text, by place, a function before a typedef at one place
 unfoldable pub definitions : List ℕ → List Def
 definitions text =
-    in_order def_cmp (map function_def (functions (code text)) ++ map macro_def (macros text) ++ map typedef_def (typedefs (code text)))
+    in_order def_key (map function_def (functions (code text)) ++ map macro_def (macros text) ++ map typedef_def (typedefs (code text)))
 
 -- the calls of a text, by place
 unfoldable pub calls : List ℕ → List Call
-calls text = in_order call_cmp (function_calls (code text) ++ macro_calls (macros text))
+calls text = in_order call_key (function_calls (code text) ++ macro_calls (macros text))
 
 -- what is found in a text
 abbrev pub facts_of : List ℕ → TextFacts
