@@ -2,6 +2,7 @@ pub mod Blocks
 pub mod BodyLemmas
 pub mod CodeLemmas
 pub mod Cuts
+pub mod DeclarationLemmas
 pub mod DirectiveLemmas
 pub mod Fronts
 pub mod FunctionLemmas
@@ -11,5 +12,6 @@ pub mod LineLemmas
 pub mod LineTable
 pub mod LinedPieces
 pub mod PieceLists
+pub mod TypedefLemmas
 pub mod WithinLemmas
 pub mod WordLemmas

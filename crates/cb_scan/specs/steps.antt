@@ -4,3 +4,4 @@ pub mod Line
 pub mod LineStarts
 pub mod Lined
 pub mod Machine
+pub mod Typedefs

@@ -18,6 +18,7 @@ mod scanner;
 mod scope;
 mod source;
 mod token;
+mod typedefs;
 
 pub use cut::pieces;
 pub use facts::{Call, Def, Facts, Include, Kind, Use};
