@@ -12,6 +12,7 @@ pub mod LineLemmas
 pub mod LineTable
 pub mod LinedPieces
 pub mod PieceLists
+pub mod TypedefExamples
 pub mod TypedefLemmas
 pub mod WithinLemmas
 pub mod WordLemmas
