@@ -1,10 +1,14 @@
--- The names that short typedefs define, computed on tokens.
-use Rattle.std.proofs.Common.{◌≡◌, ◌∙◌, ℕ, suc, List, [], ◌∷◌, None, refl, sym}
-use Rattle.std.specs.Prelude.{false}
+-- The names that short typedefs define, computed.
+use Rattle.std.proofs.Common.{◌≡◌, ◌∙◌, ℕ, suc, List, [], ◌∷◌, None, refl, sym, ap, map}
+use Rattle.std.specs.Prelude.{false, codes}
 use Rattle.cb_scan.specs.declared.token.Role.{Role}
 use Rattle.cb_scan.specs.declared.token.Role.TheVariants.{Word, Mark, Str, Other}
 use Rattle.cb_scan.specs.declared.token.Token.{Token}
 use Rattle.cb_scan.specs.declared.token.WordKind.TheVariants.{Name, Extern, Typedef, Reserved}
+use Rattle.cb_scan.specs.Code.{code}
+use Rattle.cb_scan.specs.PieceExamples.{cutting}
+use Rattle.cb_scan.specs.Reserved.{is_reserved, reserved_words}
+use Rattle.cb_scan.specs.Tokens.{word_of}
 use Rattle.cb_scan.specs.Typedefs.{typedefs}
 use Rattle.cb_scan.specs.steps.Machine.{next, start}
 use Rattle.cb_scan.specs.steps.Typedefs.{after, typedefs_from}
@@ -124,3 +128,8 @@ stray_closing =
 pub stray_closing_names : typedefs stray_closing ≡ name 4 ∷ []
 unfolding next after
 stray_closing_names = sym (typedefs_from_start stray_closing) ∙ refl
+
+-- the same of a text: where the three names begin
+pub three_of_text : map (λ (t : Token). t.span.start) (typedefs (code (codes "typedef int (**fn)(word), *p, q[3];"))) ≡ 15 ∷ 27 ∷ 30 ∷ []
+unfolding next after cutting word_of is_reserved reserved_words
+three_of_text = ap (map (λ (t : Token). t.span.start)) (sym (typedefs_from_start (code (codes "typedef int (**fn)(word), *p, q[3];")))) ∙ refl
