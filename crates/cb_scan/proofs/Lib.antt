@@ -2,6 +2,7 @@ pub mod Blocks
 pub mod BodyLemmas
 pub mod CodeLemmas
 pub mod Cuts
+pub mod DeclarationLemmas
 pub mod DirectiveLemmas
 pub mod Fronts
 pub mod FunctionLemmas
@@ -15,5 +16,7 @@ pub mod PieceLists
 pub mod QuoteLemmas
 pub mod Rising
 pub mod ScopeLemmas
+pub mod TypedefExamples
+pub mod TypedefLemmas
 pub mod WithinLemmas
 pub mod WordLemmas

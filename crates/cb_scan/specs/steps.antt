@@ -6,3 +6,4 @@ pub mod Lined
 pub mod Machine
 pub mod Quote
 pub mod Scopes
+pub mod Typedefs

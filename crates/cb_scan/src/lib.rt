@@ -14,11 +14,13 @@ mod lined;
 mod machine;
 mod meter;
 mod name;
+mod order;
 mod piece;
 mod scanner;
 mod scope;
 mod source;
 mod token;
+mod typedefs;
 
 pub use cut::pieces;
 pub use facts::{Call, Def, Facts, Include, Kind, Use};

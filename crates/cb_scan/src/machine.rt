@@ -10,7 +10,7 @@ use crate::token::{Role, Token, WordKind};
 /// The tokens since the last stop, as far as the rule on functions asks.
 #[derive(Clone, Copy)]
 pub(crate) struct Head {
-    last: Option<Token>,
+    pub(crate) last: Option<Token>,
     begins_with_typedef: bool,
     has_equals: bool,
     has_static: bool,
@@ -29,9 +29,9 @@ pub(crate) enum Before {
 /// whose body it is in.
 #[derive(Clone, Copy)]
 pub(crate) struct Machine {
-    depth: u32,
+    pub(crate) depth: u32,
     before: Before,
-    head: Head,
+    pub(crate) head: Head,
     body: Option<Span>,
 }
 
