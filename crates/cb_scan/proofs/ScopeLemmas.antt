@@ -16,7 +16,7 @@ use Rattle.cb_scan.specs.Macros.{Macro, macros}
 use Rattle.cb_scan.specs.Scope.{function_range, function_ranges, holds, macro_range, macro_ranges, name_around, scope}
 use Rattle.cb_scan.specs.Uses.{header_between, header_of, include_of, includes, quote_ends, used, uses}
 use Rattle.cb_scan.specs.Tokens.{bytes_of, has_kind, is_mark, is_str, kind_is_include}
-use Rattle.cb_scan.specs.steps.Scopes.{around, first_around, reached, scoped}
+use Rattle.cb_scan.specs.steps.Scopes.{around, first_around, include_place, include_with, reached, scoped, token_place, use_of}
 use Rattle.cb_scan.proofs.Rising.{From, Rising, all-front, directive_tokens_rise, functions_rise, rising-split, macros_rise, used_rise}
 
 -- ranges begin in order
@@ -129,10 +129,6 @@ functions_ascend text = function_ranges_ascend text (code text) (functions (code
 pub macros_ascend : (text : List ℕ) → Ascending (macro_ranges text)
 macros_ascend text = macro_ranges_ascend (macros text) (macros_rise text)
 
--- the places of tokens
-abbrev pub token_place : Token → ℕ
-token_place t = t.span.start
-
 tokens_ordered : (p : ℕ) (ts : List Token) → AllByRecursion (From p) ts → Rising ts → Ordered token_place p ts
 tokens_ordered p [] a r = tt
 tokens_ordered p (t ∷ ts) a r = (a.0, tokens_ordered t.span.start ts (later t.span.start t.span.end ts (omega (arith, r.0)) r.1) r.2)
@@ -145,10 +141,6 @@ from_zero : (ts : List Token) → AllByRecursion (From 0) ts
 from_zero [] = tt
 from_zero (t ∷ ts) = (omega arith, from_zero ts)
 
--- a name with its scope
-abbrev pub use_of : Token → Option Span → Use
-use_of t scope = record { name = t.span; line = t.line; scope = scope }
-
 pub uses_scoped : (text : List ℕ) → scoped token_place use_of (function_ranges text) (macro_ranges text) (flat_map used (logical_lines text)) ≡ uses text
 unfolding uses
 uses_scoped text =
@@ -156,13 +148,6 @@ uses_scoped text =
     (tokens_ordered 0 (flat_map used (logical_lines text)) (from_zero (flat_map used (logical_lines text))) (used_rise text))
 
 -- ---- includes
-abbrev pub include_place : Include → ℕ
-include_place i = i.header.start
-
--- an include with its scope
-abbrev pub include_with : Include → Option Span → Include
-include_with i scope = record { header = i.header; line = i.line; scope = scope }
-
 -- there is one header or none, and it begins in its token or directly behind it
 one_between : (Q : List Include → Type 0) (s e l : ℕ) → Q [] → ((i : Include) → i.header.start ≡ s → Q (i ∷ [])) → Q (header_between s e l)
 one_between Q s e l none one =

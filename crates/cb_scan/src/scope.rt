@@ -1,8 +1,11 @@
 //! The functions and macros around places.
-ghost use Rattle.std.specs.Prelude.{◌≡◌};
-ghost use Rattle.cb_scan.specs.steps.Scopes.{around, first_around, reached};
+ghost use Rattle.std.specs.Prelude.{◌≡◌, IfOk};
+ghost use Rattle.cb_scan.specs.steps.Scopes.{around, first_around, include_place, include_with, reached, scoped, token_place, use_of};
 
+use crate::facts::{Include, Use};
 use crate::piece::Span;
+use crate::token::Token;
+use std::alloc::{AllocError, Global};
 
 /// A function or macro: its name, and where its range ends, which begins with the name.
 #[derive(Clone, Copy, Debug, PartialEq, Eq)]
@@ -61,4 +64,38 @@ impl<'a> Around<'a> {
             None => first_around(self.functions, place),
         }
     }
+}
+
+/// The used names with their scopes.
+pub(crate) fn scoped_uses(alloc: Global, names: &[Token], ranges: Around<'_>) -> Result<Vec<Use>, AllocError>
+    ensures { IfOk result (λ uses. uses.items ≡ scoped token_place use_of ranges.entry.functions.now ranges.entry.macros.now names.now) }
+{
+    let mut uses = Vec::with_capacity(alloc, names.len())?;
+    let mut around = ranges;
+    for token in names {
+        around = around.reached(token.span.start);
+        uses.push(Use {
+            name: token.span,
+            line: token.line,
+            scope: around.scope(token.span.start),
+        })?;
+    }
+    Ok(uses)
+}
+
+/// The includes with their scopes.
+pub(crate) fn scoped_includes(alloc: Global, found: &[Include], ranges: Around<'_>) -> Result<Vec<Include>, AllocError>
+    ensures { IfOk result (λ includes. includes.items ≡ scoped include_place include_with ranges.entry.functions.now ranges.entry.macros.now found.now) }
+{
+    let mut includes = Vec::with_capacity(alloc, found.len())?;
+    let mut around = ranges;
+    for include in found {
+        around = around.reached(include.header.start);
+        includes.push(Include {
+            header: include.header,
+            line: include.line,
+            scope: around.scope(include.header.start),
+        })?;
+    }
+    Ok(includes)
 }

@@ -1,8 +1,11 @@
 -- The scopes of places that come in order, range by range.
 use Rattle.std.specs.Prelude.{ℕ, Bool, nat_le, nat_lt, List, [], ◌∷◌, Option, Some, None, if◌then◌else◌}
 use Rattle.std.specs.Option.{option_map_or}
+use Rattle.cb_scan.specs.declared.facts.Include.{Include}
+use Rattle.cb_scan.specs.declared.facts.Use.{Use}
 use Rattle.cb_scan.specs.declared.piece.Span.{Span}
 use Rattle.cb_scan.specs.declared.scope.Range.{Range}
+use Rattle.cb_scan.specs.declared.token.Token.{Token}
 
 -- the ranges without those at the front that end by a place
 abbrev pub reached : ℕ → List Range → List Range
@@ -23,3 +26,17 @@ abbrev pub scoped : {A B : Type 0} → (A → ℕ) → (A → Option Span → B)
 scoped place give functions macros [] = []
 scoped place give functions macros (x ∷ xs) =
     give x (around (reached (place x) functions) (reached (place x) macros) (place x)) ∷ scoped place give (reached (place x) functions) (reached (place x) macros) xs
+
+-- where a token stands, and what it is as a use
+abbrev pub token_place : Token → ℕ
+token_place t = t.span.start
+
+abbrev pub use_of : Token → Option Span → Use
+use_of t scope = record { name = t.span; line = t.line; scope = scope }
+
+-- where a header stands, and its include with a scope
+abbrev pub include_place : Include → ℕ
+include_place i = i.header.start
+
+abbrev pub include_with : Include → Option Span → Include
+include_with i scope = record { header = i.header; line = i.line; scope = scope }
