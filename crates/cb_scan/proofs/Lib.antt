@@ -1,11 +1,11 @@
 pub mod Blocks
 pub mod BodyLemmas
-pub mod CodeLemmas
 pub mod Cuts
 pub mod DeclarationLemmas
 pub mod DirectiveLemmas
 pub mod Fronts
 pub mod FunctionLemmas
+pub mod GatherLemmas
 pub mod HeadLemmas
 pub mod Lengths
 pub mod LineLemmas

@@ -1,4 +1,3 @@
-pub mod Code
 pub mod Cut
 pub mod Line
 pub mod LineStarts

@@ -6,6 +6,7 @@
 
 mod cut;
 mod facts;
+mod gather;
 mod header;
 pub mod laws;
 mod lexeme;

@@ -1,87 +1,122 @@
-//! The scanner: one pass over the pieces of a text.
-ghost use Rattle.std.specs.Prelude.{◌≡◌, ◌+◌, ◌^◌, ◌-◌, ◌≤◌, min, length, map, IfOk, IfErr};
-ghost use Rattle.std.specs.List.{AllByRecursion};
-ghost use Rattle.cb_scan.specs.Definitions.{facts_of, function_def, IsWithin};
-ghost use Rattle.cb_scan.specs.Code.{code};
+//! The scanner: one pass over the pieces of a text, and then its facts in order and with their scopes.
+ghost use Rattle.std.specs.Prelude.{◌≡◌, ◌+◌, ◌++◌, ◌^◌, ◌-◌, ◌<◌, ◌≤◌, min, length, map, IfOk, IfErr};
+ghost use Rattle.std.specs.List.{AllByRecursion, flat_map};
+ghost use Rattle.cb_scan.specs.Code.{code, directives, logical_lines};
+ghost use Rattle.cb_scan.specs.Definitions.{definitions, calls, facts_of, function_def, macro_def, typedef_def, IsWithin};
 ghost use Rattle.cb_scan.specs.Functions.{functions};
+ghost use Rattle.cb_scan.specs.Macros.{macros};
+ghost use Rattle.cb_scan.specs.Scope.{function_ranges, macro_ranges};
 ghost use Rattle.cb_scan.specs.Tokens.{is_significant};
-ghost use Rattle.cb_scan.specs.steps.Code.{place_after};
+ghost use Rattle.cb_scan.specs.Typedefs.{typedefs};
+ghost use Rattle.cb_scan.specs.Uses.{function_calls, include_of, macro_calls, used};
 
-use crate::facts::{Def, Facts};
+use crate::facts::Facts;
+use crate::gather::{CodeLists, CodeState, LineLists};
+use crate::line::Line;
 use crate::lined::lined_pieces;
 use crate::machine::Machine;
 use crate::meter::Meter;
+use crate::order::{order_calls, order_defs};
 use crate::piece::Class;
+use crate::scope::{Around, scoped_includes, scoped_uses};
 use crate::source::{ScanError, Source};
-use crate::token::{Token, token_of};
+use crate::token::token_of;
 use std::alloc::{AllocError, Global};
 
-/// Where a logical line stands: before its first token, in code, or in a directive.
-#[derive(Clone, Copy, Debug, PartialEq, Eq)]
-pub(crate) enum Place {
-    Start,
-    Code,
-    Directive,
-}
-
-impl Place {
-    /// After a token: the first one of a line tells a directive from code.
-    fn after(self, token: Token) -> Place
-        ensures { result ≡ place_after self token }
-    {
-        match self {
-            Place::Start if token.is_mark(b'#') => Place::Directive,
-            Place::Start => Place::Code,
-            Place::Code => Place::Code,
-            Place::Directive => Place::Directive,
-        }
-    }
+/// What one pass gathers.
+#[derive(Drop)]
+struct Gathered {
+    code: CodeLists,
+    lines: LineLists,
 }
 
 fn is_significant(class: Class) -> bool
     ensures { result ≡ is_significant class }
 {
-    matches!(
-        class,
-        Class::Name | Class::Number | Class::Str | Class::Chr | Class::Byte
-    )
+    matches!(class, Class::Name | Class::Number | Class::Str | Class::Chr | Class::Byte)
 }
 
-fn function_defs(alloc: Global, text: &[u8]) -> Result<Vec<Def>, AllocError>
+/// The one pass over a text: each piece is looked at once.
+fn gather(alloc: Global, text: &[u8]) -> Result<Gathered, AllocError>
     requires { length text.now ≤ 1000000 }
-    ensures { IfOk result (λ defs. defs.items ≡ map function_def (functions (code text.now))) }
+    ensures functions { IfOk result (λ g. g.code.functions.items ≡ map function_def (functions (code text.now))) }
+    ensures function_ranges { IfOk result (λ g. g.code.ranges.items ≡ function_ranges text.now) }
+    ensures function_calls { IfOk result (λ g. g.code.calls.items ≡ function_calls (code text.now)) }
+    ensures typedefs { IfOk result (λ g. g.code.typedefs.items ≡ map typedef_def (typedefs (code text.now))) }
+    ensures names { IfOk result (λ g. g.lines.names.items ≡ flat_map used (logical_lines text.now)) }
+    ensures macros { IfOk result (λ g. g.lines.macros.items ≡ map macro_def (macros text.now)) }
+    ensures macro_ranges { IfOk result (λ g. g.lines.ranges.items ≡ macro_ranges text.now) }
+    ensures macro_calls { IfOk result (λ g. g.lines.calls.items ≡ macro_calls (macros text.now)) }
+    ensures includes { IfOk result (λ g. g.lines.includes.items ≡ flat_map (include_of text.now) (directives text.now)) }
 {
-    let mut defs = Vec::new(alloc);
-    let mut machine = Machine::start();
-    let mut place = Place::Start;
+    let mut code = CodeLists::new(alloc);
+    let mut lines = LineLists::new(alloc);
+    let mut line = Line::start();
+    let mut state = CodeState {
+        machine: Machine::start(),
+        declared: None,
+    };
     for lined in lined_pieces(text) {
         if lined.piece.class == Class::Newline {
-            place = Place::Start;
+            lines.end(line)?;
+            line = Line::start();
         } else if is_significant(lined.piece.class) {
             let token = token_of(text, lined);
-            place = place.after(token);
-            if place == Place::Code {
-                if let Some(def) = machine.found(token) {
-                    defs.push(def)?;
-                }
-                machine = machine.next(token);
+            line = lines.add(text, line, token)?;
+            if line.is_code() {
+                state = code.add(state, token)?;
             }
         }
     }
-    Ok(defs)
+    lines.end(line)?;
+    code.end(state.machine, text.len() as u32)?;
+    Ok(Gathered { code, lines })
 }
 
-/// What the text defines. The meter counts the bytes of the source, also where memory was refused, which is the only error.
+/// Three lists behind each other, at their exact size.
+fn joined<T: Copy>(alloc: Global, first: &[T], second: &[T], third: &[T]) -> Result<Vec<T>, AllocError>
+    requires { length first.now + length second.now + length third.now < 2 ^ 64 }
+    ensures { IfOk result (λ all. all.items ≡ first.now ++ second.now ++ third.now) }
+{
+    let mut all = Vec::with_capacity(alloc, first.len() + second.len() + third.len())?;
+    all.extend_from_slice(first)?;
+    all.extend_from_slice(second)?;
+    all.extend_from_slice(third)?;
+    Ok(all)
+}
+
+/// What is found in a text: what was gathered, in order, with scopes, each list at its exact size.
+fn facts_in(alloc: Global, text: &[u8]) -> Result<Facts, AllocError>
+    requires { length text.now ≤ 1000000 }
+    ensures { IfOk result (λ f. f ≡ facts_of text.now) }
+{
+    let gathered = gather(alloc, text)?;
+    let code = &gathered.code;
+    let lines = &gathered.lines;
+    let ranges = Around {
+        functions: code.ranges.as_slice(),
+        macros: lines.ranges.as_slice(),
+    };
+    let uses = scoped_uses(alloc, lines.names.as_slice(), ranges)?;
+    let includes = scoped_includes(alloc, lines.includes.as_slice(), ranges)?;
+    let mut defs = joined(alloc, code.functions.as_slice(), lines.macros.as_slice(), code.typedefs.as_slice())?;
+    order_defs(defs.as_mut_slice());
+    let mut calls = joined(alloc, code.calls.as_slice(), lines.calls.as_slice(), &[])?;
+    order_calls(calls.as_mut_slice());
+    Ok(Facts::new(defs, uses, calls, includes))
+}
+
+/// What is found in the text. The meter counts the bytes of the source, also where memory was refused, which is the only
+/// error. One pass, and time in proportion to the text (ordering what is out of order aside).
 pub fn scan(alloc: Global, meter: &mut Meter, source: &Source) -> Result<Facts, ScanError>
     ensures facts { IfOk result (λ f. f ≡ facts_of source.now) }
-    ensures within { IfOk result (λ f. AllByRecursion (λ d. IsWithin source.now d.name) f.defs) }
     ensures memory { IfErr result (λ e. e ≡ ScanError.OutOfMemory) }
     ensures counted { meter.new ≡ min (meter.old + length source.now) (2 ^ 64 - 1) }
 {
     let text = source.bytes();
     meter.add(text.len() as u64);
-    match function_defs(alloc, text) {
-        Ok(defs) => Ok(Facts::new(defs, Vec::new(alloc), Vec::new(alloc), Vec::new(alloc))),
+    match facts_in(alloc, text) {
+        Ok(found) => Ok(found),
         Err(_) => Err(ScanError::OutOfMemory),
     }
 }

@@ -3,7 +3,7 @@ ghost use Rattle.std.specs.Prelude.{◌≡◌, ◌≤◌, ◌<◌, length};
 ghost use Rattle.std.specs.Str.{bytes_eq};
 ghost use Rattle.cb_scan.specs.Tokens.{bytes_of, is_mark, is_name_token, is_static, is_typedef, name_kind, role_of, starts_line, word_of};
 ghost use Rattle.cb_scan.specs.steps.Lined.{Within};
-ghost use Rattle.cb_scan.specs.steps.Code.{lined_token};
+ghost use Rattle.cb_scan.specs.steps.Line.{lined_token};
 
 use crate::lined::Lined;
 use crate::name::is_reserved;

@@ -1,0 +1,68 @@
+-- From the first piece on the pass gathers what the definitions say, list by list.
+use Rattle.std.proofs.Common.{◌≡◌, ◌∙◌, ℕ, Bool, true, false, List, [], ◌∷◌, ◌++◌, None, length, map, ap, sym, refl, append_assoc}
+use Rattle.std.proofs.lemmas.Bool.{false≢true}
+use Rattle.std.specs.Prelude.{cond}
+use Rattle.std.specs.List.{flat_map}
+use Rattle.cb_scan.specs.declared.line.Line.{Line}
+use Rattle.cb_scan.specs.declared.lined.Lined.{Lined}
+use Rattle.cb_scan.specs.declared.piece.Class.{Class}
+use Rattle.cb_scan.specs.declared.piece.Class.TheVariants.{Name, Number, Str, Chr, LineNote, BlockNote, Blank, Newline, Byte}
+use Rattle.cb_scan.specs.declared.token.Token.{Token}
+use Rattle.cb_scan.specs.Code.{code, is_newline}
+use Rattle.cb_scan.specs.Definitions.{function_def, typedef_def}
+use Rattle.cb_scan.specs.Functions.{functions}
+use Rattle.cb_scan.specs.Scope.{function_ranges}
+use Rattle.cb_scan.specs.Typedefs.{typedefs}
+use Rattle.cb_scan.specs.Uses.{function_calls}
+use Rattle.cb_scan.specs.steps.Cut.{pieces}
+use Rattle.cb_scan.specs.steps.Line.{code_out, is_code, line_start, lined_token, next_line, nothing, walk}
+use Rattle.cb_scan.specs.Tokens.{is_significant}
+use Rattle.cb_scan.specs.steps.Lined.{lined}
+use Rattle.cb_scan.specs.steps.Machine.{calls_from, defs_from, ranges_from, start}
+use Rattle.cb_scan.specs.steps.Typedefs.{typedef_defs_from}
+use Rattle.cb_scan.proofs.BodyLemmas.{calls_from_start, ranges_from_start}
+use Rattle.cb_scan.proofs.DirectiveLemmas.{code_is}
+use Rattle.cb_scan.proofs.FunctionLemmas.{defs_from_start}
+use Rattle.cb_scan.proofs.TypedefLemmas.{typedef_defs_from_start}
+
+module _ (text : List ℕ) where
+  pub functions_found : defs_from start (walk code_out nothing text line_start (map (lined text) (pieces text))) ≡ map function_def (functions (code text))
+  functions_found = ap (defs_from start) (code_is text) ∙ defs_from_start (code text)
+
+  pub ranges_found : ranges_from (length text) start (walk code_out nothing text line_start (map (lined text) (pieces text))) ≡ function_ranges text
+  ranges_found = ap (ranges_from (length text) start) (code_is text) ∙ ranges_from_start text (code text)
+
+  pub calls_found : calls_from start (walk code_out nothing text line_start (map (lined text) (pieces text))) ≡ function_calls (code text)
+  calls_found = ap (calls_from start) (code_is text) ∙ calls_from_start text (code text)
+
+  pub typedefs_found : typedef_defs_from start None [] (walk code_out nothing text line_start (map (lined text) (pieces text))) ≡ map typedef_def (typedefs (code text))
+  typedefs_found = ap (typedef_defs_from start None []) (code_is text) ∙ typedef_defs_from_start (code text)
+
+-- what is appended was to come
+pub appended : {A : Type 0} (old new x y z all : List A) → new ≡ old ++ x → y ≡ x ++ z → old ++ y ≡ all → new ++ z ≡ all
+appended old new x y z all new_is y_is all_is = ap (λ l. l ++ z) new_is ∙ append_assoc old x z ∙ ap (λ l. old ++ l) (sym y_is) ∙ all_is
+
+token_no_newline : (c : Class) → is_significant c ≡ true → is_newline c ≡ false
+token_no_newline Name is = refl
+token_no_newline Number is = refl
+token_no_newline Str is = refl
+token_no_newline Chr is = refl
+token_no_newline LineNote is = refl
+token_no_newline BlockNote is = refl
+token_no_newline Blank is = refl
+token_no_newline Byte is = refl
+token_no_newline Newline is = absurd (false≢true is)
+
+-- a token of a line
+pub walk_on : {A : Type 0} (out : Line → Token → List A) (finish : Line → List A) (text : List ℕ) (s s' : Line) (t : Token) (x : Lined) (all rest : List Lined) → all ≡ x ∷ rest → is_significant x.piece.class ≡ true → t ≡ lined_token text x → s' ≡ next_line s t → walk out finish text s all ≡ out s t ++ walk out finish text s' rest
+walk_on out finish text s s' t x all rest all_is is t_is s_is =
+    ap (walk out finish text s) all_is
+    ∙ (λ i. cond (token_no_newline x.piece.class is i) (finish s ++ walk out finish text line_start rest) (cond (is i) (out s (lined_token text x) ++ walk out finish text (next_line s (lined_token text x)) rest) (walk out finish text s rest)))
+    ∙ (λ i. out s (sym t_is i) ++ walk out finish text (next_line s (sym t_is i)) rest)
+    ∙ ap (λ k. out s t ++ walk out finish text k rest) (sym s_is)
+
+-- a token of the code
+pub code_on : (text : List ℕ) (s s' : Line) (t : Token) (x : Lined) (all rest : List Lined) → all ≡ x ∷ rest → is_significant x.piece.class ≡ true → t ≡ lined_token text x → s' ≡ next_line s t → is_code s'.stage ≡ true → walk code_out nothing text s all ≡ t ∷ walk code_out nothing text s' rest
+code_on text s s' t x all rest all_is is t_is s_is code_is =
+    walk_on code_out nothing text s s' t x all rest all_is is t_is s_is
+    ∙ ap (λ b. cond b (t ∷ []) [] ++ walk code_out nothing text s' rest) (sym (ap (λ (k : Line). is_code k.stage) s_is) ∙ code_is)

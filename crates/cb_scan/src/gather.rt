@@ -1,0 +1,149 @@
+//! What one pass over a text gathers, list by list.
+ghost use Rattle.std.specs.Prelude.{◌≡◌, ◌≤◌, ◌<◌, ◌+◌, ◌++◌, ◌^◌, [], length, IfOk};
+ghost use Rattle.std.specs.Option.{option_to_list};
+ghost use Rattle.cb_scan.specs.steps.Line.{include_out, macro_call_out, macro_out, next_line, range_finish, use_out};
+ghost use Rattle.cb_scan.specs.steps.Machine.{called, closed, found, left_open, next};
+ghost use Rattle.cb_scan.specs.steps.Typedefs.{nesting_of, next_declaration, next_pending, typedefs_out};
+
+use crate::facts::{Call, Def, Include};
+use crate::line::Line;
+use crate::machine::Machine;
+use crate::scope::Range;
+use crate::token::Token;
+use crate::typedefs::{Declaration, take_token};
+use std::alloc::{AllocError, Global};
+
+/// Where the pass over the code stands: depth, head and body, and the typedef that is open.
+#[derive(Clone, Copy)]
+pub(crate) struct CodeState {
+    pub machine: Machine,
+    pub declared: Option<Declaration>,
+}
+
+/// What the code gives: its functions, their ranges and calls, and the names of its typedefs. The names of a typedef
+/// that is still open are held back.
+#[derive(Drop)]
+pub(crate) struct CodeLists {
+    pub functions: Vec<Def>,
+    pub ranges: Vec<Range>,
+    pub calls: Vec<Call>,
+    pub typedefs: Vec<Def>,
+    pub pending: Vec<Token>,
+}
+
+/// What all lines give: the names that they use, and of directives the macros, their ranges and calls, and the includes.
+#[derive(Drop)]
+pub(crate) struct LineLists {
+    pub names: Vec<Token>,
+    pub macros: Vec<Def>,
+    pub ranges: Vec<Range>,
+    pub calls: Vec<Call>,
+    pub includes: Vec<Include>,
+}
+
+fn push_some<T: Drop>(list: &mut Vec<T>, item: Option<T>) -> Result<(), AllocError>
+    ensures { IfOk result (λ _. list.new.items ≡ list.old.items ++ option_to_list item) }
+{
+    if let Some(item) = item {
+        list.push(item)?;
+    }
+    Ok(())
+}
+
+impl CodeLists {
+    pub(crate) fn new(alloc: Global) -> CodeLists
+        ensures functions { result.functions.items ≡ [] }
+        ensures ranges { result.ranges.items ≡ [] }
+        ensures calls { result.calls.items ≡ [] }
+        ensures typedefs { result.typedefs.items ≡ [] }
+        ensures pending { result.pending.items ≡ [] }
+    {
+        CodeLists {
+            functions: Vec::new(alloc),
+            ranges: Vec::new(alloc),
+            calls: Vec::new(alloc),
+            typedefs: Vec::new(alloc),
+            pending: Vec::new(alloc),
+        }
+    }
+
+    /// A token of the code, in the state of the pass before it; gives the state behind it.
+    pub(crate) fn add(&mut self, state: CodeState, token: Token) -> Result<CodeState, AllocError>
+        requires deep { state.machine.depth + 1 < 2 ^ 32 }
+        requires nested { nesting_of state.declared + 1 < 2 ^ 32 }
+        ensures machine { IfOk result (λ s. s.machine ≡ next state.machine token) }
+        ensures declared { IfOk result (λ s. s.declared ≡ next_declaration state.machine state.declared token) }
+        ensures deep { IfOk result (λ s. s.machine.depth ≤ state.machine.depth + 1) }
+        ensures nested { IfOk result (λ s. nesting_of s.declared ≤ nesting_of state.declared + 1) }
+        ensures functions { IfOk result (λ _. self.new.functions.items ≡ self.old.functions.items ++ option_to_list (found state.machine token)) }
+        ensures ranges { IfOk result (λ _. self.new.ranges.items ≡ self.old.ranges.items ++ option_to_list (closed state.machine token)) }
+        ensures calls { IfOk result (λ _. self.new.calls.items ≡ self.old.calls.items ++ option_to_list (called state.machine token)) }
+        ensures pending { IfOk result (λ _. self.new.pending.items ≡ next_pending state.machine state.declared self.old.pending.items token) }
+        ensures typedefs { IfOk result (λ _. self.new.typedefs.items ≡ self.old.typedefs.items ++ typedefs_out state.machine state.declared self.old.pending.items token) }
+    {
+        let machine = state.machine;
+        push_some(&mut self.functions, machine.found(token))?;
+        push_some(&mut self.ranges, machine.closed(token))?;
+        push_some(&mut self.calls, machine.called(token))?;
+        let declared = take_token(machine, state.declared, token, &mut self.pending, &mut self.typedefs)?;
+        Ok(CodeState {
+            machine: machine.next(token),
+            declared,
+        })
+    }
+
+    /// The end of the text, in the state of the pass there.
+    pub(crate) fn end(&mut self, machine: Machine, end: u32) -> Result<(), AllocError>
+        ensures ranges { IfOk result (λ _. self.new.ranges.items ≡ self.old.ranges.items ++ option_to_list (left_open machine end)) }
+        ensures others { IfOk result (λ _. self.new ≡ record self.old { ranges = self.new.ranges }) }
+    {
+        push_some(&mut self.ranges, machine.left_open(end))
+    }
+}
+
+impl LineLists {
+    pub(crate) fn new(alloc: Global) -> LineLists
+        ensures names { result.names.items ≡ [] }
+        ensures macros { result.macros.items ≡ [] }
+        ensures ranges { result.ranges.items ≡ [] }
+        ensures calls { result.calls.items ≡ [] }
+        ensures includes { result.includes.items ≡ [] }
+    {
+        LineLists {
+            names: Vec::new(alloc),
+            macros: Vec::new(alloc),
+            ranges: Vec::new(alloc),
+            calls: Vec::new(alloc),
+            includes: Vec::new(alloc),
+        }
+    }
+
+    /// A token, in the state of its line before it; gives the state behind it.
+    pub(crate) fn add(&mut self, text: &[u8], line: Line, token: Token) -> Result<Line, AllocError>
+        requires some { token.span.start < token.span.end }
+        requires within { token.span.end ≤ length text.now }
+        requires few { length text.now ≤ 1000000 }
+        ensures line { IfOk result (λ s. s ≡ next_line line token) }
+        ensures names { IfOk result (λ _. self.new.names.items ≡ self.old.names.items ++ use_out line token) }
+        ensures macros { IfOk result (λ _. self.new.macros.items ≡ self.old.macros.items ++ macro_out line token) }
+        ensures calls { IfOk result (λ _. self.new.calls.items ≡ self.old.calls.items ++ macro_call_out line token) }
+        ensures includes { IfOk result (λ _. self.new.includes.items ≡ self.old.includes.items ++ include_out text.now line token) }
+        ensures ranges { IfOk result (λ _. self.new.ranges.items ≡ self.old.ranges.items) }
+    {
+        if line.is_use(token) {
+            self.names.push(token)?;
+        }
+        push_some(&mut self.macros, line.macro_found(token))?;
+        push_some(&mut self.calls, line.macro_call(token))?;
+        push_some(&mut self.includes, line.include_found(text, token))?;
+        Ok(line.next(token))
+    }
+
+    /// The end of a line, in its last state.
+    pub(crate) fn end(&mut self, line: Line) -> Result<(), AllocError>
+        ensures ranges { IfOk result (λ _. self.new.ranges.items ≡ self.old.ranges.items ++ range_finish line) }
+        ensures others { IfOk result (λ _. self.new ≡ record self.old { ranges = self.new.ranges }) }
+    {
+        push_some(&mut self.ranges, line.macro_ended())
+    }
+}
