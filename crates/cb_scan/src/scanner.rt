@@ -16,7 +16,7 @@ use crate::line::Line;
 use crate::lined::lined_pieces;
 use crate::machine::Machine;
 use crate::meter::Meter;
-use crate::order::{order_calls, order_defs};
+use crate::order::{ordered_calls, ordered_defs};
 use crate::piece::Class;
 use crate::scope::{Around, scoped_includes, scoped_uses};
 use crate::source::{ScanError, Source};
@@ -73,18 +73,6 @@ fn gather(alloc: Global, text: &[u8]) -> Result<Gathered, AllocError>
     Ok(Gathered { code, lines })
 }
 
-/// Three lists behind each other, at their exact size.
-fn joined<T: Copy>(alloc: Global, first: &[T], second: &[T], third: &[T]) -> Result<Vec<T>, AllocError>
-    requires { length first.now + length second.now + length third.now < 2 ^ 64 }
-    ensures { IfOk result (λ all. all.items ≡ first.now ++ second.now ++ third.now) }
-{
-    let mut all = Vec::with_capacity(alloc, first.len() + second.len() + third.len())?;
-    all.extend_from_slice(first)?;
-    all.extend_from_slice(second)?;
-    all.extend_from_slice(third)?;
-    Ok(all)
-}
-
 /// What is found in a text: what was gathered, in order, with scopes, each list at its exact size.
 fn facts_in(alloc: Global, text: &[u8]) -> Result<Facts, AllocError>
     requires { length text.now ≤ 1000000 }
@@ -99,10 +87,8 @@ fn facts_in(alloc: Global, text: &[u8]) -> Result<Facts, AllocError>
     };
     let uses = scoped_uses(alloc, lines.names.as_slice(), ranges)?;
     let includes = scoped_includes(alloc, lines.includes.as_slice(), ranges)?;
-    let mut defs = joined(alloc, code.functions.as_slice(), lines.macros.as_slice(), code.typedefs.as_slice())?;
-    order_defs(defs.as_mut_slice());
-    let mut calls = joined(alloc, code.calls.as_slice(), lines.calls.as_slice(), &[])?;
-    order_calls(calls.as_mut_slice());
+    let defs = ordered_defs(alloc, code.functions.as_slice(), lines.macros.as_slice(), code.typedefs.as_slice())?;
+    let calls = ordered_calls(alloc, code.calls.as_slice(), lines.calls.as_slice())?;
     Ok(Facts::new(defs, uses, calls, includes))
 }
 
