@@ -1,5 +1,5 @@
 -- The one pass knows whose body it is in: it finds the ranges of the functions and the calls in their bodies.
-use Rattle.std.proofs.Common.{◌≡◌, ◌∙◌, ℕ, zero, suc, ◌+◌, ◌-◌, ◌<◌, ◌≤◌, Bool, true, false, List, [], ◌∷◌, ◌++◌, Option, Some, None, refl, sym, ap, subst, length, take, drop, get_or, map, arith, lt-ltb, length-append, length-drop, add-one, inl, inr, ⊎_elim, append_assoc}
+use Rattle.std.proofs.Common.{◌≡◌, ◌∙◌, ℕ, zero, suc, ◌+◌, ◌-◌, ◌<◌, ◌≤◌, Bool, true, false, List, [], ◌∷◌, ◌++◌, Option, Some, None, refl, sym, ap, subst, length, drop, map, arith, lt-ltb, length-drop, add-one, inl, inr, ⊎_elim, append_assoc}
 use Rattle.std.proofs.lemmas.Bool.{false≢true, true≢false, cases_Bool, eqb-true, eq-eqb, false_from_ne_true, ltb-true}
 use Rattle.std.proofs.lemmas.List.{drop_more, append-nil, get_or_past, map-append}
 use Rattle.std.proofs.Math.Bool.{and-false}
@@ -18,10 +18,10 @@ use Rattle.cb_scan.specs.declared.token.Role.TheVariants.{Word, Mark, Str, Other
 use Rattle.cb_scan.specs.Depth.{depth, depth_after, head_start, follows_linkage, is_counted, closes, is_stop, token_at, no_token}
 use Rattle.cb_scan.specs.Definitions.{function_def}
 use Rattle.cb_scan.specs.Functions.{Function, close_from, defined_name, function_at, functions, head}
-use Rattle.cb_scan.specs.Scope.{body_end, function_range}
+use Rattle.cb_scan.specs.Scope.{function_range}
 use Rattle.cb_scan.specs.Tokens.{is_mark, is_name_token, is_static}
 use Rattle.cb_scan.specs.Uses.{call_at, call_of, calls_of_function, function_calls, is_call}
-use Rattle.cb_scan.specs.steps.Machine.{add, counts, empty_head, start, def_of, defined, found, is_after_linkage, next, next_body, next_depth, ends_all, closed, called, call_before, left_open, range_to, ranges_from, calls_from}
+use Rattle.cb_scan.specs.steps.Machine.{add, counts, empty_head, start, def_of, defined, found, is_after_linkage, next, next_body, next_depth, ends_all, closed, called, call_before, range_to, ranges_from, calls_from}
 use Rattle.cb_scan.proofs.FunctionLemmas.{IsAt, step, depth_next, stops_is, found_is}
 
 -- the token directly before token k, unless it is a stop
@@ -312,16 +312,16 @@ call_step text ts k m within here =
     deep_case (suc j) m within here deep =
         ⊎_elim
         (λ ends.
-            (λ i. option_to_list (call_before m.body (here.last_is i) (token_at ts (suc j))) ++ flat_map (open_calls ts (suc j)) (option_to_list (body_after_end text ts (suc j) m within here ends i)))
-            ∙ append-nil _
-            ∙ told_at_end m.body ends
-            ∙ sym (append-nil _)
-            ∙ ap (λ fs. pending ts (suc j) m.body ++ flat_map (calls_of_function ts) fs) (sym (none_after (suc j) deep)))
+        (λ i. option_to_list (call_before m.body (here.last_is i) (token_at ts (suc j))) ++ flat_map (open_calls ts (suc j)) (option_to_list (body_after_end text ts (suc j) m within here ends i)))
+        ∙ append-nil _
+        ∙ told_at_end m.body ends
+        ∙ sym (append-nil _)
+        ∙ ap (λ fs. pending ts (suc j) m.body ++ flat_map (calls_of_function ts) fs) (sym (none_after (suc j) deep)))
         (λ goes_on.
-            (λ i. option_to_list (call_before m.body (here.last_is i) (token_at ts (suc j))) ++ flat_map (open_calls ts (suc j)) (option_to_list (body_inside text ts (suc j) m within here goes_on deep i)))
-            ∙ told_inside m.body goes_on
-            ∙ sym (append-nil _)
-            ∙ ap (λ fs. pending ts (suc j) m.body ++ flat_map (calls_of_function ts) fs) (sym (none_after (suc j) deep)))
+        (λ i. option_to_list (call_before m.body (here.last_is i) (token_at ts (suc j))) ++ flat_map (open_calls ts (suc j)) (option_to_list (body_inside text ts (suc j) m within here goes_on deep i)))
+        ∙ told_inside m.body goes_on
+        ∙ sym (append-nil _)
+        ∙ ap (λ fs. pending ts (suc j) m.body ++ flat_map (calls_of_function ts) fs) (sym (none_after (suc j) deep)))
         (cases_Bool (closes ts (suc j)))
       where
         told_at_end : (o : Option Span) → closes ts (suc j) ≡ true → option_to_list (call_before o (last_at ts (suc j)) (token_at ts (suc j))) ≡ pending ts (suc j) o
@@ -360,9 +360,9 @@ in_body_next text ts k m within here = record {
     opened flat =
         ⊎_elim
         (λ counted.
-            let after : next_depth m (token_at ts k) ≡ m.depth + 1 = ap (λ b. depth_after b (token_at ts k) m.depth) counted in
-            let above : 0 < depth ts (suc k) = omega (arith, after, depth_next ts k m here.at) in
-            any_def (found m (token_at ts k)) above)
+        let after : next_depth m (token_at ts k) ≡ m.depth + 1 = ap (λ b. depth_after b (token_at ts k) m.depth) counted in
+        let above : 0 < depth ts (suc k) = omega (arith, after, depth_next ts k m here.at) in
+        any_def (found m (token_at ts k)) above)
         (λ uncounted. subst (λ o. MatchOption (option_map def_name o) (Unit {0}) (λ _. 0 < depth ts (suc k))) (sym (ap (λ b. if b && m.depth == 0 then option_map (def_of m.head.has_static) (defined m.head) else None) uncounted)) tt)
         (cases_Bool (counts m (token_at ts k)))
       where

@@ -1,33 +1,30 @@
 -- What a line gives, a token at a time, is what the definitions say of the whole line.
-use Rattle.std.proofs.Common.{◌≡◌, ◌∙◌, ◌+◌, ◌-◌, ⊎_elim, ℕ, Bool, true, false, List, [], ◌∷◌, ◌++◌, Option, Some, None, refl, sym, ap, map, append_assoc}
-use Rattle.std.proofs.lemmas.Bool.{true≢false, false≢true, cases_Bool}
+use Rattle.std.proofs.Common.{◌≡◌, ◌∙◌, ◌+◌, ◌-◌, ⊎_elim, ℕ, Bool, true, false, List, [], ◌∷◌, ◌++◌, Option, Some, None, refl, sym, ap, map}
+use Rattle.std.proofs.lemmas.Bool.{false≢true, cases_Bool}
 use Rattle.std.proofs.lemmas.List.{append-nil}
 use Rattle.std.proofs.Math.Bool.{and-false}
 use Rattle.std.proofs.lemmas.List.Concat.{flat_map-append}
 use Rattle.std.specs.Prelude.{cond, not, filter, find, ◌&&◌, ◌==◌}
 use Rattle.std.specs.List.{flat_map}
 use Rattle.std.specs.Option.{option_map_or, option_to_list}
-use Rattle.cb_scan.specs.declared.facts.Call.{Call}
-use Rattle.cb_scan.specs.declared.facts.Def.{Def}
 use Rattle.cb_scan.specs.declared.facts.Include.{Include as IncludeFact}
 use Rattle.cb_scan.specs.declared.facts.Kind.TheVariants as fact_kind
 use Rattle.cb_scan.specs.declared.line.Line.{Line}
 use Rattle.cb_scan.specs.declared.line.Stage.{Stage}
 use Rattle.cb_scan.specs.declared.line.Stage.TheVariants.{Start, Code, Hash, Define, Name, Arguments, Body, Include, Angle, Included, Other}
 use Rattle.cb_scan.specs.declared.piece.Span.{Span}
-use Rattle.cb_scan.specs.declared.scope.Range.{Range}
 use Rattle.cb_scan.specs.declared.token.Role.{Role}
 use Rattle.cb_scan.specs.declared.token.Role.TheVariants.{Word, Mark, Str, Other as other}
 use Rattle.cb_scan.specs.declared.token.WordKind.TheVariants as kind
 use Rattle.cb_scan.specs.declared.token.Token.{Token}
 use Rattle.cb_scan.specs.Code.{code, directives, is_directive, logical_lines}
 use Rattle.cb_scan.specs.Definitions.{macro_def}
-use Rattle.cb_scan.specs.Macros.{Macro, after_arguments, defines_macro, line_end, macro_of, macros}
+use Rattle.cb_scan.specs.Macros.{Macro, after_arguments, line_end, macro_of, macros}
 use Rattle.cb_scan.specs.Scope.{macro_range, macro_ranges}
 use Rattle.cb_scan.specs.Tokens.{bytes_of, has_kind, is_any_word, is_mark, is_name_token, is_str, kind_is_define, kind_is_include}
-use Rattle.cb_scan.specs.Uses.{behind_own_word, call_of, calls_among, header_between, header_of, include_of, is_call, is_include, macro_calls, quote_ends, usable, used}
+use Rattle.cb_scan.specs.Uses.{behind_own_word, call_of, calls_among, header_between, header_of, include_of, is_call, is_include, macro_calls, quote_ends, used}
 use Rattle.cb_scan.specs.steps.Cut.{pieces}
-use Rattle.cb_scan.specs.steps.Line.{code_out, include_found, include_out, is_code, line_start, macro_call, macro_call_out, macro_ended, macro_found, macro_out, names_count, next_line, next_stage, no_range, nothing, range_finish, run, stage_after_name, stage_after_own, use_out, walk}
+use Rattle.cb_scan.specs.steps.Line.{code_out, include_out, is_code, line_start, macro_call, macro_call_out, macro_out, names_count, next_stage, no_range, nothing, range_finish, run, stage_after_own, use_out, walk}
 use Rattle.cb_scan.specs.steps.Lined.{lined}
 use Rattle.cb_scan.proofs.LineLemmas.{walk_lines}
 
@@ -236,14 +233,14 @@ use_run [] = refl
 use_run (t ∷ ts) =
     ⊎_elim
     (λ is.
-        (λ i. cond (mark_no_name t.role 35 is i && true) (t ∷ []) [] ++ run use_out nothing (at (cond (is i) Hash Code) t.span.end) ts)
-        ∙ hash_uses t t.span.end ts
-        ∙ ap (λ b. names (cond b (cond (is_include (t ∷ ts)) [] (behind_own_word (t ∷ ts))) (t ∷ ts))) (sym is))
+    (λ i. cond (mark_no_name t.role 35 is i && true) (t ∷ []) [] ++ run use_out nothing (at (cond (is i) Hash Code) t.span.end) ts)
+    ∙ hash_uses t t.span.end ts
+    ∙ ap (λ b. names (cond b (cond (is_include (t ∷ ts)) [] (behind_own_word (t ∷ ts))) (t ∷ ts))) (sym is))
     (λ isnt.
-        ap (λ b. use_out line_start t ++ run use_out nothing (at (cond b Hash Code) t.span.end) ts) isnt
-        ∙ ap (λ c. use_out line_start t ++ c) (open_run Code t.span.end ts refl)
-        ∙ use_step (is_name_token t.role) true t (names ts) refl
-        ∙ ap (λ b. names (cond b (cond (is_include (t ∷ ts)) [] (behind_own_word (t ∷ ts))) (t ∷ ts))) (sym isnt))
+    ap (λ b. use_out line_start t ++ run use_out nothing (at (cond b Hash Code) t.span.end) ts) isnt
+    ∙ ap (λ c. use_out line_start t ++ c) (open_run Code t.span.end ts refl)
+    ∙ use_step (is_name_token t.role) true t (names ts) refl
+    ∙ ap (λ b. names (cond b (cond (is_include (t ∷ ts)) [] (behind_own_word (t ∷ ts))) (t ∷ ts))) (sym isnt))
     (cases_Bool (is_mark 35 t.role))
 
 pub uses_are : (text : List ℕ) → walk use_out nothing text line_start (map (lined text) (pieces text)) ≡ flat_map used (logical_lines text)
@@ -421,12 +418,12 @@ module _ {A : Type 0} (out : Line → Token → List A) (finish : Line → List 
   behind_hash hash e (own ∷ ts) =
       ap (λ c. c ++ run out finish (at (stage_after_own own) own.span.end) ts) (hash_silent e own)
       ∙ ⊎_elim
-        (λ is. ap (λ b. run out finish (at (cond b Define (cond (has_kind kind_is_include own.role) Include Other)) own.span.end) ts) is ∙ behind_define hash own own.span.end ts is)
-        (λ isnt.
-            ap (λ b. run out finish (at (cond b Define (cond (has_kind kind_is_include own.role) Include Other)) own.span.end) ts) isnt
-            ∙ elim (has_kind kind_is_include own.role) as (λ b. run out finish (at (cond b Include Other) own.span.end) ts ≡ []) [ true ↦ quiet Include own.span.end ts refl | false ↦ quiet Other own.span.end ts refl ]
-            ∙ sym (none ts isnt))
-        (cases_Bool (has_kind kind_is_define own.role))
+      (λ is. ap (λ b. run out finish (at (cond b Define (cond (has_kind kind_is_include own.role) Include Other)) own.span.end) ts) is ∙ behind_define hash own own.span.end ts is)
+      (λ isnt.
+      ap (λ b. run out finish (at (cond b Define (cond (has_kind kind_is_include own.role) Include Other)) own.span.end) ts) isnt
+      ∙ elim (has_kind kind_is_include own.role) as (λ b. run out finish (at (cond b Include Other) own.span.end) ts ≡ []) [ true ↦ quiet Include own.span.end ts refl | false ↦ quiet Other own.span.end ts refl ]
+      ∙ sym (none ts isnt))
+      (cases_Bool (has_kind kind_is_define own.role))
     where
       none : (ts : List Token) → has_kind kind_is_define own.role ≡ false → flat_map give (macro_of (hash ∷ own ∷ ts)) ≡ []
       none [] isnt = refl
@@ -474,8 +471,8 @@ unfolding past_name
 macros_are text =
     all_macros macro_out nothing (λ m. macro_def m ∷ []) (λ e t. refl) (λ e t. refl) (λ e. refl) (λ e. refl) (λ n e. refl) (λ s e ts is. past_name_run s e ts (dull_past s is)) (λ t. refl) refl
     (λ own n p e ts is.
-        ap (λ b. option_to_list (cond b (Some (macro_def (record { name = n; body = after_arguments ts; end = line_end p.span.end ts }))) None) ++ run macro_out nothing (at (Arguments n.span) p.span.end) ts) is
-        ∙ ap (λ c. macro_def (record { name = n; body = after_arguments ts; end = line_end p.span.end ts }) ∷ c) (past_name_run (Arguments n.span) p.span.end ts refl))
+    ap (λ b. option_to_list (cond b (Some (macro_def (record { name = n; body = after_arguments ts; end = line_end p.span.end ts }))) None) ++ run macro_out nothing (at (Arguments n.span) p.span.end) ts) is
+    ∙ ap (λ c. macro_def (record { name = n; body = after_arguments ts; end = line_end p.span.end ts }) ∷ c) (past_name_run (Arguments n.span) p.span.end ts refl))
     (λ n p e isnt. ap (λ b. option_to_list (cond b (Some (record { name = n.span; kind = fact_kind.Macro; line = n.line; local = false })) None)) isnt)
     text
     ∙ one_each (macros text)
@@ -483,7 +480,6 @@ macros_are text =
     one_each : (ms : List Macro) → flat_map (λ (m : Macro). macro_def m ∷ []) ms ≡ map macro_def ms
     one_each [] = refl
     one_each (m ∷ ms) = ap (λ c. macro_def m ∷ c) (one_each ms)
-
 
 pub macro_ranges_are : (text : List ℕ) → walk no_range range_finish text line_start (map (lined text) (pieces text)) ≡ macro_ranges text
 macro_ranges_are text =
@@ -580,15 +576,15 @@ module _ (text : List ℕ) where
   third_run t ts =
       ⊎_elim
       (λ str.
-          (λ i. cond (str i) (header_of text t []) [] ++ run (include_out text) nothing (at (cond (str_no_mark t.role 60 str i) (Angle t) Included) t.span.end) ts)
-          ∙ ap (λ c. header_of text t [] ++ c) (no_include_run Included t.span.end ts refl)
-          ∙ append-nil (header_of text t [])
-          ∙ ap (λ b. cond b (string_header t) (angle_header t [])) str
-          ∙ sym (ap (λ b. cond b (string_header t) (angle_header t ts)) str))
+      (λ i. cond (str i) (header_of text t []) [] ++ run (include_out text) nothing (at (cond (str_no_mark t.role 60 str i) (Angle t) Included) t.span.end) ts)
+      ∙ ap (λ c. header_of text t [] ++ c) (no_include_run Included t.span.end ts refl)
+      ∙ append-nil (header_of text t [])
+      ∙ ap (λ b. cond b (string_header t) (angle_header t [])) str
+      ∙ sym (ap (λ b. cond b (string_header t) (angle_header t ts)) str))
       (λ no_str.
-          ap (λ b. cond b (header_of text t []) [] ++ run (include_out text) nothing (at (cond (is_mark 60 t.role) (Angle t) Included) t.span.end) ts) no_str
-          ∙ angled t ts
-          ∙ sym (ap (λ b. cond b (string_header t) (angle_header t ts)) no_str))
+      ap (λ b. cond b (header_of text t []) [] ++ run (include_out text) nothing (at (cond (is_mark 60 t.role) (Angle t) Included) t.span.end) ts) no_str
+      ∙ angled t ts
+      ∙ sym (ap (λ b. cond b (string_header t) (angle_header t ts)) no_str))
       (cases_Bool (is_str t.role))
 
   -- behind the own word
@@ -614,12 +610,12 @@ module _ (text : List ℕ) where
   hash_run hash e (own ∷ ts) =
       ⊎_elim
       (λ is.
-          (λ i. run (include_out text) nothing (at (cond (include_no_define own.role is i) Define (cond (is i) Include Other)) own.span.end) ts)
-          ∙ header_run hash own own.span.end ts is)
+      (λ i. run (include_out text) nothing (at (cond (include_no_define own.role is i) Define (cond (is i) Include Other)) own.span.end) ts)
+      ∙ header_run hash own own.span.end ts is)
       (λ isnt.
-          ap (λ b. run (include_out text) nothing (at (cond (has_kind kind_is_define own.role) Define (cond b Include Other)) own.span.end) ts) isnt
-          ∙ elim (has_kind kind_is_define own.role) as (λ b. run (include_out text) nothing (at (cond b Define Other) own.span.end) ts ≡ []) [ true ↦ no_include_run Define own.span.end ts refl | false ↦ no_include_run Other own.span.end ts refl ]
-          ∙ sym (none ts isnt))
+      ap (λ b. run (include_out text) nothing (at (cond (has_kind kind_is_define own.role) Define (cond b Include Other)) own.span.end) ts) isnt
+      ∙ elim (has_kind kind_is_define own.role) as (λ b. run (include_out text) nothing (at (cond b Define Other) own.span.end) ts ≡ []) [ true ↦ no_include_run Define own.span.end ts refl | false ↦ no_include_run Other own.span.end ts refl ]
+      ∙ sym (none ts isnt))
       (cases_Bool (has_kind kind_is_include own.role))
     where
       none : (ts : List Token) → has_kind kind_is_include own.role ≡ false → include_of text (hash ∷ own ∷ ts) ≡ []

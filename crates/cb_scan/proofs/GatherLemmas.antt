@@ -1,8 +1,7 @@
 -- From the first piece on the pass gathers what the definitions say, list by list.
-use Rattle.std.proofs.Common.{◌≡◌, ◌∙◌, ℕ, Bool, true, false, List, [], ◌∷◌, ◌++◌, None, length, map, ap, sym, refl, append_assoc}
+use Rattle.std.proofs.Common.{◌≡◌, ◌∙◌, ℕ, true, false, List, [], ◌∷◌, ◌++◌, None, length, map, ap, sym, refl, append_assoc}
 use Rattle.std.proofs.lemmas.Bool.{false≢true}
 use Rattle.std.specs.Prelude.{cond}
-use Rattle.std.specs.List.{flat_map}
 use Rattle.cb_scan.specs.declared.line.Line.{Line}
 use Rattle.cb_scan.specs.declared.lined.Lined.{Lined}
 use Rattle.cb_scan.specs.declared.piece.Class.{Class}

@@ -3,6 +3,7 @@ pub mod BodyLemmas
 pub mod Cuts
 pub mod DeclarationLemmas
 pub mod DirectiveLemmas
+pub mod FactsWithin
 pub mod Fronts
 pub mod FunctionLemmas
 pub mod GatherLemmas

@@ -1,20 +1,16 @@
 -- What is gathered a piece at a time is what the logical lines give, line by line.
-use Rattle.std.proofs.Common.{◌≡◌, ◌∙◌, ⊎_elim, ℕ, Bool, true, false, List, [], ◌∷◌, ◌++◌, Option, Some, None, refl, sym, ap, map, append_assoc}
-use Rattle.std.proofs.lemmas.Bool.{true≢false, false≢true, cases_Bool}
+use Rattle.std.proofs.Common.{◌≡◌, ◌∙◌, ⊎_elim, ℕ, Bool, true, false, List, [], ◌∷◌, ◌++◌, refl, sym, ap, map, append_assoc}
+use Rattle.std.proofs.lemmas.Bool.{cases_Bool}
 use Rattle.std.proofs.lemmas.List.{append-nil}
-use Rattle.std.proofs.Math.Bool.{and-false}
-use Rattle.std.specs.Prelude.{cond, not, filter, ◌&&◌, ◌==◌}
+use Rattle.std.specs.Prelude.{cond, filter}
 use Rattle.std.specs.List.{slice_split, onto_first, flat_map}
-use Rattle.std.specs.Option.{option_to_list}
 use Rattle.cb_scan.specs.declared.line.Line.{Line}
-use Rattle.cb_scan.specs.declared.line.Stage.{Stage}
-use Rattle.cb_scan.specs.declared.line.Stage.TheVariants.{Start, Code, Hash, Define, Name, Arguments, Body, Include, Angle, Included, Other}
 use Rattle.cb_scan.specs.declared.piece.Piece.{Piece}
 use Rattle.cb_scan.specs.declared.token.Token.{Token}
-use Rattle.cb_scan.specs.Code.{is_newline, is_directive, code, code_of_lines, directives, logical_lines}
-use Rattle.cb_scan.specs.Tokens.{tokens, token_of, is_significant, is_mark}
+use Rattle.cb_scan.specs.Code.{is_newline, logical_lines}
+use Rattle.cb_scan.specs.Tokens.{tokens, token_of, is_significant}
 use Rattle.cb_scan.specs.steps.Cut.{pieces}
-use Rattle.cb_scan.specs.steps.Line.{code_out, is_code, line_start, next_line, next_stage, nothing, run, walk}
+use Rattle.cb_scan.specs.steps.Line.{line_start, next_line, run, walk}
 use Rattle.cb_scan.specs.steps.Lined.{lined}
 
 -- there is a first part always
@@ -53,11 +49,11 @@ module _ {A : Type 0} (out : Line → Token → List A) (finish : Line → List 
   joins_first s p b is ps =
       by_split (λ (q : Piece). is_newline q.class) (λ ls. rest s (onto_first p ls) ≡ cond b (out s (token_of text p) ++ rest (next_line s (token_of text p)) ls) (rest s ls))
       (λ l ls.
-          ap (λ c. c ++ each ls) (goes_on s p l b is)
-          ∙ elim b as (λ k. cond k (out s (token_of text p) ++ run out finish (next_line s (token_of text p)) (tokens text l)) (run out finish s (tokens text l)) ++ each ls ≡ cond k (out s (token_of text p) ++ (run out finish (next_line s (token_of text p)) (tokens text l) ++ each ls)) (run out finish s (tokens text l) ++ each ls)) [
-            | true ↦ append_assoc (out s (token_of text p)) _ _
-            | false ↦ refl
-          ])
+      ap (λ c. c ++ each ls) (goes_on s p l b is)
+      ∙ elim b as (λ k. cond k (out s (token_of text p) ++ run out finish (next_line s (token_of text p)) (tokens text l)) (run out finish s (tokens text l)) ++ each ls ≡ cond k (out s (token_of text p) ++ (run out finish (next_line s (token_of text p)) (tokens text l) ++ each ls)) (run out finish s (tokens text l) ++ each ls)) [
+        | true ↦ append_assoc (out s (token_of text p)) _ _
+        | false ↦ refl
+      ])
       ps
 
   -- from a state of the line on
@@ -70,14 +66,14 @@ module _ {A : Type 0} (out : Line → Token → List A) (finish : Line → List 
       let later = cond (is_significant p.class) (out s t ++ walk out finish text (next_line s t) (map (lined text) ps)) (walk out finish text s (map (lined text) ps)) in
       ⊎_elim
       (λ is.
-          ap (λ b. cond b (finish s ++ walk out finish text line_start (map (lined text) ps)) later) is
-          ∙ ap (λ c. finish s ++ c) (walk_rest line_start ps ∙ whole ss)
-          ∙ ap (λ b. rest s (cond b ([] ∷ ss) (onto_first p ss))) (sym is))
+      ap (λ b. cond b (finish s ++ walk out finish text line_start (map (lined text) ps)) later) is
+      ∙ ap (λ c. finish s ++ c) (walk_rest line_start ps ∙ whole ss)
+      ∙ ap (λ b. rest s (cond b ([] ∷ ss) (onto_first p ss))) (sym is))
       (λ on.
-          ap (λ b. cond b (finish s ++ walk out finish text line_start (map (lined text) ps)) later) on
-          ∙ (λ i. cond (is_significant p.class) (out s t ++ walk_rest (next_line s t) ps i) (walk_rest s ps i))
-          ∙ sym (joins_first s p (is_significant p.class) refl ps)
-          ∙ ap (λ b. rest s (cond b ([] ∷ ss) (onto_first p ss))) (sym on))
+      ap (λ b. cond b (finish s ++ walk out finish text line_start (map (lined text) ps)) later) on
+      ∙ (λ i. cond (is_significant p.class) (out s t ++ walk_rest (next_line s t) ps i) (walk_rest s ps i))
+      ∙ sym (joins_first s p (is_significant p.class) refl ps)
+      ∙ ap (λ b. rest s (cond b ([] ∷ ss) (onto_first p ss))) (sym on))
       (cases_Bool (is_newline p.class))
 
   -- the whole text

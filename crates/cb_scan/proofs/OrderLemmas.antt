@@ -1,16 +1,16 @@
 -- A list that is sorted is the list in order.
-use Rattle.std.proofs.Common.{◌≡◌, ◌∙◌, ◌≤◌, ◌<◌, ◌+◌, ◌-◌, ℕ, zero, suc, Bool, true, false, List, [], ◌∷◌, ◌++◌, refl, sym, ap, subst, length, get_or, arith, zero-add, add-one, ⊎_elim}
+use Rattle.std.proofs.Common.{◌≡◌, ◌∙◌, ◌≤◌, ◌<◌, ◌+◌, ℕ, suc, Bool, true, false, List, [], ◌∷◌, refl, sym, ap, subst, length, get_or, arith, zero-add, ⊎_elim}
 use Rattle.std.proofs.lemmas.Bool.{cases_Bool, true≢false, false≢true}
 use Rattle.std.proofs.lemmas.Cmp.{nat_list_cmp_total}
 use Rattle.std.proofs.lemmas.List.Sorted.{sum_by-IsPermutation}
 use Rattle.std.proofs.lemmas.List.Sums.{sum_by-cons}
 use Rattle.std.proofs.lemmas.Map.Text.{is_eq-slice_cmp}
 use Rattle.std.proofs.lemmas.Slice.Eq.{bytes_eq-Decides}
-use Rattle.std.specs.Prelude.{cond, not, sum_by, if◌then◌else◌}
+use Rattle.std.specs.Prelude.{cond, not, sum_by}
 use Rattle.std.specs.Cmp.{IsTotalOrder}
 use Rattle.std.specs.Cmp.Lexicographic.{slice_cmp}
 use Rattle.std.specs.List.{AllByRecursion}
-use Rattle.std.specs.List.Sorted.{IsPermutation, IsSortedByKey}
+use Rattle.std.specs.List.Sorted.{IsPermutation}
 use Rattle.std.specs.Ordering.{nat_cmp, is_eq, is_gt, is_lt, ordering_reverse}
 use Rattle.std.specs.declared.cmp.Ordering.{Ordering}
 use Rattle.std.specs.declared.cmp.Ordering.TheVariants.{Less, Equal, Greater}
@@ -151,10 +151,10 @@ module _ {X : Type 0} (key : X → List ℕ) where
   heads x y xs ys s same =
       ⊎_elim (λ is. is)
       (λ isnt.
-          let p : X → Bool = λ z. not (goes_first key y z) in
-          let none : sum_by (one_if p) (y ∷ ys) ≡ 0 = none_passes p (y ∷ ys) (ap not (goes_itself y), not_all y ys s.0) in
-          let some : one_if p x ≡ 1 = one_there (goes_first key y x) isnt in
-          absurd (omega (arith, same (one_if p), none, some, sum_by-cons (one_if p) x xs)))
+      let p : X → Bool = λ z. not (goes_first key y z) in
+      let none : sum_by (one_if p) (y ∷ ys) ≡ 0 = none_passes p (y ∷ ys) (ap not (goes_itself y), not_all y ys s.0) in
+      let some : one_if p x ≡ 1 = one_there (goes_first key y x) isnt in
+      absurd (omega (arith, same (one_if p), none, some, sum_by-cons (one_if p) x xs)))
       (cases_Bool (goes_first key y x))
     where
       one_there : (b : Bool) → b ≡ false → number (not b) ≡ 1

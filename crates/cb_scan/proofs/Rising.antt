@@ -1,6 +1,6 @@
 -- Tokens come in the order of their places, and so does what is picked from them.
-use Rattle.std.proofs.Common.{◌≡◌, ◌∙◌, ◌≤◌, ◌<◌, ◌+◌, ◌-◌, ℕ, zero, suc, Bool, true, false, List, [], ◌∷◌, ◌++◌, Option, Some, None, refl, sym, ap, subst, map, take, drop, length, add-one, inl, inr, ⊎_elim, add-zero, length-take-le, arith, take-append-drop}
-use Rattle.std.proofs.lemmas.List.{append-nil, drop-drop, drop-take, drop_all, map-append}
+use Rattle.std.proofs.Common.{◌≡◌, ◌∙◌, ◌≤◌, ◌<◌, ◌+◌, ◌-◌, ℕ, zero, suc, Bool, true, false, List, [], ◌∷◌, ◌++◌, Option, Some, None, refl, sym, ap, subst, map, take, drop, length, add-one, inl, inr, ⊎_elim, add-zero, arith, take-append-drop}
+use Rattle.std.proofs.lemmas.List.{drop-drop, map-append}
 use Rattle.std.specs.Prelude.{◌⊎◌, ◌&&◌, ◌||◌, ◌==◌, cond, not, filter}
 use Rattle.std.specs.List.{AllByRecursion, flat_map, list_any, range_with_len}
 use Rattle.std.specs.Option.{MatchOption, option_map_or}
@@ -166,7 +166,7 @@ behind_rises [] r = tt
 behind_rises (h ∷ []) r = tt
 behind_rises (h ∷ own ∷ l) r = elim (is_any_word own.role) as (λ b. Rising (cond b l (own ∷ l))) [ true ↦ r.2.2 | false ↦ r.2 ]
 
-used_picks : Picks used
+pub used_picks : Picks used
 used_picks = record {
   all = λ P l a. all-filter P (λ (t : Token). is_name_token t.role) (usable l) (usable_all P l a);
   rises = λ l r. rising-filter (λ (t : Token). is_name_token t.role) (usable l) (usable_rises l r);
@@ -190,10 +190,10 @@ pub used_rise : (text : List ℕ) → Rising (flat_map used (logical_lines text)
 used_rise text = rising-picked used used_picks (logical_lines text) (all_rise text)
 
 -- ---- the names of macros
-macro_names : List Token → List Token
+pub macro_names : List Token → List Token
 macro_names l = map (λ (m : Macro). m.name) (macro_of l)
 
-macro_picks : Picks macro_names
+pub macro_picks : Picks macro_names
 unfolding macro_names
 macro_picks = record { all = names_all; rises = names_rise }
   where
@@ -213,12 +213,12 @@ macro_picks = record { all = names_all; rises = names_rise }
     names_rise (h ∷ o ∷ n ∷ p ∷ l) r =
         elim (defines_macro o n p) as (λ b. Rising (map (λ (m : Macro). m.name) (cond b (record { name = n; body = after_arguments l; end = line_end p.span.end l } ∷ []) []))) [ true ↦ (r.2.2.0, tt, tt) | false ↦ tt ]
 
-names_flat : (ls : List (List Token)) → flat_map macro_names ls ≡ map (λ (m : Macro). m.name) (flat_map macro_of ls)
+pub names_flat : (ls : List (List Token)) → flat_map macro_names ls ≡ map (λ (m : Macro). m.name) (flat_map macro_of ls)
 unfolding macro_names
 names_flat [] = refl
 names_flat (l ∷ ls) = ap (λ c. macro_names l ++ c) (names_flat ls) ∙ sym (map-append (λ (m : Macro). m.name) (macro_of l) (flat_map macro_of ls))
 
-only_directives : (ls : List (List Token)) (P : Token → Type 0) → AllByRecursion P (flat_map (λ l. l) ls) → AllByRecursion P (flat_map (λ l. l) (filter is_directive ls))
+pub only_directives : (ls : List (List Token)) (P : Token → Type 0) → AllByRecursion P (flat_map (λ l. l) ls) → AllByRecursion P (flat_map (λ l. l) (filter is_directive ls))
 only_directives [] P a = tt
 only_directives (l ∷ ls) P a =
     let parts = all-front P l (flat_map (λ l. l) ls) a in
@@ -251,7 +251,7 @@ abbrev function_name : Function → Token
 function_name f = f.name
 
 -- a function is named by a token of its head
-named_in_head : (P : Token → Type 0) (ts : List Token) (k : ℕ) → AllByRecursion P (head ts k) → AllByRecursion P (map function_name (function_at ts k))
+pub named_in_head : (P : Token → Type 0) (ts : List Token) (k : ℕ) → AllByRecursion P (head ts k) → AllByRecursion P (map function_name (function_at ts k))
 named_in_head P ts k a = by_cases (is_counted ts k && depth ts k == 0) (may_define (head ts k))
   where
     made : Option Token → List Function
@@ -276,16 +276,16 @@ deep_or_new ts a (suc n) deep =
     let start_after : suc k ≡ a + suc n = omega arith in
     subst (λ j. (0 < depth ts j) ⊎ (a < head_start ts j)) (sym next)
     (⊎_elim
-     (λ ends.
-         let stop : is_stop ts k ≡ true = ap (λ b. (is_mark 59 (token_at ts k).role && depth ts k == 0) || b || is_uncounted ts k) ends ∙ or_mid (is_mark 59 (token_at ts k).role && depth ts k == 0) (is_uncounted ts k) in
-         let at : head_start ts (suc k) ≡ suc k = ap (λ b. cond b (suc k) (head_start ts k)) stop in
-         inr (omega arith))
-     (λ goes_on.
-         ⊎_elim
-         (λ above. inl (stays_deep (is_counted ts k) (is_mark 125 (token_at ts k).role) (token_at ts k).starts_line (depth ts k) above goes_on))
-         (λ new. inr (later_start ts k a new))
-         (deep_or_new ts a n deep))
-     (cases_Bool (closes ts k)))
+    (λ ends.
+    let stop : is_stop ts k ≡ true = ap (λ b. (is_mark 59 (token_at ts k).role && depth ts k == 0) || b || is_uncounted ts k) ends ∙ or_mid (is_mark 59 (token_at ts k).role && depth ts k == 0) (is_uncounted ts k) in
+    let at : head_start ts (suc k) ≡ suc k = ap (λ b. cond b (suc k) (head_start ts k)) stop in
+    inr (omega arith))
+    (λ goes_on.
+    ⊎_elim
+    (λ above. inl (stays_deep (is_counted ts k) (is_mark 125 (token_at ts k).role) (token_at ts k).starts_line (depth ts k) above goes_on))
+    (λ new. inr (later_start ts k a new))
+    (deep_or_new ts a n deep))
+    (cases_Bool (closes ts k)))
   where
     or_mid : (a c : Bool) → (a || true || c) ≡ true
     or_mid true c = refl

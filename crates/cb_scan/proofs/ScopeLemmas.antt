@@ -1,22 +1,21 @@
 -- The scopes that are found range by range are those of all ranges.
-use Rattle.std.proofs.Common.{◌≡◌, ◌∙◌, ◌≤◌, ◌<◌, ◌+◌, ◌-◌, ℕ, Bool, true, false, List, [], ◌∷◌, ◌++◌, Option, Some, None, refl, sym, ap, subst, map, length, arith, lt-ltb, le-leb, ⊎_elim}
-use Rattle.std.proofs.lemmas.Bool.{cases_Bool, cases_lt, eqb-true, false_from_ne_true, ltb-true, leb-true, true≢false, false≢true}
+use Rattle.std.proofs.Common.{◌≡◌, ◌∙◌, ◌≤◌, ◌<◌, ◌+◌, ◌-◌, ℕ, true, false, List, [], ◌∷◌, ◌++◌, Option, Some, None, refl, sym, ap, map, arith, lt-ltb, le-leb, ⊎_elim}
+use Rattle.std.proofs.lemmas.Bool.{cases_Bool, cases_lt, false_from_ne_true, ltb-true, leb-true, true≢false}
 use Rattle.std.proofs.Math.Bool.{and-false}
-use Rattle.std.specs.Prelude.{◌&&◌, cond, find, nat_le, nat_lt, filter}
+use Rattle.std.specs.Prelude.{◌&&◌, cond, find, nat_le, nat_lt}
 use Rattle.std.specs.List.{AllByRecursion, flat_map}
 use Rattle.std.specs.Option.{option_map, option_map_or}
 use Rattle.cb_scan.specs.declared.facts.Include.{Include}
-use Rattle.cb_scan.specs.declared.facts.Use.{Use}
 use Rattle.cb_scan.specs.declared.piece.Span.{Span}
 use Rattle.cb_scan.specs.declared.scope.Range.{Range}
 use Rattle.cb_scan.specs.declared.token.Token.{Token}
 use Rattle.cb_scan.specs.Code.{code, directives, logical_lines}
 use Rattle.cb_scan.specs.Functions.{Function, functions}
 use Rattle.cb_scan.specs.Macros.{Macro, macros}
-use Rattle.cb_scan.specs.Scope.{function_range, function_ranges, holds, macro_range, macro_ranges, name_around, scope}
+use Rattle.cb_scan.specs.Scope.{function_range, function_ranges, holds, macro_range, macro_ranges, name_around}
 use Rattle.cb_scan.specs.Uses.{header_between, header_of, include_of, includes, quote_ends, used, uses}
 use Rattle.cb_scan.specs.Tokens.{bytes_of, has_kind, is_mark, is_str, kind_is_include}
-use Rattle.cb_scan.specs.steps.Scopes.{around, first_around, include_place, include_with, reached, scoped, token_place, use_of}
+use Rattle.cb_scan.specs.steps.Scopes.{first_around, include_place, include_with, reached, scoped, token_place, use_of}
 use Rattle.cb_scan.proofs.Rising.{From, Rising, all-front, directive_tokens_rise, functions_rise, rising-split, macros_rise, used_rise}
 
 -- ranges begin in order
@@ -55,18 +54,18 @@ first_decides q [] a = refl
 first_decides q (r ∷ rs) a =
     ⊎_elim
     (λ open_.
-        ap (λ b. first_around q (cond b (r ∷ rs) (reached q rs))) open_
-        ∙ ⊎_elim
-          (λ begun. ap (λ b. cond b (Some r.name) None) begun ∙ sym (λ i. option_map (λ (s : Range). s.name) (cond (begun i && open_ i) (Some r) (find (holds q) rs))))
-          (λ ahead.
-              let below : q < r.name.start = not_le r.name.start q ahead in
-              ap (λ b. cond b (Some r.name) None) ahead
-              ∙ sym (ap (option_map (λ (s : Range). s.name)) ((λ i. cond (ahead i && nat_lt q r.end) (Some r) (find (holds q) rs)) ∙ none_yet q r.name.start rs below a.0)))
-          (cases_Bool (nat_le r.name.start q)))
+    ap (λ b. first_around q (cond b (r ∷ rs) (reached q rs))) open_
+    ∙ ⊎_elim
+    (λ begun. ap (λ b. cond b (Some r.name) None) begun ∙ sym (λ i. option_map (λ (s : Range). s.name) (cond (begun i && open_ i) (Some r) (find (holds q) rs))))
+    (λ ahead.
+    let below : q < r.name.start = not_le r.name.start q ahead in
+    ap (λ b. cond b (Some r.name) None) ahead
+    ∙ sym (ap (option_map (λ (s : Range). s.name)) ((λ i. cond (ahead i && nat_lt q r.end) (Some r) (find (holds q) rs)) ∙ none_yet q r.name.start rs below a.0)))
+    (cases_Bool (nat_le r.name.start q)))
     (λ closed_.
-        ap (λ b. first_around q (cond b (r ∷ rs) (reached q rs))) closed_
-        ∙ first_decides q rs a.1
-        ∙ sym (ap (λ b. option_map (λ (s : Range). s.name) (cond (nat_le r.name.start q && b) (Some r) (find (holds q) rs))) closed_ ∙ ap (λ b. option_map (λ (s : Range). s.name) (cond b (Some r) (find (holds q) rs))) (and-false (nat_le r.name.start q))))
+    ap (λ b. first_around q (cond b (r ∷ rs) (reached q rs))) closed_
+    ∙ first_decides q rs a.1
+    ∙ sym (ap (λ b. option_map (λ (s : Range). s.name) (cond (nat_le r.name.start q && b) (Some r) (find (holds q) rs))) closed_ ∙ ap (λ b. option_map (λ (s : Range). s.name) (cond b (Some r) (find (holds q) rs))) (and-false (nat_le r.name.start q))))
     (cases_Bool (nat_lt q r.end))
   where
     not_le : (m n : ℕ) → nat_le m n ≡ false → n < m
@@ -100,8 +99,8 @@ module _ {A B : Type 0} (place : A → ℕ) (give : A → Option Span → B) (fs
   scoped_from p lf lm [] sf sm o = refl
   scoped_from p lf lm (x ∷ xs) sf sm o =
       λ i.
-          give x (option_map_or (λ name. Some name) (serves_name p (place x) lm ms o.0 sm i) (serves_name p (place x) lf fs o.0 sf i))
-          ∷ scoped_from (place x) (reached (place x) lf) (reached (place x) lm) xs (serves_on p (place x) lf fs o.0 sf) (serves_on p (place x) lm ms o.0 sm) o.1 i
+      give x (option_map_or (λ name. Some name) (serves_name p (place x) lm ms o.0 sm i) (serves_name p (place x) lf fs o.0 sf i))
+      ∷ scoped_from (place x) (reached (place x) lf) (reached (place x) lm) xs (serves_on p (place x) lf fs o.0 sf) (serves_on p (place x) lm ms o.0 sm) o.1 i
 
   pub scoped_all : (xs : List A) → Ascending fs → Ascending ms → Ordered place 0 xs → scoped place give fs ms xs ≡ map (λ x. give x (scope_in fs ms (place x))) xs
   scoped_all xs af am o = scoped_from 0 fs ms xs (record { ascends = af; finds = λ q h. refl }) (record { ascends = am; finds = λ q h. refl }) o

@@ -1,5 +1,5 @@
 -- The names that short typedefs define, computed.
-use Rattle.std.proofs.Common.{◌≡◌, ◌∙◌, ℕ, suc, List, [], ◌∷◌, None, refl, sym, ap, map}
+use Rattle.std.proofs.Common.{◌≡◌, ◌∙◌, ℕ, suc, List, [], ◌∷◌, refl, sym, ap, map}
 use Rattle.std.specs.Prelude.{false, codes}
 use Rattle.cb_scan.specs.declared.token.Role.{Role}
 use Rattle.cb_scan.specs.declared.token.Role.TheVariants.{Word, Mark, Str, Other}
@@ -10,8 +10,8 @@ use Rattle.cb_scan.specs.PieceExamples.{cutting}
 use Rattle.cb_scan.specs.Reserved.{is_reserved, reserved_words}
 use Rattle.cb_scan.specs.Tokens.{word_of}
 use Rattle.cb_scan.specs.Typedefs.{typedefs}
-use Rattle.cb_scan.specs.steps.Machine.{next, start}
-use Rattle.cb_scan.specs.steps.Typedefs.{after, typedefs_from}
+use Rattle.cb_scan.specs.steps.Machine.{next}
+use Rattle.cb_scan.specs.steps.Typedefs.{after}
 use Rattle.cb_scan.proofs.TypedefLemmas.{typedefs_from_start}
 
 -- a token at a place

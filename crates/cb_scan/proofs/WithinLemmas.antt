@@ -7,7 +7,7 @@ use Rattle.std.proofs.lemmas.List.{map-append}
 use Rattle.cb_scan.specs.declared.piece.Piece.{Piece}
 use Rattle.cb_scan.specs.declared.token.Token.{Token}
 use Rattle.cb_scan.specs.Code.{is_newline, is_directive, code, code_of_lines, lines_of_tokens}
-use Rattle.cb_scan.specs.Definitions.{IsWithin, definitions, function_def}
+use Rattle.cb_scan.specs.Definitions.{IsWithin, function_def}
 use Rattle.cb_scan.specs.Functions.{Function, called_name, may_define, head, function_from, function_at, functions, close_from}
 use Rattle.cb_scan.specs.Depth.{depth, head_start, is_counted}
 use Rattle.cb_scan.specs.declared.facts.Def.{Def}
@@ -16,7 +16,7 @@ use Rattle.cb_scan.specs.Pieces.{LiesIn}
 use Rattle.cb_scan.specs.Tokens.{tokens, token_of, is_significant, is_name_token, is_mark, is_static}
 
 -- each of a list of lists
-abbrev AllOfAll : {X : Type 0} → (X → Type 0) → List (List X) → Type 0
+abbrev pub AllOfAll : {X : Type 0} → (X → Type 0) → List (List X) → Type 0
 AllOfAll P ls = AllByRecursion (AllByRecursion P) ls
 
 module _ {X : Type 0} (P : X → Type 0) where
@@ -39,7 +39,7 @@ module _ {X : Type 0} (P : X → Type 0) where
   all-filter test (x ∷ xs) a =
       elim (test x) as (λ b. AllByRecursion P (cond b (x ∷ filter test xs) (filter test xs))) [ true ↦ (a.0, all-filter test xs a.1) | false ↦ all-filter test xs a.1 ]
 
-  all-joined : (ls : List (List X)) → AllOfAll P ls → AllByRecursion P (flat_map (λ l. l) ls)
+  pub all-joined : (ls : List (List X)) → AllOfAll P ls → AllByRecursion P (flat_map (λ l. l) ls)
   all-joined [] a = tt
   all-joined (l ∷ ls) a = all-append l (flat_map (λ l. l) ls) a.0 (all-joined ls a.1)
 
@@ -47,13 +47,13 @@ module _ {X : Type 0} (P : X → Type 0) where
   all-onto_first x [] p a = ((p, tt), tt)
   all-onto_first x (l ∷ ls) p a = ((p, a.0), a.1)
 
-  all-split : (test : X → Bool) (xs : List X) → AllByRecursion P xs → AllOfAll P (slice_split test xs)
+  pub all-split : (test : X → Bool) (xs : List X) → AllByRecursion P xs → AllOfAll P (slice_split test xs)
   all-split test [] a = (tt, tt)
   all-split test (x ∷ xs) a =
       elim (test x) as (λ b. AllOfAll P (cond b ([] ∷ slice_split test xs) (onto_first x (slice_split test xs)))) [ true ↦ (tt, all-split test xs a.1) | false ↦ all-onto_first x (slice_split test xs) a.0 (all-split test xs a.1) ]
 
 -- a token lies in the text, and has a byte at least
-abbrev TokenWithin : List ℕ → Token → Type 0
+abbrev pub TokenWithin : List ℕ → Token → Type 0
 TokenWithin text t = (t.span.start < t.span.end) × (t.span.end ≤ length text)
 
 tokens-within : (text : List ℕ) (ps : List Piece) → AllByRecursion (LiesIn text) ps → AllByRecursion (TokenWithin text) (tokens text ps)
@@ -61,7 +61,7 @@ tokens-within text [] a = tt
 tokens-within text (p ∷ ps) a =
     elim (is_significant p.class) as (λ b. AllByRecursion (TokenWithin text) (map (token_of text) (cond b (p ∷ filter (λ q. is_significant q.class) ps) (filter (λ q. is_significant q.class) ps)))) [ true ↦ (a.0, tokens-within text ps a.1) | false ↦ tokens-within text ps a.1 ]
 
-lines-within : (text : List ℕ) (ls : List (List Piece)) → AllOfAll (LiesIn text) ls → AllOfAll (TokenWithin text) (map (tokens text) ls)
+pub lines-within : (text : List ℕ) (ls : List (List Piece)) → AllOfAll (LiesIn text) ls → AllOfAll (TokenWithin text) (map (tokens text) ls)
 lines-within text [] a = tt
 lines-within text (l ∷ ls) a = (tokens-within text l a.0, lines-within text ls a.1)
 

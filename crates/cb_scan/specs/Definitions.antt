@@ -1,7 +1,11 @@
 -- The definitions of a text, and all that is found in it.
-use Rattle.std.specs.Prelude.{ℕ, ◌≤◌, false, List, ◌++◌, length, map}
+use Rattle.std.specs.Prelude.{ℕ, ◌≤◌, false, List, Option, ◌++◌, length, map}
+use Rattle.std.specs.List.{AllByRecursion}
+use Rattle.std.specs.Option.{MatchOption}
 use Rattle.cb_scan.specs.declared.facts.Call.{Call}
 use Rattle.cb_scan.specs.declared.facts.Def.{Def}
+use Rattle.cb_scan.specs.declared.facts.Include.{Include}
+use Rattle.cb_scan.specs.declared.facts.Use.{Use}
 use Rattle.cb_scan.specs.declared.facts.Kind.TheVariants as kind
 use Rattle.cb_scan.specs.declared.piece.Span.{Span}
 use Rattle.cb_scan.specs.declared.token.Token.{Token}
@@ -39,3 +43,14 @@ facts_of text = record { defs = definitions text; uses = uses text; calls = call
 -- the span lies in the text
 abbrev pub IsWithin : List ℕ → Span → Type 0
 IsWithin text span = (span.start ≤ span.end) × (span.end ≤ length text)
+
+-- the span lies in the text, if there is one
+abbrev pub IsScopeWithin : List ℕ → Option Span → Type 0
+IsScopeWithin text scope = MatchOption scope (Unit {0}) (IsWithin text)
+
+-- the spans of all facts lie in the text
+pub record AreWithin (text : List ℕ) (f : TextFacts) : Type 0 where
+  pub defs : AllByRecursion (λ (d : Def). IsWithin text d.name) f.defs
+  pub uses : AllByRecursion (λ (u : Use). IsWithin text u.name × IsScopeWithin text u.scope) f.uses
+  pub calls : AllByRecursion (λ (c : Call). IsWithin text c.callee × IsWithin text c.caller) f.calls
+  pub includes : AllByRecursion (λ (i : Include). IsWithin text i.header × IsScopeWithin text i.scope) f.includes

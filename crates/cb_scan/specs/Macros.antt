@@ -1,5 +1,5 @@
 -- Macros with arguments (ISO C 2011, 6.10.3).
-use Rattle.std.specs.Prelude.{ℕ, Bool, true, false, ◌&&◌, ◌==◌, List, [], ◌∷◌, if◌then◌else◌}
+use Rattle.std.specs.Prelude.{ℕ, Bool, ◌&&◌, ◌==◌, List, [], ◌∷◌, if◌then◌else◌}
 use Rattle.std.specs.List.{flat_map}
 use Rattle.cb_scan.specs.declared.token.Token.{Token}
 use Rattle.cb_scan.specs.Tokens.{has_kind, kind_is_define, is_mark, is_name_token}

@@ -1,5 +1,5 @@
 -- The macro or function around a place. This is the project's profile.
-use Rattle.std.specs.Prelude.{ℕ, Bool, ◌&&◌, nat_le, nat_lt, List, length, Option, Some, None, if◌then◌else◌, find, map}
+use Rattle.std.specs.Prelude.{ℕ, Bool, ◌&&◌, nat_le, nat_lt, List, length, Option, Some, if◌then◌else◌, find, map}
 use Rattle.std.specs.Option.{option_map, option_map_or}
 use Rattle.cb_scan.specs.declared.piece.Span.{Span}
 use Rattle.cb_scan.specs.declared.scope.Range.{Range}

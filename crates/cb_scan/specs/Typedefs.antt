@@ -1,5 +1,5 @@
 -- The names that typedefs define (ISO C 2011, 6.7.8, found in tokens by this project's profile).
-use Rattle.std.specs.Prelude.{ℕ, zero, suc, ◌+◌, ◌-◌, Bool, true, false, ◌&&◌, ◌||◌, ◌==◌, not, List, [], ◌∷◌, ◌++◌, length, Option, None, Some, if◌then◌else◌, find}
+use Rattle.std.specs.Prelude.{ℕ, suc, ◌+◌, ◌-◌, Bool, false, ◌&&◌, ◌||◌, ◌==◌, not, List, [], ◌∷◌, length, Option, None, Some, if◌then◌else◌, find}
 use Rattle.std.specs.List.{flat_map, range_with_len, slice_split}
 use Rattle.std.specs.Option.{option_map_or, option_to_list}
 use Rattle.cb_scan.specs.declared.token.Token.{Token}
@@ -85,7 +85,7 @@ typedef_names ts = flat_map part_name (parts ts)
 abbrev pub typedef_at : List Token → ℕ → List Token
 typedef_at ts k =
     if begins_typedef ts k then
-      option_map_or (λ j. if ends_declaration ts j then typedef_names (taken ts k j) else []) (typedef_stop ts (suc k)) []
+    option_map_or (λ j. if ends_declaration ts j then typedef_names (taken ts k j) else []) (typedef_stop ts (suc k)) []
     else []
 
 -- the names that the typedefs of the code define, by place

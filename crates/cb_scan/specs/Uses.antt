@@ -1,5 +1,5 @@
 -- Uses of names, calls and includes. This is the project's profile.
-use Rattle.std.specs.Prelude.{ℕ, suc, ◌+◌, ◌-◌, Bool, true, false, ◌&&◌, ◌||◌, ◌==◌, nat_lt, not, List, [], ◌∷◌, ◌++◌, Option, Some, None, if◌then◌else◌, filter, map, find}
+use Rattle.std.specs.Prelude.{ℕ, suc, ◌+◌, ◌-◌, Bool, true, false, ◌&&◌, ◌||◌, ◌==◌, nat_lt, List, [], ◌∷◌, None, if◌then◌else◌, filter, map, find}
 use Rattle.std.specs.List.{flat_map, range_with_len}
 use Rattle.std.specs.Option.{option_map_or}
 use Rattle.cb_scan.specs.declared.piece.Span.{Span}
@@ -7,10 +7,10 @@ use Rattle.cb_scan.specs.declared.facts.Use.{Use}
 use Rattle.cb_scan.specs.declared.facts.Call.{Call}
 use Rattle.cb_scan.specs.declared.facts.Include.{Include}
 use Rattle.cb_scan.specs.declared.token.Token.{Token}
-use Rattle.cb_scan.specs.Code.{code, directives, is_directive, logical_lines}
+use Rattle.cb_scan.specs.Code.{directives, is_directive, logical_lines}
 use Rattle.cb_scan.specs.Depth.{token_at}
 use Rattle.cb_scan.specs.Functions.{Function, functions}
-use Rattle.cb_scan.specs.Macros.{Macro, macros, macros_of}
+use Rattle.cb_scan.specs.Macros.{Macro}
 use Rattle.cb_scan.specs.Scope.{scope}
 use Rattle.cb_scan.specs.Tokens.{bytes_of, has_kind, is_any_word, is_mark, is_name_token, is_str, kind_is_include}
 

@@ -64,7 +64,12 @@ impl Model for Facts {
 }
 
 impl Facts {
-    pub(crate) fn new(defs: Vec<Def>, uses: Vec<Use>, calls: Vec<Call>, includes: Vec<Include>) -> Facts
+    pub(crate) fn new(
+        defs: Vec<Def>,
+        uses: Vec<Use>,
+        calls: Vec<Call>,
+        includes: Vec<Include>,
+    ) -> Facts
         ensures { result ≡ record { defs = defs.items; uses = uses.items; calls = calls.items; includes = includes.items } }
     {
         Facts {

@@ -85,7 +85,13 @@ impl CodeLists {
         push_some(&mut self.functions, machine.found(token))?;
         push_some(&mut self.ranges, machine.closed(token))?;
         push_some(&mut self.calls, machine.called(token))?;
-        let declared = take_token(machine, state.declared, token, &mut self.pending, &mut self.typedefs)?;
+        let declared = take_token(
+            machine,
+            state.declared,
+            token,
+            &mut self.pending,
+            &mut self.typedefs,
+        )?;
         Ok(CodeState {
             machine: machine.next(token),
             declared,

@@ -81,7 +81,8 @@ fn next_stage(stage: Stage, token: Token) -> Stage
         Stage::Include if token.is_mark(b'<') => Stage::Angle(token),
         Stage::Include => Stage::Included,
         Stage::Angle(_) if token.is_mark(b'>') => Stage::Included,
-        Stage::Arguments(_) | Stage::Angle(_) | Stage::Code | Stage::Included | Stage::Other => stage,
+        Stage::Arguments(_) | Stage::Angle(_) | Stage::Code | Stage::Included | Stage::Other =>
+            stage,
     }
 }
 
@@ -117,7 +118,11 @@ impl Line {
     pub(crate) fn is_use(self, token: Token) -> bool
         ensures { result ≡ (is_name_token token.role && names_count self.stage) }
     {
-        token.is_name() && !matches!(self.stage, Stage::Hash | Stage::Include | Stage::Angle(_) | Stage::Included)
+        token.is_name()
+            && !matches!(
+                self.stage,
+                Stage::Hash | Stage::Include | Stage::Angle(_) | Stage::Included
+            )
     }
 
     /// The macro whose arguments the next token opens, if it opens some.
@@ -125,12 +130,14 @@ impl Line {
         ensures { result ≡ macro_found self.stage token }
     {
         match self.stage {
-            Stage::Name(name) if token.is_mark(b'(') && token.span.start == name.span.end => Some(Def {
-                name: name.span,
-                kind: Kind::Macro,
-                line: name.line,
-                local: false,
-            }),
+            Stage::Name(name) if token.is_mark(b'(') && token.span.start == name.span.end => Some(
+                Def {
+                    name: name.span,
+                    kind: Kind::Macro,
+                    line: name.line,
+                    local: false,
+                },
+            ),
             _ => None,
         }
     }
@@ -153,11 +160,13 @@ impl Line {
         ensures { result ≡ macro_call self.stage token }
     {
         match self.stage {
-            Stage::Body(caller, Some(last)) if last.is_name() && token.is_mark(b'(') => Some(Call {
-                callee: last.span,
-                line: last.line,
-                caller,
-            }),
+            Stage::Body(caller, Some(last)) if last.is_name() && token.is_mark(b'(') => Some(
+                Call {
+                    callee: last.span,
+                    line: last.line,
+                    caller,
+                },
+            ),
             _ => None,
         }
     }

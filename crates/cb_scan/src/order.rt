@@ -20,36 +20,57 @@ fn def_key(def: &Def) -> [u32; 5]
     ensures { result ≡ def_key def.now }
 {
     let local = if def.local { 1 } else { 0 };
-    [def.name.start, def.name.end, kind_rank(def.kind), def.line, local]
+    [
+        def.name.start,
+        def.name.end,
+        kind_rank(def.kind),
+        def.line,
+        local,
+    ]
 }
 
 /// What calls are ordered by: place, then what is left.
 fn call_key(call: &Call) -> [u32; 5]
     ensures { result ≡ call_key call.now }
 {
-    [call.callee.start, call.callee.end, call.line, call.caller.start, call.caller.end]
+    [
+        call.callee.start,
+        call.callee.end,
+        call.line,
+        call.caller.start,
+        call.caller.end,
+    ]
 }
 
 /// Puts definitions in the order of their places, a function before a typedef at one place.
 fn order_defs(defs: &mut [Def])
     ensures { defs.new ≡ in_order def_key defs.old }
 {
-    defs.sort_unstable_by_key(|def: &Def| -> [u32; 5]
-        ensures { result ≡ def_key def.now }
-    { def_key(def) });
+    defs.sort_unstable_by_key(
+        |def: &Def| -> [u32; 5]
+            ensures { result ≡ def_key def.now }
+        { def_key(def) },
+    );
 }
 
 /// Puts calls in the order of their places.
 fn order_calls(calls: &mut [Call])
     ensures { calls.new ≡ in_order call_key calls.old }
 {
-    calls.sort_unstable_by_key(|call: &Call| -> [u32; 5]
-        ensures { result ≡ call_key call.now }
-    { call_key(call) });
+    calls.sort_unstable_by_key(
+        |call: &Call| -> [u32; 5]
+            ensures { result ≡ call_key call.now }
+        { call_key(call) },
+    );
 }
 
 /// Three lists behind each other, at their exact size.
-fn joined<T: Copy>(alloc: Global, first: &[T], second: &[T], third: &[T]) -> Result<Vec<T>, AllocError>
+fn joined<T: Copy>(
+    alloc: Global,
+    first: &[T],
+    second: &[T],
+    third: &[T],
+) -> Result<Vec<T>, AllocError>
     requires { length first.now + length second.now + length third.now < 2 ^ 64 }
     ensures { IfOk result (λ all. all.items ≡ first.now ++ second.now ++ third.now) }
 {
@@ -61,7 +82,12 @@ fn joined<T: Copy>(alloc: Global, first: &[T], second: &[T], third: &[T]) -> Res
 }
 
 /// Functions, macros and typedefs in the order of their places, a function before a typedef at one place.
-pub(crate) fn ordered_defs(alloc: Global, functions: &[Def], macros: &[Def], typedefs: &[Def]) -> Result<Vec<Def>, AllocError>
+pub(crate) fn ordered_defs(
+    alloc: Global,
+    functions: &[Def],
+    macros: &[Def],
+    typedefs: &[Def],
+) -> Result<Vec<Def>, AllocError>
     ensures { IfOk result (λ defs. defs.items ≡ in_order def_key (functions.now ++ macros.now ++ typedefs.now)) }
 {
     let mut defs = joined(alloc, functions, macros, typedefs)?;
@@ -70,7 +96,11 @@ pub(crate) fn ordered_defs(alloc: Global, functions: &[Def], macros: &[Def], typ
 }
 
 /// Calls of functions and of macros in the order of their places.
-pub(crate) fn ordered_calls(alloc: Global, functions: &[Call], macros: &[Call]) -> Result<Vec<Call>, AllocError>
+pub(crate) fn ordered_calls(
+    alloc: Global,
+    functions: &[Call],
+    macros: &[Call],
+) -> Result<Vec<Call>, AllocError>
     ensures { IfOk result (λ calls. calls.items ≡ in_order call_key (functions.now ++ macros.now)) }
 {
     let mut calls = joined(alloc, functions, macros, &[])?;

@@ -2,7 +2,7 @@
 ghost use Rattle.std.specs.Prelude.{◌≡◌, ◌+◌, ◌++◌, ◌^◌, ◌-◌, ◌<◌, ◌≤◌, min, length, map, IfOk, IfErr};
 ghost use Rattle.std.specs.List.{AllByRecursion, flat_map};
 ghost use Rattle.cb_scan.specs.Code.{code, directives, logical_lines};
-ghost use Rattle.cb_scan.specs.Definitions.{definitions, calls, facts_of, function_def, macro_def, typedef_def, IsWithin};
+ghost use Rattle.cb_scan.specs.Definitions.{definitions, calls, facts_of, function_def, macro_def, typedef_def, AreWithin};
 ghost use Rattle.cb_scan.specs.Functions.{functions};
 ghost use Rattle.cb_scan.specs.Macros.{macros};
 ghost use Rattle.cb_scan.specs.Scope.{function_ranges, macro_ranges};
@@ -33,7 +33,10 @@ struct Gathered {
 fn is_significant(class: Class) -> bool
     ensures { result ≡ is_significant class }
 {
-    matches!(class, Class::Name | Class::Number | Class::Str | Class::Chr | Class::Byte)
+    matches!(
+        class,
+        Class::Name | Class::Number | Class::Str | Class::Chr | Class::Byte
+    )
 }
 
 /// The one pass over a text: each piece is looked at once.
@@ -87,7 +90,12 @@ fn facts_in(alloc: Global, text: &[u8]) -> Result<Facts, AllocError>
     };
     let uses = scoped_uses(alloc, lines.names.as_slice(), ranges)?;
     let includes = scoped_includes(alloc, lines.includes.as_slice(), ranges)?;
-    let defs = ordered_defs(alloc, code.functions.as_slice(), lines.macros.as_slice(), code.typedefs.as_slice())?;
+    let defs = ordered_defs(
+        alloc,
+        code.functions.as_slice(),
+        lines.macros.as_slice(),
+        code.typedefs.as_slice(),
+    )?;
     let calls = ordered_calls(alloc, code.calls.as_slice(), lines.calls.as_slice())?;
     Ok(Facts::new(defs, uses, calls, includes))
 }
@@ -96,6 +104,7 @@ fn facts_in(alloc: Global, text: &[u8]) -> Result<Facts, AllocError>
 /// error. One pass, and time in proportion to the text (ordering what is out of order aside).
 pub fn scan(alloc: Global, meter: &mut Meter, source: &Source) -> Result<Facts, ScanError>
     ensures facts { IfOk result (λ f. f ≡ facts_of source.now) }
+    ensures within { IfOk result (λ f. AreWithin source.now f) }
     ensures memory { IfErr result (λ e. e ≡ ScanError.OutOfMemory) }
     ensures counted { meter.new ≡ min (meter.old + length source.now) (2 ^ 64 - 1) }
 {

@@ -67,7 +67,11 @@ impl<'a> Around<'a> {
 }
 
 /// The used names with their scopes.
-pub(crate) fn scoped_uses(alloc: Global, names: &[Token], ranges: Around<'_>) -> Result<Vec<Use>, AllocError>
+pub(crate) fn scoped_uses(
+    alloc: Global,
+    names: &[Token],
+    ranges: Around<'_>,
+) -> Result<Vec<Use>, AllocError>
     ensures { IfOk result (λ uses. uses.items ≡ scoped token_place use_of ranges.entry.functions.now ranges.entry.macros.now names.now) }
 {
     let mut uses = Vec::with_capacity(alloc, names.len())?;
@@ -84,7 +88,11 @@ pub(crate) fn scoped_uses(alloc: Global, names: &[Token], ranges: Around<'_>) ->
 }
 
 /// The includes with their scopes.
-pub(crate) fn scoped_includes(alloc: Global, found: &[Include], ranges: Around<'_>) -> Result<Vec<Include>, AllocError>
+pub(crate) fn scoped_includes(
+    alloc: Global,
+    found: &[Include],
+    ranges: Around<'_>,
+) -> Result<Vec<Include>, AllocError>
     ensures { IfOk result (λ includes. includes.items ≡ scoped include_place include_with ranges.entry.functions.now ranges.entry.macros.now found.now) }
 {
     let mut includes = Vec::with_capacity(alloc, found.len())?;

@@ -115,7 +115,10 @@ impl Token {
     pub(crate) fn is_name(self) -> bool
         ensures { result ≡ is_name_token self.role }
     {
-        matches!(self.role, Role::Word(WordKind::Name | WordKind::Define | WordKind::Include))
+        matches!(
+            self.role,
+            Role::Word(WordKind::Name | WordKind::Define | WordKind::Include)
+        )
     }
 
     pub(crate) fn is_typedef(self) -> bool

@@ -9,11 +9,10 @@ use Rattle.cb_scan.specs.declared.line.Line.{Line}
 use Rattle.cb_scan.specs.declared.line.Stage.{Stage}
 use Rattle.cb_scan.specs.declared.line.Stage.TheVariants.{Start, Code, Hash, Define, Name, Arguments, Body, Include, Angle, Included, Other}
 use Rattle.cb_scan.specs.declared.lined.Lined.{Lined}
-use Rattle.cb_scan.specs.declared.piece.Span.{Span}
 use Rattle.cb_scan.specs.declared.scope.Range.{Range}
 use Rattle.cb_scan.specs.declared.token.Token.{Token}
 use Rattle.cb_scan.specs.Code.{is_newline}
-use Rattle.cb_scan.specs.Tokens.{has_kind, is_any_word, is_mark, is_name_token, is_significant, is_str, kind_is_define, kind_is_include, role_of, starts_line}
+use Rattle.cb_scan.specs.Tokens.{has_kind, is_mark, is_name_token, is_significant, is_str, kind_is_define, kind_is_include, role_of, starts_line}
 use Rattle.cb_scan.specs.Uses.{call_of, header_between, header_of, is_call}
 
 -- the token of a piece whose line is known

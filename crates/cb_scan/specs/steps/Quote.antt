@@ -1,5 +1,5 @@
 -- Whether a string is closed, a byte at a time.
-use Rattle.std.specs.Prelude.{ℕ, Bool, true, false, ◌==◌, List, [], ◌∷◌, if◌then◌else◌}
+use Rattle.std.specs.Prelude.{ℕ, Bool, false, ◌==◌, List, [], ◌∷◌, if◌then◌else◌}
 use Rattle.cb_scan.specs.declared.lexeme.Escape.{Escape}
 use Rattle.cb_scan.specs.steps.Cut.{ends_literal, literal_escape}
 

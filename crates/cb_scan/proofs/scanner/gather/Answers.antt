@@ -1,10 +1,9 @@
-use Rattle.std.proofs.Common.{◌≡◌, ◌∙◌, ◌++◌, ◌+◌, ◌≤◌, true, None, length, map, sym, ap, subst, arith, rules}
+use Rattle.std.proofs.Common.{◌≡◌, ◌∙◌, ◌++◌, true, None, length, sym, ap, subst, arith}
 use Rattle.std.specs.List.{AllByRecursion}
 use Rattle.std.specs.Option.{option_to_list}
 use Rattle.cb_scan.specs.Tokens.{is_significant}
-use Rattle.cb_scan.specs.steps.Cut.{pieces}
-use Rattle.cb_scan.specs.steps.Line.{code_out, include_out, is_code, line_start, macro_call_out, macro_out, no_range, nothing, range_finish, use_out, walk}
-use Rattle.cb_scan.specs.steps.Lined.{lined, Within}
+use Rattle.cb_scan.specs.steps.Line.{code_out, include_out, is_code, macro_call_out, macro_out, no_range, nothing, range_finish, use_out, walk}
+use Rattle.cb_scan.specs.steps.Lined.{Within}
 use Rattle.cb_scan.specs.steps.Machine.{called, calls_from, closed, defs_from, found, ranges_from}
 use Rattle.cb_scan.specs.steps.Typedefs.{typedef_defs_from, typedefs_out}
 use Rattle.cb_scan.proofs.DirectiveLemmas.{includes_are, macro_calls_are, macro_ranges_are, macros_are, uses_are}
@@ -56,8 +55,8 @@ loop-lined-preserved-then-is_code c =
       ranges_found = appended _ _ _ _ _ _ code.ranges (ap (ranges_from (length text) m) on ∙ ap (λ k. option_to_list (closed m t) ++ ranges_from (length text) k rest) (sym code.machine)) so_far.ranges_found;
       calls_found = appended _ _ _ _ _ _ code.calls (ap (calls_from m) on ∙ ap (λ k. option_to_list (called m t) ++ calls_from k rest) (sym code.machine)) so_far.calls_found;
       typedefs_found = appended _ _ _ _ _ _ code.typedefs
-      (ap (typedef_defs_from m c.loop-lined.state.declared c.loop-lined.code.pending.items) on
-      ∙ (λ i. typedefs_out m c.loop-lined.state.declared c.loop-lined.code.pending.items t ++ typedef_defs_from (sym code.machine i) (sym code.declared i) (sym code.pending i) rest)) so_far.typedefs_found;
+          (ap (typedef_defs_from m c.loop-lined.state.declared c.loop-lined.code.pending.items) on
+          ∙ (λ i. typedefs_out m c.loop-lined.state.declared c.loop-lined.code.pending.items t ++ typedef_defs_from (sym code.machine i) (sym code.declared i) (sym code.pending i) rest)) so_far.typedefs_found;
       names_found = appended _ _ _ _ _ _ lines.names (walk_on use_out nothing text _ _ _ _ _ _ all_is is token_is line_is) so_far.names_found;
       macros_found = appended _ _ _ _ _ _ lines.macros (walk_on macro_out nothing text _ _ _ _ _ _ all_is is token_is line_is) so_far.macros_found;
       macro_ranges_found = ap (λ l. l ++ walk no_range range_finish text c.in_ok-line.line c.next.new.self) lines.ranges ∙ ap (λ l. c.loop-lined.lines.ranges.items ++ l) (sym (walk_on no_range range_finish text _ _ _ _ _ _ all_is is token_is line_is)) ∙ so_far.macro_ranges_found;

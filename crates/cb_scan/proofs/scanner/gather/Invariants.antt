@@ -27,5 +27,5 @@ invariant-loop-lined l = record {
   includes_found : l.lines.includes.items ++ walk (include_out l.text) nothing l.text l.line l.lined-iterator ≡ flat_map (include_of l.text) (directives l.text);
   within : AllByRecursion (Within l.text) l.lined-iterator;
   room : l.state.machine.depth + length l.lined-iterator ≤ 1000000;
-  nested : nesting_of l.state.declared + length l.lined-iterator ≤ 1000000
+  nested : nesting_of l.state.declared + length l.lined-iterator ≤ 1000000;
 }

@@ -1,0 +1,11 @@
+use Rattle.std.proofs.Common.{◌≡◌, ◌∙◌, sym, ap, subst}
+use Rattle.cb_scan.specs.Definitions.{AreWithin, facts_of}
+use Rattle.cb_scan.proofs.FactsWithin.{facts_lie}
+use Rattle.cb_scan.proofs.scanner.scan.Goals as goal
+
+-- the pieces lie in the text, and so does what is found in it
+pub returns-in-Ok-clause-within : goal.returns-in-Ok-clause-within
+returns-in-Ok-clause-within c =
+    let text = c.args.source.now in
+    let found : c.in-Ok.found ≡ facts_of text = c.in-Ok.ensures ∙ ap facts_of c.bytes-text.ensures.value in
+    subst (AreWithin text) (sym found) (facts_lie text)
