@@ -1,4 +1,9 @@
 //! Tests on short texts, with their pieces worked out by hand.
+mod functions;
+mod lines;
+mod memory;
+mod names;
+
 use crate::cut::pieces;
 use crate::lined::lined_pieces;
 use crate::piece::Class;
