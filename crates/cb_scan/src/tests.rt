@@ -2,6 +2,7 @@
 mod functions;
 mod lines;
 mod memory;
+mod meter;
 mod names;
 
 use crate::cut::pieces;
