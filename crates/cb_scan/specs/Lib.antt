@@ -1,6 +1,7 @@
 pub mod Code
 pub mod Definitions
 pub mod Depth
+pub mod FunctionExamples
 pub mod Functions
 pub mod Lexeme
 pub mod Lines

@@ -1,8 +1,15 @@
 //! Tests on short texts, with their pieces worked out by hand.
-ghost use Rattle.std.specs.Prelude.{◌≤◌, length};
+mod functions;
+mod lines;
+mod memory;
+mod meter;
+mod names;
 
+use crate::cut::pieces;
 use crate::lined::lined_pieces;
-use crate::piece::{Class, Pieces};
+use crate::piece::Class;
+use crate::source::Source;
+use std::test::Fail;
 
 /// The letter of a class in the tables below.
 fn letter(class: Class) -> u8 {
@@ -20,11 +27,9 @@ fn letter(class: Class) -> u8 {
 }
 
 /// Whether `want` has, for each byte of the text, the letter of its piece's class, in upper case where a piece begins.
-fn is_cut(text: &[u8], want: &[u8]) -> bool
-    requires { length text.now ≤ 1000000 }
-{
+fn is_cut(source: &Source, want: &[u8]) -> bool {
     let mut cut = 0;
-    for piece in Pieces::new(text) {
+    for piece in pieces(source) {
         let first = letter(piece.class);
         for i in piece.span.start..piece.span.end {
             let shown = if i == piece.span.start {
@@ -42,7 +47,7 @@ fn is_cut(text: &[u8], want: &[u8]) -> bool
 }
 
 #[test]
-fn cuts_short_texts(rt: HostRuntime) {
+fn cuts_short_texts(rt: HostRuntime) -> Result<(), Fail> {
     for (text, want) in [
         ("", ""),
         ("int x1 = 0x1p-3;", "NnnWNnWBWDdddddB"),
@@ -65,13 +70,13 @@ fn cuts_short_texts(rt: HostRuntime) {
         ("/*a\n", "Kkkk"),
         ("é_", "BBN"),
     ] {
-        let bytes = text.as_bytes();
-        assert!(rt; bytes.len() <= 1_000_000);
+        let source = Source::new(rt.alloc(), text.as_bytes().to_vec(rt.alloc())?)?;
         assert!(rt;
-            is_cut(bytes, want.as_bytes()),
+            is_cut(&source, want.as_bytes()),
             "{text:?} is not cut as {want}"
         );
     }
+    Ok(())
 }
 
 #[test]

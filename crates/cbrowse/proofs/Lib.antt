@@ -1,0 +1,15 @@
+pub mod Puts
+pub mod Words
+pub mod Streams
+pub mod Patterns
+pub mod Distinct
+pub mod Found
+pub mod Unindented
+pub mod Loads
+pub mod Local
+pub mod Placed
+pub mod Valid
+pub mod Moves
+pub mod Rounds
+pub mod Outcomes
+pub mod Round

@@ -1,0 +1,13 @@
+use Rattle.std.proofs.Common.{ap}
+use Rattle.cbrowse.specs.Said.{command_of}
+use Rattle.cbrowse.proofs.Outcomes.{Does-query, Does-change, Does-undo}
+use Rattle.cbrowse.proofs.session.state.Session.command.Goals as goal
+
+pub returns-in-Query : goal.returns-in-Query
+returns-in-Query g c = Does-query _ _ _ _ _ _ _ (ap command_of c.in-Query.is) c.query.ensures
+
+pub returns-in-Change : goal.returns-in-Change
+returns-in-Change g c = Does-change _ _ _ _ _ _ _ _ _ c.self.view_is (ap command_of c.in-Change.is) c.change-done.ensures c.put_move.ensures
+
+pub returns-in-Undo : goal.returns-in-Undo
+returns-in-Undo g c = Does-undo _ _ _ _ _ _ _ _ c.self.view_is (ap command_of c.in-Undo.is) c.undo-done.ensures c.put_move-in-Undo.ensures

@@ -1,0 +1,16 @@
+pub mod Refusals
+pub mod World
+pub mod Timeline
+pub mod Answer
+pub mod Meant
+pub mod Devices
+pub mod Inputs
+pub mod Said
+pub mod Output
+pub mod Writing
+pub mod Reading
+pub mod Serving
+pub mod Program
+pub mod Laws
+pub mod Jobs
+pub mod Collects

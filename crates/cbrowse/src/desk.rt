@@ -1,0 +1,20 @@
+//! The files of a session, their past, and what is asked of them.
+//!
+//! A desk holds a timeline of worlds. A change moves it to the world that the step gives, undo moves it back, and
+//! every answer is read from the present world. The layer above uses the contracts of [`Desk`].
+mod change;
+mod files;
+mod laws;
+mod name;
+mod refusal;
+mod rows;
+mod snapshot;
+mod state;
+#[cfg(test)]
+mod tests;
+
+pub use change::Change;
+pub use files::Files;
+pub use refusal::Refusal;
+pub use rows::{Field, RefRow, RowList};
+pub use state::Desk;

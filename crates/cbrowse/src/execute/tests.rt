@@ -1,0 +1,83 @@
+//! The program on words and bytes of memory: its output, its exit status, and what it says on standard error.
+use super::execute;
+use crate::session::{Feed, Sink};
+use std::alloc::AllocError;
+
+/// The output, the status and the text on standard error of `cbrowse` and these words over this input.
+fn program(
+    rt: &HostRuntime,
+    words: &[&str],
+    input: &[u8],
+) -> Result<(Vec<u8>, u8, Vec<u8>), AllocError> {
+    let mut all = Vec::new(rt.alloc());
+    all.push(String::from_str(rt.alloc(), "cbrowse")?)?;
+    for word in words {
+        all.push(String::from_str(rt.alloc(), word)?)?;
+    }
+    let mut written = Vec::new(rt.alloc());
+    let mut said = Vec::new(rt.alloc());
+    let mut feed = Feed::new(input);
+    let mut out = Sink::new(&mut written);
+    let mut errors = Sink::new(&mut said);
+    let status = execute(rt, "", all.as_slice(), &mut feed, &mut out, &mut errors);
+    Ok((written, status, said))
+}
+
+#[test]
+fn sessions(rt: HostRuntime) -> Result<(), AllocError> {
+    let cases = [
+        (b"q\n".as_slice(), b">> ".as_slice(), 0u8, b"".as_slice()),
+        (b"".as_slice(), b">> ".as_slice(), 0u8, b"".as_slice()),
+        (
+            b":load t.c 50\n01234567890123456789".as_slice(),
+            b">> cscope: refused: input ended\n".as_slice(),
+            1u8,
+            b"cbrowse: input ended\n".as_slice(),
+        ),
+    ];
+    for (input, output, end, text) in cases {
+        let (written, status, said) = program(&rt, &["line"], input)?;
+        assert_eq!(rt; written.as_slice(), output);
+        assert_eq!(rt; status, end);
+        assert_eq!(rt; said.as_slice(), text);
+    }
+    Ok(())
+}
+
+#[test]
+fn a_line_of_more_than_a_million_bytes(rt: HostRuntime) -> Result<(), AllocError> {
+    let mut input = Vec::new(rt.alloc());
+    input.resize(1_000_001, b'a')?;
+    let (written, status, said) = program(&rt, &["line"], input.as_slice())?;
+    assert_eq!(rt; written.as_slice(), b">> ".as_slice());
+    assert_eq!(rt; status, 1);
+    assert_eq!(rt;
+        said.as_slice(),
+        b"cbrowse: line over 1000000 bytes\n".as_slice()
+    );
+    Ok(())
+}
+
+#[test]
+fn words_without_a_job(rt: HostRuntime) -> Result<(), AllocError> {
+    let cases = [
+        (["--help"].as_slice(), 0u8, b"Browses C sources".as_slice()),
+        (
+            ["find"].as_slice(),
+            2u8,
+            b"error: unrecognized subcommand 'find'".as_slice(),
+        ),
+        (
+            [].as_slice(),
+            2u8,
+            b"error: 'cbrowse' requires a subcommand".as_slice(),
+        ),
+    ];
+    for (words, end, start) in cases {
+        let (written, status, said) = program(&rt, words, b":undo\n")?;
+        assert!(rt; written.is_empty());
+        assert_eq!(rt; status, end);
+        assert!(rt; said.starts_with(start));
+    }
+    Ok(())
+}

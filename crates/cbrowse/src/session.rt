@@ -1,0 +1,24 @@
+//! Commands and replies.
+//!
+//! A session reads commands from a feed and writes replies to a sink. The layer above uses the contract of
+//! [`Session::serve`]: what is written is the output of a run over the bytes of the input.
+mod block;
+mod feed;
+mod input;
+mod intake;
+mod limits;
+mod line;
+mod reply;
+mod sink;
+mod state;
+
+pub use feed::{Feed, ReadFault};
+pub use input::{Command, Ended, Fault, Going, Input};
+pub use intake::{Intake, OutOfMemory};
+pub use limits::Limits;
+pub use reply::{put_all, put_row};
+pub use sink::{Sink, WriteFault};
+pub use state::Session;
+
+#[cfg(test)]
+mod tests;
