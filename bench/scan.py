@@ -1,0 +1,240 @@
+#!/usr/bin/env python3
+"""How fast cbrowse scans: megabytes a second, beside ctags and cscope.
+
+A person runs this by hand; no gate does, and nothing here passes or fails by its time.
+
+    make && bench/scan.py
+    bench/scan.py --cbrowse PATH      or: CBROWSE=PATH bench/scan.py
+
+What is counted. `:load` takes the bytes over and finds where the lines begin, but does not scan; each query scans every
+loaded file afresh. So a session that loads one file and then asks `1NoSuchName` N times scans that file N times. Taken
+away is the time of a session that loads the same bytes, undoes the load and asks the same N times of no file: start,
+reading, prompts and replies. What is left are N scans: all lists of facts, the look through the definitions for the
+name, and the freeing. N is 10 MB / size. (Should queries come to be answered from kept facts, this counts no scan.)
+
+`ctags -x` and `cscope -b -k` do their whole work once on the file of 1 MB, with printing or writing what they found;
+their time on an empty file is taken away. They look for other things than cbrowse does, so "times" says an order of
+magnitude and no more. Where one is missing its columns are left out; where one fails on an input the table says so.
+
+All times are processor time (user and system) of the program, on one core where the system lets a process choose one,
+the best of several runs. Other work on the machine still makes them longer: run it twice, and on an idle machine.
+
+Inputs, made anew and the same in each run, of at most 10,000, 100,000 and 1,000,000 bytes (the most that a file may
+have), cut at the end of a line: ordinary code with includes, macros, typedefs, comments, strings and functions; one `{`
+after another; names; `#define` lines; CR LF alone; a comment that is never closed.
+
+Columns: MB/s of cbrowse; time per byte as a multiple of that at 10 KB (1.0 is linear); at 1 MB the MB/s of ctags and of
+cscope, each with the MB/s of cbrowse as a multiple of it.
+"""
+
+import argparse
+import os
+import pathlib
+import random
+import resource
+import shutil
+import subprocess
+import tempfile
+
+SIZES = [("10 KB", 10_000), ("100 KB", 100_000), ("1 MB", 1_000_000)]
+SCANNED = 10_000_000  # bytes scanned by one session
+RUNS = 15
+PATIENCE = 120  # seconds until a run is given up
+
+QUERY = b"1NoSuchName\n"
+
+
+def code():
+    """Lines of a plausible C program, without end."""
+    rng = random.Random(1)
+    words = "node list size next head table entry buffer count flags state index value key name data offset limit".split()
+    types = ["int", "char *", "unsigned long ", "size_t ", "const char *", "struct node *", "void *"]
+
+    def name():
+        return rng.choice(words) + "_" + rng.choice(words)
+
+    def expression():
+        return rng.choice([
+            f"{name()} + {rng.randrange(4096)}",
+            f"{name()}->{rng.choice(words)}",
+            f"{name()}({name()}, {rng.choice(words)}[i])",
+            f"0x{rng.randrange(65536):04x}u & ~{name()}",
+            f"{name()} == '\\n' ? {name()} : {rng.randrange(99)}",
+            f"({rng.choice(types).strip()}) {name()}(&{name()})",
+        ])
+
+    def statement():
+        return rng.choice([
+            lambda: [f"\t{name()} = {expression()};"],
+            lambda: [f"\tif ({expression()} < {name()})", f"\t\treturn {expression()};"],
+            lambda: [f"\tfor (i = 0; i < {name()}; i++) {{", f"\t\t{name()}[i] += {expression()};", "\t}"],
+            lambda: [f"\twhile ({name()} != NULL)", f"\t\t{name()} = {name()}->next; // {name()}"],
+            lambda: [f'\tfprintf(stderr, "%s: no {name()} in \\"%d\\"\\n", {name()}, {name()});'],
+            lambda: [f"\t/* The {name()} is {name()} here. */"],
+            lambda: [""],
+        ])()
+
+    number = 0
+    while True:
+        yield f'#include "{name()}.h"'
+        yield f"#define {name().upper()}_{number} {rng.randrange(1024)}"
+        yield f"#define {name().upper()}(a, b) \\"
+        yield f"\t{name()}((a), (b) + {name().upper()}_{number})"
+        yield f"typedef struct {name()}_{number} {{"
+        for _ in range(rng.randrange(2, 7)):
+            yield f"\t{rng.choice(types)}{name()};"
+        yield f"}} {name()}_{number}_t;"
+        yield ""
+        for _ in range(5):
+            number += 1
+            yield "/*"
+            yield f" * Gives the {name()} of a {rng.choice(words)}, or {name()} where there is none;"
+            yield f" * the caller's {name()} is left as it was."
+            yield " */"
+            yield rng.choice(["static ", ""]) + rng.choice(types).strip()
+            yield f"{name()}_{number}({rng.choice(types)}{rng.choice(words)}, {rng.choice(types)}{name()})"
+            yield "{"
+            yield f"\tint i, {name()} = {rng.randrange(100)};"
+            for _ in range(rng.randrange(3, 15)):
+                yield from statement()
+            yield f"\treturn {expression()};"
+            yield "}"
+            yield ""
+
+
+def names():
+    while True:
+        yield "alpha b c_1 delta_of_the_fourth e list_entry x table size_of_it node"
+
+
+def defines():
+    number = 0
+    while True:
+        yield f"#define NAME_{number} {number}"
+        number += 1
+
+
+def comment():
+    yield "/*"
+    while True:
+        yield " * A line of a comment * that nobody / has closed, with a name_of_something in it."
+
+
+def lines(source, size):
+    """As many whole lines as the size allows."""
+    text = bytearray()
+    for line in source:
+        end = len(text) + len(line) + 1
+        if end > size:
+            return bytes(text)
+        text += line.encode() + b"\n"
+
+
+INPUTS = [
+    ("ordinary code", lambda size: lines(code(), size)),
+    ("{ only", lambda size: b"{" * size),
+    ("names only", lambda size: lines(names(), size)),
+    ("#define only", lambda size: lines(defines(), size)),
+    ("CR LF only", lambda size: b"\r\n" * (size // 2)),
+    ("unclosed comment", lambda size: lines(comment(), size)),
+]
+
+
+def processor_time(words, folder, stdin=b""):
+    """The seconds that a program takes."""
+    fed = folder / "stdin"
+    fed.write_bytes(stdin)
+    with open(fed, "rb") as feed:
+        before = resource.getrusage(resource.RUSAGE_CHILDREN)
+        subprocess.run(words, cwd=folder, stdin=feed, stdout=subprocess.DEVNULL, stderr=subprocess.DEVNULL,
+                       timeout=PATIENCE, check=True)
+        after = resource.getrusage(resource.RUSAGE_CHILDREN)
+    return after.ru_utime - before.ru_utime + after.ru_stime - before.ru_stime
+
+
+def speed(size, with_work, without):
+    """MB/s from the best runs with and without the work; both are functions that run once and give their seconds."""
+    runs = [(with_work(), without()) for _ in range(RUNS)]
+    seconds = min(run[0] for run in runs) - min(run[1] for run in runs)
+    return size / max(seconds, 1e-6) / 1e6
+
+
+def cbrowse_speed(cbrowse, folder, text):
+    times = SCANNED // len(text)
+    load = b":load f.c %d\n%s" % (len(text), text)
+    done, nothing = b">> cscope: done\n", b">> cscope: 0 lines\n"
+    words = [cbrowse, "line"]
+    scanning, idle = load + QUERY * times, load + b":undo\n" + QUERY * times
+    replies = subprocess.run(words, input=scanning, stdout=subprocess.PIPE, timeout=PATIENCE, check=True).stdout
+    if replies != done + nothing * times + b">> ":
+        raise SystemExit(f"{cbrowse}: other replies than {nothing.decode().strip()}: {replies[:200]!r}")
+    return speed(len(text) * times, lambda: processor_time(words, folder, scanning),
+                 lambda: processor_time(words, folder, idle))
+
+
+def other_speed(words, folder, text):
+    """The speed of a program on a file; what cscope has built before is taken away, since it would use it again."""
+    (folder / "text.c").write_bytes(text)
+    (folder / "empty.c").write_bytes(b"")
+
+    def run(file):
+        (folder / "cscope.out").unlink(missing_ok=True)
+        return processor_time(words + [file], folder)
+
+    return speed(len(text), lambda: run("text.c"), lambda: run("empty.c"))
+
+
+def others():
+    """The other programs that are installed, by name."""
+    found = {}
+    for name, words, flag, says in [("ctags", ["ctags", "--options=NONE", "-x"], "--version", "Universal Ctags"),
+                                    ("cscope", ["cscope", "-b", "-k"], "-V", "version")]:
+        if shutil.which(name):
+            asked = subprocess.run([name, flag], stdin=subprocess.DEVNULL, stdout=subprocess.PIPE,
+                                   stderr=subprocess.STDOUT, text=True).stdout
+            if says in asked:
+                print(asked.splitlines()[0])
+                found[name] = words
+                continue
+        print(f"{name}: not installed" + (" (universal-ctags is asked for)" if name == "ctags" else ""))
+    return found
+
+
+def main():
+    root = pathlib.Path(__file__).resolve().parent.parent
+    options = argparse.ArgumentParser(description=__doc__, formatter_class=argparse.RawDescriptionHelpFormatter)
+    options.add_argument("--cbrowse", default=os.environ.get("CBROWSE", root / "bin" / "cbrowse"), help="the program")
+    cbrowse = pathlib.Path(options.parse_args().cbrowse).resolve()
+    if not cbrowse.is_file():
+        raise SystemExit(f"{cbrowse}: there is no such program; make builds it")
+    if hasattr(os, "sched_setaffinity"):
+        os.sched_setaffinity(0, {max(os.sched_getaffinity(0))})
+    print("load average %.1f, %d cores" % (os.getloadavg()[0], os.cpu_count()))
+    found = others()
+    row = "{:<18}{:>8}{:>12}{:>12}" + "{:>12}{:>8}" * len(found)
+    print(row.format("input", "size", "cbrowse", "per byte", *(word for name in found for word in (name, "times"))))
+    with tempfile.TemporaryDirectory() as place:
+        folder = pathlib.Path(place)
+        for kind, make in INPUTS:
+            first = None
+            for label, size in SIZES:
+                text = make(size)
+                own = cbrowse_speed(str(cbrowse), folder, text)
+                first = first or own
+                cells = [kind, label, f"{own:.1f}", f"{first / own:.2f}"]
+                for words in found.values():
+                    if size != SIZES[-1][1]:
+                        cells += ["", ""]
+                        continue
+                    try:
+                        other = other_speed(words, folder, text)
+                        cells += [f"{other:.1f}", f"{own / other:.2f}"]
+                    except subprocess.TimeoutExpired:
+                        cells += ["too slow", ""]
+                    except subprocess.CalledProcessError as error:
+                        cells += ["crashes" if error.returncode < 0 else "fails", ""]
+                print(row.format(*cells).rstrip(), flush=True)
+
+
+if __name__ == "__main__":
+    main()
