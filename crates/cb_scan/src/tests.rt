@@ -1,9 +1,17 @@
 //! Tests on short texts, with their pieces worked out by hand.
+mod calls;
+mod files;
 mod functions;
+mod includes;
 mod lines;
+mod macros;
 mod memory;
 mod meter;
 mod names;
+mod scopes;
+mod shown;
+mod typedefs;
+mod uses;
 
 use crate::cut::pieces;
 use crate::lined::lined_pieces;
