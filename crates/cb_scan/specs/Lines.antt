@@ -7,7 +7,7 @@ use Rattle.bstr.specs.Text.{lines_of, without_terminator}
 abbrev pub lines : List ℕ → List (List ℕ)
 lines text = map without_terminator (lines_of text)
 
--- the shown line n, counted from 1; no bytes where there is none
+-- the shown line n, counted from 1; no bytes past the last
 abbrev pub line_text : List ℕ → ℕ → List ℕ
 line_text text n = slice_index_or (lines text) (n - 1) []
 

@@ -44,6 +44,20 @@ fn one_of_each(rt: HostRuntime) {
 }
 
 #[test]
+fn finds_a_macro(rt: HostRuntime) {
+    let (written, ended) = run(
+        rt.alloc(),
+        &WIDE,
+        b":load a.c 175\n#include \"a.h\"\n#define TWICE(x) ((x) + add(x, 0))\ntypedef unsigned long word;\nstatic int add(int a, int b) {\n\treturn a + b;\n}\nint main(void) {\n\treturn add(1, 2) / TWICE(3);\n}\n1TWICE\n",
+    );
+    assert_eq!(rt;
+        written.as_slice(),
+        b">> cscope: done\n>> cscope: 1 lines\na.c TWICE 2 #define TWICE(x) ((x) + add(x, 0))\n>> ".as_slice()
+    );
+    assert_eq!(rt; ended, Ended::Done);
+}
+
+#[test]
 fn lines_refused_by_reading(rt: HostRuntime) -> Result<(), Fail> {
     let mut input = Vec::from_slice(rt.alloc(), b"6x\n9\nzzz\n\n")?;
     let long = many(rt.alloc(), 4_097, b"\nq\n:undo\n")?;
