@@ -1,12 +1,11 @@
-use Rattle.std.proofs.Common.{◌∙◌, sym, refl, arith, length-drop}
+use Rattle.std.proofs.Common.{◌∙◌, sym, arith, length-drop}
 use Rattle.std.proofs.lemmas.List.{take_rest}
-use Rattle.cbrowse.proofs.Puts.{Puts-fault, AppendsFront-stopped, Appends-next}
-use Rattle.cbrowse.specs.declared.session.input.Fault.TheVariants.{Write}
-use Rattle.cbrowse.proofs.session.reply.put.Goals as goal
+use Rattle.cb_tags.proofs.Fronts.{Puts-fault, AppendsFront-stopped, Appends-next}
+use Rattle.cb_tags.proofs.text.put_text.Goals as goal
 
 pub returns-in_err-at : goal.returns-in_err-at
 returns-in_err-at g c =
-    Puts-fault _ _ _ Write _ c.from_residual.ensures.1 refl c.in_err-at.ensures.0
+    Puts-fault _ _ _ _ _ c.from_residual.ensures.1 c.in_err-at.ensures.0
     (AppendsFront-stopped _ _ _ _ c.loop-at.at c.loop-at.invariant.written c.in_err-at.ensures.1)
 
 pub loop-at-preserved : goal.loop-at-preserved

@@ -1,6 +1,6 @@
 //! Output that remembers a failure.
 ghost use Rattle.std.specs.Prelude.{◌≡◌, ◌≢◌, [], false};
-ghost use Rattle.cbrowse.specs.Devices.{TakesBytes, Flushes};
+ghost use Rattle.cb_tags.specs.Writers.{TakesBytes, Flushes};
 
 use std::io::Write;
 use std::marker::Model;
@@ -17,7 +17,7 @@ pub struct Sink<W: Write> {
 }
 
 impl<W: Write> Model for Sink<W> {
-    ghost use Rattle.cbrowse.specs.Devices.{Writer};
+    ghost use Rattle.cb_tags.specs.Writers.{Writer};
 
     ghost Value = { Writer };
 

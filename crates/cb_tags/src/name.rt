@@ -1,7 +1,7 @@
 //! Which names a file may have.
 ghost use Rattle.std.specs.Prelude.{◌≡◌, ◌&&◌, ◌||◌, nat_le, nat_eq, codes};
 ghost use Rattle.std.specs.List.{list_all, ends_with};
-ghost use Rattle.cbrowse.specs.World.{is_file_name};
+ghost use Rattle.cb_tags.specs.Names.{is_file_name};
 
 /// Whether a file may have this name: 2 to 255 printable bytes without a blank that end in `.c` or `.h`.
 pub fn is_file_name(name: &[u8]) -> bool

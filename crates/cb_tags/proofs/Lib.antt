@@ -1,0 +1,5 @@
+pub mod Anchors
+pub mod Escapes
+pub mod Fronts
+pub mod ItemLemmas
+pub mod Places
