@@ -6,6 +6,7 @@
 #![tactic(auto)]
 
 mod address;
+pub mod laws;
 mod name;
 mod row;
 mod sink;
