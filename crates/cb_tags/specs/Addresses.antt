@@ -4,11 +4,11 @@ use Rattle.std.specs.List.{AllByRecursion, flat_map, range_with_len}
 use Rattle.std.specs.Str.{bytes_eq}
 use Rattle.cb_scan.specs.Lines.{lines, line_text}
 
--- the bytes that an address escapes: `/` and `\`
+-- the bytes that an address escapes (POSIX ctags): `/` and `\`
 abbrev pub is_escaped : ℕ → Bool
 is_escaped b = b == 47 || b == 92
 
--- a byte as an address has it
+-- a byte as an address has it (POSIX ctags)
 abbrev pub escaped : ℕ → List ℕ
 escaped b = if is_escaped b then 92 ∷ b ∷ [] else b ∷ []
 
@@ -26,7 +26,7 @@ pub data Items : List ℕ → List ℕ → Type 0 where
   escaped_item : {a b : ℕ} {items text : List ℕ} → a ≡ 92 → (b ≡ 47) ⊎ (b ≡ 92) → Items items text → Items (a ∷ b ∷ items) (b ∷ text)
   own_item : {b : ℕ} {items text : List ℕ} → b ≢ 47 → b ≢ 92 → b ≢ 10 → Items items text → Items (b ∷ items) (b ∷ text)
 
--- the bytes are an address, whole, and this is its text: `/^`, items, `$/`
+-- the bytes are an address, whole, and this is its text (POSIX ctags): `/^`, items, `$/`
 abbrev pub IsAddress : List ℕ → List ℕ → Type 0
 IsAddress bytes text = (items : List ℕ) × (bytes ≡ codes "/^" ++ items ++ codes "$/") × Items items text
 

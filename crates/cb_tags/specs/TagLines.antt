@@ -6,7 +6,7 @@ use Rattle.cb_tags.specs.declared.row.TagRow.{TagRow}
 use Rattle.cb_tags.specs.Addresses.{address}
 use Rattle.cb_tags.specs.TagNames.{tag_name}
 
--- a definition as a tags file has it: its name, its file, its line and the text of that line, its kind, and whether it is `static`
+-- a definition as a tags file has it (tags(5)): its name, its file, its line and the text of that line, its kind, and whether it is `static`
 pub record Tag : Type 0 where
   pub name : List ℕ
   pub file : List ℕ
@@ -29,7 +29,7 @@ kind_letter Function = codes "f"
 kind_letter Macro = codes "d"
 kind_letter Typedef = codes "t"
 
--- a function
+-- the kind of definition that may be seen by its file alone (this project's profile): a function
 abbrev pub is_function : Kind → Bool
 is_function Function = true
 is_function Macro = false

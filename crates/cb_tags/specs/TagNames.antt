@@ -3,11 +3,11 @@ use Rattle.std.specs.Prelude.{ℕ, ◌-◌, ◌==◌, nat_eq, List, ◌++◌, le
 use Rattle.std.specs.List.{after_last, ends_with}
 use Rattle.std.specs.Str.{bytes_eq}
 
--- the name of a file without all up to its last `/`
+-- the name of a file without all up to its last `/` (POSIX ctags)
 abbrev pub base_name : List ℕ → List ℕ
 base_name file = after_last (λ b. b == 47) file
 
--- without one `.c` at the end
+-- without one `.c` at the end (POSIX ctags)
 abbrev pub without_c : List ℕ → List ℕ
 without_c name = if ends_with nat_eq name (codes ".c") then take (length name - 2) name else name
 

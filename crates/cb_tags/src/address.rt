@@ -1,13 +1,47 @@
-//! Addresses that are read, and the lines that they find.
+//! Addresses: how they are written and read, and the lines that they find.
 ghost use Rattle.std.specs.Prelude.{◌≡◌, ◌≢◌, ◌≤◌, ◌<◌, ◌++◌, ℕ, false, List, length, codes, MatchOption};
 ghost use Rattle.std.specs.Str.{bytes_eq};
 ghost use Rattle.cb_scan.specs.Lines.{lines, line_text};
-ghost use Rattle.cb_tags.specs.Addresses.{IsAddress, finds};
+ghost use Rattle.cb_tags.specs.Addresses.{is_escaped, escape, address, IsAddress, finds};
+ghost use Rattle.cb_tags.specs.Writing.{Puts};
 ghost use Rattle.cb_tags.specs.steps.Items.{are_items, unescaped};
 
-use crate::row::is_escaped;
+use crate::sink::{Sink, WriteFault};
+use crate::text::{put_text, put_texts};
 use cb_scan::Source;
+use std::io::Write;
 use std::marker::Model;
+
+/// Whether an address has a `\` before this byte.
+fn is_escaped(byte: u8) -> bool
+    ensures { result ≡ is_escaped byte }
+{
+    byte == b'/' || byte == b'\\'
+}
+
+/// Writes a text with `\` before each `/` and each `\`, in pieces that each begin with such a byte.
+fn put_escaped<W: Write>(out: &mut Sink<W>, text: &[u8]) -> Result<(), WriteFault>
+    ensures { Puts out.old out.new result (escape text.now) }
+{
+    let mut start = 0;
+    for (i, byte) in text.iter().enumerate() {
+        if is_escaped(*byte) {
+            put_texts(out, &[&text[start..i], b"\\"])?;
+            start = i;
+        }
+    }
+    put_text(out, &text[start..])
+}
+
+/// Writes the address of a line that reads so.
+#[tactic(auto, unfolding(crate::specs::Addresses::address))]
+pub(crate) fn put_address<W: Write>(out: &mut Sink<W>, text: &[u8]) -> Result<(), WriteFault>
+    ensures { Puts out.old out.new result (address text.now) }
+{
+    put_text(out, b"/^")?;
+    put_escaped(out, text)?;
+    put_text(out, b"$/")
+}
 
 /// An address, whose text is a whole line.
 #[derive(Debug, Drop)]

@@ -1,7 +1,7 @@
 //! The lines of a tags file and of a listing.
 ghost use Rattle.std.specs.Prelude.{◌≡◌, ◌++◌};
 ghost use Rattle.std.specs.List.{flat_map};
-ghost use Rattle.cb_tags.specs.Addresses.{is_escaped, escape, address};
+ghost use Rattle.cb_tags.specs.Addresses.{address};
 ghost use Rattle.cb_tags.specs.TagLines.{
   tag_of,
   plain_line,
@@ -13,9 +13,10 @@ ghost use Rattle.cb_tags.specs.TagLines.{
 };
 ghost use Rattle.cb_tags.specs.Writing.{Puts};
 
+use crate::address::put_address;
 use crate::sink::{Sink, WriteFault};
 use crate::tag_name::tag_name;
-use crate::text::{put_text, put_texts};
+use crate::text::put_texts;
 use cb_scan::Kind;
 use itoa::Buffer;
 use std::io::Write;
@@ -30,37 +31,6 @@ pub struct TagRow<'a> {
     pub text: &'a [u8],
     pub kind: Kind,
     pub local: bool,
-}
-
-/// Whether an address has a `\` before this byte.
-pub(crate) fn is_escaped(byte: u8) -> bool
-    ensures { result ≡ is_escaped byte }
-{
-    byte == b'/' || byte == b'\\'
-}
-
-/// Writes a text with `\` before each `/` and each `\`, in pieces that each begin with such a byte.
-fn put_escaped<W: Write>(out: &mut Sink<W>, text: &[u8]) -> Result<(), WriteFault>
-    ensures { Puts out.old out.new result (escape text.now) }
-{
-    let mut start = 0;
-    for (i, byte) in text.iter().enumerate() {
-        if is_escaped(*byte) {
-            put_texts(out, &[&text[start..i], b"\\"])?;
-            start = i;
-        }
-    }
-    put_text(out, &text[start..])
-}
-
-/// Writes the address of a line that reads so.
-#[tactic(auto, unfolding(crate::specs::Addresses::address))]
-fn put_address<W: Write>(out: &mut Sink<W>, text: &[u8]) -> Result<(), WriteFault>
-    ensures { Puts out.old out.new result (address text.now) }
-{
-    put_text(out, b"/^")?;
-    put_escaped(out, text)?;
-    put_text(out, b"$/")
 }
 
 /// Writes the address of a line that reads so, between other texts.

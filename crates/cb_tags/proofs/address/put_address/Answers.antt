@@ -1,6 +1,6 @@
 use Rattle.cb_tags.specs.Addresses.{address}
 use Rattle.cb_tags.proofs.Fronts.{Puts-fault, Puts-after, AppendsFront-more, AppendsFront-after}
-use Rattle.cb_tags.proofs.row.put_address.Goals as goal
+use Rattle.cb_tags.proofs.address.put_address.Goals as goal
 
 pub returns-in_err-put_text : goal.returns-in_err-put_text
 unfolding address

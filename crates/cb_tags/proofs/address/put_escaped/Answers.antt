@@ -3,8 +3,8 @@ use Rattle.std.proofs.KnownBytes.{Appends-nil}
 use Rattle.cb_tags.specs.Addresses.{escape}
 use Rattle.cb_tags.proofs.Escapes.{Owes, Owes-own, Owes-escaped, Owes-stopped, Owes-done}
 use Rattle.cb_tags.proofs.Fronts.{Puts-fault}
-use Rattle.cb_tags.proofs.row.put_escaped.Goals as goal
-use Rattle.cb_tags.proofs.row.put_escaped.Goals.{then-is_escaped+in_ok-put_texts, else-is_escaped}
+use Rattle.cb_tags.proofs.address.put_escaped.Goals as goal
+use Rattle.cb_tags.proofs.address.put_escaped.Goals.{then-is_escaped+in_ok-put_texts, else-is_escaped}
 
 pub returns-in_err-put_texts : goal.returns-in_err-put_texts
 returns-in_err-put_texts g c =

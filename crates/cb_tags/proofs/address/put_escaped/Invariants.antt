@@ -1,6 +1,6 @@
 use Rattle.std.proofs.Common.{◌≡◌, ◌≤◌}
 use Rattle.cb_tags.proofs.Escapes.{Owes}
-use Rattle.cb_tags.proofs.row.put_escaped.Given as goal
+use Rattle.cb_tags.proofs.address.put_escaped.Given as goal
 
 abbrev pub invariant-loop-i : goal.invariant-loop-i
 invariant-loop-i g l = record {
