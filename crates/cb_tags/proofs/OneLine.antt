@@ -1,11 +1,11 @@
 -- A shown line has no line feed.
-use Rattle.std.proofs.Common.{◌≡◌, ◌≢◌, ◌∙◌, ℕ, zero, suc, ◌-◌, ◌<◌, cond, ◌==◌, ◌&&◌, List, [], ◌∷◌, length, take, map, sym, ap, subst, ⊎_elim, arith}
+use Rattle.std.proofs.Common.{◌≡◌, ◌≢◌, ◌∙◌, ℕ, zero, suc, ◌-◌, ◌<◌, ◌==◌, ◌&&◌, List, [], ◌∷◌, length, take, map, sym, ap, subst, ⊎_elim, arith}
 use Rattle.std.specs.Prelude.{nat_lt, slice_index}
 use Rattle.std.specs.List.{AllByRecursion, slice_index_or}
 use Rattle.std.proofs.lemmas.Bool.{cases_Bool, false≢true, cond-true, cond-false, eq-eqb, and_from}
 use Rattle.std.proofs.lemmas.Bool.Decides.{nat_tests}
 use Rattle.bstr.specs.Text.{line_len, lines_from, lines_of, no_cr, without_terminator}
-use Rattle.cb_scan.specs.Lines.{lines, line_text}
+use Rattle.cb_scan.specs.Lines.{line_text}
 use Rattle.cb_tags.specs.Addresses.{IsOneLine}
 
 -- no byte but the last is a line feed
