@@ -4,7 +4,8 @@ use Rattle.std.proofs.Common.{Ok, Err, IsOk, Option, Some, None, nat_le, nat_lt,
 use Rattle.std.proofs.lemmas.List.{reverse-append, length-reverse}
 use Rattle.cbrowse.specs.declared.desk.refusal.Refusal.{Refusal}
 use Rattle.cbrowse.specs.declared.desk.refusal.Refusal.TheVariants.{BadName, FileExists, TooLarge, TooManyFiles, HistoryFull}
-use Rattle.cbrowse.specs.World.{World, load, step, has_file, is_file_name, load_refusal, with_file}
+use Rattle.cb_tags.specs.Names.{is_file_name}
+use Rattle.cbrowse.specs.World.{World, load, step, has_file, load_refusal, with_file}
 use Rattle.cbrowse.specs.Timeline.{Timeline, changed, Follows}
 
 -- the timeline of a past whose newest world is the last

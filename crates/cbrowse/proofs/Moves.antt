@@ -3,7 +3,8 @@ use Rattle.std.proofs.Common.{◌≡◌, ap, refl, subst, ℕ, ◌≤◌, ◌<�
 use Rattle.std.specs.List.{AllByRecursion}
 use Rattle.cbrowse.specs.declared.desk.refusal.Refusal.{Refusal}
 use Rattle.cbrowse.specs.declared.desk.refusal.Refusal.TheVariants.{BadName, FileExists, TooLarge, TooManyFiles, HistoryFull}
-use Rattle.cbrowse.specs.World.{World, File, Step, load, step, has_file, is_file_name, unless_refused, with_file, IsValidWorld}
+use Rattle.cb_tags.specs.Names.{is_file_name}
+use Rattle.cbrowse.specs.World.{World, File, Step, load, step, has_file, unless_refused, with_file, IsValidWorld}
 use Rattle.cbrowse.specs.Timeline.{Timeline, IsValidTimeline, advanced, changed, back_to, undone}
 use Rattle.cbrowse.specs.Laws.{UndoTakesBack, StepKeepsValid}
 use Rattle.cbrowse.proofs.Valid.{with_file-valid}

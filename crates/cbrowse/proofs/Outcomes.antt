@@ -8,7 +8,7 @@ use Rattle.cbrowse.specs.declared.session.input.Fault.{Fault}
 use Rattle.cbrowse.specs.Timeline.{Timeline, Follows, changed, undone}
 use Rattle.cbrowse.specs.World.{Step}
 use Rattle.cbrowse.specs.Answer.{answer}
-use Rattle.cbrowse.specs.Devices.{Writer}
+use Rattle.cb_tags.specs.Writers.{Writer}
 use Rattle.cbrowse.specs.Inputs.{Entry, query, change, undo, refused, nothing, quit}
 use Rattle.cbrowse.specs.Output.{moved, outcome, refused_line, done_line, answer_lines}
 use Rattle.cbrowse.specs.Writing.{Puts}

@@ -8,13 +8,14 @@ use Rattle.cbrowse.specs.declared.session.input.Ended.TheVariants.{Done, Cut, Fa
 use Rattle.cbrowse.specs.declared.session.input.Fault.{Fault as Reason}
 use Rattle.cbrowse.specs.declared.session.input.Fault.TheVariants.{Read, Write, Memory, LongLine, ManyLines}
 use Rattle.cbrowse.specs.Timeline.{Timeline}
-use Rattle.cbrowse.specs.Devices.{Reader, Writer}
+use Rattle.cb_tags.specs.Writers.{Writer}
+use Rattle.cbrowse.specs.Devices.{Reader}
 use Rattle.cbrowse.specs.Inputs.{Entry, First, overlong, ending_of}
 use Rattle.cbrowse.specs.Output.{prompt, outcome, exchange}
-use Rattle.cbrowse.specs.Writing.{AppendsFront}
+use Rattle.cb_tags.specs.Writing.{AppendsFront}
 use Rattle.cbrowse.specs.Reading.{Reads}
 use Rattle.cbrowse.specs.Serving.{Does, Leaves, LeavesRound}
-use Rattle.cbrowse.proofs.Puts.{AppendsFront-more, AppendsFront-after, AppendsFront-whole}
+use Rattle.cb_tags.proofs.Fronts.{AppendsFront-more, AppendsFront-after, AppendsFront-whole}
 
 -- a whole text with the ending that is meant
 Leaves-whole : (text : List ℕ) (meant : Option Ended) (old new : Writer) (ended : Ended) → meant ≡ Some ended → Appends old.bytes new.bytes text → Leaves text meant old new ended

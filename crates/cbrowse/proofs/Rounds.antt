@@ -6,12 +6,13 @@ use Rattle.cbrowse.specs.declared.session.input.Ended.{Ended}
 use Rattle.cbrowse.specs.declared.session.input.Ended.TheVariants.{Done, Cut, Fault}
 use Rattle.cbrowse.specs.declared.session.input.Fault.TheVariants.{Read, Write, Memory, LongLine, ManyLines}
 use Rattle.cbrowse.specs.Timeline.{Timeline}
-use Rattle.cbrowse.specs.Devices.{Reader, Writer}
+use Rattle.cb_tags.specs.Writers.{Writer}
+use Rattle.cbrowse.specs.Devices.{Reader}
 use Rattle.cbrowse.specs.Inputs.{Entry, Inputs, first, inputs, ending_of, begin_with}
 use Rattle.cbrowse.specs.Output.{outcome, exchange, output}
-use Rattle.cbrowse.specs.Writing.{AppendsFront}
+use Rattle.cb_tags.specs.Writing.{AppendsFront}
 use Rattle.cbrowse.specs.Serving.{Leaves, LeavesRun, LeavesRound}
-use Rattle.cbrowse.proofs.Puts.{AppendsFront-more, AppendsFront-after, AppendsFront-whole}
+use Rattle.cb_tags.proofs.Fronts.{AppendsFront-more, AppendsFront-after, AppendsFront-whole}
 
 -- the inputs after an entry that doesn't end the run, and those of an entry that does
 inputs-on : (n limit : ℕ) (rest : List ℕ) → ending_of (first limit rest).entry ≡ None

@@ -8,7 +8,8 @@ use Rattle.std.proofs.lemmas.Cmp.{nat_list_cmp_total}
 use Rattle.std.proofs.lemmas.Map.Text.{is_eq-slice_cmp}
 use Rattle.std.proofs.lemmas.List.Filters.{length-filter_both}
 use Rattle.std.proofs.lemmas.List.Kept.{IsStrictlySortedBy-filter}
-use Rattle.cbrowse.specs.World.{File, World, with_file, has_file, is_file_name, IsValidWorld}
+use Rattle.cb_tags.specs.Names.{is_file_name}
+use Rattle.cbrowse.specs.World.{File, World, with_file, has_file, IsValidWorld}
 use Rattle.cbrowse.proofs.Placed.{by_name, before}
 
 all-filter : {X : Type 0} (P : X → Type 0) (p : X → Bool) (xs : List X) → AllByRecursion P xs → AllByRecursion P (filter p xs)

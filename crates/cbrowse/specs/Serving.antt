@@ -8,10 +8,12 @@ use Rattle.cbrowse.specs.declared.session.input.Ended.TheVariants.{Fault}
 use Rattle.cbrowse.specs.declared.session.input.Fault.TheVariants.{Read, Write, Memory}
 use Rattle.cbrowse.specs.declared.session.input.Fault.{Fault as Reason}
 use Rattle.cbrowse.specs.Timeline.{Timeline}
-use Rattle.cbrowse.specs.Devices.{Reader, Writer}
+use Rattle.cb_tags.specs.Writers.{Writer}
+use Rattle.cbrowse.specs.Devices.{Reader}
 use Rattle.cbrowse.specs.Inputs.{First, Inputs, ending_of}
 use Rattle.cbrowse.specs.Output.{Outcome, done_line, refused_line, outcome, exchange, output}
-use Rattle.cbrowse.specs.Writing.{AppendsFront, Puts}
+use Rattle.cb_tags.specs.Writing.{AppendsFront}
+use Rattle.cbrowse.specs.Writing.{Puts}
 
 -- the reply to a move of the timeline
 abbrev pub move_line : Result (Unit {0}) Refusal → List ℕ

@@ -1,10 +1,11 @@
 -- The files of a session at one moment, and what a change does to them.
-use Rattle.std.specs.Prelude.{ℕ, ◌≤◌, Bool, ◌&&◌, ◌||◌, nat_le, nat_lt, List, [], ◌∷◌, ◌++◌, length, Option, None, Some, Result, Ok, Err, if◌then◌else◌, filter, codes, IsTrue, nat_eq, not}
-use Rattle.std.specs.List.{list_all, list_any, AllByRecursion, ends_with}
+use Rattle.std.specs.Prelude.{ℕ, ◌≤◌, Bool, nat_le, nat_lt, List, [], ◌∷◌, ◌++◌, length, Option, None, Some, Result, Ok, Err, if◌then◌else◌, filter, IsTrue, not}
+use Rattle.std.specs.List.{list_any, AllByRecursion}
 use Rattle.std.specs.List.Sorted.{IsStrictlySortedBy}
 use Rattle.std.specs.Str.{bytes_eq}
 use Rattle.std.specs.Ordering.{nat_cmp, is_lt}
 use Rattle.std.specs.Cmp.Lexicographic.{slice_cmp}
+use Rattle.cb_tags.specs.Names.{is_file_name}
 use Rattle.cbrowse.specs.declared.desk.refusal.Refusal.{Refusal}
 use Rattle.cbrowse.specs.declared.desk.refusal.Refusal.TheVariants.{BadName, FileExists, TooLarge, TooManyFiles}
 
@@ -24,13 +25,6 @@ empty_world = record { files = [] }
 -- a change of the world
 pub data Step : Type 0 where
   load : (name bytes : List ℕ) → Step
-
--- 2 to 255 printable bytes without a blank that end in .c or .h
-abbrev pub is_file_name : List ℕ → Bool
-is_file_name name =
-    nat_le 2 (length name) && nat_le (length name) 255
-    && list_all (λ b. nat_le 0x21 b && nat_le b 0x7E) name
-    && (ends_with nat_eq name (codes ".c") || ends_with nat_eq name (codes ".h"))
 
 -- the world has a file of that name
 abbrev pub has_file : World → List ℕ → Bool

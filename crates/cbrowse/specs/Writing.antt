@@ -1,13 +1,10 @@
--- What writing a whole text does to a writer.
-use Rattle.std.specs.Prelude.{◌≡◌, ℕ, true, List, ◌++◌, Option, Result, Ok, Err}
+-- What writing a whole text does to a writer, where the session has a fault of its own.
+use Rattle.std.specs.Prelude.{◌≡◌, ℕ, true, List, Result, Ok, Err}
 use Rattle.std.specs.Io.KnownBytes.{Appends}
 use Rattle.cbrowse.specs.declared.session.input.Fault.{Fault}
 use Rattle.cbrowse.specs.declared.session.input.Fault.TheVariants.{Write}
-use Rattle.cbrowse.specs.Devices.{Writer}
-
--- known bytes grow by a front of the text
-abbrev pub AppendsFront : Option (List ℕ) → Option (List ℕ) → List ℕ → Type 0
-AppendsFront old new text = (front back : List ℕ) × (text ≡ front ++ back) × Appends old new front
+use Rattle.cb_tags.specs.Writers.{Writer}
+use Rattle.cb_tags.specs.Writing.{AppendsFront}
 
 -- the whole text was written; or the writer failed, and a front of the text was written
 abbrev pub Puts : {A : Type 0} → Writer → Writer → Result A Fault → List ℕ → Type 0

@@ -5,7 +5,6 @@
 mod change;
 mod files;
 mod laws;
-mod name;
 mod refusal;
 mod rows;
 mod snapshot;

@@ -6,7 +6,8 @@ ghost use Rattle.cbrowse.specs.Serving.{LeavesRun};
 ghost use Rattle.cbrowse.specs.Writing.{Puts};
 
 use crate::job::{Job, Usage, job_of};
-use crate::session::{Ended, Fault, Feed, Limits, Session, Sink, put_all};
+use crate::session::{Ended, Fault, Feed, Limits, Session, put_all};
+use cb_tags::Sink;
 use std::alloc::Global;
 use std::io::{BufRead, Write};
 use std::rt::Files;

@@ -6,7 +6,8 @@ mod execute;
 mod job;
 mod session;
 
-use crate::session::{Feed, Sink};
+use crate::session::Feed;
+use cb_tags::Sink;
 use std::env;
 use std::io::{self, BufReader, BufWriter};
 use std::process::ExitCode;

@@ -9,7 +9,6 @@ mod intake;
 mod limits;
 mod line;
 mod reply;
-mod sink;
 mod state;
 
 pub use feed::{Feed, ReadFault};
@@ -17,7 +16,6 @@ pub use input::{Command, Ended, Fault, Going, Input};
 pub use intake::{Intake, OutOfMemory};
 pub use limits::Limits;
 pub use reply::{put_all, put_row};
-pub use sink::{Sink, WriteFault};
 pub use state::Session;
 
 #[cfg(test)]

@@ -8,8 +8,8 @@ ghost use Rattle.cbrowse.specs.World.{File, empty_world, has_file, load_refusal,
 
 use super::Refusal;
 use super::files::Files;
-use super::name::is_file_name;
 use cb_scan::Source;
+use cb_tags::is_file_name;
 use std::alloc::{AllocError, Global};
 use std::marker::Model;
 use std::rc::Rc;

@@ -1,6 +1,7 @@
 //! The program on words and bytes of memory: its output, its exit status, and what it says on standard error.
 use super::execute;
-use crate::session::{Feed, Sink};
+use crate::session::Feed;
+use cb_tags::Sink;
 use std::alloc::AllocError;
 
 /// The output, the status and the text on standard error of `cbrowse` and these words over this input.

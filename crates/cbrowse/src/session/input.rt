@@ -3,8 +3,9 @@ ghost use Rattle.std.specs.Prelude.{◌≡◌};
 ghost use Rattle.cbrowse.specs.Inputs.{is_cut, ending_of};
 ghost use Rattle.cbrowse.specs.Said.{entry_of, going_of};
 
-use super::{ReadFault, WriteFault};
+use super::ReadFault;
 use crate::desk::{Change, Field, Refusal};
+use cb_tags::WriteFault;
 
 /// What is read at a prompt.
 #[derive(Debug, Drop)]

@@ -6,8 +6,9 @@ ghost use Rattle.cbrowse.specs.Output.{row_line, answer_lines, count_line, done_
 ghost use Rattle.cbrowse.specs.Meant.{row_of};
 ghost use Rattle.cbrowse.specs.Serving.{move_line};
 
-use super::{Fault, Sink};
+use super::Fault;
 use crate::desk::{RefRow, Refusal};
+use cb_tags::{Sink, put_text, put_texts};
 use itoa::Buffer;
 use std::io::Write;
 
@@ -15,10 +16,7 @@ use std::io::Write;
 fn put<W: Write>(out: &mut Sink<W>, text: &[u8]) -> Result<(), Fault>
     ensures { Puts out.old out.new result text.now }
 {
-    let mut at = 0;
-    while at < text.len() {
-        at += out.write(&text[at..])?;
-    }
+    put_text(out, text)?;
     Ok(())
 }
 
@@ -26,9 +24,7 @@ fn put<W: Write>(out: &mut Sink<W>, text: &[u8]) -> Result<(), Fault>
 pub fn put_all<W: Write>(out: &mut Sink<W>, texts: &[&[u8]]) -> Result<(), Fault>
     ensures { Puts out.old out.new result (flat_map (λ text. text.now) texts.now) }
 {
-    for text in texts {
-        put(out, text)?;
-    }
+    put_texts(out, texts)?;
     Ok(())
 }
 

@@ -8,8 +8,9 @@ ghost use Rattle.cbrowse.specs.Serving.{Does, LeavesRound, LeavesRun, HasFailed,
 ghost use Rattle.cbrowse.specs.Writing.{Puts};
 
 use super::reply::{put_move, put_prompt, put_refusal, put_rows};
-use super::{Command, Ended, Fault, Feed, Going, Input, Intake, Limits, Sink};
+use super::{Command, Ended, Fault, Feed, Going, Input, Intake, Limits};
 use crate::desk::{Desk, Field};
+use cb_tags::Sink;
 use std::alloc::Global;
 use std::io::{BufRead, Write};
 use std::marker::Model;

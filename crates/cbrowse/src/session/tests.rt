@@ -1,7 +1,8 @@
 //! Runs over memory. The expected bytes are written by hand from the rules of commands and replies.
 use super::reply::put_rows;
-use super::{Ended, Fault, Feed, Limits, Session, Sink, put_row};
+use super::{Ended, Fault, Feed, Limits, Session, put_row};
 use crate::desk::RefRow;
+use cb_tags::Sink;
 use std::alloc::Global;
 use std::io::{self, BufRead, ErrorKind, Read, Write};
 use std::test::Fail;

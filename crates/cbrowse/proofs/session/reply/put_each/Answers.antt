@@ -1,7 +1,8 @@
 use Rattle.std.proofs.Common.{◌∙◌}
 use Rattle.cbrowse.specs.Meant.{row_of}
 use Rattle.cbrowse.specs.Output.{row_line}
-use Rattle.cbrowse.proofs.Puts.{Puts-fault, AppendsFront-element, Appends-element}
+use Rattle.cb_tags.proofs.Fronts.{AppendsFront-element, Appends-element}
+use Rattle.cbrowse.proofs.Puts.{Puts-fault}
 use Rattle.cbrowse.proofs.session.reply.put_each.Goals as goal
 
 pub returns-in_err-put_row : goal.returns-in_err-put_row

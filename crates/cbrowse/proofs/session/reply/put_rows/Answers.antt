@@ -1,7 +1,8 @@
 use Rattle.std.proofs.lemmas.List.{length-map}
 use Rattle.cbrowse.specs.Meant.{row_of}
 use Rattle.cbrowse.specs.Output.{row_line}
-use Rattle.cbrowse.proofs.Puts.{Puts-fault, Puts-after, AppendsFront-more, flat_map-map}
+use Rattle.cb_tags.proofs.Fronts.{AppendsFront-more}
+use Rattle.cbrowse.proofs.Puts.{Puts-fault, Puts-after, flat_map-map}
 use Rattle.cbrowse.proofs.session.reply.put_rows.Goals as goal
 
 pub returns-in_err-put_count : goal.returns-in_err-put_count

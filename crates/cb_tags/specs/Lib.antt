@@ -1,0 +1,7 @@
+pub mod Addresses
+pub mod Names
+pub mod TagLines
+pub mod TagNames
+pub mod Writers
+pub mod Writing
+pub mod steps
