@@ -3,6 +3,7 @@ ghost use Rattle.std.specs.Prelude.{◌≡◌, List, ℕ, Some, codes};
 ghost use Rattle.cbrowse.specs.Inputs.{inputs};
 ghost use Rattle.cbrowse.specs.Program.{error_line, status_of, said_of, usage_status, usage_said};
 ghost use Rattle.cbrowse.specs.Serving.{LeavesRun};
+ghost use Rattle.cb_tags.specs.Writing.{AppendsFront};
 ghost use Rattle.cbrowse.specs.Writing.{Puts};
 
 use crate::job::{Job, Usage, job_of};
@@ -47,16 +48,22 @@ pub fn execute<R: Files + AllocGlobal, I: BufRead, O: Write, E: Write>(
     let _no_file_is_opened_yet = folder;
     let job = match job_of(rt.alloc(), words) {
         Ok(job) => job,
-        Err(usage) => {
-            // Nobody is left to hear that standard error failed.
-            let _ = put_usage(errors, &usage);
-            return usage_status(&usage);
-        }
+        Err(usage) => return refuse(errors, &usage),
     };
     let session = Session::new(rt.alloc());
     let ended = run_job(rt.alloc(), &job, &LIMITS, session, feed, out);
     let _ = put_ended(errors, ended);
     status(ended)
+}
+
+/// Says why there is no job, and answers the exit status.
+pub fn refuse<E: Write>(errors: &mut Sink<E>, usage: &Usage) -> u8
+    ensures status { result ≡ usage_status usage.now }
+    ensures said { AppendsFront errors.old.bytes errors.new.bytes (usage_said usage.now) }
+{
+    // Nobody is left to hear that standard error failed.
+    let _ = put_usage(errors, usage);
+    usage_status(usage)
 }
 
 fn status(ended: Ended) -> u8

@@ -48,7 +48,9 @@ impl Intake {
     ghost use Rattle.cbrowse.specs.Reading.{Reads, ReadsLine, IsReadFault};
 
     /// An intake with room for one line.
-    pub fn new(alloc: Global) -> Result<Intake, OutOfMemory> {
+    pub fn new(alloc: Global) -> Result<Intake, OutOfMemory>
+        ensures { IfOk result (λ intake. intake.line.items ≡ []) }
+    {
         let line = Vec::with_capacity(alloc, MOST_LINE)?;
         Ok(Intake { line })
     }
