@@ -2,6 +2,7 @@ pub mod Refusals
 pub mod World
 pub mod Timeline
 pub mod Answer
+pub mod Tags
 pub mod Meant
 pub mod Devices
 pub mod Inputs

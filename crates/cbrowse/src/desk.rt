@@ -9,6 +9,7 @@ mod refusal;
 mod rows;
 mod snapshot;
 mod state;
+mod tags;
 #[cfg(test)]
 mod tests;
 
@@ -17,3 +18,4 @@ pub use files::Files;
 pub use refusal::Refusal;
 pub use rows::{Field, RefRow, RowList};
 pub use state::Desk;
+pub use tags::Format;
