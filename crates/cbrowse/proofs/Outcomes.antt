@@ -9,8 +9,11 @@ use Rattle.cbrowse.specs.Timeline.{Timeline, Follows, changed, undone}
 use Rattle.cbrowse.specs.World.{Step}
 use Rattle.cbrowse.specs.Answer.{answer}
 use Rattle.cb_tags.specs.Writers.{Writer}
-use Rattle.cbrowse.specs.Inputs.{Entry, query, change, undo, refused, nothing, quit}
-use Rattle.cbrowse.specs.Output.{moved, outcome, refused_line, done_line, answer_lines}
+use Rattle.cbrowse.specs.declared.desk.tags.Format.{Format}
+use Rattle.cbrowse.specs.declared.desk.tags.Format.TheVariants.{Extended}
+use Rattle.cbrowse.specs.Inputs.{Entry, query, change, undo, tags_file, listing, refused, nothing, quit}
+use Rattle.cbrowse.specs.Output.{moved, outcome, refused_line, done_line, answer_lines, tags_reply, listing_reply}
+use Rattle.cbrowse.specs.Tags.{tags}
 use Rattle.cbrowse.specs.Writing.{Puts}
 use Rattle.cbrowse.specs.Serving.{move_line, Does}
 
@@ -61,6 +64,18 @@ unfolding outcome
 Does-query t e field pattern out out' result h p =
     subst (λ x. (mark : Bool) × Does (outcome mark t x) t out out' result) (sym h) (p.0, (refl, p.1))
 
+pub Does-tags : {A : Type 0} (t : Timeline) (e : Entry) (format : Format) (out out' : Writer) (result : Result A Fault)
+    → e ≡ tags_file format → (mark : Bool) × Puts out out' result (outcome mark t (tags_file format)).reply → (mark : Bool) × Does (outcome mark t e) t out out' result
+unfolding outcome
+Does-tags t e format out out' result h p =
+    subst (λ x. (mark : Bool) × Does (outcome mark t x) t out out' result) (sym h) (p.0, (refl, p.1))
+
+pub Does-listing : {A : Type 0} (t : Timeline) (e : Entry) (out out' : Writer) (result : Result A Fault)
+    → e ≡ listing → (mark : Bool) × Puts out out' result (outcome mark t listing).reply → (mark : Bool) × Does (outcome mark t e) t out out' result
+unfolding outcome
+Does-listing t e out out' result h p =
+    subst (λ x. (mark : Bool) × Does (outcome mark t x) t out out' result) (sym h) (p.0, (refl, p.1))
+
 pub Does-refused : {A : Type 0} (t : Timeline) (e : Entry) (r : Refusal) (out out' : Writer) (result : Result A Fault)
     → e ≡ refused r → Puts out out' result (refused_line r) → (mark : Bool) × Does (outcome mark t e) t out out' result
 unfolding outcome
@@ -83,3 +98,21 @@ query-answered t field pattern = refl
 pub query-refused : (t : Timeline) (field : Field) (pattern : List ℕ) → (outcome true t (query field pattern)).reply ≡ refused_line OutOfMemory
 unfolding outcome
 query-refused t field pattern = refl
+
+-- a tags file is shown, or memory refused it
+pub tags-shown : (t : Timeline) (format : Format) → (outcome false t (tags_file format)).reply ≡ tags_reply format (tags format t.present)
+unfolding outcome
+tags-shown t format = refl
+
+pub tags-refused : (t : Timeline) (format : Format) → (outcome true t (tags_file format)).reply ≡ refused_line OutOfMemory
+unfolding outcome
+tags-refused t format = refl
+
+-- a listing is shown, or memory refused it
+pub listing-shown : (t : Timeline) → (outcome false t listing).reply ≡ listing_reply (tags Extended t.present)
+unfolding outcome
+listing-shown t = refl
+
+pub listing-refused : (t : Timeline) → (outcome true t listing).reply ≡ refused_line OutOfMemory
+unfolding outcome
+listing-refused t = refl

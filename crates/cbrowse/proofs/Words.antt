@@ -8,7 +8,7 @@ use Rattle.std.proofs.lemmas.Int.Digits.{digits_value_more}
 use Rattle.std.proofs.lemmas.List.Folds.{list_all_at}
 use Rattle.std.proofs.Math.Nat.{pow-suc, pow-le-pow_right}
 use Rattle.cbrowse.specs.declared.desk.refusal.Refusal.TheVariants.{UnknownCommand}
-use Rattle.cbrowse.specs.Inputs.{is_digit, is_space, load_words, whole, refused}
+use Rattle.cbrowse.specs.Inputs.{is_digit, is_space, load_words, tags_words, whole, refused}
 use Rattle.std.specs.List.{slice_split, onto_first, position, position_or_len}
 use Rattle.std.proofs.lemmas.List.Splits.{slice_split_first, slice_split-cons_no}
 
@@ -87,5 +87,15 @@ many_words name count (x ∷ xs) =
     let P : Bool → Type 0 = λ b. load_words (name ∷ count ∷ cond b ([] ∷ slice_split is_space xs) (onto_first x (slice_split is_space xs))) ≡ whole (refused UnknownCommand) in
     let parts : (ps : List (List ℕ)) → load_words (name ∷ count ∷ onto_first x ps) ≡ whole (refused UnknownCommand) =
     λ ps. elim ps as (λ qs. load_words (name ∷ count ∷ onto_first x qs) ≡ whole (refused UnknownCommand)) [ [] ↦ refl | q ∷ qs ↦ refl ] in
+    let f : (b : Bool) → P b = λ b. elim b as P [ true ↦ refl | false ↦ parts (slice_split is_space xs) ] in
+    f (is_space x)
+
+-- a second number is too many
+pub many_numbers : (number more : List ℕ) → tags_words (number ∷ slice_split is_space more) ≡ refused UnknownCommand
+many_numbers number [] = refl
+many_numbers number (x ∷ xs) =
+    let P : Bool → Type 0 = λ b. tags_words (number ∷ cond b ([] ∷ slice_split is_space xs) (onto_first x (slice_split is_space xs))) ≡ refused UnknownCommand in
+    let parts : (ps : List (List ℕ)) → tags_words (number ∷ onto_first x ps) ≡ refused UnknownCommand =
+    λ ps. elim ps as (λ qs. tags_words (number ∷ onto_first x qs) ≡ refused UnknownCommand) [ [] ↦ refl | q ∷ qs ↦ refl ] in
     let f : (b : Bool) → P b = λ b. elim b as P [ true ↦ refl | false ↦ parts (slice_split is_space xs) ] in
     f (is_space x)

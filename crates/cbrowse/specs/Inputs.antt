@@ -7,6 +7,8 @@ use Rattle.cbrowse.specs.declared.desk.refusal.Refusal.{Refusal}
 use Rattle.cbrowse.specs.declared.desk.refusal.Refusal.TheVariants.{UnknownCommand, LineTooLong, BadCount, InputEnded, NoPattern, NoSuchField}
 use Rattle.cbrowse.specs.declared.desk.rows.Field.{Field}
 use Rattle.cbrowse.specs.declared.desk.rows.Field.TheVariants.{Definition}
+use Rattle.cbrowse.specs.declared.desk.tags.Format.{Format}
+use Rattle.cbrowse.specs.declared.desk.tags.Format.TheVariants.{Plain, Extended}
 use Rattle.cbrowse.specs.declared.session.input.Ended.{Ended}
 use Rattle.cbrowse.specs.declared.session.input.Ended.TheVariants.{Done, Cut, Fault}
 use Rattle.cbrowse.specs.declared.session.input.Fault.TheVariants.{LongLine, ManyLines}
@@ -20,6 +22,10 @@ pub data Entry : Type 0 where
   change : Step → Entry
   -- take the last change back
   undo : Entry
+  -- the tags file
+  tags_file : Format → Entry
+  -- the listing
+  listing : Entry
   -- what is refused as it is read
   refused : Refusal → Entry
   -- an empty line
@@ -66,6 +72,17 @@ load_words (name ∷ []) = load_sized name (number_in [])
 load_words (name ∷ count ∷ []) = load_sized name (number_in count)
 load_words (name ∷ count ∷ more ∷ others) = whole (refused UnknownCommand)
 
+-- a tags file by its number: 1 is plain, 2 extended
+abbrev pub tags_numbered : Option ℕ → Entry
+tags_numbered None = refused BadCount
+tags_numbered (Some n) = if n == 1 then tags_file Plain else (if n == 2 then tags_file Extended else refused BadCount)
+
+-- a tags file by the words behind it: one number
+abbrev pub tags_words : List (List ℕ) → Entry
+tags_words [] = refused BadCount
+tags_words (number ∷ []) = tags_numbered (number_in number)
+tags_words (number ∷ more ∷ others) = refused UnknownCommand
+
 -- the question for the definitions of a name, which has a pattern
 abbrev pub definition_query : List ℕ → Entry
 definition_query [] = refused NoPattern
@@ -79,9 +96,12 @@ field_query digit pattern = if digit == 49 then definition_query pattern else re
 unfoldable pub command_line : List ℕ → Line
 command_line line =
     if bytes_eq line (codes ":undo") then whole undo
+    else (if bytes_eq line (codes ":listing") then whole listing
+    else (if bytes_eq line (codes ":tags") then whole (tags_file Plain)
+    else (if starts_with nat_eq line (codes ":tags ") then whole (tags_words (slice_split is_space (drop 6 line)))
     else (if bytes_eq line (codes ":load") then load_words []
     else (if starts_with nat_eq line (codes ":load ") then load_words (slice_split is_space (drop 6 line))
-    else whole (refused UnknownCommand)))
+    else whole (refused UnknownCommand))))))
 
 -- what a line of at most 4,096 bytes asks for
 abbrev pub short_line : List ℕ → Line

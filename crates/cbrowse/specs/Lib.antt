@@ -11,6 +11,7 @@ pub mod Output
 pub mod Writing
 pub mod Reading
 pub mod Serving
+pub mod Operands
 pub mod Program
 pub mod Laws
 pub mod Jobs

@@ -1,12 +1,16 @@
 -- The output of a run: a prompt before each input, and its reply.
-use Rattle.std.specs.Prelude.{ℕ, Bool, true, false, List, [], ◌∷◌, ◌++◌, length, codes, decimal, Result, Ok, Err, if◌then◌else◌}
+use Rattle.std.specs.Prelude.{ℕ, ◌+◌, Bool, true, false, List, [], ◌∷◌, ◌++◌, length, codes, decimal, Result, Ok, Err}
 use Rattle.std.specs.List.{flat_map}
 use Rattle.cbrowse.specs.declared.desk.refusal.Refusal.{Refusal}
 use Rattle.cbrowse.specs.declared.desk.refusal.Refusal.TheVariants.{OutOfMemory}
 use Rattle.cbrowse.specs.Refusals.{text_of}
 use Rattle.cbrowse.specs.Timeline.{Timeline, changed, undone}
 use Rattle.cbrowse.specs.Answer.{AnswerRow, answer}
-use Rattle.cbrowse.specs.Inputs.{Entry, query, change, undo, refused, nothing, quit, overlong}
+use Rattle.cbrowse.specs.Tags.{tags, tags_text, head_count, listing_text}
+use Rattle.cb_tags.specs.TagLines.{Tag}
+use Rattle.cbrowse.specs.declared.desk.tags.Format.{Format}
+use Rattle.cbrowse.specs.declared.desk.tags.Format.TheVariants.{Extended}
+use Rattle.cbrowse.specs.Inputs.{Entry, query, change, undo, tags_file, listing, refused, nothing, quit, overlong}
 
 -- the prompt
 abbrev pub prompt : List ℕ
@@ -24,6 +28,14 @@ count_line n = codes "cscope: " ++ decimal n ++ codes " lines\n"
 abbrev pub answer_lines : List AnswerRow → List ℕ
 answer_lines rows = count_line (length rows) ++ flat_map row_line rows
 
+-- the reply that shows a tags file: how many lines it has, and the lines
+abbrev pub tags_reply : Format → List Tag → List ℕ
+tags_reply format ts = count_line (length ts + head_count format) ++ tags_text format ts
+
+-- the reply that shows a listing
+abbrev pub listing_reply : List Tag → List ℕ
+listing_reply ts = count_line (length ts) ++ listing_text ts
+
 -- the reply to a command that is done
 abbrev pub done_line : List ℕ
 done_line = codes "cscope: done\n"
@@ -31,6 +43,11 @@ done_line = codes "cscope: done\n"
 -- the reply to what is refused
 abbrev pub refused_line : Refusal → List ℕ
 refused_line r = codes "cscope: refused: " ++ text_of r ++ codes "\n"
+
+-- what is read is shown, unless memory refused it
+abbrev pub shown : Bool → List ℕ → List ℕ
+shown true text = refused_line OutOfMemory
+shown false text = text
 
 -- the timeline after an input, and the reply to it
 pub record Outcome : Type 0 where
@@ -45,8 +62,9 @@ moved false t (Ok next) = record { timeline = next; reply = done_line }
 
 -- the outcome of an input; `out_of_memory` says that memory refused it
 unfoldable pub outcome : Bool → Timeline → Entry → Outcome
-outcome out_of_memory t (query field pattern) =
-    record { timeline = t; reply = if out_of_memory then refused_line OutOfMemory else answer_lines (answer t.present field pattern) }
+outcome out_of_memory t (query field pattern) = record { timeline = t; reply = shown out_of_memory (answer_lines (answer t.present field pattern)) }
+outcome out_of_memory t (tags_file format) = record { timeline = t; reply = shown out_of_memory (tags_reply format (tags format t.present)) }
+outcome out_of_memory t listing = record { timeline = t; reply = shown out_of_memory (listing_reply (tags Extended t.present)) }
 outcome out_of_memory t (change s) = moved out_of_memory t (changed t s)
 outcome out_of_memory t undo = moved out_of_memory t (undone t)
 outcome out_of_memory t (refused r) = record { timeline = t; reply = refused_line r }

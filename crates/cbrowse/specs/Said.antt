@@ -8,17 +8,19 @@ use Rattle.cbrowse.specs.declared.session.input.Ended.{Ended}
 use Rattle.cbrowse.specs.declared.session.input.Going.{Going}
 use Rattle.cbrowse.specs.declared.session.input.Going.TheVariants.{On, Stop}
 use Rattle.cbrowse.specs.declared.session.input.Command.{Command as Asks}
-use Rattle.cbrowse.specs.declared.session.input.Command.TheVariants.{Query, Change, Undo}
+use Rattle.cbrowse.specs.declared.session.input.Command.TheVariants.{Query, Change, Undo, Tags, Listing}
 use Rattle.cbrowse.specs.declared.session.line.Asked.{Asked}
 use Rattle.cbrowse.specs.declared.session.line.Asked.TheVariants.{Whole, Block}
 use Rattle.cbrowse.specs.Meant.{step_of}
-use Rattle.cbrowse.specs.Inputs.{Entry, query, change, undo, refused, nothing, quit, Line, whole, block, is_space}
+use Rattle.cbrowse.specs.Inputs.{Entry, query, change, undo, tags_file, listing, refused, nothing, quit, Line, whole, block, is_space}
 
 -- the entry that a command is
 abbrev pub command_of : Asks → Entry
 command_of (Query field pattern) = query field pattern.now
 command_of (Change c) = change (step_of c)
 command_of Undo = undo
+command_of (Tags format) = tags_file format
+command_of Listing = listing
 
 -- the entry that an input is
 abbrev pub entry_of : Input → Entry

@@ -1,5 +1,5 @@
 -- The tags of a world, and the texts of its tags file and of its listing.
-use Rattle.std.specs.Prelude.{ℕ, ◌+◌, List, ◌++◌, length, map}
+use Rattle.std.specs.Prelude.{ℕ, List, [], ◌++◌, map}
 use Rattle.std.specs.List.{flat_map}
 use Rattle.cb_scan.specs.declared.facts.Def.{Def}
 use Rattle.cb_scan.specs.Definitions.{definitions}
@@ -29,16 +29,25 @@ tag_key Extended t = t.name
 unfoldable pub tags : Format → World → List Tag
 tags format w = in_order (tag_key format) (flat_map file_tags w.files)
 
--- how many lines a tags file has
-abbrev pub tags_line_count : Format → World → ℕ
-tags_line_count Plain w = length (tags Plain w)
-tags_line_count Extended w = length (tags Extended w) + 2
+-- the line of a tag in a format
+abbrev pub tag_line : Format → Tag → List ℕ
+tag_line Plain t = plain_line t
+tag_line Extended t = extended_line t
 
--- the text of a tags file; an extended one begins with two pseudo-tags
-abbrev pub tags_text : Format → World → List ℕ
-tags_text Plain w = flat_map plain_line (tags Plain w)
-tags_text Extended w = head_lines ++ flat_map extended_line (tags Extended w)
+-- the lines that a tags file begins with: two pseudo-tags in an extended one
+abbrev pub heads : Format → List ℕ
+heads Plain = []
+heads Extended = head_lines
+
+-- how many these are
+abbrev pub head_count : Format → ℕ
+head_count Plain = 0
+head_count Extended = 2
+
+-- the text of a tags file
+abbrev pub tags_text : Format → List Tag → List ℕ
+tags_text format ts = heads format ++ flat_map (tag_line format) ts
 
 -- the text of a listing
-abbrev pub listing_text : World → List ℕ
-listing_text w = flat_map listing_line (tags Extended w)
+abbrev pub listing_text : List Tag → List ℕ
+listing_text ts = flat_map listing_line ts

@@ -18,4 +18,4 @@ pub use files::Files;
 pub use refusal::Refusal;
 pub use rows::{Field, RefRow, RowList};
 pub use state::Desk;
-pub use tags::Format;
+pub use tags::{Format, TagRowList};

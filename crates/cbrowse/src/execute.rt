@@ -73,6 +73,7 @@ fn status(ended: Ended) -> u8
         Ended::Done => 0,
         Ended::Cut => 1,
         Ended::Fault(_) => 1,
+        Ended::Operand(_, _) => 1,
     }
 }
 
@@ -104,6 +105,7 @@ fn put_ended<E: Write>(errors: &mut Sink<E>, ended: Ended) -> Result<(), Fault>
         Ended::Fault(Fault::Memory) => put_error(errors, b"out of memory"),
         Ended::Fault(Fault::LongLine) => put_error(errors, b"line over 1000000 bytes"),
         Ended::Fault(Fault::ManyLines) => put_error(errors, b"too many lines"),
+        Ended::Operand(_, refusal) => put_error(errors, refusal.text().as_bytes()),
     }
 }
 

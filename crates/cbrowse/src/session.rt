@@ -8,15 +8,19 @@ mod input;
 mod intake;
 mod limits;
 mod line;
+mod operands;
 mod reply;
 mod state;
+mod tags;
 
 pub use feed::{Feed, ReadFault};
 pub use input::{Command, Ended, Fault, Going, Input};
 pub use intake::{Intake, OutOfMemory};
 pub use limits::Limits;
+pub use operands::{Operand, Operands, prepare, run};
 pub use reply::{put_all, put_row};
 pub use state::Session;
+pub use tags::{put_listing_file, put_tags_file};
 
 #[cfg(test)]
 mod tests;

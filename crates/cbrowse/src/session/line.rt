@@ -2,11 +2,11 @@
 ghost use Rattle.std.specs.Prelude.{◌≡◌, ◌≤◌, true, ◌∷◌, [], length};
 ghost use Rattle.std.specs.List.{list_all, slice_split, position};
 ghost use Rattle.std.specs.Str.Parse.{digits_value};
-ghost use Rattle.cbrowse.specs.Inputs.{is_digit, is_space, is_number, number_in, load_sized, load_words, definition_query, field_query, command_line, short_line};
+ghost use Rattle.cbrowse.specs.Inputs.{is_digit, is_space, is_number, number_in, load_sized, load_words, tags_numbered, tags_words, definition_query, field_query, command_line, short_line};
 ghost use Rattle.cbrowse.specs.Said.{entry_of, line_of, parts_of};
 
 use super::{Command, Input};
-use crate::desk::{Field, Refusal};
+use crate::desk::{Field, Format, Refusal};
 
 /// The most digits of a number in a command.
 const MOST_DIGITS: usize = 9;
@@ -107,6 +107,28 @@ fn load_words(words: &[u8]) -> Asked<'_>
     }
 }
 
+/// A tags file by its number.
+fn tags_numbered(number: Option<u32>) -> Input<'static>
+    ensures { entry_of result ≡ tags_numbered number }
+{
+    match number {
+        Some(1) => Input::Command(Command::Tags(Format::Plain)),
+        Some(2) => Input::Command(Command::Tags(Format::Extended)),
+        _ => Input::Refused(Refusal::BadCount),
+    }
+}
+
+/// A tags file by the words behind it.
+fn tags_words(words: &[u8]) -> Input<'static>
+    ensures { entry_of result ≡ tags_words (slice_split is_space words.now) }
+{
+    let (number, more) = cut_word(words);
+    match more {
+        None => tags_numbered(number_in(number)),
+        Some(_) => Input::Refused(Refusal::UnknownCommand),
+    }
+}
+
 /// A question by its digit and its pattern.
 fn field_query(digit: u8, pattern: &[u8]) -> Input<'_>
     ensures { entry_of result ≡ field_query digit pattern.now }
@@ -127,6 +149,12 @@ fn command_line(line: &[u8]) -> Asked<'_>
 {
     if line == b":undo".as_slice() {
         Asked::Whole(Input::Command(Command::Undo))
+    } else if line == b":listing".as_slice() {
+        Asked::Whole(Input::Command(Command::Listing))
+    } else if line == b":tags".as_slice() {
+        Asked::Whole(Input::Command(Command::Tags(Format::Plain)))
+    } else if line.starts_with(b":tags ") {
+        Asked::Whole(tags_words(&line[6..]))
     } else if line == b":load".as_slice() {
         load_sized(b"", b"")
     } else if line.starts_with(b":load ") {

@@ -95,8 +95,8 @@ fn put_each<W: Write>(out: &mut Sink<W>, rows: &[RefRow<'_>]) -> Result<(), Faul
     Ok(())
 }
 
-/// Writes how many rows there are.
-fn put_count<W: Write>(out: &mut Sink<W>, count: usize) -> Result<(), Fault>
+/// Writes how many lines there are.
+pub fn put_count<W: Write>(out: &mut Sink<W>, count: u128) -> Result<(), Fault>
     ensures { Puts out.old out.new result (count_line count) }
 {
     let mut digits = Buffer::new();
@@ -108,6 +108,6 @@ fn put_count<W: Write>(out: &mut Sink<W>, count: usize) -> Result<(), Fault>
 pub fn put_rows<W: Write>(out: &mut Sink<W>, rows: &[RefRow<'_>]) -> Result<(), Fault>
     ensures { Puts out.old out.new result (answer_lines (map row_of rows.now)) }
 {
-    put_count(out, rows.len())?;
+    put_count(out, rows.len() as u128)?;
     put_each(out, rows)
 }

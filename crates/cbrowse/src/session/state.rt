@@ -1,15 +1,16 @@
 //! A session, and its runs.
 ghost use Rattle.std.specs.Prelude.{◌≡◌, ◌≢◌, Bool, List, ℕ, [], Some, IfOk, IfSome, MatchResult};
 ghost use Rattle.cbrowse.specs.Timeline.{new_timeline};
-ghost use Rattle.cbrowse.specs.Inputs.{query, first, inputs, ending_of};
+ghost use Rattle.cbrowse.specs.Inputs.{query, tags_file, listing, first, inputs, ending_of};
 ghost use Rattle.cbrowse.specs.Output.{outcome};
 ghost use Rattle.cbrowse.specs.Said.{entry_of, command_of, going_of, HasPattern};
 ghost use Rattle.cbrowse.specs.Serving.{Does, LeavesRound, LeavesRun, HasFailed, IfFault};
 ghost use Rattle.cbrowse.specs.Writing.{Puts};
 
 use super::reply::{put_move, put_prompt, put_refusal, put_rows};
+use super::tags::{put_listing_reply, put_tags_reply};
 use super::{Command, Ended, Fault, Feed, Going, Input, Intake, Limits};
-use crate::desk::{Desk, Field};
+use crate::desk::{Desk, Field, Format};
 use cb_tags::Sink;
 use std::alloc::Global;
 use std::io::{BufRead, Write};
@@ -37,6 +38,13 @@ impl Session {
         Session {
             desk: Desk::new(alloc),
         }
+    }
+
+    /// A session on a desk.
+    pub(super) fn over(desk: Desk) -> Session
+        ensures { result ≡ desk }
+    {
+        Session { desk }
     }
 
     /// The session's desk.
@@ -98,6 +106,8 @@ impl Session {
                 let done = self.desk.undo();
                 put_move(out, done)
             }
+            Command::Tags(format) => self.tags(alloc, format, out),
+            Command::Listing => self.listing(alloc, out),
         }
     }
 
@@ -113,6 +123,24 @@ impl Session {
     {
         match self.desk.rows(alloc, field, pattern) {
             Ok(list) => put_rows(out, list.rows()),
+            Err(refusal) => put_refusal(out, refusal),
+        }
+    }
+
+    fn tags<W: Write>(&self, alloc: Global, format: Format, out: &mut Sink<W>) -> Result<(), Fault>
+        ensures { (mark : Bool) × Puts out.old out.new result (outcome mark self.now (tags_file format)).reply }
+    {
+        match self.desk.tag_rows(alloc, format) {
+            Ok(list) => put_tags_reply(out, format, list.rows()),
+            Err(refusal) => put_refusal(out, refusal),
+        }
+    }
+
+    fn listing<W: Write>(&self, alloc: Global, out: &mut Sink<W>) -> Result<(), Fault>
+        ensures { (mark : Bool) × Puts out.old out.new result (outcome mark self.now listing).reply }
+    {
+        match self.desk.tag_rows(alloc, Format::Extended) {
+            Ok(list) => put_listing_reply(out, list.rows()),
             Err(refusal) => put_refusal(out, refusal),
         }
     }

@@ -1,6 +1,6 @@
 use Rattle.std.proofs.Common.{ap}
 use Rattle.cbrowse.specs.Said.{command_of}
-use Rattle.cbrowse.proofs.Outcomes.{Does-query, Does-change, Does-undo}
+use Rattle.cbrowse.proofs.Outcomes.{Does-query, Does-change, Does-undo, Does-tags, Does-listing}
 use Rattle.cbrowse.proofs.session.state.Session.command.Goals as goal
 
 pub returns-in-Query : goal.returns-in-Query
@@ -11,3 +11,9 @@ returns-in-Change g c = Does-change _ _ _ _ _ _ _ _ _ c.self.view_is (ap command
 
 pub returns-in-Undo : goal.returns-in-Undo
 returns-in-Undo g c = Does-undo _ _ _ _ _ _ _ _ c.self.view_is (ap command_of c.in-Undo.is) c.undo-done.ensures c.put_move-in-Undo.ensures
+
+pub returns-in-Tags : goal.returns-in-Tags
+returns-in-Tags g c = Does-tags _ _ _ _ _ _ (ap command_of c.in-Tags.is) c.tags.ensures
+
+pub returns-in-Listing : goal.returns-in-Listing
+returns-in-Listing g c = Does-listing _ _ _ _ _ (ap command_of c.in-Listing.is) c.listing.ensures
