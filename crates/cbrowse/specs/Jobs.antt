@@ -1,16 +1,40 @@
 -- The command line: its subcommands, and the job that the words give.
-use Rattle.std.specs.Prelude.{◌≡◌, ◌≢◌, List, [], Option, None, Some, true, codes, map, string_bytes}
-use Rattle.clap.specs.Words.{App, Row, Text, new_app, with_subcommand}
+use Rattle.std.specs.Prelude.{◌≡◌, ◌≢◌, Bool, List, [], ◌∷◌, Option, None, Some, true, false, codes, map, string_bytes, unwrap_or}
+use Rattle.std.specs.Str.{bytes_eq}
+use Rattle.clap.specs.Words.{App, Row, Rule, Text, all_of, first_of, new_app, new_rule, with_rule, with_subcommand}
+use Rattle.clap.specs.declared.builder.ArgAction.TheVariants.{Append, SetTrue}
 use Rattle.clap.specs.declared.error.kind.ErrorKind.{ErrorKind}
 use Rattle.clap.specs.declared.error.kind.ErrorKind.TheVariants.{DisplayHelp, OutOfMemory}
+use Rattle.cbrowse.specs.declared.desk.tags.Format.{Format}
+use Rattle.cbrowse.specs.declared.desk.tags.Format.TheVariants.{Plain, Extended}
 use Rattle.cbrowse.specs.declared.job.Job.{Job}
-use Rattle.cbrowse.specs.declared.job.Job.TheVariants.{Line}
+use Rattle.cbrowse.specs.declared.job.Job.TheVariants.{Line, Tags}
 use Rattle.cbrowse.specs.declared.job.Usage.{Usage}
 use Rattle.cbrowse.specs.declared.job.Usage.TheVariants.{Help, Wrong, Memory}
 
--- `line`: a session over standard input and output
+-- `FILE..`, of which there may have to be one
+abbrev pub files_rule : Bool → Rule
+files_rule needed = record (new_rule (codes "files")) { action = Some Append; value_names = 1; required = needed }
+
+-- `-x`
+abbrev pub listing_rule : Rule
+listing_rule = record (new_rule (codes "listing")) { short = Some 120; action = Some SetTrue }
+
+-- `-f TAGSFILE`, where nothing is said `-f tags`
+abbrev pub tagsfile_rule : Rule
+tagsfile_rule = record (new_rule (codes "tagsfile")) { short = Some 102; value_names = 1; defaults = codes "tags" ∷ [] }
+
+-- `--format FORMAT`, where nothing is said `--format 1`
+abbrev pub format_rule : Rule
+format_rule = record (new_rule (codes "format")) { long = Some (codes "format"); value_names = 1; defaults = codes "1" ∷ [] }
+
+-- `line [FILE..]`: a session over standard input and output
 abbrev pub line_app : App
-line_app = new_app (codes "line")
+line_app = with_rule (new_app (codes "line")) (files_rule false)
+
+-- `tags [-x] [-f TAGSFILE] [--format FORMAT] FILE..`: a tags file, or a listing
+abbrev pub tags_app : App
+tags_app = with_rule (with_rule (with_rule (with_rule (new_app (codes "tags")) listing_rule) tagsfile_rule) format_rule) (files_rule true)
 
 -- a command that needs one of its subcommands
 abbrev pub with_subcommand_required : App → App
@@ -18,12 +42,33 @@ with_subcommand_required a = record a { top = record a.top { subcommand_required
 
 -- the program's command
 abbrev pub browse_app : App
-browse_app = with_subcommand (with_subcommand_required (new_app (codes "cbrowse"))) line_app.top
+browse_app = with_subcommand (with_subcommand (with_subcommand_required (new_app (codes "cbrowse"))) line_app.top) tags_app.top
 
--- the job is the one of the subcommand that was found, and of its entries
+-- the first value of an argument, or this text where it has none
+abbrev pub first_or : Text → Text → List Row → Text
+first_or id text rows = unwrap_or (first_of id rows) text
+
+-- all values of an argument
+abbrev pub all_or_none : Text → List Row → List Text
+all_or_none id rows = unwrap_or (all_of id rows) []
+
+-- the number of a format
+abbrev pub format_number : Format → Text
+format_number Plain = codes "1"
+format_number Extended = codes "2"
+
+-- the job is the one of the subcommand that was found, and of what was found for its arguments
 abbrev pub IsJobOf : Option (Text × List Row) → Job → Type 0
 IsJobOf None job = ⊥
-IsJobOf (Some found) (Line files) = (found.0 ≡ codes "line") × (map string_bytes files.items ≡ [])
+IsJobOf (Some found) (Line files) =
+    (found.0 ≡ codes "line")
+    × (map string_bytes files.items ≡ all_or_none (codes "files") found.1)
+IsJobOf (Some found) (Tags listing tagsfile format files) =
+    (found.0 ≡ codes "tags")
+    × (listing ≡ bytes_eq (first_or (codes "listing") (codes "false") found.1) (codes "true"))
+    × (string_bytes tagsfile ≡ first_or (codes "tagsfile") (codes "tags") found.1)
+    × (format_number format ≡ first_or (codes "format") (codes "1") found.1)
+    × (map string_bytes files.items ≡ all_or_none (codes "files") found.1)
 
 -- help where clap shows help, wrong words where it refuses them, or want of memory
 abbrev pub IsUsageOf : ErrorKind → Usage → Type 0

@@ -16,3 +16,4 @@ pub mod Program
 pub mod Laws
 pub mod Jobs
 pub mod Collects
+pub mod Commands

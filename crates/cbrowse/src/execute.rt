@@ -32,6 +32,7 @@ pub fn run_job<R: BufRead, W: Write>(
 {
     match job {
         Job::Line { .. } => session.serve(alloc, limits, feed, out),
+        Job::Tags { .. } => unreachable!(),
     }
 }
 

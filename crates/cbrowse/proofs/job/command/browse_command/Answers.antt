@@ -1,0 +1,16 @@
+use Rattle.std.proofs.Common.{rules, ◌≡◌, ◌∙◌, ap, ap₂, codes}
+use Rattle.std.proofs.lemmas.Result.{IfOk-weaker}
+use Rattle.clap.specs.Words.{App, app_of, with_subcommand, new_app}
+use Rattle.cbrowse.specs.Jobs.{with_subcommand_required}
+use Rattle.cbrowse.proofs.Local.{third-false}
+use Rattle.cbrowse.proofs.job.command.browse_command.Goals as goal
+
+pub returns : goal.returns
+returns c =
+    let line = c.in_ok-line_command.ensures in
+    let tags = c.in_ok-tags_command.ensures in
+    let top : app_of c.subcommand_required.result ≡ with_subcommand_required (new_app (codes "cbrowse")) = search rules in
+    let first = c.in_ok-subcommand.ensures.shape (third-false _ _ _ _ (ap (λ (a : App). a.top.is_plain) line)) ∙ ap₂ with_subcommand top (ap (λ (a : App). a.top) line) in
+    IfOk-weaker c.subcommand-2.result _ _
+    (λ command h. (tags.0, tags.1, h.shape (third-false _ _ _ _ (ap (λ (a : App). a.top.is_plain) tags.2)) ∙ ap₂ with_subcommand first (ap (λ (a : App). a.top) tags.2)))
+    c.subcommand-2.ensures

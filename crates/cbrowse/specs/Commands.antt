@@ -1,0 +1,29 @@
+-- The command line as clap is given it: with the texts that `--format` takes, which stand in memory.
+use Rattle.std.specs.Prelude.{◌≡◌, List, [], ◌∷◌, Some, true, codes, map}
+use Rattle.std.specs.Borrow.{Bor}
+use Rattle.clap.specs.Words.{App, Row, Text, found_of, new_app, rows_of, with_rule, with_subcommand}
+use Rattle.clap.specs.declared.builder.ValueParser.TheVariants.{Names}
+use Rattle.clap.specs.declared.ArgMatches.{ArgMatches}
+use Rattle.cbrowse.specs.Jobs.{files_rule, format_rule, line_app, listing_rule, tagsfile_rule, with_subcommand_required}
+
+-- a command with `--format`, which takes these texts alone
+abbrev pub with_format : App → Bor (List (Bor Text)) → App
+with_format a choices = with_rule a (record format_rule { parser = Some (Names choices) })
+
+-- `tags`, whose format is one of these texts
+abbrev pub tags_app_of : Bor (List (Bor Text)) → App
+tags_app_of choices = with_rule (with_format (with_rule (with_rule (new_app (codes "tags")) listing_rule) tagsfile_rule) choices) (files_rule true)
+
+-- the program's command, whose formats are these texts
+abbrev pub browse_app_of : Bor (List (Bor Text)) → App
+browse_app_of choices = with_subcommand (with_subcommand (with_subcommand_required (new_app (codes "cbrowse"))) line_app.top) (tags_app_of choices).top
+
+-- the command is the one whose formats are the texts 1 and 2
+abbrev pub TakesFormats : (Bor (List (Bor Text)) → App) → App → Type 0
+TakesFormats app a = (choices : Bor (List (Bor Text)))
+    × (map (λ text. text.now) choices.now ≡ codes "1" ∷ codes "2" ∷ [])
+    × (a ≡ app choices)
+
+-- what was found for the arguments
+abbrev pub rows_in : ArgMatches → List Row
+rows_in m = rows_of (found_of m)

@@ -1,0 +1,81 @@
+//! The job of what clap found in the words.
+ghost use Rattle.std.specs.Prelude.{◌≡◌, IfOk, IfSome, Some, codes, map, string_bytes, option_map};
+ghost use Rattle.clap.specs.Words.{first_of, subcommand_rows_of};
+ghost use Rattle.cbrowse.specs.Jobs.{IsJobOf, all_or_none, first_or, format_number};
+ghost use Rattle.cbrowse.specs.Commands.{rows_in};
+
+use super::Job;
+use crate::desk::Format;
+use clap::ArgMatches;
+use std::alloc::{AllocError, Global};
+
+/// The job of the subcommand that was found, or `None` where there is no such subcommand or format.
+pub fn found_job(alloc: Global, matches: &ArgMatches<'_>) -> Result<Option<Job>, AllocError>
+    ensures { IfOk result (λ found. IfSome found (IsJobOf (subcommand_rows_of matches.now))) }
+{
+    match matches.subcommand() {
+        Some(("line", found)) => Ok(Some(line_job(alloc, found)?)),
+        Some(("tags", found)) => tags_job(alloc, found),
+        _ => Ok(None),
+    }
+}
+
+fn line_job(alloc: Global, found: &ArgMatches<'_>) -> Result<Job, AllocError>
+    ensures { IfOk result (IsJobOf (Some (codes "line", rows_in found.now))) }
+{
+    Ok(Job::Line {
+        files: files_of(alloc, found)?,
+    })
+}
+
+fn tags_job(alloc: Global, found: &ArgMatches<'_>) -> Result<Option<Job>, AllocError>
+    ensures { IfOk result (λ job. IfSome job (IsJobOf (Some (codes "tags", rows_in found.now)))) }
+{
+    let Some(format) = format_of(value_or(found, "format", "1")) else {
+        return Ok(None);
+    };
+    Ok(Some(Job::Tags {
+        listing: value_or(found, "listing", "false") == "true",
+        tagsfile: String::from_str(alloc, value_or(found, "tagsfile", "tags"))?,
+        format,
+        files: files_of(alloc, found)?,
+    }))
+}
+
+/// The format of this number.
+fn format_of(number: &str) -> Option<Format>
+    ensures { IfSome result (λ format. format_number format ≡ number.now) }
+{
+    match number {
+        "1" => Some(Format::Plain),
+        "2" => Some(Format::Extended),
+        _ => None,
+    }
+}
+
+/// The first value of an argument, or this text where it has none.
+fn value_or<'a>(found: &ArgMatches<'a>, id: &str, text: &'a str) -> &'a str
+    ensures { result.now ≡ first_or id.now text.entry.now (rows_in found.now) }
+{
+    found.get_str(id).unwrap_or(text)
+}
+
+/// The files that were given.
+fn files_of(alloc: Global, found: &ArgMatches<'_>) -> Result<Vec<String>, AllocError>
+    ensures { IfOk result (λ files. map string_bytes files.items ≡ all_or_none (codes "files") (rows_in found.now)) }
+{
+    match found.get_raw("files") {
+        Some(texts) => copies_of(alloc, texts),
+        None => Ok(Vec::new(alloc)),
+    }
+}
+
+fn copies_of(alloc: Global, texts: &[&str]) -> Result<Vec<String>, AllocError>
+    ensures { IfOk result (λ copies. map string_bytes copies.items ≡ map (λ text. text.now) texts.now) }
+{
+    let mut copies = Vec::new(alloc);
+    for text in texts {
+        copies.push(String::from_str(alloc, text)?)?;
+    }
+    Ok(copies)
+}
