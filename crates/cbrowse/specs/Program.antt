@@ -1,33 +1,94 @@
--- How the program ends: its exit status, and what it says on standard error.
-use Rattle.std.specs.Prelude.{ℕ, List, [], ◌++◌, codes, string_bytes}
-use Rattle.cbrowse.specs.Refusals.{text_of}
+-- What the program does for a job, how it ends, and what it says on standard error.
+use Rattle.std.specs.Prelude.{◌≡◌, ℕ, Bool, true, false, List, [], ◌++◌, Option, Some, codes, map, string_bytes}
+use Rattle.std.specs.Io.KnownBytes.{Appends}
+use Rattle.std.specs.List.{slice_index_or}
+use Rattle.cbrowse.specs.declared.desk.tags.Format.{Format}
+use Rattle.cbrowse.specs.declared.desk.tags.Format.TheVariants.{Extended}
+use Rattle.cbrowse.specs.declared.execute.finish.Finish.{Finish}
+use Rattle.cbrowse.specs.declared.execute.finish.Finish.TheVariants.{Ran, Unreadable, Unwritable}
+use Rattle.cbrowse.specs.declared.job.Job.{Job}
+use Rattle.cbrowse.specs.declared.job.Job.TheVariants.{Line, Tags}
 use Rattle.cbrowse.specs.declared.job.Usage.{Usage}
 use Rattle.cbrowse.specs.declared.job.Usage.TheVariants.{Help, Wrong, Memory as NoMemory}
 use Rattle.cbrowse.specs.declared.session.input.Ended.{Ended}
 use Rattle.cbrowse.specs.declared.session.input.Ended.TheVariants.{Done, Cut, Fault, Operand}
 use Rattle.cbrowse.specs.declared.session.input.Fault.TheVariants.{Read, Write, Memory, LongLine, ManyLines}
+use Rattle.cb_tags.specs.Writers.{Writer}
+use Rattle.cb_tags.specs.Writing.{AppendsFront}
+use Rattle.cbrowse.specs.Devices.{Reader}
+use Rattle.cbrowse.specs.Inputs.{inputs}
+use Rattle.cbrowse.specs.Refusals.{text_of}
+use Rattle.cbrowse.specs.Serving.{LeavesRun}
+use Rattle.cbrowse.specs.Tags.{tags, tags_text, listing_text}
+use Rattle.cbrowse.specs.Timeline.{Timeline}
+use Rattle.cbrowse.specs.World.{World}
+
+-- the text of the tags of a world: a listing, or a tags file
+abbrev pub tags_output : (listing : Bool) → Format → World → List ℕ
+tags_output true format w = listing_text (tags Extended w)
+tags_output false format w = tags_text format (tags format w)
+
+-- the whole text was written; or the writer failed, and a front of the text was written; or memory was refused, and nothing was
+abbrev pub WritesText : List ℕ → Writer → Writer → Ended → Type 0
+WritesText text old new Done = Appends old.bytes new.bytes text
+WritesText text old new (Fault Write) = (new.failed ≡ true) × AppendsFront old.bytes new.bytes text
+WritesText text old new (Fault Memory) = new ≡ old
+WritesText text old new _ = ⊥
+
+-- a job is done: a session is a run over the bytes of the reader; tags are written, and the reader is left alone
+abbrev pub DoesJob : Job → (lines limit : ℕ) → Timeline → Reader → Reader → Writer → Writer → Ended → Type 0
+DoesJob (Line files) lines limit t feed feed' old new ended =
+    (bytes : List ℕ) → feed.bytes ≡ Some bytes → LeavesRun (inputs lines limit bytes) t old new ended
+DoesJob (Tags listing tagsfile format files) lines limit t feed feed' old new ended =
+    (feed' ≡ feed) × WritesText (tags_output listing format t.present) old new ended
+
+-- the names of a job's files
+abbrev pub files_of : Job → List (List ℕ)
+files_of (Line files) = map string_bytes files.items
+files_of (Tags listing tagsfile format files) = map string_bytes files.items
+
+-- the name of a job's tags file
+abbrev pub tagsfile_of : Job → List ℕ
+tagsfile_of (Line files) = []
+tagsfile_of (Tags listing tagsfile format files) = string_bytes tagsfile
 
 -- a line that names the program
 abbrev pub error_line : List ℕ → List ℕ
 error_line text = codes "cbrowse: " ++ text ++ codes "\n"
 
--- the exit status of a run
-abbrev pub status_of : Ended → ℕ
-status_of Done = 0
-status_of Cut = 1
-status_of (Fault fault) = 1
-status_of (Operand place why) = 1
+-- a line that names the program and a file
+abbrev pub file_line : List ℕ → List ℕ → List ℕ
+file_line name text = codes "cbrowse: " ++ name ++ codes ": " ++ text ++ codes "\n"
 
--- what is said of a run on standard error
-abbrev pub said_of : Ended → List ℕ
-said_of Done = []
-said_of Cut = error_line (codes "input ended")
-said_of (Fault Read) = error_line (codes "read fault")
-said_of (Fault Write) = error_line (codes "write fault")
-said_of (Fault Memory) = error_line (codes "out of memory")
-said_of (Fault LongLine) = error_line (codes "line over 1000000 bytes")
-said_of (Fault ManyLines) = error_line (codes "too many lines")
-said_of (Operand place why) = error_line (text_of why)
+-- what is said of a run over these files
+abbrev pub run_said : List (List ℕ) → Ended → List ℕ
+run_said files Done = []
+run_said files Cut = error_line (codes "input ended")
+run_said files (Fault Read) = error_line (codes "read fault")
+run_said files (Fault Write) = error_line (codes "write fault")
+run_said files (Fault Memory) = error_line (codes "out of memory")
+run_said files (Fault LongLine) = error_line (codes "line over 1000000 bytes")
+run_said files (Fault ManyLines) = error_line (codes "too many lines")
+run_said files (Operand place why) = file_line (slice_index_or files place []) (text_of why)
+
+-- what is said of a job
+abbrev pub said_of : Job → Finish → List ℕ
+said_of job (Ran ended) = run_said (files_of job) ended
+said_of job (Unreadable place) = file_line (slice_index_or (files_of job) place []) (codes "cannot be read")
+said_of job Unwritable = file_line (tagsfile_of job) (codes "cannot be written")
+
+-- the exit status of a run
+abbrev pub run_status : Ended → ℕ
+run_status Done = 0
+run_status Cut = 1
+run_status (Fault fault) = 1
+run_status (Operand place why) = 1
+
+-- the exit status of a job
+abbrev pub status_of : Finish → ℕ
+status_of (Ran ended) = run_status ended
+status_of (Unreadable place) = 1
+status_of Unwritable = 1
 
 -- the exit status where there is no job
 abbrev pub usage_status : Usage → ℕ

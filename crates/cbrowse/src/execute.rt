@@ -1,14 +1,24 @@
-//! The program behind its entry: words in, a session served, an exit status out.
-ghost use Rattle.std.specs.Prelude.{◌≡◌, List, ℕ, Some, codes};
-ghost use Rattle.cbrowse.specs.Inputs.{inputs};
-ghost use Rattle.cbrowse.specs.Program.{error_line, status_of, said_of, usage_status, usage_said};
-ghost use Rattle.cbrowse.specs.Serving.{LeavesRun};
-ghost use Rattle.cb_tags.specs.Writing.{AppendsFront};
+//! The program behind its entry: words in, a job done, an exit status out.
+ghost use Rattle.std.specs.Prelude.{◌≡◌, map};
+ghost use Rattle.cb_tags.specs.TagLines.{tag_of};
+ghost use Rattle.cbrowse.specs.Program.{tags_output, WritesText, DoesJob};
+ghost use Rattle.cbrowse.specs.Tags.{tags_text, listing_text};
 ghost use Rattle.cbrowse.specs.Writing.{Puts};
 
-use crate::job::{Job, Usage, job_of};
-use crate::session::{Ended, Fault, Feed, Limits, Session, put_all};
+mod files;
+mod finish;
+#[cfg(test)]
+mod tests;
+
+use crate::desk::{Desk, Format};
+use crate::job::{Job, job_of};
+use crate::session::{
+    Ended, Fault, Feed, Limits, Session, prepare, put_listing_file, put_tags_file,
+};
 use cb_tags::Sink;
+use files::{make_file, read_operands};
+pub use finish::refuse;
+use finish::{Finish, files_of, finish};
 use std::alloc::Global;
 use std::io::{BufRead, Write};
 use std::rt::Files;
@@ -19,7 +29,41 @@ const LIMITS: Limits = Limits {
     lines: 1_000_000_000,
 };
 
-/// Does a job over input and output.
+/// Writes the tags of a desk: a listing, or a tags file.
+fn write_tags<W: Write>(
+    alloc: Global,
+    listing: bool,
+    format: Format,
+    desk: &Desk,
+    out: &mut Sink<W>,
+) -> Ended
+    ensures { WritesText (tags_output listing format desk.now.present) out.old out.new result }
+{
+    let order = if listing { Format::Extended } else { format };
+    let list = match desk.tag_rows(alloc, order) {
+        Ok(list) => list,
+        Err(_) => return Ended::Fault(Fault::Memory),
+    };
+    let written = if listing {
+        put_listing_file(out, list.rows())
+    } else {
+        put_tags_file(out, format, list.rows())
+    };
+    match written {
+        Ok(()) => flushed(out),
+        Err(fault) => Ended::Fault(fault),
+    }
+}
+
+/// Hands on what the writer keeps back.
+fn flushed<W: Write>(out: &mut Sink<W>) -> Ended {
+    match out.flush() {
+        Ok(()) => Ended::Done,
+        Err(_) => Ended::Fault(Fault::Write),
+    }
+}
+
+/// Does a job over input and output, from a session in which its files are loaded.
 pub fn run_job<R: BufRead, W: Write>(
     alloc: Global,
     job: &Job,
@@ -28,11 +72,61 @@ pub fn run_job<R: BufRead, W: Write>(
     feed: &mut Feed<R>,
     out: &mut Sink<W>,
 ) -> Ended
-    ensures { (bytes : List ℕ) → feed.old.bytes ≡ Some bytes → LeavesRun (inputs limits.now.lines limits.now.line bytes) session out.old out.new result }
+    ensures { DoesJob job.now limits.now.lines limits.now.line session feed.old feed.new out.old out.new result }
 {
     match job {
         Job::Line { .. } => session.serve(alloc, limits, feed, out),
-        Job::Tags { .. } => unreachable!(),
+        Job::Tags {
+            listing,
+            format,
+            ..
+        } => write_tags(alloc, *listing, *format, session.desk(), out),
+    }
+}
+
+/// Does a job of tags into a file of this name.
+fn run_job_into<R: Files + AllocGlobal, I: BufRead>(
+    rt: &R,
+    folder: &str,
+    name: &str,
+    job: &Job,
+    session: Session,
+    feed: &mut Feed<I>,
+) -> Finish {
+    let writer = match make_file(rt, folder, name) {
+        Ok(writer) => writer,
+        Err(end) => return end,
+    };
+    let mut out = Sink::new(writer);
+    match run_job(rt.alloc(), job, &LIMITS, session, feed, &mut out) {
+        Ended::Fault(Fault::Write) => Finish::Unwritable,
+        ended => Finish::Ran(ended),
+    }
+}
+
+/// Does a job: every file is read, then all are loaded, and only then a tags file is made or emptied.
+fn work<R: Files + AllocGlobal, I: BufRead, O: Write>(
+    rt: &R,
+    folder: &str,
+    job: &Job,
+    feed: &mut Feed<I>,
+    out: &mut Sink<O>,
+) -> Finish {
+    let operands = match read_operands(rt, folder, files_of(job)) {
+        Ok(operands) => operands,
+        Err(end) => return end,
+    };
+    let session = match prepare(rt.alloc(), operands) {
+        Ok(session) => session,
+        Err(ended) => return Finish::Ran(ended),
+    };
+    match job {
+        Job::Tags {
+            listing: false,
+            tagsfile,
+            ..
+        } => run_job_into(rt, folder, tagsfile.as_str(), job, session, feed),
+        _ => Finish::Ran(run_job(rt.alloc(), job, &LIMITS, session, feed, out)),
     }
 }
 
@@ -46,80 +140,8 @@ pub fn execute<R: Files + AllocGlobal, I: BufRead, O: Write, E: Write>(
     out: &mut Sink<O>,
     errors: &mut Sink<E>,
 ) -> u8 {
-    let _no_file_is_opened_yet = folder;
-    let job = match job_of(rt.alloc(), words) {
-        Ok(job) => job,
-        Err(usage) => return refuse(errors, &usage),
-    };
-    let session = Session::new(rt.alloc());
-    let ended = run_job(rt.alloc(), &job, &LIMITS, session, feed, out);
-    let _ = put_ended(errors, ended);
-    status(ended)
-}
-
-/// Says why there is no job, and answers the exit status.
-pub fn refuse<E: Write>(errors: &mut Sink<E>, usage: &Usage) -> u8
-    ensures status { result ≡ usage_status usage.now }
-    ensures said { AppendsFront errors.old.bytes errors.new.bytes (usage_said usage.now) }
-{
-    // Nobody is left to hear that standard error failed.
-    let _ = put_usage(errors, usage);
-    usage_status(usage)
-}
-
-fn status(ended: Ended) -> u8
-    ensures { result ≡ status_of ended }
-{
-    match ended {
-        Ended::Done => 0,
-        Ended::Cut => 1,
-        Ended::Fault(_) => 1,
-        Ended::Operand(_, _) => 1,
+    match job_of(rt.alloc(), words) {
+        Ok(job) => finish(errors, &job, work(rt, folder, &job, feed, out)),
+        Err(usage) => refuse(errors, &usage),
     }
 }
-
-fn usage_status(usage: &Usage) -> u8
-    ensures { result ≡ usage_status usage.now }
-{
-    match usage {
-        Usage::Help(_) => 0,
-        Usage::Wrong(_) => 2,
-        Usage::Memory => 1,
-    }
-}
-
-fn put_error<E: Write>(errors: &mut Sink<E>, text: &[u8]) -> Result<(), Fault>
-    ensures { Puts errors.old errors.new result (error_line text.now) }
-{
-    put_all(errors, &[b"cbrowse: ", text, b"\n"])
-}
-
-/// Says how a run ended, if not as it should.
-fn put_ended<E: Write>(errors: &mut Sink<E>, ended: Ended) -> Result<(), Fault>
-    ensures { Puts errors.old errors.new result (said_of ended) }
-{
-    match ended {
-        Ended::Done => Ok(()),
-        Ended::Cut => put_error(errors, b"input ended"),
-        Ended::Fault(Fault::Read) => put_error(errors, b"read fault"),
-        Ended::Fault(Fault::Write) => put_error(errors, b"write fault"),
-        Ended::Fault(Fault::Memory) => put_error(errors, b"out of memory"),
-        Ended::Fault(Fault::LongLine) => put_error(errors, b"line over 1000000 bytes"),
-        Ended::Fault(Fault::ManyLines) => put_error(errors, b"too many lines"),
-        Ended::Operand(_, refusal) => put_error(errors, refusal.text().as_bytes()),
-    }
-}
-
-/// Says why there is no job.
-fn put_usage<E: Write>(errors: &mut Sink<E>, usage: &Usage) -> Result<(), Fault>
-    ensures { Puts errors.old errors.new result (usage_said usage.now) }
-{
-    match usage {
-        Usage::Help(text) => put_all(errors, &[text.as_bytes()]),
-        Usage::Wrong(text) => put_all(errors, &[text.as_bytes()]),
-        Usage::Memory => put_error(errors, b"out of memory"),
-    }
-}
-
-#[cfg(test)]
-mod tests;

@@ -1,0 +1,85 @@
+//! The files of the program: operands that are read, and a tags file that is written.
+ghost use Rattle.std.specs.Prelude.{◌≡◌, IfOk, map, string_bytes};
+
+use super::finish::Finish;
+use crate::session::{Ended, Fault, Operand, Operands};
+use std::alloc::{AllocError, Global};
+use std::fs;
+use std::io::{self, BufWriter, ErrorKind, Read};
+use std::rt::Files;
+
+/// One more than the most bytes of a file, so that a larger one is seen to be too large.
+const MOST_READ: u64 = 1_000_001;
+
+/// The end of a job for which memory was refused.
+const OUT_OF_MEMORY: Finish = Finish::Ran(Ended::Fault(Fault::Memory));
+
+/// The path of a file: the folder's text and its name.
+fn path_of(alloc: Global, folder: &str, name: &str) -> Result<String, AllocError> {
+    let mut path = String::from_str(alloc, folder)?;
+    path.push_str(name)?;
+    Ok(path)
+}
+
+/// The first bytes of a file.
+fn read_file<R: Files + AllocGlobal>(rt: &R, path: &str) -> io::Result<Vec<u8>> {
+    let mut bytes = Vec::new(rt.alloc());
+    let file = fs::open(rt, path)?;
+    file.take(MOST_READ).read_to_end(&mut bytes)?;
+    Ok(bytes)
+}
+
+/// Reads one file.
+fn read_operand<R: Files + AllocGlobal>(rt: &R, folder: &str, name: &str) -> io::Result<Operand>
+    ensures { IfOk result (λ o. o.name.items ≡ name.now) }
+{
+    let path = path_of(rt.alloc(), folder, name)?;
+    let bytes = read_file(rt, path.as_str())?;
+    let name = Vec::from_slice(rt.alloc(), name.as_bytes())?;
+    Ok(Operand { name, bytes })
+}
+
+/// Reads files in order. The first that cannot be read ends it.
+pub fn read_operands<R: Files + AllocGlobal>(
+    rt: &R,
+    folder: &str,
+    files: &[String],
+) -> Result<Operands, Finish>
+    ensures { IfOk result (λ operands. map (λ o. o.name.items) operands.items ≡ map string_bytes files.now) }
+{
+    let mut operands = Vec::new(rt.alloc());
+    for (place, name) in files.iter().enumerate() {
+        let operand = match read_operand(rt, folder, name.as_str()) {
+            Ok(operand) => operand,
+            Err(error) if error.kind() == ErrorKind::OutOfMemory => return Err(OUT_OF_MEMORY),
+            Err(_) => return Err(Finish::Unreadable(place)),
+        };
+        if operands.push(operand).is_err() {
+            return Err(OUT_OF_MEMORY);
+        }
+    }
+    Ok(operands)
+}
+
+/// Makes or empties a tags file.
+pub fn make_file<R: Files + AllocGlobal>(
+    rt: &R,
+    folder: &str,
+    name: &str,
+) -> Result<BufWriter<R::File>, Finish> {
+    match open_new(rt, folder, name) {
+        Ok(writer) => Ok(writer),
+        Err(error) if error.kind() == ErrorKind::OutOfMemory => Err(OUT_OF_MEMORY),
+        Err(_) => Err(Finish::Unwritable),
+    }
+}
+
+fn open_new<R: Files + AllocGlobal>(
+    rt: &R,
+    folder: &str,
+    name: &str,
+) -> io::Result<BufWriter<R::File>> {
+    let path = path_of(rt.alloc(), folder, name)?;
+    let file = fs::create(rt, path.as_str())?;
+    Ok(BufWriter::new(rt.alloc(), file)?)
+}

@@ -1,0 +1,158 @@
+//! How the program ends: its exit status, and what it says on standard error.
+ghost use Rattle.std.specs.Prelude.{◌≡◌, [], map, string_bytes};
+ghost use Rattle.std.specs.List.{slice_index_or};
+ghost use Rattle.cb_tags.specs.Writing.{AppendsFront};
+ghost use Rattle.cbrowse.specs.Program.{error_line, file_line, files_of, tagsfile_of, run_said, said_of, run_status, status_of, usage_status, usage_said};
+ghost use Rattle.cbrowse.specs.Writing.{Puts};
+
+use crate::job::{Job, Usage};
+use crate::session::{Ended, Fault, put_all};
+use cb_tags::Sink;
+use std::io::Write;
+
+/// How a job ended.
+#[derive(Clone, Copy, Debug, PartialEq, Eq)]
+pub enum Finish {
+    /// Its run ended so.
+    Ran(Ended),
+    /// The file at this place of its files, counted from 0, cannot be read.
+    Unreadable(usize),
+    /// Its tags file cannot be made or written.
+    Unwritable,
+}
+
+/// The files of a job.
+pub fn files_of(job: &Job) -> &[String]
+    ensures { map string_bytes result.now ≡ files_of job.now }
+{
+    match job {
+        Job::Line { files } => files.as_slice(),
+        Job::Tags { files, .. } => files.as_slice(),
+    }
+}
+
+/// The name of a job's tags file.
+fn tagsfile_of(job: &Job) -> &[u8]
+    ensures { result.now ≡ tagsfile_of job.now }
+{
+    match job {
+        Job::Line { .. } => b"",
+        Job::Tags { tagsfile, .. } => tagsfile.as_bytes(),
+    }
+}
+
+/// The name of the file at a place; nothing where there is none.
+fn name_at(files: &[String], place: usize) -> &[u8]
+    ensures { result.now ≡ slice_index_or (map string_bytes files.now) place [] }
+{
+    match files.get(place) {
+        Some(name) => name.as_bytes(),
+        None => b"",
+    }
+}
+
+fn run_status(ended: Ended) -> u8
+    ensures { result ≡ run_status ended }
+{
+    match ended {
+        Ended::Done => 0,
+        Ended::Cut => 1,
+        Ended::Fault(_) => 1,
+        Ended::Operand(_, _) => 1,
+    }
+}
+
+fn status(finish: Finish) -> u8
+    ensures { result ≡ status_of finish }
+{
+    match finish {
+        Finish::Ran(ended) => run_status(ended),
+        Finish::Unreadable(_) => 1,
+        Finish::Unwritable => 1,
+    }
+}
+
+fn usage_status(usage: &Usage) -> u8
+    ensures { result ≡ usage_status usage.now }
+{
+    match usage {
+        Usage::Help(_) => 0,
+        Usage::Wrong(_) => 2,
+        Usage::Memory => 1,
+    }
+}
+
+fn put_error<E: Write>(errors: &mut Sink<E>, text: &[u8]) -> Result<(), Fault>
+    ensures { Puts errors.old errors.new result (error_line text.now) }
+{
+    put_all(errors, &[b"cbrowse: ", text, b"\n"])
+}
+
+fn put_file_error<E: Write>(errors: &mut Sink<E>, name: &[u8], text: &[u8]) -> Result<(), Fault>
+    ensures { Puts errors.old errors.new result (file_line name.now text.now) }
+{
+    put_all(errors, &[b"cbrowse: ", name, b": ", text, b"\n"])
+}
+
+/// Says how a run over these files ended, if not as it should.
+fn put_run<E: Write>(errors: &mut Sink<E>, files: &[String], ended: Ended) -> Result<(), Fault>
+    ensures { Puts errors.old errors.new result (run_said (map string_bytes files.now) ended) }
+{
+    match ended {
+        Ended::Done => Ok(()),
+        Ended::Cut => put_error(errors, b"input ended"),
+        Ended::Fault(Fault::Read) => put_error(errors, b"read fault"),
+        Ended::Fault(Fault::Write) => put_error(errors, b"write fault"),
+        Ended::Fault(Fault::Memory) => put_error(errors, b"out of memory"),
+        Ended::Fault(Fault::LongLine) => put_error(errors, b"line over 1000000 bytes"),
+        Ended::Fault(Fault::ManyLines) => put_error(errors, b"too many lines"),
+        Ended::Operand(place, refusal) => put_file_error(
+            errors,
+            name_at(files, place as usize),
+            refusal.text().as_bytes(),
+        ),
+    }
+}
+
+/// Says how a job ended, if not as it should.
+fn put_finish<E: Write>(errors: &mut Sink<E>, job: &Job, finish: Finish) -> Result<(), Fault>
+    ensures { Puts errors.old errors.new result (said_of job.now finish) }
+{
+    match finish {
+        Finish::Ran(ended) => put_run(errors, files_of(job), ended),
+        Finish::Unreadable(place) => {
+            put_file_error(errors, name_at(files_of(job), place), b"cannot be read")
+        }
+        Finish::Unwritable => put_file_error(errors, tagsfile_of(job), b"cannot be written"),
+    }
+}
+
+/// Says why there is no job.
+fn put_usage<E: Write>(errors: &mut Sink<E>, usage: &Usage) -> Result<(), Fault>
+    ensures { Puts errors.old errors.new result (usage_said usage.now) }
+{
+    match usage {
+        Usage::Help(text) => put_all(errors, &[text.as_bytes()]),
+        Usage::Wrong(text) => put_all(errors, &[text.as_bytes()]),
+        Usage::Memory => put_error(errors, b"out of memory"),
+    }
+}
+
+/// Says how a job ended, and answers the exit status.
+pub fn finish<E: Write>(errors: &mut Sink<E>, job: &Job, end: Finish) -> u8
+    ensures status { result ≡ status_of end }
+    ensures said { AppendsFront errors.old.bytes errors.new.bytes (said_of job.now end) }
+{
+    // Nobody is left to hear that standard error failed.
+    let _ = put_finish(errors, job, end);
+    status(end)
+}
+
+/// Says why there is no job, and answers the exit status.
+pub fn refuse<E: Write>(errors: &mut Sink<E>, usage: &Usage) -> u8
+    ensures status { result ≡ usage_status usage.now }
+    ensures said { AppendsFront errors.old.bytes errors.new.bytes (usage_said usage.now) }
+{
+    let _ = put_usage(errors, usage);
+    usage_status(usage)
+}
