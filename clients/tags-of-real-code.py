@@ -16,6 +16,8 @@ what vim parts the fields of a tag with.
     vim        for each tag name of both files, `taglist()` gives its lines, and `:tag`, `:2tag` and so on land on a line
                that is the text of the address: the first such line of the file, or the one whose number the extended
                file names. main is asked for by its tag name in the plain file. One vim does all of a tags file
+    less       `less -t` of 200 names of both files shows the file of the first tag, from the first line on that is the
+               text of its address. Names with a tag line over 1,000 bytes are not asked for: less cuts those
 
 vim takes equal tag lines for one, and `taglist()` shows 4,095 bytes of an address. Where a file has CR LF and LF mixed,
 or a CR within a line, vim's lines are others than cbrowse's: no jump to it is judged, and a line says how many files
@@ -25,12 +27,16 @@ status is 1 if there is one.
 
 import argparse
 import collections
+import fcntl
 import os
 import pathlib
+import pty
 import re
 import shutil
+import struct
 import subprocess
 import tempfile
+import termios
 
 HEADS = [
     b'!_TAG_FILE_FORMAT\t2\t/extended format; --format=1 will not append ;" to lines/',
@@ -40,6 +46,7 @@ PLAIN = rb"([^\t\n]+)\t([^\t\n]+)\t(/\^(?:\\[\\/]|[^\\/\n])*\$/)"
 EXTENDED = PLAIN + rb';"\t([fdt])\tline:([1-9][0-9]*)(\tfile:)?'
 READTAGS = PLAIN + rb'(?:;"\tkind:(.))?((?:\t.*)?)'
 NAMES_AT_ONCE = 200
+NAMES_OF_LESS = 200
 
 # A line of a tags file, in bytes. In a plain one kind and line are empty.
 Tag = collections.namedtuple("Tag", "name file address kind line local")
@@ -222,6 +229,42 @@ def lands(tag, landed, sources):
     return file == tag.file and known and (tag.address == address_of(text)[:VIM_FIELD])
 
 
+def check_less(home, file, tags, sources, report):
+    first = {}
+    for tag in tags:
+        first.setdefault(tag.name, tag)
+    short = [tag for tag in first.values() if len(b"".join(tag)) < 1000]
+    asked = short[::-(-len(short) // NAMES_OF_LESS) or 1]
+    for tag in asked:
+        shown = screen(["less", "-f", "-L", "-X", "-N", "-T", file, "-t", tag.name], home)
+        number = re.search(rb"\r *([0-9]+) ", shown)
+        text = text_of(tag.address)
+        lines = sources.lines[tag.file]
+        line = number and int(number[1])
+        if tag.file not in shown or text not in lines or line != lines.index(text) + 1:
+            report.fail(f"less -t with {file}: {tag} shows {shown[:200]}")
+    print(f"less, {file}: asked for {len(asked)} names")
+
+
+def screen(words, home):
+    """What a program writes to a terminal of three long lines on which q is typed."""
+    own, its = pty.openpty()
+    fcntl.ioctl(its, termios.TIOCSWINSZ, struct.pack("4H", 3, 2000, 0, 0))
+    os.write(own, b"q\rq\r")
+    settings = {name: value for name, value in os.environ.items() if not name.startswith("LESS")}
+    settings |= {"TERM": "xterm", "LESSHISTFILE": "-"}
+    shown = b""
+    with subprocess.Popen(words, cwd=home, stdin=its, stdout=its, stderr=its, env=settings, start_new_session=True):
+        os.close(its)
+        try:
+            while part := os.read(own, 65536):
+                shown += part
+        except OSError:
+            pass  # no program has the terminal any more
+    os.close(own)
+    return shown
+
+
 def check(cbrowse, folder, number, home, report):
     names, left_out = suitable(folder)
     number = min(number, len(names))
@@ -248,7 +291,9 @@ def check(cbrowse, folder, number, home, report):
             check_readtags(home, file, tags, report)
         if shutil.which("vim"):
             check_vim(home, file, tags, sources, report)
-    for program in "readtags", "vim":
+        if shutil.which("less"):
+            check_less(home, file, tags, sources, report)
+    for program in "readtags", "vim", "less":
         if not shutil.which(program):
             print(f"{program}: not installed, passed over")
 
