@@ -224,7 +224,7 @@ def check_vim(home, file, tags, sources, report):
 def lands(tag, landed, sources):
     """Whether a jump to a tag lands on the first line with the text of its address, or the one whose number the tag has."""
     file, number, text = landed
-    lines = sources.lines[tag.file]
+    lines = sources.lines.get(tag.file, [])
     known = text in lines and number in (b"%d" % (lines.index(text) + 1), tag.line)
     return file == tag.file and known and (tag.address == address_of(text)[:VIM_FIELD])
 
@@ -239,7 +239,7 @@ def check_less(home, file, tags, sources, report):
         shown = screen(["less", "-f", "-L", "-X", "-N", "-T", file, "-t", tag.name], home)
         number = re.search(rb"\r *([0-9]+) ", shown)
         text = text_of(tag.address)
-        lines = sources.lines[tag.file]
+        lines = sources.lines.get(tag.file, [])
         line = number and int(number[1])
         if tag.file not in shown or text not in lines or line != lines.index(text) + 1:
             report.fail(f"less -t with {file}: {tag} shows {shown[:200]}")
@@ -268,6 +268,8 @@ def screen(words, home):
 def check(cbrowse, folder, number, home, report):
     names, left_out = suitable(folder)
     number = min(number, len(names))
+    if number < 1:
+        raise SystemExit(f"{folder}: no C files to choose from")
     names = [names[i * len(names) // number] for i in range(number)]  # spread evenly
     sources = Sources(folder, names, home)
     print(f"{folder}: {number} files with {sources.size} bytes; {left_out} C files of the folder not suitable")
@@ -279,6 +281,8 @@ def check(cbrowse, folder, number, home, report):
     if lines[:2] != HEADS:
         report.fail("extended: begins with other lines than the two head lines")
     extended = tags_of(lines[2:], EXTENDED, "extended", report)
+    if not extended:
+        report.fail("extended: no definition at all")
     check_alone(sources, plain, extended, listing, report)
     kinds = collections.Counter(tag.kind for tag in extended)
     mains = sum(tag.name == b"main" for tag in extended)
