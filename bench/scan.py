@@ -28,18 +28,16 @@ cscope, each with the MB/s of cbrowse as a multiple of it.
 """
 
 import argparse
-import os
 import pathlib
 import random
-import resource
-import shutil
 import subprocess
 import tempfile
+
+from measure import PATIENCE, installed, keep_to_one_core, processor_time, words_given
 
 SIZES = [("10 KB", 10_000), ("100 KB", 100_000), ("1 MB", 1_000_000)]
 SCANNED = 10_000_000  # bytes scanned by one session
 RUNS = 15
-PATIENCE = 120  # seconds until a run is given up
 
 QUERY = b"1NoSuchName\n"
 
@@ -140,18 +138,6 @@ INPUTS = [
 ]
 
 
-def processor_time(words, folder, stdin=b""):
-    """The seconds that a program takes."""
-    fed = folder / "stdin"
-    fed.write_bytes(stdin)
-    with open(fed, "rb") as feed:
-        before = resource.getrusage(resource.RUSAGE_CHILDREN)
-        subprocess.run(words, cwd=folder, stdin=feed, stdout=subprocess.DEVNULL, stderr=subprocess.DEVNULL,
-                       timeout=PATIENCE, check=True)
-        after = resource.getrusage(resource.RUSAGE_CHILDREN)
-    return after.ru_utime - before.ru_utime + after.ru_stime - before.ru_stime
-
-
 def speed(size, with_work, without):
     """MB/s from the best runs with and without the work; both are functions that run once and give their seconds."""
     runs = [(with_work(), without()) for _ in range(RUNS)]
@@ -187,29 +173,17 @@ def other_speed(words, folder, text):
 def others():
     """The other programs that are installed, by name."""
     found = {}
-    for name, words, flag, says in [("ctags", ["ctags", "--options=NONE", "-x"], "--version", "Universal Ctags"),
-                                    ("cscope", ["cscope", "-b", "-k"], "-V", "version")]:
-        if shutil.which(name):
-            asked = subprocess.run([name, flag], stdin=subprocess.DEVNULL, stdout=subprocess.PIPE,
-                                   stderr=subprocess.STDOUT, text=True).stdout
-            if says in asked:
-                print(asked.splitlines()[0])
-                found[name] = words
-                continue
-        print(f"{name}: not installed" + (" (universal-ctags is asked for)" if name == "ctags" else ""))
+    if installed("ctags", "--version", "Universal Ctags", "universal-ctags"):
+        found["ctags"] = ["ctags", "--options=NONE", "-x"]
+    if installed("cscope", "-V", "version"):
+        found["cscope"] = ["cscope", "-b", "-k"]
     return found
 
 
 def main():
-    root = pathlib.Path(__file__).resolve().parent.parent
     options = argparse.ArgumentParser(description=__doc__, formatter_class=argparse.RawDescriptionHelpFormatter)
-    options.add_argument("--cbrowse", default=os.environ.get("CBROWSE", root / "bin" / "cbrowse"), help="the program")
-    cbrowse = pathlib.Path(options.parse_args().cbrowse).resolve()
-    if not cbrowse.is_file():
-        raise SystemExit(f"{cbrowse}: there is no such program; make builds it")
-    if hasattr(os, "sched_setaffinity"):
-        os.sched_setaffinity(0, {max(os.sched_getaffinity(0))})
-    print("load average %.1f, %d cores" % (os.getloadavg()[0], os.cpu_count()))
+    cbrowse = words_given(options).cbrowse
+    keep_to_one_core()
     found = others()
     row = "{:<18}{:>8}{:>12}{:>12}" + "{:>12}{:>8}" * len(found)
     print(row.format("input", "size", "cbrowse", "per byte", *(word for name in found for word in (name, "times"))))
@@ -219,7 +193,7 @@ def main():
             first = None
             for label, size in SIZES:
                 text = make(size)
-                own = cbrowse_speed(str(cbrowse), folder, text)
+                own = cbrowse_speed(cbrowse, folder, text)
                 first = first or own
                 cells = [kind, label, f"{own:.1f}", f"{first / own:.2f}"]
                 for words in found.values():
