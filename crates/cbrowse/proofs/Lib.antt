@@ -6,6 +6,7 @@ pub mod Distinct
 pub mod Found
 pub mod Unindented
 pub mod Loads
+pub mod Loading
 pub mod Local
 pub mod Placed
 pub mod Valid

@@ -1,21 +1,45 @@
 -- Loads one after another.
-use Rattle.std.proofs.Common.{◌≡◌, ◌∙◌, ◌+◌, ℕ, suc, List, [], ◌∷◌, length, map, Result, Ok, Err, ap, sym, subst, add-one}
+use Rattle.std.proofs.Common.{◌≡◌, ◌∙◌, ◌+◌, ◌≤◌, ℕ, List, [], ◌∷◌, length, Result, Ok, Err, ap, arith, sym, subst}
 use Rattle.cbrowse.specs.declared.desk.refusal.Refusal.{Refusal}
 use Rattle.cbrowse.specs.declared.desk.refusal.Refusal.TheVariants.{OutOfMemory}
 use Rattle.cbrowse.specs.World.{File, Step, load, step}
 use Rattle.cbrowse.specs.Timeline.{Timeline, Follows, changed}
-use Rattle.cbrowse.specs.Operands.{Stop, Loads, first_refused, memory_refused}
+use Rattle.cbrowse.specs.Operands.{Stop, Loads, all_loaded, first_loaded, first_refused, memory_refused}
 use Rattle.cbrowse.proofs.Moves.{advanced-Ok}
 
 -- an accepted change joins the past
-pub past_grows : (t u : Timeline) (s : Step) → changed t s ≡ Ok u → length u.past ≡ length t.past + 1
+pub past_grows : (place : ℕ) (t t' u : Timeline) (s : Step) → t' ≡ t → place ≡ length t.past → changed t' s ≡ Ok u → place + 1 ≡ length u.past
 unfolding changed
-past_grows t u s h =
-    let found = advanced-Ok t u (step t.present s) h in
-    ap (λ v. length v.past) found.2.is ∙ sym (add-one (length t.past))
+past_grows place t t' u s same is h =
+    let found = advanced-Ok t' u (step t'.present s) h in
+    let grown : length u.past ≡ length (t'.present ∷ t'.past) = ap (λ v. length v.past) found.2.is in
+    let before : length t'.past ≡ length t.past = ap (λ v. length v.past) same in
+    omega (arith, grown, before, is)
 
 -- a load that is refused ends the loads
-pub stops : (place : ℕ) (t u : Timeline) (f : File) (fs : List File) (r : Refusal)
+refused : (place : ℕ) (t u : Timeline) (f : File) (fs : List File) (r : Refusal)
     → Follows (changed t (load f.name f.bytes)) t u (Err r) → Loads place t (f ∷ fs) (Err (record { place = place; why = r }))
-stops place t u f fs OutOfMemory p = memory_refused p.0
-stops place t u f fs r p = first_refused p.0
+refused place t u f fs OutOfMemory p = memory_refused p.0
+refused place t u f fs r p = first_refused p.0
+
+-- loads that go on from a place, with those that were done
+abbrev pub Goes : ℕ → Timeline → Timeline → List File → List File → Type 0
+Goes place start t all left = (end : Result Timeline Stop) → Loads place t left end → Loads 0 start all end
+
+module _ (place : ℕ) (start t t' u : Timeline) (all left rest : List File) (f : File) (name : List ℕ) where
+  pub goes_on : Goes place start t all left → left ≡ f ∷ rest → t' ≡ t → name ≡ f.name → changed t' (load name f.bytes) ≡ Ok u → Goes (place + 1) start u all rest
+  goes_on goes first same named done end more =
+      let accepted : changed t (load f.name f.bytes) ≡ Ok u =
+          subst (λ v. changed v (load f.name f.bytes) ≡ Ok u) same (subst (λ n. changed t' (load n f.bytes) ≡ Ok u) named done) in
+      goes end (subst (λ fs. Loads place t fs end) (sym first) (first_loaded accepted more))
+
+  pub stops : (r : Refusal) → Goes place start t all left → left ≡ f ∷ rest → t' ≡ t → name ≡ f.name → Follows (changed t' (load name f.bytes)) t' u (Err r)
+      → Loads 0 start all (Err (record { place = place; why = r }))
+  stops r goes first same named done =
+      let follows : Follows (changed t (load f.name f.bytes)) t u (Err r) =
+          subst (λ v. Follows (changed v (load f.name f.bytes)) v u (Err r)) same (subst (λ n. Follows (changed t' (load n f.bytes)) t' u (Err r)) named done) in
+      goes (Err (record { place = place; why = r })) (subst (λ fs. Loads place t fs (Err (record { place = place; why = r }))) (sym first) (refused place t u f rest r follows))
+
+pub ends : (place : ℕ) (start t u : Timeline) (all left : List File) → Goes place start t all left → length left ≡ 0 → u ≡ t → Loads 0 start all (Ok u)
+ends place start t u all [] goes none same = subst (λ v. Loads 0 start all (Ok v)) (sym same) (goes (Ok t) all_loaded)
+ends place start t u all (f ∷ fs) goes none same = absurd (omega (arith, none))

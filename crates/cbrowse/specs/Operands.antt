@@ -1,5 +1,5 @@
 -- Operands: the files that are loaded before a run.
-use Rattle.std.specs.Prelude.{◌≡◌, ℕ, suc, List, [], ◌∷◌, Result, Ok, Err, IsOk}
+use Rattle.std.specs.Prelude.{◌≡◌, ℕ, ◌+◌, List, [], ◌∷◌, Result, Ok, Err, IsOk}
 use Rattle.cbrowse.specs.declared.desk.refusal.Refusal.{Refusal}
 use Rattle.cbrowse.specs.declared.desk.refusal.Refusal.TheVariants.{OutOfMemory}
 use Rattle.cbrowse.specs.declared.session.input.Ended.{Ended}
@@ -24,7 +24,7 @@ pub record Stop : Type 0 where
 pub data Loads : ℕ → Timeline → List File → Result Timeline Stop → Type 0 where
   all_loaded : {place : ℕ} {t : Timeline} → Loads place t [] (Ok t)
   first_loaded : {place : ℕ} {t u : Timeline} {f : File} {fs : List File} {end : Result Timeline Stop}
-      → changed t (load f.name f.bytes) ≡ Ok u → Loads (suc place) u fs end → Loads place t (f ∷ fs) end
+      → changed t (load f.name f.bytes) ≡ Ok u → Loads (place + 1) u fs end → Loads place t (f ∷ fs) end
   first_refused : {place : ℕ} {t : Timeline} {f : File} {fs : List File} {r : Refusal}
       → changed t (load f.name f.bytes) ≡ Err r → Loads place t (f ∷ fs) (Err (record { place = place; why = r }))
   memory_refused : {place : ℕ} {t : Timeline} {f : File} {fs : List File}

@@ -18,7 +18,7 @@ use crate::session::{
 use cb_tags::Sink;
 use files::{make_file, read_operands};
 pub use finish::refuse;
-use finish::{Finish, files_of, finish};
+use finish::{Finish, conclude, files_of};
 use std::alloc::Global;
 use std::io::{BufRead, Write};
 use std::rt::Files;
@@ -141,7 +141,7 @@ pub fn execute<R: Files + AllocGlobal, I: BufRead, O: Write, E: Write>(
     errors: &mut Sink<E>,
 ) -> u8 {
     match job_of(rt.alloc(), words) {
-        Ok(job) => finish(errors, &job, work(rt, folder, &job, feed, out)),
+        Ok(job) => conclude(errors, &job, work(rt, folder, &job, feed, out)),
         Err(usage) => refuse(errors, &usage),
     }
 }

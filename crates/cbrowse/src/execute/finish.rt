@@ -139,7 +139,7 @@ fn put_usage<E: Write>(errors: &mut Sink<E>, usage: &Usage) -> Result<(), Fault>
 }
 
 /// Says how a job ended, and answers the exit status.
-pub fn finish<E: Write>(errors: &mut Sink<E>, job: &Job, end: Finish) -> u8
+pub fn conclude<E: Write>(errors: &mut Sink<E>, job: &Job, end: Finish) -> u8
     ensures status { result ≡ status_of end }
     ensures said { AppendsFront errors.old.bytes errors.new.bytes (said_of job.now end) }
 {

@@ -1,4 +1,6 @@
 //! The program on words and bytes of memory: its output, its exit status, and what it says on standard error.
+mod files;
+
 use super::execute;
 use crate::session::Feed;
 use cb_tags::Sink;
@@ -7,6 +9,16 @@ use std::alloc::AllocError;
 /// The output, the status and the text on standard error of `cbrowse` and these words over this input.
 fn program(
     rt: &HostRuntime,
+    words: &[&str],
+    input: &[u8],
+) -> Result<(Vec<u8>, u8, Vec<u8>), AllocError> {
+    program_in(rt, "", words, input)
+}
+
+/// The same, with the files in a folder.
+fn program_in(
+    rt: &HostRuntime,
+    folder: &str,
     words: &[&str],
     input: &[u8],
 ) -> Result<(Vec<u8>, u8, Vec<u8>), AllocError> {
@@ -20,7 +32,7 @@ fn program(
     let mut feed = Feed::new(input);
     let mut out = Sink::new(&mut written);
     let mut errors = Sink::new(&mut said);
-    let status = execute(rt, "", all.as_slice(), &mut feed, &mut out, &mut errors);
+    let status = execute(rt, folder, all.as_slice(), &mut feed, &mut out, &mut errors);
     Ok((written, status, said))
 }
 
@@ -63,6 +75,11 @@ fn a_line_of_more_than_a_million_bytes(rt: HostRuntime) -> Result<(), AllocError
 fn words_without_a_job(rt: HostRuntime) -> Result<(), AllocError> {
     let cases = [
         (["--help"].as_slice(), 0u8, b"Browses C sources".as_slice()),
+        (
+            ["tags"].as_slice(),
+            2u8,
+            b"error: the following required arguments were not provided".as_slice(),
+        ),
         (
             ["find"].as_slice(),
             2u8,

@@ -1,4 +1,7 @@
 //! Runs over memory. The expected bytes are written by hand from the rules of commands and replies.
+mod operands;
+mod tags;
+
 use super::reply::put_rows;
 use super::{Ended, Fault, Feed, Limits, Session, put_row};
 use crate::desk::RefRow;
