@@ -13,3 +13,4 @@ pub mod Moves
 pub mod Rounds
 pub mod Outcomes
 pub mod Round
+pub mod TagOrder

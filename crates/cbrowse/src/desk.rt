@@ -4,6 +4,7 @@
 //! every answer is read from the present world. The layer above uses the contracts of [`Desk`].
 mod change;
 mod files;
+mod found;
 mod laws;
 mod refusal;
 mod rows;
@@ -18,4 +19,4 @@ pub use files::Files;
 pub use refusal::Refusal;
 pub use rows::{Field, RefRow, RowList};
 pub use state::Desk;
-pub use tags::Format;
+pub use tags::{Format, TagRowList};
