@@ -41,7 +41,7 @@ turned a b o is = total.antisymm b a ∙ ap ordering_reverse is ∙ twice o
 
 module _ (a b c : List ℕ) where
   -- of two keys one goes first
-  other_first : not (is_gt (Keys a b)) ≡ false → not (is_gt (Keys b a)) ≡ true
+  pub other_first : not (is_gt (Keys a b)) ≡ false → not (is_gt (Keys b a)) ≡ true
   other_first is = by_cases (Keys a b) refl is
     where
       by_cases : (o : Ordering) → Keys a b ≡ o → not (is_gt o) ≡ false → not (is_gt (Keys b a)) ≡ true
@@ -50,7 +50,7 @@ module _ (a b c : List ℕ) where
       by_cases Greater e is = ap (λ o. not (is_gt o)) (turned a b Less e)
 
   -- two keys of which each goes first are equal
-  both_first : not (is_gt (Keys a b)) ≡ true → not (is_gt (Keys b a)) ≡ true → a ≡ b
+  pub both_first : not (is_gt (Keys a b)) ≡ true → not (is_gt (Keys b a)) ≡ true → a ≡ b
   both_first ab ba = by_cases (Keys a b) refl ab
     where
       by_cases : (o : Ordering) → Keys a b ≡ o → not (is_gt o) ≡ true → a ≡ b
@@ -71,7 +71,7 @@ module _ (a b c : List ℕ) where
       by_cases Less Greater e f x y = absurd (false≢true y)
 
 module _ (a b c : List ℕ) where
-  not_less : is_lt (Keys b a) ≡ false → not (is_gt (Keys a b)) ≡ true
+  pub not_less : is_lt (Keys b a) ≡ false → not (is_gt (Keys a b)) ≡ true
   not_less is = by_cases (Keys a b) refl
     where
       by_cases : (o : Ordering) → Keys a b ≡ o → not (is_gt (Keys a b)) ≡ true
@@ -108,7 +108,7 @@ module _ {X : Type 0} (key : X → List ℕ) where
       (λ later. subst (λ b. Sorted key (cond b (x ∷ y ∷ ys) (y ∷ put key x ys))) (sym later) (put_all y x ys (other_first (key x) (key y) (key x) later) s.0, put_sorted x ys s.1))
       (cases_Bool (goes_first key x y))
 
-  in_order_sorted : (xs : List X) → Sorted key (in_order key xs)
+  pub in_order_sorted : (xs : List X) → Sorted key (in_order key xs)
   unfolding in_order
   in_order_sorted [] = tt
   in_order_sorted (x ∷ xs) = put_sorted x (in_order key xs) (in_order_sorted xs)
@@ -138,7 +138,7 @@ module _ {X : Type 0} (key : X → List ℕ) where
   none_passes p [] a = refl
   none_passes p (y ∷ ys) a = sum_by-cons (λ x. cond (p x) 1 0) y ys ∙ (λ i. cond (a.0 i) 1 0 + sum_by (λ x. cond (p x) 1 0) ys) ∙ zero-add (sum_by (λ x. cond (p x) 1 0) ys) ∙ none_passes p ys a.1
 
-  goes_itself : (x : X) → goes_first key x x ≡ true
+  pub goes_itself : (x : X) → goes_first key x x ≡ true
   goes_itself x = ⊎_elim (λ is. is) (λ isnt. other_first (key x) (key x) (key x) isnt) (cases_Bool (goes_first key x x))
 
   not_all : (y : X) (ys : List X) → AllByRecursion (λ z. goes_first key y z ≡ true) ys → AllByRecursion (λ z. not (goes_first key y z) ≡ false) ys

@@ -15,3 +15,4 @@ pub mod Rounds
 pub mod Outcomes
 pub mod Round
 pub mod Choices
+pub mod TagOrder

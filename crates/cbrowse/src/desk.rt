@@ -4,6 +4,7 @@
 //! every answer is read from the present world. The layer above uses the contracts of [`Desk`].
 mod change;
 mod files;
+mod found;
 mod laws;
 mod refusal;
 mod rows;

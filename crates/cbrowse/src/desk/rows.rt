@@ -2,12 +2,12 @@
 ghost use Rattle.std.specs.Prelude.{◌≡◌, ◌≤◌, ◌==◌, ◌||◌, [], ◌∷◌, ◌++◌, List, length, map, IfOk};
 ghost use Rattle.std.specs.List.{list_any, prefix_len};
 ghost use Rattle.cb_scan.specs.Definitions.{IsWithin};
-ghost use Rattle.cb_scan.specs.Lines.{line_text};
 ghost use Rattle.cbrowse.specs.World.{File};
-ghost use Rattle.cbrowse.specs.Answer.{AnswerRow, row_eq, distinct, unindented, name_of, definition_row, definition_rows};
+ghost use Rattle.cbrowse.specs.Answer.{AnswerRow, row_eq, distinct, unindented, definition_row, definition_rows};
 ghost use Rattle.cbrowse.specs.Collects.{Collects};
 ghost use Rattle.cbrowse.specs.Meant.{row_of, file_of};
 
+use super::found::{defined_name, shown_line};
 use cb_scan::{Def, Meter, Source, scan};
 use std::alloc::{AllocError, Global};
 use std::marker::Model;
@@ -117,14 +117,6 @@ fn has_row(rows: &[RefRow<'_>], row: &RefRow<'_>) -> bool
     rows.iter().any(|other| row.equals(other))
 }
 
-/// The name of a definition in its text.
-fn defined_name<'a>(source: &'a Source, def: &Def) -> &'a [u8]
-    requires { IsWithin source.now def.now.name }
-    ensures { result.now ≡ name_of source.now def.now }
-{
-    &source.bytes()[def.name.start as usize..def.name.end as usize]
-}
-
 /// The row of a definition in a file.
 fn definition_row<'a>(name: &'a [u8], source: &'a Source, def: &Def) -> RefRow<'a>
     requires { IsWithin source.now def.now.name }
@@ -135,16 +127,6 @@ fn definition_row<'a>(name: &'a [u8], source: &'a Source, def: &Def) -> RefRow<'
         function: defined_name(source, def),
         line: def.line,
         text: unindented(shown_line(source, def.line)),
-    }
-}
-
-/// A line of a text, without its end; no bytes where there is none. Lines count from 1.
-fn shown_line(source: &Source, line: u32) -> &[u8]
-    ensures { result.now ≡ line_text source.now line }
-{
-    match source.line(line.max(1)) {
-        Some(text) => text,
-        None => b"",
     }
 }
 

@@ -3,8 +3,8 @@ ghost use Rattle.std.specs.Prelude.{◌≡◌, ◌≢◌, [], IfOk, IfErr};
 ghost use Rattle.cbrowse.specs.World.{IsValidWorld, load};
 ghost use Rattle.cbrowse.specs.Timeline.{new_timeline, changed, undone, Follows};
 ghost use Rattle.cbrowse.specs.Answer.{answer};
-ghost use Rattle.cbrowse.specs.Meant.{step_of};
 ghost use Rattle.cbrowse.specs.Tags.{tags};
+ghost use Rattle.cbrowse.specs.Meant.{step_of};
 
 use super::snapshot::Snapshot;
 use super::{Change, Field, Files, Format, Refusal, RowList, TagRowList};
@@ -111,11 +111,17 @@ impl Desk {
         Ok(rows)
     }
 
+    #[tactic(auto, unfolding(crate::specs::Tags::tags))]
     /// All definitions of the present world as tags, in the order of a format.
     pub fn tag_rows(&self, alloc: Global, format: Format) -> Result<TagRowList<'_>, Refusal>
         ensures rows { IfOk result (λ rows. rows ≡ tags format self.now.present) }
         ensures memory { IfErr result (λ r. r ≡ Refusal.OutOfMemory) }
     {
-        Err(Refusal::OutOfMemory)
+        let mut rows = TagRowList::new(alloc);
+        for (name, source) in self.present.files() {
+            rows.add_file(alloc, name, source)?;
+        }
+        rows.sort(format)?;
+        Ok(rows)
     }
 }

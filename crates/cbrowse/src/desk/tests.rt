@@ -1,4 +1,6 @@
 use super::*;
+use cb_scan::Kind;
+use cb_tags::TagRow;
 use std::alloc::{AllocError, Global};
 
 /// Whether the present files have these names, in this order.
@@ -119,4 +121,174 @@ fn a_refused_growth_moves_nothing(rt: HostRuntime) {
     assert!(rt; desk.undo() == Ok(()));
     assert!(rt; shows(&desk, &[]));
     assert!(rt; desk.undo() == Err(Refusal::NothingToUndo));
+}
+
+/// A load of a text.
+fn load_text(
+    desk: &mut Desk,
+    alloc: Global,
+    name: &[u8],
+    text: &[u8],
+) -> Result<Result<(), Refusal>, AllocError> {
+    let bytes = Vec::from_slice(alloc, text)?;
+    Ok(desk.change(alloc, Change::Load(name, bytes)))
+}
+
+/// Whether the tags of the present files are these, in this order: name, file, line and kind.
+fn has_tags(
+    desk: &Desk,
+    alloc: Global,
+    format: Format,
+    tags: &[(&[u8], &[u8], u32, Kind)],
+) -> Result<bool, Refusal> {
+    let rows = desk.tag_rows(alloc, format)?;
+    let shown = rows.rows();
+    let mut same = shown.len() == tags.len();
+    for (row, (name, file, line, kind)) in shown.iter().zip(tags) {
+        if row.name != *name || row.file != *file || row.line != *line || row.kind != *kind {
+            same = false;
+        }
+    }
+    Ok(same)
+}
+
+/// Nine lines with a definition of each kind, and `main`.
+const NINE_LINES: &[u8] =
+    b"#include \"a.h\"\n#define TWICE(x) ((x) + add(x, 0))\ntypedef unsigned long word;\nstatic int add(int a, int b) {\n\treturn a + b;\n}\nint main(void) {\n\treturn add(1, 2) / TWICE(3);\n}\n";
+
+#[test]
+fn tags_show_their_definitions(rt: HostRuntime) -> Result<(), AllocError> {
+    let alloc = rt.alloc();
+    let mut desk = Desk::new(alloc);
+    assert!(rt; load_text(&mut desk, alloc, b"a.c", NINE_LINES)? == Ok(()));
+    let twice = TagRow {
+        name: b"TWICE",
+        file: b"a.c",
+        line: 2,
+        text: b"#define TWICE(x) ((x) + add(x, 0))",
+        kind: Kind::Macro,
+        local: false,
+    };
+    let add = TagRow {
+        name: b"add",
+        file: b"a.c",
+        line: 4,
+        text: b"static int add(int a, int b) {",
+        kind: Kind::Function,
+        local: true,
+    };
+    let main = TagRow {
+        name: b"main",
+        file: b"a.c",
+        line: 7,
+        text: b"int main(void) {",
+        kind: Kind::Function,
+        local: false,
+    };
+    let word = TagRow {
+        name: b"word",
+        file: b"a.c",
+        line: 3,
+        text: b"typedef unsigned long word;",
+        kind: Kind::Typedef,
+        local: false,
+    };
+    match desk.tag_rows(alloc, Format::Plain) {
+        Ok(rows) => assert!(rt; rows.rows() == [main, twice, add, word].as_slice()),
+        Err(refusal) => assert!(rt; refusal == Refusal::OutOfMemory),
+    }
+    match desk.tag_rows(alloc, Format::Extended) {
+        Ok(rows) => assert!(rt; rows.rows() == [twice, add, main, word].as_slice()),
+        Err(refusal) => assert!(rt; refusal == Refusal::OutOfMemory),
+    }
+    Ok(())
+}
+
+#[test]
+fn tags_of_one_key_go_by_file_and_place(rt: HostRuntime) -> Result<(), AllocError> {
+    let alloc = rt.alloc();
+    let mut desk = Desk::new(alloc);
+    assert!(rt; has_tags(&desk, alloc, Format::Plain, &[]) == Ok(true));
+    assert!(rt; has_tags(&desk, alloc, Format::Extended, &[]) == Ok(true));
+    let both = b"int Mm(void) {}\nint f(void) {}\nint main(void) {}\n";
+    assert!(rt; load_text(&mut desk, alloc, b"m.c", both)? == Ok(()));
+    assert!(rt;
+        load_text(
+            &mut desk,
+            alloc,
+            b"d/m.c",
+            b"int main(void) {}\n#define f(x) x\n"
+        )? == Ok(())
+    );
+    let plain = [
+        (b"main".as_slice(), b"d/m.c".as_slice(), 1, Kind::Function),
+        (b"Mm", b"m.c", 1, Kind::Function),
+        (b"main", b"m.c", 3, Kind::Function),
+        (b"f", b"d/m.c", 2, Kind::Macro),
+        (b"f", b"m.c", 2, Kind::Function),
+    ];
+    let extended = [
+        (b"Mm".as_slice(), b"m.c".as_slice(), 1, Kind::Function),
+        (b"f", b"d/m.c", 2, Kind::Macro),
+        (b"f", b"m.c", 2, Kind::Function),
+        (b"main", b"d/m.c", 1, Kind::Function),
+        (b"main", b"m.c", 3, Kind::Function),
+    ];
+    assert!(rt; has_tags(&desk, alloc, Format::Plain, &plain) == Ok(true));
+    assert!(rt; has_tags(&desk, alloc, Format::Extended, &extended) == Ok(true));
+    Ok(())
+}
+
+#[test]
+fn equal_tags_all_stay(rt: HostRuntime) -> Result<(), AllocError> {
+    let alloc = rt.alloc();
+    let mut desk = Desk::new(alloc);
+    assert!(rt; load_text(&mut desk, alloc, b"a.c", b"f(){}f(){}")? == Ok(()));
+    let twice = [
+        (b"f".as_slice(), b"a.c".as_slice(), 1, Kind::Function),
+        (b"f", b"a.c", 1, Kind::Function),
+    ];
+    assert!(rt; has_tags(&desk, alloc, Format::Plain, &twice) == Ok(true));
+    assert!(rt; has_tags(&desk, alloc, Format::Extended, &twice) == Ok(true));
+    Ok(())
+}
+
+/// A load of a text whose bytes may be refused too.
+fn load_text_or_refused(
+    desk: &mut Desk,
+    alloc: Global,
+    name: &[u8],
+    text: &[u8],
+) -> Result<(), Refusal> {
+    match load_text(desk, alloc, name, text) {
+        Ok(outcome) => outcome,
+        Err(_error) => Err(Refusal::OutOfMemory),
+    }
+}
+
+/// Run it with each allocation refused in turn: want of memory refuses the tags and moves nothing.
+#[test]
+fn a_refused_growth_refuses_the_tags(rt: HostRuntime) {
+    let alloc = rt.alloc();
+    let mut desk = Desk::new(alloc);
+    // more than twenty tags, so that the sort takes memory
+    let text =
+        b"t(){}s(){}r(){}q(){}p(){}o(){}n(){}m(){}l(){}k(){}j(){}i(){}h(){}g(){}f(){}e(){}d(){}c(){}b(){}a(){}main(){}\n";
+    if load_text_or_refused(&mut desk, alloc, b"a.c", text) == Err(Refusal::OutOfMemory) {
+        assert!(rt; load_text_or_refused(&mut desk, alloc, b"a.c", text) == Ok(()));
+    }
+    match desk.tag_rows(alloc, Format::Plain) {
+        Ok(rows) => assert_eq!(rt; rows.rows().len(), 21),
+        Err(refusal) => {
+            assert!(rt; refusal == Refusal::OutOfMemory);
+            assert!(rt; shows(&desk, &[b"a.c".as_slice()]));
+            match desk.tag_rows(alloc, Format::Plain) {
+                Ok(rows) => assert_eq!(rt; rows.rows().len(), 21),
+                Err(_refusal) => assert!(rt; false),
+            }
+        }
+    }
+    assert!(rt; shows(&desk, &[b"a.c".as_slice()]));
+    assert!(rt; desk.undo() == Ok(()));
+    assert!(rt; shows(&desk, &[]));
 }

@@ -1,7 +1,7 @@
 use Rattle.std.proofs.Common.{◌≡◌, ◌∙◌, sym, ap, ◌-◌, arith, [], unwrap_or, slice_get, None}
 use Rattle.std.proofs.lemmas.Option.{unwrap_or-slice_get}
 use Rattle.cb_scan.specs.Lines.{lines}
-use Rattle.cbrowse.proofs.desk.rows.shown_line.Goals as goal
+use Rattle.cbrowse.proofs.desk.found.shown_line.Goals as goal
 
 pub returns-in-None : goal.returns-in-None
 returns-in-None c =

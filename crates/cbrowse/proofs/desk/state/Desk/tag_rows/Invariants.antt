@@ -1,0 +1,10 @@
+use Rattle.std.proofs.Common.{◌≡◌, ◌++◌, flat_map, map}
+use Rattle.cbrowse.specs.Meant.{file_of}
+use Rattle.cbrowse.specs.Tags.{file_tags}
+use Rattle.cbrowse.proofs.desk.state.Desk.tag_rows.Given as goal
+
+abbrev pub invariant-loop-name : goal.invariant-loop-name
+invariant-loop-name l = record {
+  so_far : l.rows ≡ flat_map file_tags (map file_of l.yielded);
+  left : map file_of l.yielded ++ l.name-iterator ≡ l.fn.self.present.files;
+}
