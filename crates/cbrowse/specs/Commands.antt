@@ -1,4 +1,4 @@
--- The command line as clap is given it: with the texts that `--format` takes, which stand in memory.
+-- The command line as clap is given it: with the texts that `--format` takes, which stand in memory, at a place that no definition names.
 use Rattle.std.specs.Prelude.{◌≡◌, List, [], ◌∷◌, Some, true, codes, map}
 use Rattle.std.specs.Borrow.{Bor}
 use Rattle.clap.specs.Words.{App, Row, Text, found_of, new_app, rows_of, with_rule, with_subcommand}

@@ -24,7 +24,7 @@ listing_rule = record (new_rule (codes "listing")) { short = Some 120; action = 
 abbrev pub tagsfile_rule : Rule
 tagsfile_rule = record (new_rule (codes "tagsfile")) { short = Some 102; value_names = 1; defaults = codes "tags" ∷ [] }
 
--- `--format FORMAT`, where nothing is said `--format 1`
+-- `--format FORMAT`, where nothing is said `--format 1`; that it takes 1 and 2 alone plays no part in what is found
 abbrev pub format_rule : Rule
 format_rule = record (new_rule (codes "format")) { long = Some (codes "format"); value_names = 1; defaults = codes "1" ∷ [] }
 

@@ -1,6 +1,6 @@
 //! The job of what clap found in the words.
-ghost use Rattle.std.specs.Prelude.{◌≡◌, IfOk, IfSome, Some, codes, map, string_bytes, option_map};
-ghost use Rattle.clap.specs.Words.{first_of, subcommand_rows_of};
+ghost use Rattle.std.specs.Prelude.{◌≡◌, IfOk, IfSome, Some, codes, map, string_bytes};
+ghost use Rattle.clap.specs.Words.{subcommand_rows_of};
 ghost use Rattle.cbrowse.specs.Jobs.{IsJobOf, all_or_none, first_or, format_number};
 ghost use Rattle.cbrowse.specs.Commands.{rows_in};
 
@@ -20,6 +20,7 @@ pub fn found_job(alloc: Global, matches: &ArgMatches<'_>) -> Result<Option<Job>,
     }
 }
 
+/// The session that was asked for.
 fn line_job(alloc: Global, found: &ArgMatches<'_>) -> Result<Job, AllocError>
     ensures { IfOk result (IsJobOf (Some (codes "line", rows_in found.now))) }
 {
@@ -28,6 +29,7 @@ fn line_job(alloc: Global, found: &ArgMatches<'_>) -> Result<Job, AllocError>
     })
 }
 
+/// The tags that were asked for, or `None` where there is no such format.
 fn tags_job(alloc: Global, found: &ArgMatches<'_>) -> Result<Option<Job>, AllocError>
     ensures { IfOk result (λ job. IfSome job (IsJobOf (Some (codes "tags", rows_in found.now)))) }
 {
@@ -70,6 +72,7 @@ fn files_of(alloc: Global, found: &ArgMatches<'_>) -> Result<Vec<String>, AllocE
     }
 }
 
+/// The texts in memory of their own.
 fn copies_of(alloc: Global, texts: &[&str]) -> Result<Vec<String>, AllocError>
     ensures { IfOk result (λ copies. map string_bytes copies.items ≡ map (λ text. text.now) texts.now) }
 {
