@@ -2,8 +2,9 @@
 use Rattle.std.proofs.Common.{◌≡◌, ℕ, Bool, true, false, cond, ◌||◌, List, [], ◌∷◌, Option, Some, None, sym, subst, nat_lt, nat_eq, codes, drop}
 use Rattle.std.specs.List.{slice_split, starts_with}
 use Rattle.std.specs.Str.{bytes_eq}
-use Rattle.cbrowse.specs.Inputs.{Entry, refused, quit, number_in, Line, whole, block, is_space, is_digit, load_sized, load_words, definition_query, field_query, command_line, short_line}
-use Rattle.cbrowse.specs.declared.desk.refusal.Refusal.TheVariants.{NoSuchField}
+use Rattle.cbrowse.specs.Inputs.{Entry, refused, quit, tags_file, listing, tags_numbered, tags_words, words_line, number_in, Line, whole, block, is_space, is_digit, load_sized, load_words, definition_query, field_query, command_line, short_line}
+use Rattle.cbrowse.specs.declared.desk.refusal.Refusal.TheVariants.{NoSuchField, BadCount}
+use Rattle.cbrowse.specs.declared.desk.tags.Format.TheVariants.{Plain, Extended}
 use Rattle.cbrowse.specs.Said.{HasPattern}
 
 abbrev IsPatterned : Line → Type 0
@@ -33,12 +34,32 @@ field_query-patterned : (digit : ℕ) (pattern : List ℕ) → HasPattern (field
 field_query-patterned digit pattern =
     elim (nat_eq digit 49) as (λ b. HasPattern (cond b (definition_query pattern) (refused NoSuchField))) [ true ↦ definition_query-patterned pattern | false ↦ tt ]
 
+tags_numbered-patterned : (n : Option ℕ) → HasPattern (tags_numbered n)
+tags_numbered-patterned None = tt
+tags_numbered-patterned (Some n) =
+    elim (nat_eq n 1) as (λ b. HasPattern (cond b (tags_file Plain) (cond (nat_eq n 2) (tags_file Extended) (refused BadCount)))) [
+      | true ↦ tt
+      | false ↦ elim (nat_eq n 2) as (λ b. HasPattern (cond b (tags_file Extended) (refused BadCount))) [ true ↦ tt | false ↦ tt ]
+    ]
+
+tags_words-patterned : (words : List (List ℕ)) → HasPattern (tags_words words)
+tags_words-patterned [] = tt
+tags_words-patterned (number ∷ []) = tags_numbered-patterned (number_in number)
+tags_words-patterned (number ∷ more ∷ others) = tt
+
+words_line-patterned : (line : List ℕ) → IsPatterned (words_line line)
+unfolding words_line
+words_line-patterned line =
+    IsPatterned-choice (starts_with nat_eq line (codes ":load ")) _ _ (load_words-patterned (slice_split is_space (drop 6 line)))
+    (IsPatterned-choice (starts_with nat_eq line (codes ":tags ")) (whole (tags_words (slice_split is_space (drop 6 line)))) _ (tags_words-patterned (slice_split is_space (drop 6 line))) tt)
+
 command_line-patterned : (line : List ℕ) → IsPatterned (command_line line)
 unfolding command_line
 command_line-patterned line =
     IsPatterned-choice (bytes_eq line (codes ":undo")) _ _ tt
     (IsPatterned-choice (bytes_eq line (codes ":load")) _ _ (load_words-patterned [])
-    (IsPatterned-choice (starts_with nat_eq line (codes ":load ")) _ _ (load_words-patterned (slice_split is_space (drop 6 line))) tt))
+    (IsPatterned-choice (bytes_eq line (codes ":tags")) (whole (tags_file Plain)) _ tt
+    (IsPatterned-choice (bytes_eq line (codes ":listing")) (whole listing) _ tt (words_line-patterned line))))
 
 short_line-patterned : (line : List ℕ) → IsPatterned (short_line line)
 short_line-patterned [] = tt

@@ -4,7 +4,7 @@ use Rattle.std.specs.Prelude.{IsErrAnd}
 use Rattle.std.specs.Io.KnownBytes.{Appends}
 use Rattle.std.proofs.KnownBytes.{Appends-trans}
 use Rattle.cbrowse.specs.declared.session.input.Ended.{Ended}
-use Rattle.cbrowse.specs.declared.session.input.Ended.TheVariants.{Done, Cut, Fault}
+use Rattle.cbrowse.specs.declared.session.input.Ended.TheVariants.{Done, Cut, Fault, Operand}
 use Rattle.cbrowse.specs.declared.session.input.Fault.{Fault as Reason}
 use Rattle.cbrowse.specs.declared.session.input.Fault.TheVariants.{Read, Write, Memory, LongLine, ManyLines}
 use Rattle.cbrowse.specs.Timeline.{Timeline}
@@ -26,6 +26,7 @@ Leaves-whole text meant old new (Fault LongLine) e p = (e, p)
 Leaves-whole text meant old new (Fault ManyLines) e p = (e, p)
 Leaves-whole text meant old new Done e p = (e, p)
 Leaves-whole text meant old new Cut e p = (e, p)
+Leaves-whole text meant old new (Operand place why) e p = (e, p)
 
 -- a fault that is passed on
 passed_on : (mark : Bool) (f : First) (t next : Timeline) (feed : Reader) (old new : Writer) (r : Result (Option Ended) Reason) (fault : Reason)

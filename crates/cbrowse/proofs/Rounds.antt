@@ -3,7 +3,7 @@ use Rattle.std.proofs.Common.{◌≡◌, ℕ, zero, suc, Bool, List, [], ◌∷�
 use Rattle.std.specs.Io.KnownBytes.{Appends, Keeps}
 use Rattle.std.proofs.KnownBytes.{Appends-trans, Appends-nil, Appends-kept}
 use Rattle.cbrowse.specs.declared.session.input.Ended.{Ended}
-use Rattle.cbrowse.specs.declared.session.input.Ended.TheVariants.{Done, Cut, Fault}
+use Rattle.cbrowse.specs.declared.session.input.Ended.TheVariants.{Done, Cut, Fault, Operand}
 use Rattle.cbrowse.specs.declared.session.input.Fault.TheVariants.{Read, Write, Memory, LongLine, ManyLines}
 use Rattle.cbrowse.specs.Timeline.{Timeline}
 use Rattle.cb_tags.specs.Writers.{Writer}
@@ -133,6 +133,7 @@ Rounds-end lines limit bytes start old left t feed out new mark (Fault LongLine)
 Rounds-end lines limit bytes start old left t feed out new mark (Fault ManyLines) r h = (r.marks ++ mark ∷ [], Rounds-last lines limit bytes start old left t feed out new mark (Fault ManyLines) r h.0 h.1)
 Rounds-end lines limit bytes start old left t feed out new mark Done r h = (r.marks ++ mark ∷ [], Rounds-last lines limit bytes start old left t feed out new mark Done r h.0 h.1)
 Rounds-end lines limit bytes start old left t feed out new mark Cut r h = (r.marks ++ mark ∷ [], Rounds-last lines limit bytes start old left t feed out new mark Cut r h.0 h.1)
+Rounds-end lines limit bytes start old left t feed out new mark (Operand place why) r h = (r.marks ++ mark ∷ [], Rounds-last lines limit bytes start old left t feed out new mark (Operand place why) r h.0 h.1)
 
 -- no line is left
 pub Rounds-out : (lines limit : ℕ) (bytes : List ℕ) (start : Timeline) (old : Writer) (t : Timeline) (feed : Reader) (out : Writer)
@@ -153,6 +154,7 @@ Leaves-kept text meant old mid new (Fault LongLine) p q = (p.0, Appends-kept old
 Leaves-kept text meant old mid new (Fault ManyLines) p q = (p.0, Appends-kept old.bytes mid.bytes new.bytes text p.1 q)
 Leaves-kept text meant old mid new Done p q = (p.0, Appends-kept old.bytes mid.bytes new.bytes text p.1 q)
 Leaves-kept text meant old mid new Cut p q = (p.0, Appends-kept old.bytes mid.bytes new.bytes text p.1 q)
+Leaves-kept text meant old mid new (Operand place why) p q = (p.0, Appends-kept old.bytes mid.bytes new.bytes text p.1 q)
 
 -- what is left is at least a front
 pub Leaves-front : (text : List ℕ) (meant : Option Ended) (old new : Writer) (ended : Ended) → Leaves text meant old new ended → AppendsFront old.bytes new.bytes text
@@ -163,6 +165,7 @@ Leaves-front text meant old new (Fault LongLine) p = AppendsFront-whole old.byte
 Leaves-front text meant old new (Fault ManyLines) p = AppendsFront-whole old.bytes new.bytes text p.1
 Leaves-front text meant old new Done p = AppendsFront-whole old.bytes new.bytes text p.1
 Leaves-front text meant old new Cut p = AppendsFront-whole old.bytes new.bytes text p.1
+Leaves-front text meant old new (Operand place why) p = AppendsFront-whole old.bytes new.bytes text p.1
 
 -- a round in a run: what it leaves is known for all bytes that the feed may have
 pub Rounds-next : (lines limit : ℕ) (bytes : List ℕ) (start : Timeline) (old : Writer) (n left : ℕ) (t next : Timeline) (feed behind : Reader) (out new : Writer)

@@ -92,16 +92,21 @@ definition_query (b ∷ bs) = query Definition (b ∷ bs)
 abbrev pub field_query : ℕ → List ℕ → Entry
 field_query digit pattern = if digit == 49 then definition_query pattern else refused NoSuchField
 
--- a command by its word; single spaces part the words behind it
+-- a command with words behind it, which single spaces part
+unfoldable pub words_line : List ℕ → Line
+words_line line =
+    if starts_with nat_eq line (codes ":load ") then load_words (slice_split is_space (drop 6 line))
+    else (if starts_with nat_eq line (codes ":tags ") then whole (tags_words (slice_split is_space (drop 6 line)))
+    else whole (refused UnknownCommand))
+
+-- a command by its word
 unfoldable pub command_line : List ℕ → Line
 command_line line =
     if bytes_eq line (codes ":undo") then whole undo
-    else (if bytes_eq line (codes ":listing") then whole listing
-    else (if bytes_eq line (codes ":tags") then whole (tags_file Plain)
-    else (if starts_with nat_eq line (codes ":tags ") then whole (tags_words (slice_split is_space (drop 6 line)))
     else (if bytes_eq line (codes ":load") then load_words []
-    else (if starts_with nat_eq line (codes ":load ") then load_words (slice_split is_space (drop 6 line))
-    else whole (refused UnknownCommand))))))
+    else (if bytes_eq line (codes ":tags") then whole (tags_file Plain)
+    else (if bytes_eq line (codes ":listing") then whole listing
+    else words_line line)))
 
 -- what a line of at most 4,096 bytes asks for
 abbrev pub short_line : List ℕ → Line

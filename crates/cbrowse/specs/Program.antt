@@ -13,6 +13,7 @@ use Rattle.cbrowse.specs.declared.job.Usage.TheVariants.{Help, Wrong, Memory as 
 use Rattle.cbrowse.specs.declared.session.input.Ended.{Ended}
 use Rattle.cbrowse.specs.declared.session.input.Ended.TheVariants.{Done, Cut, Fault, Operand}
 use Rattle.cbrowse.specs.declared.session.input.Fault.TheVariants.{Read, Write, Memory, LongLine, ManyLines}
+use Rattle.cb_tags.specs.TagLines.{Tag}
 use Rattle.cb_tags.specs.Writers.{Writer}
 use Rattle.cb_tags.specs.Writing.{AppendsFront}
 use Rattle.cbrowse.specs.Devices.{Reader}
@@ -23,10 +24,19 @@ use Rattle.cbrowse.specs.Tags.{tags, tags_text, listing_text}
 use Rattle.cbrowse.specs.Timeline.{Timeline}
 use Rattle.cbrowse.specs.World.{World}
 
--- the text of the tags of a world: a listing, or a tags file
+-- the order of the lines of a listing, or of a tags file
+abbrev pub output_format : (listing : Bool) → Format → Format
+output_format true format = Extended
+output_format false format = format
+
+-- the text of a listing, or of a tags file
+abbrev pub output_text : (listing : Bool) → Format → List Tag → List ℕ
+output_text true format ts = listing_text ts
+output_text false format ts = tags_text format ts
+
+-- what is written of the tags of a world
 abbrev pub tags_output : (listing : Bool) → Format → World → List ℕ
-tags_output true format w = listing_text (tags Extended w)
-tags_output false format w = tags_text format (tags format w)
+tags_output listing format w = output_text listing format (tags (output_format listing format) w)
 
 -- the whole text was written; or the writer failed, and a front of the text was written; or memory was refused, and nothing was
 abbrev pub WritesText : List ℕ → Writer → Writer → Ended → Type 0

@@ -1,8 +1,7 @@
 //! The program behind its entry: words in, a job done, an exit status out.
 ghost use Rattle.std.specs.Prelude.{◌≡◌, map};
 ghost use Rattle.cb_tags.specs.TagLines.{tag_of};
-ghost use Rattle.cbrowse.specs.Program.{tags_output, WritesText, DoesJob};
-ghost use Rattle.cbrowse.specs.Tags.{tags_text, listing_text};
+ghost use Rattle.cbrowse.specs.Program.{output_format, output_text, tags_output, WritesText, DoesJob};
 ghost use Rattle.cbrowse.specs.Writing.{Puts};
 
 mod files;
@@ -15,7 +14,7 @@ use crate::job::{Job, job_of};
 use crate::session::{
     Ended, Fault, Feed, Limits, Session, prepare, put_listing_file, put_tags_file,
 };
-use cb_tags::Sink;
+use cb_tags::{Sink, TagRow};
 use files::{make_file, read_operands};
 pub use finish::refuse;
 use finish::{Finish, conclude, files_of};
@@ -29,7 +28,30 @@ const LIMITS: Limits = Limits {
     lines: 1_000_000_000,
 };
 
-/// Writes the tags of a desk: a listing, or a tags file.
+/// The order of the lines of a listing, or of a tags file.
+fn output_format(listing: bool, format: Format) -> Format
+    ensures { result ≡ output_format listing format }
+{
+    if listing { Format::Extended } else { format }
+}
+
+/// Writes a listing, or a tags file.
+fn put_output<W: Write>(
+    out: &mut Sink<W>,
+    listing: bool,
+    format: Format,
+    rows: &[TagRow<'_>],
+) -> Result<(), Fault>
+    ensures { Puts out.old out.new result (output_text listing format (map tag_of rows.now)) }
+{
+    if listing {
+        put_listing_file(out, rows)
+    } else {
+        put_tags_file(out, format, rows)
+    }
+}
+
+/// Writes the tags of a desk, and hands them on.
 fn write_tags<W: Write>(
     alloc: Global,
     listing: bool,
@@ -39,24 +61,14 @@ fn write_tags<W: Write>(
 ) -> Ended
     ensures { WritesText (tags_output listing format desk.now.present) out.old out.new result }
 {
-    let order = if listing { Format::Extended } else { format };
-    let list = match desk.tag_rows(alloc, order) {
+    let list = match desk.tag_rows(alloc, output_format(listing, format)) {
         Ok(list) => list,
         Err(_) => return Ended::Fault(Fault::Memory),
     };
-    let written = if listing {
-        put_listing_file(out, list.rows())
-    } else {
-        put_tags_file(out, format, list.rows())
-    };
-    match written {
-        Ok(()) => flushed(out),
-        Err(fault) => Ended::Fault(fault),
+    match put_output(out, listing, format, list.rows()) {
+        Ok(()) => {}
+        Err(fault) => return Ended::Fault(fault),
     }
-}
-
-/// Hands on what the writer keeps back.
-fn flushed<W: Write>(out: &mut Sink<W>) -> Ended {
     match out.flush() {
         Ok(()) => Ended::Done,
         Err(_) => Ended::Fault(Fault::Write),

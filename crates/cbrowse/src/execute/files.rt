@@ -48,11 +48,11 @@ pub fn read_operands<R: Files + AllocGlobal>(
     ensures { IfOk result (λ operands. map (λ o. o.name.items) operands.items ≡ map string_bytes files.now) }
 {
     let mut operands = Vec::new(rt.alloc());
-    for (place, name) in files.iter().enumerate() {
+    for name in files {
         let operand = match read_operand(rt, folder, name.as_str()) {
             Ok(operand) => operand,
             Err(error) if error.kind() == ErrorKind::OutOfMemory => return Err(OUT_OF_MEMORY),
-            Err(_) => return Err(Finish::Unreadable(place)),
+            Err(_) => return Err(Finish::Unreadable(operands.len())),
         };
         if operands.push(operand).is_err() {
             return Err(OUT_OF_MEMORY);

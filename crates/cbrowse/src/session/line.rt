@@ -2,7 +2,7 @@
 ghost use Rattle.std.specs.Prelude.{◌≡◌, ◌≤◌, true, ◌∷◌, [], length};
 ghost use Rattle.std.specs.List.{list_all, slice_split, position};
 ghost use Rattle.std.specs.Str.Parse.{digits_value};
-ghost use Rattle.cbrowse.specs.Inputs.{is_digit, is_space, is_number, number_in, load_sized, load_words, tags_numbered, tags_words, definition_query, field_query, command_line, short_line};
+ghost use Rattle.cbrowse.specs.Inputs.{is_digit, is_space, is_number, number_in, load_sized, load_words, tags_numbered, tags_words, definition_query, field_query, words_line, command_line, short_line};
 ghost use Rattle.cbrowse.specs.Said.{entry_of, line_of, parts_of};
 
 use super::{Command, Input};
@@ -142,6 +142,20 @@ fn field_query(digit: u8, pattern: &[u8]) -> Input<'_>
     Input::Command(Command::Query(Field::Definition, pattern))
 }
 
+#[tactic(auto, unfolding(crate::specs::Inputs::words_line))]
+/// A command with words behind it.
+fn words_line(line: &[u8]) -> Asked<'_>
+    ensures { line_of result ≡ words_line line.now }
+{
+    if line.starts_with(b":load ") {
+        load_words(&line[6..])
+    } else if line.starts_with(b":tags ") {
+        Asked::Whole(tags_words(&line[6..]))
+    } else {
+        Asked::Whole(Input::Refused(Refusal::UnknownCommand))
+    }
+}
+
 #[tactic(auto, unfolding(crate::specs::Inputs::command_line))]
 /// A command by its word.
 fn command_line(line: &[u8]) -> Asked<'_>
@@ -149,18 +163,14 @@ fn command_line(line: &[u8]) -> Asked<'_>
 {
     if line == b":undo".as_slice() {
         Asked::Whole(Input::Command(Command::Undo))
-    } else if line == b":listing".as_slice() {
-        Asked::Whole(Input::Command(Command::Listing))
-    } else if line == b":tags".as_slice() {
-        Asked::Whole(Input::Command(Command::Tags(Format::Plain)))
-    } else if line.starts_with(b":tags ") {
-        Asked::Whole(tags_words(&line[6..]))
     } else if line == b":load".as_slice() {
         load_sized(b"", b"")
-    } else if line.starts_with(b":load ") {
-        load_words(&line[6..])
+    } else if line == b":tags".as_slice() {
+        Asked::Whole(Input::Command(Command::Tags(Format::Plain)))
+    } else if line == b":listing".as_slice() {
+        Asked::Whole(Input::Command(Command::Listing))
     } else {
-        Asked::Whole(Input::Refused(Refusal::UnknownCommand))
+        words_line(line)
     }
 }
 
