@@ -1,5 +1,5 @@
 -- Loads one after another.
-use Rattle.std.proofs.Common.{◌≡◌, ◌∙◌, ◌+◌, ◌≤◌, ℕ, List, [], ◌∷◌, length, Result, Ok, Err, ap, arith, sym, subst}
+use Rattle.std.proofs.Common.{◌≡◌, ◌+◌, ℕ, List, [], ◌∷◌, length, Result, Ok, Err, ap, arith, sym, subst}
 use Rattle.cbrowse.specs.declared.desk.refusal.Refusal.{Refusal}
 use Rattle.cbrowse.specs.declared.desk.refusal.Refusal.TheVariants.{OutOfMemory}
 use Rattle.cbrowse.specs.World.{File, Step, load, step}

@@ -1,5 +1,5 @@
 -- What the program does for a job, how it ends, and what it says on standard error.
-use Rattle.std.specs.Prelude.{◌≡◌, ℕ, Bool, true, false, List, [], ◌++◌, Option, Some, codes, map, string_bytes}
+use Rattle.std.specs.Prelude.{◌≡◌, ℕ, Bool, true, false, List, [], ◌++◌, Some, codes, map, string_bytes}
 use Rattle.std.specs.Io.KnownBytes.{Appends}
 use Rattle.std.specs.List.{slice_index_or}
 use Rattle.cbrowse.specs.declared.desk.tags.Format.{Format}

@@ -1,4 +1,4 @@
-use Rattle.std.proofs.Common.{◌≡◌, ◌≤◌, ◌∙◌, ◌+◌, length, map, ap, arith, rules, sym}
+use Rattle.std.proofs.Common.{◌≤◌, ◌∙◌, ◌+◌, length, map, ap, arith, rules, sym}
 use Rattle.std.proofs.lemmas.List.{length-map}
 use Rattle.std.specs.Vec.Iter.{into_iter_items}
 use Rattle.cbrowse.specs.Operands.{file_of_operand}
