@@ -1,5 +1,5 @@
 -- What the program does for a job, how it ends, and what it says on standard error.
-use Rattle.std.specs.Prelude.{◌≡◌, ℕ, Bool, true, false, List, [], ◌++◌, Some, codes, map, string_bytes}
+use Rattle.std.specs.Prelude.{◌≡◌, ◌⊎◌, ℕ, Bool, true, false, List, [], ◌++◌, Option, Some, codes, map, string_bytes}
 use Rattle.std.specs.Io.KnownBytes.{Appends}
 use Rattle.std.specs.List.{slice_index_or}
 use Rattle.cbrowse.specs.declared.desk.tags.Format.{Format}
@@ -13,11 +13,13 @@ use Rattle.cbrowse.specs.declared.job.Usage.TheVariants.{Help, Wrong, Memory as 
 use Rattle.cbrowse.specs.declared.session.input.Ended.{Ended}
 use Rattle.cbrowse.specs.declared.session.input.Ended.TheVariants.{Done, Cut, Fault, Operand}
 use Rattle.cbrowse.specs.declared.session.input.Fault.TheVariants.{Read, Write, Memory, LongLine, ManyLines}
+use Rattle.clap.specs.Words.{subcommand_of}
 use Rattle.cb_tags.specs.TagLines.{Tag}
 use Rattle.cb_tags.specs.Writers.{Writer}
 use Rattle.cb_tags.specs.Writing.{AppendsFront}
 use Rattle.cbrowse.specs.Devices.{Reader}
 use Rattle.cbrowse.specs.Inputs.{inputs}
+use Rattle.cbrowse.specs.Jobs.{browse_app, IsJobOf}
 use Rattle.cbrowse.specs.Refusals.{text_of}
 use Rattle.cbrowse.specs.Serving.{LeavesRun}
 use Rattle.cbrowse.specs.Tags.{tags, tags_text, listing_text}
@@ -111,3 +113,9 @@ abbrev pub usage_said : Usage → List ℕ
 usage_said (Help text) = string_bytes text
 usage_said (Wrong text) = string_bytes text
 usage_said NoMemory = error_line (codes "out of memory")
+
+-- the exit status and what is said on standard error are those of one end: of the job that the words ask for, or of words without a job
+abbrev pub Ends : List (List ℕ) → ℕ → Option (List ℕ) → Option (List ℕ) → Type 0
+Ends words status old new =
+    ((job : Job) × (end : Finish) × IsJobOf (subcommand_of browse_app words) job × (status ≡ status_of end) × AppendsFront old new (said_of job end))
+    ⊎ ((usage : Usage) × (status ≡ usage_status usage) × AppendsFront old new (usage_said usage))

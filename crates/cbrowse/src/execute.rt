@@ -1,7 +1,7 @@
 //! The program behind its entry: words in, a job done, an exit status out.
-ghost use Rattle.std.specs.Prelude.{◌≡◌, map};
+ghost use Rattle.std.specs.Prelude.{◌≡◌, map, string_bytes};
 ghost use Rattle.cb_tags.specs.TagLines.{tag_of};
-ghost use Rattle.cbrowse.specs.Program.{output_format, output_text, tags_output, WritesText, DoesJob};
+ghost use Rattle.cbrowse.specs.Program.{output_format, output_text, tags_output, WritesText, DoesJob, Ends};
 ghost use Rattle.cbrowse.specs.Writing.{Puts};
 
 mod files;
@@ -151,7 +151,9 @@ pub fn execute<R: Files + AllocGlobal, I: BufRead, O: Write, E: Write>(
     feed: &mut Feed<I>,
     out: &mut Sink<O>,
     errors: &mut Sink<E>,
-) -> u8 {
+) -> u8
+    ensures { Ends (map string_bytes words.now) result errors.old.bytes errors.new.bytes }
+{
     match job_of(rt.alloc(), words) {
         Ok(job) => conclude(errors, &job, work(rt, folder, &job, feed, out)),
         Err(usage) => refuse(errors, &usage),

@@ -62,7 +62,7 @@ pub fn read_operands<R: Files + AllocGlobal>(
 }
 
 /// Makes or empties a tags file.
-pub fn make_file<R: Files + AllocGlobal>(
+pub(super) fn make_file<R: Files + AllocGlobal>(
     rt: &R,
     folder: &str,
     name: &str,
