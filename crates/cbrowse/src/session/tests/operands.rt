@@ -3,11 +3,11 @@ use super::WIDE;
 use crate::desk::Refusal;
 use crate::session::{Ended, Feed, Operand, Operands, prepare, run};
 use cb_tags::Sink;
-use std::alloc::Global;
+use std::alloc::{AllocError, Global};
 use std::test::Fail;
 
 /// Operands of these names and texts.
-fn operands(alloc: Global, files: &[(&[u8], &[u8])]) -> Result<Operands, Fail> {
+fn operands(alloc: Global, files: &[(&[u8], &[u8])]) -> Result<Operands, AllocError> {
     let mut operands = Vec::new(alloc);
     for (name, bytes) in files {
         operands.push(Operand {
@@ -101,10 +101,12 @@ fn an_operand_of_a_million_bytes_and_one(rt: HostRuntime) -> Result<(), Fail> {
 /// Run it with each allocation refused in turn: want of memory has the place of its operand.
 #[test]
 fn a_refused_growth_names_its_operand(rt: HostRuntime) -> Result<(), Fail> {
-    let operands = operands(
+    let Ok(operands) = operands(
         rt.alloc(),
         &[(b"a.c".as_slice(), F), (b"b.c".as_slice(), F)],
-    )?;
+    ) else {
+        return Ok(());
+    };
     match prepare(rt.alloc(), operands) {
         Ok(session) => assert_eq!(rt; session.desk().files().count(), 2),
         Err(Ended::Operand(place, refusal)) => {
