@@ -5,8 +5,8 @@ use Rattle.clap.specs.Words.{App, Row, Rule, Text, all_of, first_of, new_app, ne
 use Rattle.clap.specs.declared.builder.ArgAction.TheVariants.{Append, SetTrue}
 use Rattle.clap.specs.declared.error.kind.ErrorKind.{ErrorKind}
 use Rattle.clap.specs.declared.error.kind.ErrorKind.TheVariants.{DisplayHelp, OutOfMemory}
-use Rattle.cbrowse.specs.declared.desk.tags.Format.{Format}
-use Rattle.cbrowse.specs.declared.desk.tags.Format.TheVariants.{Plain, Extended}
+use Rattle.cb_desk.specs.declared.tags.Format.{Format}
+use Rattle.cb_desk.specs.declared.tags.Format.TheVariants.{Plain, Extended}
 use Rattle.cbrowse.specs.declared.job.Job.{Job}
 use Rattle.cbrowse.specs.declared.job.Job.TheVariants.{Line, Tags}
 use Rattle.cbrowse.specs.declared.job.Usage.{Usage}

@@ -2,29 +2,29 @@
 use Rattle.std.specs.Prelude.{◌≡◌, ◌⊎◌, ℕ, Bool, true, false, List, [], ◌++◌, Option, Some, codes, map, string_bytes}
 use Rattle.std.specs.Io.KnownBytes.{Appends}
 use Rattle.std.specs.List.{slice_index_or}
-use Rattle.cbrowse.specs.declared.desk.tags.Format.{Format}
-use Rattle.cbrowse.specs.declared.desk.tags.Format.TheVariants.{Extended}
+use Rattle.cb_desk.specs.declared.tags.Format.{Format}
+use Rattle.cb_desk.specs.declared.tags.Format.TheVariants.{Extended}
 use Rattle.cbrowse.specs.declared.execute.finish.Finish.{Finish}
 use Rattle.cbrowse.specs.declared.execute.finish.Finish.TheVariants.{Ran, Unreadable, Unwritable}
 use Rattle.cbrowse.specs.declared.job.Job.{Job}
 use Rattle.cbrowse.specs.declared.job.Job.TheVariants.{Line, Tags}
 use Rattle.cbrowse.specs.declared.job.Usage.{Usage}
 use Rattle.cbrowse.specs.declared.job.Usage.TheVariants.{Help, Wrong, Memory as NoMemory}
-use Rattle.cbrowse.specs.declared.session.input.Ended.{Ended}
-use Rattle.cbrowse.specs.declared.session.input.Ended.TheVariants.{Done, Cut, Fault, Operand}
-use Rattle.cbrowse.specs.declared.session.input.Fault.TheVariants.{Read, Write, Memory, LongLine, ManyLines}
+use Rattle.cb_session.specs.declared.input.Ended.{Ended}
+use Rattle.cb_session.specs.declared.input.Ended.TheVariants.{Done, Cut, Fault, Operand}
+use Rattle.cb_session.specs.declared.input.Fault.TheVariants.{Read, Write, Memory, LongLine, ManyLines}
 use Rattle.clap.specs.Words.{subcommand_of}
 use Rattle.cb_tags.specs.TagLines.{Tag}
 use Rattle.cb_tags.specs.Writers.{Writer}
 use Rattle.cb_tags.specs.Writing.{AppendsFront}
-use Rattle.cbrowse.specs.Devices.{Reader}
-use Rattle.cbrowse.specs.Inputs.{inputs}
+use Rattle.cb_session.specs.Devices.{Reader}
+use Rattle.cb_session.specs.Inputs.{inputs}
 use Rattle.cbrowse.specs.Jobs.{browse_app, IsJobOf}
-use Rattle.cbrowse.specs.Refusals.{text_of}
-use Rattle.cbrowse.specs.Serving.{LeavesRun}
-use Rattle.cbrowse.specs.Tags.{tags, tags_text, listing_text}
-use Rattle.cbrowse.specs.Timeline.{Timeline}
-use Rattle.cbrowse.specs.World.{World}
+use Rattle.cb_desk.specs.Refusals.{text_of}
+use Rattle.cb_session.specs.Serving.{LeavesRun}
+use Rattle.cb_desk.specs.Tags.{tags, tags_text, listing_text}
+use Rattle.cb_desk.specs.Timeline.{Timeline}
+use Rattle.cb_desk.specs.World.{World}
 
 -- the order of the lines of a listing, or of a tags file
 abbrev pub output_format : (listing : Bool) → Format → Format

@@ -2,16 +2,16 @@
 ghost use Rattle.std.specs.Prelude.{◌≡◌, map, string_bytes};
 ghost use Rattle.cb_tags.specs.TagLines.{tag_of};
 ghost use Rattle.cbrowse.specs.Program.{output_format, output_text, tags_output, WritesText, DoesJob, Ends};
-ghost use Rattle.cbrowse.specs.Writing.{Puts};
+ghost use Rattle.cb_session.specs.Writing.{Puts};
 
 mod files;
 mod finish;
 #[cfg(test)]
 mod tests;
 
-use crate::desk::{Desk, Format};
+use cb_desk::{Desk, Format};
 use crate::job::{Job, job_of};
-use crate::session::{
+use cb_session::{
     Ended, Fault, Feed, Limits, Session, prepare, put_listing_file, put_tags_file,
 };
 use cb_tags::{Sink, TagRow};

@@ -8,7 +8,7 @@ mod found;
 #[cfg(test)]
 mod tests;
 
-use crate::desk::Format;
+use cb_desk::Format;
 use clap::Error;
 use clap::error::ErrorKind;
 use std::alloc::{AllocError, Global};

@@ -1,13 +1,11 @@
 //! The program `cbrowse`: a source browser for C.
 #![tactic(auto)]
 
-mod desk;
 mod execute;
 mod job;
-mod session;
 
 use crate::job::Usage;
-use crate::session::Feed;
+use cb_session::Feed;
 use cb_tags::Sink;
 use std::env;
 use std::io::{self, BufReader, BufWriter, ErrorKind};

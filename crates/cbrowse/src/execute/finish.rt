@@ -1,13 +1,12 @@
 //! How the program ends: its exit status, and what it says on standard error.
 ghost use Rattle.std.specs.Prelude.{◌≡◌, [], map, string_bytes};
 ghost use Rattle.std.specs.List.{slice_index_or};
-ghost use Rattle.cb_tags.specs.Writing.{AppendsFront};
+ghost use Rattle.cb_tags.specs.Writing.{AppendsFront, Puts};
 ghost use Rattle.cbrowse.specs.Program.{error_line, file_line, files_of, tagsfile_of, run_said, said_of, run_status, status_of, usage_status, usage_said};
-ghost use Rattle.cbrowse.specs.Writing.{Puts};
 
 use crate::job::{Job, Usage};
-use crate::session::{Ended, Fault, put_all};
-use cb_tags::Sink;
+use cb_session::{Ended, Fault};
+use cb_tags::{Sink, WriteFault, put_texts};
 use std::io::Write;
 
 /// How a job ended.
@@ -82,20 +81,20 @@ fn usage_status(usage: &Usage) -> u8
     }
 }
 
-fn put_error<E: Write>(errors: &mut Sink<E>, text: &[u8]) -> Result<(), Fault>
+fn put_error<E: Write>(errors: &mut Sink<E>, text: &[u8]) -> Result<(), WriteFault>
     ensures { Puts errors.old errors.new result (error_line text.now) }
 {
-    put_all(errors, &[b"cbrowse: ", text, b"\n"])
+    put_texts(errors, &[b"cbrowse: ", text, b"\n"])
 }
 
-fn put_file_error<E: Write>(errors: &mut Sink<E>, name: &[u8], text: &[u8]) -> Result<(), Fault>
+fn put_file_error<E: Write>(errors: &mut Sink<E>, name: &[u8], text: &[u8]) -> Result<(), WriteFault>
     ensures { Puts errors.old errors.new result (file_line name.now text.now) }
 {
-    put_all(errors, &[b"cbrowse: ", name, b": ", text, b"\n"])
+    put_texts(errors, &[b"cbrowse: ", name, b": ", text, b"\n"])
 }
 
 /// Says how a run over these files ended, if not as it should.
-fn put_run<E: Write>(errors: &mut Sink<E>, files: &[String], ended: Ended) -> Result<(), Fault>
+fn put_run<E: Write>(errors: &mut Sink<E>, files: &[String], ended: Ended) -> Result<(), WriteFault>
     ensures { Puts errors.old errors.new result (run_said (map string_bytes files.now) ended) }
 {
     match ended {
@@ -115,7 +114,7 @@ fn put_run<E: Write>(errors: &mut Sink<E>, files: &[String], ended: Ended) -> Re
 }
 
 /// Says how a job ended, if not as it should.
-fn put_finish<E: Write>(errors: &mut Sink<E>, job: &Job, finish: Finish) -> Result<(), Fault>
+fn put_finish<E: Write>(errors: &mut Sink<E>, job: &Job, finish: Finish) -> Result<(), WriteFault>
     ensures { Puts errors.old errors.new result (said_of job.now finish) }
 {
     match finish {
@@ -128,12 +127,12 @@ fn put_finish<E: Write>(errors: &mut Sink<E>, job: &Job, finish: Finish) -> Resu
 }
 
 /// Says why there is no job.
-fn put_usage<E: Write>(errors: &mut Sink<E>, usage: &Usage) -> Result<(), Fault>
+fn put_usage<E: Write>(errors: &mut Sink<E>, usage: &Usage) -> Result<(), WriteFault>
     ensures { Puts errors.old errors.new result (usage_said usage.now) }
 {
     match usage {
-        Usage::Help(text) => put_all(errors, &[text.as_bytes()]),
-        Usage::Wrong(text) => put_all(errors, &[text.as_bytes()]),
+        Usage::Help(text) => put_texts(errors, &[text.as_bytes()]),
+        Usage::Wrong(text) => put_texts(errors, &[text.as_bytes()]),
         Usage::Memory => put_error(errors, b"out of memory"),
     }
 }

@@ -2,7 +2,7 @@
 mod files;
 
 use super::execute;
-use crate::session::Feed;
+use cb_session::Feed;
 use cb_tags::Sink;
 use std::alloc::AllocError;
 

@@ -5,7 +5,7 @@ ghost use Rattle.cbrowse.specs.Jobs.{IsJobOf, all_or_none, first_or, format_numb
 ghost use Rattle.cbrowse.specs.Commands.{rows_in};
 
 use super::Job;
-use crate::desk::Format;
+use cb_desk::Format;
 use clap::ArgMatches;
 use std::alloc::{AllocError, Global};
 

@@ -1,6 +1,6 @@
 //! The words of a command line and their jobs, or the texts on wrong words and of help.
 use super::{Job, Usage, job_of};
-use crate::desk::Format;
+use cb_desk::Format;
 use std::alloc::{AllocError, Global};
 
 /// The job of `cbrowse` and these words.

@@ -1,5 +1,5 @@
 use Rattle.std.proofs.Common.{◌≡◌, map, string_bytes, take}
-use Rattle.cbrowse.specs.declared.session.operands.Operand.{Operand}
+use Rattle.cb_session.specs.declared.operands.Operand.{Operand}
 use Rattle.cbrowse.proofs.execute.files.read_operands.Given as goal
 
 abbrev pub invariant-loop-name : goal.invariant-loop-name

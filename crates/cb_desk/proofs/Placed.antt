@@ -1,0 +1,82 @@
+-- Where a file stands among files that ascend by name.
+use Rattle.std.proofs.Common.{◌≡◌, ◌∙◌, sym, ap, refl, ℕ, suc, Bool, true, false, not, ◌||◌, cond, List, [], ◌∷◌, ◌++◌, filter, map, take, drop, length, count_by, insert, nat_cmp, is_lt, Ordering, Less, Equal, Greater}
+use Rattle.std.specs.List.{AllByRecursion, AllZip, list_any}
+use Rattle.std.proofs.lemmas.List.{map-append, take-map, drop-map}
+use Rattle.std.specs.List.Sorted.{IsStrictlySortedBy}
+use Rattle.std.specs.Cmp.Lexicographic.{slice_cmp}
+use Rattle.std.proofs.lemmas.Cmp.{nat_list_cmp_total}
+use Rattle.std.proofs.lemmas.List.Sums.{length-filter}
+use Rattle.cb_desk.specs.World.{File, World, IsValidWorld, with_file}
+
+abbrev world_of : List File → World
+world_of files = record { files = files }
+
+-- the order of the files of a world
+abbrev pub by_name : File → File → Ordering
+by_name f g = slice_cmp nat_cmp f.name g.name
+
+abbrev pub before : File → File → Bool
+before f g = is_lt (slice_cmp nat_cmp g.name f.name)
+
+less-from : (o : Ordering) → is_lt o ≡ true → o ≡ Less
+less-from Less e = refl
+less-from Equal e = cc
+less-from Greater e = cc
+
+lt-from : (o : Ordering) → o ≡ Less → is_lt o ≡ true
+lt-from o e = rw e refl
+
+-- a file above one that is not below f is not below f
+not_before-above : (f x y : File) → before f x ≡ false → by_name x y ≡ Less → before f y ≡ false
+not_before-above f x y out up =
+    (elim (before f y) as (λ b. before f y ≡ b → b ≡ false) [
+      | true ↦ λ h. let through = nat_list_cmp_total.trans x.name y.name f.name up (less-from _ h) in let bad : before f x ≡ true = lt-from _ through in cc
+      | false ↦ λ h. refl
+    ]) refl
+
+none_before : (f x : File) (ys : List File) → before f x ≡ false → AllByRecursion (λ y. by_name x y ≡ Less) ys → filter (before f) ys ≡ []
+none_before f x [] out up = refl
+none_before f x (y ∷ ys) out up = rw (not_before-above f x y out up.0) (none_before f x ys out up.1)
+
+all_after : (f x : File) (ys : List File) → before f x ≡ false → AllByRecursion (λ y. by_name x y ≡ Less) ys → filter (λ g. not (before f g)) ys ≡ ys
+all_after f x [] out up = refl
+all_after f x (y ∷ ys) out up = rw (not_before-above f x y out up.0) (ap (λ zs. y ∷ zs) (all_after f x ys out up.1))
+
+-- the files below f come first, so their number is its place
+pub insert-placed : (f : File) (files : List File) → IsStrictlySortedBy by_name files → insert files (length (filter (before f) files)) f ≡ with_file f files
+unfolding IsStrictlySortedBy
+insert-placed f [] up = refl
+insert-placed f (x ∷ xs) up =
+    (elim (before f x) as (λ b. before f x ≡ b → insert (x ∷ xs) (length (cond b (x ∷ filter (before f) xs) (filter (before f) xs))) f ≡ cond b (x ∷ filter (before f) xs) (filter (before f) xs) ++ f ∷ cond (not b) (x ∷ filter (λ g. not (before f g)) xs) (filter (λ g. not (before f g)) xs)) [
+      | true ↦ λ h. ap (λ zs. x ∷ zs) (insert-placed f xs up.1)
+      | false ↦ λ h. rw (none_before f x xs h up.0, all_after f x xs h up.0) refl
+    ]) refl
+
+pub list_any-map : {X Y : Type 0} (p : Y → Bool) (h : X → Y) (xs : List X) → list_any p (map h xs) ≡ list_any (λ x. p (h x)) xs
+list_any-map p h [] = refl
+list_any-map p h (x ∷ xs) = ap (λ b. p (h x) || b) (list_any-map p h xs)
+
+pub length-filter-map : {X Y : Type 0} (p : Y → Bool) (h : X → Y) (xs : List X) → length (filter (λ x. p (h x)) xs) ≡ length (filter p (map h xs))
+length-filter-map p h [] = refl
+length-filter-map p h (x ∷ xs) =
+    elim (p (h x)) as (λ b. length (cond b (x ∷ filter (λ y. p (h y)) xs) (filter (λ y. p (h y)) xs)) ≡ length (cond b (h x ∷ filter p (map h xs)) (filter p (map h xs)))) [
+      | true ↦ ap suc (length-filter-map p h xs)
+      | false ↦ length-filter-map p h xs
+    ]
+
+pub map-insert : {X Y : Type 0} (h : X → Y) (xs : List X) (i : ℕ) (x : X) → map h (insert xs i x) ≡ insert (map h xs) i (h x)
+map-insert h xs i x = map-append h (take i xs) (x ∷ drop i xs) ∙ rw (take-map h i xs, drop-map h i xs) refl
+
+-- lists whose elements agree in h are equal through h
+pub map-same : {X Y : Type 0} (h : X → Y) (xs ys : List X) → AllZip (λ x y. h y ≡ h x) xs ys → map h ys ≡ map h xs
+map-same h [] [] same = refl
+map-same h (x ∷ xs) [] same = absurd same
+map-same h [] (y ∷ ys) same = absurd same
+map-same h (x ∷ xs) (y ∷ ys) same = cc (same.0, map-same h xs ys same.1)
+
+-- a clone of the files with one more at its place, seen as a world
+pub placed : {X : Type 0} (h : X → File) (f : File) (x : X) (xs ys : List X) (n : ℕ) (w : World) → record { files = map h xs } ≡ w → IsValidWorld w → h x ≡ f → AllZip (λ a b. h b ≡ h a) xs ys → n ≡ count_by (λ a. before f (h a)) xs → world_of (map h (insert ys n x)) ≡ world_of (with_file f w.files)
+placed h f x xs ys n w is valid at same place =
+    let files : map h xs ≡ w.files = ap (λ v. v.files) is in
+    let counted : n ≡ length (filter (before f) w.files) = place ∙ sym (length-filter (λ a. before f (h a)) xs) ∙ length-filter-map (before f) h xs ∙ ap (λ fs. length (filter (before f) fs)) files in
+    ap world_of (map-insert h ys n x ∙ rw (map-same h xs ys same, files, at, counted) (insert-placed f w.files valid.ascending))

@@ -1,0 +1,11 @@
+use Rattle.std.proofs.Common.{arith}
+use Rattle.std.specs.List.Sorted.{IsStrictlySortedBy}
+use Rattle.cb_desk.proofs.state.Desk.new.Goals as goal
+
+pub invariant_of-result : goal.invariant_of-result
+unfolding IsStrictlySortedBy
+invariant_of-result c = rw (c.new-2.ensures, c.new.ensures.items) (record {
+  worlds = tt;
+  now = record { names = tt; sizes = tt; count = omega arith; ascending = tt };
+  bounded = omega arith;
+})

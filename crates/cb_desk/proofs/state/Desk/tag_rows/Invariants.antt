@@ -1,0 +1,10 @@
+use Rattle.std.proofs.Common.{◌≡◌, ◌++◌, flat_map, map}
+use Rattle.cb_desk.specs.Meant.{file_of}
+use Rattle.cb_desk.specs.Tags.{file_tags}
+use Rattle.cb_desk.proofs.state.Desk.tag_rows.Given as goal
+
+abbrev pub invariant-loop-name : goal.invariant-loop-name
+invariant-loop-name l = record {
+  so_far : l.rows ≡ flat_map file_tags (map file_of l.yielded);
+  left : map file_of l.yielded ++ l.name-iterator ≡ l.fn.self.present.files;
+}

@@ -1,0 +1,26 @@
+//! The files of a session, their past, and what is asked of them.
+//!
+//! A desk holds a timeline of worlds. A change moves it to the world that the step gives, undo moves it back, and
+//! every answer is read from the present world. It stands on `cb_scan` (texts and what they define) and `cb_tags` (tags,
+//! their order, and which names are names of files).
+//! The layer above uses the contracts of [`Desk`].
+#![tactic(auto)]
+
+mod change;
+mod files;
+mod found;
+pub mod laws;
+mod refusal;
+mod rows;
+mod snapshot;
+mod state;
+mod tags;
+#[cfg(test)]
+mod tests;
+
+pub use change::Change;
+pub use files::Files;
+pub use refusal::Refusal;
+pub use rows::{Field, RefRow, RowList};
+pub use state::Desk;
+pub use tags::{Format, TagRowList};

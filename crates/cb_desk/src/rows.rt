@@ -1,0 +1,148 @@
+//! Questions and the rows that answer them.
+ghost use Rattle.std.specs.Prelude.{◌≡◌, ◌≤◌, ◌==◌, ◌||◌, [], ◌∷◌, ◌++◌, List, length, map, IfOk};
+ghost use Rattle.std.specs.List.{list_any, prefix_len};
+ghost use Rattle.cb_scan.specs.Definitions.{IsWithin};
+ghost use Rattle.cb_desk.specs.World.{File};
+ghost use Rattle.cb_desk.specs.Answer.{AnswerRow, row_eq, distinct, unindented, definition_row, definition_rows};
+ghost use Rattle.cb_desk.specs.Collects.{Collects};
+ghost use Rattle.cb_desk.specs.Meant.{row_of, file_of};
+
+use super::found::{defined_name, shown_line};
+use cb_scan::{Def, Meter, Source, scan};
+use std::alloc::{AllocError, Global};
+use std::marker::Model;
+
+/// What is asked. The digit of a question names its field.
+#[derive(Clone, Copy, Debug, PartialEq, Eq)]
+pub enum Field {
+    /// 1: the definitions of a name.
+    Definition,
+}
+
+/// A row of an answer; its text has no leading spaces and tabs.
+#[derive(Clone, Copy, Debug)]
+pub struct RefRow<'a> {
+    pub file: &'a [u8],
+    pub function: &'a [u8],
+    /// From 1.
+    pub line: u32,
+    pub text: &'a [u8],
+}
+
+impl<'a> RefRow<'a> {
+    /// Whether two rows are equal in all four columns. The lines are compared first, since that is cheap.
+    fn equals(&self, other: &RefRow<'_>) -> bool
+        ensures { result ≡ row_eq (row_of self.now) (row_of other.now) }
+    {
+        self.line == other.line
+            && self.file == other.file
+            && self.function == other.function
+            && self.text == other.text
+    }
+}
+
+/// The rows of an answer, by file and place.
+#[derive(Drop)]
+pub struct RowList<'a> {
+    rows: Vec<RefRow<'a>>,
+}
+
+impl<'a> Model for RowList<'a> {
+    ghost use Rattle.std.specs.Prelude.{List, map};
+    ghost use Rattle.cb_desk.specs.Answer.{AnswerRow};
+    ghost use Rattle.cb_desk.specs.Meant.{row_of};
+
+    ghost Value = { List AnswerRow };
+
+    ghost view = { λ r. map row_of r.rows.items };
+}
+
+impl<'a> RowList<'a> {
+    /// The rows, in order.
+    pub fn rows(&self) -> &[RefRow<'a>]
+        ensures value { map row_of result.now ≡ self.now }
+        ensures len { length result.now ≡ length self.now }
+    {
+        self.rows.as_slice()
+    }
+
+    /// No rows. It takes no memory.
+    pub(super) fn new(alloc: Global) -> RowList<'a>
+        ensures { result ≡ [] }
+    {
+        RowList {
+            rows: Vec::new(alloc),
+        }
+    }
+
+    /// Adds a row, unless an equal one is there.
+    fn add(&mut self, row: RefRow<'a>) -> Result<(), AllocError>
+        ensures { IfOk result (λ _. Collects self.old self.new (row_of row.entry ∷ [])) }
+    {
+        if has_row(&self.rows, &row) {
+            return Ok(());
+        }
+        self.rows.push(row)?;
+        Ok(())
+    }
+
+    /// Adds the rows of the definitions of that name in a file, which is scanned afresh.
+    pub(super) fn add_definitions(
+        &mut self,
+        alloc: Global,
+        name: &'a [u8],
+        source: &'a Source,
+        pattern: &[u8],
+    ) -> Result<(), AllocError>
+        ensures { IfOk result (λ _. Collects self.old self.new (definition_rows pattern.now (file_of (name.entry, source.entry)))) }
+    {
+        let mut meter = Meter::new();
+        let facts = match scan(alloc, &mut meter, source) {
+            Ok(facts) => facts,
+            Err(_) => return Err(AllocError),
+        };
+        for def in facts.defs() {
+            if defined_name(source, def) == pattern {
+                self.add(definition_row(name, source, def))?;
+            }
+        }
+        Ok(())
+    }
+}
+
+/// Whether one of the rows is equal to this one.
+fn has_row(rows: &[RefRow<'_>], row: &RefRow<'_>) -> bool
+    ensures { result ≡ list_any (λ other. row_eq (row_of row.now) (row_of other)) rows.now }
+{
+    rows.iter().any(|other| row.equals(other))
+}
+
+/// The row of a definition in a file.
+fn definition_row<'a>(name: &'a [u8], source: &'a Source, def: &Def) -> RefRow<'a>
+    requires { IsWithin source.now def.now.name }
+    ensures { row_of result ≡ definition_row (file_of (name.entry, source.entry)) def.now }
+{
+    RefRow {
+        file: name,
+        function: defined_name(source, def),
+        line: def.line,
+        text: unindented(shown_line(source, def.line)),
+    }
+}
+
+/// A line without its leading spaces and tabs.
+fn unindented(line: &[u8]) -> &[u8]
+    ensures { result.now ≡ unindented line.now }
+{
+    &line[blanks(line)..]
+}
+
+/// How many spaces and tabs a line begins with.
+fn blanks(line: &[u8]) -> usize
+    ensures value { result ≡ prefix_len (λ b. b == 32 || b == 9) line.now }
+    ensures within { result ≤ length line.now }
+{
+    line.iter()
+        .take_while(|byte| **byte == b' ' || **byte == b'\t')
+        .count()
+}

@@ -1,0 +1,72 @@
+-- A question that is read has a pattern.
+use Rattle.std.proofs.Common.{◌≡◌, ℕ, Bool, true, false, cond, ◌||◌, List, [], ◌∷◌, Option, Some, None, sym, subst, nat_lt, nat_eq, codes, drop}
+use Rattle.std.specs.List.{slice_split, starts_with}
+use Rattle.std.specs.Str.{bytes_eq}
+use Rattle.cb_session.specs.Inputs.{Entry, refused, quit, tags_file, listing, tags_numbered, tags_words, words_line, number_in, Line, whole, block, is_space, is_digit, load_sized, load_words, definition_query, field_query, command_line, short_line}
+use Rattle.cb_desk.specs.declared.refusal.Refusal.TheVariants.{NoSuchField, BadCount}
+use Rattle.cb_desk.specs.declared.tags.Format.TheVariants.{Plain, Extended}
+use Rattle.cb_session.specs.Said.{HasPattern}
+
+abbrev IsPatterned : Line → Type 0
+IsPatterned (whole e) = HasPattern e
+IsPatterned (block name n) = Unit {0}
+
+-- both choices do, and so the choice
+IsPatterned-choice : (b : Bool) (x y : Line) → IsPatterned x → IsPatterned y → IsPatterned (cond b x y)
+IsPatterned-choice true x y p q = p
+IsPatterned-choice false x y p q = q
+
+load_sized-patterned : (name : List ℕ) (n : Option ℕ) → IsPatterned (load_sized name n)
+load_sized-patterned name None = tt
+load_sized-patterned name (Some n) = IsPatterned-choice (nat_lt 1000000 n) _ _ tt tt
+
+load_words-patterned : (words : List (List ℕ)) → IsPatterned (load_words words)
+load_words-patterned [] = load_sized-patterned [] (number_in [])
+load_words-patterned (name ∷ []) = load_sized-patterned name (number_in [])
+load_words-patterned (name ∷ count ∷ []) = load_sized-patterned name (number_in count)
+load_words-patterned (name ∷ count ∷ more ∷ others) = tt
+
+definition_query-patterned : (pattern : List ℕ) → HasPattern (definition_query pattern)
+definition_query-patterned [] = tt
+definition_query-patterned (b ∷ bs) = λ e. cc
+
+field_query-patterned : (digit : ℕ) (pattern : List ℕ) → HasPattern (field_query digit pattern)
+field_query-patterned digit pattern =
+    elim (nat_eq digit 49) as (λ b. HasPattern (cond b (definition_query pattern) (refused NoSuchField))) [ true ↦ definition_query-patterned pattern | false ↦ tt ]
+
+tags_numbered-patterned : (n : Option ℕ) → HasPattern (tags_numbered n)
+tags_numbered-patterned None = tt
+tags_numbered-patterned (Some n) =
+    elim (nat_eq n 1) as (λ b. HasPattern (cond b (tags_file Plain) (cond (nat_eq n 2) (tags_file Extended) (refused BadCount)))) [
+      | true ↦ tt
+      | false ↦ elim (nat_eq n 2) as (λ b. HasPattern (cond b (tags_file Extended) (refused BadCount))) [ true ↦ tt | false ↦ tt ]
+    ]
+
+tags_words-patterned : (words : List (List ℕ)) → HasPattern (tags_words words)
+tags_words-patterned [] = tt
+tags_words-patterned (number ∷ []) = tags_numbered-patterned (number_in number)
+tags_words-patterned (number ∷ more ∷ others) = tt
+
+words_line-patterned : (line : List ℕ) → IsPatterned (words_line line)
+unfolding words_line
+words_line-patterned line =
+    IsPatterned-choice (starts_with nat_eq line (codes ":load ")) _ _ (load_words-patterned (slice_split is_space (drop 6 line)))
+    (IsPatterned-choice (starts_with nat_eq line (codes ":tags ")) (whole (tags_words (slice_split is_space (drop 6 line)))) _ (tags_words-patterned (slice_split is_space (drop 6 line))) tt)
+
+command_line-patterned : (line : List ℕ) → IsPatterned (command_line line)
+unfolding command_line
+command_line-patterned line =
+    IsPatterned-choice (bytes_eq line (codes ":undo")) _ _ tt
+    (IsPatterned-choice (bytes_eq line (codes ":load")) _ _ (load_words-patterned [])
+    (IsPatterned-choice (bytes_eq line (codes ":tags")) (whole (tags_file Plain)) _ tt
+    (IsPatterned-choice (bytes_eq line (codes ":listing")) (whole listing) _ tt (words_line-patterned line))))
+
+short_line-patterned : (line : List ℕ) → IsPatterned (short_line line)
+short_line-patterned [] = tt
+short_line-patterned (b ∷ bs) =
+    IsPatterned-choice (nat_eq b 113 || nat_eq b 4) (whole quit) _ tt
+    (IsPatterned-choice (is_digit b) (whole (field_query b bs)) (command_line (b ∷ bs)) (field_query-patterned b bs) (command_line-patterned (b ∷ bs)))
+
+-- the entry of a line has its pattern
+pub HasPattern-whole : (line : List ℕ) (e : Entry) → whole e ≡ short_line line → HasPattern e
+HasPattern-whole line e h = subst IsPatterned (sym h) (short_line-patterned line)

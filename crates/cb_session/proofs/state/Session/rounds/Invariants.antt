@@ -1,0 +1,7 @@
+use Rattle.std.proofs.Common.{◌≡◌, ◌-◌, List, ℕ, Some}
+use Rattle.cb_session.proofs.Rounds.{Rounds}
+use Rattle.cb_session.proofs.state.Session.rounds.Given as goal
+
+abbrev pub invariant-rounds : goal.invariant-rounds
+invariant-rounds g l = (bytes : List ℕ) → l.fn.feed.bytes ≡ Some bytes
+    → Rounds l.limits.lines l.limits.line bytes l.fn.self l.fn.out (l.limits.lines - l._round) l.self l.feed l.out

@@ -1,0 +1,23 @@
+-- What is known of a reader, and what a call does to it.
+use Rattle.std.specs.Prelude.{◌≡◌, ◌≢◌, ℕ, List, [], ◌∷◌, Option, None, Some, Result, Ok, Err}
+use Rattle.std.specs.Io.KnownBytes.{Consumes, Keeps, IsAtEnd}
+use Rattle.cb_session.specs.declared.feed.ReadFault.{ReadFault}
+use Rattle.cb_session.specs.declared.feed.Stage.{Stage}
+use Rattle.cb_session.specs.declared.feed.Stage.TheVariants.{Open, Ended, Failed}
+
+-- a reader: the bytes that it has left, where it tells them, and how far it is
+pub record Reader : Type 0 where
+  pub bytes : Option (List ℕ)
+  pub stage : Stage
+
+-- after the end of input nothing is left, whatever the reader would tell
+abbrev pub left_at : Stage → Option (List ℕ) → Option (List ℕ)
+left_at Ended known = Some []
+left_at Open known = known
+left_at Failed known = known
+
+-- the next byte; or the end, for good; or a fault, for good and never after the end
+abbrev pub GivesByte : Reader → Reader → Result (Option ℕ) ReadFault → Type 0
+GivesByte old new (Ok (Some b)) = (old.stage ≡ Open) × (new.stage ≡ Open) × Consumes old.bytes new.bytes (b ∷ [])
+GivesByte old new (Ok None) = (old.stage ≢ Failed) × (new.stage ≡ Ended) × IsAtEnd old.bytes × (new.bytes ≡ Some [])
+GivesByte old new (Err e) = (old.stage ≢ Ended) × (new.stage ≡ Failed) × Keeps old.bytes new.bytes

@@ -1,0 +1,46 @@
+-- Operands: the files that are loaded before a run.
+use Rattle.std.specs.Prelude.{◌≡◌, ℕ, ◌+◌, List, [], ◌∷◌, Result, Ok, Err, IsOk}
+use Rattle.cb_desk.specs.declared.refusal.Refusal.{Refusal}
+use Rattle.cb_desk.specs.declared.refusal.Refusal.TheVariants.{OutOfMemory}
+use Rattle.cb_session.specs.declared.input.Ended.{Ended}
+use Rattle.cb_session.specs.declared.input.Ended.TheVariants.{Operand as StoppedAt}
+use Rattle.cb_session.specs.declared.operands.Operand.{Operand}
+use Rattle.cb_desk.specs.World.{File, load}
+use Rattle.cb_desk.specs.Timeline.{Timeline, new_timeline, changed}
+use Rattle.cb_session.specs.Inputs.{Inputs}
+use Rattle.cb_tags.specs.Writers.{Writer}
+use Rattle.cb_session.specs.Serving.{LeavesRun}
+
+-- the file that an operand is
+abbrev pub file_of_operand : Operand → File
+file_of_operand o = record { name = o.name.items; bytes = o.bytes.items }
+
+-- where loads stop: the place of an operand, counted from 0, and why it is refused
+pub record Stop : Type 0 where
+  pub place : ℕ
+  pub why : Refusal
+
+-- loads one after another, and where they lead: all are done, or the first that is refused ends them; memory refuses only what would be done
+pub data Loads : ℕ → Timeline → List File → Result Timeline Stop → Type 0 where
+  all_loaded : {place : ℕ} {t : Timeline} → Loads place t [] (Ok t)
+  first_loaded : {place : ℕ} {t u : Timeline} {f : File} {fs : List File} {end : Result Timeline Stop}
+      → changed t (load f.name f.bytes) ≡ Ok u → Loads (place + 1) u fs end → Loads place t (f ∷ fs) end
+  first_refused : {place : ℕ} {t : Timeline} {f : File} {fs : List File} {r : Refusal}
+      → changed t (load f.name f.bytes) ≡ Err r → Loads place t (f ∷ fs) (Err (record { place = place; why = r }))
+  memory_refused : {place : ℕ} {t : Timeline} {f : File} {fs : List File}
+      → IsOk (changed t (load f.name f.bytes)) → Loads place t (f ∷ fs) (Err (record { place = place; why = OutOfMemory }))
+
+-- the operands are loads of a new timeline; or the first that is refused ends the run
+abbrev pub Prepares : List File → Result Timeline Ended → Type 0
+Prepares files (Ok t) = Loads 0 new_timeline files (Ok t)
+Prepares files (Err (StoppedAt place why)) = Loads 0 new_timeline files (Err (record { place = place; why = why }))
+Prepares files (Err _) = ⊥
+
+-- a run that begins where the loads lead; where one is refused nothing is written
+abbrev pub RunsFrom : Result Timeline Stop → Inputs → Writer → Writer → Ended → Type 0
+RunsFrom (Ok t) i old new ended = LeavesRun i t old new ended
+RunsFrom (Err stop) i old new ended = (ended ≡ StoppedAt stop.place stop.why) × (new ≡ old)
+
+-- a run with operands
+abbrev pub Runs : List File → Inputs → Writer → Writer → Ended → Type 0
+Runs files i old new ended = (end : Result Timeline Stop) × Loads 0 new_timeline files end × RunsFrom end i old new ended

@@ -1,0 +1,93 @@
+-- The output of a run: a prompt before each input, and its reply.
+use Rattle.std.specs.Prelude.{ℕ, ◌+◌, Bool, true, false, List, [], ◌∷◌, ◌++◌, length, codes, decimal, Result, Ok, Err}
+use Rattle.std.specs.List.{flat_map}
+use Rattle.cb_desk.specs.declared.refusal.Refusal.{Refusal}
+use Rattle.cb_desk.specs.declared.refusal.Refusal.TheVariants.{OutOfMemory}
+use Rattle.cb_desk.specs.Refusals.{text_of}
+use Rattle.cb_desk.specs.Timeline.{Timeline, changed, undone}
+use Rattle.cb_desk.specs.Answer.{AnswerRow, answer}
+use Rattle.cb_desk.specs.Tags.{tags, tags_text, head_count, listing_text}
+use Rattle.cb_tags.specs.TagLines.{Tag}
+use Rattle.cb_desk.specs.declared.tags.Format.{Format}
+use Rattle.cb_desk.specs.declared.tags.Format.TheVariants.{Extended}
+use Rattle.cb_session.specs.Inputs.{Entry, query, change, undo, tags_file, listing, refused, nothing, quit, overlong}
+
+-- the prompt
+abbrev pub prompt : List ℕ
+prompt = codes ">> "
+
+-- a row of an answer: its four columns with single spaces between them
+abbrev pub row_line : AnswerRow → List ℕ
+row_line r = r.file ++ codes " " ++ r.function ++ codes " " ++ decimal r.line ++ codes " " ++ r.text ++ codes "\n"
+
+-- how many rows an answer has
+abbrev pub count_line : ℕ → List ℕ
+count_line n = codes "cscope: " ++ decimal n ++ codes " lines\n"
+
+-- the reply to a question: how many rows there are, and the rows
+abbrev pub answer_lines : List AnswerRow → List ℕ
+answer_lines rows = count_line (length rows) ++ flat_map row_line rows
+
+-- the reply that shows a tags file: how many lines it has, and the lines
+abbrev pub tags_reply : Format → List Tag → List ℕ
+tags_reply format ts = count_line (length ts + head_count format) ++ tags_text format ts
+
+-- the reply that shows a listing
+abbrev pub listing_reply : List Tag → List ℕ
+listing_reply ts = count_line (length ts) ++ listing_text ts
+
+-- the reply to a command that is done
+abbrev pub done_line : List ℕ
+done_line = codes "cscope: done\n"
+
+-- the reply to what is refused
+abbrev pub refused_line : Refusal → List ℕ
+refused_line r = codes "cscope: refused: " ++ text_of r ++ codes "\n"
+
+-- what is read is shown, unless memory refused it
+abbrev pub shown : Bool → List ℕ → List ℕ
+shown true text = refused_line OutOfMemory
+shown false text = text
+
+-- the timeline after an input, and the reply to it
+pub record Outcome : Type 0 where
+  pub timeline : Timeline
+  pub reply : List ℕ
+
+-- a move of the timeline: the reason to refuse it comes first, and memory refuses only what would be done
+abbrev pub moved : Bool → Timeline → Result Timeline Refusal → Outcome
+moved out_of_memory t (Err r) = record { timeline = t; reply = refused_line r }
+moved true t (Ok next) = record { timeline = t; reply = refused_line OutOfMemory }
+moved false t (Ok next) = record { timeline = next; reply = done_line }
+
+-- the outcome of an input; `out_of_memory` says that memory refused it
+unfoldable pub outcome : Bool → Timeline → Entry → Outcome
+outcome out_of_memory t (query field pattern) = record { timeline = t; reply = shown out_of_memory (answer_lines (answer t.present field pattern)) }
+outcome out_of_memory t (tags_file format) = record { timeline = t; reply = shown out_of_memory (tags_reply format (tags format t.present)) }
+outcome out_of_memory t listing = record { timeline = t; reply = shown out_of_memory (listing_reply (tags Extended t.present)) }
+outcome out_of_memory t (change s) = moved out_of_memory t (changed t s)
+outcome out_of_memory t undo = moved out_of_memory t (undone t)
+outcome out_of_memory t (refused r) = record { timeline = t; reply = refused_line r }
+outcome out_of_memory t nothing = record { timeline = t; reply = [] }
+outcome out_of_memory t quit = record { timeline = t; reply = [] }
+outcome out_of_memory t overlong = record { timeline = t; reply = [] }
+
+-- the mark of the first input: memory did not refuse what has no mark
+abbrev pub first_mark : List Bool → Bool
+first_mark [] = false
+first_mark (m ∷ ms) = m
+
+-- the marks of the inputs behind it
+abbrev pub later_marks : List Bool → List Bool
+later_marks [] = []
+later_marks (m ∷ ms) = ms
+
+-- the prompt and the reply to an input
+abbrev pub exchange : Bool → Timeline → Entry → List ℕ
+exchange mark t e = prompt ++ (outcome mark t e).reply
+
+-- the output of a run that begins with a timeline: each input in turn; the marks say which of them memory refused
+unfoldable pub output : List Bool → Timeline → List Entry → List ℕ
+output marks t [] = []
+output marks t (e ∷ es) =
+    exchange (first_mark marks) t e ++ output (later_marks marks) (outcome (first_mark marks) t e).timeline es

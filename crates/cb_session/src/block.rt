@@ -1,0 +1,49 @@
+//! The block of a `:load`.
+ghost use Rattle.std.specs.Prelude.{◌≡◌, List, ℕ, Some, IfOk, IfErr};
+ghost use Rattle.cb_session.specs.Inputs.{block, with_block};
+ghost use Rattle.cb_session.specs.Said.{entry_of, HasPattern};
+ghost use Rattle.cb_session.specs.Reading.{Reads, ReadsBlock, IsReadFault};
+
+use super::{Command, Fault, Feed, Input};
+use cb_desk::{Change, Refusal};
+use std::alloc::Global;
+use std::io::BufRead;
+
+/// Reads a block of so many bytes; `None` where the input ends before.
+fn read_block<R: BufRead>(
+    alloc: Global,
+    count: u32,
+    feed: &mut Feed<R>,
+) -> Result<Option<Vec<u8>>, Fault>
+    ensures block { (bytes : List ℕ) → feed.old.bytes ≡ Some bytes → ReadsBlock count bytes feed.new result }
+    ensures failed { IfErr result (IsReadFault feed.new) }
+{
+    let mut block = match Vec::with_capacity(alloc, count as usize) {
+        Ok(block) => block,
+        Err(_) => return Err(Fault::Memory),
+    };
+    'bytes: for _read in 0..count {
+        match feed.byte()? {
+            Some(byte) => block.push_reserved(byte),
+            None => return Ok(None),
+        }
+    }
+    Ok(Some(block))
+}
+
+/// Reads the block of a load of this name.
+pub fn read_load<'a, R: BufRead>(
+    alloc: Global,
+    name: &'a [u8],
+    count: u32,
+    feed: &mut Feed<R>,
+) -> Result<Input<'a>, Fault>
+    ensures first { (bytes : List ℕ) → feed.old.bytes ≡ Some bytes → Reads (with_block (block name.now count) bytes) feed.new result }
+    ensures failed { IfErr result (IsReadFault feed.new) }
+    ensures pattern { IfOk result (λ input. HasPattern (entry_of input)) }
+{
+    match read_block(alloc, count, feed)? {
+        Some(bytes) => Ok(Input::Command(Command::Change(Change::Load(name, bytes)))),
+        None => Ok(Input::Refused(Refusal::InputEnded)),
+    }
+}

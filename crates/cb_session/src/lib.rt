@@ -1,0 +1,30 @@
+//! Commands and replies.
+//!
+//! A session reads commands from a feed, moves a desk and writes replies to a sink. It stands on `cb_desk` (the files, their
+//! past, the answers), `cb_tags` (tag lines, the sink) and `itoa` (numbers in replies).
+//! The layer above uses the contracts of [`run`], [`prepare`] and [`Session::serve`]: what is written is the output of a
+//! run over the bytes of the input.
+#![tactic(auto)]
+
+mod block;
+mod feed;
+mod input;
+mod intake;
+mod limits;
+mod line;
+mod operands;
+mod reply;
+mod state;
+mod tags;
+
+pub use feed::{Feed, ReadFault};
+pub use input::{Command, Ended, Fault, Going, Input};
+pub use intake::{Intake, OutOfMemory};
+pub use limits::Limits;
+pub use operands::{Operand, Operands, prepare, run};
+pub use reply::put_row;
+pub use state::Session;
+pub use tags::{put_listing_file, put_tags_file};
+
+#[cfg(test)]
+mod tests;

@@ -1,0 +1,113 @@
+//! The replies, and the texts that they are made of.
+ghost use Rattle.std.specs.Prelude.{◌≡◌, ◌∷◌, [], ◌++◌, map, codes, decimal};
+ghost use Rattle.std.specs.List.{flat_map};
+ghost use Rattle.cb_session.specs.Writing.{Puts};
+ghost use Rattle.cb_session.specs.Output.{row_line, answer_lines, count_line, done_line, refused_line, prompt};
+ghost use Rattle.cb_desk.specs.Meant.{row_of};
+ghost use Rattle.cb_session.specs.Serving.{move_line};
+
+use super::Fault;
+use cb_desk::{RefRow, Refusal};
+use cb_tags::{Sink, put_text, put_texts};
+use itoa::Buffer;
+use std::io::Write;
+
+/// Writes a whole text.
+fn put<W: Write>(out: &mut Sink<W>, text: &[u8]) -> Result<(), Fault>
+    ensures { Puts out.old out.new result text.now }
+{
+    put_text(out, text)?;
+    Ok(())
+}
+
+/// Writes texts, one after another.
+pub fn put_all<W: Write>(out: &mut Sink<W>, texts: &[&[u8]]) -> Result<(), Fault>
+    ensures { Puts out.old out.new result (flat_map (λ text. text.now) texts.now) }
+{
+    put_texts(out, texts)?;
+    Ok(())
+}
+
+/// Writes the prompt, and hands it on.
+pub fn put_prompt<W: Write>(out: &mut Sink<W>) -> Result<(), Fault>
+    ensures { Puts out.old out.new result prompt }
+{
+    put(out, b">> ")?;
+    out.flush()?;
+    Ok(())
+}
+
+/// Writes the reply to a command that is done.
+fn put_done<W: Write>(out: &mut Sink<W>) -> Result<(), Fault>
+    ensures { Puts out.old out.new result done_line }
+{
+    put(out, b"cscope: done\n")
+}
+
+/// Writes the reply to what is refused.
+pub fn put_refusal<W: Write>(out: &mut Sink<W>, refusal: Refusal) -> Result<(), Fault>
+    ensures { Puts out.old out.new result (refused_line refusal) }
+{
+    put_all(
+        out,
+        &[b"cscope: refused: ", refusal.text().as_bytes(), b"\n"],
+    )
+}
+
+/// Writes the reply to a move of the timeline.
+pub fn put_move<W: Write>(out: &mut Sink<W>, done: Result<(), Refusal>) -> Result<(), Fault>
+    ensures { Puts out.old out.new result (move_line done) }
+{
+    match done {
+        Ok(()) => put_done(out),
+        Err(refusal) => put_refusal(out, refusal),
+    }
+}
+
+/// Writes a row: its four columns with single spaces between them, and a line feed.
+pub fn put_row<W: Write>(out: &mut Sink<W>, row: &RefRow<'_>) -> Result<(), Fault>
+    ensures { Puts out.old out.new result (row_line (row_of row.now)) }
+{
+    let mut digits = Buffer::new();
+    let line = digits.format(row.line).as_bytes();
+    put_all(
+        out,
+        &[
+            row.file,
+            b" ",
+            row.function,
+            b" ",
+            line,
+            b" ",
+            row.text,
+            b"\n",
+        ],
+    )
+}
+
+/// Writes rows, one after another.
+fn put_each<W: Write>(out: &mut Sink<W>, rows: &[RefRow<'_>]) -> Result<(), Fault>
+    ensures { Puts out.old out.new result (flat_map (λ row. row_line (row_of row)) rows.now) }
+{
+    for row in rows {
+        put_row(out, row)?;
+    }
+    Ok(())
+}
+
+/// Writes how many lines there are.
+pub fn put_count<W: Write>(out: &mut Sink<W>, count: u128) -> Result<(), Fault>
+    ensures { Puts out.old out.new result (count_line count) }
+{
+    let mut digits = Buffer::new();
+    let count = digits.format(count).as_bytes();
+    put_all(out, &[b"cscope: ", count, b" lines\n"])
+}
+
+/// Writes the reply to a question: how many rows there are, and the rows.
+pub fn put_rows<W: Write>(out: &mut Sink<W>, rows: &[RefRow<'_>]) -> Result<(), Fault>
+    ensures { Puts out.old out.new result (answer_lines (map row_of rows.now)) }
+{
+    put_count(out, rows.len() as u128)?;
+    put_each(out, rows)
+}

@@ -1,0 +1,211 @@
+//! A session, and its runs.
+ghost use Rattle.std.specs.Prelude.{◌≡◌, ◌≢◌, Bool, List, ℕ, [], Some, IfOk, IfSome, MatchResult};
+ghost use Rattle.cb_desk.specs.Timeline.{new_timeline};
+ghost use Rattle.cb_session.specs.Inputs.{query, tags_file, listing, first, inputs, ending_of};
+ghost use Rattle.cb_session.specs.Output.{outcome};
+ghost use Rattle.cb_session.specs.Said.{entry_of, command_of, going_of, HasPattern};
+ghost use Rattle.cb_session.specs.Serving.{Does, LeavesRound, LeavesRun, HasFailed, IfFault};
+ghost use Rattle.cb_session.specs.Writing.{Puts};
+
+use super::reply::{put_move, put_prompt, put_refusal, put_rows};
+use super::tags::{put_listing_reply, put_tags_reply};
+use super::{Command, Ended, Fault, Feed, Going, Input, Intake, Limits};
+use cb_desk::{Desk, Field, Format};
+use cb_tags::Sink;
+use std::alloc::Global;
+use std::io::{BufRead, Write};
+use std::marker::Model;
+
+/// A desk, and the commands on it.
+#[derive(Drop)]
+pub struct Session {
+    desk: Desk,
+}
+
+impl Model for Session {
+    ghost use Rattle.cb_desk.specs.Timeline.{Timeline};
+
+    ghost Value = { Timeline };
+
+    ghost view = { λ s. s.desk };
+}
+
+impl Session {
+    /// A session with no file and no past. It takes no memory.
+    pub fn new(alloc: Global) -> Session
+        ensures { result ≡ new_timeline }
+    {
+        Session {
+            desk: Desk::new(alloc),
+        }
+    }
+
+    /// A session on a desk.
+    pub(super) fn over(desk: Desk) -> Session
+        ensures { result ≡ desk }
+    {
+        Session { desk }
+    }
+
+    /// The session's desk.
+    pub fn desk(&self) -> &Desk
+        ensures { result.now ≡ self.now }
+    {
+        &self.desk
+    }
+
+    /// Does what was read at a prompt, and writes the reply. At a fault of the sink the move is made all the same.
+    pub fn one<W: Write>(
+        &mut self,
+        alloc: Global,
+        input: Input<'_>,
+        out: &mut Sink<W>,
+    ) -> Result<Going, Fault>
+        requires { HasPattern (entry_of input) }
+        ensures does { (mark : Bool) × Does (outcome mark self.old (entry_of input.entry)) self.new out.old out.new result }
+        ensures going { IfOk result (λ going. going ≡ going_of (ending_of (entry_of input.entry))) }
+    {
+        let going = input.going();
+        self.answer(alloc, input, out)?;
+        Ok(going)
+    }
+
+    fn answer<W: Write>(
+        &mut self,
+        alloc: Global,
+        input: Input<'_>,
+        out: &mut Sink<W>,
+    ) -> Result<(), Fault>
+        requires { HasPattern (entry_of input) }
+        ensures { (mark : Bool) × Does (outcome mark self.old (entry_of input.entry)) self.new out.old out.new result }
+    {
+        match input {
+            Input::Nothing => Ok(()),
+            Input::End => Ok(()),
+            Input::Refused(refusal) => put_refusal(out, refusal),
+            Input::Command(command) => self.command(alloc, command, out),
+        }
+    }
+
+    fn command<W: Write>(
+        &mut self,
+        alloc: Global,
+        command: Command<'_>,
+        out: &mut Sink<W>,
+    ) -> Result<(), Fault>
+        requires { HasPattern (command_of command) }
+        ensures { (mark : Bool) × Does (outcome mark self.old (command_of command.entry)) self.new out.old out.new result }
+    {
+        match command {
+            Command::Query(field, pattern) => self.query(alloc, field, pattern, out),
+            Command::Change(change) => {
+                let done = self.desk.change(alloc, change);
+                put_move(out, done)
+            }
+            Command::Undo => {
+                let done = self.desk.undo();
+                put_move(out, done)
+            }
+            Command::Tags(format) => self.tags(alloc, format, out),
+            Command::Listing => self.listing(alloc, out),
+        }
+    }
+
+    fn query<W: Write>(
+        &self,
+        alloc: Global,
+        field: Field,
+        pattern: &[u8],
+        out: &mut Sink<W>,
+    ) -> Result<(), Fault>
+        requires { pattern.now ≢ [] }
+        ensures { (mark : Bool) × Puts out.old out.new result (outcome mark self.now (query field pattern.now)).reply }
+    {
+        match self.desk.rows(alloc, field, pattern) {
+            Ok(list) => put_rows(out, list.rows()),
+            Err(refusal) => put_refusal(out, refusal),
+        }
+    }
+
+    fn tags<W: Write>(&self, alloc: Global, format: Format, out: &mut Sink<W>) -> Result<(), Fault>
+        ensures { (mark : Bool) × Puts out.old out.new result (outcome mark self.now (tags_file format)).reply }
+    {
+        match self.desk.tag_rows(alloc, format) {
+            Ok(list) => put_tags_reply(out, format, list.rows()),
+            Err(refusal) => put_refusal(out, refusal),
+        }
+    }
+
+    fn listing<W: Write>(&self, alloc: Global, out: &mut Sink<W>) -> Result<(), Fault>
+        ensures { (mark : Bool) × Puts out.old out.new result (outcome mark self.now listing).reply }
+    {
+        match self.desk.tag_rows(alloc, Format::Extended) {
+            Ok(list) => put_listing_reply(out, list.rows()),
+            Err(refusal) => put_refusal(out, refusal),
+        }
+    }
+
+    /// Prompts, reads and replies, until the run ends.
+    pub fn serve<R: BufRead, W: Write>(
+        &mut self,
+        alloc: Global,
+        limits: &Limits,
+        feed: &mut Feed<R>,
+        out: &mut Sink<W>,
+    ) -> Ended
+        ensures output { (bytes : List ℕ) → feed.old.bytes ≡ Some bytes → LeavesRun (inputs limits.now.lines limits.now.line bytes) self.old out.old out.new result }
+        ensures failed { IfFault result (HasFailed feed.new out.new) }
+    {
+        let ended = self.rounds(alloc, limits, feed, out);
+        if feed.failed() || out.failed() {
+            return ended;
+        }
+        match out.flush() {
+            Ok(()) => ended,
+            Err(_) => Ended::Fault(Fault::Write),
+        }
+    }
+
+    fn rounds<R: BufRead, W: Write>(
+        &mut self,
+        alloc: Global,
+        limits: &Limits,
+        feed: &mut Feed<R>,
+        out: &mut Sink<W>,
+    ) -> Ended
+        ensures output { (bytes : List ℕ) → feed.old.bytes ≡ Some bytes → LeavesRun (inputs limits.now.lines limits.now.line bytes) self.old out.old out.new result }
+        ensures failed { IfFault result (HasFailed feed.new out.new) }
+    {
+        let mut intake = match Intake::new(alloc) {
+            Ok(intake) => intake,
+            Err(_) => return Ended::Fault(Fault::Memory),
+        };
+        'rounds: for _round in 0..limits.lines {
+            match self.round(alloc, limits, &mut intake, feed, out) {
+                Ok(None) => {}
+                Ok(Some(ended)) => return ended,
+                Err(fault) => return Ended::Fault(fault),
+            }
+        }
+        Ended::Fault(Fault::ManyLines)
+    }
+
+    /// One prompt, one input, one reply; the ending of the run, if it ends.
+    fn round<R: BufRead, W: Write>(
+        &mut self,
+        alloc: Global,
+        limits: &Limits,
+        intake: &mut Intake,
+        feed: &mut Feed<R>,
+        out: &mut Sink<W>,
+    ) -> Result<Option<Ended>, Fault>
+        ensures round { (bytes : List ℕ) → feed.old.bytes ≡ Some bytes → (mark : Bool) × LeavesRound mark (first limits.now.line bytes) self.old self.new feed.new out.old out.new result }
+        ensures failed { MatchResult result (λ ending. IfSome ending (λ ended. IfFault ended (HasFailed feed.new out.new))) (HasFailed feed.new out.new) }
+    {
+        put_prompt(out)?;
+        let input = intake.read(alloc, limits, feed)?;
+        let ending = input.ending();
+        self.one(alloc, input, out)?;
+        Ok(ending)
+    }
+}

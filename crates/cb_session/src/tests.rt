@@ -1,0 +1,395 @@
+//! Runs over memory. The expected bytes are written by hand from the rules of commands and replies.
+mod operands;
+mod tags;
+
+use super::reply::put_rows;
+use super::{Ended, Fault, Feed, Limits, Session, put_row};
+use cb_desk::RefRow;
+use cb_tags::Sink;
+use std::alloc::Global;
+use std::io::{self, BufRead, ErrorKind, Read, Write};
+use std::test::Fail;
+
+/// A command of each kind, and more lines refused than done.
+const INPUT: &[u8] = b":load a.c 2\n{}:undo\n:undo\n1f\n\n:load b.txt 1\nx6x\nzzz";
+
+/// Its output.
+const OUTPUT: &[u8] =
+    b">> cscope: done\n>> cscope: done\n>> cscope: refused: nothing to undo\n>> cscope: 0 lines\n>> >> cscope: refused: bad name\n>> cscope: refused: field not in this profile\n>> cscope: refused: unknown command\n>> ";
+
+/// Limits that no short run reaches.
+const WIDE: Limits = Limits {
+    line: 1_000_000,
+    lines: 1_000,
+};
+
+fn run(alloc: Global, limits: &Limits, input: &[u8]) -> (Vec<u8>, Ended) {
+    let mut written = Vec::new(alloc);
+    let mut session = Session::new(alloc);
+    let mut feed = Feed::new(input);
+    let mut sink = Sink::new(&mut written);
+    let ended = session.serve(alloc, limits, &mut feed, &mut sink);
+    (written, ended)
+}
+
+/// A text of so many bytes `a`, and then another.
+fn many(alloc: Global, count: usize, behind: &[u8]) -> Result<Vec<u8>, Fail> {
+    let mut text = Vec::with_capacity(alloc, 8_192)?;
+    text.resize(count, b'a')?;
+    text.extend_from_slice(behind)?;
+    Ok(text)
+}
+
+#[test]
+fn one_of_each(rt: HostRuntime) {
+    let (written, ended) = run(rt.alloc(), &WIDE, INPUT);
+    assert_eq!(rt; written.as_slice(), OUTPUT);
+    assert_eq!(rt; ended, Ended::Done);
+}
+
+#[test]
+fn finds_a_macro(rt: HostRuntime) {
+    let (written, ended) = run(
+        rt.alloc(),
+        &WIDE,
+        b":load a.c 175\n#include \"a.h\"\n#define TWICE(x) ((x) + add(x, 0))\ntypedef unsigned long word;\nstatic int add(int a, int b) {\n\treturn a + b;\n}\nint main(void) {\n\treturn add(1, 2) / TWICE(3);\n}\n1TWICE\n",
+    );
+    assert_eq!(rt;
+        written.as_slice(),
+        b">> cscope: done\n>> cscope: 1 lines\na.c TWICE 2 #define TWICE(x) ((x) + add(x, 0))\n>> ".as_slice()
+    );
+    assert_eq!(rt; ended, Ended::Done);
+}
+
+#[test]
+fn lines_refused_by_reading(rt: HostRuntime) -> Result<(), Fail> {
+    let mut input = Vec::from_slice(rt.alloc(), b"6x\n9\nzzz\n\n")?;
+    let long = many(rt.alloc(), 4_097, b"\nq\n:undo\n")?;
+    input.extend_from_slice(long.as_slice())?;
+    let (written, ended) = run(rt.alloc(), &WIDE, input.as_slice());
+    assert_eq!(rt;
+        written.as_slice(),
+        b">> cscope: refused: field not in this profile\n>> cscope: refused: field not in this profile\n>> cscope: refused: unknown command\n>> >> cscope: refused: line too long\n>> ".as_slice()
+    );
+    assert_eq!(rt; ended, Ended::Done);
+    Ok(())
+}
+
+/// One input each, its replies without the prompts, and how the run ends.
+#[test]
+fn single_inputs(rt: HostRuntime) -> Result<(), Fail> {
+    let cases = [
+        (b"".as_slice(), b">> ".as_slice(), Ended::Done),
+        (b"q".as_slice(), b">> ".as_slice(), Ended::Done),
+        (
+            b"quit it\n:undo\n".as_slice(),
+            b">> ".as_slice(),
+            Ended::Done,
+        ),
+        (b"\x04\n:undo\n".as_slice(), b">> ".as_slice(), Ended::Done),
+        (
+            b"1\n".as_slice(),
+            b">> cscope: refused: no pattern\n>> ".as_slice(),
+            Ended::Done,
+        ),
+        (
+            b"9\n".as_slice(),
+            b">> cscope: refused: field not in this profile\n>> ".as_slice(),
+            Ended::Done,
+        ),
+        (
+            b"1 ".as_slice(),
+            b">> cscope: 0 lines\n>> ".as_slice(),
+            Ended::Done,
+        ),
+        (
+            b":undo \n".as_slice(),
+            b">> cscope: refused: unknown command\n>> ".as_slice(),
+            Ended::Done,
+        ),
+        (
+            b":undo\r\n".as_slice(),
+            b">> cscope: refused: unknown command\n>> ".as_slice(),
+            Ended::Done,
+        ),
+        (
+            b":undo".as_slice(),
+            b">> cscope: refused: nothing to undo\n>> ".as_slice(),
+            Ended::Done,
+        ),
+        (
+            b":loada.c 1\n".as_slice(),
+            b">> cscope: refused: unknown command\n>> ".as_slice(),
+            Ended::Done,
+        ),
+        (
+            b":load a.c 1 \n".as_slice(),
+            b">> cscope: refused: unknown command\n>> ".as_slice(),
+            Ended::Done,
+        ),
+        (
+            b":load\n".as_slice(),
+            b">> cscope: refused: bad count\n>> ".as_slice(),
+            Ended::Done,
+        ),
+        (
+            b":load a.c\n".as_slice(),
+            b">> cscope: refused: bad count\n>> ".as_slice(),
+            Ended::Done,
+        ),
+        (
+            b":load a.c 1\r\n".as_slice(),
+            b">> cscope: refused: bad count\n>> ".as_slice(),
+            Ended::Done,
+        ),
+        (
+            b":load a.c 1000001\n".as_slice(),
+            b">> cscope: refused: bad count\n>> ".as_slice(),
+            Ended::Done,
+        ),
+        (
+            b":load a.c 0000000001\n".as_slice(),
+            b">> cscope: refused: bad count\n>> ".as_slice(),
+            Ended::Done,
+        ),
+        (
+            b":load a.c 000000001\nx".as_slice(),
+            b">> cscope: done\n>> ".as_slice(),
+            Ended::Done,
+        ),
+        (
+            b":load a.c 0".as_slice(),
+            b">> cscope: done\n>> ".as_slice(),
+            Ended::Done,
+        ),
+        (
+            b":load a.c 1".as_slice(),
+            b">> cscope: refused: input ended\n".as_slice(),
+            Ended::Cut,
+        ),
+        (
+            b":load  2\n:u".as_slice(),
+            b">> cscope: refused: bad name\n>> ".as_slice(),
+            Ended::Done,
+        ),
+        (
+            b":load t.c 50\n01234567890123456789".as_slice(),
+            b">> cscope: refused: input ended\n".as_slice(),
+            Ended::Cut,
+        ),
+        (
+            b":load b.txt 1\nx:load a.c 1\ny:load a.c 1\nz".as_slice(),
+            b">> cscope: refused: bad name\n>> cscope: done\n>> cscope: refused: file exists\n>> ".as_slice(),
+            Ended::Done,
+        ),
+    ];
+    for (input, output, end) in cases {
+        let (written, ended) = run(rt.alloc(), &WIDE, input);
+        assert_eq!(rt; written.as_slice(), output);
+        assert_eq!(rt; ended, end);
+    }
+    Ok(())
+}
+
+#[test]
+fn limits_of_a_run(rt: HostRuntime) -> Result<(), Fail> {
+    let limits = Limits {
+        line: 5_000,
+        lines: 3,
+    };
+    let over = many(rt.alloc(), 5_001, b"")?;
+    let (written, ended) = run(rt.alloc(), &limits, over.as_slice());
+    assert_eq!(rt; written.as_slice(), b">> ".as_slice());
+    assert_eq!(rt; ended, Ended::Fault(Fault::LongLine));
+    let under = many(rt.alloc(), 5_000, b"\n")?;
+    let (written, ended) = run(rt.alloc(), &limits, under.as_slice());
+    assert_eq!(rt;
+        written.as_slice(),
+        b">> cscope: refused: line too long\n>> ".as_slice()
+    );
+    assert_eq!(rt; ended, Ended::Done);
+    let (written, ended) = run(rt.alloc(), &limits, b"\n\n\n");
+    assert_eq!(rt; written.as_slice(), b">> >> >> ".as_slice());
+    assert_eq!(rt; ended, Ended::Fault(Fault::ManyLines));
+    let (written, ended) = run(rt.alloc(), &limits, b"\n\n");
+    assert_eq!(rt; written.as_slice(), b">> >> >> ".as_slice());
+    assert_eq!(rt; ended, Ended::Done);
+    Ok(())
+}
+
+#[test]
+fn longest_line_and_largest_load(rt: HostRuntime) -> Result<(), Fail> {
+    let mut input = Vec::from_slice(rt.alloc(), b"1")?;
+    let pattern = many(rt.alloc(), 4_095, b"\n:load big.c 1000000\n")?;
+    input.extend_from_slice(pattern.as_slice())?;
+    let filled = input.len();
+    input.resize(filled + 1_000_000, b' ')?;
+    let (written, ended) = run(rt.alloc(), &WIDE, input.as_slice());
+    assert_eq!(rt;
+        written.as_slice(),
+        b">> cscope: 0 lines\n>> cscope: done\n>> ".as_slice()
+    );
+    assert_eq!(rt; ended, Ended::Done);
+    Ok(())
+}
+
+#[test]
+fn rows_have_single_spaces(rt: HostRuntime) -> Result<(), Fail> {
+    let rows = [
+        RefRow {
+            file: b"f.c",
+            function: b"f",
+            line: 1,
+            text: b"int f(void) {",
+        },
+        RefRow {
+            file: b"z/g.h",
+            function: b"<unknown>",
+            line: 1_000_000,
+            text: b"",
+        },
+    ];
+    let mut written = Vec::new(rt.alloc());
+    let mut sink = Sink::new(&mut written);
+    assert!(rt; put_row(&mut sink, &rows[0]).is_ok());
+    assert!(rt; put_rows(&mut sink, rows.as_slice()).is_ok());
+    assert_eq!(rt;
+        written.as_slice(),
+        b"f.c f 1 int f(void) {\ncscope: 2 lines\nf.c f 1 int f(void) {\nz/g.h <unknown> 1000000 \n".as_slice()
+    );
+    Ok(())
+}
+
+/// A writer that takes so many bytes, two at a time at most, and then fails.
+#[derive(Drop)]
+struct Short {
+    taken: Vec<u8>,
+    room: usize,
+}
+
+impl Write for Short {
+    fn write(&mut self, buf: &[u8]) -> io::Result<usize> {
+        let taken = buf.len().min(self.room).min(2);
+        if taken == 0 {
+            return Err(io::Error::from(ErrorKind::StorageFull));
+        }
+        self.taken.extend_from_slice(&buf[..taken])?;
+        self.room -= taken;
+        Ok(taken)
+    }
+
+    fn flush(&mut self) -> io::Result<()> {
+        Ok(())
+    }
+}
+
+#[test]
+fn a_writer_that_fails_has_taken_a_front(rt: HostRuntime) -> Result<(), Fail> {
+    for room in 0..OUTPUT.len() + 2 {
+        let mut writer = Short {
+            taken: Vec::new(rt.alloc()),
+            room,
+        };
+        let mut session = Session::new(rt.alloc());
+        let mut sink = Sink::new(&mut writer);
+        let mut feed = Feed::new(INPUT);
+        let ended = session.serve(rt.alloc(), &WIDE, &mut feed, &mut sink);
+        let failed = sink.failed();
+        assert_eq!(rt; failed, room < OUTPUT.len());
+        if failed {
+            assert_eq!(rt; ended, Ended::Fault(Fault::Write));
+            assert!(rt; sink.write(b"x").is_err());
+            assert!(rt; sink.flush().is_err());
+        } else {
+            assert_eq!(rt; ended, Ended::Done);
+        }
+        let whole = room.min(OUTPUT.len());
+        assert_eq!(rt; writer.taken.as_slice(), &OUTPUT[..whole]);
+    }
+    Ok(())
+}
+
+/// A writer whose bytes never reach anybody.
+#[derive(Drop)]
+struct Stuck;
+
+impl Write for Stuck {
+    fn write(&mut self, buf: &[u8]) -> io::Result<usize> {
+        Ok(buf.len())
+    }
+
+    fn flush(&mut self) -> io::Result<()> {
+        Err(io::Error::from(ErrorKind::BrokenPipe))
+    }
+}
+
+#[test]
+fn a_failed_flush_ends_the_run(rt: HostRuntime) {
+    let mut session = Session::new(rt.alloc());
+    let mut sink = Sink::new(Stuck);
+    let mut feed = Feed::new(INPUT);
+    let ended = session.serve(rt.alloc(), &WIDE, &mut feed, &mut sink);
+    assert_eq!(rt; ended, Ended::Fault(Fault::Write));
+    assert!(rt; sink.failed());
+    assert_eq!(rt; feed.byte(), Ok(Some(b':')));
+}
+
+/// A reader that gives so many of its bytes one by one, and then fails; at its end it says so once, and then fails too.
+#[derive(Drop)]
+struct Broken<'a> {
+    bytes: &'a [u8],
+    left: usize,
+    ended: bool,
+}
+
+impl Read for Broken<'_> {
+    fn read(&mut self, _buf: &mut [u8]) -> io::Result<usize> {
+        Err(io::Error::from(ErrorKind::Unsupported))
+    }
+}
+
+impl BufRead for Broken<'_> {
+    fn fill_buf(&mut self) -> io::Result<&[u8]> {
+        if self.left == 0 || self.ended {
+            return Err(io::Error::from(ErrorKind::ConnectionReset));
+        }
+        if self.bytes.is_empty() {
+            self.ended = true;
+            return Ok(&[]);
+        }
+        Ok(&self.bytes[..1])
+    }
+
+    fn consume(&mut self, amount: usize) {
+        if amount <= self.bytes.len() && amount <= self.left {
+            self.bytes = &self.bytes[amount..];
+            self.left -= amount;
+        }
+    }
+}
+
+#[test]
+fn a_reader_that_fails_leaves_a_front(rt: HostRuntime) -> Result<(), Fail> {
+    for left in 0..INPUT.len() + 2 {
+        let mut written = Vec::new(rt.alloc());
+        let mut session = Session::new(rt.alloc());
+        let mut sink = Sink::new(&mut written);
+        let mut feed = Feed::new(Broken {
+            bytes: INPUT,
+            left,
+            ended: false,
+        });
+        let ended = session.serve(rt.alloc(), &WIDE, &mut feed, &mut sink);
+        assert_eq!(rt; feed.failed(), left <= INPUT.len());
+        if feed.failed() {
+            assert_eq!(rt; ended, Ended::Fault(Fault::Read));
+            assert!(rt; feed.byte().is_err());
+        } else {
+            // The reader would fail now; the feed asks it no more.
+            assert_eq!(rt; ended, Ended::Done);
+            assert_eq!(rt; feed.byte(), Ok(None));
+        }
+        assert!(rt; OUTPUT.starts_with(written.as_slice()));
+    }
+    Ok(())
+}

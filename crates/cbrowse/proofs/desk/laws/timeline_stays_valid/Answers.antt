@@ -1,5 +1,0 @@
-use Rattle.cbrowse.proofs.Moves.{change_keeps_valid, undo_keeps_valid}
-use Rattle.cbrowse.proofs.desk.laws.timeline_stays_valid.Goals as goal
-
-pub returns : goal.returns
-returns c = record { by_change = change_keeps_valid; by_undo = undo_keeps_valid }

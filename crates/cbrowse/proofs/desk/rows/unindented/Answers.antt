@@ -1,6 +1,0 @@
-use Rattle.std.proofs.lemmas.List.{take_rest}
-use Rattle.cbrowse.proofs.Unindented.{drop-blanks}
-use Rattle.cbrowse.proofs.desk.rows.unindented.Goals as goal
-
-pub returns : goal.returns
-returns c = rw (take_rest c.args.line.now c.blanks.result, c.blanks.ensures.value) (drop-blanks c.args.line.now)

@@ -1,5 +1,0 @@
-use Rattle.cbrowse.proofs.Patterns.{HasPattern-whole}
-use Rattle.cbrowse.proofs.session.intake.Intake.read.Goals as goal
-
-pub returns-in-Whole-clause-pattern : goal.returns-in-Whole-clause-pattern
-returns-in-Whole-clause-pattern g c = HasPattern-whole c.as_slice.result.now _ c.in-Whole.ensures

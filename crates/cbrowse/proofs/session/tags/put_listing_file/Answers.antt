@@ -1,6 +1,0 @@
-use Rattle.cb_tags.specs.TagLines.{tag_of, listing_line}
-use Rattle.cbrowse.proofs.Puts.{flat_map-map}
-use Rattle.cbrowse.proofs.session.tags.put_listing_file.Goals as goal
-
-pub returns : goal.returns
-returns g c = rw (flat_map-map tag_of listing_line c.args.rows.now) c.put_each_listed.ensures
