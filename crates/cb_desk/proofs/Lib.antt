@@ -1,3 +1,4 @@
+pub mod Counting
 pub mod Distinct
 pub mod FoundRows
 pub mod Loads
