@@ -3,13 +3,13 @@ use Rattle.std.proofs.Common.{◌≡◌, ◌∙◌, sym, ap, refl, ℕ, zero, su
 use native.Mathlib.Numerals.{unary_clauses}
 use Rattle.std.specs.Option.{option_map}
 use Rattle.std.proofs.lemmas.List.{length-map}
-use Rattle.std.proofs.Math.Seq.{drop-cons}
 use Rattle.std.proofs.lemmas.Option.{slice_get-map, slice_get-get_or, slice_get_past}
 use Rattle.cb_scan.specs.declared.facts.Def.{Def}
 use Rattle.cb_scan.specs.Definitions.{definitions}
 use Rattle.cb_desk.specs.Answer.{defines}
 use Rattle.cb_desk.specs.World.{File, Frame}
 use Rattle.cb_desk.specs.Step.{places, places_in}
+use Rattle.cb_desk.proofs.Texts.{next_file}
 
 slice_get-front : {X : Type 0} (xs ys : List X) (i : ℕ) (x : X) → slice_get xs i ≡ Some x → slice_get (xs ++ ys) i ≡ Some x
 slice_get-front [] ys i x e = cc
@@ -38,15 +38,12 @@ abbrev pub lines_named : List ℕ → File → List ℕ
 lines_named name f = map (λ (d : Def). d.line) (named name f)
 
 module _ {X : Type 0} (v : X → File) (xs : List X) (i : ℕ) (x : X) (name lines : List ℕ) (passed : ℕ) where
-  next_file : i < length xs → x ≡ get_or xs i x → map v (drop i xs) ≡ v x ∷ map v (drop (i + 1) xs)
-  next_file within is = ap (map v) (drop-cons xs i x within) ∙ rw (← is, add-one i) refl
-
   -- the place is one of this file
   pub placed-here : (line : ℕ) → i < length xs → x ≡ get_or xs i x → lines ≡ lines_named name (v x) → passed < length lines → line ≡ get_or lines passed line
       → slice_get (places (map v (drop i xs)) name) passed ≡ Some (record { file = (v x).name; line = line })
   placed-here line within is found short at =
       let there : slice_get (lines_named name (v x)) passed ≡ Some line = ap (λ ls. slice_get ls passed) (sym found) ∙ slice_get-get_or lines passed line short ∙ ap (λ l. Some l) (sym at) in
-      ap (λ fs. slice_get (places fs name) passed) (next_file within is)
+      ap (λ fs. slice_get (places fs name) passed) (next_file v xs i x within is)
       ∙ slice_get-front (places_in name (v x)) (places (map v (drop (i + 1) xs)) name) passed _
       (slice_get-map (framed (v x).name) (named name (v x)) passed ∙ same-line (v x).name line (slice_get (named name (v x)) passed) (sym (slice_get-map (λ (d : Def). d.line) (named name (v x)) passed) ∙ there))
 
@@ -56,6 +53,6 @@ module _ {X : Type 0} (v : X → File) (xs : List X) (i : ℕ) (x : X) (name lin
   placed-behind within is found long =
       let many : length (places_in name (v x)) ≡ length lines = length-map (named name (v x)) (framed (v x).name) ∙ sym (length-map (named name (v x)) (λ (d : Def). d.line)) ∙ ap length (sym found) in
       let gone : slice_get (places_in name (v x)) passed ≡ None = slice_get_past (places_in name (v x)) passed (omega (arith, many)) in
-      ap (λ fs. slice_get (places fs name) passed) (next_file within is)
+      ap (λ fs. slice_get (places fs name) passed) (next_file v xs i x within is)
       ∙ slice_get-behind (places_in name (v x)) (places (map v (drop (i + 1) xs)) name) passed gone
       ∙ ap (λ n. slice_get (places (map v (drop (i + 1) xs)) name) (passed - n)) many

@@ -5,5 +5,6 @@ pub mod Loads
 pub mod Moves
 pub mod Placed
 pub mod TagOrder
+pub mod Texts
 pub mod Unindented
 pub mod Valid

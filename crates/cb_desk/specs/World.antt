@@ -44,10 +44,14 @@ unfoldable pub text_of_file : List File → List ℕ → List ℕ
 text_of_file [] name = []
 text_of_file (f ∷ files) name = if is_named name f then f.bytes else text_of_file files name
 
+-- files ascend by the bytes of their names, each name once
+abbrev pub IsAscending : List File → Type 0
+IsAscending = IsStrictlySortedBy (λ (f g : File). slice_cmp nat_cmp f.name g.name)
+
 -- every limit is kept: names, sizes, the number of files, and their order; and each frame names a line that is there
 pub record IsValidWorld (w : World) : Type 0 where
   pub names : AllByRecursion (λ (f : File). IsTrue (is_file_name f.name)) w.files
   pub sizes : AllByRecursion (λ (f : File). length f.bytes ≤ 1000000) w.files
   pub count : length w.files ≤ 4096
-  pub ascending : IsStrictlySortedBy (λ (f g : File). slice_cmp nat_cmp f.name g.name) w.files
+  pub ascending : IsAscending w.files
   pub frames : AllByRecursion (λ (f : Frame). IsLineOf (text_of_file w.files f.file) f.line) w.frames
