@@ -1,7 +1,7 @@
 pub mod Counting
 pub mod Distinct
 pub mod FoundRows
-pub mod Loads
+pub mod FrameLemmas
 pub mod Moves
 pub mod Placed
 pub mod TagOrder

@@ -48,10 +48,18 @@ text_of_file (f ∷ files) name = if is_named name f then f.bytes else text_of_f
 abbrev pub IsAscending : List File → Type 0
 IsAscending = IsStrictlySortedBy (λ (f g : File). slice_cmp nat_cmp f.name g.name)
 
--- every limit is kept: names, sizes, the number of files, and their order; and each frame names a line that is there
+-- every limit of files is kept: names, sizes, their number, and their order
+pub record AreValidFiles (files : List File) : Type 0 where
+  pub names : AllByRecursion (λ (f : File). IsTrue (is_file_name f.name)) files
+  pub sizes : AllByRecursion (λ (f : File). length f.bytes ≤ 1000000) files
+  pub count : length files ≤ 4096
+  pub ascending : IsAscending files
+
+-- a frame names a line that is there
+abbrev pub IsFrameOf : List File → Frame → Type 0
+IsFrameOf files f = IsLineOf (text_of_file files f.file) f.line
+
+-- the files are valid, and so is each frame
 pub record IsValidWorld (w : World) : Type 0 where
-  pub names : AllByRecursion (λ (f : File). IsTrue (is_file_name f.name)) w.files
-  pub sizes : AllByRecursion (λ (f : File). length f.bytes ≤ 1000000) w.files
-  pub count : length w.files ≤ 4096
-  pub ascending : IsAscending w.files
-  pub frames : AllByRecursion (λ (f : Frame). IsLineOf (text_of_file w.files f.file) f.line) w.frames
+  pub files : AreValidFiles w.files
+  pub frames : AllByRecursion (IsFrameOf w.files) w.frames

@@ -10,4 +10,4 @@ entry_of-requires c = rw (c.as_slice.ensures.value, ap (λ w. w.files) c.self.vi
 pub add_file-requires : goal.add_file-requires
 add_file-requires c =
     rw (c.in_ok-files.ensures, c.as_slice-3.ensures.value, ap (λ w. w.files) c.self.view_is)
-    (IsStrictlySortedBy-filter by_name (λ f. not (is_named c.args.old.now f)) c.args.self.now.files c.requires.valid.ascending)
+    (IsStrictlySortedBy-filter by_name (λ f. not (is_named c.args.old.now f)) c.args.self.now.files c.requires.valid.files.ascending)
