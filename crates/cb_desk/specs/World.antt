@@ -5,7 +5,7 @@ use Rattle.std.specs.List.Sorted.{IsStrictlySortedBy}
 use Rattle.std.specs.Str.{bytes_eq}
 use Rattle.std.specs.Ordering.{nat_cmp}
 use Rattle.std.specs.Cmp.Lexicographic.{slice_cmp}
-use Rattle.cb_scan.specs.Lines.{lines}
+use Rattle.cb_scan.specs.Lines.{IsLineOf}
 use Rattle.cb_tags.specs.Names.{is_file_name}
 
 -- a file: its name and its text
@@ -22,10 +22,6 @@ pub record Frame : Type 0 where
 pub record World : Type 0 where
   pub files : List File
   pub frames : List Frame
-
--- the text has a line of that number, counted from 1
-abbrev pub IsLineOf : List ℕ → ℕ → Type 0
-IsLineOf text n = (1 ≤ n) × (n ≤ length (lines text))
 
 -- the world without a file
 abbrev pub empty_world : World
