@@ -1,6 +1,6 @@
 -- The inputs of a byte stream: the whole input cut into lines and blocks.
-use Rattle.std.specs.Prelude.{ℕ, zero, suc, ◌==◌, Bool, true, false, ◌&&◌, ◌||◌, nat_le, nat_lt, nat_eq, List, [], ◌∷◌, length, take, drop, codes, Option, None, Some, if◌then◌else◌}
-use Rattle.std.specs.List.{list_all, slice_split, starts_with, before_first, after_first}
+use Rattle.std.specs.Prelude.{ℕ, zero, suc, ◌==◌, Bool, true, false, ◌&&◌, ◌||◌, nat_le, nat_lt, List, [], ◌∷◌, length, take, drop, codes, Option, None, Some, if◌then◌else◌}
+use Rattle.std.specs.List.{list_all, slice_split, before_first, after_first}
 use Rattle.std.specs.Str.{bytes_eq}
 use Rattle.std.specs.Str.Parse.{digits_value}
 use Rattle.cb_desk.specs.declared.refusal.Refusal.{Refusal}
@@ -77,9 +77,9 @@ abbrev pub tags_numbered : Option ℕ → Entry
 tags_numbered None = refused BadCount
 tags_numbered (Some n) = if n == 1 then tags_file Plain else (if n == 2 then tags_file Extended else refused BadCount)
 
--- a tags file by the words behind it: one number
+-- a tags file by the words behind it: with none it is plain, and one is its number
 abbrev pub tags_words : List (List ℕ) → Entry
-tags_words [] = refused BadCount
+tags_words [] = tags_file Plain
 tags_words (number ∷ []) = tags_numbered (number_in number)
 tags_words (number ∷ more ∷ others) = refused UnknownCommand
 
@@ -92,29 +92,32 @@ definition_query (b ∷ bs) = query Definition (b ∷ bs)
 abbrev pub field_query : ℕ → List ℕ → Entry
 field_query digit pattern = if digit == 49 then definition_query pattern else refused NoSuchField
 
--- a command with words behind it, which single spaces part
-unfoldable pub words_line : List ℕ → Line
-words_line line =
-    if starts_with nat_eq line (codes ":load ") then load_words (slice_split is_space (drop 6 line))
-    else (if starts_with nat_eq line (codes ":tags ") then whole (tags_words (slice_split is_space (drop 6 line)))
-    else whole (refused UnknownCommand))
+-- a command that stands alone on its line
+abbrev pub alone : Entry → List (List ℕ) → Line
+alone e [] = whole e
+alone e (word ∷ words) = whole (refused UnknownCommand)
 
--- a command by its word
-unfoldable pub command_line : List ℕ → Line
-command_line line =
-    if bytes_eq line (codes ":undo") then whole undo
-    else (if bytes_eq line (codes ":load") then load_words []
-    else (if bytes_eq line (codes ":tags") then whole (tags_file Plain)
-    else (if bytes_eq line (codes ":listing") then whole listing
-    else words_line line)))
+-- a command by its first word and the words behind it
+unfoldable pub command : List ℕ → List (List ℕ) → Line
+command word words =
+    if bytes_eq word (codes ":load") then load_words words
+    else (if bytes_eq word (codes ":undo") then alone undo words
+    else (if bytes_eq word (codes ":tags") then whole (tags_words words)
+    else (if bytes_eq word (codes ":listing") then alone listing words
+    else whole (refused UnknownCommand))))
 
--- what a line of at most 4,096 bytes asks for
+-- a command by the words of its line
+abbrev pub command_words : List (List ℕ) → Line
+command_words [] = whole (refused UnknownCommand)
+command_words (word ∷ words) = command word words
+
+-- what a line of at most 4,096 bytes asks for; single spaces part the words of a command
 abbrev pub short_line : List ℕ → Line
 short_line [] = whole nothing
 short_line (b ∷ bs) =
     if b == 113 || b == 4 then whole quit
     else (if is_digit b then whole (field_query b bs)
-    else command_line (b ∷ bs))
+    else command_words (slice_split is_space (b ∷ bs)))
 
 -- what a line asks for, where a run allows at most `limit` bytes in a line
 abbrev pub line_asks : ℕ → List ℕ → Line

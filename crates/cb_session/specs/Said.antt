@@ -39,10 +39,14 @@ abbrev pub line_of : Asked → Line
 line_of (Whole input) = whole (entry_of input)
 line_of (Block name size) = block name.now size
 
+-- the words of what stands behind a word; none where no space ends it
+abbrev pub words_behind : Option (Bor (List ℕ)) → List (List ℕ)
+words_behind None = []
+words_behind (Some behind) = slice_split is_space behind.now
+
 -- the words of a text by its first word and what stands behind the space that ends it
 abbrev pub parts_of : List ℕ → Option (Bor (List ℕ)) → List (List ℕ)
-parts_of word None = word ∷ []
-parts_of word (Some behind) = word ∷ slice_split is_space behind.now
+parts_of word behind = word ∷ words_behind behind
 
 -- a run goes on where it has no ending
 abbrev pub going_of : Option Ended → Going
