@@ -1,5 +1,5 @@
 -- What is asked of a world, and the rows that answer.
-use Rattle.std.specs.Prelude.{ℕ, Bool, ◌&&◌, ◌||◌, ◌==◌, not, if◌then◌else◌, List, [], ◌∷◌, filter, map, slice_range}
+use Rattle.std.specs.Prelude.{ℕ, Bool, ◌&&◌, ◌||◌, ◌==◌, not, if◌then◌else◌, List, [], ◌∷◌, filter, map, codes, slice_range}
 use Rattle.std.specs.List.{flat_map}
 use Rattle.std.specs.Str.{bytes_eq}
 use Rattle.cb_scan.specs.declared.facts.Def.{Def}
@@ -34,13 +34,21 @@ unindented (b ∷ bs) = if b == 32 || b == 9 then unindented bs else b ∷ bs
 abbrev pub name_of : List ℕ → Def → List ℕ
 name_of text d = slice_range text d.name.start d.name.end
 
+-- a definition has that name
+abbrev pub defines : List ℕ → List ℕ → Def → Bool
+defines text name d = bytes_eq (name_of text d) name
+
+-- the row of a line of a file, which names no function
+abbrev pub line_row : List ℕ → List ℕ → ℕ → AnswerRow
+line_row file text line = record { file = file; function = codes "<unknown>"; line = line; text = unindented (line_text text line) }
+
 -- the row of a definition in a file
 abbrev pub definition_row : File → Def → AnswerRow
 definition_row f d = record { file = f.name; function = name_of f.bytes d; line = d.line; text = unindented (line_text f.bytes d.line) }
 
 -- the rows of the definitions of that name in a file
 abbrev pub definition_rows : List ℕ → File → List AnswerRow
-definition_rows pattern f = map (definition_row f) (filter (λ d. bytes_eq (name_of f.bytes d) pattern) (definitions f.bytes))
+definition_rows pattern f = map (definition_row f) (filter (defines f.bytes pattern) (definitions f.bytes))
 
 -- all rows of a field, by file and place, equal ones included
 abbrev pub all_rows : World → Field → List ℕ → List AnswerRow

@@ -3,6 +3,8 @@ pub mod Collects
 pub mod Laws
 pub mod Meant
 pub mod Refusals
+pub mod Step
 pub mod Tags
 pub mod Timeline
 pub mod World
+pub mod steps

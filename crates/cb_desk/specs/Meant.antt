@@ -2,14 +2,19 @@
 use Rattle.std.specs.Prelude.{ℕ, List}
 use Rattle.std.specs.Borrow.{Bor}
 use Rattle.cb_desk.specs.declared.change.Change.{Change}
-use Rattle.cb_desk.specs.declared.change.Change.TheVariants.{Load}
+use Rattle.cb_desk.specs.declared.change.Change.TheVariants.{Load, Unload, Rename, Tag, Pop}
 use Rattle.cb_desk.specs.declared.rows.RefRow.{RefRow}
-use Rattle.cb_desk.specs.World.{Step, load, File}
+use Rattle.cb_desk.specs.World.{File, Frame}
+use Rattle.cb_desk.specs.Step.{Step, load, unload, rename, tag, pop}
 use Rattle.cb_desk.specs.Answer.{AnswerRow}
 
 -- the step that a change asks for
 abbrev pub step_of : Change → Step
 step_of (Load name bytes) = load name.now bytes.items
+step_of (Unload name) = unload name.now
+step_of (Rename old new) = rename old.now new.now
+step_of (Tag name n) = tag name.now n
+step_of Pop = pop
 
 -- the row that a row of slices shows
 abbrev pub row_of : RefRow → AnswerRow
@@ -18,3 +23,7 @@ row_of r = record { file = r.file.now; function = r.function.now; line = r.line;
 -- the file that a name and a text stand for
 abbrev pub file_of : Bor (List ℕ) × Bor (List ℕ) → File
 file_of p = record { name = p.0.now; bytes = p.1.now }
+
+-- the frame that a name and a line stand for
+abbrev pub frame_of : Bor (List ℕ) × ℕ → Frame
+frame_of p = record { file = p.0.now; line = p.1 }

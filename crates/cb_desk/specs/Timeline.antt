@@ -1,46 +1,70 @@
--- The worlds of a session: those that undo leads back to, and the present one.
-use Rattle.std.specs.Prelude.{◌≡◌, ◌≤◌, nat_le, List, [], ◌∷◌, length, Result, Ok, Err, IsOk, if◌then◌else◌}
+-- The worlds of a session: those that undo leads back to, the present one, and those that redo leads to.
+use Rattle.std.specs.Prelude.{◌≡◌, ◌≤◌, ◌+◌, nat_le, Bool, true, false, List, [], ◌∷◌, length, Result, Ok, Err, if◌then◌else◌}
 use Rattle.std.specs.List.{AllByRecursion}
 use Rattle.cb_desk.specs.declared.refusal.Refusal.{Refusal}
-use Rattle.cb_desk.specs.declared.refusal.Refusal.TheVariants.{NothingToUndo, HistoryFull, OutOfMemory}
-use Rattle.cb_desk.specs.World.{World, Step, step, empty_world, IsValidWorld}
+use Rattle.cb_desk.specs.declared.refusal.Refusal.TheVariants.{NothingToUndo, NothingToRedo, HistoryFull, OutOfMemory}
+use Rattle.cb_desk.specs.World.{World, empty_world, IsValidWorld}
+use Rattle.cb_desk.specs.Step.{Step, step, tag}
 
--- the past, nearest world first, and the present
+-- the past and the future, each with its nearest world first, and the present
 pub record Timeline : Type 0 where
   pub past : List World
   pub present : World
+  pub future : List World
 
--- no file and no past
+-- no file, no past and no future
 abbrev pub new_timeline : Timeline
-new_timeline = record { past = []; present = empty_world }
+new_timeline = record { past = []; present = empty_world; future = [] }
 
--- every world is valid, and the past is not too long
+-- every world is valid, and there are not too many
 pub record IsValidTimeline (t : Timeline) : Type 0 where
-  pub worlds : AllByRecursion IsValidWorld t.past
+  pub before : AllByRecursion IsValidWorld t.past
   pub now : IsValidWorld t.present
-  pub bounded : length t.past ≤ 65536
+  pub behind : AllByRecursion IsValidWorld t.future
+  pub bounded : length t.past + length t.future ≤ 65536
 
--- the timeline with a new present, or why there is none
+-- the timeline with a new present, or why there is none: the old present joins the past, and the future is gone
 abbrev pub advanced : Timeline → Result World Refusal → Result Timeline Refusal
 advanced t (Err r) = Err r
-advanced t (Ok w) = if nat_le 65536 (length t.past) then Err HistoryFull else Ok (record { past = t.present ∷ t.past; present = w })
+advanced t (Ok w) =
+    if nat_le 65536 (length t.past) then Err HistoryFull
+    else Ok (record { past = t.present ∷ t.past; present = w; future = [] })
 
--- the timeline after a change: the old present joins the past
+-- the timeline after a change
 unfoldable pub changed : Timeline → Step → Result Timeline Refusal
 changed t s = advanced t (step t.present s)
 
--- the timeline one world back
-abbrev pub back_to : List World → Result Timeline Refusal
-back_to [] = Err NothingToUndo
-back_to (w ∷ ws) = Ok (record { past = ws; present = w })
+-- the timeline one world back: the old present joins the future
+abbrev pub back_to : List World → Timeline → Result Timeline Refusal
+back_to [] t = Err NothingToUndo
+back_to (w ∷ ws) t = Ok (record { past = ws; present = w; future = t.present ∷ t.future })
 
 -- the timeline after an undo
 unfoldable pub undone : Timeline → Result Timeline Refusal
-undone t = back_to t.past
+undone t = back_to t.past t
 
--- a call follows what is meant: it does the move, or it refuses for the reason meant and moves nothing, or it refuses for
--- want of memory where the move was due, and moves nothing
-abbrev pub Follows : Result Timeline Refusal → Timeline → Timeline → Result (Unit {0}) Refusal → Type 0
-Follows meant old new (Ok _) = meant ≡ Ok new
-Follows meant old new (Err OutOfMemory) = IsOk meant × (new ≡ old)
-Follows meant old new (Err r) = (meant ≡ Err r) × (new ≡ old)
+-- the timeline one world on: the old present joins the past
+abbrev pub on_to : List World → Timeline → Result Timeline Refusal
+on_to [] t = Err NothingToRedo
+on_to (w ∷ ws) t = Ok (record { past = t.present ∷ t.past; present = w; future = ws })
+
+-- the timeline after a redo
+unfoldable pub redone : Timeline → Result Timeline Refusal
+redone t = on_to t.future t
+
+-- what a change comes to where memory is wanted: a change that would be done is refused for it, and so is a tag, which is
+-- judged only behind a scan of the files
+abbrev pub judged : Bool → Step → Result Timeline Refusal → Result Timeline Refusal
+judged false s meant = meant
+judged true (tag name n) meant = Err OutOfMemory
+judged true s (Ok t) = Err OutOfMemory
+judged true s (Err r) = Err r
+
+-- a call moves the timeline as meant, or refuses for the reason meant and moves nothing
+abbrev pub Moves : Result Timeline Refusal → Timeline → Timeline → Result (Unit {0}) Refusal → Type 0
+Moves meant old new (Ok _) = meant ≡ Ok new
+Moves meant old new (Err r) = (meant ≡ Err r) × (new ≡ old)
+
+-- a change moves the timeline as meant, with memory or for want of it
+abbrev pub Changes : Step → Timeline → Timeline → Result (Unit {0}) Refusal → Type 0
+Changes s old new result = (wanted : Bool) × Moves (judged wanted s (changed old s)) old new result

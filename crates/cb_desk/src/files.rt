@@ -3,7 +3,7 @@ ghost use Rattle.std.specs.Prelude.{◌≡◌, map};
 ghost use Rattle.std.specs.Iterator.{YieldsFirstBy, item_count};
 ghost use Rattle.cb_desk.specs.Meant.{file_of};
 
-use super::snapshot::Entry;
+use super::entry::Entry;
 use cb_scan::Source;
 use std::marker::Model;
 use std::rc::Rc;

@@ -1,9 +1,14 @@
 //! What follows from the definitions alone: no code runs here.
-ghost use Rattle.cb_desk.specs.Laws.{UndoTakesBack, StepKeepsValid, TimelineStaysValid};
+ghost use Rattle.cb_desk.specs.Laws.{UndoTakesBack, RedoTakesBack, StepKeepsValid, TimelineStaysValid};
 
-/// An accepted change followed by undo gives the timeline back.
+/// An accepted change followed by undo gives back the past and the present; the new world is then the future.
 pub fn undo_takes_back()
     ensures { UndoTakesBack }
+{}
+
+/// Undo and redo take each other back.
+pub fn redo_takes_back()
+    ensures { RedoTakesBack }
 {}
 
 /// A change of a valid world gives a valid world.
@@ -11,7 +16,7 @@ pub fn step_keeps_valid()
     ensures { StepKeepsValid }
 {}
 
-/// A valid timeline stays valid by change and undo.
+/// A valid timeline stays valid by change, undo and redo.
 pub fn timeline_stays_valid()
     ensures { TimelineStaysValid }
 {}

@@ -7,9 +7,12 @@
 #![tactic(auto)]
 
 mod change;
+mod entry;
 mod files;
 mod found;
+mod frames;
 pub mod laws;
+mod places;
 mod refusal;
 mod rows;
 mod snapshot;
@@ -20,6 +23,7 @@ mod tests;
 
 pub use change::Change;
 pub use files::Files;
+pub use frames::Frames;
 pub use refusal::Refusal;
 pub use rows::{Field, RefRow, RowList};
 pub use state::Desk;
