@@ -25,6 +25,6 @@ pub use change::Change;
 pub use files::Files;
 pub use frames::Frames;
 pub use refusal::Refusal;
-pub use rows::{Field, RefRow, RowList};
+pub use rows::{Field, RefRow, RowList, line_row};
 pub use state::Desk;
 pub use tags::{Format, TagRowList};

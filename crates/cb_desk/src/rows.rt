@@ -3,7 +3,7 @@ ghost use Rattle.std.specs.Prelude.{◌≡◌, ◌≤◌, ◌==◌, ◌||◌, []
 ghost use Rattle.std.specs.List.{list_any, prefix_len};
 ghost use Rattle.cb_scan.specs.Definitions.{IsWithin};
 ghost use Rattle.cb_desk.specs.World.{File};
-ghost use Rattle.cb_desk.specs.Answer.{AnswerRow, row_eq, distinct, unindented, definition_row, definition_rows};
+ghost use Rattle.cb_desk.specs.Answer.{AnswerRow, row_eq, distinct, unindented, line_row, definition_row, definition_rows};
 ghost use Rattle.cb_desk.specs.Collects.{Collects};
 ghost use Rattle.cb_desk.specs.Meant.{row_of, file_of};
 
@@ -127,6 +127,18 @@ fn definition_row<'a>(name: &'a [u8], source: &'a Source, def: &Def) -> RefRow<'
         function: defined_name(source, def),
         line: def.line,
         text: unindented(shown_line(source, def.line)),
+    }
+}
+
+/// The row of a line of a file, which names no function.
+pub fn line_row<'a>(file: &'a [u8], source: &'a Source, line: u32) -> RefRow<'a>
+    ensures { row_of result ≡ line_row file.now source.now line }
+{
+    RefRow {
+        file,
+        function: b"<unknown>",
+        line,
+        text: unindented(shown_line(source, line)),
     }
 }
 

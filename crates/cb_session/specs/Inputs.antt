@@ -12,7 +12,7 @@ use Rattle.cb_desk.specs.declared.tags.Format.TheVariants.{Plain, Extended}
 use Rattle.cb_session.specs.declared.input.Ended.{Ended}
 use Rattle.cb_session.specs.declared.input.Ended.TheVariants.{Done, Cut, Fault}
 use Rattle.cb_session.specs.declared.input.Fault.TheVariants.{LongLine, ManyLines}
-use Rattle.cb_desk.specs.World.{Step, load}
+use Rattle.cb_desk.specs.Step.{Step, load, unload, rename, tag, pop}
 
 -- what is read at a prompt
 pub data Entry : Type 0 where
@@ -22,10 +22,14 @@ pub data Entry : Type 0 where
   change : Step → Entry
   -- take the last change back
   undo : Entry
+  -- make the last change that was taken back again
+  redo : Entry
   -- the tags file
   tags_file : Format → Entry
   -- the listing
   listing : Entry
+  -- the tag stack
+  stack : Entry
   -- what is refused as it is read
   refused : Refusal → Entry
   -- an empty line
@@ -92,6 +96,31 @@ definition_query (b ∷ bs) = query Definition (b ∷ bs)
 abbrev pub field_query : ℕ → List ℕ → Entry
 field_query digit pattern = if digit == 49 then definition_query pattern else refused NoSuchField
 
+-- a file's removal by the words behind it: a missing word is empty, and a second word is too many
+abbrev pub drop_words : List (List ℕ) → Entry
+drop_words [] = change (unload [])
+drop_words (name ∷ []) = change (unload name)
+drop_words (name ∷ more ∷ others) = refused UnknownCommand
+
+-- a new name by the words behind it, the old one first: a missing word is empty, and a third word is too many
+abbrev pub rename_words : List (List ℕ) → Entry
+rename_words [] = change (rename [] [])
+rename_words (old ∷ []) = change (rename old [])
+rename_words (old ∷ new ∷ []) = change (rename old new)
+rename_words (old ∷ new ∷ more ∷ others) = refused UnknownCommand
+
+-- a push by its name and its number
+abbrev pub tag_numbered : List ℕ → Option ℕ → Entry
+tag_numbered name None = refused BadCount
+tag_numbered name (Some n) = change (tag name n)
+
+-- a push by the words behind it: a missing name is empty, a missing number is 1, and a third word is too many
+abbrev pub tag_words : List (List ℕ) → Entry
+tag_words [] = change (tag [] 1)
+tag_words (name ∷ []) = change (tag name 1)
+tag_words (name ∷ number ∷ []) = tag_numbered name (number_in number)
+tag_words (name ∷ number ∷ more ∷ others) = refused UnknownCommand
+
 -- a command that stands alone on its line
 abbrev pub alone : Entry → List (List ℕ) → Line
 alone e [] = whole e
@@ -101,10 +130,16 @@ alone e (word ∷ words) = whole (refused UnknownCommand)
 unfoldable pub command : List ℕ → List (List ℕ) → Line
 command word words =
     if bytes_eq word (codes ":load") then load_words words
+    else (if bytes_eq word (codes ":drop") then whole (drop_words words)
+    else (if bytes_eq word (codes ":rename") then whole (rename_words words)
+    else (if bytes_eq word (codes ":tag") then whole (tag_words words)
+    else (if bytes_eq word (codes ":pop") then alone (change pop) words
     else (if bytes_eq word (codes ":undo") then alone undo words
+    else (if bytes_eq word (codes ":redo") then alone redo words
     else (if bytes_eq word (codes ":tags") then whole (tags_words words)
     else (if bytes_eq word (codes ":listing") then alone listing words
-    else whole (refused UnknownCommand))))
+    else (if bytes_eq word (codes ":stack") then alone stack words
+    else whole (refused UnknownCommand))))))))))
 
 -- a command by the words of its line
 abbrev pub command_words : List (List ℕ) → Line

@@ -19,7 +19,7 @@ fn operands(alloc: Global, files: &[(&[u8], &[u8])]) -> Result<Operands, AllocEr
 }
 
 /// What a run over the input writes, from these operands on, and how it ends.
-fn run_with(
+pub(super) fn run_with(
     alloc: Global,
     files: &[(&[u8], &[u8])],
     input: &[u8],
