@@ -1,7 +1,7 @@
 //! Runs with operands.
 use super::WIDE;
-use cb_desk::Refusal;
 use crate::{Ended, Feed, Operand, Operands, prepare, run};
+use cb_desk::Refusal;
 use cb_tags::Sink;
 use std::alloc::{AllocError, Global};
 use std::test::Fail;
