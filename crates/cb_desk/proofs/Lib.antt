@@ -1,8 +1,10 @@
+pub mod Counting
 pub mod Distinct
 pub mod FoundRows
-pub mod Loads
+pub mod FrameLemmas
 pub mod Moves
 pub mod Placed
 pub mod TagOrder
+pub mod Texts
 pub mod Unindented
 pub mod Valid

@@ -6,10 +6,8 @@ use Rattle.std.specs.List.Sorted.{IsStrictlySortedBy}
 use Rattle.std.specs.Cmp.Lexicographic.{slice_cmp}
 use Rattle.std.proofs.lemmas.Cmp.{nat_list_cmp_total}
 use Rattle.std.proofs.lemmas.List.Sums.{length-filter}
-use Rattle.cb_desk.specs.World.{File, World, IsValidWorld, with_file}
-
-abbrev world_of : List File → World
-world_of files = record { files = files }
+use Rattle.cb_desk.specs.World.{File, IsAscending}
+use Rattle.cb_desk.specs.Step.{with_file}
 
 -- the order of the files of a world
 abbrev pub by_name : File → File → Ordering
@@ -43,7 +41,7 @@ all_after f x [] out up = refl
 all_after f x (y ∷ ys) out up = rw (not_before-above f x y out up.0) (ap (λ zs. y ∷ zs) (all_after f x ys out up.1))
 
 -- the files below f come first, so their number is its place
-pub insert-placed : (f : File) (files : List File) → IsStrictlySortedBy by_name files → insert files (length (filter (before f) files)) f ≡ with_file f files
+pub insert-placed : (f : File) (files : List File) → IsAscending files → insert files (length (filter (before f) files)) f ≡ with_file f files
 unfolding IsStrictlySortedBy
 insert-placed f [] up = refl
 insert-placed f (x ∷ xs) up =
@@ -74,9 +72,15 @@ map-same h (x ∷ xs) [] same = absurd same
 map-same h [] (y ∷ ys) same = absurd same
 map-same h (x ∷ xs) (y ∷ ys) same = cc (same.0, map-same h xs ys same.1)
 
--- a clone of the files with one more at its place, seen as a world
-pub placed : {X : Type 0} (h : X → File) (f : File) (x : X) (xs ys : List X) (n : ℕ) (w : World) → record { files = map h xs } ≡ w → IsValidWorld w → h x ≡ f → AllZip (λ a b. h b ≡ h a) xs ys → n ≡ count_by (λ a. before f (h a)) xs → world_of (map h (insert ys n x)) ≡ world_of (with_file f w.files)
-placed h f x xs ys n w is valid at same place =
-    let files : map h xs ≡ w.files = ap (λ v. v.files) is in
-    let counted : n ≡ length (filter (before f) w.files) = place ∙ sym (length-filter (λ a. before f (h a)) xs) ∙ length-filter-map (before f) h xs ∙ ap (λ fs. length (filter (before f) fs)) files in
-    ap world_of (map-insert h ys n x ∙ rw (map-same h xs ys same, files, at, counted) (insert-placed f w.files valid.ascending))
+-- files with one more at its place
+pub placed : {X : Type 0} (h : X → File) (x : X) (xs : List X) (n : ℕ) → IsAscending (map h xs) → n ≡ count_by (λ a. before (h x) (h a)) xs → map h (insert xs n x) ≡ with_file (h x) (map h xs)
+placed h x xs n up place =
+    let counted : n ≡ length (filter (before (h x)) (map h xs)) = place ∙ sym (length-filter (λ a. before (h x) (h a)) xs) ∙ length-filter-map (before (h x)) h xs in
+    map-insert h xs n x ∙ ap (λ m. insert (map h xs) m (h x)) counted ∙ insert-placed (h x) (map h xs) up
+
+-- equal elements make equal lists
+pub list-same : {X : Type 0} (xs ys : List X) → AllZip (λ x y. y ≡ x) xs ys → ys ≡ xs
+list-same [] [] same = refl
+list-same (x ∷ xs) [] same = absurd same
+list-same [] (y ∷ ys) same = absurd same
+list-same (x ∷ xs) (y ∷ ys) same = cc (same.0, list-same xs ys same.1)

@@ -5,7 +5,7 @@ use Rattle.std.specs.List.Sorted.{IsStrictlySortedBy}
 use Rattle.std.specs.Str.{bytes_eq}
 use Rattle.std.specs.Ordering.{nat_cmp}
 use Rattle.std.specs.Cmp.Lexicographic.{slice_cmp}
-use Rattle.cb_scan.specs.Lines.{lines}
+use Rattle.cb_scan.specs.Lines.{IsLineOf}
 use Rattle.cb_tags.specs.Names.{is_file_name}
 
 -- a file: its name and its text
@@ -22,10 +22,6 @@ pub record Frame : Type 0 where
 pub record World : Type 0 where
   pub files : List File
   pub frames : List Frame
-
--- the text has a line of that number, counted from 1
-abbrev pub IsLineOf : List ℕ → ℕ → Type 0
-IsLineOf text n = (1 ≤ n) × (n ≤ length (lines text))
 
 -- the world without a file
 abbrev pub empty_world : World
@@ -44,10 +40,22 @@ unfoldable pub text_of_file : List File → List ℕ → List ℕ
 text_of_file [] name = []
 text_of_file (f ∷ files) name = if is_named name f then f.bytes else text_of_file files name
 
--- every limit is kept: names, sizes, the number of files, and their order; and each frame names a line that is there
+-- files ascend by the bytes of their names, each name once
+abbrev pub IsAscending : List File → Type 0
+IsAscending = IsStrictlySortedBy (λ (f g : File). slice_cmp nat_cmp f.name g.name)
+
+-- every limit of files is kept: names, sizes, their number, and their order
+pub record AreValidFiles (files : List File) : Type 0 where
+  pub names : AllByRecursion (λ (f : File). IsTrue (is_file_name f.name)) files
+  pub sizes : AllByRecursion (λ (f : File). length f.bytes ≤ 1000000) files
+  pub count : length files ≤ 4096
+  pub ascending : IsAscending files
+
+-- a frame names a line that is there
+abbrev pub IsFrameOf : List File → Frame → Type 0
+IsFrameOf files f = IsLineOf (text_of_file files f.file) f.line
+
+-- the files are valid, and so is each frame
 pub record IsValidWorld (w : World) : Type 0 where
-  pub names : AllByRecursion (λ (f : File). IsTrue (is_file_name f.name)) w.files
-  pub sizes : AllByRecursion (λ (f : File). length f.bytes ≤ 1000000) w.files
-  pub count : length w.files ≤ 4096
-  pub ascending : IsStrictlySortedBy (λ (f g : File). slice_cmp nat_cmp f.name g.name) w.files
-  pub frames : AllByRecursion (λ (f : Frame). IsLineOf (text_of_file w.files f.file) f.line) w.frames
+  pub files : AreValidFiles w.files
+  pub frames : AllByRecursion (IsFrameOf w.files) w.frames

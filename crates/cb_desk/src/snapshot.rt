@@ -2,11 +2,10 @@
 ghost use Rattle.std.specs.Prelude.{◌≡◌, ◌≤◌, ◌++◌, ◌∷◌, [], IsTrue, not, filter, length, count_by, map, IfOk};
 ghost use Rattle.std.specs.List.{list_any};
 ghost use Rattle.std.specs.Str.{bytes_eq};
-ghost use Rattle.std.specs.Option.{MatchOption};
 ghost use Rattle.std.specs.Ordering.{nat_cmp, is_lt};
 ghost use Rattle.std.specs.Cmp.Lexicographic.{slice_cmp};
-ghost use Rattle.cb_desk.specs.World.{empty_world, has_file, text_of_file, is_named, IsValidWorld};
-ghost use Rattle.cb_desk.specs.Step.{load_refusal, loaded, unload_refusal, unloaded, rename_refusal, renamed, renamed_frame, nth, places, pop_refusal, popped, without_file};
+ghost use Rattle.cb_desk.specs.World.{empty_world, has_file, text_of_file, IsAscending, IsValidWorld};
+ghost use Rattle.cb_desk.specs.Step.{load_refusal, loaded, unload_refusal, unloaded, rename_refusal, renamed, renamed_frame, nth, places, pop_refusal, popped, with_file, without_file};
 
 use super::Refusal;
 use super::entry::Entry;
@@ -95,13 +94,12 @@ impl Snapshot {
         requires small { length bytes.items ≤ 1000000 }
         ensures { IfOk result (λ w. w ≡ loaded self.now name.now bytes.items) }
     {
-        let place = place_of(self.files.as_slice(), name);
         let file = Rc::new(alloc, Entry::new(alloc, name, bytes)?)?;
-        let mut files = self.files.clone()?;
-        files.insert(place, file)?;
+        let mut files = self.shared_files()?;
+        add_file(&mut files, file)?;
         Ok(Snapshot {
             files,
-            frames: self.frames.clone()?,
+            frames: self.copied_frames()?,
         })
     }
 
@@ -117,12 +115,12 @@ impl Snapshot {
     }
 
     /// The world without that file and its frames.
-    pub fn unloaded(&self, name: &[u8]) -> Result<Snapshot, AllocError>
+    pub fn unloaded(&self, alloc: Global, name: &[u8]) -> Result<Snapshot, AllocError>
         ensures { IfOk result (λ w. w ≡ unloaded self.now name.now) }
     {
         Ok(Snapshot {
-            files: without_name(&self.files, name)?,
-            frames: without_frames(&self.frames, name)?,
+            files: without_file(alloc, self.files.as_slice(), name)?,
+            frames: without_frames(alloc, self.frames.as_slice(), name)?,
         })
     }
 
@@ -147,10 +145,13 @@ impl Snapshot {
         requires there { IsTrue (has_file self.now.files old.now) }
         ensures { IfOk result (λ w. w ≡ renamed self.now old.now new.now) }
     {
-        let file = Rc::new(alloc, entry_of(self.files.as_slice(), old).renamed(alloc, new)?)?;
+        let file = Rc::new(
+            alloc,
+            entry_of(self.files.as_slice(), old).renamed(alloc, new)?,
+        )?;
         let frames = renamed_frames(alloc, self.frames.as_slice(), old, &file)?;
-        let mut files = without_name(&self.files, old)?;
-        files.insert(place_of(files.as_slice(), new), file)?;
+        let mut files = without_file(alloc, self.files.as_slice(), old)?;
+        add_file(&mut files, file)?;
         Ok(Snapshot { files, frames })
     }
 
@@ -170,10 +171,10 @@ impl Snapshot {
     pub fn tagged(&self, frame: Frame) -> Result<Snapshot, AllocError>
         ensures { IfOk result (λ w. w ≡ record self.now { frames = self.now.frames ++ frame ∷ [] }) }
     {
-        let mut frames = self.frames.clone()?;
+        let mut frames = self.copied_frames()?;
         frames.push(frame)?;
         Ok(Snapshot {
-            files: self.files.clone()?,
+            files: self.shared_files()?,
             frames,
         })
     }
@@ -193,13 +194,39 @@ impl Snapshot {
     pub fn popped(&self) -> Result<Snapshot, AllocError>
         ensures { IfOk result (λ w. w ≡ popped self.now) }
     {
-        let mut frames = self.frames.clone()?;
+        let mut frames = self.copied_frames()?;
         let _ = frames.pop();
         Ok(Snapshot {
-            files: self.files.clone()?,
+            files: self.shared_files()?,
             frames,
         })
     }
+
+    /// The files once more, not their bytes.
+    fn shared_files(&self) -> Result<Vec<Rc<Entry>>, AllocError>
+        ensures { IfOk result (λ files. map (λ shared. shared.value) files.items ≡ self.now.files) }
+    {
+        let files = self.files.clone()?;
+        Ok(files)
+    }
+
+    /// The frames once more.
+    fn copied_frames(&self) -> Result<Vec<Frame>, AllocError>
+        ensures { IfOk result (λ frames. frames.items ≡ self.now.frames) }
+    {
+        let frames = self.frames.clone()?;
+        Ok(frames)
+    }
+}
+
+/// Puts a file at its place.
+fn add_file(files: &mut Vec<Rc<Entry>>, file: Rc<Entry>) -> Result<(), AllocError>
+    requires { IsAscending (map (λ shared. shared.value) files.old.items) }
+    ensures { IfOk result (λ _. map (λ shared. shared.value) files.new.items ≡ with_file file.value (map (λ shared. shared.value) files.old.items)) }
+{
+    let place = place_of(files.as_slice(), file.name());
+    files.insert(place, file)?;
+    Ok(())
 }
 
 /// Whether one of the files has that name.
@@ -211,7 +238,7 @@ fn has_name(files: &[Rc<Entry>], name: &[u8]) -> bool
 
 /// The file of that name.
 fn entry_of<'a>(files: &'a [Rc<Entry>], name: &[u8]) -> &'a Entry
-    requires { IsTrue (list_any (λ shared. bytes_eq shared.value.name name.now) files.now) }
+    requires { IsTrue (has_file (map (λ shared. shared.value) files.now) name.now) }
     ensures { result.now.bytes ≡ text_of_file (map (λ shared. shared.value) files.now) name.now }
 {
     for file in files {
@@ -223,20 +250,36 @@ fn entry_of<'a>(files: &'a [Rc<Entry>], name: &[u8]) -> &'a Entry
 }
 
 /// The files without that of a name.
-fn without_name(files: &Vec<Rc<Entry>>, name: &[u8]) -> Result<Vec<Rc<Entry>>, AllocError>
-    ensures { IfOk result (λ kept. map (λ shared. shared.value) kept.items ≡ without_file name.now (map (λ shared. shared.value) files.now.items)) }
+fn without_file(
+    alloc: Global,
+    files: &[Rc<Entry>],
+    name: &[u8],
+) -> Result<Vec<Rc<Entry>>, AllocError>
+    ensures { IfOk result (λ kept. map (λ shared. shared.value) kept.items ≡ without_file name.now (map (λ shared. shared.value) files.now)) }
 {
-    let mut kept = files.clone()?;
-    kept.retain(|file| file.name() != name);
+    let mut kept = Vec::with_capacity(alloc, files.len())?;
+    for file in files {
+        if file.name() != name {
+            kept.push(file.clone()?)?;
+        }
+    }
     Ok(kept)
 }
 
 /// The frames without those of a file.
-fn without_frames(frames: &Vec<Frame>, name: &[u8]) -> Result<Vec<Frame>, AllocError>
-    ensures { IfOk result (λ kept. kept.items ≡ filter (λ f. not (bytes_eq f.file name.now)) frames.now.items) }
+fn without_frames(
+    alloc: Global,
+    frames: &[Frame],
+    name: &[u8],
+) -> Result<Vec<Frame>, AllocError>
+    ensures { IfOk result (λ kept. kept.items ≡ filter (λ f. not (bytes_eq f.file name.now)) frames.now) }
 {
-    let mut kept = frames.clone()?;
-    kept.retain(|frame| !frame.is_in(name));
+    let mut kept = Vec::with_capacity(alloc, frames.len())?;
+    for frame in frames {
+        if !frame.is_in(name) {
+            kept.push(frame.clone()?)?;
+        }
+    }
     Ok(kept)
 }
 

@@ -57,7 +57,7 @@ impl Desk {
     {
         match change {
             Change::Load(name, bytes) => self.load(alloc, name, bytes),
-            Change::Unload(name) => self.unload(name),
+            Change::Unload(name) => self.unload(alloc, name),
             Change::Rename(old, new) => self.rename(alloc, old, new),
             Change::Tag(name, n) => self.tag(alloc, name, n),
             Change::Pop => self.pop(),
@@ -80,7 +80,7 @@ impl Desk {
         Ok(())
     }
 
-    fn unload(&mut self, name: &[u8]) -> Result<(), Refusal>
+    fn unload(&mut self, alloc: Global, name: &[u8]) -> Result<(), Refusal>
         ensures { Changes (unload name.now) self.old self.new result }
     {
         if let Some(refusal) = self.present.unload_refusal(name) {
@@ -89,7 +89,7 @@ impl Desk {
         if self.is_full() {
             return Err(Refusal::HistoryFull);
         }
-        let next = self.present.unloaded(name)?;
+        let next = self.present.unloaded(alloc, name)?;
         self.advance(next)?;
         Ok(())
     }

@@ -1,4 +1,4 @@
--- What is found in a text lies in it.
+-- What is found in a text lies in it, and its definitions stand on lines of it.
 use Rattle.std.proofs.Common.{ltb-true, ◌≡◌, ◌≤◌, ◌<◌, ◌+◌, ◌-◌, ℕ, zero, suc, Bool, true, false, List, [], ◌∷◌, Option, Some, None, refl, sym, subst, map, take, length, arith}
 use Rattle.std.specs.Prelude.{◌&&◌, ◌||◌, ◌==◌, cond, not, find, nat_lt}
 use Rattle.std.specs.List.{AllByRecursion, flat_map, range_with_len}
@@ -13,9 +13,10 @@ use Rattle.cb_scan.specs.declared.piece.Span.{Span}
 use Rattle.cb_scan.specs.declared.token.Token.{Token}
 use Rattle.cb_scan.specs.declared.scope.Range.{Range}
 use Rattle.cb_scan.specs.Code.{code, directives, is_newline, logical_lines}
-use Rattle.cb_scan.specs.Definitions.{AreWithin, IsScopeWithin, IsWithin, calls, facts_of, definitions, function_def, macro_def, typedef_def}
+use Rattle.cb_scan.specs.Definitions.{AreWithin, IsScopeWithin, IsWithin, calls, facts_of, definitions, macro_def, typedef_def}
 use Rattle.cb_scan.specs.Depth.{depth, head_start, no_token, token_at}
 use Rattle.cb_scan.specs.Functions.{Function, function_at, functions}
+use Rattle.cb_scan.specs.Lines.{IsLineOf}
 use Rattle.cb_scan.specs.Macros.{Macro, after_arguments, defines_macro, line_end, macro_of, macros}
 use Rattle.cb_scan.specs.Order.{call_key, def_key, goes_first, in_order, put}
 use Rattle.cb_scan.specs.Pieces.{LiesIn}
@@ -24,27 +25,38 @@ use Rattle.cb_scan.specs.Tokens.{bytes_of, has_kind, is_mark, is_name_token, is_
 use Rattle.cb_scan.specs.steps.Cut.{pieces}
 use Rattle.cb_scan.specs.Typedefs.{Nested, begins_with_star, last_name, name_after_stars, nested, nesting_after, part_name, parts, parts_here, pointer_name, taken, taken_at, typedef_at, typedef_names, typedef_stop, begins_typedef, ends_declaration, typedefs}
 use Rattle.cb_scan.specs.Uses.{call_at, call_of, calls_among, calls_of_function, header_between, header_of, include_of, includes, is_call, quote_ends, used, uses}
-use Rattle.cb_scan.proofs.Rising.{all-front, all-picked, macro_picks, macro_names, names_flat, named_in_head, only_directives, used_picks}
+use Rattle.cb_scan.proofs.Rising.{all-front, all-picked, all_implied, macro_picks, macro_names, names_flat, named_in_head, only_directives, used_picks}
 use Rattle.cb_scan.proofs.PieceLists.{pieces-lie}
-use Rattle.cb_scan.proofs.WithinLemmas.{TokenWithin, all-append, all-drop, all-joined, all-split, all-take, code-within, lines-within}
+use Rattle.cb_scan.proofs.WithinLemmas.{DefWithin, TokenWithin, all-append, all-drop, all-joined, all-split, all-take, code-within, functions-lie, lines-within}
 
 -- the span of a token lies in the text
 abbrev pub SpanWithin : List ℕ → Token → Type 0
 SpanWithin text t = IsWithin text t.span
 
--- ---- typedefs
--- a token of the list, or none
-at_any : (P : Token → Type 0) → P no_token → (ts : List Token) (k : ℕ) → AllByRecursion P ts → P (token_at ts k)
-at_any P none [] k a = none
-at_any P none (t ∷ ts) zero a = a.0
-at_any P none (t ∷ ts) (suc k) a = at_any P none ts k a.1
+-- ---- places in a list
+-- the first element that passes is one of the list
+found_among : {X : Type 0} (Q : X → Type 0) (test : X → Bool) (xs : List X) → AllByRecursion Q xs → MatchOption (find test xs) (Unit {0}) Q
+found_among Q test [] a = tt
+found_among Q test (x ∷ xs) a = elim (test x) as (λ b. MatchOption (cond b (Some x) (find test xs)) (Unit {0}) Q) [ true ↦ a.0 | false ↦ found_among Q test xs a.1 ]
 
-all_taken : (P : Token → Type 0) → P no_token → (ts : List Token) (k n : ℕ) → AllByRecursion P ts → AllByRecursion P (flat_map (taken_at ts) (range_with_len k n))
-all_taken P none ts k zero a = tt
-all_taken P none ts k (suc n) a =
+-- a range up to a bound stays below it
+range_below : (k n bound : ℕ) → k + n ≤ bound → AllByRecursion (λ j. j < bound) (range_with_len k n)
+range_below k zero bound le = tt
+range_below k (suc n) bound le = (omega arith, range_below (k + 1) n bound (omega arith))
+
+-- a token of the list, or none behind its end
+at_any : (P : Token → Type 0) (ts : List Token) (k : ℕ) → (length ts ≤ k → P no_token) → AllByRecursion P ts → P (token_at ts k)
+at_any P [] k none a = none (omega arith)
+at_any P (t ∷ ts) zero none a = a.0
+at_any P (t ∷ ts) (suc k) none a = at_any P ts k (λ past. none (omega arith)) a.1
+
+-- ---- typedefs
+all_taken : (P : Token → Type 0) (ts : List Token) (k n : ℕ) → k + n ≤ length ts → AllByRecursion P ts → AllByRecursion P (flat_map (taken_at ts) (range_with_len k n))
+all_taken P ts k zero within a = tt
+all_taken P ts k (suc n) within a =
     all-append P (taken_at ts k) (flat_map (taken_at ts) (range_with_len (k + 1) n))
-    (elim (depth ts k == 0 && not (is_mark 123 (token_at ts k).role || is_mark 125 (token_at ts k).role)) as (λ b. AllByRecursion P (cond b (token_at ts k ∷ []) [])) [ true ↦ (at_any P none ts k a, tt) | false ↦ tt ])
-    (all_taken P none ts (k + 1) n a)
+    (elim (depth ts k == 0 && not (is_mark 123 (token_at ts k).role || is_mark 125 (token_at ts k).role)) as (λ b. AllByRecursion P (cond b (token_at ts k ∷ []) [])) [ true ↦ (at_any P ts k (λ past. absurd (omega arith)) a, tt) | false ↦ tt ])
+    (all_taken P ts (k + 1) n (omega arith) a)
 
 -- with its nesting a token is the same
 AllNested : (Token → Type 0) → List Nested → Type 0
@@ -96,22 +108,22 @@ module _ (P : Token → Type 0) where
   all_typedef_names : (ts : List Token) → AllByRecursion P ts → AllByRecursion P (typedef_names ts)
   all_typedef_names ts a = all_parts (parts ts) (all-split (λ (x : Nested). P x.token) parts_here (nested 0 ts) (all_nested 0 ts a))
 
-  all_typedef_at : P no_token → (ts : List Token) (k : ℕ) → AllByRecursion P ts → AllByRecursion P (typedef_at ts k)
-  all_typedef_at none ts k a =
+  all_typedef_at : (ts : List Token) (k : ℕ) → k < length ts → AllByRecursion P ts → AllByRecursion P (typedef_at ts k)
+  all_typedef_at ts k within a =
       elim (begins_typedef ts k) as (λ b. AllByRecursion P (cond b (option_map_or (λ j. cond (ends_declaration ts j) (typedef_names (taken ts k j)) []) (typedef_stop ts (suc k)) []) [])) [
-        | true ↦ elim (typedef_stop ts (suc k)) as (λ o. AllByRecursion P (option_map_or (λ j. cond (ends_declaration ts j) (typedef_names (taken ts k j)) []) o [])) [
-          | None ↦ tt
-          | Some j ↦ elim (ends_declaration ts j) as (λ b. AllByRecursion P (cond b (typedef_names (taken ts k j)) [])) [ true ↦ all_typedef_names (taken ts k j) (all_taken P none ts k (j - k) a) | false ↦ tt ]
-        ]
+        | true ↦ elim (typedef_stop ts (suc k)) as (λ o. MatchOption o (Unit {0}) (λ j. j < length ts) → AllByRecursion P (option_map_or (λ j. cond (ends_declaration ts j) (typedef_names (taken ts k j)) []) o [])) [
+          | None ↦ λ _. tt
+          | Some j ↦ λ below. elim (ends_declaration ts j) as (λ b. AllByRecursion P (cond b (typedef_names (taken ts k j)) [])) [ true ↦ all_typedef_names (taken ts k j) (all_taken P ts k (j - k) (omega arith) a) | false ↦ tt ]
+        ] (found_among (λ j. j < length ts) (λ j. ends_declaration ts j || begins_typedef ts j) (range_with_len (suc k) (length ts - suc k)) (range_below (suc k) (length ts - suc k) (length ts) (omega arith)))
         | false ↦ tt
       ]
 
-  all_typedefs_from : P no_token → (ts : List Token) (k n : ℕ) → AllByRecursion P ts → AllByRecursion P (flat_map (typedef_at ts) (range_with_len k n))
-  all_typedefs_from none ts k zero a = tt
-  all_typedefs_from none ts k (suc n) a = all-append P (typedef_at ts k) _ (all_typedef_at none ts k a) (all_typedefs_from none ts (k + 1) n a)
+  all_typedefs_from : (ts : List Token) (k n : ℕ) → k + n ≤ length ts → AllByRecursion P ts → AllByRecursion P (flat_map (typedef_at ts) (range_with_len k n))
+  all_typedefs_from ts k zero within a = tt
+  all_typedefs_from ts k (suc n) within a = all-append P (typedef_at ts k) _ (all_typedef_at ts k (omega arith) a) (all_typedefs_from ts (k + 1) n (omega arith) a)
 
-  pub all_typedefs : P no_token → (ts : List Token) → AllByRecursion P ts → AllByRecursion P (typedefs ts)
-  all_typedefs none ts a = all_typedefs_from none ts 0 (length ts) a
+  pub all_typedefs : (ts : List Token) → AllByRecursion P ts → AllByRecursion P (typedefs ts)
+  all_typedefs ts a = all_typedefs_from ts 0 (length ts) (omega arith) a
 
 -- ---- order
 all_put : {X : Type 0} (key : X → List ℕ) (Q : X → Type 0) (x : X) (ys : List X) → Q x → AllByRecursion Q ys → AllByRecursion Q (put key x ys)
@@ -136,7 +148,7 @@ module _ (S : Span → Type 0) where
   calls_from_body ts caller k zero none s a = tt
   calls_from_body ts caller k (suc n) none s a =
       all-append (λ (c : Call). S c.callee × S c.caller) (call_at ts caller k) _
-      (elim (is_call (token_at ts k) (token_at ts (suc k))) as (λ b. AllByRecursion (λ (c : Call). S c.callee × S c.caller) (cond b (call_of caller (token_at ts k) ∷ []) [])) [ true ↦ ((at_any (λ t. S t.span) none ts k a, s), tt) | false ↦ tt ])
+      (elim (is_call (token_at ts k) (token_at ts (suc k))) as (λ b. AllByRecursion (λ (c : Call). S c.callee × S c.caller) (cond b (call_of caller (token_at ts k) ∷ []) [])) [ true ↦ ((at_any (λ t. S t.span) ts k (λ _. none) a, s), tt) | false ↦ tt ])
       (calls_from_body ts caller (k + 1) n none s a)
 
   calls_of_all : (ts : List Token) (fs : List Function) → S no_token.span → AllByRecursion (λ (t : Token). S t.span) (map (λ (f : Function). f.name) fs) → AllByRecursion (λ (t : Token). S t.span) ts → AllByRecursion (λ (c : Call). S c.callee × S c.caller) (flat_map (calls_of_function ts) fs)
@@ -178,10 +190,6 @@ module _ (S : Span → Type 0) where
       (all-append (λ (c : Call). S c.callee × S c.caller) _ _ (calls_of_line l parts.0) (calls_of_lines ls parts.1))
 
 -- ---- scopes
-found_among : {X : Type 0} (Q : X → Type 0) (test : X → Bool) (xs : List X) → AllByRecursion Q xs → MatchOption (find test xs) (Unit {0}) Q
-found_among Q test [] a = tt
-found_among Q test (x ∷ xs) a = elim (test x) as (λ b. MatchOption (cond b (Some x) (find test xs)) (Unit {0}) Q) [ true ↦ a.0 | false ↦ found_among Q test xs a.1 ]
-
 module _ (text : List ℕ) where
   named_ranges_of_functions : (fs : List Function) → AllByRecursion (SpanWithin text) (map (λ (f : Function). f.name) fs) → AllByRecursion (λ (r : Range). IsWithin text r.name) (map (function_range text (code text)) fs)
   named_ranges_of_functions [] a = tt
@@ -254,63 +262,71 @@ module _ (text : List ℕ) where
   includes_within scopes (i ∷ is) a = ((a.0, scopes i.header.start), includes_within scopes is a.1)
 
   -- ---- all facts
-  defs_named : {X : Type 0} (name : X → Token) (def : X → Def) → ((x : X) → IsWithin text (name x).span → IsWithin text (def x).name) → (xs : List X) → AllByRecursion (SpanWithin text) (map name xs) → AllByRecursion (λ (d : Def). IsWithin text d.name) (map def xs)
-  defs_named name def is [] a = tt
-  defs_named name def is (x ∷ xs) a = (is x a.0, defs_named name def is xs a.1)
-
-  defs_of_tokens : (ts : List Token) → AllByRecursion (SpanWithin text) ts → AllByRecursion (λ (d : Def). IsWithin text d.name) (map typedef_def ts)
-  defs_of_tokens [] a = tt
-  defs_of_tokens (t ∷ ts) a = (a.0, defs_of_tokens ts a.1)
+  span_within : (t : Token) → TokenWithin text t → SpanWithin text t
+  span_within t w = (omega (arith, w.0), w.1)
 
   spans_of : (ts : List Token) → AllByRecursion (TokenWithin text) ts → AllByRecursion (SpanWithin text) ts
-  spans_of [] a = tt
-  spans_of (t ∷ ts) a = ((omega (arith, a.0.0), a.0.1), spans_of ts a.1)
+  spans_of = all_implied (TokenWithin text) (SpanWithin text) span_within
 
-  line_tokens : AllByRecursion (SpanWithin text) (flat_map (λ l. l) (logical_lines text))
+  defs_of_macros : (ms : List Macro) → AllByRecursion (TokenWithin text) (map (λ (m : Macro). m.name) ms) → AllByRecursion (DefWithin text) (map macro_def ms)
+  defs_of_macros [] a = tt
+  defs_of_macros (m ∷ ms) a = ((span_within m.name a.0, a.0.2), defs_of_macros ms a.1)
+
+  defs_of_tokens : (ts : List Token) → AllByRecursion (TokenWithin text) ts → AllByRecursion (DefWithin text) (map typedef_def ts)
+  defs_of_tokens [] a = tt
+  defs_of_tokens (t ∷ ts) a = ((span_within t a.0, a.0.2), defs_of_tokens ts a.1)
+
+  line_tokens : AllByRecursion (TokenWithin text) (flat_map (λ l. l) (logical_lines text))
   line_tokens =
-      spans_of _ (all-joined (TokenWithin text) (logical_lines text) (lines-within text _ (all-split (LiesIn text) (λ p. is_newline p.class) (pieces text) (pieces-lie text))))
+      all-joined (TokenWithin text) (logical_lines text) (lines-within text _ (all-split (LiesIn text) (λ p. is_newline p.class) (pieces text) (pieces-lie text)))
 
-  code_tokens : AllByRecursion (SpanWithin text) (code text)
-  code_tokens = spans_of (code text) (code-within text (pieces text) (pieces-lie text))
+  code_tokens : AllByRecursion (TokenWithin text) (code text)
+  code_tokens = code-within text (pieces text) (pieces-lie text)
 
-  directive_tokens : AllByRecursion (SpanWithin text) (flat_map (λ l. l) (directives text))
-  directive_tokens = only_directives (logical_lines text) (SpanWithin text) line_tokens
+  directive_tokens : AllByRecursion (TokenWithin text) (flat_map (λ l. l) (directives text))
+  directive_tokens = only_directives (logical_lines text) (TokenWithin text) line_tokens
 
   function_names : AllByRecursion (SpanWithin text) (map (λ (f : Function). f.name) (functions (code text)))
-  function_names = all_function_names (SpanWithin text) (code text) 0 (length (code text)) code_tokens
+  function_names = all_function_names (SpanWithin text) (code text) 0 (length (code text)) (spans_of (code text) code_tokens)
 
-  macro_tokens : AllByRecursion (SpanWithin text) (map (λ (m : Macro). m.name) (macros text))
-  macro_tokens = subst (AllByRecursion (SpanWithin text)) (names_flat (directives text)) (all-picked macro_names macro_picks (SpanWithin text) (directives text) directive_tokens)
+  macro_tokens : AllByRecursion (TokenWithin text) (map (λ (m : Macro). m.name) (macros text))
+  macro_tokens = subst (AllByRecursion (TokenWithin text)) (names_flat (directives text)) (all-picked macro_names macro_picks (TokenWithin text) (directives text) directive_tokens)
 
   origin : IsWithin text no_token.span
   origin = (omega (arith), omega (arith))
 
   scopes_lie : (place : ℕ) → IsScopeWithin text (scope text place)
-  scopes_lie = scope_within (named_ranges_of_macros (macros text) macro_tokens) (named_ranges_of_functions (functions (code text)) function_names)
+  scopes_lie = scope_within (named_ranges_of_macros (macros text) (spans_of _ macro_tokens)) (named_ranges_of_functions (functions (code text)) function_names)
 
-  definitions_lie : AllByRecursion (λ (d : Def). IsWithin text d.name) (definitions text)
+  definitions_lie : AllByRecursion (DefWithin text) (definitions text)
   unfolding definitions
   definitions_lie =
-      all_in_order def_key (λ (d : Def). IsWithin text d.name) _
-      (all-append (λ (d : Def). IsWithin text d.name) _ _
-      (all-append (λ (d : Def). IsWithin text d.name) _ _ (defs_named (λ (f : Function). f.name) function_def (λ f w. w) (functions (code text)) function_names) (defs_named (λ (m : Macro). m.name) macro_def (λ m w. w) (macros text) macro_tokens))
-      (defs_of_tokens (typedefs (code text)) (all_typedefs (SpanWithin text) origin (code text) code_tokens)))
+      all_in_order def_key (DefWithin text) _
+      (all-append (DefWithin text) _ _
+      (all-append (DefWithin text) _ _ (functions-lie text (pieces-lie text)) (defs_of_macros (macros text) macro_tokens))
+      (defs_of_tokens (typedefs (code text)) (all_typedefs (TokenWithin text) (code text) code_tokens)))
 
   uses_lie : AllByRecursion (λ (u : Use). IsWithin text u.name × IsScopeWithin text u.scope) (uses text)
   unfolding uses
-  uses_lie = uses_within scopes_lie (flat_map used (logical_lines text)) (all-picked used used_picks (SpanWithin text) (logical_lines text) line_tokens)
+  uses_lie = uses_within scopes_lie (flat_map used (logical_lines text)) (all-picked used used_picks (SpanWithin text) (logical_lines text) (spans_of _ line_tokens))
 
   calls_lie : AllByRecursion (λ (c : Call). IsWithin text c.callee × IsWithin text c.caller) (calls text)
   unfolding calls
   calls_lie =
       all_in_order call_key (λ (c : Call). IsWithin text c.callee × IsWithin text c.caller) _
-      (all-append (λ (c : Call). IsWithin text c.callee × IsWithin text c.caller) _ _ (calls_of_all (IsWithin text) (code text) (functions (code text)) origin function_names code_tokens)
-      (calls_of_lines (IsWithin text) (directives text) directive_tokens))
+      (all-append (λ (c : Call). IsWithin text c.callee × IsWithin text c.caller) _ _ (calls_of_all (IsWithin text) (code text) (functions (code text)) origin function_names (spans_of (code text) code_tokens))
+      (calls_of_lines (IsWithin text) (directives text) (spans_of _ directive_tokens)))
 
   includes_lie : AllByRecursion (λ (i : Include). IsWithin text i.header × IsScopeWithin text i.scope) (includes text)
   unfolding includes
-  includes_lie = includes_within scopes_lie _ (headers_within (directives text) directive_tokens)
+  includes_lie = includes_within scopes_lie _ (headers_within (directives text) (spans_of _ directive_tokens))
 
-  -- what is found in a text lies in it
+  -- what is found in a text lies in it, and its definitions stand on lines of it
   pub facts_lie : AreWithin text (facts_of text)
-  facts_lie = record { defs = definitions_lie; uses = uses_lie; calls = calls_lie; includes = includes_lie }
+  facts_lie = record {
+    defs = all_implied (DefWithin text) (λ (d : Def). IsWithin text d.name) (λ d w. w.0) (definitions text) definitions_lie;
+    lines = all_implied (DefWithin text) (λ (d : Def). IsLineOf text d.line) (λ d w. w.1) (definitions text) definitions_lie;
+    uses = uses_lie;
+    calls = calls_lie;
+    includes = includes_lie;
+  }

@@ -1,12 +1,13 @@
--- The table of line starts finds each line.
-use Rattle.std.proofs.Common.{◌≡◌, ◌∙◌, ℕ, zero, suc, ◌+◌, ◌-◌, ◌<◌, ◌≤◌, List, [], ◌∷◌, ◌++◌, Some, None, length, take, drop, get_or, refl, sym, ap, subst, arith, add-one, append_assoc, length-append, length-drop, take-append-drop}
+-- The table of line starts finds each line, and each byte stands on one of the lines.
+use Rattle.std.proofs.Common.{◌≡◌, ◌∙◌, ℕ, zero, suc, ◌+◌, ◌-◌, ◌<◌, ◌≤◌, ◌==◌, true, false, cond, List, [], ◌∷◌, ◌++◌, Some, None, length, take, drop, get_or, refl, sym, ap, subst, arith, add-one, append_assoc, length-append, length-drop, take-append-drop}
 use Rattle.std.specs.Prelude.{slice_get, slice_range}
-use Rattle.std.specs.List.{flat_map}
+use Rattle.std.specs.List.{count_by, flat_map}
 use Rattle.std.proofs.lemmas.List.{drop_at, take_at, length-map}
+use Rattle.std.proofs.lemmas.List.Sums.{sum_by-cons}
 use Rattle.std.proofs.lemmas.Option.{slice_get-get_or, slice_get_past}
 use Rattle.bstr.specs.Text.{lines_of, line_len, without_terminator}
 use Rattle.bstr.proofs.lemmas.LineLemmas.{line_len-bounds, lines-step, lines-nil}
-use Rattle.cb_scan.specs.Lines.{lines}
+use Rattle.cb_scan.specs.Lines.{IsLineOf, line_of, lines}
 use Rattle.cb_scan.specs.steps.LineStarts.{starts_from, line_starts}
 
 -- lines, one after the other
@@ -36,6 +37,30 @@ lines-whole text = (are_lines (length text) text (omega arith)).whole
 
 pub lines-few : (text : List ℕ) → length (lines_of text) ≤ length text
 lines-few text = (are_lines (length text) text (omega arith)).few
+
+-- the lines behind the first are one less at most
+lines_rest : (bs : List ℕ) → length (lines_of bs) ≤ suc (length (lines_of (drop (line_len bs) bs)))
+lines_rest [] = omega (arith, ap length lines-nil)
+lines_rest (b ∷ bs) = omega (arith, ap length (lines-step (b ∷ bs) (omega arith)))
+
+-- a byte before some bytes takes no line away, and a line feed adds one
+lines_behind : (b : ℕ) (bs : List ℕ) → cond (b == 10) 1 0 + length (lines_of bs) ≤ length (lines_of (b ∷ bs))
+unfolding line_len
+lines_behind b bs =
+    let step = ap length (lines-step (b ∷ bs) (omega arith)) in
+    let split =
+    elim (b == 10) as (λ c. cond c 1 0 + length (lines_of bs) ≤ suc (length (lines_of (drop (cond c 1 (suc (line_len bs))) (b ∷ bs))))) [ true ↦ omega arith | false ↦ omega (arith, lines_rest bs) ] in
+    omega (arith, step, split)
+
+-- the line feeds before a byte are fewer than the lines
+feeds_few : (text : List ℕ) (place : ℕ) → place < length text → count_by (λ b. b == 10) (take place text) + 1 ≤ length (lines_of text)
+feeds_few [] place within = absurd (omega arith)
+feeds_few (b ∷ bs) zero within = omega (arith, ap length (lines-step (b ∷ bs) (omega arith)))
+feeds_few (b ∷ bs) (suc place) within = omega (arith, sum_by-cons (λ c. cond (c == 10) 1 0) b (take place bs), lines_behind b bs, feeds_few bs place (omega arith))
+
+-- a byte of a text stands on one of its lines
+pub line-within : (text : List ℕ) (place : ℕ) → place < length text → IsLineOf text (line_of text place)
+line-within text place within = (omega arith, omega (arith, feeds_few text place within, length-map (lines_of text) without_terminator))
 
 -- one entry a line, and one for the end
 starts_length : (at : ℕ) (ls : List (List ℕ)) → length (starts_from at ls) ≡ length ls + 1

@@ -324,7 +324,7 @@ later_names P ts a k (suc n) behind new all =
         let shut : (is_counted ts k && depth ts k == 0) ≡ false = ap (λ b. is_counted ts k && b) (false_from_ne_true (depth ts k == 0) (λ e. let none : depth ts k ≡ 0 = eqb-true (depth ts k) 0 e in absurd (omega arith))) ∙ and-false (is_counted ts k) in
         subst (λ fs. AllByRecursion P (map function_name fs)) (sym (none_here [] ts k shut)) tt
 
-all_implied : {X : Type 0} (P Q : X → Type 0) → ((x : X) → P x → Q x) → (xs : List X) → AllByRecursion P xs → AllByRecursion Q xs
+pub all_implied : {X : Type 0} (P Q : X → Type 0) → ((x : X) → P x → Q x) → (xs : List X) → AllByRecursion P xs → AllByRecursion Q xs
 all_implied P Q f [] a = tt
 all_implied P Q f (x ∷ xs) a = (f x a.0, all_implied P Q f xs a.1)
 

@@ -11,9 +11,11 @@ use Rattle.cb_scan.specs.Definitions.{IsWithin, function_def}
 use Rattle.cb_scan.specs.Functions.{Function, called_name, may_define, head, function_from, function_at, functions, close_from}
 use Rattle.cb_scan.specs.Depth.{depth, head_start, is_counted}
 use Rattle.cb_scan.specs.declared.facts.Def.{Def}
+use Rattle.cb_scan.specs.Lines.{IsLineOf}
 use Rattle.cb_scan.specs.steps.Cut.{pieces}
 use Rattle.cb_scan.specs.Pieces.{LiesIn}
 use Rattle.cb_scan.specs.Tokens.{tokens, token_of, is_significant, is_name_token, is_mark, is_static}
+use Rattle.cb_scan.proofs.LineTable.{line-within}
 
 -- each of a list of lists
 abbrev pub AllOfAll : {X : Type 0} → (X → Type 0) → List (List X) → Type 0
@@ -52,14 +54,17 @@ module _ {X : Type 0} (P : X → Type 0) where
   all-split test (x ∷ xs) a =
       elim (test x) as (λ b. AllOfAll P (cond b ([] ∷ slice_split test xs) (onto_first x (slice_split test xs)))) [ true ↦ (tt, all-split test xs a.1) | false ↦ all-onto_first x (slice_split test xs) a.0 (all-split test xs a.1) ]
 
--- a token lies in the text, and has a byte at least
+-- a token lies in the text, has a byte at least, and stands on a line of the text
 abbrev pub TokenWithin : List ℕ → Token → Type 0
-TokenWithin text t = (t.span.start < t.span.end) × (t.span.end ≤ length text)
+TokenWithin text t = (t.span.start < t.span.end) × (t.span.end ≤ length text) × IsLineOf text t.line
 
 tokens-within : (text : List ℕ) (ps : List Piece) → AllByRecursion (LiesIn text) ps → AllByRecursion (TokenWithin text) (tokens text ps)
 tokens-within text [] a = tt
 tokens-within text (p ∷ ps) a =
-    elim (is_significant p.class) as (λ b. AllByRecursion (TokenWithin text) (map (token_of text) (cond b (p ∷ filter (λ q. is_significant q.class) ps) (filter (λ q. is_significant q.class) ps)))) [ true ↦ (a.0, tokens-within text ps a.1) | false ↦ tokens-within text ps a.1 ]
+    elim (is_significant p.class) as (λ b. AllByRecursion (TokenWithin text) (map (token_of text) (cond b (p ∷ filter (λ q. is_significant q.class) ps) (filter (λ q. is_significant q.class) ps)))) [
+      | true ↦ ((a.0.0, a.0.1, line-within text p.span.start (omega (arith, a.0.0, a.0.1))), tokens-within text ps a.1)
+      | false ↦ tokens-within text ps a.1
+    ]
 
 pub lines-within : (text : List ℕ) (ls : List (List Piece)) → AllOfAll (LiesIn text) ls → AllOfAll (TokenWithin text) (map (tokens text) ls)
 lines-within text [] a = tt
@@ -78,9 +83,9 @@ called-among P (t ∷ []) a = tt
 called-among P (t ∷ u ∷ h) a =
     elim (is_name_token t.role && is_mark 40 u.role) as (λ b. MatchOption (cond b (Some t) (called_name (u ∷ h))) (Unit {0}) P) [ true ↦ a.0 | false ↦ called-among P (u ∷ h) a.1 ]
 
--- the name of a definition lies in the text
+-- the name of a definition lies in the text, and its line is one of the text
 abbrev pub DefWithin : List ℕ → Def → Type 0
-DefWithin text d = IsWithin text d.name
+DefWithin text d = IsWithin text d.name × IsLineOf text d.line
 
 -- a function is named by a token of the code
 function-within : (text : List ℕ) (ts : List Token) (k : ℕ) → AllByRecursion (TokenWithin text) ts → AllByRecursion (DefWithin text) (map function_def (function_at ts k))
@@ -89,7 +94,7 @@ function-within text ts k a =
       | true ↦ elim (may_define (head ts k)) as (λ b. AllByRecursion (DefWithin text) (map function_def (named (cond b (called_name (head ts k)) None)))) [
         | true ↦ elim (called_name (head ts k)) as (λ o. MatchOption o (Unit {0}) (TokenWithin text) → AllByRecursion (DefWithin text) (map function_def (named o))) [
           | None ↦ λ _. tt
-          | Some t ↦ λ w. ((omega (arith, w.0), w.1), tt)
+          | Some t ↦ λ w. (((omega (arith, w.0), w.1), w.2), tt)
         ] (called-among (TokenWithin text) (head ts k) (all-drop (TokenWithin text) (head_start ts k) (take k ts) (all-take (TokenWithin text) k ts a)))
         | false ↦ tt
       ]

@@ -11,6 +11,7 @@ use Rattle.cb_scan.specs.declared.piece.Span.{Span}
 use Rattle.cb_scan.specs.declared.token.Token.{Token}
 use Rattle.cb_scan.specs.Code.{code}
 use Rattle.cb_scan.specs.Functions.{Function, functions}
+use Rattle.cb_scan.specs.Lines.{IsLineOf}
 use Rattle.cb_scan.specs.Macros.{Macro, macros}
 use Rattle.cb_scan.specs.Order.{call_key, def_key, in_order}
 use Rattle.cb_scan.specs.TextFacts.{TextFacts}
@@ -48,9 +49,10 @@ IsWithin text span = (span.start ≤ span.end) × (span.end ≤ length text)
 abbrev pub IsScopeWithin : List ℕ → Option Span → Type 0
 IsScopeWithin text scope = MatchOption scope (Unit {0}) (IsWithin text)
 
--- the spans of all facts lie in the text
+-- the spans of all facts lie in the text, and the lines of the definitions are lines of it
 pub record AreWithin (text : List ℕ) (f : TextFacts) : Type 0 where
   pub defs : AllByRecursion (λ (d : Def). IsWithin text d.name) f.defs
+  pub lines : AllByRecursion (λ (d : Def). IsLineOf text d.line) f.defs
   pub uses : AllByRecursion (λ (u : Use). IsWithin text u.name × IsScopeWithin text u.scope) f.uses
   pub calls : AllByRecursion (λ (c : Call). IsWithin text c.callee × IsWithin text c.caller) f.calls
   pub includes : AllByRecursion (λ (i : Include). IsWithin text i.header × IsScopeWithin text i.scope) f.includes

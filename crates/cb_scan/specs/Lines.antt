@@ -1,5 +1,5 @@
 -- The lines of a text.
-use Rattle.std.specs.Prelude.{◌+◌, ◌-◌, ◌==◌, ℕ, List, [], take, map, count_by}
+use Rattle.std.specs.Prelude.{◌+◌, ◌-◌, ◌≤◌, ◌==◌, ℕ, List, [], length, take, map, count_by}
 use Rattle.std.specs.List.{slice_index_or}
 use Rattle.bstr.specs.Text.{lines_of, without_terminator}
 
@@ -10,6 +10,10 @@ lines text = map without_terminator (lines_of text)
 -- the shown line n, counted from 1; no bytes past the last
 abbrev pub line_text : List ℕ → ℕ → List ℕ
 line_text text n = slice_index_or (lines text) (n - 1) []
+
+-- the text has a line of that number, counted from 1
+abbrev pub IsLineOf : List ℕ → ℕ → Type 0
+IsLineOf text n = (1 ≤ n) × (n ≤ length (lines text))
 
 -- the line of a place: one more than the line feeds before it
 abbrev pub line_of : List ℕ → ℕ → ℕ

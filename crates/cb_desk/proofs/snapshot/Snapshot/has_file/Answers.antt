@@ -5,5 +5,5 @@ use Rattle.cb_desk.proofs.snapshot.Snapshot.has_file.Goals as goal
 
 pub returns : goal.returns
 returns c =
-    rw (c.is_named.ensures, c.as_slice.ensures.value)
-    (sym (list_any-map (λ (f : File). bytes_eq f.name c.args.name.now) (λ shared. shared.value) c.self.inside.files.items) ∙ ap (λ w. has_file w c.args.name.now) c.self.view_is)
+    rw (c.has_name.ensures, c.as_slice.ensures.value)
+    (sym (list_any-map (λ (f : File). bytes_eq f.name c.args.name.now) (λ shared. shared.value) c.self.inside.files.items) ∙ ap (λ w. has_file w.files c.args.name.now) c.self.view_is)

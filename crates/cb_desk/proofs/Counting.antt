@@ -1,0 +1,58 @@
+-- The nth place of the definitions of a name, one file after another.
+use Rattle.std.proofs.Common.{◌≡◌, ◌∙◌, sym, ap, refl, ℕ, zero, suc, ◌+◌, ◌-◌, ◌<◌, ◌≤◌, List, [], ◌∷◌, ◌++◌, length, map, drop, filter, Option, Some, None, slice_get, get_or, add-one, arith}
+use native.Mathlib.Numerals.{unary_clauses}
+use Rattle.std.specs.Option.{option_map}
+use Rattle.std.proofs.lemmas.List.{length-map}
+use Rattle.std.proofs.lemmas.Option.{slice_get-map, slice_get-get_or, slice_get_past}
+use Rattle.cb_scan.specs.declared.facts.Def.{Def}
+use Rattle.cb_scan.specs.Definitions.{definitions}
+use Rattle.cb_desk.specs.Answer.{defines}
+use Rattle.cb_desk.specs.World.{File, Frame}
+use Rattle.cb_desk.specs.Step.{places, places_in}
+use Rattle.cb_desk.proofs.Texts.{next_file}
+
+slice_get-front : {X : Type 0} (xs ys : List X) (i : ℕ) (x : X) → slice_get xs i ≡ Some x → slice_get (xs ++ ys) i ≡ Some x
+slice_get-front [] ys i x e = cc
+slice_get-front (y ∷ xs) ys zero x e = e
+slice_get-front (y ∷ xs) ys (suc i) x e = slice_get-front xs ys i x e
+
+slice_get-behind : {X : Type 0} (xs ys : List X) (i : ℕ) → slice_get xs i ≡ None → slice_get (xs ++ ys) i ≡ slice_get ys (i - length xs)
+slice_get-behind [] ys i e = simp unary_clauses refl
+slice_get-behind (y ∷ xs) ys zero e = cc
+slice_get-behind (y ∷ xs) ys (suc i) e = simp unary_clauses (slice_get-behind xs ys i e)
+
+abbrev framed : List ℕ → Def → Frame
+framed name d = record { file = name; line = d.line }
+
+same-line : (name : List ℕ) (line : ℕ) (found : Option Def) → option_map (λ (d : Def). d.line) found ≡ Some line
+    → option_map (framed name) found ≡ Some (record { file = name; line = line })
+same-line name line None e = cc
+same-line name line (Some d) e = cc
+
+-- the definitions of a name in a file
+abbrev named : List ℕ → File → List Def
+named name f = filter (defines f.bytes name) (definitions f.bytes)
+
+-- their lines
+abbrev pub lines_named : List ℕ → File → List ℕ
+lines_named name f = map (λ (d : Def). d.line) (named name f)
+
+module _ {X : Type 0} (v : X → File) (xs : List X) (i : ℕ) (x : X) (name lines : List ℕ) (passed : ℕ) where
+  -- the place is one of this file
+  pub placed-here : (line : ℕ) → i < length xs → x ≡ get_or xs i x → lines ≡ lines_named name (v x) → passed < length lines → line ≡ get_or lines passed line
+      → slice_get (places (map v (drop i xs)) name) passed ≡ Some (record { file = (v x).name; line = line })
+  placed-here line within is found short at =
+      let there : slice_get (lines_named name (v x)) passed ≡ Some line = ap (λ ls. slice_get ls passed) (sym found) ∙ slice_get-get_or lines passed line short ∙ ap (λ l. Some l) (sym at) in
+      ap (λ fs. slice_get (places fs name) passed) (next_file v xs i x within is)
+      ∙ slice_get-front (places_in name (v x)) (places (map v (drop (i + 1) xs)) name) passed _
+      (slice_get-map (framed (v x).name) (named name (v x)) passed ∙ same-line (v x).name line (slice_get (named name (v x)) passed) (sym (slice_get-map (λ (d : Def). d.line) (named name (v x)) passed) ∙ there))
+
+  -- or it stands behind all of them
+  pub placed-behind : i < length xs → x ≡ get_or xs i x → lines ≡ lines_named name (v x) → length lines ≤ passed
+      → slice_get (places (map v (drop i xs)) name) passed ≡ slice_get (places (map v (drop (i + 1) xs)) name) (passed - length lines)
+  placed-behind within is found long =
+      let many : length (places_in name (v x)) ≡ length lines = length-map (named name (v x)) (framed (v x).name) ∙ sym (length-map (named name (v x)) (λ (d : Def). d.line)) ∙ ap length (sym found) in
+      let gone : slice_get (places_in name (v x)) passed ≡ None = slice_get_past (places_in name (v x)) passed (omega (arith, many)) in
+      ap (λ fs. slice_get (places fs name) passed) (next_file v xs i x within is)
+      ∙ slice_get-behind (places_in name (v x)) (places (map v (drop (i + 1) xs)) name) passed gone
+      ∙ ap (λ n. slice_get (places (map v (drop (i + 1) xs)) name) (passed - n)) many

@@ -1,0 +1,223 @@
+-- Which text a name has among files, before and after a change, and the frames that stay valid by it.
+use Rattle.std.proofs.Common.{◌≡◌, ◌∙◌, sym, ap, refl, subst, ℕ, zero, suc, ◌<◌, ◌≤◌, Bool, true, false, not, ◌||◌, cond, List, [], ◌∷◌, ◌++◌, filter, map, length, take, Option, Some, None, slice_get, bytes_eq, nat_cmp, is_lt, Ordering, Less, arith}
+use Rattle.std.specs.List.{AllByRecursion, list_any, flat_map}
+use Rattle.std.specs.Cmp.Lexicographic.{slice_cmp}
+use Rattle.std.proofs.lemmas.Slice.Eq.{bytes_eq-Decides}
+use Rattle.std.proofs.lemmas.Map.Text.{is_eq-slice_cmp}
+use Rattle.std.specs.List.Sorted.{IsStrictlySortedBy}
+use Rattle.cb_scan.specs.declared.facts.Def.{Def}
+use Rattle.cb_scan.specs.Definitions.{definitions}
+use Rattle.cb_scan.specs.Lines.{IsLineOf}
+use Rattle.bstr.specs.Text.{lines_of, without_terminator}
+use Rattle.std.proofs.lemmas.List.{length-map}
+use Rattle.cb_scan.proofs.FactsWithin.{facts_lie}
+use Rattle.cb_scan.proofs.LineTable.{lines-few}
+use Rattle.cb_desk.specs.Answer.{defines}
+use Rattle.cb_desk.specs.World.{File, Frame, World, is_named, has_file, text_of_file, IsAscending, IsFrameOf, AreValidFiles}
+use Rattle.cb_desk.specs.Step.{with_file, without_file, renamed_frame, places_in, places, nth}
+use Rattle.cb_desk.proofs.Placed.{by_name, before}
+use Rattle.cb_desk.proofs.Valid.{all-along, all-both, all-filter, all-join, all-passed}
+
+same-name : (a b : List ℕ) → bytes_eq a b ≡ true → a ≡ b
+same-name a b e = (bytes_eq-Decides a b).0 e
+
+name-same : (a : List ℕ) → bytes_eq a a ≡ true
+name-same a = (bytes_eq-Decides a a).1 refl
+
+-- a name that is not there has no text
+no-text : (files : List File) (name : List ℕ) → has_file files name ≡ false → text_of_file files name ≡ []
+unfolding text_of_file
+no-text [] name e = refl
+no-text (f ∷ files) name e =
+    (elim (is_named name f) as (λ b. b || has_file files name ≡ false → cond b f.bytes (text_of_file files name) ≡ []) [
+      | true ↦ λ k. cc
+      | false ↦ λ k. no-text files name k
+    ]) e
+
+-- the first list that has the name has its text
+text-join : (xs ys : List File) (name : List ℕ) → text_of_file (xs ++ ys) name ≡ cond (has_file xs name) (text_of_file xs name) (text_of_file ys name)
+unfolding text_of_file
+text-join [] ys name = refl
+text-join (x ∷ xs) ys name =
+    elim (is_named name x) as (λ b. cond b x.bytes (text_of_file (xs ++ ys) name) ≡ cond (b || has_file xs name) (cond b x.bytes (text_of_file xs name)) (text_of_file ys name)) [
+      | true ↦ refl
+      | false ↦ text-join xs ys name
+    ]
+
+-- a filter that keeps, or drops, all files of a name
+has-kept : (p : File → Bool) (kept : Bool) (name : List ℕ) → ((f : File) → is_named name f ≡ true → p f ≡ kept) → (files : List File) → has_file (filter p files) name ≡ cond kept (has_file files name) false
+has-kept p kept name all [] = elim kept as (λ b. false ≡ cond b false false) [ true ↦ refl | false ↦ refl ]
+has-kept p kept name all (f ∷ files) =
+    (elim (is_named name f) as (λ b. is_named name f ≡ b → has_file (cond (p f) (f ∷ filter p files) (filter p files)) name ≡ cond kept (b || has_file files name) false) [
+      | true ↦ λ e. rw (all f e) ((elim kept as (λ k. kept ≡ k → has_file (cond k (f ∷ filter p files) (filter p files)) name ≡ cond k true false) [
+        | true ↦ λ h. rw e refl
+        | false ↦ λ h. has-kept p kept name all files ∙ rw h refl
+      ]) refl)
+      | false ↦ λ e. elim (p f) as (λ b. has_file (cond b (f ∷ filter p files) (filter p files)) name ≡ cond kept (has_file files name) false) [
+        | true ↦ rw e (has-kept p kept name all files)
+        | false ↦ has-kept p kept name all files
+      ]
+    ]) refl
+
+text-kept : (p : File → Bool) (name : List ℕ) → ((f : File) → is_named name f ≡ true → p f ≡ true) → (files : List File) → text_of_file (filter p files) name ≡ text_of_file files name
+unfolding text_of_file
+text-kept p name all [] = refl
+text-kept p name all (f ∷ files) =
+    (elim (is_named name f) as (λ b. is_named name f ≡ b → text_of_file (cond (p f) (f ∷ filter p files) (filter p files)) name ≡ cond b f.bytes (text_of_file files name)) [
+      | true ↦ λ e. rw (all f e, e) refl
+      | false ↦ λ e. elim (p f) as (λ b. text_of_file (cond b (f ∷ filter p files) (filter p files)) name ≡ text_of_file files name) [
+        | true ↦ rw e (text-kept p name all files)
+        | false ↦ text-kept p name all files
+      ]
+    ]) refl
+
+-- ---- one file more
+side : (f : File) (name : List ℕ) (g : File) → is_named name g ≡ true → before f g ≡ is_lt (slice_cmp nat_cmp name f.name)
+side f name g e = ap (λ n. is_lt (slice_cmp nat_cmp n f.name)) (same-name g.name name e)
+
+-- another name has the text that it had
+pub text-with : (f : File) (files : List File) (name : List ℕ) → is_named name f ≡ false → text_of_file (with_file f files) name ≡ text_of_file files name
+unfolding text_of_file
+text-with f files name other =
+    text-join (filter (before f) files) (f ∷ filter (λ g. not (before f g)) files) name ∙ rw other (
+      (elim (is_lt (slice_cmp nat_cmp name f.name)) as (λ b. is_lt (slice_cmp nat_cmp name f.name) ≡ b → cond (has_file (filter (before f) files) name) (text_of_file (filter (before f) files) name) (text_of_file (filter (λ g. not (before f g)) files) name) ≡ text_of_file files name) [
+        | true ↦ λ h.
+          let has : has_file (filter (before f) files) name ≡ has_file files name = has-kept (before f) true name (λ g e. side f name g e ∙ h) files in
+          let text : text_of_file (filter (before f) files) name ≡ text_of_file files name = text-kept (before f) name (λ g e. side f name g e ∙ h) files in
+          let out : has_file (filter (λ g. not (before f g)) files) name ≡ false = has-kept (λ g. not (before f g)) false name (λ g e. ap not (side f name g e ∙ h)) files in
+          rw (has, text, no-text (filter (λ g. not (before f g)) files) name out) (
+            (elim (has_file files name) as (λ b. has_file files name ≡ b → cond b (text_of_file files name) [] ≡ text_of_file files name) [
+              | true ↦ λ k. refl
+              | false ↦ λ k. sym (no-text files name k)
+            ]) refl
+          )
+        | false ↦ λ h.
+          let has : has_file (filter (before f) files) name ≡ false = has-kept (before f) false name (λ g e. side f name g e ∙ h) files in
+          rw has (text-kept (λ g. not (before f g)) name (λ g e. ap not (side f name g e ∙ h)) files)
+      ]) refl
+    )
+
+-- the new name has the new text
+pub text-with-here : (f : File) (files : List File) → has_file files f.name ≡ false → text_of_file (with_file f files) f.name ≡ f.bytes
+unfolding text_of_file
+text-with-here f files fresh =
+    let out : has_file (filter (before f) files) f.name ≡ false =
+        (elim (is_lt (slice_cmp nat_cmp f.name f.name)) as (λ b. is_lt (slice_cmp nat_cmp f.name f.name) ≡ b → has_file (filter (before f) files) f.name ≡ false) [
+          | true ↦ λ h. has-kept (before f) true f.name (λ g e. side f f.name g e ∙ h) files ∙ fresh
+          | false ↦ λ h. has-kept (before f) false f.name (λ g e. side f f.name g e ∙ h) files
+        ]) refl in
+    text-join (filter (before f) files) (f ∷ filter (λ g. not (before f g)) files) f.name ∙ rw (out, name-same f.name) refl
+
+-- ---- one file less
+-- a name has the text that it had where another one is taken away
+pub text-without : (files : List File) (gone name : List ℕ) → bytes_eq name gone ≡ false → text_of_file (without_file gone files) name ≡ text_of_file files name
+text-without files gone name other =
+    text-kept (λ f. not (is_named gone f)) name (λ f e. rw (same-name f.name name e, other) refl) files
+
+pub text-small : (files : List File) (name : List ℕ) → AllByRecursion (λ (f : File). length f.bytes ≤ 1000000) files → length (text_of_file files name) ≤ 1000000
+unfolding text_of_file
+text-small [] name all = omega arith
+text-small (f ∷ files) name all =
+    elim (is_named name f) as (λ b. length (cond b f.bytes (text_of_file files name)) ≤ 1000000) [ true ↦ all.0 | false ↦ text-small files name all.1 ]
+
+-- ---- frames
+-- a frame's file is there
+pub frame-there : (files : List File) (f : Frame) → IsFrameOf files f → has_file files f.file ≡ true
+frame-there files f is =
+    (elim (has_file files f.file) as (λ b. has_file files f.file ≡ b → b ≡ true) [
+      | true ↦ λ e. refl
+      | false ↦ λ e. let none : IsLineOf [] f.line = subst (λ text. IsLineOf text f.line) (no-text files f.file e) is in let few = lines-few [] in let same = length-map (lines_of []) without_terminator in absurd (omega (arith, none.0, none.1, few, same))
+    ]) refl
+
+-- a name that is there is none that is not
+other-name : (files : List File) (there gone : List ℕ) → has_file files there ≡ true → has_file files gone ≡ false → bytes_eq gone there ≡ false
+other-name files there gone e k =
+    (elim (bytes_eq gone there) as (λ b. bytes_eq gone there ≡ b → b ≡ false) [
+      | true ↦ λ h. let same = same-name gone there h in let has : has_file files gone ≡ true = rw same e in cc
+      | false ↦ λ h. refl
+    ]) refl
+
+-- one file more leaves frames as they are
+pub frames-with : (files : List File) (f : File) (frames : List Frame) → has_file files f.name ≡ false → AllByRecursion (IsFrameOf files) frames → AllByRecursion (IsFrameOf (with_file f files)) frames
+frames-with files f frames fresh all =
+    all-along (IsFrameOf files) (IsFrameOf (with_file f files)) frames
+    (λ place is. subst (λ text. IsLineOf text place.line) (sym (text-with f files place.file (other-name files place.file f.name (frame-there files place is) fresh))) is)
+    all
+
+not-true : (b : Bool) → not b ≡ true → b ≡ false
+not-true true e = cc
+not-true false e = refl
+
+-- one file less leaves the frames of the others as they are
+pub frames-without : (files : List File) (name : List ℕ) (frames : List Frame) → AllByRecursion (IsFrameOf files) frames → AllByRecursion (IsFrameOf (without_file name files)) (filter (λ (f : Frame). not (bytes_eq f.file name)) frames)
+frames-without files name frames all =
+    all-both (λ (f : Frame). not (bytes_eq f.file name) ≡ true) (IsFrameOf files) (IsFrameOf (without_file name files)) (filter (λ (f : Frame). not (bytes_eq f.file name)) frames)
+    (λ place kept is. subst (λ text. IsLineOf text place.line) (sym (text-without files name place.file (not-true _ kept))) is)
+    (all-passed (λ (f : Frame). not (bytes_eq f.file name)) frames)
+    (all-filter (IsFrameOf files) (λ (f : Frame). not (bytes_eq f.file name)) frames all)
+
+-- a file that is not there is not there without another one
+pub still-gone : (files : List File) (gone name : List ℕ) → has_file files name ≡ false → has_file (without_file gone files) name ≡ false
+still-gone files gone name e =
+    has-kept (λ f. not (is_named gone f)) (not (bytes_eq name gone)) name (λ f h. ap (λ n. not (bytes_eq n gone)) (same-name f.name name h)) files
+    ∙ rw e (elim (not (bytes_eq name gone)) as (λ b. cond b false false ≡ false) [ true ↦ refl | false ↦ refl ])
+
+module _ (files : List File) (old new : List ℕ) (fresh : has_file files new ≡ false) where
+  abbrev moved : List File
+  moved = with_file (record { name = new; bytes = text_of_file files old }) (without_file old files)
+
+  frame-renamed : (f : Frame) → IsFrameOf files f → IsFrameOf moved (renamed_frame old new f)
+  frame-renamed f is =
+      (elim (bytes_eq f.file old) as (λ b. bytes_eq f.file old ≡ b → IsFrameOf moved (cond b (record f { file = new }) f)) [
+        | true ↦ λ e.
+          subst (λ text. IsLineOf text f.line) (ap (text_of_file files) (same-name f.file old e) ∙ sym (text-with-here (record { name = new; bytes = text_of_file files old }) (without_file old files) (still-gone files old new fresh))) is
+        | false ↦ λ e.
+          subst (λ text. IsLineOf text f.line)
+          (sym (text-with (record { name = new; bytes = text_of_file files old }) (without_file old files) f.file (other-name files f.file new (frame-there files f is) fresh) ∙ text-without files old f.file e)) is
+      ]) refl
+
+  -- the frames of a file go with its name, and the others stay
+  pub frames-renamed : (frames : List Frame) → AllByRecursion (IsFrameOf files) frames → AllByRecursion (IsFrameOf moved) (map (renamed_frame old new) frames)
+  frames-renamed [] all = tt
+  frames-renamed (f ∷ frames) all = (frame-renamed f all.0, frames-renamed frames all.1)
+
+-- ---- places of definitions
+less-differs : (f g : File) → by_name f g ≡ Less → is_named g.name f ≡ false
+less-differs f g e = sym (is_eq-slice_cmp f.name g.name) ∙ rw e refl
+
+-- each of files that ascend is the one of its name
+own-texts : (files : List File) → IsAscending files → AllByRecursion (λ (f : File). text_of_file files f.name ≡ f.bytes) files
+unfolding IsStrictlySortedBy text_of_file
+own-texts [] up = tt
+own-texts (f ∷ files) up = (
+  rw (name-same f.name) refl,
+  all-both (λ (g : File). by_name f g ≡ Less) (λ (g : File). text_of_file files g.name ≡ g.bytes) (λ (g : File). text_of_file (f ∷ files) g.name ≡ g.bytes) files
+  (λ g below own. rw (less-differs f g below) own) up.0 (own-texts files up.1),
+)
+
+module _ (files : List File) (name : List ℕ) where
+  frames-of : (f : File) → text_of_file files f.name ≡ f.bytes → (ds : List Def) → AllByRecursion (λ (d : Def). IsLineOf f.bytes d.line) ds → AllByRecursion (IsFrameOf files) (map (λ (d : Def). record { file = f.name; line = d.line }) ds)
+  frames-of f own [] all = tt
+  frames-of f own (d ∷ ds) all = (subst (λ text. IsLineOf text d.line) (sym own) all.0, frames-of f own ds all.1)
+
+  places-of : (some : List File) → AllByRecursion (λ (f : File). text_of_file files f.name ≡ f.bytes) some → AllByRecursion (IsFrameOf files) (places some name)
+  places-of [] own = tt
+  places-of (f ∷ some) own =
+      all-join (IsFrameOf files) (places_in name f) (places some name)
+      (frames-of f own.0 (filter (defines f.bytes name) (definitions f.bytes)) (all-filter (λ (d : Def). IsLineOf f.bytes d.line) (defines f.bytes name) (definitions f.bytes) (facts_lie f.bytes).lines))
+      (places-of some own.1)
+
+at-place : {X : Type 0} (P : X → Type 0) (xs : List X) (i : ℕ) (x : X) → AllByRecursion P xs → slice_get xs i ≡ Some x → P x
+at-place P [] i x all e = cc
+at-place P (y ∷ xs) zero x all e = let same : y ≡ x = cc in subst P same all.0
+at-place P (y ∷ xs) (suc i) x all e = at-place P xs i x all.1 e
+
+-- the nth place of a name is a frame
+pub nth-place : (files : List File) (name : List ℕ) (n : ℕ) (f : Frame) → IsAscending files → nth n (places files name) ≡ Some f → IsFrameOf files f
+nth-place files name zero f up e = cc
+nth-place files name (suc n) f up e = at-place (IsFrameOf files) (places files name) n f (places-of files name files (own-texts files up)) e
+
+pub all-take : {X : Type 0} (P : X → Type 0) (n : ℕ) (xs : List X) → AllByRecursion P xs → AllByRecursion P (take n xs)
+all-take P zero xs all = tt
+all-take P (suc n) [] all = tt
+all-take P (suc n) (x ∷ xs) all = (all.0, all-take P n xs all.1)
