@@ -2,7 +2,6 @@
 //! replies.
 use super::operands::run_with;
 use crate::Ended;
-use std::alloc::Global;
 use std::test::Fail;
 
 /// A file of nine lines.
@@ -12,45 +11,35 @@ const A: &[u8] =
 /// A file of two lines.
 const M: &[u8] = b"int Mb(void) {\n}\n";
 
-/// What a run over the input writes, with these two files.
-fn run_two(alloc: Global, input: &[u8]) -> Result<Vec<u8>, Fail> {
-    let files = [(b"a.c".as_slice(), A), (b"m.c".as_slice(), M)];
-    let (written, ended) = run_with(alloc, &files, input)?;
-    if ended != Ended::Done {
-        return Ok(Vec::new(alloc));
-    }
-    Ok(written)
-}
+/// The first as an operand.
+const ONE: &[(&[u8], &[u8])] = &[(b"a.c", A)];
 
-/// What it writes with the first alone.
-fn run_one(alloc: Global, input: &[u8]) -> Result<Vec<u8>, Fail> {
-    let (written, ended) = run_with(alloc, &[(b"a.c".as_slice(), A)], input)?;
-    if ended != Ended::Done {
-        return Ok(Vec::new(alloc));
-    }
-    Ok(written)
-}
+/// Both.
+const TWO: &[(&[u8], &[u8])] = &[(b"a.c", A), (b"m.c", M)];
 
 #[test]
 fn the_stack_is_shown_from_its_top_down(rt: HostRuntime) -> Result<(), Fail> {
-    let written = run_two(
+    let (written, ended) = run_with(
         rt.alloc(),
+        TWO,
         b":tag add\n:tag Mb\n:tag word\n:drop m.c\n:stack\n:undo\n:stack\n",
     )?;
     assert_eq!(rt;
         written.as_slice(),
         b">> cscope: done\n>> cscope: done\n>> cscope: done\n>> cscope: done\n>> cscope: 2 lines\na.c <unknown> 3 typedef unsigned long word;\na.c <unknown> 4 static int add(int a, int b) {\n>> cscope: done\n>> cscope: 3 lines\na.c <unknown> 3 typedef unsigned long word;\nm.c <unknown> 1 int Mb(void) {\na.c <unknown> 4 static int add(int a, int b) {\n>> ".as_slice()
     );
+    assert_eq!(rt; ended, Ended::Done);
     Ok(())
 }
 
 #[test]
 fn a_new_name_in_a_tags_file(rt: HostRuntime) -> Result<(), Fail> {
-    let written = run_two(rt.alloc(), b":rename a.c z/b.c\n:tags\n:undo\n:tags\n")?;
+    let (written, ended) = run_with(rt.alloc(), TWO, b":rename a.c z/b.c\n:tags\n:undo\n:tags\n")?;
     assert_eq!(rt;
         written.as_slice(),
         b">> cscope: done\n>> cscope: 5 lines\nMb\tm.c\t/^int Mb(void) {$/\nMb\tz/b.c\t/^int main(void) {$/\nTWICE\tz/b.c\t/^#define TWICE(x) ((x) + add(x, 0))$/\nadd\tz/b.c\t/^static int add(int a, int b) {$/\nword\tz/b.c\t/^typedef unsigned long word;$/\n>> cscope: done\n>> cscope: 5 lines\nMa\ta.c\t/^int main(void) {$/\nMb\tm.c\t/^int Mb(void) {$/\nTWICE\ta.c\t/^#define TWICE(x) ((x) + add(x, 0))$/\nadd\ta.c\t/^static int add(int a, int b) {$/\nword\ta.c\t/^typedef unsigned long word;$/\n>> ".as_slice()
     );
+    assert_eq!(rt; ended, Ended::Done);
     Ok(())
 }
 
@@ -82,14 +71,16 @@ fn a_refused_change_keeps_the_future(rt: HostRuntime) -> Result<(), Fail> {
 
 #[test]
 fn an_accepted_change_ends_the_future(rt: HostRuntime) -> Result<(), Fail> {
-    let written = run_two(
+    let (written, ended) = run_with(
         rt.alloc(),
+        TWO,
         b":drop m.c\n:undo\n:drop a.c\n:redo\n1add\n:undo\n1add\n:redo\n1add\n",
     )?;
     assert_eq!(rt;
         written.as_slice(),
         b">> cscope: done\n>> cscope: done\n>> cscope: done\n>> cscope: refused: nothing to redo\n>> cscope: 0 lines\n>> cscope: done\n>> cscope: 1 lines\na.c add 4 static int add(int a, int b) {\n>> cscope: done\n>> cscope: 0 lines\n>> ".as_slice()
     );
+    assert_eq!(rt; ended, Ended::Done);
     Ok(())
 }
 
@@ -112,21 +103,24 @@ fn refused_changes(rt: HostRuntime) -> Result<(), Fail> {
         let mut output = Vec::from_slice(rt.alloc(), b">> cscope: refused: ")?;
         output.extend_from_slice(why)?;
         output.extend_from_slice(b"\n>> ")?;
-        let written = run_one(rt.alloc(), input)?;
+        let (written, ended) = run_with(rt.alloc(), ONE, input)?;
         assert_eq!(rt; written.as_slice(), output.as_slice());
+        assert_eq!(rt; ended, Ended::Done);
     }
     Ok(())
 }
 
 #[test]
 fn words_that_are_missing_or_too_many(rt: HostRuntime) -> Result<(), Fail> {
-    let written = run_one(
+    let (written, ended) = run_with(
         rt.alloc(),
+        ONE,
         b":drop\n:rename\n:rename a.c\n:rename a.c b.c c.c\n:tag add x y\n:tag add 0000000001\n:stack \n:redo 1\n:tag add 000000001\n:pop\n:stack\n",
     )?;
     assert_eq!(rt;
         written.as_slice(),
         b">> cscope: refused: no such file\n>> cscope: refused: bad name\n>> cscope: refused: bad name\n>> cscope: refused: unknown command\n>> cscope: refused: unknown command\n>> cscope: refused: bad count\n>> cscope: refused: unknown command\n>> cscope: refused: unknown command\n>> cscope: done\n>> cscope: done\n>> cscope: 0 lines\n>> ".as_slice()
     );
+    assert_eq!(rt; ended, Ended::Done);
     Ok(())
 }
