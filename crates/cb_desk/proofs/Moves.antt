@@ -1,5 +1,5 @@
 -- What changes, undos and redos do to a timeline.
-use Rattle.std.proofs.Common.{◌≡◌, ◌∙◌, sym, ap, refl, subst, ℕ, ◌+◌, ◌≤◌, ◌<◌, true, false, not, cond, List, [], ◌∷◌, ◌++◌, length, arith, Result, Ok, Err, Option, Some, None, nat_le, nat_lt}
+use Rattle.std.proofs.Common.{◌≡◌, ◌∙◌, sym, ap, refl, subst, ℕ, ◌+◌, ◌≤◌, ◌<◌, Bool, true, false, not, cond, List, [], ◌∷◌, ◌++◌, length, arith, Result, Ok, Err, Option, Some, None, nat_le, nat_lt}
 use Rattle.std.specs.List.{AllByRecursion}
 use Rattle.cb_desk.specs.declared.refusal.Refusal.{Refusal}
 use Rattle.cb_desk.specs.declared.refusal.Refusal.TheVariants.{BadName, NoSuchFile, FileExists, TooLarge, TooManyFiles, HistoryFull, OutOfMemory}
@@ -109,7 +109,7 @@ step_keeps_valid w v pop valid h =
 same-Ok : (a b : Timeline) (r : Result Timeline Refusal) → r ≡ Ok a → r ≡ Ok b → a ≡ b
 same-Ok a b r e h = cc
 
-abbrev accepted : World → Result World Refusal
+abbrev pub accepted : World → Result World Refusal
 accepted w = Ok w
 
 -- the timeline whose present has joined the past
@@ -222,3 +222,62 @@ changes-wanting t s w h short = (true, (rw (h, short) (wanted-Ok s (forth t w)),
 pub changes-done : (t u : Timeline) (s : Step) (w : World) → step t.present s ≡ Ok w → nat_le 65536 (length t.past) ≡ false → u ≡ forth t w → Changes s t u (Ok tt)
 unfolding changed
 changes-done t u s w h short is = (false, rw (h, short, is) refl)
+
+none-from : (o : Option Refusal) → ((r : Refusal) → o ≡ Some r → ⊥) → o ≡ None
+none-from None h = refl
+none-from (Some r) h = absurd (h r refl)
+
+-- ---- a step with its refusal, as a desk judges and does it
+module _ (t : Timeline) (s : Step) (o : Option Refusal) (after : World) (meant : step t.present s ≡ unless_refused o after) where
+  -- the step is refused
+  pub refused : (r : Refusal) → o ≡ Some r → Changes s t t (Err r)
+  refused r is = changes-refused t s r (meant ∙ rw is refl)
+
+  module _ (due : (r : Refusal) → o ≡ Some r → ⊥) where
+    accepted-step : step t.present s ≡ Ok after
+    accepted-step = meant ∙ rw (none-from o due) refl
+
+    -- the past is full
+    pub full : (b : Bool) → b ≡ nat_le 65536 (length t.past) → b ≡ true → Changes s t t (Err HistoryFull)
+    full b is long = changes-full t s after accepted-step (sym is ∙ long)
+
+    -- memory is wanted
+    pub wanting : (b : Bool) (u : Timeline) (e : Result (Unit {0}) Refusal) → b ≡ nat_le 65536 (length t.past) → b ≡ false → u ≡ t → e ≡ Err OutOfMemory → Changes s t u e
+    wanting b u e is short same err = rw (same, err) (changes-wanting t s after accepted-step (sym is ∙ short))
+
+    -- the next world is valid
+    pub valid-after : (w : World) → IsValidWorld t.present → w ≡ after → IsValidWorld w
+    valid-after w valid is = step_keeps_valid t.present w s valid (accepted-step ∙ ap (λ v. accepted v) (sym is))
+
+    -- the step is done
+    pub done : (b : Bool) (u : Timeline) (w : World) → b ≡ nat_le 65536 (length t.past) → b ≡ false → w ≡ after → u ≡ forth t w → Changes s t u (Ok tt)
+    done b u w is short at ends = changes-done t u s after accepted-step (sym is ∙ short) (ends ∙ ap (forth t) at)
+
+-- what each step is meant to do, in the words of its refusal
+pub load-meant : (t : Timeline) (present : World) (name bytes given : List ℕ) (o : Option Refusal) → present ≡ t.present → o ≡ load_refusal present name given → given ≡ bytes → step t.present (load name bytes) ≡ unless_refused o (loaded t.present name bytes)
+unfolding step
+load-meant t present name bytes given o same is bytes-same = rw (is, same, bytes-same) refl
+
+pub unload-meant : (t : Timeline) (present : World) (name : List ℕ) (o : Option Refusal) → present ≡ t.present → o ≡ unload_refusal present name → step t.present (unload name) ≡ unless_refused o (unloaded t.present name)
+unfolding step
+unload-meant t present name o same is = rw (is, same) refl
+
+pub rename-meant : (t : Timeline) (present : World) (old new : List ℕ) (o : Option Refusal) → present ≡ t.present → o ≡ rename_refusal present old new → step t.present (rename old new) ≡ unless_refused o (renamed t.present old new)
+unfolding step
+rename-meant t present old new o same is = rw (is, same) refl
+
+pub pop-meant : (t : Timeline) (present : World) (o : Option Refusal) → present ≡ t.present → o ≡ pop_refusal present.frames → step t.present pop ≡ unless_refused o (popped t.present)
+unfolding step
+pop-meant t present o same is = rw (is, same) refl
+
+-- the world with one more frame
+abbrev pub pushed : World → Frame → World
+pushed w f = record w { frames = w.frames ++ f ∷ [] }
+
+pub no-frame : (o : Option Frame) → ((f : Frame) → o ≡ Some f → ⊥) → o ≡ None
+no-frame None h = refl
+no-frame (Some f) h = absurd (h f refl)
+
+pub tag-meant : (t : Timeline) (present : World) (name : List ℕ) (n : ℕ) (o found : Option Frame) → present ≡ t.present → o ≡ nth n (places present.files name) → o ≡ found → step t.present (tag name n) ≡ tagged t.present found
+unfolding step
+tag-meant t present name n o found same is told = rw (← told, is, same) refl

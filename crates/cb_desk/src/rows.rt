@@ -110,6 +110,18 @@ impl<'a> RowList<'a> {
     }
 }
 
+/// The row that shows a line of a file and names no function. Lines count from 1.
+pub fn line_row<'a>(file: &'a [u8], source: &'a Source, line: u32) -> RefRow<'a>
+    ensures { row_of result ≡ line_row file.now source.now line }
+{
+    RefRow {
+        file,
+        function: b"<unknown>",
+        line,
+        text: unindented(shown_line(source, line)),
+    }
+}
+
 /// Whether one of the rows is equal to this one.
 fn has_row(rows: &[RefRow<'_>], row: &RefRow<'_>) -> bool
     ensures { result ≡ list_any (λ other. row_eq (row_of row.now) (row_of other)) rows.now }

@@ -1,15 +1,12 @@
-use Rattle.std.proofs.Common.{rules, ◌≡◌, ◌∙◌, refl, ◌∷◌, [], append-nil}
-use Rattle.std.proofs.lemmas.List.{reverse-append}
-use Rattle.cb_desk.specs.Timeline.{undone}
+use Rattle.std.proofs.Common.{rules, ◌≡◌, ◌∙◌, ◌≤◌, ◌-◌, refl, get_or, arith}
+use Rattle.cb_desk.proofs.Swaps.{undo-swapped, undo-none}
 use Rattle.cb_desk.proofs.state.Desk.undo.Goals as goal
 
-pub returns-in-Some : goal.returns-in-Some
-unfolding undone
-returns-in-Some c = rw (← c.self.view_is, c.in-Some.ensures.items, reverse-append c.pop.new.self.items (c.in-Some.before ∷ [])) refl
+pub returns-then-self-eq0 : goal.returns-then-self-eq0
+returns-then-self-eq0 c = (rw (← c.self.view_is) (undo-none c.self.inside.others.items c.self.inside.present c.self.inside.done c.if-self-eq0.true), refl)
 
-pub returns-in-None : goal.returns-in-None
-unfolding undone
-returns-in-None c =
-    let same : c.self.inside.past.items ≡ c.pop.new.self.items = c.in-None.ensures.items ∙ append-nil c.pop.new.self.items in
-    let none : c.self.inside.past.items ≡ [] = search rules in
-    (rw (← c.self.view_is, none) refl, rw (← same) c.self.view_is)
+pub returns : goal.returns
+returns c =
+    let some : 1 ≤ c.self.inside.done = grind (arith, c.if-self-eq0.false) in
+    rw (← c.self.view_is, c.swap.ensures.x_after, c.swap.ensures.y_after)
+    (undo-swapped c.self.inside.others.items c.self.inside.present c.index_mut.result.now c.self.inside.done some c.self.invariant.0 c.index_mut.ensures.value)

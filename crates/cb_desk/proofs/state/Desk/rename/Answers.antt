@@ -1,0 +1,53 @@
+use Rattle.std.proofs.Common.{rules, ◌≡◌, ◌∙◌, ap, refl, subst, Err}
+use Rattle.cb_desk.specs.declared.refusal.Refusal.TheVariants.{OutOfMemory}
+use Rattle.cb_desk.specs.World.{IsValidWorld}
+use Rattle.cb_desk.specs.Step.{rename, renamed}
+use Rattle.cb_desk.proofs.Moves.{refused, full, wanting, valid-after, done, rename-meant}
+use Rattle.cb_desk.proofs.state.Desk.rename.Goals as goal
+
+pub returns-in-Some : goal.returns-in-Some
+returns-in-Some c =
+    let t = c.args.self.now in
+    let o = c.rename_refusal.result in
+    let meant = rename-meant t c.self.inside.present c.args.old.now c.args.new.now o (ap (λ t. t.present) c.self.view_is) c.rename_refusal.ensures in
+    refused t (rename c.args.old.now c.args.new.now) o (renamed t.present c.args.old.now c.args.new.now) meant c.in-Some.refusal c.in-Some.is
+
+pub returns-then-is_full : goal.returns-then-is_full
+returns-then-is_full c =
+    let t = c.args.self.now in
+    let o = c.rename_refusal.result in
+    let meant = rename-meant t c.self.inside.present c.args.old.now c.args.new.now o (ap (λ t. t.present) c.self.view_is) c.rename_refusal.ensures in
+    full t (rename c.args.old.now c.args.new.now) o (renamed t.present c.args.old.now c.args.new.now) meant c.in_default.not-Some c.is_full.result c.is_full.ensures c.if-is_full.true
+
+pub returns-in_err-next : goal.returns-in_err-next
+returns-in_err-next c =
+    let t = c.args.self.now in
+    let o = c.rename_refusal.result in
+    let meant = rename-meant t c.self.inside.present c.args.old.now c.args.new.now o (ap (λ t. t.present) c.self.view_is) c.rename_refusal.ensures in
+    let err : c.from_residual.result ≡ Err OutOfMemory = search rules in
+    wanting t (rename c.args.old.now c.args.new.now) o (renamed t.present c.args.old.now c.args.new.now) meant c.in_default.not-Some c.is_full.result t c.from_residual.result c.is_full.ensures c.if-is_full.false refl err
+
+pub advance-requires-clause-valid : goal.advance-requires-clause-valid
+advance-requires-clause-valid c =
+    let t = c.args.self.now in
+    let o = c.rename_refusal.result in
+    let same = ap (λ t. t.present) c.self.view_is in
+    let meant = rename-meant t c.self.inside.present c.args.old.now c.args.new.now o (ap (λ t. t.present) c.self.view_is) c.rename_refusal.ensures in
+    let valid = subst IsValidWorld same c.self.invariant.1.now in
+    valid-after t (rename c.args.old.now c.args.new.now) o (renamed t.present c.args.old.now c.args.new.now) meant c.in_default.not-Some c.in_ok-next.next valid (c.in_ok-next.ensures ∙ ap (λ w. renamed w c.args.old.now c.args.new.now) same)
+
+pub returns-in_err-advance : goal.returns-in_err-advance
+returns-in_err-advance c =
+    let t = c.args.self.now in
+    let o = c.rename_refusal.result in
+    let meant = rename-meant t c.self.inside.present c.args.old.now c.args.new.now o (ap (λ t. t.present) c.self.view_is) c.rename_refusal.ensures in
+    let err : c.from_residual-in_err-advance.result ≡ Err OutOfMemory = search rules in
+    wanting t (rename c.args.old.now c.args.new.now) o (renamed t.present c.args.old.now c.args.new.now) meant c.in_default.not-Some c.is_full.result c.advance.new.self c.from_residual-in_err-advance.result c.is_full.ensures c.if-is_full.false c.in_err-advance.ensures err
+
+pub returns : goal.returns
+returns c =
+    let t = c.args.self.now in
+    let o = c.rename_refusal.result in
+    let same = ap (λ t. t.present) c.self.view_is in
+    let meant = rename-meant t c.self.inside.present c.args.old.now c.args.new.now o (ap (λ t. t.present) c.self.view_is) c.rename_refusal.ensures in
+    done t (rename c.args.old.now c.args.new.now) o (renamed t.present c.args.old.now c.args.new.now) meant c.in_default.not-Some c.is_full.result c.advance.new.self c.in_ok-next.next c.is_full.ensures c.if-is_full.false (c.in_ok-next.ensures ∙ ap (λ w. renamed w c.args.old.now c.args.new.now) same) c.in_ok-advance.ensures
