@@ -142,18 +142,6 @@ fn definition_row<'a>(name: &'a [u8], source: &'a Source, def: &Def) -> RefRow<'
     }
 }
 
-/// The row of a line of a file, which names no function.
-pub fn line_row<'a>(file: &'a [u8], source: &'a Source, line: u32) -> RefRow<'a>
-    ensures { row_of result ≡ line_row file.now source.now line }
-{
-    RefRow {
-        file,
-        function: b"<unknown>",
-        line,
-        text: unindented(shown_line(source, line)),
-    }
-}
-
 /// A line without its leading spaces and tabs.
 fn unindented(line: &[u8]) -> &[u8]
     ensures { result.now ≡ unindented line.now }
