@@ -18,7 +18,7 @@ use Rattle.cb_desk.specs.Step.{Step, load, unload, rename, tag, pop}
 pub data Entry : Type 0 where
   -- a question
   query : (field : Field) (pattern : List ℕ) → Entry
-  -- a change of the files
+  -- a change of the files or of the tag stack
   change : Step → Entry
   -- take the last change back
   undo : Entry

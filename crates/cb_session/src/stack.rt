@@ -1,5 +1,5 @@
 //! The tag stack, as a reply shows it.
-ghost use Rattle.std.specs.Prelude.{◌≡◌, map, reverse};
+ghost use Rattle.std.specs.Prelude.{◌≡◌};
 ghost use Rattle.std.specs.List.{flat_map};
 ghost use Rattle.cb_desk.specs.Meant.{row_of, frame_of};
 ghost use Rattle.cb_desk.specs.World.{text_of_file};
