@@ -80,21 +80,21 @@ pub text-with : (f : File) (files : List File) (name : List ℕ) → is_named na
 unfolding text_of_file
 text-with f files name other =
     text-join (filter (before f) files) (f ∷ filter (λ g. not (before f g)) files) name ∙ rw other (
-      (elim (is_lt (slice_cmp nat_cmp name f.name)) as (λ b. is_lt (slice_cmp nat_cmp name f.name) ≡ b → cond (has_file (filter (before f) files) name) (text_of_file (filter (before f) files) name) (text_of_file (filter (λ g. not (before f g)) files) name) ≡ text_of_file files name) [
-        | true ↦ λ h.
+    (elim (is_lt (slice_cmp nat_cmp name f.name)) as (λ b. is_lt (slice_cmp nat_cmp name f.name) ≡ b → cond (has_file (filter (before f) files) name) (text_of_file (filter (before f) files) name) (text_of_file (filter (λ g. not (before f g)) files) name) ≡ text_of_file files name) [
+      | true ↦ λ h.
           let has : has_file (filter (before f) files) name ≡ has_file files name = has-kept (before f) true name (λ g e. side f name g e ∙ h) files in
           let text : text_of_file (filter (before f) files) name ≡ text_of_file files name = text-kept (before f) name (λ g e. side f name g e ∙ h) files in
           let out : has_file (filter (λ g. not (before f g)) files) name ≡ false = has-kept (λ g. not (before f g)) false name (λ g e. ap not (side f name g e ∙ h)) files in
           rw (has, text, no-text (filter (λ g. not (before f g)) files) name out) (
-            (elim (has_file files name) as (λ b. has_file files name ≡ b → cond b (text_of_file files name) [] ≡ text_of_file files name) [
-              | true ↦ λ k. refl
-              | false ↦ λ k. sym (no-text files name k)
-            ]) refl
+          (elim (has_file files name) as (λ b. has_file files name ≡ b → cond b (text_of_file files name) [] ≡ text_of_file files name) [
+            | true ↦ λ k. refl
+            | false ↦ λ k. sym (no-text files name k)
+          ]) refl
           )
-        | false ↦ λ h.
+      | false ↦ λ h.
           let has : has_file (filter (before f) files) name ≡ false = has-kept (before f) false name (λ g e. side f name g e ∙ h) files in
           rw has (text-kept (λ g. not (before f g)) name (λ g e. ap not (side f name g e ∙ h)) files)
-      ]) refl
+    ]) refl
     )
 
 -- the new name has the new text
@@ -102,10 +102,10 @@ pub text-with-here : (f : File) (files : List File) → has_file files f.name �
 unfolding text_of_file
 text-with-here f files fresh =
     let out : has_file (filter (before f) files) f.name ≡ false =
-        (elim (is_lt (slice_cmp nat_cmp f.name f.name)) as (λ b. is_lt (slice_cmp nat_cmp f.name f.name) ≡ b → has_file (filter (before f) files) f.name ≡ false) [
-          | true ↦ λ h. has-kept (before f) true f.name (λ g e. side f f.name g e ∙ h) files ∙ fresh
-          | false ↦ λ h. has-kept (before f) false f.name (λ g e. side f f.name g e ∙ h) files
-        ]) refl in
+    (elim (is_lt (slice_cmp nat_cmp f.name f.name)) as (λ b. is_lt (slice_cmp nat_cmp f.name f.name) ≡ b → has_file (filter (before f) files) f.name ≡ false) [
+      | true ↦ λ h. has-kept (before f) true f.name (λ g e. side f f.name g e ∙ h) files ∙ fresh
+      | false ↦ λ h. has-kept (before f) false f.name (λ g e. side f f.name g e ∙ h) files
+    ]) refl in
     text-join (filter (before f) files) (f ∷ filter (λ g. not (before f g)) files) f.name ∙ rw (out, name-same f.name) refl
 
 -- ---- one file less
@@ -170,10 +170,10 @@ module _ (files : List File) (old new : List ℕ) (fresh : has_file files new �
   frame-renamed f is =
       (elim (bytes_eq f.file old) as (λ b. bytes_eq f.file old ≡ b → IsFrameOf moved (cond b (record f { file = new }) f)) [
         | true ↦ λ e.
-          subst (λ text. IsLineOf text f.line) (ap (text_of_file files) (same-name f.file old e) ∙ sym (text-with-here (record { name = new; bytes = text_of_file files old }) (without_file old files) (still-gone files old new fresh))) is
+            subst (λ text. IsLineOf text f.line) (ap (text_of_file files) (same-name f.file old e) ∙ sym (text-with-here (record { name = new; bytes = text_of_file files old }) (without_file old files) (still-gone files old new fresh))) is
         | false ↦ λ e.
-          subst (λ text. IsLineOf text f.line)
-          (sym (text-with (record { name = new; bytes = text_of_file files old }) (without_file old files) f.file (other-name files f.file new (frame-there files f is) fresh) ∙ text-without files old f.file e)) is
+            subst (λ text. IsLineOf text f.line)
+            (sym (text-with (record { name = new; bytes = text_of_file files old }) (without_file old files) f.file (other-name files f.file new (frame-there files f is) fresh) ∙ text-without files old f.file e)) is
       ]) refl
 
   -- the frames of a file go with its name, and the others stay
@@ -192,7 +192,7 @@ own-texts [] up = tt
 own-texts (f ∷ files) up = (
   rw (name-same f.name) refl,
   all-both (λ (g : File). by_name f g ≡ Less) (λ (g : File). text_of_file files g.name ≡ g.bytes) (λ (g : File). text_of_file (f ∷ files) g.name ≡ g.bytes) files
-  (λ g below own. rw (less-differs f g below) own) up.0 (own-texts files up.1),
+      (λ g below own. rw (less-differs f g below) own) up.0 (own-texts files up.1),
 )
 
 module _ (files : List File) (name : List ℕ) where

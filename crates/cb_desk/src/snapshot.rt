@@ -156,12 +156,7 @@ impl Snapshot {
     }
 
     /// The place of the nth definition of a name, counted from 1, if there is one. The files are scanned afresh.
-    pub fn nth_place(
-        &self,
-        alloc: Global,
-        name: &[u8],
-        n: u64,
-    ) -> Result<Option<Frame>, AllocError>
+    pub fn nth_place(&self, alloc: Global, name: &[u8], n: u64) -> Result<Option<Frame>, AllocError>
         ensures { IfOk result (λ place. place ≡ nth n (places self.now.files name.now)) }
     {
         nth_place(alloc, self.files.as_slice(), name, n)
@@ -267,11 +262,7 @@ fn without_file(
 }
 
 /// The frames without those of a file.
-fn without_frames(
-    alloc: Global,
-    frames: &[Frame],
-    name: &[u8],
-) -> Result<Vec<Frame>, AllocError>
+fn without_frames(alloc: Global, frames: &[Frame], name: &[u8]) -> Result<Vec<Frame>, AllocError>
     ensures { IfOk result (λ kept. kept.items ≡ filter (λ f. not (bytes_eq f.file name.now)) frames.now) }
 {
     let mut kept = Vec::with_capacity(alloc, frames.len())?;

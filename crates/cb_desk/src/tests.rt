@@ -1,3 +1,5 @@
+mod moves;
+
 use super::*;
 use cb_scan::Kind;
 use cb_tags::TagRow;

@@ -7,7 +7,7 @@ pub returns-then-eq : goal.returns-then-eq
 returns-then-eq c =
     let named : is_named c.args.name.now c.file-item.result.value ≡ true = search rules in
     let text = c.loop-file.invariant.text
-        ∙ named-here (λ shared. shared.value) c.args.files.now c.loop-file.file-index c.file-item.result c.loop-file-test.true c.file-item.is c.args.name.now named in
+    ∙ named-here (λ shared. shared.value) c.args.files.now c.loop-file.file-index c.file-item.result c.loop-file-test.true c.file-item.is c.args.name.now named in
     let a = c.as_ref.ensures in
     rw a (sym text)
 

@@ -4,9 +4,12 @@ use Rattle.cb_desk.proofs.state.Desk.new.Goals as goal
 
 pub invariant_of-result : goal.invariant_of-result
 unfolding IsStrictlySortedBy
-invariant_of-result c = rw (c.new-2.ensures, c.new.ensures.items) (omega arith, record {
-  before = tt;
-  now = record { files = record { names = tt; sizes = tt; count = omega arith; ascending = tt }; frames = tt };
-  behind = tt;
-  bounded = omega arith;
-})
+invariant_of-result c = rw (c.new-2.ensures, c.new.ensures.items) (
+  omega arith,
+  record {
+    before = tt;
+    now = record { files = record { names = tt; sizes = tt; count = omega arith; ascending = tt }; frames = tt };
+    behind = tt;
+    bounded = omega arith;
+  },
+)

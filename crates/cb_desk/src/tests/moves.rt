@@ -1,0 +1,312 @@
+//! Drops, renames, the tag stack, undo and redo. The expected frames and refusals are worked out by hand.
+use super::{NINE_LINES, load, load_text, load_text_or_refused, shows};
+use crate::{Change, Desk, Refusal};
+use std::alloc::{AllocError, Global};
+
+/// Whether the frames are these, bottom first.
+fn has_frames(desk: &Desk, frames: &[(&[u8], u32)]) -> bool {
+    let mut shown = desk.frames();
+    for (name, line) in frames {
+        match shown.next() {
+            Some((file, at)) if file == *name && at == *line => {}
+            _ => return false,
+        }
+    }
+    shown.next().is_none()
+}
+
+/// Whether the frames are these, from the top of the stack down.
+fn has_frames_from_the_top(desk: &Desk, frames: &[(&[u8], u32)]) -> bool {
+    let mut shown = desk.frames();
+    for (name, line) in frames {
+        match shown.next_back() {
+            Some((file, at)) if file == *name && at == *line => {}
+            _ => return false,
+        }
+    }
+    shown.next_back().is_none()
+}
+
+/// Whether the file of that name has that text.
+fn has_text(desk: &Desk, name: &[u8], text: &[u8]) -> bool {
+    for (file, source) in desk.files() {
+        if file == name {
+            return source.bytes() == text;
+        }
+    }
+    false
+}
+
+/// A file with one function.
+const ONE_FUNCTION: &[u8] = b"int Mb(void) {\n}\n";
+
+/// A desk with two files.
+fn two_files(alloc: Global) -> Result<Desk, Refusal> {
+    let mut desk = Desk::new(alloc);
+    load_text_or_refused(&mut desk, alloc, b"a.c", NINE_LINES)?;
+    load_text_or_refused(&mut desk, alloc, b"m.c", ONE_FUNCTION)?;
+    Ok(desk)
+}
+
+/// Two files and a frame for each of three definitions.
+fn three_frames(alloc: Global) -> Result<Desk, Refusal> {
+    let mut desk = two_files(alloc)?;
+    desk.change(alloc, Change::Tag(b"add", 1))?;
+    desk.change(alloc, Change::Tag(b"Mb", 1))?;
+    desk.change(alloc, Change::Tag(b"word", 1))?;
+    Ok(desk)
+}
+
+#[test]
+fn undo_of_a_drop_puts_frames_back_at_their_places(rt: HostRuntime) -> Result<(), Refusal> {
+    let alloc = rt.alloc();
+    let mut desk = three_frames(alloc)?;
+    assert!(rt; has_frames(&desk, &[(b"a.c".as_slice(), 4), (b"m.c", 1), (b"a.c", 3)]));
+    assert!(rt; desk.change(alloc, Change::Unload(b"m.c")) == Ok(()));
+    assert!(rt; shows(&desk, &[b"a.c".as_slice()]));
+    assert!(rt; has_frames_from_the_top(&desk, &[(b"a.c".as_slice(), 3), (b"a.c", 4)]));
+    assert!(rt; desk.undo() == Ok(()));
+    assert!(rt; shows(&desk, &[b"a.c".as_slice(), b"m.c"]));
+    assert!(rt;
+        has_frames_from_the_top(&desk, &[(b"a.c".as_slice(), 3), (b"m.c", 1), (b"a.c", 4)])
+    );
+    assert!(rt; desk.redo() == Ok(()));
+    assert!(rt; has_frames(&desk, &[(b"a.c".as_slice(), 4), (b"a.c", 3)]));
+    assert!(rt; desk.change(alloc, Change::Pop) == Ok(()));
+    assert!(rt; has_frames(&desk, &[(b"a.c".as_slice(), 4)]));
+    Ok(())
+}
+
+#[test]
+fn a_renamed_file_keeps_its_text_and_frames_their_places(rt: HostRuntime) -> Result<(), Refusal> {
+    let alloc = rt.alloc();
+    let mut desk = three_frames(alloc)?;
+    assert!(rt; desk.change(alloc, Change::Rename(b"a.c", b"z/b.c")) == Ok(()));
+    assert!(rt; shows(&desk, &[b"m.c".as_slice(), b"z/b.c"]));
+    assert!(rt; has_text(&desk, b"z/b.c", NINE_LINES));
+    assert!(rt; has_text(&desk, b"m.c", ONE_FUNCTION));
+    assert!(rt;
+        has_frames(
+            &desk,
+            &[(b"z/b.c".as_slice(), 4), (b"m.c", 1), (b"z/b.c", 3)]
+        )
+    );
+    assert!(rt; desk.undo() == Ok(()));
+    assert!(rt; shows(&desk, &[b"a.c".as_slice(), b"m.c"]));
+    assert!(rt; has_frames(&desk, &[(b"a.c".as_slice(), 4), (b"m.c", 1), (b"a.c", 3)]));
+    Ok(())
+}
+
+#[test]
+fn the_lowest_refusal_of_each_change_is_answered(rt: HostRuntime) -> Result<(), Refusal> {
+    let alloc = rt.alloc();
+    let mut desk = two_files(alloc)?;
+    let cases = [
+        (
+            Change::Unload(b"q.c"),
+            Refusal::NoSuchFile,
+            6,
+            "no such file",
+        ),
+        (Change::Unload(b""), Refusal::NoSuchFile, 6, "no such file"),
+        (
+            Change::Rename(b"q.c", b"b"),
+            Refusal::BadName,
+            5,
+            "bad name",
+        ),
+        (Change::Rename(b"a.c", b""), Refusal::BadName, 5, "bad name"),
+        (
+            Change::Rename(b"q.c", b"b.c"),
+            Refusal::NoSuchFile,
+            6,
+            "no such file",
+        ),
+        (
+            Change::Rename(b"q.c", b"q.c"),
+            Refusal::NoSuchFile,
+            6,
+            "no such file",
+        ),
+        (
+            Change::Rename(b"a.c", b"a.c"),
+            Refusal::FileExists,
+            7,
+            "file exists",
+        ),
+        (
+            Change::Rename(b"a.c", b"m.c"),
+            Refusal::FileExists,
+            7,
+            "file exists",
+        ),
+        (
+            Change::Tag(b"nope", 1),
+            Refusal::NoSuchDefinition,
+            12,
+            "no such definition",
+        ),
+        (
+            Change::Tag(b"add", 2),
+            Refusal::NoSuchDefinition,
+            12,
+            "no such definition",
+        ),
+        (
+            Change::Tag(b"add", 0),
+            Refusal::NoSuchDefinition,
+            12,
+            "no such definition",
+        ),
+        (
+            Change::Tag(b"", 1),
+            Refusal::NoSuchDefinition,
+            12,
+            "no such definition",
+        ),
+        (Change::Pop, Refusal::StackEmpty, 16, "tag stack is empty"),
+    ];
+    for (change, refusal, number, text) in cases {
+        assert!(rt; desk.change(alloc, change) == Err(refusal));
+        assert_eq!(rt; refusal.number(), number);
+        assert!(rt; refusal.text() == text);
+        assert!(rt; shows(&desk, &[b"a.c".as_slice(), b"m.c"]));
+        assert!(rt; has_frames(&desk, &[]));
+    }
+    assert!(rt; desk.redo() == Err(Refusal::NothingToRedo));
+    assert_eq!(rt; Refusal::NothingToRedo.number(), 18);
+    assert!(rt; Refusal::NothingToRedo.text() == "nothing to redo");
+    Ok(())
+}
+
+#[test]
+fn the_nth_definition_of_a_name_counts_by_file_and_place(
+    rt: HostRuntime,
+) -> Result<(), AllocError> {
+    let alloc = rt.alloc();
+    let mut desk = Desk::new(alloc);
+    assert!(rt; load_text(&mut desk, alloc, b"b.c", b"#define f(x) x\n")? == Ok(()));
+    assert!(rt; load_text(&mut desk, alloc, b"a.c", b"\nf(){}f(){}\nint g;\nf(){}")? == Ok(()));
+    for n in 1..5 {
+        assert!(rt; desk.change(alloc, Change::Tag(b"f", n)) == Ok(()));
+    }
+    assert!(rt; desk.change(alloc, Change::Tag(b"f", 5)) == Err(Refusal::NoSuchDefinition));
+    let frames = [
+        (b"a.c".as_slice(), 2),
+        (b"a.c", 2),
+        (b"a.c", 4),
+        (b"b.c", 1),
+    ];
+    assert!(rt; has_frames(&desk, &frames));
+    Ok(())
+}
+
+#[test]
+fn a_refused_change_keeps_the_future_and_an_accepted_one_ends_it(
+    rt: HostRuntime,
+) -> Result<(), AllocError> {
+    let alloc = rt.alloc();
+    let mut desk = Desk::new(alloc);
+    assert!(rt; load(&mut desk, alloc, b"y.c", 4)? == Ok(()));
+    assert!(rt; load(&mut desk, alloc, b"z.c", 4)? == Ok(()));
+    assert!(rt; desk.undo() == Ok(()));
+    assert!(rt; desk.undo() == Ok(()));
+    assert!(rt; desk.change(alloc, Change::Unload(b"x.c")) == Err(Refusal::NoSuchFile));
+    assert!(rt; desk.redo() == Ok(()));
+    assert!(rt; shows(&desk, &[b"y.c".as_slice()]));
+    assert!(rt; desk.redo() == Ok(()));
+    assert!(rt; shows(&desk, &[b"y.c".as_slice(), b"z.c"]));
+    assert!(rt; desk.redo() == Err(Refusal::NothingToRedo));
+    assert!(rt; desk.undo() == Ok(()));
+    assert!(rt; load(&mut desk, alloc, b"x.c", 4)? == Ok(()));
+    assert!(rt; desk.redo() == Err(Refusal::NothingToRedo));
+    assert!(rt; shows(&desk, &[b"x.c".as_slice(), b"y.c"]));
+    assert!(rt; desk.undo() == Ok(()));
+    assert!(rt; shows(&desk, &[b"y.c".as_slice()]));
+    Ok(())
+}
+
+/// Two files, a frame, and a future: a load that was taken back.
+fn with_a_future(alloc: Global) -> Result<Desk, Refusal> {
+    let mut desk = two_files(alloc)?;
+    desk.change(alloc, Change::Tag(b"add", 1))?;
+    load_text_or_refused(&mut desk, alloc, b"b.c", b"")?;
+    desk.undo()?;
+    Ok(desk)
+}
+
+/// Whether present and future are those of `with_a_future`, and the past too, as far as undo shows it.
+fn is_as_before(desk: &mut Desk) -> bool {
+    shows(desk, &[b"a.c".as_slice(), b"m.c"])
+        && has_frames(desk, &[(b"a.c".as_slice(), 4)])
+        && desk.redo() == Ok(())
+        && shows(desk, &[b"a.c".as_slice(), b"b.c", b"m.c"])
+        && desk.undo() == Ok(())
+        && desk.undo() == Ok(())
+        && has_frames(desk, &[])
+        && desk.redo() == Ok(())
+}
+
+/// Whether a change is done, or memory refuses it, nothing has moved, and then it is done.
+fn is_done_in_the_end(
+    desk: &mut Desk,
+    alloc: Global,
+    first: Change<'_>,
+    again: Change<'_>,
+) -> bool {
+    match desk.change(alloc, first) {
+        Ok(()) => true,
+        Err(refusal) => {
+            refusal == Refusal::OutOfMemory
+                && is_as_before(desk)
+                && desk.change(alloc, again) == Ok(())
+        }
+    }
+}
+
+/// Run it with each allocation refused in turn: want of memory moves nothing, and undo and redo want none.
+#[test]
+fn a_refused_growth_of_a_change_moves_nothing(rt: HostRuntime) {
+    let alloc = rt.alloc();
+    if let Ok(mut desk) = with_a_future(alloc) {
+        assert!(rt;
+            is_done_in_the_end(
+                &mut desk,
+                alloc,
+                Change::Unload(b"m.c"),
+                Change::Unload(b"m.c")
+            )
+        );
+        assert!(rt; shows(&desk, &[b"a.c".as_slice()]));
+        assert!(rt; desk.redo() == Err(Refusal::NothingToRedo));
+    }
+    if let Ok(mut desk) = with_a_future(alloc) {
+        assert!(rt;
+            is_done_in_the_end(
+                &mut desk,
+                alloc,
+                Change::Rename(b"a.c", b"z.c"),
+                Change::Rename(b"a.c", b"z.c")
+            )
+        );
+        assert!(rt; has_frames(&desk, &[(b"z.c".as_slice(), 4)]));
+        assert!(rt; desk.redo() == Err(Refusal::NothingToRedo));
+    }
+    if let Ok(mut desk) = with_a_future(alloc) {
+        assert!(rt;
+            is_done_in_the_end(
+                &mut desk,
+                alloc,
+                Change::Tag(b"Mb", 1),
+                Change::Tag(b"Mb", 1)
+            )
+        );
+        assert!(rt; has_frames(&desk, &[(b"a.c".as_slice(), 4), (b"m.c", 1)]));
+        assert!(rt; desk.redo() == Err(Refusal::NothingToRedo));
+    }
+    if let Ok(mut desk) = with_a_future(alloc) {
+        assert!(rt; is_done_in_the_end(&mut desk, alloc, Change::Pop, Change::Pop));
+        assert!(rt; has_frames(&desk, &[]));
+        assert!(rt; desk.redo() == Err(Refusal::NothingToRedo));
+    }
+}
