@@ -4,5 +4,6 @@ pub mod Patterns
 pub mod Puts
 pub mod Round
 pub mod Rounds
+pub mod Shown
 pub mod Streams
 pub mod Words

@@ -1,62 +1,66 @@
 -- A move that follows what is meant, and its reply.
-use Rattle.std.proofs.Common.{◌≡◌, ℕ, Bool, true, false, List, Result, Ok, Err, IsOk, refl, sym, ap, subst}
+use Rattle.std.proofs.Common.{◌≡◌, ℕ, Bool, true, false, List, Result, Ok, Err, refl, sym, ap, ◌∙◌, subst}
 use Rattle.std.proofs.KnownBytes.{Appends-nil}
 use Rattle.cb_desk.specs.declared.refusal.Refusal.{Refusal}
 use Rattle.cb_desk.specs.declared.refusal.Refusal.TheVariants.{OutOfMemory}
 use Rattle.cb_desk.specs.declared.rows.Field.{Field}
 use Rattle.cb_session.specs.declared.input.Fault.{Fault}
-use Rattle.cb_desk.specs.Timeline.{Timeline, Follows, changed, undone}
-use Rattle.cb_desk.specs.World.{Step}
+use Rattle.cb_desk.specs.Timeline.{Timeline, Moves, Changes, judged, changed, undone, redone}
+use Rattle.cb_desk.specs.Step.{Step}
 use Rattle.cb_desk.specs.Answer.{answer}
 use Rattle.cb_tags.specs.Writers.{Writer}
 use Rattle.cb_desk.specs.declared.tags.Format.{Format}
 use Rattle.cb_desk.specs.declared.tags.Format.TheVariants.{Extended}
-use Rattle.cb_session.specs.Inputs.{Entry, query, change, undo, tags_file, listing, refused, nothing, quit}
-use Rattle.cb_session.specs.Output.{moved, outcome, refused_line, done_line, answer_lines, tags_reply, listing_reply}
+use Rattle.cb_session.specs.Inputs.{Entry, query, change, undo, redo, tags_file, listing, stack, refused, nothing, quit}
+use Rattle.cb_session.specs.Output.{moved, outcome, refused_line, answer_lines, tags_reply, listing_reply}
 use Rattle.cb_desk.specs.Tags.{tags}
+use Rattle.cb_session.specs.Stack.{stack_rows}
 use Rattle.cb_session.specs.Writing.{Puts}
 use Rattle.cb_session.specs.Serving.{move_line, Does}
 
--- the move for some mark, and its reply
-abbrev IsMoved : Result Timeline Refusal → Timeline → Timeline → List ℕ → Type 0
-IsMoved meant old new reply = (mark : Bool) × (new ≡ (moved mark old meant).timeline) × (reply ≡ (moved mark old meant).reply)
-
-refused_move : (meant : Result Timeline Refusal) (old new : Timeline) (r : Refusal) → meant ≡ Err r → new ≡ old → IsMoved meant old new (refused_line r)
-refused_move (Ok x) old new r e h = cc
-refused_move (Err x) old new r e h = (false, h, cc)
-
-out_of_memory_move : (meant : Result Timeline Refusal) (old new : Timeline) → IsOk meant → new ≡ old → IsMoved meant old new (refused_line OutOfMemory)
-out_of_memory_move (Ok x) old new e h = (true, h, refl)
-out_of_memory_move (Err x) old new e h = cc
-
-done_move : (meant : Result Timeline Refusal) (old new : Timeline) → meant ≡ Ok new → IsMoved meant old new done_line
-done_move meant old new e = (false, ap (λ m. (moved false old m).timeline) (sym e), ap (λ m. (moved false old m).reply) (sym e))
-
-follows : (meant : Result Timeline Refusal) (old new : Timeline) (r : Result (Unit {0}) Refusal) → Follows meant old new r → IsMoved meant old new (move_line r)
-follows meant old new (Ok x) p = done_move meant old new p
-follows meant old new (Err OutOfMemory) p = out_of_memory_move meant old new p.0 p.1
-follows meant old new (Err r) p = refused_move meant old new r p.0 p.1
+-- a move as it was meant, and its reply
+moves : (meant : Result Timeline Refusal) (old new : Timeline) (r : Result (Unit {0}) Refusal)
+    → Moves meant old new r → (new ≡ (moved old meant).timeline) × (move_line r ≡ (moved old meant).reply)
+moves meant old new (Ok x) p = (ap (λ m. (moved old m).timeline) (sym p), ap (λ m. (moved old m).reply) (sym p))
+moves meant old new (Err r) p = (p.1 ∙ ap (λ m. (moved old m).timeline) (sym p.0), ap (λ m. (moved old m).reply) (sym p.0))
 
 Does-moved : {A : Type 0} (meant : Result Timeline Refusal) (old new : Timeline) (r : Result (Unit {0}) Refusal) (out out' : Writer) (result : Result A Fault)
-    → Follows meant old new r → Puts out out' result (move_line r) → (mark : Bool) × Does (moved mark old meant) new out out' result
+    → Moves meant old new r → Puts out out' result (move_line r) → Does (moved old meant) new out out' result
 Does-moved meant old new r out out' result p q =
-    let m = follows meant old new r p in
-    (m.0, (m.1, subst (λ l. Puts out out' result l) m.2 q))
+    let m = moves meant old new r p in
+    (m.0, subst (λ l. Puts out out' result l) m.1 q)
 
 -- each kind of entry is done
 pub Does-change : {A : Type 0} (start old new : Timeline) (e : Entry) (s : Step) (r : Result (Unit {0}) Refusal) (out out' : Writer) (result : Result A Fault)
-    → old ≡ start → e ≡ change s → Follows (changed old s) old new r → Puts out out' result (move_line r) → (mark : Bool) × Does (outcome mark start e) new out out' result
+    → old ≡ start → e ≡ change s → Changes s old new r → Puts out out' result (move_line r) → (mark : Bool) × Does (outcome mark start e) new out out' result
 unfolding outcome
 Does-change start old new e s r out out' result same h p q =
     subst (λ v. (mark : Bool) × Does (outcome mark v e) new out out' result) same
-    (subst (λ x. (mark : Bool) × Does (outcome mark old x) new out out' result) (sym h) (Does-moved (changed old s) old new r out out' result p q))
+    (subst (λ x. (mark : Bool) × Does (outcome mark old x) new out out' result) (sym h)
+    (p.0, Does-moved (judged p.0 s (changed old s)) old new r out out' result p.1 q))
 
 pub Does-undo : {A : Type 0} (start old new : Timeline) (e : Entry) (r : Result (Unit {0}) Refusal) (out out' : Writer) (result : Result A Fault)
-    → old ≡ start → e ≡ undo → Follows (undone old) old new r → Puts out out' result (move_line r) → (mark : Bool) × Does (outcome mark start e) new out out' result
+    → old ≡ start → e ≡ undo → Moves (undone old) old new r → Puts out out' result (move_line r) → (mark : Bool) × Does (outcome mark start e) new out out' result
 unfolding outcome
 Does-undo start old new e r out out' result same h p q =
     subst (λ v. (mark : Bool) × Does (outcome mark v e) new out out' result) same
-    (subst (λ x. (mark : Bool) × Does (outcome mark old x) new out out' result) (sym h) (Does-moved (undone old) old new r out out' result p q))
+    (subst (λ x. (mark : Bool) × Does (outcome mark old x) new out out' result) (sym h)
+    (false, Does-moved (undone old) old new r out out' result p q))
+
+pub Does-redo : {A : Type 0} (start old new : Timeline) (e : Entry) (r : Result (Unit {0}) Refusal) (out out' : Writer) (result : Result A Fault)
+    → old ≡ start → e ≡ redo → Moves (redone old) old new r → Puts out out' result (move_line r) → (mark : Bool) × Does (outcome mark start e) new out out' result
+unfolding outcome
+Does-redo start old new e r out out' result same h p q =
+    subst (λ v. (mark : Bool) × Does (outcome mark v e) new out out' result) same
+    (subst (λ x. (mark : Bool) × Does (outcome mark old x) new out out' result) (sym h)
+    (false, Does-moved (redone old) old new r out out' result p q))
+
+pub Does-stack : {A : Type 0} (t desk : Timeline) (e : Entry) (out out' : Writer) (result : Result A Fault)
+    → desk ≡ t → e ≡ stack → Puts out out' result (answer_lines (stack_rows desk.present)) → (mark : Bool) × Does (outcome mark t e) t out out' result
+unfolding outcome
+Does-stack t desk e out out' result same h p =
+    subst (λ x. (mark : Bool) × Does (outcome mark t x) t out out' result) (sym h)
+    (false, (refl, subst (λ v. Puts out out' result (answer_lines (stack_rows v.present))) same p))
 
 pub Does-query : {A : Type 0} (t : Timeline) (e : Entry) (field : Field) (pattern : List ℕ) (out out' : Writer) (result : Result A Fault)
     → e ≡ query field pattern → (mark : Bool) × Puts out out' result (outcome mark t (query field pattern)).reply → (mark : Bool) × Does (outcome mark t e) t out out' result

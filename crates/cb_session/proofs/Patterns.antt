@@ -1,10 +1,11 @@
 -- A question that is read has a pattern.
-use Rattle.std.proofs.Common.{◌≡◌, ℕ, Bool, true, false, cond, ◌||◌, List, [], ◌∷◌, Option, Some, None, sym, subst, nat_lt, nat_eq, codes, drop}
-use Rattle.std.specs.List.{slice_split, starts_with}
+use Rattle.std.proofs.Common.{◌≡◌, ℕ, Bool, true, false, cond, ◌||◌, List, [], ◌∷◌, Option, Some, None, sym, subst, nat_lt, nat_eq, codes}
+use Rattle.std.specs.List.{slice_split}
 use Rattle.std.specs.Str.{bytes_eq}
-use Rattle.cb_session.specs.Inputs.{Entry, refused, quit, tags_file, listing, tags_numbered, tags_words, words_line, number_in, Line, whole, block, is_space, is_digit, load_sized, load_words, definition_query, field_query, command_line, short_line}
+use Rattle.cb_session.specs.Inputs.{Entry, refused, quit, change, undo, redo, tags_file, listing, stack, tags_numbered, tags_words, drop_words, rename_words, tag_numbered, tag_words, alone, number_in, Line, whole, block, is_space, is_digit, load_sized, load_words, definition_query, field_query, command, command_words, short_line}
 use Rattle.cb_desk.specs.declared.refusal.Refusal.TheVariants.{NoSuchField, BadCount}
 use Rattle.cb_desk.specs.declared.tags.Format.TheVariants.{Plain, Extended}
+use Rattle.cb_desk.specs.Step.{pop}
 use Rattle.cb_session.specs.Said.{HasPattern}
 
 abbrev IsPatterned : Line → Type 0
@@ -47,25 +48,54 @@ tags_words-patterned [] = tt
 tags_words-patterned (number ∷ []) = tags_numbered-patterned (number_in number)
 tags_words-patterned (number ∷ more ∷ others) = tt
 
-words_line-patterned : (line : List ℕ) → IsPatterned (words_line line)
-unfolding words_line
-words_line-patterned line =
-    IsPatterned-choice (starts_with nat_eq line (codes ":load ")) _ _ (load_words-patterned (slice_split is_space (drop 6 line)))
-    (IsPatterned-choice (starts_with nat_eq line (codes ":tags ")) (whole (tags_words (slice_split is_space (drop 6 line)))) _ (tags_words-patterned (slice_split is_space (drop 6 line))) tt)
+drop_words-patterned : (words : List (List ℕ)) → HasPattern (drop_words words)
+drop_words-patterned [] = tt
+drop_words-patterned (name ∷ []) = tt
+drop_words-patterned (name ∷ more ∷ others) = tt
 
-command_line-patterned : (line : List ℕ) → IsPatterned (command_line line)
-unfolding command_line
-command_line-patterned line =
-    IsPatterned-choice (bytes_eq line (codes ":undo")) _ _ tt
-    (IsPatterned-choice (bytes_eq line (codes ":load")) _ _ (load_words-patterned [])
-    (IsPatterned-choice (bytes_eq line (codes ":tags")) (whole (tags_file Plain)) _ tt
-    (IsPatterned-choice (bytes_eq line (codes ":listing")) (whole listing) _ tt (words_line-patterned line))))
+rename_words-patterned : (words : List (List ℕ)) → HasPattern (rename_words words)
+rename_words-patterned [] = tt
+rename_words-patterned (old ∷ []) = tt
+rename_words-patterned (old ∷ new ∷ []) = tt
+rename_words-patterned (old ∷ new ∷ more ∷ others) = tt
+
+tag_numbered-patterned : (name : List ℕ) (n : Option ℕ) → HasPattern (tag_numbered name n)
+tag_numbered-patterned name None = tt
+tag_numbered-patterned name (Some n) = tt
+
+tag_words-patterned : (words : List (List ℕ)) → HasPattern (tag_words words)
+tag_words-patterned [] = tt
+tag_words-patterned (name ∷ []) = tt
+tag_words-patterned (name ∷ number ∷ []) = tag_numbered-patterned name (number_in number)
+tag_words-patterned (name ∷ number ∷ more ∷ others) = tt
+
+alone-patterned : (e : Entry) (words : List (List ℕ)) → HasPattern e → IsPatterned (alone e words)
+alone-patterned e [] p = p
+alone-patterned e (word ∷ words) p = tt
+
+command-patterned : (word : List ℕ) (words : List (List ℕ)) → IsPatterned (command word words)
+unfolding command
+command-patterned word words =
+    IsPatterned-choice (bytes_eq word (codes ":load")) _ _ (load_words-patterned words)
+    (IsPatterned-choice (bytes_eq word (codes ":drop")) (whole (drop_words words)) _ (drop_words-patterned words)
+    (IsPatterned-choice (bytes_eq word (codes ":rename")) (whole (rename_words words)) _ (rename_words-patterned words)
+    (IsPatterned-choice (bytes_eq word (codes ":tag")) (whole (tag_words words)) _ (tag_words-patterned words)
+    (IsPatterned-choice (bytes_eq word (codes ":pop")) _ _ (alone-patterned (change pop) words tt)
+    (IsPatterned-choice (bytes_eq word (codes ":undo")) _ _ (alone-patterned undo words tt)
+    (IsPatterned-choice (bytes_eq word (codes ":redo")) _ _ (alone-patterned redo words tt)
+    (IsPatterned-choice (bytes_eq word (codes ":tags")) (whole (tags_words words)) _ (tags_words-patterned words)
+    (IsPatterned-choice (bytes_eq word (codes ":listing")) _ _ (alone-patterned listing words tt)
+    (IsPatterned-choice (bytes_eq word (codes ":stack")) _ _ (alone-patterned stack words tt) tt)))))))))
+
+command_words-patterned : (words : List (List ℕ)) → IsPatterned (command_words words)
+command_words-patterned [] = tt
+command_words-patterned (word ∷ words) = command-patterned word words
 
 short_line-patterned : (line : List ℕ) → IsPatterned (short_line line)
 short_line-patterned [] = tt
 short_line-patterned (b ∷ bs) =
     IsPatterned-choice (nat_eq b 113 || nat_eq b 4) (whole quit) _ tt
-    (IsPatterned-choice (is_digit b) (whole (field_query b bs)) (command_line (b ∷ bs)) (field_query-patterned b bs) (command_line-patterned (b ∷ bs)))
+    (IsPatterned-choice (is_digit b) (whole (field_query b bs)) (command_words (slice_split is_space (b ∷ bs))) (field_query-patterned b bs) (command_words-patterned (slice_split is_space (b ∷ bs))))
 
 -- the entry of a line has its pattern
 pub HasPattern-whole : (line : List ℕ) (e : Entry) → whole e ≡ short_line line → HasPattern e

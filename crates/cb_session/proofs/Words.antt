@@ -1,5 +1,5 @@
 -- A text cut at its spaces, and its digits.
-use Rattle.std.proofs.Common.{◌≡◌, ℕ, suc, ◌+◌, ◌*◌, ◌-◌, ◌^◌, ◌<◌, ◌≤◌, Bool, true, false, cond, not, List, [], ◌∷◌, length, take, drop, get_or, Some, None, refl, ap, ◌∙◌, subst, arith, nat_lt, add-one}
+use Rattle.std.proofs.Common.{◌≡◌, ℕ, suc, ◌+◌, ◌*◌, ◌-◌, ◌^◌, ◌<◌, ◌≤◌, Bool, true, false, cond, not, List, [], ◌∷◌, length, take, drop, get_or, Option, Some, None, refl, ap, ◌∙◌, subst, arith, nat_lt, add-one}
 use Rattle.std.proofs.lemmas.Bool.Decides.{nat_tests}
 use Rattle.std.specs.Char.{digit_value}
 use Rattle.std.specs.List.{list_all}
@@ -7,8 +7,9 @@ use Rattle.std.specs.Str.Parse.{digits_value}
 use Rattle.std.proofs.lemmas.Int.Digits.{digits_value_more}
 use Rattle.std.proofs.lemmas.List.Folds.{list_all_at}
 use Rattle.std.proofs.Math.Nat.{pow-suc, pow-le-pow_right}
-use Rattle.cb_desk.specs.declared.refusal.Refusal.TheVariants.{UnknownCommand}
-use Rattle.cb_session.specs.Inputs.{is_digit, is_space, load_words, tags_words, whole, refused}
+use denote.Ref.{Bor}
+use Rattle.cb_session.specs.Inputs.{is_digit, is_space}
+use Rattle.cb_session.specs.Said.{words_behind, parts_of}
 use Rattle.std.specs.List.{slice_split, onto_first, position, position_or_len}
 use Rattle.std.proofs.lemmas.List.Splits.{slice_split_first, slice_split-cons_no}
 
@@ -80,22 +81,36 @@ number_fits i n b h q s =
     let power : 10 ^ (i + 1) ≤ 10 ^ 9 = pow-le-pow_right {n = 10} (omega arith) below in
     omega (arith, number_small i n b q s, power)
 
--- a third word is too many
-pub many_words : (name count more : List ℕ) → load_words (name ∷ count ∷ slice_split is_space more) ≡ whole (refused UnknownCommand)
-many_words name count [] = refl
-many_words name count (x ∷ xs) =
-    let P : Bool → Type 0 = λ b. load_words (name ∷ count ∷ cond b ([] ∷ slice_split is_space xs) (onto_first x (slice_split is_space xs))) ≡ whole (refused UnknownCommand) in
-    let parts : (ps : List (List ℕ)) → load_words (name ∷ count ∷ onto_first x ps) ≡ whole (refused UnknownCommand) =
-    λ ps. elim ps as (λ qs. load_words (name ∷ count ∷ onto_first x qs) ≡ whole (refused UnknownCommand)) [ [] ↦ refl | q ∷ qs ↦ refl ] in
-    let f : (b : Bool) → P b = λ b. elim b as P [ true ↦ refl | false ↦ parts (slice_split is_space xs) ] in
-    f (is_space x)
+-- a text has a first word
+first_word : (more : List ℕ) → (word : List ℕ) × (words : List (List ℕ)) × (slice_split is_space more ≡ word ∷ words)
+first_word [] = ([], [], refl)
+first_word (x ∷ xs) =
+    let W : List (List ℕ) → Type 0 = λ ps. (word : List ℕ) × (words : List (List ℕ)) × (ps ≡ word ∷ words) in
+    let parts : (ps : List (List ℕ)) → W (onto_first x ps) = λ ps. elim ps as (λ qs. W (onto_first x qs)) [ [] ↦ (x ∷ [], [], refl) | q ∷ qs ↦ (x ∷ q, qs, refl) ] in
+    elim (is_space x) as (λ b. W (cond b ([] ∷ slice_split is_space xs) (onto_first x (slice_split is_space xs)))) [
+      | true ↦ ([], slice_split is_space xs, refl)
+      | false ↦ parts (slice_split is_space xs)
+    ]
 
--- a second number is too many
-pub many_numbers : (number more : List ℕ) → tags_words (number ∷ slice_split is_space more) ≡ refused UnknownCommand
-many_numbers number [] = refl
-many_numbers number (x ∷ xs) =
-    let P : Bool → Type 0 = λ b. tags_words (number ∷ cond b ([] ∷ slice_split is_space xs) (onto_first x (slice_split is_space xs))) ≡ refused UnknownCommand in
-    let parts : (ps : List (List ℕ)) → tags_words (number ∷ onto_first x ps) ≡ refused UnknownCommand =
-    λ ps. elim ps as (λ qs. tags_words (number ∷ onto_first x qs) ≡ refused UnknownCommand) [ [] ↦ refl | q ∷ qs ↦ refl ] in
-    let f : (b : Bool) → P b = λ b. elim b as P [ true ↦ refl | false ↦ parts (slice_split is_space xs) ] in
-    f (is_space x)
+-- what is meant where a word stands behind a command
+pub too_many-0 : {A : Type 0} (f : List (List ℕ) → A) (y : A) → ((a : List ℕ) (words : List (List ℕ)) → f (a ∷ words) ≡ y)
+    → (behind : Option (Bor (List ℕ))) (more : Bor (List ℕ)) → behind ≡ Some more → f (words_behind behind) ≡ y
+too_many-0 f y h behind more e =
+    let w = first_word more.now in
+    ap (λ b. f (words_behind b)) e ∙ ap f w.2 ∙ h w.0 w.1
+
+-- what is meant where a second word stands there
+pub too_many-1 : {A : Type 0} (f : List (List ℕ) → A) (y : A) → ((a b : List ℕ) (words : List (List ℕ)) → f (a ∷ b ∷ words) ≡ y)
+    → (behind second : Option (Bor (List ℕ))) (first more : Bor (List ℕ)) (a : List ℕ)
+    → behind ≡ Some first → slice_split is_space first.now ≡ parts_of a second → second ≡ Some more → f (words_behind behind) ≡ y
+too_many-1 f y h behind second first more a e cut e' =
+    ap (λ b. f (words_behind b)) e ∙ ap f cut ∙ too_many-0 (λ words. f (a ∷ words)) y (h a) second more e'
+
+-- what is meant where a third word stands there
+pub too_many-2 : {A : Type 0} (f : List (List ℕ) → A) (y : A) → ((a b c : List ℕ) (words : List (List ℕ)) → f (a ∷ b ∷ c ∷ words) ≡ y)
+    → (behind second third : Option (Bor (List ℕ))) (first next more : Bor (List ℕ)) (a b : List ℕ)
+    → behind ≡ Some first → slice_split is_space first.now ≡ parts_of a second
+    → second ≡ Some next → slice_split is_space next.now ≡ parts_of b third → third ≡ Some more → f (words_behind behind) ≡ y
+too_many-2 f y h behind second third first next more a b e cut e' cut' e'' =
+    ap (λ o. f (words_behind o)) e ∙ ap f cut
+    ∙ too_many-1 (λ words. f (a ∷ words)) y (h a) second third next more b e' cut' e''

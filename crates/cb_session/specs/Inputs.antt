@@ -1,6 +1,6 @@
 -- The inputs of a byte stream: the whole input cut into lines and blocks.
-use Rattle.std.specs.Prelude.{ℕ, zero, suc, ◌==◌, Bool, true, false, ◌&&◌, ◌||◌, nat_le, nat_lt, nat_eq, List, [], ◌∷◌, length, take, drop, codes, Option, None, Some, if◌then◌else◌}
-use Rattle.std.specs.List.{list_all, slice_split, starts_with, before_first, after_first}
+use Rattle.std.specs.Prelude.{ℕ, zero, suc, ◌==◌, Bool, true, false, ◌&&◌, ◌||◌, nat_le, nat_lt, List, [], ◌∷◌, length, take, drop, codes, Option, None, Some, if◌then◌else◌}
+use Rattle.std.specs.List.{list_all, slice_split, before_first, after_first}
 use Rattle.std.specs.Str.{bytes_eq}
 use Rattle.std.specs.Str.Parse.{digits_value}
 use Rattle.cb_desk.specs.declared.refusal.Refusal.{Refusal}
@@ -12,20 +12,24 @@ use Rattle.cb_desk.specs.declared.tags.Format.TheVariants.{Plain, Extended}
 use Rattle.cb_session.specs.declared.input.Ended.{Ended}
 use Rattle.cb_session.specs.declared.input.Ended.TheVariants.{Done, Cut, Fault}
 use Rattle.cb_session.specs.declared.input.Fault.TheVariants.{LongLine, ManyLines}
-use Rattle.cb_desk.specs.World.{Step, load}
+use Rattle.cb_desk.specs.Step.{Step, load, unload, rename, tag, pop}
 
 -- what is read at a prompt
 pub data Entry : Type 0 where
   -- a question
   query : (field : Field) (pattern : List ℕ) → Entry
-  -- a change of the files
+  -- a change of the files or of the tag stack
   change : Step → Entry
   -- take the last change back
   undo : Entry
+  -- make the last change that was taken back again
+  redo : Entry
   -- the tags file
   tags_file : Format → Entry
   -- the listing
   listing : Entry
+  -- the tag stack
+  stack : Entry
   -- what is refused as it is read
   refused : Refusal → Entry
   -- an empty line
@@ -77,9 +81,9 @@ abbrev pub tags_numbered : Option ℕ → Entry
 tags_numbered None = refused BadCount
 tags_numbered (Some n) = if n == 1 then tags_file Plain else (if n == 2 then tags_file Extended else refused BadCount)
 
--- a tags file by the words behind it: one number
+-- a tags file by the words behind it: with none it is plain, and one is its number
 abbrev pub tags_words : List (List ℕ) → Entry
-tags_words [] = refused BadCount
+tags_words [] = tags_file Plain
 tags_words (number ∷ []) = tags_numbered (number_in number)
 tags_words (number ∷ more ∷ others) = refused UnknownCommand
 
@@ -92,29 +96,63 @@ definition_query (b ∷ bs) = query Definition (b ∷ bs)
 abbrev pub field_query : ℕ → List ℕ → Entry
 field_query digit pattern = if digit == 49 then definition_query pattern else refused NoSuchField
 
--- a command with words behind it, which single spaces part
-unfoldable pub words_line : List ℕ → Line
-words_line line =
-    if starts_with nat_eq line (codes ":load ") then load_words (slice_split is_space (drop 6 line))
-    else (if starts_with nat_eq line (codes ":tags ") then whole (tags_words (slice_split is_space (drop 6 line)))
-    else whole (refused UnknownCommand))
+-- a file's removal by the words behind it: a missing word is empty, and a second word is too many
+abbrev pub drop_words : List (List ℕ) → Entry
+drop_words [] = change (unload [])
+drop_words (name ∷ []) = change (unload name)
+drop_words (name ∷ more ∷ others) = refused UnknownCommand
 
--- a command by its word
-unfoldable pub command_line : List ℕ → Line
-command_line line =
-    if bytes_eq line (codes ":undo") then whole undo
-    else (if bytes_eq line (codes ":load") then load_words []
-    else (if bytes_eq line (codes ":tags") then whole (tags_file Plain)
-    else (if bytes_eq line (codes ":listing") then whole listing
-    else words_line line)))
+-- a new name by the words behind it, the old one first: a missing word is empty, and a third word is too many
+abbrev pub rename_words : List (List ℕ) → Entry
+rename_words [] = change (rename [] [])
+rename_words (old ∷ []) = change (rename old [])
+rename_words (old ∷ new ∷ []) = change (rename old new)
+rename_words (old ∷ new ∷ more ∷ others) = refused UnknownCommand
 
--- what a line of at most 4,096 bytes asks for
+-- a push by its name and its number
+abbrev pub tag_numbered : List ℕ → Option ℕ → Entry
+tag_numbered name None = refused BadCount
+tag_numbered name (Some n) = change (tag name n)
+
+-- a push by the words behind it: a missing name is empty, a missing number is 1, and a third word is too many
+abbrev pub tag_words : List (List ℕ) → Entry
+tag_words [] = change (tag [] 1)
+tag_words (name ∷ []) = change (tag name 1)
+tag_words (name ∷ number ∷ []) = tag_numbered name (number_in number)
+tag_words (name ∷ number ∷ more ∷ others) = refused UnknownCommand
+
+-- a command that stands alone on its line
+abbrev pub alone : Entry → List (List ℕ) → Line
+alone e [] = whole e
+alone e (word ∷ words) = whole (refused UnknownCommand)
+
+-- a command by its first word and the words behind it
+unfoldable pub command : List ℕ → List (List ℕ) → Line
+command word words =
+    if bytes_eq word (codes ":load") then load_words words
+    else (if bytes_eq word (codes ":drop") then whole (drop_words words)
+    else (if bytes_eq word (codes ":rename") then whole (rename_words words)
+    else (if bytes_eq word (codes ":tag") then whole (tag_words words)
+    else (if bytes_eq word (codes ":pop") then alone (change pop) words
+    else (if bytes_eq word (codes ":undo") then alone undo words
+    else (if bytes_eq word (codes ":redo") then alone redo words
+    else (if bytes_eq word (codes ":tags") then whole (tags_words words)
+    else (if bytes_eq word (codes ":listing") then alone listing words
+    else (if bytes_eq word (codes ":stack") then alone stack words
+    else whole (refused UnknownCommand))))))))))
+
+-- a command by the words of its line
+abbrev pub command_words : List (List ℕ) → Line
+command_words [] = whole (refused UnknownCommand)
+command_words (word ∷ words) = command word words
+
+-- what a line of at most 4,096 bytes asks for; single spaces part the words of a command
 abbrev pub short_line : List ℕ → Line
 short_line [] = whole nothing
 short_line (b ∷ bs) =
     if b == 113 || b == 4 then whole quit
     else (if is_digit b then whole (field_query b bs)
-    else command_line (b ∷ bs))
+    else command_words (slice_split is_space (b ∷ bs)))
 
 -- what a line asks for, where a run allows at most `limit` bytes in a line
 abbrev pub line_asks : ℕ → List ℕ → Line

@@ -5,4 +5,5 @@ pub mod Output
 pub mod Reading
 pub mod Said
 pub mod Serving
+pub mod Stack
 pub mod Writing

@@ -5,7 +5,8 @@ use Rattle.cb_desk.specs.declared.refusal.Refusal.TheVariants.{OutOfMemory}
 use Rattle.cb_session.specs.declared.input.Ended.{Ended}
 use Rattle.cb_session.specs.declared.input.Ended.TheVariants.{Operand as StoppedAt}
 use Rattle.cb_session.specs.declared.operands.Operand.{Operand}
-use Rattle.cb_desk.specs.World.{File, load}
+use Rattle.cb_desk.specs.World.{File}
+use Rattle.cb_desk.specs.Step.{load}
 use Rattle.cb_desk.specs.Timeline.{Timeline, new_timeline, changed}
 use Rattle.cb_session.specs.Inputs.{Inputs}
 use Rattle.cb_tags.specs.Writers.{Writer}

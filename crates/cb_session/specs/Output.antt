@@ -4,13 +4,14 @@ use Rattle.std.specs.List.{flat_map}
 use Rattle.cb_desk.specs.declared.refusal.Refusal.{Refusal}
 use Rattle.cb_desk.specs.declared.refusal.Refusal.TheVariants.{OutOfMemory}
 use Rattle.cb_desk.specs.Refusals.{text_of}
-use Rattle.cb_desk.specs.Timeline.{Timeline, changed, undone}
+use Rattle.cb_desk.specs.Timeline.{Timeline, changed, undone, redone, judged}
 use Rattle.cb_desk.specs.Answer.{AnswerRow, answer}
 use Rattle.cb_desk.specs.Tags.{tags, tags_text, head_count, listing_text}
 use Rattle.cb_tags.specs.TagLines.{Tag}
 use Rattle.cb_desk.specs.declared.tags.Format.{Format}
 use Rattle.cb_desk.specs.declared.tags.Format.TheVariants.{Extended}
-use Rattle.cb_session.specs.Inputs.{Entry, query, change, undo, tags_file, listing, refused, nothing, quit, overlong}
+use Rattle.cb_session.specs.Stack.{stack_rows}
+use Rattle.cb_session.specs.Inputs.{Entry, query, change, undo, redo, tags_file, listing, stack, refused, nothing, quit, overlong}
 
 -- the prompt
 abbrev pub prompt : List ℕ
@@ -54,19 +55,20 @@ pub record Outcome : Type 0 where
   pub timeline : Timeline
   pub reply : List ℕ
 
--- a move of the timeline: the reason to refuse it comes first, and memory refuses only what would be done
-abbrev pub moved : Bool → Timeline → Result Timeline Refusal → Outcome
-moved out_of_memory t (Err r) = record { timeline = t; reply = refused_line r }
-moved true t (Ok next) = record { timeline = t; reply = refused_line OutOfMemory }
-moved false t (Ok next) = record { timeline = next; reply = done_line }
+-- a move of the timeline is done, or refused and nothing moves
+abbrev pub moved : Timeline → Result Timeline Refusal → Outcome
+moved t (Err r) = record { timeline = t; reply = refused_line r }
+moved t (Ok next) = record { timeline = next; reply = done_line }
 
--- the outcome of an input; `out_of_memory` says that memory refused it
+-- the outcome of an input; `out_of_memory` says that memory was refused to it, where it takes any
 unfoldable pub outcome : Bool → Timeline → Entry → Outcome
 outcome out_of_memory t (query field pattern) = record { timeline = t; reply = shown out_of_memory (answer_lines (answer t.present field pattern)) }
 outcome out_of_memory t (tags_file format) = record { timeline = t; reply = shown out_of_memory (tags_reply format (tags format t.present)) }
 outcome out_of_memory t listing = record { timeline = t; reply = shown out_of_memory (listing_reply (tags Extended t.present)) }
-outcome out_of_memory t (change s) = moved out_of_memory t (changed t s)
-outcome out_of_memory t undo = moved out_of_memory t (undone t)
+outcome out_of_memory t stack = record { timeline = t; reply = answer_lines (stack_rows t.present) }
+outcome out_of_memory t (change s) = moved t (judged out_of_memory s (changed t s))
+outcome out_of_memory t undo = moved t (undone t)
+outcome out_of_memory t redo = moved t (redone t)
 outcome out_of_memory t (refused r) = record { timeline = t; reply = refused_line r }
 outcome out_of_memory t nothing = record { timeline = t; reply = [] }
 outcome out_of_memory t quit = record { timeline = t; reply = [] }

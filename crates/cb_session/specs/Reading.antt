@@ -1,6 +1,7 @@
 -- What reading an input does to a reader.
 use Rattle.std.specs.Prelude.{◌≡◌, ℕ, ◌≤◌, ◌<◌, Bool, true, false, List, [], length, take, drop, Option, None, Some, Result, Ok, Err, Vec, IsTrue, nat_le, if◌then◌else◌}
 use Rattle.cb_desk.specs.declared.refusal.Refusal.TheVariants.{LineTooLong}
+use Rattle.cb_desk.specs.Step.{load}
 use Rattle.cb_session.specs.declared.feed.Stage.TheVariants.{Failed}
 use Rattle.cb_session.specs.declared.input.Fault.{Fault}
 use Rattle.cb_session.specs.declared.input.Fault.TheVariants.{Read, Write, Memory, LongLine, ManyLines}
@@ -13,7 +14,7 @@ use Rattle.cb_session.specs.Said.{entry_of}
 
 -- an entry that has a block behind its line
 abbrev pub has_block : Entry → Bool
-has_block (change s) = true
+has_block (change (load name bytes)) = true
 has_block (refused r) = is_cut r
 has_block _ = false
 

@@ -8,19 +8,21 @@ use Rattle.cb_session.specs.declared.input.Ended.{Ended}
 use Rattle.cb_session.specs.declared.input.Going.{Going}
 use Rattle.cb_session.specs.declared.input.Going.TheVariants.{On, Stop}
 use Rattle.cb_session.specs.declared.input.Command.{Command as Asks}
-use Rattle.cb_session.specs.declared.input.Command.TheVariants.{Query, Change, Undo, Tags, Listing}
+use Rattle.cb_session.specs.declared.input.Command.TheVariants.{Query, Change, Undo, Redo, Tags, Listing, Stack}
 use Rattle.cb_session.specs.declared.line.Asked.{Asked}
 use Rattle.cb_session.specs.declared.line.Asked.TheVariants.{Whole, Block}
 use Rattle.cb_desk.specs.Meant.{step_of}
-use Rattle.cb_session.specs.Inputs.{Entry, query, change, undo, tags_file, listing, refused, nothing, quit, Line, whole, block, is_space}
+use Rattle.cb_session.specs.Inputs.{Entry, query, change, undo, redo, tags_file, listing, stack, refused, nothing, quit, Line, whole, block, is_space}
 
 -- the entry that a command is
 abbrev pub command_of : Asks → Entry
 command_of (Query field pattern) = query field pattern.now
 command_of (Change c) = change (step_of c)
 command_of Undo = undo
+command_of Redo = redo
 command_of (Tags format) = tags_file format
 command_of Listing = listing
+command_of Stack = stack
 
 -- the entry that an input is
 abbrev pub entry_of : Input → Entry
@@ -39,10 +41,19 @@ abbrev pub line_of : Asked → Line
 line_of (Whole input) = whole (entry_of input)
 line_of (Block name size) = block name.now size
 
+-- the words of what stands behind a word; none where no space ends it
+abbrev pub words_behind : Option (Bor (List ℕ)) → List (List ℕ)
+words_behind None = []
+words_behind (Some behind) = slice_split is_space behind.now
+
 -- the words of a text by its first word and what stands behind the space that ends it
 abbrev pub parts_of : List ℕ → Option (Bor (List ℕ)) → List (List ℕ)
-parts_of word None = word ∷ []
-parts_of word (Some behind) = word ∷ slice_split is_space behind.now
+parts_of word behind = word ∷ words_behind behind
+
+-- the text that was found; no bytes where none was
+abbrev pub text_found : Option (Bor (List ℕ)) → List ℕ
+text_found None = []
+text_found (Some text) = text.now
 
 -- a run goes on where it has no ending
 abbrev pub going_of : Option Ended → Going

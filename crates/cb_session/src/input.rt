@@ -25,14 +25,18 @@ pub enum Input<'a> {
 pub enum Command<'a> {
     /// A question, whose pattern is not empty.
     Query(Field, &'a [u8]),
-    /// A change of the files.
+    /// A change of the files or of the tag stack.
     Change(Change<'a>),
     /// Takes the last change back.
     Undo,
+    /// Makes the last change that was taken back again.
+    Redo,
     /// Shows the tags file.
     Tags(Format),
     /// Shows the listing.
     Listing,
+    /// Shows the tag stack.
+    Stack,
 }
 
 /// Why a run ends before its input does.

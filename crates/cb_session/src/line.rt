@@ -2,11 +2,11 @@
 ghost use Rattle.std.specs.Prelude.{◌≡◌, ◌≤◌, true, ◌∷◌, [], length};
 ghost use Rattle.std.specs.List.{list_all, slice_split, position};
 ghost use Rattle.std.specs.Str.Parse.{digits_value};
-ghost use Rattle.cb_session.specs.Inputs.{is_digit, is_space, is_number, number_in, load_sized, load_words, tags_numbered, tags_words, definition_query, field_query, words_line, command_line, short_line};
-ghost use Rattle.cb_session.specs.Said.{entry_of, line_of, parts_of};
+ghost use Rattle.cb_session.specs.Inputs.{is_digit, is_space, is_number, number_in, load_sized, load_words, tags_numbered, tags_words, drop_words, rename_words, tag_numbered, tag_words, alone, definition_query, field_query, command, command_words, short_line};
+ghost use Rattle.cb_session.specs.Said.{entry_of, command_of, line_of, words_behind, parts_of};
 
 use super::{Command, Input};
-use cb_desk::{Field, Format, Refusal};
+use cb_desk::{Change, Field, Format, Refusal};
 
 /// The most digits of a number in a command.
 const MOST_DIGITS: usize = 9;
@@ -93,17 +93,19 @@ fn load_sized<'a>(name: &'a [u8], count: &[u8]) -> Asked<'a>
 }
 
 /// A load by the words behind it.
-fn load_words(words: &[u8]) -> Asked<'_>
-    ensures { line_of result ≡ load_words (slice_split is_space words.now) }
+fn load_words(behind: Option<&[u8]>) -> Asked<'_>
+    ensures { line_of result ≡ load_words (words_behind behind.entry) }
 {
+    let Some(words) = behind else {
+        return load_sized(b"", b"");
+    };
     let (name, behind) = cut_word(words);
     let Some(behind) = behind else {
         return load_sized(name, b"");
     };
-    let (count, more) = cut_word(behind);
-    match more {
-        None => load_sized(name, count),
-        Some(_) => Asked::Whole(Input::Refused(Refusal::UnknownCommand)),
+    match cut_word(behind) {
+        (count, None) => load_sized(name, count),
+        (_, Some(_)) => Asked::Whole(Input::Refused(Refusal::UnknownCommand)),
     }
 }
 
@@ -119,13 +121,82 @@ fn tags_numbered(number: Option<u32>) -> Input<'static>
 }
 
 /// A tags file by the words behind it.
-fn tags_words(words: &[u8]) -> Input<'static>
-    ensures { entry_of result ≡ tags_words (slice_split is_space words.now) }
+fn tags_words(behind: Option<&[u8]>) -> Input<'static>
+    ensures { entry_of result ≡ tags_words (words_behind behind.entry) }
 {
-    let (number, more) = cut_word(words);
-    match more {
-        None => tags_numbered(number_in(number)),
-        Some(_) => Input::Refused(Refusal::UnknownCommand),
+    let Some(words) = behind else {
+        return Input::Command(Command::Tags(Format::Plain));
+    };
+    match cut_word(words) {
+        (number, None) => tags_numbered(number_in(number)),
+        (_, Some(_)) => Input::Refused(Refusal::UnknownCommand),
+    }
+}
+
+/// A file's removal by the words behind it.
+fn drop_words(behind: Option<&[u8]>) -> Input<'_>
+    ensures { entry_of result ≡ drop_words (words_behind behind.entry) }
+{
+    let Some(words) = behind else {
+        return Input::Command(Command::Change(Change::Unload(b"")));
+    };
+    match cut_word(words) {
+        (name, None) => Input::Command(Command::Change(Change::Unload(name))),
+        (_, Some(_)) => Input::Refused(Refusal::UnknownCommand),
+    }
+}
+
+/// A new name by the words behind it.
+fn rename_words(behind: Option<&[u8]>) -> Input<'_>
+    ensures { entry_of result ≡ rename_words (words_behind behind.entry) }
+{
+    let Some(words) = behind else {
+        return Input::Command(Command::Change(Change::Rename(b"", b"")));
+    };
+    let (old, behind) = cut_word(words);
+    let Some(behind) = behind else {
+        return Input::Command(Command::Change(Change::Rename(old, b"")));
+    };
+    match cut_word(behind) {
+        (new, None) => Input::Command(Command::Change(Change::Rename(old, new))),
+        (_, Some(_)) => Input::Refused(Refusal::UnknownCommand),
+    }
+}
+
+/// A push by its name and its number.
+fn tag_numbered(name: &[u8], number: Option<u32>) -> Input<'_>
+    ensures { entry_of result ≡ tag_numbered name.now number }
+{
+    match number {
+        Some(n) => Input::Command(Command::Change(Change::Tag(name, n as u64))),
+        None => Input::Refused(Refusal::BadCount),
+    }
+}
+
+/// A push by the words behind it.
+fn tag_words(behind: Option<&[u8]>) -> Input<'_>
+    ensures { entry_of result ≡ tag_words (words_behind behind.entry) }
+{
+    let Some(words) = behind else {
+        return tag_numbered(b"", Some(1));
+    };
+    let (name, behind) = cut_word(words);
+    let Some(behind) = behind else {
+        return tag_numbered(name, Some(1));
+    };
+    match cut_word(behind) {
+        (number, None) => tag_numbered(name, number_in(number)),
+        (_, Some(_)) => Input::Refused(Refusal::UnknownCommand),
+    }
+}
+
+/// A command that stands alone on its line.
+fn alone<'a>(command: Command<'a>, behind: Option<&[u8]>) -> Asked<'a>
+    ensures { line_of result ≡ alone (command_of command.entry) (words_behind behind.entry) }
+{
+    match behind {
+        None => Asked::Whole(Input::Command(command)),
+        Some(_) => Asked::Whole(Input::Refused(Refusal::UnknownCommand)),
     }
 }
 
@@ -142,36 +213,42 @@ fn field_query(digit: u8, pattern: &[u8]) -> Input<'_>
     Input::Command(Command::Query(Field::Definition, pattern))
 }
 
-#[tactic(auto, unfolding(crate::specs::Inputs::words_line))]
-/// A command with words behind it.
-fn words_line(line: &[u8]) -> Asked<'_>
-    ensures { line_of result ≡ words_line line.now }
+#[tactic(auto, unfolding(crate::specs::Inputs::command))]
+/// A command by its first word and what stands behind it.
+fn command<'a>(word: &[u8], behind: Option<&'a [u8]>) -> Asked<'a>
+    ensures { line_of result ≡ command word.now (words_behind behind.entry) }
 {
-    if line.starts_with(b":load ") {
-        load_words(&line[6..])
-    } else if line.starts_with(b":tags ") {
-        Asked::Whole(tags_words(&line[6..]))
+    if word == b":load".as_slice() {
+        load_words(behind)
+    } else if word == b":drop".as_slice() {
+        Asked::Whole(drop_words(behind))
+    } else if word == b":rename".as_slice() {
+        Asked::Whole(rename_words(behind))
+    } else if word == b":tag".as_slice() {
+        Asked::Whole(tag_words(behind))
+    } else if word == b":pop".as_slice() {
+        alone(Command::Change(Change::Pop), behind)
+    } else if word == b":undo".as_slice() {
+        alone(Command::Undo, behind)
+    } else if word == b":redo".as_slice() {
+        alone(Command::Redo, behind)
+    } else if word == b":tags".as_slice() {
+        Asked::Whole(tags_words(behind))
+    } else if word == b":listing".as_slice() {
+        alone(Command::Listing, behind)
+    } else if word == b":stack".as_slice() {
+        alone(Command::Stack, behind)
     } else {
         Asked::Whole(Input::Refused(Refusal::UnknownCommand))
     }
 }
 
-#[tactic(auto, unfolding(crate::specs::Inputs::command_line))]
-/// A command by its word.
+/// A command by its line.
 fn command_line(line: &[u8]) -> Asked<'_>
-    ensures { line_of result ≡ command_line line.now }
+    ensures { line_of result ≡ command_words (slice_split is_space line.now) }
 {
-    if line == b":undo".as_slice() {
-        Asked::Whole(Input::Command(Command::Undo))
-    } else if line == b":load".as_slice() {
-        load_sized(b"", b"")
-    } else if line == b":tags".as_slice() {
-        Asked::Whole(Input::Command(Command::Tags(Format::Plain)))
-    } else if line == b":listing".as_slice() {
-        Asked::Whole(Input::Command(Command::Listing))
-    } else {
-        words_line(line)
-    }
+    let (word, behind) = cut_word(line);
+    command(word, behind)
 }
 
 /// What a line of at most 4,096 bytes asks for.

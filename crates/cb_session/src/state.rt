@@ -8,6 +8,7 @@ ghost use Rattle.cb_session.specs.Serving.{Does, LeavesRound, LeavesRun, HasFail
 ghost use Rattle.cb_session.specs.Writing.{Puts};
 
 use super::reply::{put_move, put_prompt, put_refusal, put_rows};
+use super::stack::put_stack;
 use super::tags::{put_listing_reply, put_tags_reply};
 use super::{Command, Ended, Fault, Feed, Going, Input, Intake, Limits};
 use cb_desk::{Desk, Field, Format};
@@ -106,8 +107,13 @@ impl Session {
                 let done = self.desk.undo();
                 put_move(out, done)
             }
+            Command::Redo => {
+                let done = self.desk.redo();
+                put_move(out, done)
+            }
             Command::Tags(format) => self.tags(alloc, format, out),
             Command::Listing => self.listing(alloc, out),
+            Command::Stack => put_stack(out, &self.desk),
         }
     }
 

@@ -1,7 +1,7 @@
 //! Runs with operands.
 use super::WIDE;
-use cb_desk::Refusal;
 use crate::{Ended, Feed, Operand, Operands, prepare, run};
+use cb_desk::Refusal;
 use cb_tags::Sink;
 use std::alloc::{AllocError, Global};
 use std::test::Fail;
@@ -19,7 +19,7 @@ fn operands(alloc: Global, files: &[(&[u8], &[u8])]) -> Result<Operands, AllocEr
 }
 
 /// What a run over the input writes, from these operands on, and how it ends.
-fn run_with(
+pub(super) fn run_with(
     alloc: Global,
     files: &[(&[u8], &[u8])],
     input: &[u8],
