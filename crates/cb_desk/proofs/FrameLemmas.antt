@@ -1,6 +1,6 @@
 -- Which text a name has among files, before and after a change, and the frames that stay valid by it.
-use Rattle.std.proofs.Common.{◌≡◌, ◌∙◌, sym, ap, refl, subst, ℕ, zero, suc, ◌<◌, ◌≤◌, Bool, true, false, not, ◌||◌, cond, List, [], ◌∷◌, ◌++◌, filter, map, length, take, Option, Some, None, slice_get, bytes_eq, nat_cmp, is_lt, Ordering, Less, arith}
-use Rattle.std.specs.List.{AllByRecursion, list_any, flat_map}
+use Rattle.std.proofs.Common.{◌≡◌, ◌∙◌, sym, ap, refl, subst, ℕ, zero, suc, ◌≤◌, Bool, true, false, not, ◌||◌, cond, List, [], ◌∷◌, ◌++◌, filter, map, length, take, Some, slice_get, bytes_eq, nat_cmp, is_lt, Less, arith}
+use Rattle.std.specs.List.{AllByRecursion}
 use Rattle.std.specs.Cmp.Lexicographic.{slice_cmp}
 use Rattle.std.proofs.lemmas.Slice.Eq.{bytes_eq-Decides}
 use Rattle.std.proofs.lemmas.Map.Text.{is_eq-slice_cmp}
@@ -13,7 +13,7 @@ use Rattle.std.proofs.lemmas.List.{length-map}
 use Rattle.cb_scan.proofs.FactsWithin.{facts_lie}
 use Rattle.cb_scan.proofs.LineTable.{lines-few}
 use Rattle.cb_desk.specs.Answer.{defines}
-use Rattle.cb_desk.specs.World.{File, Frame, World, is_named, has_file, text_of_file, IsAscending, IsFrameOf, AreValidFiles}
+use Rattle.cb_desk.specs.World.{File, Frame, is_named, has_file, text_of_file, IsAscending, IsFrameOf}
 use Rattle.cb_desk.specs.Step.{with_file, without_file, renamed_frame, places_in, places, nth}
 use Rattle.cb_desk.proofs.Placed.{by_name, before}
 use Rattle.cb_desk.proofs.Valid.{all-along, all-both, all-filter, all-join, all-passed}

@@ -1,5 +1,5 @@
 -- What changes, undos and redos do to a timeline.
-use Rattle.std.proofs.Common.{◌≡◌, ◌∙◌, sym, ap, refl, subst, ℕ, ◌+◌, ◌≤◌, ◌<◌, Bool, true, false, not, cond, List, [], ◌∷◌, ◌++◌, length, arith, Result, Ok, Err, Option, Some, None, nat_le, nat_lt}
+use Rattle.std.proofs.Common.{◌≡◌, ◌∙◌, sym, ap, refl, subst, ℕ, ◌≤◌, ◌<◌, Bool, true, false, not, cond, List, [], ◌∷◌, ◌++◌, length, arith, Result, Ok, Err, Option, Some, None, nat_le, nat_lt}
 use Rattle.std.specs.List.{AllByRecursion}
 use Rattle.cb_desk.specs.declared.refusal.Refusal.{Refusal}
 use Rattle.cb_desk.specs.declared.refusal.Refusal.TheVariants.{BadName, NoSuchFile, FileExists, TooLarge, TooManyFiles, HistoryFull, OutOfMemory}

@@ -1,10 +1,10 @@
 -- Undo and redo as a swap of the present with its neighbour.
-use Rattle.std.proofs.Common.{◌≡◌, ◌∙◌, sym, ap, refl, subst, ℕ, ◌+◌, ◌-◌, ◌<◌, ◌≤◌, List, [], ◌∷◌, ◌++◌, take, drop, length, get_or, slice_set, reverse, Ok, Err, add-one, arith}
+use Rattle.std.proofs.Common.{◌≡◌, ◌∙◌, ap, refl, ℕ, ◌+◌, ◌-◌, ◌<◌, ◌≤◌, List, [], ◌∷◌, take, drop, length, get_or, slice_set, reverse, Ok, Err, add-one, arith}
 use Rattle.std.proofs.Math.Seq.{drop-cons}
 use Rattle.std.proofs.lemmas.List.{reverse-append, take_more, take_more_set, take-set, drop-set, drop-set-lt, drop_all}
 use Rattle.cb_desk.specs.declared.refusal.Refusal.TheVariants.{NothingToUndo, NothingToRedo}
 use Rattle.cb_desk.specs.World.{World}
-use Rattle.cb_desk.specs.Timeline.{Timeline, undone, redone}
+use Rattle.cb_desk.specs.Timeline.{undone, redone}
 use Rattle.cb_desk.specs.steps.Worlds.{timeline_of}
 
 module _ (others : List World) (present next : World) where

@@ -9,7 +9,7 @@ use Rattle.std.proofs.lemmas.Map.Text.{is_eq-slice_cmp}
 use Rattle.std.proofs.lemmas.List.Filters.{length-filter_both}
 use Rattle.std.proofs.lemmas.List.Kept.{IsStrictlySortedBy-filter}
 use Rattle.cb_tags.specs.Names.{is_file_name}
-use Rattle.cb_desk.specs.World.{File, is_named, has_file, IsAscending, AreValidFiles}
+use Rattle.cb_desk.specs.World.{File, is_named, has_file, AreValidFiles}
 use Rattle.cb_desk.specs.Step.{with_file, without_file}
 use Rattle.cb_desk.proofs.Placed.{by_name, before}
 

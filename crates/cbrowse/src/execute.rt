@@ -9,11 +9,9 @@ mod finish;
 #[cfg(test)]
 mod tests;
 
-use cb_desk::{Desk, Format};
 use crate::job::{Job, job_of};
-use cb_session::{
-    Ended, Fault, Feed, Limits, Session, prepare, put_listing_file, put_tags_file,
-};
+use cb_desk::{Desk, Format};
+use cb_session::{Ended, Fault, Feed, Limits, Session, prepare, put_listing_file, put_tags_file};
 use cb_tags::{Sink, TagRow};
 use files::{make_file, read_operands};
 pub use finish::refuse;

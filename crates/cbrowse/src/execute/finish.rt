@@ -87,7 +87,11 @@ fn put_error<E: Write>(errors: &mut Sink<E>, text: &[u8]) -> Result<(), WriteFau
     put_texts(errors, &[b"cbrowse: ", text, b"\n"])
 }
 
-fn put_file_error<E: Write>(errors: &mut Sink<E>, name: &[u8], text: &[u8]) -> Result<(), WriteFault>
+fn put_file_error<E: Write>(
+    errors: &mut Sink<E>,
+    name: &[u8],
+    text: &[u8],
+) -> Result<(), WriteFault>
     ensures { Puts errors.old errors.new result (file_line name.now text.now) }
 {
     put_texts(errors, &[b"cbrowse: ", name, b": ", text, b"\n"])

@@ -1,5 +1,4 @@
-use Rattle.std.proofs.Common.{◌≡◌, ◌∙◌, ap, ◌-◌, ◌+◌, map, drop, slice_get, refl, rules}
-use Rattle.cb_desk.specs.Step.{places}
+use Rattle.std.proofs.Common.{◌≡◌, ◌∙◌, refl, rules}
 use Rattle.cb_desk.proofs.Counting.{lines_named, placed-here, placed-behind}
 use Rattle.cb_desk.proofs.places.nth_place.Goals as goal
 

@@ -1,5 +1,4 @@
-use Rattle.std.proofs.Common.{◌≡◌, map, drop, IsTrue, bytes_eq}
-use Rattle.std.specs.List.{list_any}
+use Rattle.std.proofs.Common.{◌≡◌, map, drop, IsTrue}
 use Rattle.cb_desk.specs.World.{text_of_file, has_file}
 use Rattle.cb_desk.proofs.snapshot.entry_of.Given as goal
 

@@ -1,6 +1,6 @@
-use Rattle.std.proofs.Common.{rules, ◌≡◌, ◌∙◌, sym, ap, subst, map, not, IsTrue}
+use Rattle.std.proofs.Common.{ap, not}
 use Rattle.std.proofs.lemmas.List.Kept.{IsStrictlySortedBy-filter}
-use Rattle.cb_desk.specs.World.{is_named, has_file, IsAscending}
+use Rattle.cb_desk.specs.World.{is_named}
 use Rattle.cb_desk.proofs.Placed.{by_name}
 use Rattle.cb_desk.proofs.snapshot.Snapshot.renamed.Goals as goal
 

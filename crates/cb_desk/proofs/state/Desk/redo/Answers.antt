@@ -1,4 +1,4 @@
-use Rattle.std.proofs.Common.{rules, ◌≡◌, ◌∙◌, ◌≤◌, ◌<◌, length, refl, arith}
+use Rattle.std.proofs.Common.{rules, ◌≡◌, ◌<◌, length, refl}
 use Rattle.cb_desk.proofs.Swaps.{redo-swapped, redo-none}
 use Rattle.cb_desk.proofs.state.Desk.redo.Goals as goal
 

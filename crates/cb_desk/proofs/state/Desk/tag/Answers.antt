@@ -1,8 +1,8 @@
-use Rattle.std.proofs.Common.{rules, ◌≡◌, ◌∙◌, sym, ap, refl, subst, Err, Some, None}
+use Rattle.std.proofs.Common.{◌∙◌, sym, ap, refl, subst, Some, None}
 use Rattle.cb_desk.specs.declared.refusal.Refusal.TheVariants.{NoSuchDefinition}
 use Rattle.cb_desk.specs.World.{IsValidWorld}
 use Rattle.cb_desk.specs.Step.{tag}
-use Rattle.cb_desk.proofs.Moves.{accepted, changes-refused, changes-full, changes-done, step_keeps_valid, no-frame, pushed, tag-meant}
+use Rattle.cb_desk.proofs.Moves.{changes-refused, changes-full, changes-done, step_keeps_valid, no-frame, pushed, tag-meant}
 use Rattle.cb_desk.proofs.state.Desk.tag.Goals as goal
 
 pub returns-in_default : goal.returns-in_default

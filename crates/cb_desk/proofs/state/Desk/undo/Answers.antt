@@ -1,4 +1,4 @@
-use Rattle.std.proofs.Common.{rules, ◌≡◌, ◌∙◌, ◌≤◌, ◌-◌, refl, get_or, arith}
+use Rattle.std.proofs.Common.{◌≤◌, refl, arith}
 use Rattle.cb_desk.proofs.Swaps.{undo-swapped, undo-none}
 use Rattle.cb_desk.proofs.state.Desk.undo.Goals as goal
 
