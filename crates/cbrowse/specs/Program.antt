@@ -16,7 +16,7 @@ use Rattle.cb_session.specs.declared.input.Fault.TheVariants.{Read, Write, Memor
 use Rattle.clap.specs.Words.{subcommand_of}
 use Rattle.cb_tags.specs.TagLines.{Tag}
 use Rattle.cb_tags.specs.Writers.{Writer}
-use Rattle.cb_tags.specs.Writing.{AppendsFront}
+use Rattle.cb_tags.specs.Writing.{AppendsPrefix}
 use Rattle.cb_session.specs.Devices.{Reader}
 use Rattle.cb_session.specs.Inputs.{inputs}
 use Rattle.cbrowse.specs.Jobs.{browse_app, IsJobOf}
@@ -43,7 +43,7 @@ tags_output listing format w = output_text listing format (tags (output_format l
 -- the whole text was written; or the writer failed, and a front of the text was written; or memory was refused, and nothing was
 abbrev pub WritesText : List ℕ → Writer → Writer → Ended → Type 0
 WritesText text old new Done = Appends old.bytes new.bytes text
-WritesText text old new (Fault Write) = (new.failed ≡ true) × AppendsFront old.bytes new.bytes text
+WritesText text old new (Fault Write) = (new.failed ≡ true) × AppendsPrefix old.bytes new.bytes text
 WritesText text old new (Fault Memory) = new ≡ old
 WritesText text old new _ = ⊥
 
@@ -117,5 +117,5 @@ usage_said NoMemory = error_line (codes "out of memory")
 -- the exit status and what is said on standard error are those of one end: of the job that the words ask for, or of words without a job
 abbrev pub Ends : List (List ℕ) → ℕ → Option (List ℕ) → Option (List ℕ) → Type 0
 Ends words status old new =
-    ((job : Job) × (end : Finish) × IsJobOf (subcommand_of browse_app words) job × (status ≡ status_of end) × AppendsFront old new (said_of job end))
-    ⊎ ((usage : Usage) × (status ≡ usage_status usage) × AppendsFront old new (usage_said usage))
+    ((job : Job) × (end : Finish) × IsJobOf (subcommand_of browse_app words) job × (status ≡ status_of end) × AppendsPrefix old new (said_of job end))
+    ⊎ ((usage : Usage) × (status ≡ usage_status usage) × AppendsPrefix old new (usage_said usage))

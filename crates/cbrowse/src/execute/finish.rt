@@ -1,7 +1,7 @@
 //! How the program ends: its exit status, and what it says on standard error.
 ghost use Rattle.std.specs.Prelude.{◌≡◌, [], map, string_bytes};
 ghost use Rattle.std.specs.List.{slice_index_or};
-ghost use Rattle.cb_tags.specs.Writing.{AppendsFront, Puts};
+ghost use Rattle.cb_tags.specs.Writing.{AppendsPrefix, Puts};
 ghost use Rattle.cbrowse.specs.Program.{error_line, file_line, files_of, tagsfile_of, run_said, said_of, run_status, status_of, usage_status, usage_said};
 
 use crate::job::{Job, Usage};
@@ -144,7 +144,7 @@ fn put_usage<E: Write>(errors: &mut Sink<E>, usage: &Usage) -> Result<(), WriteF
 /// Says how a job ended, and answers the exit status.
 pub fn conclude<E: Write>(errors: &mut Sink<E>, job: &Job, end: Finish) -> u8
     ensures status { result ≡ status_of end }
-    ensures said { AppendsFront errors.old.bytes errors.new.bytes (said_of job.now end) }
+    ensures said { AppendsPrefix errors.old.bytes errors.new.bytes (said_of job.now end) }
 {
     // Nobody is left to hear that standard error failed.
     let _ = put_finish(errors, job, end);
@@ -154,7 +154,7 @@ pub fn conclude<E: Write>(errors: &mut Sink<E>, job: &Job, end: Finish) -> u8
 /// Says why there is no job, and answers the exit status.
 pub fn refuse<E: Write>(errors: &mut Sink<E>, usage: &Usage) -> u8
     ensures status { result ≡ usage_status usage.now }
-    ensures said { AppendsFront errors.old.bytes errors.new.bytes (usage_said usage.now) }
+    ensures said { AppendsPrefix errors.old.bytes errors.new.bytes (usage_said usage.now) }
 {
     let _ = put_usage(errors, usage);
     usage_status(usage)
