@@ -1,6 +1,6 @@
 -- A move that follows what is meant, and its reply.
 use Rattle.std.proofs.Common.{◌≡◌, ℕ, Bool, true, false, List, Result, Ok, Err, refl, sym, ap, ◌∙◌, subst}
-use Rattle.std.proofs.KnownBytes.{Appends-nil}
+use Rattle.cb_tags.proofs.Prefixes.{PutsAll-none}
 use Rattle.cb_desk.specs.declared.refusal.Refusal.{Refusal}
 use Rattle.cb_desk.specs.declared.refusal.Refusal.TheVariants.{OutOfMemory}
 use Rattle.cb_desk.specs.declared.rows.Field.{Field}
@@ -88,11 +88,11 @@ Does-refused t e r out out' result h p =
 
 pub Does-nothing : {A : Type 0} (t : Timeline) (e : Entry) (out : Writer) (x : A) → e ≡ nothing → (mark : Bool) × Does (outcome mark t e) t out out (Ok x)
 unfolding outcome
-Does-nothing t e out x h = subst (λ y. (mark : Bool) × Does (outcome mark t y) t out out (Ok x)) (sym h) (false, (refl, (refl, Appends-nil out.bytes)))
+Does-nothing t e out x h = subst (λ y. (mark : Bool) × Does (outcome mark t y) t out out (Ok x)) (sym h) (false, (refl, (PutsAll-none out, tt)))
 
 pub Does-quit : {A : Type 0} (t : Timeline) (e : Entry) (out : Writer) (x : A) → e ≡ quit → (mark : Bool) × Does (outcome mark t e) t out out (Ok x)
 unfolding outcome
-Does-quit t e out x h = subst (λ y. (mark : Bool) × Does (outcome mark t y) t out out (Ok x)) (sym h) (false, (refl, (refl, Appends-nil out.bytes)))
+Does-quit t e out x h = subst (λ y. (mark : Bool) × Does (outcome mark t y) t out out (Ok x)) (sym h) (false, (refl, (PutsAll-none out, tt)))
 
 -- a question is answered, or memory refused it
 pub query-answered : (t : Timeline) (field : Field) (pattern : List ℕ) → (outcome false t (query field pattern)).reply ≡ answer_lines (answer t.present field pattern)

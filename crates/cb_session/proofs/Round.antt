@@ -12,16 +12,16 @@ use Rattle.cb_tags.specs.Writers.{Writer}
 use Rattle.cb_session.specs.Devices.{Reader}
 use Rattle.cb_session.specs.Inputs.{Entry, First, overlong, ending_of}
 use Rattle.cb_session.specs.Output.{prompt, outcome, exchange}
-use Rattle.cb_tags.specs.Writing.{AppendsFront}
+use Rattle.cb_tags.specs.Writing.{AppendsPrefix}
 use Rattle.cb_session.specs.Reading.{Reads}
 use Rattle.cb_session.specs.Serving.{Does, Leaves, LeavesRound}
-use Rattle.cb_tags.proofs.Fronts.{AppendsFront-more, AppendsFront-after, AppendsFront-whole}
+use Rattle.cb_tags.proofs.Prefixes.{AppendsPrefix-more, AppendsPrefix-after, AppendsPrefix-whole}
 
 -- a whole text with the ending that is meant
 Leaves-whole : (text : List ℕ) (meant : Option Ended) (old new : Writer) (ended : Ended) → meant ≡ Some ended → Appends old.bytes new.bytes text → Leaves text meant old new ended
-Leaves-whole text meant old new (Fault Read) e p = AppendsFront-whole old.bytes new.bytes text p
-Leaves-whole text meant old new (Fault Write) e p = AppendsFront-whole old.bytes new.bytes text p
-Leaves-whole text meant old new (Fault Memory) e p = AppendsFront-whole old.bytes new.bytes text p
+Leaves-whole text meant old new (Fault Read) e p = AppendsPrefix-whole old.bytes new.bytes text p
+Leaves-whole text meant old new (Fault Write) e p = AppendsPrefix-whole old.bytes new.bytes text p
+Leaves-whole text meant old new (Fault Memory) e p = AppendsPrefix-whole old.bytes new.bytes text p
 Leaves-whole text meant old new (Fault LongLine) e p = (e, p)
 Leaves-whole text meant old new (Fault ManyLines) e p = (e, p)
 Leaves-whole text meant old new Done e p = (e, p)
@@ -36,9 +36,9 @@ passed_on mark f t next feed old new (Err x) fault e p = subst (λ k. Leaves (ex
 
 -- the prompt could not be written
 pub Round-unprompted : (f : First) (t next : Timeline) (feed : Reader) (old new : Writer) (r : Result (Option Ended) Reason) (fault : Reason)
-    → IsErrAnd r (λ e. e ≡ fault) → fault ≡ Write → AppendsFront old.bytes new.bytes prompt → (mark : Bool) × LeavesRound mark f t next feed old new r
+    → IsErrAnd r (λ e. e ≡ fault) → fault ≡ Write → AppendsPrefix old.bytes new.bytes prompt → (mark : Bool) × LeavesRound mark f t next feed old new r
 Round-unprompted f t next feed old new r fault e w p =
-    (false, passed_on false f t next feed old new r Write (subst (λ k. IsErrAnd r (λ x. x ≡ k)) w e) (AppendsFront-more old.bytes new.bytes prompt (outcome false t f.entry).reply p))
+    (false, passed_on false f t next feed old new r Write (subst (λ k. IsErrAnd r (λ x. x ≡ k)) w e) (AppendsPrefix-more old.bytes new.bytes prompt (outcome false t f.entry).reply p))
 
 -- a line that is too long for the run has a prompt and no reply
 overlong_exchange : (t : Timeline) (e : Entry) → e ≡ overlong → exchange false t e ≡ prompt
@@ -48,9 +48,9 @@ overlong_exchange t e h = ap (exchange false t) h
 -- no input could be read
 unread : (f : First) (t : Timeline) (feed : Reader) (old new : Writer) (fault : Reason) → Reads f feed (Err fault) → Appends old.bytes new.bytes prompt
     → Leaves (exchange false t f.entry) (ending_of f.entry) old new (Fault fault)
-unread f t feed old new Read h p = AppendsFront-more old.bytes new.bytes prompt (outcome false t f.entry).reply (AppendsFront-whole old.bytes new.bytes prompt p)
+unread f t feed old new Read h p = AppendsPrefix-more old.bytes new.bytes prompt (outcome false t f.entry).reply (AppendsPrefix-whole old.bytes new.bytes prompt p)
 unread f t feed old new Write h p = absurd h
-unread f t feed old new Memory h p = AppendsFront-more old.bytes new.bytes prompt (outcome false t f.entry).reply (AppendsFront-whole old.bytes new.bytes prompt p)
+unread f t feed old new Memory h p = AppendsPrefix-more old.bytes new.bytes prompt (outcome false t f.entry).reply (AppendsPrefix-whole old.bytes new.bytes prompt p)
 unread f t feed old new LongLine h p = (ap ending_of h, subst (λ l. Appends old.bytes new.bytes l) (sym (overlong_exchange t f.entry h)) p)
 unread f t feed old new ManyLines h p = absurd h
 
@@ -63,11 +63,11 @@ pub Round-unanswered : (A : Type 0) (f : First) (t next : Timeline) (feed : Read
     → IsErrAnd r (λ e. e ≡ fault) → entry ≡ f.entry → Appends old.bytes mid.bytes prompt → (mark : Bool) × Does {A = A} (outcome mark t entry) next mid new (Err fault)
     → (mark : Bool) × LeavesRound mark f t next feed old new r
 Round-unanswered A f t next feed old mid new r fault entry e same p d =
-    let text : AppendsFront old.bytes new.bytes (exchange d.0 t entry) =
-    AppendsFront-after old.bytes mid.bytes new.bytes prompt (outcome d.0 t entry).reply p d.1.1.2 in (
+    let text : AppendsPrefix old.bytes new.bytes (exchange d.0 t entry) =
+    AppendsPrefix-after old.bytes mid.bytes new.bytes prompt (outcome d.0 t entry).reply p d.1.1.0.2 in (
       d.0,
-      passed_on d.0 f t next feed old new r Write (subst (λ k. IsErrAnd r (λ x. x ≡ k)) d.1.1.0 e)
-          (subst (λ x. AppendsFront old.bytes new.bytes (exchange d.0 t x)) same text),
+      passed_on d.0 f t next feed old new r Write (subst (λ k. IsErrAnd r (λ x. x ≡ k)) d.1.1.1 e)
+          (subst (λ x. AppendsPrefix old.bytes new.bytes (exchange d.0 t x)) same text),
     )
 
 -- the reply was written
@@ -75,8 +75,8 @@ pub Round-answered : (A : Type 0) (f : First) (t next : Timeline) (feed : Reader
     → entry ≡ f.entry → feed.bytes ≡ Some f.rest → ending ≡ ending_of entry → Appends old.bytes mid.bytes prompt → (mark : Bool) × Does {A = A} (outcome mark t entry) next mid new (Ok x)
     → (mark : Bool) × LeavesRound mark f t next feed old new (Ok ending)
 Round-answered A f t next feed old mid new None x entry same left e p d =
-    let text : Appends old.bytes new.bytes (exchange d.0 t entry) = Appends-trans old.bytes mid.bytes new.bytes prompt (outcome d.0 t entry).reply p d.1.1.1 in
+    let text : Appends old.bytes new.bytes (exchange d.0 t entry) = Appends-trans old.bytes mid.bytes new.bytes prompt (outcome d.0 t entry).reply p d.1.1.0.2 in
     (d.0, (sym (e ∙ ap ending_of same), left, d.1.0 ∙ ap (λ y. (outcome d.0 t y).timeline) same, subst (λ y. Appends old.bytes new.bytes (exchange d.0 t y)) same text))
 Round-answered A f t next feed old mid new (Some ended) x entry same left e p d =
-    let text : Appends old.bytes new.bytes (exchange d.0 t entry) = Appends-trans old.bytes mid.bytes new.bytes prompt (outcome d.0 t entry).reply p d.1.1.1 in
+    let text : Appends old.bytes new.bytes (exchange d.0 t entry) = Appends-trans old.bytes mid.bytes new.bytes prompt (outcome d.0 t entry).reply p d.1.1.0.2 in
     (d.0, Leaves-whole (exchange d.0 t f.entry) (ending_of f.entry) old new ended (sym (e ∙ ap ending_of same)) (subst (λ y. Appends old.bytes new.bytes (exchange d.0 t y)) same text))

@@ -10,9 +10,9 @@ use Rattle.cb_tags.specs.Writers.{Writer}
 use Rattle.cb_session.specs.Devices.{Reader}
 use Rattle.cb_session.specs.Inputs.{Entry, Inputs, first, inputs, ending_of, begin_with}
 use Rattle.cb_session.specs.Output.{outcome, exchange, output}
-use Rattle.cb_tags.specs.Writing.{AppendsFront}
+use Rattle.cb_tags.specs.Writing.{AppendsPrefix}
 use Rattle.cb_session.specs.Serving.{Leaves, LeavesRun, LeavesRound}
-use Rattle.cb_tags.proofs.Fronts.{AppendsFront-more, AppendsFront-after, AppendsFront-whole}
+use Rattle.cb_tags.proofs.Prefixes.{AppendsPrefix-more, AppendsPrefix-after, AppendsPrefix-whole}
 
 -- the inputs after an entry that doesn't end the run, and those of an entry that does
 inputs-on : (n limit : ℕ) (rest : List ℕ) → ending_of (first limit rest).entry ≡ None
@@ -93,17 +93,17 @@ Rounds-more lines limit bytes start old left t next feed behind out new mark r h
 
 -- a fault in a round: a front of the output is written
 Rounds-front : (lines limit : ℕ) (bytes : List ℕ) (start : Timeline) (old : Writer) (left : ℕ) (t : Timeline) (feed : Reader) (out new : Writer) (mark : Bool)
-    → (r : Rounds lines limit bytes start old (suc left) t feed out) → AppendsFront out.bytes new.bytes (exchange mark t (first limit r.rest).entry)
-    → AppendsFront old.bytes new.bytes (output (r.marks ++ mark ∷ []) start (inputs lines limit bytes).entries)
+    → (r : Rounds lines limit bytes start old (suc left) t feed out) → AppendsPrefix out.bytes new.bytes (exchange mark t (first limit r.rest).entry)
+    → AppendsPrefix old.bytes new.bytes (output (r.marks ++ mark ∷ []) start (inputs lines limit bytes).entries)
 Rounds-front lines limit bytes start old left t feed out new mark r h =
     let f = first limit r.rest in
     let b = inputs-begin left limit r.rest in
     let behind = output [] (outcome mark t f.entry).timeline b.0 in
     let whole : output (r.marks ++ mark ∷ []) start (inputs lines limit bytes).entries ≡ r.so_far ++ (exchange mark t f.entry ++ behind) =
     r.text (mark ∷ []) ∙ ap (λ es. r.so_far ++ output (mark ∷ []) t es) b.1 ∙ ap (λ l. r.so_far ++ l) (output-cons mark [] t f.entry b.0) in
-    subst (λ l. AppendsFront old.bytes new.bytes l) (sym whole)
-    (AppendsFront-after old.bytes out.bytes new.bytes r.so_far (exchange mark t f.entry ++ behind) r.wrote
-    (AppendsFront-more out.bytes new.bytes (exchange mark t f.entry) behind h))
+    subst (λ l. AppendsPrefix old.bytes new.bytes l) (sym whole)
+    (AppendsPrefix-after old.bytes out.bytes new.bytes r.so_far (exchange mark t f.entry ++ behind) r.wrote
+    (AppendsPrefix-more out.bytes new.bytes (exchange mark t f.entry) behind h))
 
 -- the last round: the whole output is written
 Rounds-last : (lines limit : ℕ) (bytes : List ℕ) (start : Timeline) (old : Writer) (left : ℕ) (t : Timeline) (feed : Reader) (out new : Writer) (mark : Bool) (ended : Ended)
@@ -157,15 +157,15 @@ Leaves-kept text meant old mid new Cut p q = (p.0, Appends-kept old.bytes mid.by
 Leaves-kept text meant old mid new (Operand place why) p q = (p.0, Appends-kept old.bytes mid.bytes new.bytes text p.1 q)
 
 -- what is left is at least a front
-pub Leaves-front : (text : List ℕ) (meant : Option Ended) (old new : Writer) (ended : Ended) → Leaves text meant old new ended → AppendsFront old.bytes new.bytes text
+pub Leaves-front : (text : List ℕ) (meant : Option Ended) (old new : Writer) (ended : Ended) → Leaves text meant old new ended → AppendsPrefix old.bytes new.bytes text
 Leaves-front text meant old new (Fault Read) p = p
 Leaves-front text meant old new (Fault Write) p = p
 Leaves-front text meant old new (Fault Memory) p = p
-Leaves-front text meant old new (Fault LongLine) p = AppendsFront-whole old.bytes new.bytes text p.1
-Leaves-front text meant old new (Fault ManyLines) p = AppendsFront-whole old.bytes new.bytes text p.1
-Leaves-front text meant old new Done p = AppendsFront-whole old.bytes new.bytes text p.1
-Leaves-front text meant old new Cut p = AppendsFront-whole old.bytes new.bytes text p.1
-Leaves-front text meant old new (Operand place why) p = AppendsFront-whole old.bytes new.bytes text p.1
+Leaves-front text meant old new (Fault LongLine) p = AppendsPrefix-whole old.bytes new.bytes text p.1
+Leaves-front text meant old new (Fault ManyLines) p = AppendsPrefix-whole old.bytes new.bytes text p.1
+Leaves-front text meant old new Done p = AppendsPrefix-whole old.bytes new.bytes text p.1
+Leaves-front text meant old new Cut p = AppendsPrefix-whole old.bytes new.bytes text p.1
+Leaves-front text meant old new (Operand place why) p = AppendsPrefix-whole old.bytes new.bytes text p.1
 
 -- a round in a run: what it leaves is known for all bytes that the feed may have
 pub Rounds-next : (lines limit : ℕ) (bytes : List ℕ) (start : Timeline) (old : Writer) (n left : ℕ) (t next : Timeline) (feed behind : Reader) (out new : Writer)

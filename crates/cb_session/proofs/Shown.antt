@@ -1,18 +1,16 @@
 -- The rows of the frames, written from the top of the stack down.
-use Rattle.std.proofs.Common.{◌≡◌, ◌≤◌, ◌-◌, ℕ, true, List, [], ◌∷◌, ◌++◌, map, reverse, length, codes, Result, refl, sym, ap, ◌∙◌, subst, append_assoc, append-nil, arith, slice_index_or}
+use Rattle.std.proofs.Common.{◌≡◌, ◌≤◌, ◌-◌, ℕ, List, [], ◌∷◌, ◌++◌, map, reverse, length, codes, Result, refl, sym, ap, ◌∙◌, subst, append_assoc, append-nil, arith, slice_index_or}
 use Rattle.std.proofs.lemmas.List.{reverse-append, length-map, length-reverse}
 use Rattle.std.specs.Prelude.{IsErrAnd}
 use Rattle.std.specs.List.{flat_map}
-use Rattle.std.specs.Io.KnownBytes.{Appends}
-use Rattle.std.proofs.KnownBytes.{Appends-trans, Appends-nil}
 use Rattle.cb_scan.specs.Lines.{lines}
 use Rattle.cb_scan.proofs.LineTable.{lines-few}
 use Rattle.cb_session.specs.declared.input.Fault.{Fault}
 use Rattle.cb_desk.specs.World.{World, File, Frame}
 use Rattle.cb_session.specs.declared.input.Fault.TheVariants.{Write}
 use Rattle.cb_tags.specs.Writers.{Writer}
-use Rattle.cb_tags.specs.Writing.{AppendsFront}
-use Rattle.cb_tags.proofs.Fronts.{AppendsFront-more, AppendsFront-after}
+use Rattle.cb_tags.specs.Writing.{PutsAll, PutsPrefix}
+use Rattle.cb_tags.proofs.Prefixes.{PutsAll-none, PutsAll-after, PutsPrefix-more, PutsPrefix-after}
 use Rattle.cb_desk.specs.Answer.{AnswerRow, line_row, unindented}
 use Rattle.cb_session.specs.Output.{row_line}
 use Rattle.cb_session.specs.Stack.{frame_row, stack_rows}
@@ -30,19 +28,17 @@ rows_back-last files rest f = ap (λ frames. flat_map row_line (map (frame_row f
 -- a stack of which so many frames are left: the rows of the others were written
 pub record Shown (w : World) (old : Writer) (left : List Frame) (out : Writer) : Type 0 where
   pub so_far : List ℕ
-  pub same : out.failed ≡ old.failed
-  pub wrote : Appends old.bytes out.bytes so_far
+  pub wrote : PutsAll old out so_far
   pub rest : so_far ++ rows_back w.files left ≡ flat_map row_line (stack_rows w)
 
 pub Shown-start : (w : World) (old : Writer) → Shown w old w.frames old
-Shown-start w old = record { so_far = []; same = refl; wrote = Appends-nil old.bytes; rest = refl }
+Shown-start w old = record { so_far = []; wrote = PutsAll-none old; rest = refl }
 
 pub Shown-more : (w : World) (old out new : Writer) (left rest : List Frame) (f : Frame) → Shown w old left out → left ≡ rest ++ f ∷ []
-    → new.failed ≡ out.failed → Appends out.bytes new.bytes (row_line (frame_row w.files f)) → Shown w old rest new
-Shown-more w old out new left rest f s is same wrote = record {
+    → PutsAll out new (row_line (frame_row w.files f)) → Shown w old rest new
+Shown-more w old out new left rest f s is wrote = record {
   so_far = s.so_far ++ row_line (frame_row w.files f);
-  same = same ∙ s.same;
-  wrote = Appends-trans old.bytes out.bytes new.bytes s.so_far (row_line (frame_row w.files f)) s.wrote wrote;
+  wrote = PutsAll-after old out new s.so_far (row_line (frame_row w.files f)) s.wrote wrote;
   rest = append_assoc s.so_far (row_line (frame_row w.files f)) (rows_back w.files rest)
       ∙ ap (λ l. s.so_far ++ l) (sym (rows_back-last w.files rest f))
       ∙ ap (λ l. s.so_far ++ rows_back w.files l) (sym is)
@@ -52,23 +48,23 @@ Shown-more w old out new left rest f s is same wrote = record {
 -- a row that could not be written
 pub Shown-fault : {A : Type 0} (w : World) (old out new : Writer) (left rest : List Frame) (f : Frame) (r : Result A Fault) (fault : Fault)
     → Shown w old left out → left ≡ rest ++ f ∷ [] → IsErrAnd r (λ e. e ≡ fault)
-    → fault ≡ Write → new.failed ≡ true → AppendsFront out.bytes new.bytes (row_line (frame_row w.files f)) → Puts old new r (flat_map row_line (stack_rows w))
-Shown-fault w old out new left rest f r fault s is e why failed p =
+    → fault ≡ Write → PutsPrefix out new (row_line (frame_row w.files f)) → Puts old new r (flat_map row_line (stack_rows w))
+Shown-fault w old out new left rest f r fault s is e why p =
     let row = row_line (frame_row w.files f) in
     let whole : s.so_far ++ (row ++ rows_back w.files rest) ≡ flat_map row_line (stack_rows w) =
     ap (λ l. s.so_far ++ l) (sym (rows_back-last w.files rest f)) ∙ ap (λ l. s.so_far ++ rows_back w.files l) (sym is) ∙ s.rest in
     subst (λ l. Puts old new r l) whole
-    (Puts-fault old new r fault _ e why failed
-    (AppendsFront-after old.bytes out.bytes new.bytes s.so_far (row ++ rows_back w.files rest) s.wrote
-    (AppendsFront-more out.bytes new.bytes row (rows_back w.files rest) p)))
+    (Puts-fault old new r fault _ e why
+    (PutsPrefix-after old out new s.so_far (row ++ rows_back w.files rest) s.wrote
+    (PutsPrefix-more out new row (rows_back w.files rest) p)))
 
 -- no frame is left
 pub Shown-end : (w : World) (old out : Writer) (left : List Frame) → Shown w old left out → left ≡ []
-    → (out.failed ≡ old.failed) × Appends old.bytes out.bytes (flat_map row_line (stack_rows w))
+    → PutsAll old out (flat_map row_line (stack_rows w))
 Shown-end w old out left s none =
     let whole : s.so_far ≡ flat_map row_line (stack_rows w) =
     sym (append-nil s.so_far) ∙ ap (λ l. s.so_far ++ rows_back w.files l) (sym none) ∙ s.rest in
-    (s.same, subst (λ l. Appends old.bytes out.bytes l) whole s.wrote)
+    subst (λ l. PutsAll old out l) whole s.wrote
 
 -- there are as many rows as frames
 pub stack_rows-length : (w : World) → length (stack_rows w) ≡ length w.frames

@@ -12,7 +12,7 @@ use Rattle.cb_tags.specs.Writers.{Writer}
 use Rattle.cb_session.specs.Devices.{Reader}
 use Rattle.cb_session.specs.Inputs.{First, Inputs, ending_of}
 use Rattle.cb_session.specs.Output.{Outcome, done_line, refused_line, outcome, exchange, output}
-use Rattle.cb_tags.specs.Writing.{AppendsFront}
+use Rattle.cb_tags.specs.Writing.{AppendsPrefix}
 use Rattle.cb_session.specs.Writing.{Puts}
 
 -- the reply to a move of the timeline
@@ -24,11 +24,11 @@ move_line (Err r) = refused_line r
 abbrev pub Does : {A : Type 0} → Outcome → Timeline → Writer → Writer → Result A Reason → Type 0
 Does o next old new result = (next ≡ o.timeline) × Puts old new result o.reply
 
--- after a fault of a device or of memory a front of the text is written; else the whole text is, and the ending is the one meant
+-- after a fault of a device or of memory a prefix of the text is written; else the whole text is, and the ending is the one meant
 abbrev pub Leaves : List ℕ → Option Ended → Writer → Writer → Ended → Type 0
-Leaves text meant old new (Fault Read) = AppendsFront old.bytes new.bytes text
-Leaves text meant old new (Fault Write) = AppendsFront old.bytes new.bytes text
-Leaves text meant old new (Fault Memory) = AppendsFront old.bytes new.bytes text
+Leaves text meant old new (Fault Read) = AppendsPrefix old.bytes new.bytes text
+Leaves text meant old new (Fault Write) = AppendsPrefix old.bytes new.bytes text
+Leaves text meant old new (Fault Memory) = AppendsPrefix old.bytes new.bytes text
 Leaves text meant old new ended = (meant ≡ Some ended) × Appends old.bytes new.bytes text
 
 -- one round: the exchange of a prompt and the reply to the first input, and the ending of the run if it has one

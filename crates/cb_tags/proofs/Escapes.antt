@@ -1,23 +1,21 @@
 -- What the writer of a text with its escapes has written, and what it still owes.
-use Rattle.std.proofs.Common.{◌≡◌, ℕ, suc, ◌+◌, ◌-◌, ◌<◌, ◌≤◌, true, false, cond, List, [], ◌∷◌, ◌++◌, length, take, drop, get_or, Option, Result, sym, ap, ◌∙◌, subst, append_assoc, append-nil, length-drop, arith}
+use Rattle.std.proofs.Common.{◌≡◌, ℕ, suc, ◌+◌, ◌-◌, ◌<◌, ◌≤◌, true, false, cond, List, [], ◌∷◌, ◌++◌, length, take, drop, get_or, Result, sym, ap, ◌∙◌, subst, append_assoc, append-nil, length-drop, arith}
 use Rattle.std.specs.List.{flat_map}
 use Rattle.std.proofs.lemmas.Grind.{flat_map-append}
 use Rattle.std.proofs.lemmas.List.{take_more, take_all, get_or-drop}
-use Rattle.std.specs.Io.KnownBytes.{Appends}
-use Rattle.std.proofs.KnownBytes.{Appends-trans}
 use Rattle.cb_tags.specs.declared.sink.WriteFault.{WriteFault}
 use Rattle.cb_tags.specs.Addresses.{is_escaped, escaped, escape}
 use Rattle.cb_tags.specs.Writers.{Writer}
-use Rattle.cb_tags.specs.Writing.{AppendsFront, Puts}
-use Rattle.cb_tags.proofs.Fronts.{AppendsFront-more, AppendsFront-after, Puts-after, flat_map-at}
+use Rattle.cb_tags.specs.Writing.{PutsAll, PutsPrefix, Puts}
+use Rattle.cb_tags.proofs.Prefixes.{PutsAll-after, PutsPrefix-more, PutsPrefix-after, Puts-after, flat_map-at}
 
 -- the bytes from one place up to another
 abbrev pub piece : ℕ → ℕ → List ℕ → List ℕ
 piece start end text = take (end - start) (drop start text)
 
 -- what was written, and then the bytes from start up to i, is the first i bytes with their escapes
-abbrev pub Owes : Option (List ℕ) → Option (List ℕ) → List ℕ → ℕ → ℕ → Type 0
-Owes a b text start i = (w : List ℕ) × Appends a b w × (w ++ piece start i text ≡ escape (take i text))
+abbrev pub Owes : Writer → Writer → List ℕ → ℕ → ℕ → Type 0
+Owes a b text start i = (w : List ℕ) × PutsAll a b w × (w ++ piece start i text ≡ escape (take i text))
 
 piece-next : (text : List ℕ) (start i d : ℕ) → start ≤ i → i < length text → piece start (i + 1) text ≡ piece start i text ++ get_or text i d ∷ []
 piece-next text start i d s h =
@@ -34,7 +32,7 @@ escape-next text i d h =
     ∙ ap (λ t. flat_map escaped (take i text) ++ t) (append-nil (escaped (get_or text i d)))
 
 -- a byte that is not escaped
-pub Owes-own : (a b : Option (List ℕ)) (text : List ℕ) (start i d : ℕ) → start ≤ i → i < length text → is_escaped (get_or text i d) ≡ false
+pub Owes-own : (a b : Writer) (text : List ℕ) (start i d : ℕ) → start ≤ i → i < length text → is_escaped (get_or text i d) ≡ false
     → Owes a b text start i → Owes a b text start (i + 1)
 Owes-own a b text start i d s h own p =
     let x = get_or text i d in (
@@ -47,15 +45,15 @@ Owes-own a b text start i d s h own p =
     )
 
 -- a byte that is escaped: the bytes before it and a `\` are written
-pub Owes-escaped : (a b c : Option (List ℕ)) (text : List ℕ) (start i d : ℕ) → start ≤ i → i < length text → is_escaped (get_or text i d) ≡ true
-    → Owes a b text start i → Appends b c (piece start i text ++ 92 ∷ []) → Owes a c text i (i + 1)
+pub Owes-escaped : (a b c : Writer) (text : List ℕ) (start i d : ℕ) → start ≤ i → i < length text → is_escaped (get_or text i d) ≡ true
+    → Owes a b text start i → PutsAll b c (piece start i text ++ 92 ∷ []) → Owes a c text i (i + 1)
 Owes-escaped a b c text start i d s h esc p q =
     let x = get_or text i d in
     let owed = piece start i text ++ 92 ∷ [] in
     let still : i - i ≡ 0 = omega arith in
     let none : piece i i text ≡ [] = ap (λ n. take n (drop i text)) still in (
       p.0 ++ owed,
-      Appends-trans a b c p.0 owed p.1 q,
+      PutsAll-after a b c p.0 owed p.1 q,
       ap (λ t. (p.0 ++ owed) ++ t) (piece-next text i i d (omega arith) h ∙ ap (λ t. t ++ x ∷ []) none)
           ∙ ap (λ t. t ++ x ∷ []) (sym (append_assoc p.0 (piece start i text) (92 ∷ [])) ∙ ap (λ t. t ++ 92 ∷ []) p.2)
           ∙ append_assoc (escape (take i text)) (92 ∷ []) (x ∷ [])
@@ -64,8 +62,8 @@ Owes-escaped a b c text start i d s h esc p q =
     )
 
 -- the fault of a writer that was given the bytes before an escaped byte and a `\`
-pub Owes-stopped : (a b c : Option (List ℕ)) (text : List ℕ) (start i d : ℕ) → i < length text → is_escaped (get_or text i d) ≡ true
-    → Owes a b text start i → AppendsFront b c (piece start i text ++ 92 ∷ []) → AppendsFront a c (escape text)
+pub Owes-stopped : (a b c : Writer) (text : List ℕ) (start i d : ℕ) → i < length text → is_escaped (get_or text i d) ≡ true
+    → Owes a b text start i → PutsPrefix b c (piece start i text ++ 92 ∷ []) → PutsPrefix a c (escape text)
 unfolding escape
 Owes-stopped a b c text start i d h esc p q =
     let x = get_or text i d in
@@ -77,12 +75,12 @@ Owes-stopped a b c text start i d h esc p q =
     ∙ ap (λ t. t ++ 92 ∷ x ∷ rest) (sym p.2)
     ∙ sym (append_assoc (p.0 ++ piece start i text) (92 ∷ []) (x ∷ rest))
     ∙ ap (λ t. t ++ x ∷ rest) (append_assoc p.0 (piece start i text) (92 ∷ [])) in
-    subst (λ t. AppendsFront a c t) (sym whole)
-    (AppendsFront-more a c (p.0 ++ owed) (x ∷ rest) (AppendsFront-after a b c p.0 owed p.1 q))
+    subst (λ t. PutsPrefix a c t) (sym whole)
+    (PutsPrefix-more a c (p.0 ++ owed) (x ∷ rest) (PutsPrefix-after a b c p.0 owed p.1 q))
 
 -- the rest is written
-pub Owes-done : (old mid new : Writer) (r : Result (Unit {0}) WriteFault) (text : List ℕ) (start : ℕ) → mid.failed ≡ old.failed
-    → Owes old.bytes mid.bytes text start (length text) → Puts mid new r (piece start (length text) text) → Puts old new r (escape text)
-Owes-done old mid new r text start s p q =
+pub Owes-done : (old mid new : Writer) (r : Result (Unit {0}) WriteFault) (text : List ℕ) (start : ℕ)
+    → Owes old mid text start (length text) → Puts mid new r (piece start (length text) text) → Puts old new r (escape text)
+Owes-done old mid new r text start p q =
     subst (λ t. Puts old new r t) (p.2 ∙ ap escape (take_all (length text) text (omega arith)))
-    (Puts-after old mid new r p.0 (piece start (length text) text) s p.1 q)
+    (Puts-after old mid new r p.0 (piece start (length text) text) p.1 q)

@@ -7,7 +7,7 @@ use Rattle.cb_session.specs.declared.input.Ended.{Ended}
 use Rattle.cb_session.specs.declared.input.Ended.TheVariants.{Done, Cut, Fault, Operand}
 use Rattle.cb_session.specs.declared.input.Fault.TheVariants.{Read, Write, Memory, LongLine, ManyLines}
 use Rattle.cb_tags.specs.Writers.{Writer}
-use Rattle.cb_tags.specs.Writing.{AppendsFront}
+use Rattle.cb_tags.specs.Writing.{AppendsPrefix}
 use Rattle.cbrowse.specs.declared.execute.finish.Finish.{Finish}
 use Rattle.cbrowse.specs.declared.execute.finish.Finish.TheVariants.{Ran, Unreadable, Unwritable}
 use Rattle.cbrowse.specs.declared.job.Job.{Job}
@@ -78,4 +78,4 @@ usage_said NoMemory = error_line (codes "out of memory")
 -- the whole text is on standard error, unless that has failed; then a prefix of it is
 pub record Says (old new : Writer) (text : List ℕ) : Type 0 where
   pub whole : new.failed ≡ false → Appends old.bytes new.bytes text
-  pub prefix : AppendsFront old.bytes new.bytes text
+  pub prefix : AppendsPrefix old.bytes new.bytes text

@@ -15,7 +15,7 @@ use Rattle.cb_session.specs.Operands.{Loads, Stop}
 use Rattle.cb_session.specs.Serving.{HasFailed, IfFault, LeavesRun}
 use Rattle.cb_tags.specs.TagLines.{Tag}
 use Rattle.cb_tags.specs.Writers.{Writer}
-use Rattle.cb_tags.specs.Writing.{AppendsFront}
+use Rattle.cb_tags.specs.Writing.{AppendsPrefix}
 use Rattle.cbrowse.specs.declared.execute.finish.Finish.{Finish}
 use Rattle.cbrowse.specs.declared.execute.finish.Finish.TheVariants.{Ran, Unreadable, Unwritable}
 use Rattle.cbrowse.specs.declared.job.Job.{Job}
@@ -49,7 +49,7 @@ tags_output listing format w = output_text listing format (tags (output_format l
 -- the whole text was written and handed on; or the writer failed, and a prefix was written; or memory was refused, and nothing was
 abbrev pub WritesText : List ℕ → Writer → Writer → Ended → Type 0
 WritesText text old new Done = (new.failed ≡ false) × Appends old.bytes new.bytes text
-WritesText text old new (Fault Write) = (new.failed ≡ true) × AppendsFront old.bytes new.bytes text
+WritesText text old new (Fault Write) = (new.failed ≡ true) × AppendsPrefix old.bytes new.bytes text
 WritesText text old new (Fault Memory) = new ≡ old
 WritesText text old new _ = ⊥
 

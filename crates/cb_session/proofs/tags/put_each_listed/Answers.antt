@@ -1,19 +1,17 @@
-use Rattle.std.proofs.Common.{◌∙◌}
 use Rattle.cb_tags.specs.TagLines.{tag_of, listing_line}
-use Rattle.cb_tags.proofs.Fronts.{AppendsFront-element, Appends-element}
+use Rattle.cb_tags.proofs.Prefixes.{PutsAll-none, PutsAll-element, PutsPrefix-element}
 use Rattle.cb_session.proofs.Puts.{Puts-fault}
 use Rattle.cb_session.proofs.tags.put_each_listed.Goals as goal
 
 pub returns-in_err-put_listed : goal.returns-in_err-put_listed
 returns-in_err-put_listed g c =
     let k = c.in_err-put_listed.ensures in
-    Puts-fault _ _ _ _ _ c.from_residual.ensures.1 k.0 k.1
-    (AppendsFront-element (λ row. listing_line (tag_of row)) _ _ _ _ c.loop-row.row-index _ c.loop-row-test.true c.loop-row.invariant.written k.2)
+    Puts-fault _ _ _ _ _ c.from_residual.ensures.1 k.1
+    (PutsPrefix-element (λ row. listing_line (tag_of row)) _ _ _ _ c.loop-row.row-index _ c.loop-row-test.true c.loop-row.invariant k.0)
+
+pub loop-row-init : goal.loop-row-init
+loop-row-init g c = PutsAll-none c.args.out.now
 
 pub loop-row-preserved : goal.loop-row-preserved
 loop-row-preserved g c =
-    let k = c.in_ok-put_listed.ensures in
-    record {
-      same = k.0 ∙ c.loop-row.invariant.same;
-      written = Appends-element (λ row. listing_line (tag_of row)) _ _ _ _ c.loop-row.row-index _ c.loop-row-test.true c.loop-row.invariant.written k.1;
-    }
+    PutsAll-element (λ row. listing_line (tag_of row)) _ _ _ _ c.loop-row.row-index _ c.loop-row-test.true c.loop-row.invariant c.in_ok-put_listed.ensures.0

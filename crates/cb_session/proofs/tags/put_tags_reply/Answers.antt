@@ -1,18 +1,16 @@
 use Rattle.std.proofs.Common.{sym}
 use Rattle.std.proofs.lemmas.List.{length-map}
 use Rattle.cb_tags.specs.TagLines.{tag_of}
-use Rattle.cb_tags.proofs.Fronts.{AppendsFront-more}
-use Rattle.cb_session.proofs.Puts.{Puts-fault, Puts-after}
+use Rattle.cb_session.proofs.Puts.{Puts-unfinished, Puts-after}
 use Rattle.cb_session.proofs.tags.put_tags_reply.Goals as goal
 
 pub returns-in_err-put_count : goal.returns-in_err-put_count
 returns-in_err-put_count g c =
     let k = c.in_err-put_count.ensures in
     rw (length-map c.args.rows.now tag_of, sym c.head_count.ensures)
-    (Puts-fault _ _ _ _ _ c.from_residual.ensures.1 k.0 k.1 (AppendsFront-more _ _ _ _ k.2))
+    (Puts-unfinished _ _ _ _ _ _ c.from_residual.ensures.1 k.1 k.0)
 
 pub returns : goal.returns
 returns g c =
-    let k = c.in_ok-put_count.ensures in
     rw (length-map c.args.rows.now tag_of, sym c.head_count.ensures)
-    (Puts-after _ _ _ _ _ _ k.0 k.1 c.put_tags_file.ensures)
+    (Puts-after _ _ _ _ _ _ c.in_ok-put_count.ensures.0 c.put_tags_file.ensures)

@@ -7,21 +7,21 @@ use Rattle.cb_session.proofs.state.Session.round.Goals as goal
 pub returns-in_err-put_prompt-clause-round : goal.returns-in_err-put_prompt-clause-round
 returns-in_err-put_prompt-clause-round g c = λ bytes e.
     let k = c.in_err-put_prompt.ensures in
-    Round-unprompted (first c.args.limits.now.line bytes) c.args.self.now _ c.args.feed.now c.args.out.now c.put_prompt.new.out _ _ c.from_residual.ensures.1 k.0 k.2
+    Round-unprompted (first c.args.limits.now.line bytes) c.args.self.now _ c.args.feed.now c.args.out.now c.put_prompt.new.out _ _ c.from_residual.ensures.1 k.1 k.0.2
 
 pub returns-in_err-input-clause-round : goal.returns-in_err-input-clause-round
 returns-in_err-input-clause-round g c = λ bytes e.
     Round-unread (first c.args.limits.now.line bytes) c.args.self.now _ c.read.new.feed c.args.out.now c.put_prompt.new.out _ _ c.from_residual-in_err-input.ensures.1
-    (c.in_err-input.ensures.first bytes e) c.in_ok-put_prompt.ensures.1
+    (c.in_err-input.ensures.first bytes e) c.in_ok-put_prompt.ensures.0.2
 
 pub returns-in_err-one-clause-round : goal.returns-in_err-one-clause-round
 returns-in_err-one-clause-round g c = λ bytes e.
     let r = c.in_ok-input.ensures.first bytes e in
     Round-unanswered Going (first c.args.limits.now.line bytes) c.args.self.now c.one.new.self c.read.new.feed c.args.out.now c.put_prompt.new.out c.one.new.out _ _
-    (entry_of c.in_ok-input.input) c.from_residual-in_err-one.ensures.1 r.0 c.in_ok-put_prompt.ensures.1 c.in_err-one.ensures.does
+    (entry_of c.in_ok-input.input) c.from_residual-in_err-one.ensures.1 r.0 c.in_ok-put_prompt.ensures.0.2 c.in_err-one.ensures.does
 
 pub returns-clause-round : goal.returns-clause-round
 returns-clause-round g c = λ bytes e.
     let r = c.in_ok-input.ensures.first bytes e in
     Round-answered Going (first c.args.limits.now.line bytes) c.args.self.now c.one.new.self c.read.new.feed c.args.out.now c.put_prompt.new.out c.one.new.out c.ending-ending.result c.in_ok-one.field-0
-    (entry_of c.in_ok-input.input) r.0 r.1 c.ending-ending.ensures c.in_ok-put_prompt.ensures.1 c.in_ok-one.ensures.does
+    (entry_of c.in_ok-input.input) r.0 r.1 c.ending-ending.ensures c.in_ok-put_prompt.ensures.0.2 c.in_ok-one.ensures.does
