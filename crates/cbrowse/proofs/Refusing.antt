@@ -15,9 +15,12 @@ pub usage_from_kind : (words : List Text) (app : App) (choices : Bor (List (Bor 
     → TellsKind kind usage → (kind ≡ OutOfMemory) ⊎ IsAmong kind (fault_of app words) → IsUsageOf words usage
 usage_from_kind words app choices kind Memory texts same tells has = tt
 usage_from_kind words app choices kind (Help t) texts same tells (inl none) = cc
-usage_from_kind words app choices kind (Help t) texts same tells (inr among) =
-    (choices, texts, subst (λ k. IsAmong k (fault_of (browse_app_of choices) words)) tells
-    (subst (λ a. IsAmong kind (fault_of a words)) same among))
+usage_from_kind words app choices kind (Help t) texts same tells (inr among) = (
+  choices,
+  texts,
+  subst (λ k. IsAmong k (fault_of (browse_app_of choices) words)) tells
+      (subst (λ a. IsAmong kind (fault_of a words)) same among),
+)
 usage_from_kind words app choices kind (Wrong t) texts same tells (inl none) = absurd (tells.1 none)
 usage_from_kind words app choices kind (Wrong t) texts same tells (inr among) =
     inl (kind, tells.0, (choices, texts, subst (λ a. IsAmong kind (fault_of a words)) same among))

@@ -5,6 +5,7 @@ use Rattle.std.specs.List.{slice_index_or}
 use Rattle.cb_desk.specs.Refusals.{text_of}
 use Rattle.cb_session.specs.declared.input.Ended.{Ended}
 use Rattle.cb_session.specs.declared.input.Ended.TheVariants.{Done, Cut, Fault, Operand}
+use Rattle.cb_session.specs.declared.input.Fault.{Fault as Reason}
 use Rattle.cb_session.specs.declared.input.Fault.TheVariants.{Read, Write, Memory, LongLine, ManyLines}
 use Rattle.cb_tags.specs.Writers.{Writer}
 use Rattle.cb_tags.specs.Writing.{AppendsPrefix}
@@ -33,15 +34,19 @@ error_line text = codes "cbrowse: " ++ text ++ codes "\n"
 abbrev pub file_line : List ℕ → List ℕ → List ℕ
 file_line name text = codes "cbrowse: " ++ name ++ codes ": " ++ text ++ codes "\n"
 
+-- what a fault is called
+abbrev pub fault_text : Reason → List ℕ
+fault_text Read = codes "read fault"
+fault_text Write = codes "write fault"
+fault_text Memory = codes "out of memory"
+fault_text LongLine = codes "line over 1000000 bytes"
+fault_text ManyLines = codes "too many lines"
+
 -- what is said of a run over these files
 abbrev pub run_said : List (List ℕ) → Ended → List ℕ
 run_said files Done = []
 run_said files Cut = error_line (codes "input ended")
-run_said files (Fault Read) = error_line (codes "read fault")
-run_said files (Fault Write) = error_line (codes "write fault")
-run_said files (Fault Memory) = error_line (codes "out of memory")
-run_said files (Fault LongLine) = error_line (codes "line over 1000000 bytes")
-run_said files (Fault ManyLines) = error_line (codes "too many lines")
+run_said files (Fault fault) = error_line (fault_text fault)
 run_said files (Operand place why) = file_line (slice_index_or files place []) (text_of why)
 
 -- what is said of a job

@@ -1,4 +1,5 @@
 //! The program on words and bytes of memory: its output, its exit status, and what it says on standard error.
+mod devices;
 mod files;
 
 use super::execute;
@@ -54,6 +55,21 @@ fn sessions(rt: HostRuntime) -> Result<(), AllocError> {
         assert_eq!(rt; status, end);
         assert_eq!(rt; said.as_slice(), text);
     }
+    Ok(())
+}
+
+#[test]
+fn a_line_of_a_million_bytes(rt: HostRuntime) -> Result<(), AllocError> {
+    let mut input = Vec::new(rt.alloc());
+    input.resize(1_000_000, b'a')?;
+    input.extend_from_slice(b"\n:undo\n")?;
+    let (written, status, said) = program(&rt, &["line"], input.as_slice())?;
+    assert_eq!(rt;
+        written.as_slice(),
+        b">> cscope: refused: line too long\n>> cscope: refused: nothing to undo\n>> ".as_slice()
+    );
+    assert_eq!(rt; status, 0);
+    assert!(rt; said.is_empty());
     Ok(())
 }
 

@@ -13,5 +13,8 @@ returns-in-Some g c =
 
 pub returns-in-None : goal.returns-in-None
 returns-in-None g c =
-    inr (Ok _, reaches _ _ (Ok _) (c.in-Ok.ensures ∙ c.files_of.ensures) c.in-Ok-prepare.ensures,
-    over_both _ _ _ _ _ _ _ c.in-None.ensures c.run_job.ensures)
+    inr (
+      Ok _,
+      reaches _ _ (Ok _) (c.in-Ok.ensures ∙ c.files_of.ensures) c.in-Ok-prepare.ensures,
+      over_both _ _ _ _ _ _ _ c.in-None.ensures c.run_job.ensures,
+    )
