@@ -23,7 +23,7 @@ impl Write for Flushed {
     }
 
     fn flush(&mut self) -> io::Result<()> {
-        self.flushes += 1;
+        self.flushes = self.flushes.saturating_add(1);
         if self.flushes > self.good {
             return Err(io::Error::from(ErrorKind::StorageFull));
         }
