@@ -6,4 +6,5 @@ pub mod Round
 pub mod Rounds
 pub mod Shown
 pub mod Streams
+pub mod Told
 pub mod Words

@@ -16,6 +16,10 @@ left_at Ended known = Some []
 left_at Open known = known
 left_at Failed known = known
 
+-- a reader has failed only where it had failed before
+abbrev pub HoldsOut : Reader → Reader → Type 0
+HoldsOut old new = new.stage ≡ Failed → old.stage ≡ Failed
+
 -- the next byte; or the end, for good; or a fault, for good and never after the end
 abbrev pub GivesByte : Reader → Reader → Result (Option ℕ) ReadFault → Type 0
 GivesByte old new (Ok (Some b)) = (old.stage ≡ Open) × (new.stage ≡ Open) × Consumes old.bytes new.bytes (b ∷ [])

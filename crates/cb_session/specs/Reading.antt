@@ -8,7 +8,7 @@ use Rattle.cb_session.specs.declared.input.Fault.TheVariants.{Read, Write, Memor
 use Rattle.cb_session.specs.declared.input.Input.{Input}
 use Rattle.cb_session.specs.declared.intake.LineRead.{LineRead}
 use Rattle.cb_session.specs.declared.intake.LineRead.TheVariants.{End, Line, Long}
-use Rattle.cb_session.specs.Devices.{Reader}
+use Rattle.cb_session.specs.Devices.{Reader, HoldsOut}
 use Rattle.cb_session.specs.Inputs.{Entry, change, refused, quit, overlong, First, first, short_line, with_block, is_cut}
 use Rattle.cb_session.specs.Said.{entry_of}
 
@@ -28,11 +28,13 @@ Reads f new (Err Read) = new.stage ≡ Failed
 Reads f new (Err Write) = ⊥
 Reads f new (Err ManyLines) = ⊥
 
--- reading fails only where the reader has failed, and never writes
-abbrev pub IsReadFault : Reader → Fault → Type 0
-IsReadFault feed Read = feed.stage ≡ Failed
-IsReadFault feed Write = ⊥
-IsReadFault feed _ = Unit {0}
+-- reading has three faults: the reader has failed, memory for a block was refused, or a line is too long; only by the first has the reader failed
+abbrev pub IsReadFault : Reader → Reader → Fault → Type 0
+IsReadFault old new Read = new.stage ≡ Failed
+IsReadFault old new Memory = HoldsOut old new
+IsReadFault old new LongLine = HoldsOut old new
+IsReadFault old new Write = ⊥
+IsReadFault old new ManyLines = ⊥
 
 -- a line of so many bytes, which a command has or has not
 abbrev pub line_of_length : ℕ → LineRead

@@ -9,7 +9,7 @@ use Rattle.cb_session.specs.declared.input.Fault.TheVariants.{Read, Write, Memor
 use Rattle.cb_session.specs.declared.input.Fault.{Fault as Reason}
 use Rattle.cb_desk.specs.Timeline.{Timeline}
 use Rattle.cb_tags.specs.Writers.{Writer}
-use Rattle.cb_session.specs.Devices.{Reader}
+use Rattle.cb_session.specs.Devices.{Reader, HoldsOut}
 use Rattle.cb_session.specs.Inputs.{First, Inputs, ending_of}
 use Rattle.cb_session.specs.Output.{Outcome, done_line, refused_line, outcome, exchange, output}
 use Rattle.cb_tags.specs.Writing.{AppendsPrefix}
@@ -47,6 +47,22 @@ abbrev pub HasFailed : Reader → Writer → Reason → Type 0
 HasFailed feed out Read = feed.stage ≡ Failed
 HasFailed feed out Write = out.failed ≡ true
 HasFailed feed out _ = Unit {0}
+
+-- the fault that ends a run
+abbrev pub fault_of : Ended → Option Reason
+fault_of (Fault fault) = Some fault
+fault_of _ = None
+
+-- the fault that a call answers
+abbrev pub fault_in : {A : Type 0} → Result A Reason → Option Reason
+fault_in (Ok _) = None
+fault_in (Err fault) = Some fault
+
+-- a device that fails is told: the reader by a fault of reading, the writer by one of writing; each is else as it was
+abbrev pub Tells : Reader → Reader → Writer → Writer → Option Reason → Type 0
+Tells feed feed' out out' (Some Read) = out'.failed ≡ out.failed
+Tells feed feed' out out' (Some Write) = HoldsOut feed feed'
+Tells feed feed' out out' _ = HoldsOut feed feed' × (out'.failed ≡ out.failed)
 
 -- what holds of a fault that ends a run
 abbrev pub IfFault : Ended → (Reason → Type 0) → Type 0

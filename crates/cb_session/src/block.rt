@@ -1,5 +1,6 @@
 //! The block of a `:load`.
 ghost use Rattle.std.specs.Prelude.{◌≡◌, List, ℕ, Some, IfOk, IfErr};
+ghost use Rattle.cb_session.specs.Devices.{HoldsOut};
 ghost use Rattle.cb_session.specs.Inputs.{block, with_block};
 ghost use Rattle.cb_session.specs.Said.{entry_of, HasPattern};
 ghost use Rattle.cb_session.specs.Reading.{Reads, ReadsBlock, IsReadFault};
@@ -16,7 +17,8 @@ fn read_block<R: BufRead>(
     feed: &mut Feed<R>,
 ) -> Result<Option<Vec<u8>>, Fault>
     ensures block { (bytes : List ℕ) → feed.old.bytes ≡ Some bytes → ReadsBlock count bytes feed.new result }
-    ensures failed { IfErr result (IsReadFault feed.new) }
+    ensures failed { IfErr result (IsReadFault feed.old feed.new) }
+    ensures fine { IfOk result (λ _. HoldsOut feed.old feed.new) }
 {
     let mut block = match Vec::with_capacity(alloc, count as usize) {
         Ok(block) => block,
@@ -39,7 +41,8 @@ pub fn read_load<'a, R: BufRead>(
     feed: &mut Feed<R>,
 ) -> Result<Input<'a>, Fault>
     ensures first { (bytes : List ℕ) → feed.old.bytes ≡ Some bytes → Reads (with_block (block name.now count) bytes) feed.new result }
-    ensures failed { IfErr result (IsReadFault feed.new) }
+    ensures failed { IfErr result (IsReadFault feed.old feed.new) }
+    ensures fine { IfOk result (λ _. HoldsOut feed.old feed.new) }
     ensures pattern { IfOk result (λ input. HasPattern (entry_of input)) }
 {
     match read_block(alloc, count, feed)? {

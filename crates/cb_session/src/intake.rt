@@ -45,6 +45,7 @@ pub struct Intake {
 impl Intake {
     ghost use Rattle.cb_session.specs.Inputs.{first, block, with_block};
     ghost use Rattle.cb_session.specs.Said.{entry_of, HasPattern};
+    ghost use Rattle.cb_session.specs.Devices.{HoldsOut};
     ghost use Rattle.cb_session.specs.Reading.{Reads, ReadsLine, IsReadFault};
 
     /// An intake with room for one line.
@@ -63,7 +64,8 @@ impl Intake {
         feed: &mut Feed<R>,
     ) -> Result<Input<'_>, Fault>
         ensures first { (bytes : List ℕ) → feed.old.bytes ≡ Some bytes → Reads (first limits.now.line bytes) feed.new result }
-        ensures failed { IfErr result (IsReadFault feed.new) }
+        ensures failed { IfErr result (IsReadFault feed.old feed.new) }
+        ensures fine { IfOk result (λ _. HoldsOut feed.old feed.new) }
         ensures pattern { IfOk result (λ input. HasPattern (entry_of input)) }
     {
         match self.read_line(limits, feed)? {
@@ -83,7 +85,8 @@ impl Intake {
         feed: &mut Feed<R>,
     ) -> Result<LineRead, Fault>
         ensures line { (bytes : List ℕ) → feed.old.bytes ≡ Some bytes → ReadsLine limits.now.line bytes feed.new self.new.line.items result }
-        ensures failed { IfErr result (IsReadFault feed.new) }
+        ensures failed { IfErr result (IsReadFault feed.old feed.new) }
+        ensures fine { IfOk result (λ _. HoldsOut feed.old feed.new) }
     {
         self.line.clear();
         'bytes: for read in 0..limits.line {

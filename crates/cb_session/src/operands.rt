@@ -2,7 +2,7 @@
 ghost use Rattle.std.specs.Prelude.{◌≡◌, List, ℕ, Some, map};
 ghost use Rattle.cb_session.specs.Inputs.{inputs};
 ghost use Rattle.cb_session.specs.Operands.{file_of_operand, Prepares, Runs};
-ghost use Rattle.cb_session.specs.Serving.{HasFailed, IfFault};
+ghost use Rattle.cb_session.specs.Serving.{HasFailed, IfFault, Tells, fault_of};
 
 use super::{Ended, Feed, Limits, Session};
 use cb_desk::{Change, Desk};
@@ -47,6 +47,7 @@ pub fn run<R: BufRead, W: Write>(
 ) -> Ended
     ensures output { (bytes : List ℕ) → feed.old.bytes ≡ Some bytes → Runs (map file_of_operand operands.items) (inputs limits.now.lines limits.now.line bytes) out.old out.new result }
     ensures failed { IfFault result (HasFailed feed.new out.new) }
+    ensures told { Tells feed.old feed.new out.old out.new (fault_of result) }
 {
     match prepare(alloc, operands) {
         Ok(mut session) => session.serve(alloc, limits, feed, out),

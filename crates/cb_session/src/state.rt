@@ -4,7 +4,7 @@ ghost use Rattle.cb_desk.specs.Timeline.{new_timeline};
 ghost use Rattle.cb_session.specs.Inputs.{query, tags_file, listing, first, inputs, ending_of};
 ghost use Rattle.cb_session.specs.Output.{outcome};
 ghost use Rattle.cb_session.specs.Said.{entry_of, command_of, going_of, HasPattern};
-ghost use Rattle.cb_session.specs.Serving.{Does, LeavesRound, LeavesRun, HasFailed, IfFault};
+ghost use Rattle.cb_session.specs.Serving.{Does, LeavesRound, LeavesRun, HasFailed, IfFault, Tells, fault_of, fault_in};
 ghost use Rattle.cb_session.specs.Writing.{Puts};
 
 use super::reply::{put_move, put_prompt, put_refusal, put_rows};
@@ -161,6 +161,7 @@ impl Session {
     ) -> Ended
         ensures output { (bytes : List ℕ) → feed.old.bytes ≡ Some bytes → LeavesRun (inputs limits.now.lines limits.now.line bytes) self.old out.old out.new result }
         ensures failed { IfFault result (HasFailed feed.new out.new) }
+        ensures told { Tells feed.old feed.new out.old out.new (fault_of result) }
     {
         let ended = self.rounds(alloc, limits, feed, out);
         if feed.failed() || out.failed() {
@@ -181,6 +182,7 @@ impl Session {
     ) -> Ended
         ensures output { (bytes : List ℕ) → feed.old.bytes ≡ Some bytes → LeavesRun (inputs limits.now.lines limits.now.line bytes) self.old out.old out.new result }
         ensures failed { IfFault result (HasFailed feed.new out.new) }
+        ensures told { Tells feed.old feed.new out.old out.new (fault_of result) }
     {
         let mut intake = match Intake::new(alloc) {
             Ok(intake) => intake,
@@ -207,6 +209,7 @@ impl Session {
     ) -> Result<Option<Ended>, Fault>
         ensures round { (bytes : List ℕ) → feed.old.bytes ≡ Some bytes → (mark : Bool) × LeavesRound mark (first limits.now.line bytes) self.old self.new feed.new out.old out.new result }
         ensures failed { MatchResult result (λ ending. IfSome ending (λ ended. IfFault ended (HasFailed feed.new out.new))) (HasFailed feed.new out.new) }
+        ensures told { Tells feed.old feed.new out.old out.new (fault_in result) }
     {
         put_prompt(out)?;
         let input = intake.read(alloc, limits, feed)?;

@@ -1,31 +1,48 @@
-use Rattle.std.proofs.Common.{◌≡◌, ◌-◌, ◌+◌, suc, arith, subst}
+use Rattle.std.proofs.Common.{◌≡◌, ◌-◌, ◌+◌, suc, Some, None, refl, arith, subst}
 use Rattle.cb_session.specs.declared.input.Ended.TheVariants.{Fault}
 use Rattle.cb_session.proofs.Rounds.{Rounds, Rounds-start, Rounds-next, Rounds-stop, Rounds-out}
+use Rattle.cb_session.proofs.Told.{Tells-none, Tells-after}
+use Rattle.cb_session.specs.Serving.{fault_of}
 use Rattle.cb_session.proofs.state.Session.rounds.Goals as goal
 
 pub rounds-init : goal.rounds-init
-rounds-init g c = λ bytes e.
-    let all : c.args.limits.now.lines ≡ c.args.limits.now.lines - 0 = omega arith in
-    subst (λ n. Rounds c.args.limits.now.lines c.args.limits.now.line bytes c.args.self.now c.args.out.now n c.args.self.now c.args.feed.now c.args.out.now) all
-    (Rounds-start c.args.limits.now.lines c.args.limits.now.line bytes c.args.self.now c.args.out.now c.args.feed.now e)
+rounds-init g c = record {
+  output = λ bytes e.
+      let all : c.args.limits.now.lines ≡ c.args.limits.now.lines - 0 = omega arith in
+      subst (λ n. Rounds c.args.limits.now.lines c.args.limits.now.line bytes c.args.self.now c.args.out.now n c.args.self.now c.args.feed.now c.args.out.now) all
+      (Rounds-start c.args.limits.now.lines c.args.limits.now.line bytes c.args.self.now c.args.out.now c.args.feed.now e);
+  told = (λ h. h, refl);
+}
 
 pub returns-in-Ok-Some-clause-output : goal.returns-in-Ok-Some-clause-output
 returns-in-Ok-Some-clause-output g c = λ bytes e.
     let one_more : c.args.limits.now.lines - c.rounds._round ≡ suc (c.args.limits.now.lines - (c.rounds._round + 1)) = omega arith in
-    Rounds-stop _ _ bytes _ _ _ _ c.rounds.self c.rounds.feed c.rounds.out c.round.new.out c.in-Ok-Some.ended one_more (c.rounds.invariant bytes e) (rw c.in-Ok-Some.field-0-is at c.in-Ok-Some.ensures.round)
+    Rounds-stop _ _ bytes _ _ _ _ c.rounds.self c.rounds.feed c.rounds.out c.round.new.out c.in-Ok-Some.ended one_more (c.rounds.invariant.output bytes e) (rw c.in-Ok-Some.field-0-is at c.in-Ok-Some.ensures.round)
 
 pub returns-in-Err-round-clause-output : goal.returns-in-Err-round-clause-output
 returns-in-Err-round-clause-output g c = λ bytes e.
     let one_more : c.args.limits.now.lines - c.rounds._round ≡ suc (c.args.limits.now.lines - (c.rounds._round + 1)) = omega arith in
-    Rounds-stop _ _ bytes _ _ _ _ c.rounds.self c.rounds.feed c.rounds.out c.round.new.out (Fault c.in-Err-round.fault) one_more (c.rounds.invariant bytes e) c.in-Err-round.ensures.round
+    Rounds-stop _ _ bytes _ _ _ _ c.rounds.self c.rounds.feed c.rounds.out c.round.new.out (Fault c.in-Err-round.fault) one_more (c.rounds.invariant.output bytes e) c.in-Err-round.ensures.round
 
 pub rounds-preserved : goal.rounds-preserved
-rounds-preserved g c = λ bytes e.
-    let one_more : c.args.limits.now.lines - c.rounds._round ≡ suc (c.args.limits.now.lines - (c.rounds._round + 1)) = omega arith in
-    Rounds-next _ _ bytes _ _ _ _ c.rounds.self c.round.new.self c.rounds.feed c.round.new.feed c.rounds.out c.round.new.out one_more (c.rounds.invariant bytes e) (rw c.in-Ok-None.field-0-is at c.in-Ok-None.ensures.round)
+rounds-preserved g c = record {
+  output = λ bytes e.
+      let one_more : c.args.limits.now.lines - c.rounds._round ≡ suc (c.args.limits.now.lines - (c.rounds._round + 1)) = omega arith in
+      Rounds-next _ _ bytes _ _ _ _ c.rounds.self c.round.new.self c.rounds.feed c.round.new.feed c.rounds.out c.round.new.out one_more (c.rounds.invariant.output bytes e) (rw c.in-Ok-None.field-0-is at c.in-Ok-None.ensures.round);
+  told = Tells-after c.args.feed.now c.rounds.feed c.round.new.feed c.args.out.now c.rounds.out c.round.new.out None c.rounds.invariant.told c.in-Ok-None.ensures.told;
+}
+
+pub returns-in-Ok-Some-clause-told : goal.returns-in-Ok-Some-clause-told
+returns-in-Ok-Some-clause-told g c =
+    Tells-none c.args.feed.now c.round.new.feed c.args.out.now c.round.new.out (fault_of c.in-Ok-Some.ended)
+    (Tells-after c.args.feed.now c.rounds.feed c.round.new.feed c.args.out.now c.rounds.out c.round.new.out None c.rounds.invariant.told c.in-Ok-Some.ensures.told)
+
+pub returns-in-Err-round-clause-told : goal.returns-in-Err-round-clause-told
+returns-in-Err-round-clause-told g c =
+    Tells-after c.args.feed.now c.rounds.feed c.round.new.feed c.args.out.now c.rounds.out c.round.new.out (Some c.in-Err-round.fault) c.rounds.invariant.told c.in-Err-round.ensures.told
 
 pub returns-clause-output : goal.returns-clause-output
 returns-clause-output g c = λ bytes e.
     let none : c.args.limits.now.lines - c.rounds._round ≡ 0 = omega arith in
     Rounds-out _ _ bytes _ _ c.rounds.self c.rounds.feed _
-    (subst (λ n. Rounds c.args.limits.now.lines c.args.limits.now.line bytes c.args.self.now c.args.out.now n c.rounds.self c.rounds.feed c.rounds.out) none (c.rounds.invariant bytes e))
+    (subst (λ n. Rounds c.args.limits.now.lines c.args.limits.now.line bytes c.args.self.now c.args.out.now n c.rounds.self c.rounds.feed c.rounds.out) none (c.rounds.invariant.output bytes e))

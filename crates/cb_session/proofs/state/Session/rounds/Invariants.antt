@@ -1,7 +1,11 @@
-use Rattle.std.proofs.Common.{◌≡◌, ◌-◌, List, ℕ, Some}
+use Rattle.std.proofs.Common.{◌≡◌, ◌-◌, List, ℕ, Some, None}
+use Rattle.cb_session.specs.Serving.{Tells}
 use Rattle.cb_session.proofs.Rounds.{Rounds}
 use Rattle.cb_session.proofs.state.Session.rounds.Given as goal
 
 abbrev pub invariant-rounds : goal.invariant-rounds
-invariant-rounds g l = (bytes : List ℕ) → l.fn.feed.bytes ≡ Some bytes
-    → Rounds l.limits.lines l.limits.line bytes l.fn.self l.fn.out (l.limits.lines - l._round) l.self l.feed l.out
+invariant-rounds g l = record {
+  output : (bytes : List ℕ) → l.fn.feed.bytes ≡ Some bytes
+      → Rounds l.limits.lines l.limits.line bytes l.fn.self l.fn.out (l.limits.lines - l._round) l.self l.feed l.out;
+  told : Tells l.fn.feed l.feed l.fn.out l.out None;
+}
