@@ -1,5 +1,6 @@
 //! Runs over memory. The expected bytes are written by hand from the rules of commands and replies.
 mod frames;
+mod memory;
 mod operands;
 mod tags;
 

@@ -12,7 +12,7 @@ use Rattle.cb_session.specs.declared.input.Fault.TheVariants.{Write, Memory}
 use Rattle.cb_session.specs.Devices.{Reader}
 use Rattle.cb_session.specs.Inputs.{inputs}
 use Rattle.cb_session.specs.Operands.{Loads, Stop}
-use Rattle.cb_session.specs.Serving.{HasFailed, IfFault, LeavesRun}
+use Rattle.cb_session.specs.Serving.{HasFailed, IfFault, LeavesRun, Tells, fault_of}
 use Rattle.cb_tags.specs.TagLines.{Tag}
 use Rattle.cb_tags.specs.Writers.{Writer}
 use Rattle.cb_tags.specs.Writing.{AppendsPrefix}
@@ -59,7 +59,7 @@ WritesText text old new _ = ⊥
 abbrev pub DoesJob : Job → (lines limit : ℕ) → Timeline → Reader → Reader → Writer → Writer → Ended → Type 0
 DoesJob (Line files) lines limit t feed feed' old new ended =
     ((bytes : List ℕ) → feed.bytes ≡ Some bytes → LeavesRun (inputs lines limit bytes) t old new ended)
-    × IfFault ended (HasFailed feed' new)
+    × IfFault ended (HasFailed feed' new) × Tells feed feed' old new (fault_of ended)
 DoesJob (Tags listing tagsfile format files) lines limit t feed feed' old new ended =
     (feed' ≡ feed) × WritesText (tags_output listing format t.present) old new ended
 
