@@ -1,5 +1,5 @@
 -- The lines of a text.
-use Rattle.std.specs.Prelude.{◌+◌, ◌-◌, ◌≤◌, ◌==◌, ℕ, List, [], length, take, map, count_by}
+use Rattle.std.specs.Prelude.{◌+◌, ◌≤◌, ◌==◌, ℕ, zero, suc, List, [], length, take, map, count_by}
 use Rattle.std.specs.List.{slice_index_or}
 use Rattle.bstr.specs.Text.{lines_of, without_terminator}
 
@@ -7,9 +7,10 @@ use Rattle.bstr.specs.Text.{lines_of, without_terminator}
 abbrev pub lines : List ℕ → List (List ℕ)
 lines text = map without_terminator (lines_of text)
 
--- the shown line n, counted from 1; no bytes past the last
+-- the shown line n, counted from 1; no bytes at 0 and past the last
 abbrev pub line_text : List ℕ → ℕ → List ℕ
-line_text text n = slice_index_or (lines text) (n - 1) []
+line_text text zero = []
+line_text text (suc n) = slice_index_or (lines text) n []
 
 -- the text has a line of that number, counted from 1
 abbrev pub IsLineOf : List ℕ → ℕ → Type 0
