@@ -22,7 +22,8 @@ use Rattle.cb_scan.specs.Definitions.{macro_def}
 use Rattle.cb_scan.specs.Macros.{Macro, after_arguments, line_end, macro_of, macros}
 use Rattle.cb_scan.specs.Scope.{macro_range, macro_ranges}
 use Rattle.cb_scan.specs.Tokens.{bytes_of, has_kind, is_any_word, is_mark, is_name_token, is_str, kind_is_define, kind_is_include}
-use Rattle.cb_scan.specs.Uses.{behind_own_word, call_of, calls_among, header_between, header_of, include_of, is_call, is_include, macro_calls, quote_ends, used}
+use Rattle.cb_scan.specs.Uses.{behind_own_word, call_of, calls_among, header_between, header_of, include_of, is_call, is_include, macro_calls, used}
+use Rattle.cb_scan.specs.steps.Quote.{is_closed}
 use Rattle.cb_scan.specs.steps.Cut.{pieces}
 use Rattle.cb_scan.specs.steps.Line.{code_out, include_out, is_code, line_start, macro_call, macro_call_out, macro_out, names_count, next_stage, no_range, nothing, range_finish, run, stage_after_own, use_out, walk}
 use Rattle.cb_scan.specs.steps.Lined.{lined}
@@ -558,7 +559,7 @@ module _ (text : List ℕ) where
 
   -- the header that a string is, and the one between angle brackets
   string_header : Token → List IncludeFact
-  string_header t = cond (quote_ends (bytes_of text (record { start = t.span.start + 1; end = t.span.end }))) (header_between (t.span.start + 1) (t.span.end - 1) t.line) []
+  string_header t = cond (is_closed (bytes_of text t.span)) (header_between (t.span.start + 1) (t.span.end - 1) t.line) []
 
   angle_header : Token → List Token → List IncludeFact
   angle_header t ts = cond (is_mark 60 t.role) (option_map_or (λ (g : Token). header_between t.span.end g.span.start t.line) (find (λ (u : Token). is_mark 62 u.role) ts) []) []

@@ -22,9 +22,10 @@ use Rattle.cb_scan.specs.Order.{call_key, def_key, goes_first, in_order, put}
 use Rattle.cb_scan.specs.Pieces.{LiesIn}
 use Rattle.cb_scan.specs.Scope.{function_range, function_ranges, holds, macro_range, macro_ranges, name_around, scope}
 use Rattle.cb_scan.specs.Tokens.{bytes_of, has_kind, is_mark, is_name_token, is_str, kind_is_include}
+use Rattle.cb_scan.specs.steps.Quote.{is_closed}
 use Rattle.cb_scan.specs.steps.Cut.{pieces}
 use Rattle.cb_scan.specs.Typedefs.{Nested, begins_with_star, last_name, name_after_stars, nested, nesting_after, part_name, parts, parts_here, pointer_name, taken, taken_at, typedef_at, typedef_names, typedef_stop, begins_typedef, ends_declaration, typedefs}
-use Rattle.cb_scan.specs.Uses.{call_at, call_of, calls_among, calls_of_function, header_between, header_of, include_of, includes, is_call, quote_ends, used, uses}
+use Rattle.cb_scan.specs.Uses.{call_at, call_of, calls_among, calls_of_function, header_between, header_of, include_of, includes, is_call, used, uses}
 use Rattle.cb_scan.proofs.Rising.{all-front, all-picked, all_implied, macro_picks, macro_names, names_flat, named_in_head, only_directives, used_picks}
 use Rattle.cb_scan.proofs.PieceLists.{pieces-lie}
 use Rattle.cb_scan.proofs.WithinLemmas.{DefWithin, TokenWithin, all-append, all-drop, all-joined, all-split, all-take, code-within, functions-lie, lines-within}
@@ -233,8 +234,8 @@ module _ (text : List ℕ) where
 
   header_within : (t : Token) (rest : List Token) → SpanWithin text t → AllByRecursion (SpanWithin text) rest → AllByRecursion (λ (i : Include). IsWithin text i.header) (header_of text t rest)
   header_within t rest w a =
-      elim (is_str t.role) as (λ b. AllByRecursion (λ (i : Include). IsWithin text i.header) (cond b (cond (quote_ends (bytes_of text (record { start = t.span.start + 1; end = t.span.end }))) (header_between (t.span.start + 1) (t.span.end - 1) t.line) []) (cond (is_mark 60 t.role) (option_map_or (λ (g : Token). header_between t.span.end g.span.start t.line) (find (λ (u : Token). is_mark 62 u.role) rest) []) []))) [
-        | true ↦ elim (quote_ends (bytes_of text (record { start = t.span.start + 1; end = t.span.end }))) as (λ b. AllByRecursion (λ (i : Include). IsWithin text i.header) (cond b (header_between (t.span.start + 1) (t.span.end - 1) t.line) [])) [
+      elim (is_str t.role) as (λ b. AllByRecursion (λ (i : Include). IsWithin text i.header) (cond b (cond (is_closed (bytes_of text t.span)) (header_between (t.span.start + 1) (t.span.end - 1) t.line) []) (cond (is_mark 60 t.role) (option_map_or (λ (g : Token). header_between t.span.end g.span.start t.line) (find (λ (u : Token). is_mark 62 u.role) rest) []) []))) [
+        | true ↦ elim (is_closed (bytes_of text t.span)) as (λ b. AllByRecursion (λ (i : Include). IsWithin text i.header) (cond b (header_between (t.span.start + 1) (t.span.end - 1) t.line) [])) [
           | true ↦ between_within (t.span.start + 1) (t.span.end - 1) t.line (omega (arith, w.1))
           | false ↦ tt
         ]

@@ -13,8 +13,9 @@ use Rattle.cb_scan.specs.Code.{code, directives, logical_lines}
 use Rattle.cb_scan.specs.Functions.{Function, functions}
 use Rattle.cb_scan.specs.Macros.{Macro, macros}
 use Rattle.cb_scan.specs.Scope.{function_range, function_ranges, holds, macro_range, macro_ranges, name_around}
-use Rattle.cb_scan.specs.Uses.{header_between, header_of, include_of, includes, quote_ends, used, uses}
+use Rattle.cb_scan.specs.Uses.{header_between, header_of, include_of, includes, used, uses}
 use Rattle.cb_scan.specs.Tokens.{bytes_of, has_kind, is_mark, is_str, kind_is_include}
+use Rattle.cb_scan.specs.steps.Quote.{is_closed}
 use Rattle.cb_scan.specs.steps.Scopes.{first_around, include_place, include_with, reached, scoped, token_place, use_of}
 use Rattle.cb_scan.proofs.Rising.{From, Rising, all-front, directive_tokens_rise, functions_rise, rising-split, macros_rise, used_rise}
 
@@ -140,11 +141,15 @@ from_zero : (ts : List Token) → AllByRecursion (From 0) ts
 from_zero [] = tt
 from_zero (t ∷ ts) = (omega arith, from_zero ts)
 
+-- the names used come in the order of their places
+pub names_in_order : (text : List ℕ) → Ordered token_place 0 (flat_map used (logical_lines text))
+names_in_order text = tokens_ordered 0 (flat_map used (logical_lines text)) (from_zero (flat_map used (logical_lines text))) (used_rise text)
+
 pub uses_scoped : (text : List ℕ) → scoped token_place use_of (function_ranges text) (macro_ranges text) (flat_map used (logical_lines text)) ≡ uses text
 unfolding uses
 uses_scoped text =
     scoped_all token_place use_of (function_ranges text) (macro_ranges text) (flat_map used (logical_lines text)) (functions_ascend text) (macros_ascend text)
-    (tokens_ordered 0 (flat_map used (logical_lines text)) (from_zero (flat_map used (logical_lines text))) (used_rise text))
+    (names_in_order text)
 
 -- ---- includes
 -- there is one header or none, and it begins in its token or directly behind it
@@ -154,8 +159,8 @@ one_between Q s e l none one =
 
 one_header : (text : List ℕ) (Q : List Include → Type 0) (t : Token) (rest : List Token) → t.span.start < t.span.end → Q [] → ((i : Include) → t.span.start ≤ i.header.start → i.header.start ≤ t.span.end → Q (i ∷ [])) → Q (header_of text t rest)
 one_header text Q t rest some none one =
-    elim (is_str t.role) as (λ b. Q (cond b (cond (quote_ends (bytes_of text (record { start = t.span.start + 1; end = t.span.end }))) (header_between (t.span.start + 1) (t.span.end - 1) t.line) []) (cond (is_mark 60 t.role) (option_map_or (λ (g : Token). header_between t.span.end g.span.start t.line) (find (λ (u : Token). is_mark 62 u.role) rest) []) []))) [
-      | true ↦ elim (quote_ends (bytes_of text (record { start = t.span.start + 1; end = t.span.end }))) as (λ b. Q (cond b (header_between (t.span.start + 1) (t.span.end - 1) t.line) [])) [
+    elim (is_str t.role) as (λ b. Q (cond b (cond (is_closed (bytes_of text t.span)) (header_between (t.span.start + 1) (t.span.end - 1) t.line) []) (cond (is_mark 60 t.role) (option_map_or (λ (g : Token). header_between t.span.end g.span.start t.line) (find (λ (u : Token). is_mark 62 u.role) rest) []) []))) [
+      | true ↦ elim (is_closed (bytes_of text t.span)) as (λ b. Q (cond b (header_between (t.span.start + 1) (t.span.end - 1) t.line) [])) [
         | true ↦ one_between Q (t.span.start + 1) (t.span.end - 1) t.line none (λ i is. one i (omega (arith, is)) (omega (arith, is)))
         | false ↦ none
       ]
@@ -192,8 +197,12 @@ includes_ordered text p (l ∷ ls) a r =
     (includes_ordered text p ls starts.1 parts.1)
     (λ t i among low high. (omega (arith, among (From p) starts.0), includes_ordered text i.header.start ls (from_less i.header.start t.span.end rest high (among (λ x. AllByRecursion (From x.span.end) rest) parts.2)) parts.1))
 
+-- headers come in the order of their places
+pub headers_in_order : (text : List ℕ) → Ordered include_place 0 (flat_map (include_of text) (directives text))
+headers_in_order text = includes_ordered text 0 (directives text) (from_zero (flat_map (λ l. l) (directives text))) (directive_tokens_rise text)
+
 pub includes_scoped : (text : List ℕ) → scoped include_place include_with (function_ranges text) (macro_ranges text) (flat_map (include_of text) (directives text)) ≡ includes text
 unfolding includes
 includes_scoped text =
     scoped_all include_place include_with (function_ranges text) (macro_ranges text) (flat_map (include_of text) (directives text)) (functions_ascend text) (macros_ascend text)
-    (includes_ordered text 0 (directives text) (from_zero (flat_map (λ l. l) (directives text))) (directive_tokens_rise text))
+    (headers_in_order text)

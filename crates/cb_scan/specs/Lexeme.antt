@@ -1,5 +1,5 @@
 -- What a lexeme of each class is: the first n bytes of what is left of a text.
-use Rattle.std.specs.Prelude.{◌≡◌, ◌≢◌, ◌⊎◌, ◌+◌, ◌-◌, ◌≤◌, ℕ, suc, Bool, true, false, ◌==◌, ◌||◌, ◌&&◌, nat_le, List, [], ◌∷◌, length, take, drop, codes, Option, Some, None}
+use Rattle.std.specs.Prelude.{◌≡◌, ◌≢◌, ◌⊎◌, ◌+◌, ◌-◌, ◌≤◌, ℕ, suc, Bool, true, false, ◌==◌, ◌||◌, ◌&&◌, nat_le, List, [], ◌∷◌, ◌++◌, length, take, drop, codes, Option, Some, None}
 use Rattle.std.specs.List.{list_all}
 use Rattle.memchr.specs.Find.{FindsNeedle}
 use Rattle.cb_scan.specs.declared.piece.Class.{Class}
@@ -76,6 +76,10 @@ pub data Quoted (q : ℕ) : List ℕ → ℕ → Type 0 where
 -- a literal: the quote q, and what follows it
 abbrev pub IsLiteral : ℕ → List ℕ → ℕ → Type 0
 IsLiteral q rest n = (take 1 rest ≡ q ∷ []) × (1 ≤ n) × Quoted q (drop 1 rest) (n - 1)
+
+-- a closed literal with the quote q: these bytes are a literal, whatever follows them
+abbrev pub IsClosedLiteral : ℕ → List ℕ → Type 0
+IsClosedLiteral q bytes = (more : List ℕ) → IsLiteral q (bytes ++ more) (length bytes)
 
 -- a line note: `//`, and what follows it
 abbrev pub IsLineNote : List ℕ → ℕ → Type 0

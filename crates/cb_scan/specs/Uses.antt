@@ -12,6 +12,7 @@ use Rattle.cb_scan.specs.Depth.{token_at}
 use Rattle.cb_scan.specs.Functions.{Function, functions}
 use Rattle.cb_scan.specs.Macros.{Macro}
 use Rattle.cb_scan.specs.Scope.{scope}
+use Rattle.cb_scan.specs.steps.Quote.{is_closed}
 use Rattle.cb_scan.specs.Tokens.{bytes_of, has_kind, is_any_word, is_mark, is_name_token, is_str, kind_is_include}
 
 -- ---- uses
@@ -74,27 +75,15 @@ macro_calls ms = flat_map (λ (m : Macro). calls_among m.name.span m.body) ms
 
 -- ---- includes
 
--- the bytes of a string behind its first quote have a quote that no item takes (ISO C 2011, 6.4.5): the items are `\` CR LF,
--- else `\` and any byte, else any byte but a quote, `\` and LF
-unfoldable pub quote_ends : List ℕ → Bool
-quote_ends [] = false
-quote_ends (b ∷ []) = b == 34
-quote_ends (b ∷ c ∷ []) = if b == 34 then true else (if b == 10 || b == 92 then false else c == 34)
-quote_ends (b ∷ c ∷ d ∷ rest) =
-    if b == 34 then true
-    else (if b == 10 then false
-    else (if b == 92 then (if c == 13 && d == 10 then quote_ends rest else quote_ends (d ∷ rest))
-    else quote_ends (c ∷ d ∷ rest)))
-
 -- the header between two places, if it is not empty
 abbrev pub header_between : ℕ → ℕ → ℕ → List Include
 header_between start end line = if nat_lt start end then record { header = record { start = start; end = end }; line = line; scope = None } ∷ [] else []
 
--- the header that the third token of an include begins: a closed string, or what stands between `<` and the first `>` (ISO C
+-- the header that the third token of an include begins: a closed string (`IsClosedLiteral`), or what stands between `<` and the first `>` (ISO C
 -- 2011, 6.4.7 and 6.10.2). Its first byte stands on the token's line.
 abbrev pub header_of : List ℕ → Token → List Token → List Include
 header_of text t rest =
-    if is_str t.role then (if quote_ends (bytes_of text (record { start = t.span.start + 1; end = t.span.end })) then header_between (t.span.start + 1) (t.span.end - 1) t.line else [])
+    if is_str t.role then (if is_closed (bytes_of text t.span) then header_between (t.span.start + 1) (t.span.end - 1) t.line else [])
     else (if is_mark 60 t.role then option_map_or (λ (g : Token). header_between t.span.end g.span.start t.line) (find (λ (u : Token). is_mark 62 u.role) rest) [] else [])
 
 -- the include that a directive is, if it is one; its scope is still to be found
