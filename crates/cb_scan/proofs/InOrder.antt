@@ -7,13 +7,14 @@ use Rattle.std.specs.List.{AllByRecursion, flat_map}
 use Rattle.std.specs.Ordering.{is_gt, nat_cmp, ordering_then}
 use Rattle.std.specs.declared.cmp.Ordering.{Ordering}
 use Rattle.std.specs.declared.cmp.Ordering.TheVariants.{Less, Equal, Greater}
+use Rattle.cb_scan.specs.steps.Cut.{pieces}
 use Rattle.cb_scan.specs.declared.facts.Call.{Call}
 use Rattle.cb_scan.specs.declared.facts.Def.{Def}
 use Rattle.cb_scan.specs.declared.facts.Include.{Include}
 use Rattle.cb_scan.specs.declared.facts.Use.{Use}
 use Rattle.cb_scan.specs.declared.token.Token.{Token}
 use Rattle.cb_scan.specs.Code.{directives, logical_lines}
-use Rattle.cb_scan.specs.Definitions.{calls, definitions, facts_of, function_def, macro_def, typedef_def}
+use Rattle.cb_scan.specs.Definitions.{calls, definitions_from, facts_of, function_def, macro_def, typedef_def}
 use Rattle.cb_scan.specs.Order.{AreInOrder, AreOrdered, IsDefBefore, call_key, def_key, goes_first, in_order, kind_rank}
 use Rattle.cb_scan.specs.Scope.{scope}
 use Rattle.cb_scan.specs.Uses.{include_of, includes, used, uses}
@@ -70,10 +71,10 @@ module _ {A B : Type 0} (place : A → ℕ) (give : A → B) (place_of : B → �
 
 -- the facts of a text are in order
 pub facts_in_order : (text : List ℕ) → AreInOrder (facts_of text)
-unfolding definitions calls uses includes
+unfolding definitions_from calls uses includes
 facts_in_order text = record {
   defs = sorted_ordered def_key IsDefBefore def_before _ (in_order_sorted def_key _);
-  uses = places_ordered token_place (λ (t : Token). record { name = t.span; line = t.line; scope = scope text t.span.start }) (λ u. u.name.start) (λ t. refl) 0 _ (names_in_order text);
+  uses = places_ordered token_place (λ (t : Token). record { name = t.span; line = t.line; scope = scope text (pieces text) t.span.start }) (λ u. u.name.start) (λ t. refl) 0 _ (names_in_order text);
   calls = sorted_ordered call_key (λ c d. c.callee.start ≤ d.callee.start) call_before _ (in_order_sorted call_key _);
-  includes = places_ordered include_place (λ (i : Include). record i { scope = scope text i.header.start }) (λ i. i.header.start) (λ i. refl) 0 _ (headers_in_order text);
+  includes = places_ordered include_place (λ (i : Include). record i { scope = scope text (pieces text) i.header.start }) (λ i. i.header.start) (λ i. refl) 0 _ (headers_in_order text);
 }

@@ -10,6 +10,7 @@ use Rattle.cb_scan.specs.PieceExamples.{cutting}
 use Rattle.cb_scan.specs.Reserved.{is_reserved, reserved_words}
 use Rattle.cb_scan.specs.Tokens.{word_of}
 use Rattle.cb_scan.specs.Typedefs.{typedefs}
+use Rattle.cb_scan.specs.steps.Cut.{pieces}
 use Rattle.cb_scan.specs.steps.Machine.{next}
 use Rattle.cb_scan.specs.steps.Typedefs.{after}
 use Rattle.cb_scan.proofs.TypedefLemmas.{typedefs_from_start}
@@ -130,6 +131,9 @@ unfolding next after
 stray_closing_names = sym (typedefs_from_start stray_closing) ∙ refl
 
 -- the same of a text: where the three names begin
-pub three_of_text : map (λ (t : Token). t.span.start) (typedefs (code (codes "typedef int (**fn)(word), *p, q[3];"))) ≡ 15 ∷ 27 ∷ 30 ∷ []
+abbrev text : List ℕ
+text = codes "typedef int (**fn)(word), *p, q[3];"
+
+pub three_of_text : map (λ (t : Token). t.span.start) (typedefs (code text (pieces text))) ≡ 15 ∷ 27 ∷ 30 ∷ []
 unfolding next after cutting word_of is_reserved reserved_words
-three_of_text = ap (map (λ (t : Token). t.span.start)) (sym (typedefs_from_start (code (codes "typedef int (**fn)(word), *p, q[3];")))) ∙ refl
+three_of_text = ap (map (λ (t : Token). t.span.start)) (sym (typedefs_from_start (code text (pieces text)))) ∙ refl

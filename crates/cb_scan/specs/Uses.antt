@@ -2,6 +2,7 @@
 use Rattle.std.specs.Prelude.{ℕ, suc, ◌+◌, ◌-◌, Bool, true, false, ◌&&◌, ◌||◌, ◌==◌, nat_lt, List, [], ◌∷◌, None, if◌then◌else◌, filter, map, find}
 use Rattle.std.specs.List.{flat_map, range_with_len}
 use Rattle.std.specs.Option.{option_map_or}
+use Rattle.cb_scan.specs.declared.piece.Piece.{Piece}
 use Rattle.cb_scan.specs.declared.piece.Span.{Span}
 use Rattle.cb_scan.specs.declared.facts.Use.{Use}
 use Rattle.cb_scan.specs.declared.facts.Call.{Call}
@@ -38,8 +39,9 @@ abbrev pub used : List Token → List Token
 used line = filter (λ (t : Token). is_name_token t.role) (usable line)
 
 -- the uses of a text, by place
-unfoldable pub uses : List ℕ → List Use
-uses text = map (λ (t : Token). record { name = t.span; line = t.line; scope = scope text t.span.start }) (flat_map used (logical_lines text))
+unfoldable pub uses : List ℕ → List Piece → List Use
+uses text ps =
+    map (λ (t : Token). record { name = t.span; line = t.line; scope = scope text ps t.span.start }) (flat_map used (logical_lines text ps))
 
 -- ---- calls
 
@@ -94,6 +96,6 @@ include_of text (hash ∷ own ∷ []) = []
 include_of text (hash ∷ own ∷ t ∷ rest) = if has_kind kind_is_include own.role then header_of text t rest else []
 
 -- the includes of a text, by place
-unfoldable pub includes : List ℕ → List Include
-includes text =
-    map (λ (i : Include). record i { scope = scope text i.header.start }) (flat_map (include_of text) (directives text))
+unfoldable pub includes : List ℕ → List Piece → List Include
+includes text ps =
+    map (λ (i : Include). record i { scope = scope text ps i.header.start }) (flat_map (include_of text) (directives text ps))

@@ -3,7 +3,7 @@ ghost use Rattle.std.specs.Prelude.{◌≡◌, ◌<◌, ◌≤◌, ◌↔◌, �
 ghost use Rattle.std.specs.List.{AllByRecursion};
 ghost use Rattle.cb_scan.specs.declared.piece.Piece.{Piece};
 ghost use Rattle.cb_scan.specs.Pieces.{IsPieces, Adjoin, LiesIn};
-ghost use Rattle.cb_scan.specs.Definitions.{facts_of};
+ghost use Rattle.cb_scan.specs.Definitions.{facts_from, facts_of};
 ghost use Rattle.cb_scan.specs.Lexeme.{IsClosedLiteral};
 ghost use Rattle.cb_scan.specs.Order.{AreInOrder};
 ghost use Rattle.cb_scan.specs.steps.Cut.{pieces};
@@ -23,6 +23,11 @@ pub fn pieces_only()
 pub fn pieces_in_order()
     ensures within { (text : List ℕ) → AllByRecursion (LiesIn text) (pieces text) }
     ensures order { (text : List ℕ) → Adjoin 0 (length text) (pieces text) }
+{}
+
+/// The facts of a text follow from any list of its pieces, however it was found.
+pub fn facts_are()
+    ensures { (text : List ℕ) (ps : List Piece) → IsPieces text ps → facts_of text ≡ facts_from text ps }
 {}
 
 /// A string is found closed exactly if it is a literal whatever follows it.
