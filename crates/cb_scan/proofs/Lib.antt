@@ -18,7 +18,6 @@ pub mod OrderLemmas
 pub mod PieceLists
 pub mod Rising
 pub mod ScopeLemmas
-pub mod TypedefExamples
 pub mod TypedefLemmas
 pub mod WithinLemmas
 pub mod WordLemmas

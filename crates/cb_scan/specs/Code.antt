@@ -6,6 +6,7 @@ use Rattle.cb_scan.specs.declared.piece.Class.{Class}
 use Rattle.cb_scan.specs.declared.piece.Class.TheVariants.{Newline}
 use Rattle.cb_scan.specs.declared.token.Token.{Token}
 use Rattle.cb_scan.specs.Tokens.{tokens, is_mark}
+use Rattle.cb_scan.specs.Bytes.{hash}
 
 -- a line feed outside every other piece
 abbrev pub is_newline : Class → Bool
@@ -23,7 +24,7 @@ line_ends text ps = map (λ (p : Piece). p.span.start) (filter (λ p. is_newline
 -- a line whose first token is # (ISO C 2011, 6.10)
 abbrev pub is_directive : List Token → Bool
 is_directive [] = false
-is_directive (t ∷ ts) = is_mark 35 t.role
+is_directive (t ∷ ts) = is_mark hash t.role
 
 -- the directives of a text
 abbrev pub directives : List ℕ → List Piece → List (List Token)

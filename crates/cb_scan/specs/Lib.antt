@@ -1,3 +1,4 @@
+pub mod Bytes
 pub mod CallExamples
 pub mod Code
 pub mod Definitions

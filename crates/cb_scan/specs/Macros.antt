@@ -5,6 +5,7 @@ use Rattle.cb_scan.specs.declared.piece.Piece.{Piece}
 use Rattle.cb_scan.specs.declared.token.Token.{Token}
 use Rattle.cb_scan.specs.Tokens.{has_kind, kind_is_define, is_mark, is_name_token}
 use Rattle.cb_scan.specs.Code.{directives}
+use Rattle.cb_scan.specs.Bytes.{close_paren, open_paren}
 
 -- a macro: the token of its name, and the tokens of its body
 pub record Macro : Type 0 where
@@ -14,12 +15,12 @@ pub record Macro : Type 0 where
 -- the tokens after the first `)`
 unfoldable pub after_arguments : List Token → List Token
 after_arguments [] = []
-after_arguments (t ∷ ts) = if is_mark 41 t.role then ts else after_arguments ts
+after_arguments (t ∷ ts) = if is_mark close_paren t.role then ts else after_arguments ts
 
 -- the third token of `# define` names a macro with arguments: the fourth is a `(` that begins where the name ends
 abbrev pub defines_macro : Token → Token → Token → Bool
 defines_macro own name paren =
-    has_kind kind_is_define own.role && is_name_token name.role && is_mark 40 paren.role && paren.span.start == name.span.end
+    has_kind kind_is_define own.role && is_name_token name.role && is_mark open_paren paren.role && paren.span.start == name.span.end
 
 -- the macro that a directive defines, if it defines one
 abbrev pub macro_of : List Token → List Macro

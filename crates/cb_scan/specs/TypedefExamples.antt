@@ -29,6 +29,16 @@ pub pointer_to_function : names (codes "typedef int (**f)(a, b);") ≡ codes "f"
 unfolding naming
 pointer_to_function = refl
 
+-- the first name that directly follows such a `*`; a comma in parentheses parts nothing
+pub inner_pointer : names (codes "typedef int (*(*f)(void))(int, a), q;") ≡ codes "f" ∷ codes "q" ∷ []
+unfolding naming
+inner_pointer = refl
+
+-- no name directly follows this `*`
+pub const_pointer : names (codes "typedef int (*const p)(void);") ≡ []
+unfolding naming
+const_pointer = refl
+
 -- parameters stand in parentheses
 pub function_type : names (codes "typedef int f(int a, int b);") ≡ codes "f" ∷ []
 unfolding naming
@@ -44,7 +54,12 @@ pub not_ended : names (codes "typedef int a") ≡ []
 unfolding naming
 not_ended = refl
 
--- another begins before a `;` ends it
+-- a `typedef` that does not follow a stop is part of the one before it
+pub one_typedef : names (codes "typedef struct { int x; } A typedef int B;") ≡ codes "B" ∷ []
+unfolding naming
+one_typedef = refl
+
+-- another begins after a stop, before a `;` ends this one
 pub another_begins : names (codes "typedef s { } typedef a b;") ≡ codes "b" ∷ []
 unfolding naming
 another_begins = refl
@@ -53,3 +68,13 @@ another_begins = refl
 pub not_first : names (codes "int typedef a;") ≡ []
 unfolding naming
 not_first = refl
+
+-- nothing is open at the comma
+pub stray_closing : names (codes "typedef int ), A;") ≡ codes "A" ∷ []
+unfolding naming
+stray_closing = refl
+
+-- a typedef at depth 1 takes what follows at depth 0
+pub begun_deep : names (codes "f() { extern \"C\" { typedef int A; } B;") ≡ codes "B" ∷ []
+unfolding naming
+begun_deep = refl

@@ -15,6 +15,7 @@ use Rattle.cb_scan.specs.Macros.{Macro}
 use Rattle.cb_scan.specs.Scope.{scope}
 use Rattle.cb_scan.specs.steps.Quote.{is_closed}
 use Rattle.cb_scan.specs.Tokens.{bytes_of, has_kind, is_any_word, is_mark, is_name_token, is_str, kind_is_include}
+use Rattle.cb_scan.specs.Bytes.{greater, less, open_paren}
 
 -- ---- uses
 
@@ -47,7 +48,7 @@ uses text ps =
 
 -- a name directly followed by `(` is a call
 abbrev pub is_call : Token → Token → Bool
-is_call t next = is_name_token t.role && is_mark 40 next.role
+is_call t next = is_name_token t.role && is_mark open_paren next.role
 
 -- the call of a name
 abbrev pub call_of : Span → Token → Call
@@ -86,7 +87,7 @@ header_between start end line = if nat_lt start end then record { header = recor
 abbrev pub header_of : List ℕ → Token → List Token → List Include
 header_of text t rest =
     if is_str t.role then (if is_closed (bytes_of text t.span) then header_between (t.span.start + 1) (t.span.end - 1) t.line else [])
-    else (if is_mark 60 t.role then option_map_or (λ (g : Token). header_between t.span.end g.span.start t.line) (find (λ (u : Token). is_mark 62 u.role) rest) [] else [])
+    else (if is_mark less t.role then option_map_or (λ (g : Token). header_between t.span.end g.span.start t.line) (find (λ (u : Token). is_mark greater u.role) rest) [] else [])
 
 -- the include that a directive is, if it is one; its scope is still to be found
 abbrev pub include_of : List ℕ → List Token → List Include

@@ -19,6 +19,7 @@ use Rattle.cb_scan.specs.declared.token.Token.{Token}
 use Rattle.cb_scan.specs.Code.{is_newline}
 use Rattle.cb_scan.specs.Tokens.{has_kind, is_mark, is_name_token, is_significant, is_str, kind_is_define, kind_is_include, role_of, starts_line}
 use Rattle.cb_scan.specs.Uses.{call_of, header_between, header_of, is_call}
+use Rattle.cb_scan.specs.Bytes.{close_paren, greater, hash, less, open_paren}
 
 -- the token of a piece whose line is known
 abbrev pub lined_token : List ℕ → Lined → Token
@@ -28,15 +29,15 @@ lined_token text l = record { role = role_of text l.piece; span = l.piece.span; 
 abbrev pub next_defining : Defining → Token → Defining
 next_defining defining.Begun t = if is_name_token t.role then defining.Name t else defining.Other
 next_defining (defining.Name name) t =
-    if is_mark 40 t.role && t.span.start == name.span.end then defining.Arguments name.span else defining.Other
-next_defining (defining.Arguments name) t = if is_mark 41 t.role then defining.Body name None else defining.Arguments name
+    if is_mark open_paren t.role && t.span.start == name.span.end then defining.Arguments name.span else defining.Other
+next_defining (defining.Arguments name) t = if is_mark close_paren t.role then defining.Body name None else defining.Arguments name
 next_defining (defining.Body name last) t = defining.Body name (Some t)
 next_defining defining.Other t = defining.Other
 
 -- how far a `# include` has come, after a token
 abbrev pub next_including : Including → Token → Including
-next_including including.Begun t = if is_mark 60 t.role then including.Angle t else including.Done
-next_including (including.Angle open_) t = if is_mark 62 t.role then including.Done else including.Angle open_
+next_including including.Begun t = if is_mark less t.role then including.Angle t else including.Done
+next_including (including.Angle open_) t = if is_mark greater t.role then including.Done else including.Angle open_
 next_including including.Done t = including.Done
 
 -- after the second token of a directive
@@ -54,7 +55,7 @@ next_directive directive.Other t = directive.Other
 
 -- how far a line has come, after a token
 abbrev pub next_stage : Stage → Token → Stage
-next_stage Start t = if is_mark 35 t.role then InDirective directive.Hash else Code
+next_stage Start t = if is_mark hash t.role then InDirective directive.Hash else Code
 next_stage Code t = Code
 next_stage (InDirective d) t = InDirective (next_directive d t)
 
@@ -102,7 +103,7 @@ use_out s t = if is_name_token t.role && names_count s then t ∷ [] else []
 -- the macro of that name, if the token opens its arguments
 abbrev pub macro_opened : Defining → Token → Option Def
 macro_opened (defining.Name name) t =
-    if is_mark 40 t.role && t.span.start == name.span.end
+    if is_mark open_paren t.role && t.span.start == name.span.end
     then Some (record { name = name.span; kind = kind.Macro; line = name.line; local = false }) else None
 macro_opened _ t = None
 
@@ -145,7 +146,7 @@ macro_call_out s t = option_to_list (macro_call s t)
 -- the include whose header a string is, or a `>` ends
 abbrev pub header_found : List ℕ → Including → Token → List Include
 header_found text including.Begun t = if is_str t.role then header_of text t [] else []
-header_found text (including.Angle a) t = if is_mark 62 t.role then header_between a.span.end t.span.start a.line else []
+header_found text (including.Angle a) t = if is_mark greater t.role then header_between a.span.end t.span.start a.line else []
 header_found text including.Done t = []
 
 abbrev pub include_out : List ℕ → Stage → Token → List Include
