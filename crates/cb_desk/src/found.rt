@@ -18,7 +18,7 @@ pub(super) fn defined_name<'a>(source: &'a Source, def: &Def) -> &'a [u8]
 pub(super) fn shown_line(source: &Source, line: u32) -> &[u8]
     ensures { result.now ≡ line_text source.now line }
 {
-    match source.line(line.max(1)) {
+    match source.line(line) {
         Some(text) => text,
         None => b"",
     }
