@@ -1,9 +1,9 @@
 pub mod Answer
-pub mod Collects
 pub mod Laws
 pub mod Meant
 pub mod Refusals
 pub mod Step
+pub mod StepExamples
 pub mod Tags
 pub mod Timeline
 pub mod World

@@ -1,1 +1,2 @@
+pub mod Collects
 pub mod Worlds

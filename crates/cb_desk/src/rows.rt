@@ -4,7 +4,7 @@ ghost use Rattle.std.specs.List.{list_any, prefix_len};
 ghost use Rattle.cb_scan.specs.Definitions.{IsWithin};
 ghost use Rattle.cb_desk.specs.World.{File};
 ghost use Rattle.cb_desk.specs.Answer.{AnswerRow, row_eq, distinct, unindented, line_row, definition_row, definition_rows};
-ghost use Rattle.cb_desk.specs.Collects.{Collects};
+ghost use Rattle.cb_desk.specs.steps.Collects.{Collects};
 ghost use Rattle.cb_desk.specs.Meant.{row_of, file_of};
 
 use super::found::{defined_name, shown_line};

@@ -1,3 +1,4 @@
+mod calls;
 mod moves;
 
 use super::*;
