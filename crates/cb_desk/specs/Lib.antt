@@ -1,7 +1,9 @@
 pub mod Answer
+pub mod Files
 pub mod Laws
-pub mod Meant
+pub mod Models
 pub mod Refusals
+pub mod Stack
 pub mod Step
 pub mod StepExamples
 pub mod Tags

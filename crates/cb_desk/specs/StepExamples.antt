@@ -1,4 +1,4 @@
--- What changes do to small worlds, computed. The expected worlds and refusals are worked out by hand.
+-- What changes do to small worlds, computed. Expected worlds and refusals are worked out by hand.
 use Rattle.std.specs.Prelude.{◌≡◌, ℕ, List, [], ◌∷◌, Ok, Err, codes, refl}
 use Rattle.cb_scan.specs.Definitions.{definitions}
 use Rattle.cb_scan.specs.FunctionExamples.{finding}

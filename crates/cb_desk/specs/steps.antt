@@ -1,2 +1,3 @@
 pub mod Collects
+pub mod Scans
 pub mod Worlds

@@ -1,4 +1,5 @@
-//! Each public call once, with all the memory that it asks for. Expected rows and frames are worked out by hand.
+//! Each public call once, with all the memory that it asks for. Expected rows and frames are worked
+//! out by hand.
 use super::load_text;
 use crate::{Change, Desk, Field, Format, RefRow, Refusal};
 use cb_scan::Kind;
@@ -43,10 +44,9 @@ fn finds(desk: &Desk, alloc: Global, pattern: &[u8], rows: &[RefRow<'_>]) -> Res
         return Ok(false);
     }
     let list = desk.rows(alloc, Field::Definition, pattern)?;
-    let shown = list.rows();
-    let mut same = shown.len() == rows.len();
-    for (found, row) in shown.iter().zip(rows) {
-        if !is_row(found, row) {
+    let mut same = list.len() == rows.len() && list.rows().len() == rows.len();
+    for (found, row) in list.iter().zip(rows) {
+        if !is_row(&found, row) {
             same = false;
         }
     }
@@ -65,6 +65,14 @@ fn the_rows_of_a_definition_have_file_name_line_and_text(rt: HostRuntime) -> Res
     assert!(rt; finds(&desk, alloc, b"f", &rows) == Ok(true));
     assert!(rt; finds(&desk, alloc, b"none", &[]) == Ok(true));
     Ok(())
+}
+
+#[test]
+fn the_digit_1_asks_for_definitions(rt: HostRuntime) {
+    assert!(rt; Field::of_digit(b'1') == Some(Field::Definition));
+    assert!(rt; Field::of_digit(b'0') == None);
+    assert!(rt; Field::of_digit(b'6') == None);
+    assert!(rt; Field::of_digit(1) == None);
 }
 
 #[test]
@@ -129,7 +137,12 @@ fn the_tags_of_a_world_are_whole_rows(rt: HostRuntime) -> Result<(), Refusal> {
     let plain = desk.tag_rows(alloc, Format::Plain)?;
     assert!(rt; plain.rows() == [static_f, macro_f, f, other].as_slice());
     let extended = desk.tag_rows(alloc, Format::Extended)?;
-    assert!(rt; extended.rows() == [static_f, macro_f, f, other].as_slice());
+    assert_eq!(rt; extended.len(), 4);
+    let mut shown = extended.iter();
+    for row in [static_f, macro_f, f, other] {
+        assert!(rt; shown.next() == Some(row));
+    }
+    assert!(rt; shown.next() == None);
     Ok(())
 }
 
