@@ -1,4 +1,6 @@
 //! Tests of the bytes that are written, and of what is read back, on rows worked out by hand.
+mod long;
+
 use crate::address::read_address;
 use crate::name::is_file_name;
 use crate::row::{TagRow, put_extended, put_heads, put_listing, put_plain};
@@ -203,7 +205,7 @@ impl Write for Short {
 
 /// Whether the writing of a row to a writer with room for so many bytes leaves those of the row's bytes that it has room
 /// for, and a fault exactly where that is not all of them.
-fn leaves_a_front(
+fn leaves_a_prefix(
     alloc: Global,
     form: Form,
     row: &TagRow<'_>,
@@ -217,20 +219,20 @@ fn leaves_a_front(
     let goes_on = sink.write(b"x").is_ok();
     let flushes = sink.flush().is_ok();
     let stays = !is_fault || (!goes_on && !flushes && sink.failed());
-    let front = room.min(whole.len());
+    let prefix = room.min(whole.len());
     Ok(
         is_same
             && stays
             && writer
                 .taken
                 .as_slice()
-                .starts_with(&whole.as_slice()[..front])
-            && (!is_fault || writer.taken.len() == front),
+                .starts_with(&whole.as_slice()[..prefix])
+            && (!is_fault || writer.taken.len() == prefix),
     )
 }
 
 #[test]
-fn a_writer_that_ends_at_any_byte_has_taken_a_front(rt: HostRuntime) -> Result<(), Fail> {
+fn a_writer_that_ends_at_any_byte_has_taken_a_prefix(rt: HostRuntime) -> Result<(), Fail> {
     for ending in [Ending::Fails, Ending::IsInterrupted, Ending::TakesNothing] {
         for form in FORMS {
             for row in [MAIN, ADD, ESCAPED] {
@@ -243,7 +245,7 @@ fn a_writer_that_ends_at_any_byte_has_taken_a_front(rt: HostRuntime) -> Result<(
                         ending,
                     };
                     assert!(rt;
-                        leaves_a_front(rt.alloc(), form, &row, &mut writer)?,
+                        leaves_a_prefix(rt.alloc(), form, &row, &mut writer)?,
                         "{form:?} {ending:?} {room}"
                     );
                 }
