@@ -3,7 +3,7 @@ use Rattle.std.proofs.Common.{◌≡◌, ◌≢◌, ◌⊎◌, ◌+◌, ◌<◌,
 use Rattle.std.proofs.lemmas.Bool.{cases_Bool, cases_eq, both_ways, cond-true, cond-false, cond_both, eqb-true, eq-eqb, and_from, and_parts, false_from_ne_true}
 use Rattle.memchr.specs.Find.{OccursAt, occurs_at, IsFirst, FindsNeedle}
 use Rattle.memchr.proofs.lemmas.MatchLemmas.{OccursAt-true, occurs_at-true}
-use Rattle.cb_scan.specs.Lexeme.{note_end}
+use Rattle.cb_scan.specs.lex.Lexeme.{note_end}
 use Rattle.cb_scan.specs.steps.Cut.{block_len}
 
 -- `*/` stands in xs from place k on

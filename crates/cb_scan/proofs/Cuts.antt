@@ -2,10 +2,10 @@
 use Rattle.std.proofs.Common.{◌≡◌, ◌⊎◌, ◌-◌, ◌<◌, ◌≤◌, ℕ, zero, suc, Bool, true, false, ◌==◌, ◌&&◌, ◌||◌, List, [], ◌∷◌, length, length-drop, take, drop, refl, sym, ap, subst, ◌∙◌, arith, inl, inr, ⊎_elim}
 use Rattle.std.proofs.lemmas.Bool.{eqb-true, and_from, and_parts, or_cases, or_left, or_right, true≢false}
 use Rattle.std.specs.List.{list_all, prefix_len}
-use Rattle.cb_scan.specs.declared.lexeme.Escape.TheVariants.{Plain}
-use Rattle.cb_scan.specs.declared.piece.Class.{Class}
-use Rattle.cb_scan.specs.declared.piece.Class.TheVariants.{Name, Number, Str, Chr, LineNote, BlockNote, Blank, Newline, Byte}
-use Rattle.cb_scan.specs.Lexeme.{is_letter, is_digit, is_word, is_blank, is_identifier, is_number, first_is, goes_on, all_go_on, note_end, Blanks, no_blank, a_blank, a_join, a_cr_join, Noted, Quoted, Spells, IsLexeme}
+use Rattle.cb_scan.specs.declared.lex.lexeme.Escape.TheVariants.{Plain}
+use Rattle.cb_scan.specs.declared.lex.piece.Class.{Class}
+use Rattle.cb_scan.specs.declared.lex.piece.Class.TheVariants.{Name, Number, Str, Chr, LineNote, BlockNote, Blank, Newline, Byte}
+use Rattle.cb_scan.specs.lex.Lexeme.{is_letter, is_digit, is_word, is_blank, is_identifier, is_number, first_is, goes_on, all_go_on, note_end, Blanks, no_blank, a_blank, a_join, a_cr_join, Noted, Quoted, Spells, IsLexeme}
 use Rattle.cb_scan.specs.steps.Cut.{begins, ends_join, class_at, number_len, goes_on_blank, blank_len, note_len, literal_len, block_len, length_in, piece_len}
 use Rattle.cb_scan.proofs.Blocks.{block_len-within, block_len-found, finds_close}
 use Rattle.cb_scan.proofs.Fronts.{Front, front, at_name, at_number, at_str, at_chr, at_line_note, at_block_note, at_blank, at_newline, at_byte, class-letter, class-number, class-quote, class-apostrophe, class-line_note, class-block_note, class-blank, class-join, class-cr_join, class-feed}

@@ -5,15 +5,15 @@ use Rattle.std.proofs.lemmas.List.{append-nil}
 use Rattle.std.specs.Prelude.{◌||◌, ◌&&◌, ◌==◌, if◌then◌else◌, cond}
 use Rattle.std.specs.List.{flat_map, slice_split, onto_first}
 use Rattle.std.specs.Option.{option_to_list, option_map_or}
-use Rattle.cb_scan.specs.declared.token.Token.{Token}
-use Rattle.cb_scan.specs.declared.token.Role.{Role}
-use Rattle.cb_scan.specs.declared.token.Role.TheVariants.{Word, Mark, Str, Other}
-use Rattle.cb_scan.specs.declared.token.WordKind.TheVariants.{Name, Define, Include, Typedef, Extern, Static, Reserved}
-use Rattle.cb_scan.specs.declared.typedefs.Declaration.{Declaration}
-use Rattle.cb_scan.specs.declared.typedefs.Reach.{Reach}
-use Rattle.cb_scan.specs.declared.typedefs.Reach.TheVariants.{Nothing, Paren, Stars}
-use Rattle.cb_scan.specs.Tokens.{is_mark, is_name_token, is_typedef, kind_is_name}
-use Rattle.cb_scan.specs.Typedefs.{Nested, begins_with_star, last_name, name_after_stars, nested, nesting_after, part_name, parts, parts_here, pointer_name, typedef_names}
+use Rattle.cb_scan.specs.declared.lex.token.Token.{Token}
+use Rattle.cb_scan.specs.declared.lex.token.Role.{Role}
+use Rattle.cb_scan.specs.declared.lex.token.Role.TheVariants.{Word, Mark, Str, Other}
+use Rattle.cb_scan.specs.declared.lex.token.WordKind.TheVariants.{Name, Define, Include, Typedef, Extern, Static, Reserved}
+use Rattle.cb_scan.specs.declared.rules.typedefs.Declaration.{Declaration}
+use Rattle.cb_scan.specs.declared.rules.typedefs.Reach.{Reach}
+use Rattle.cb_scan.specs.declared.rules.typedefs.Reach.TheVariants.{Nothing, Paren, Stars}
+use Rattle.cb_scan.specs.lex.Tokens.{is_mark, is_name_token, is_typedef, kind_is_name}
+use Rattle.cb_scan.specs.rules.Typedefs.{Nested, begins_with_star, last_name, name_after_stars, nested, nesting_after, part_name, parts, parts_here, pointer_name, typedef_names}
 use Rattle.cb_scan.specs.steps.Typedefs.{after, declaration_start, goes_on, is_reached, is_starred, name_of, or_else, parts_at, pointer_after, reach_after}
 
 -- the names that the parts give from a state on

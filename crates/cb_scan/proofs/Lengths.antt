@@ -3,9 +3,9 @@ use Rattle.std.proofs.Common.{◌≡◌, ◌≢◌, ◌⊎◌, ◌≤◌, ℕ, z
 use Rattle.std.proofs.lemmas.Bool.{cases_Bool, cases_eq, false≢true, or_from, or_left, or_right, cond-true, cond-false, cond_both, eqb-true, eq-eqb, ne_eqb, and_from, and_parts, or_cases}
 use Rattle.std.proofs.lemmas.Bool.Decides.{nat_tests}
 use Rattle.std.specs.List.{list_all, prefix_len}
-use Rattle.cb_scan.specs.declared.lexeme.Escape.{Escape}
-use Rattle.cb_scan.specs.declared.lexeme.Escape.TheVariants.{Plain, Backslash, Return}
-use Rattle.cb_scan.specs.Lexeme.{IsLineEnd, is_blank, goes_on, first_is, all_go_on, Blanks, no_blank, a_blank, a_join, a_cr_join, Noted, note_ends, noted_byte, noted_join, noted_cr_join, Quoted, closed, not_closed, joined, escaped, last_escape, quoted_byte}
+use Rattle.cb_scan.specs.declared.lex.lexeme.Escape.{Escape}
+use Rattle.cb_scan.specs.declared.lex.lexeme.Escape.TheVariants.{Plain, Backslash, Return}
+use Rattle.cb_scan.specs.lex.Lexeme.{IsLineEnd, is_blank, goes_on, first_is, all_go_on, Blanks, no_blank, a_blank, a_join, a_cr_join, Noted, note_ends, noted_byte, noted_join, noted_cr_join, Quoted, closed, not_closed, joined, escaped, last_escape, quoted_byte}
 use Rattle.cb_scan.specs.steps.Cut.{ends_join, number_len, goes_on_blank, blank_len, note_escape, ends_note, note_len, literal_escape, ends_literal, literal_len}
 
 -- words

@@ -7,13 +7,13 @@ use Rattle.std.proofs.Common.{cond}
 use Rattle.std.proofs.lemmas.List.{drop-drop, length-map, take_rest}
 use Rattle.std.proofs.lemmas.List.Sums.{count_by-le-length, sum_by-append}
 use Rattle.std.specs.List.{AllByRecursion, count_by, list_all, prefix_len}
-use Rattle.cb_scan.specs.declared.lined.Lined.{Lined}
-use Rattle.cb_scan.specs.declared.piece.Class.{Class}
-use Rattle.cb_scan.specs.declared.piece.Class.TheVariants.{Name, Number, Str, Chr, LineNote, BlockNote, Blank, Newline, Byte}
-use Rattle.cb_scan.specs.declared.piece.Piece.{Piece}
-use Rattle.cb_scan.specs.Lexeme.{is_word, goes_on, all_go_on}
+use Rattle.cb_scan.specs.declared.lex.lined.Lined.{Lined}
+use Rattle.cb_scan.specs.declared.lex.piece.Class.{Class}
+use Rattle.cb_scan.specs.declared.lex.piece.Class.TheVariants.{Name, Number, Str, Chr, LineNote, BlockNote, Blank, Newline, Byte}
+use Rattle.cb_scan.specs.declared.lex.piece.Piece.{Piece}
+use Rattle.cb_scan.specs.lex.Lexeme.{is_word, goes_on, all_go_on}
 use Rattle.cb_scan.specs.Lines.{line_of}
-use Rattle.cb_scan.specs.Pieces.{LiesIn}
+use Rattle.cb_scan.specs.lex.Pieces.{LiesIn}
 use Rattle.cb_scan.specs.steps.Cut.{class_at, length_in, number_len, piece_len, piece_at, pieces_at, pieces}
 use Rattle.cb_scan.specs.steps.Lined.{is_feed, lined, Within, holds_feeds}
 use Rattle.cb_scan.proofs.Fronts.{Front, front, at_name, at_number, at_str, at_chr, at_line_note, at_block_note, at_blank, at_newline, at_byte}

@@ -4,10 +4,10 @@ use Rattle.std.proofs.lemmas.Bool.Decides.{nat_tests}
 use Rattle.std.proofs.lemmas.List.{drop-drop, take_rest}
 use Rattle.std.specs.Iterator.{MakesProgress, item_count}
 use Rattle.std.specs.List.{AllByRecursion}
-use Rattle.cb_scan.specs.declared.piece.Class.{Class}
-use Rattle.cb_scan.specs.declared.piece.Piece.{Piece}
-use Rattle.cb_scan.specs.Lexeme.{IsLexeme, Lexeme}
-use Rattle.cb_scan.specs.Pieces.{IsLongest, ArePiecesFrom, IsPieces, Adjoin, LiesIn}
+use Rattle.cb_scan.specs.declared.lex.piece.Class.{Class}
+use Rattle.cb_scan.specs.declared.lex.piece.Piece.{Piece}
+use Rattle.cb_scan.specs.lex.Lexeme.{IsLexeme, Lexeme}
+use Rattle.cb_scan.specs.lex.Pieces.{IsLongest, ArePiecesFrom, IsPieces, Adjoin, LiesIn}
 use Rattle.cb_scan.specs.steps.Cut.{class_at, piece_len, piece_at, pieces_from, pieces_at, pieces}
 use Rattle.cb_scan.proofs.Cuts.{piece-some, piece-within, piece-lexeme, lexeme-class, lexeme-longest}
 

@@ -6,19 +6,19 @@ use Rattle.std.specs.List.{AllByRecursion, flat_map, list_any, range_with_len}
 use Rattle.std.specs.Option.{MatchOption, option_map_or}
 use Rattle.std.proofs.lemmas.Bool.{cases_Bool, eqb-true, false_from_ne_true}
 use Rattle.std.proofs.Math.Bool.{and-false}
-use Rattle.cb_scan.specs.declared.line.Stage.{Stage}
-use Rattle.cb_scan.specs.declared.line.Stage.TheVariants.{Start}
-use Rattle.cb_scan.specs.declared.piece.Piece.{Piece}
-use Rattle.cb_scan.specs.declared.token.Token.{Token}
-use Rattle.cb_scan.specs.Code.{is_newline, is_directive, code, directives, logical_lines}
-use Rattle.cb_scan.specs.Depth.{closes, depth, depth_after, head_start, is_counted, is_stop, is_uncounted, token_at}
-use Rattle.cb_scan.specs.Functions.{Function, called_name, close_from, function_at, functions, head, may_define}
-use Rattle.cb_scan.specs.Macros.{Macro, after_arguments, defines_macro, macro_of, macros}
-use Rattle.cb_scan.specs.Pieces.{Adjoin}
-use Rattle.cb_scan.specs.Tokens.{is_any_word, is_mark, is_name_token, is_static, is_significant, token_of}
-use Rattle.cb_scan.specs.Uses.{behind_own_word, is_include, usable, used}
+use Rattle.cb_scan.specs.declared.rules.directives.Stage.{Stage}
+use Rattle.cb_scan.specs.declared.rules.directives.Stage.TheVariants.{Start}
+use Rattle.cb_scan.specs.declared.lex.piece.Piece.{Piece}
+use Rattle.cb_scan.specs.declared.lex.token.Token.{Token}
+use Rattle.cb_scan.specs.rules.Code.{is_newline, is_directive, code, directives, logical_lines}
+use Rattle.cb_scan.specs.rules.Depth.{closes, depth, depth_after, head_start, is_counted, is_stop, is_uncounted, token_at}
+use Rattle.cb_scan.specs.rules.Functions.{Function, called_name, close_from, function_at, functions, head, may_define}
+use Rattle.cb_scan.specs.rules.Macros.{Macro, after_arguments, defines_macro, macro_of, macros}
+use Rattle.cb_scan.specs.lex.Pieces.{Adjoin}
+use Rattle.cb_scan.specs.lex.Tokens.{is_any_word, is_mark, is_name_token, is_static, is_significant, token_of}
+use Rattle.cb_scan.specs.rules.Uses.{behind_own_word, is_include, usable, used}
 use Rattle.cb_scan.specs.steps.Cut.{pieces}
-use Rattle.cb_scan.specs.steps.Line.{next_stage, nothing, run, walk}
+use Rattle.cb_scan.specs.steps.Directives.{next_stage, nothing, run, walk}
 use Rattle.cb_scan.specs.steps.Lined.{lined}
 use Rattle.cb_scan.proofs.BodyLemmas.{and_left, function_named, none_here, stays_deep}
 use Rattle.cb_scan.proofs.FunctionLemmas.{head_start_le}

@@ -7,15 +7,15 @@ use Rattle.std.specs.List.{AllByRecursion, flat_map}
 use Rattle.std.specs.Option.{option_map, option_map_or}
 use Rattle.cb_scan.specs.steps.Cut.{pieces}
 use Rattle.cb_scan.specs.declared.facts.Include.{Include}
-use Rattle.cb_scan.specs.declared.piece.Span.{Span}
-use Rattle.cb_scan.specs.declared.scope.Range.{Range}
-use Rattle.cb_scan.specs.declared.token.Token.{Token}
-use Rattle.cb_scan.specs.Code.{code, directives, logical_lines}
-use Rattle.cb_scan.specs.Functions.{Function, functions}
-use Rattle.cb_scan.specs.Macros.{Macro, macros}
-use Rattle.cb_scan.specs.Scope.{function_range, function_ranges, holds, macro_ranges, name_around}
-use Rattle.cb_scan.specs.Uses.{header_between, header_of, include_of, includes, used, uses}
-use Rattle.cb_scan.specs.Tokens.{bytes_of, has_kind, is_mark, is_str, kind_is_include}
+use Rattle.cb_scan.specs.declared.lex.piece.Span.{Span}
+use Rattle.cb_scan.specs.declared.rules.scope.Range.{Range}
+use Rattle.cb_scan.specs.declared.lex.token.Token.{Token}
+use Rattle.cb_scan.specs.rules.Code.{code, directives, logical_lines}
+use Rattle.cb_scan.specs.rules.Functions.{Function, functions}
+use Rattle.cb_scan.specs.rules.Macros.{Macro, macros}
+use Rattle.cb_scan.specs.rules.Scope.{function_range, function_ranges, holds, macro_ranges, name_around}
+use Rattle.cb_scan.specs.rules.Uses.{header_between, header_of, include_of, includes, used, uses}
+use Rattle.cb_scan.specs.lex.Tokens.{bytes_of, has_kind, is_mark, is_str, kind_is_include}
 use Rattle.cb_scan.specs.steps.Quote.{is_closed}
 use Rattle.cb_scan.specs.steps.Scopes.{first_around, include_place, include_with, reached, scoped, token_place, use_of}
 use Rattle.cb_scan.proofs.DirectiveLemmas.{range_names}

@@ -4,17 +4,17 @@ use Rattle.std.specs.Prelude.{◌&&◌, ◌==◌, cond, not, filter}
 use Rattle.std.specs.List.{AllByRecursion, list_any, flat_map, slice_split, onto_first, range_with_len}
 use Rattle.std.specs.Option.{option_map_or, MatchOption}
 use Rattle.std.proofs.lemmas.List.{map-append}
-use Rattle.cb_scan.specs.declared.piece.Piece.{Piece}
-use Rattle.cb_scan.specs.declared.token.Token.{Token}
-use Rattle.cb_scan.specs.Code.{is_newline, is_directive, code, logical_lines}
+use Rattle.cb_scan.specs.declared.lex.piece.Piece.{Piece}
+use Rattle.cb_scan.specs.declared.lex.token.Token.{Token}
+use Rattle.cb_scan.specs.rules.Code.{is_newline, is_directive, code, logical_lines}
 use Rattle.cb_scan.specs.Definitions.{IsWithin, function_def}
-use Rattle.cb_scan.specs.Functions.{Function, called_name, may_define, head, function_from, function_at, functions, close_from}
-use Rattle.cb_scan.specs.Depth.{depth, head_start, is_counted}
+use Rattle.cb_scan.specs.rules.Functions.{Function, called_name, may_define, head, function_from, function_at, functions, close_from}
+use Rattle.cb_scan.specs.rules.Depth.{depth, head_start, is_counted}
 use Rattle.cb_scan.specs.declared.facts.Def.{Def}
 use Rattle.cb_scan.specs.Lines.{IsLineOf}
 use Rattle.cb_scan.specs.steps.Cut.{pieces}
-use Rattle.cb_scan.specs.Pieces.{LiesIn}
-use Rattle.cb_scan.specs.Tokens.{tokens, token_of, is_significant, is_name_token, is_mark, is_static}
+use Rattle.cb_scan.specs.lex.Pieces.{LiesIn}
+use Rattle.cb_scan.specs.lex.Tokens.{tokens, token_of, is_significant, is_name_token, is_mark, is_static}
 use Rattle.cb_scan.proofs.LineTable.{line-within}
 
 -- each of a list of lists

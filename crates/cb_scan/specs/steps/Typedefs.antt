@@ -2,15 +2,15 @@
 use Rattle.std.specs.Prelude.{ℕ, Bool, true, false, ◌&&◌, ◌||◌, ◌==◌, not, List, [], ◌∷◌, ◌++◌, if◌then◌else◌, Option, None, Some, map}
 use Rattle.std.specs.Option.{is_none, option_map, option_to_list}
 use Rattle.cb_scan.specs.declared.facts.Def.{Def}
-use Rattle.cb_scan.specs.declared.machine.Machine.{Machine}
-use Rattle.cb_scan.specs.declared.token.Token.{Token}
-use Rattle.cb_scan.specs.declared.typedefs.Declaration.{Declaration}
-use Rattle.cb_scan.specs.declared.typedefs.Reach.{Reach}
-use Rattle.cb_scan.specs.declared.typedefs.Reach.TheVariants.{Nothing, Paren, Stars}
+use Rattle.cb_scan.specs.declared.rules.functions.Machine.{Machine}
+use Rattle.cb_scan.specs.declared.lex.token.Token.{Token}
+use Rattle.cb_scan.specs.declared.rules.typedefs.Declaration.{Declaration}
+use Rattle.cb_scan.specs.declared.rules.typedefs.Reach.{Reach}
+use Rattle.cb_scan.specs.declared.rules.typedefs.Reach.TheVariants.{Nothing, Paren, Stars}
 use Rattle.cb_scan.specs.Definitions.{typedef_def}
-use Rattle.cb_scan.specs.Tokens.{is_mark, is_name_token, is_typedef}
-use Rattle.cb_scan.specs.Typedefs.{nesting_after}
-use Rattle.cb_scan.specs.steps.Machine.{next}
+use Rattle.cb_scan.specs.lex.Tokens.{is_mark, is_name_token, is_typedef}
+use Rattle.cb_scan.specs.rules.Typedefs.{nesting_after}
+use Rattle.cb_scan.specs.steps.Functions.{next}
 use Rattle.cb_scan.specs.Bytes.{close_brace, comma, open_brace, open_paren, semicolon, star}
 
 -- ---- the parts of one typedef

@@ -1,7 +1,7 @@
 //! The facts of a text in the short form that other tests compare.
 use crate::facts::Kind;
 use crate::meter::Meter;
-use crate::piece::Span;
+use crate::lex::piece::Span;
 use crate::scanner::scan;
 use crate::source::Source;
 use std::alloc::Global;
