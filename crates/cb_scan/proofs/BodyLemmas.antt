@@ -244,7 +244,7 @@ call_told ts k caller = by_cases (is_stop ts k) refl
     by_cases true is = sym (ap (λ n. cond (n && is_mark 40 (token_at ts (suc k)).role) (call_of caller (token_at ts k) ∷ []) []) (no_name (token_at ts k).role _ _ _ is))
     by_cases false is = one (is_call (token_at ts k) (token_at ts (suc k)))
 
--- no token behind the last one calls it
+-- no token after the last one calls it
 no_call_at_end : (ts : List Token) (k : ℕ) (caller : Span) → length ts ≤ suc k → call_at ts caller k ≡ []
 no_call_at_end ts k caller past =
     let none : is_mark 40 (token_at ts (suc k)).role ≡ false = ap (λ (u : Token). is_mark 40 u.role) (get_or_past ts (suc k) no_token past) in

@@ -23,11 +23,11 @@ names_from d (t ∷ ts) = option_to_list (if parts_at d.nesting t then name_of d
 
 -- ---- one part
 
--- the name behind `*`s, or else the first one that follows
+-- the name after `*`s, or else the first one that follows
 abbrev stars_on : List Nested → Option Token
 stars_on xs = option_map_or (λ name. Some name) (name_after_stars xs) (pointer_name xs)
 
--- the first name behind `(` and `*`s, which have come so far
+-- the first name after `(` and `*`s, which have come so far
 abbrev pointer_on : Reach → List Nested → Option Token
 pointer_on Nothing xs = pointer_name xs
 pointer_on Paren xs = if begins_with_star xs then stars_on xs else pointer_name xs
@@ -184,9 +184,9 @@ goes_on_by r t = record {
 }
 
 -- the word itself, taken or not, says nothing of the names
-pub names_behind : (t : Token) (b : Bool) (ts : List Token) → is_typedef t.role ≡ true → names_from declaration_start ((if b then t ∷ [] else []) ++ ts) ≡ names_from declaration_start ts
+pub names_after : (t : Token) (b : Bool) (ts : List Token) → is_typedef t.role ≡ true → names_from declaration_start ((if b then t ∷ [] else []) ++ ts) ≡ names_from declaration_start ts
 unfolding after
-names_behind t false ts is = refl
-names_behind t true ts is =
+names_after t false ts is = refl
+names_after t true ts is =
     let word : t.role ≡ Word Typedef = typedef_only t.role is in
     λ i. option_to_list (if is_mark 44 (word i) && 0 == 0 then None else None) ++ names_from (if is_mark 44 (word i) && 0 == 0 then declaration_start else goes_on_by (word i) t) ts

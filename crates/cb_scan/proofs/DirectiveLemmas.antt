@@ -29,7 +29,7 @@ use Rattle.cb_scan.specs.Definitions.{macro_def}
 use Rattle.cb_scan.specs.rules.Macros.{Macro, after_arguments, macro_of, macros}
 use Rattle.cb_scan.specs.rules.Scope.{macro_range, macro_ranges, range_of_line}
 use Rattle.cb_scan.specs.lex.Tokens.{bytes_of, has_kind, is_any_word, is_mark, is_name_token, is_str, kind_is_define, kind_is_include}
-use Rattle.cb_scan.specs.rules.Uses.{behind_own_word, call_of, calls_among, header_between, header_of, include_of, is_call, is_include, macro_calls, used}
+use Rattle.cb_scan.specs.rules.Uses.{after_own_word, call_of, calls_among, header_between, header_of, include_of, is_call, is_include, macro_calls, used}
 use Rattle.cb_scan.specs.steps.Directives.{code_out, directive_of, include_out, is_code, macro_call_out, macro_out, next_defining, next_directive, next_including, next_stage, names_count, no_range, nothing, range_finish, run, use_out, walk}
 use Rattle.cb_scan.specs.steps.Lined.{lined}
 use Rattle.cb_scan.specs.steps.Quote.{is_closed}
@@ -153,7 +153,7 @@ names_of_cond true b xs ys = refl
 names_of_cond false true xs ys = refl
 names_of_cond false false xs ys = refl
 
-hash_uses : (hash : Token) (ts : List Token) → run use_out none (InDirective directive.Hash) ts ≡ names (cond (is_include (hash ∷ ts)) [] (behind_own_word (hash ∷ ts)))
+hash_uses : (hash : Token) (ts : List Token) → run use_out none (InDirective directive.Hash) ts ≡ names (cond (is_include (hash ∷ ts)) [] (after_own_word (hash ∷ ts)))
 unfolding names
 hash_uses hash [] = refl
 hash_uses hash (own ∷ rest) =
@@ -172,7 +172,7 @@ use_run : (l : List Token) → run use_out none Start l ≡ used l
 unfolding names
 use_run [] = refl
 use_run (t ∷ ts) =
-    let usable = λ (b : Bool). names (cond b (cond (is_include (t ∷ ts)) [] (behind_own_word (t ∷ ts))) (t ∷ ts)) in
+    let usable = λ (b : Bool). names (cond b (cond (is_include (t ∷ ts)) [] (after_own_word (t ∷ ts))) (t ∷ ts)) in
     ⊎_elim
     (λ is.
     (λ i. cond (mark_no_name t.role 35 is i && true) (t ∷ []) [] ++ run use_out none (cond (is i) (InDirective directive.Hash) Code) ts)

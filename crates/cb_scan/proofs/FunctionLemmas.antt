@@ -22,7 +22,7 @@ use Rattle.cb_scan.specs.Definitions.{function_def}
 use Rattle.cb_scan.specs.steps.Functions.{add, empty_head, defined, start, next, next_depth, stops, found, defs_from, def_of, is_after_linkage, is_after_extern}
 use Rattle.cb_scan.proofs.HeadLemmas.{defined_of, static_is}
 
--- `extern` stands directly before token k
+-- `extern` is directly before token k
 abbrev pub follows_extern : List Token → ℕ → Bool
 follows_extern ts zero = false
 follows_extern ts (suc k) = is_extern (token_at ts k).role
@@ -41,7 +41,7 @@ head_start_le ts (suc k) =
     let before = head_start_le ts k in
     elim (is_stop ts k) as (λ b. (if b then suc k else head_start ts k) ≤ suc k) [ true ↦ omega arith | false ↦ omega arith ]
 
--- what stands directly before the next token
+-- what is directly before the next token
 linkage_after : (b : Before) (r : Role) → is_after_linkage (if is_extern r then Extern else (if is_str r && is_after_extern b then Linkage else Anything)) ≡ (is_after_extern b && is_str r)
 linkage_after b (Word Name) = sym (and-false (is_after_extern b))
 linkage_after b (Word Define) = sym (and-false (is_after_extern b))

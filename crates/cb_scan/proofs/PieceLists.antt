@@ -188,7 +188,7 @@ gave_first can always s t x e = record {
 pub some_left : (n : ℕ) → (n == 0) ≡ false → 0 < n
 some_left n other = grind (arith, nat_tests)
 
--- what a step leaves: the piece p is the first, and the rest is cut behind it
+-- what a step leaves: the piece p is the first, and the rest is cut after it
 pub pieces-next : (place : ℕ) (rest : List ℕ) (p : Piece) → 0 < length rest → p ≡ piece_at place rest
     → pieces_at place rest ≡ p ∷ pieces_at p.span.end (take (length rest - (p.span.end - place)) (drop (p.span.end - place) rest))
 pieces-next place rest p some e =

@@ -54,7 +54,7 @@ module _ {X : Type 0} (P : X → Type 0) where
   all-split test (x ∷ xs) a =
       elim (test x) as (λ b. AllOfAll P (cond b ([] ∷ slice_split test xs) (onto_first x (slice_split test xs)))) [ true ↦ (tt, all-split test xs a.1) | false ↦ all-onto_first x (slice_split test xs) a.0 (all-split test xs a.1) ]
 
--- a token lies in the text, has a byte at least, and stands on a line of the text
+-- a token lies in the text, has a byte at least, and is on a line of the text
 abbrev pub TokenWithin : List ℕ → Token → Type 0
 TokenWithin text t = (t.span.start < t.span.end) × (t.span.end ≤ length text) × IsLineOf text t.line
 

@@ -13,7 +13,7 @@ use crate::lex::token::Token;
 use crate::rules::typedefs::{Declaration, take_token};
 use std::alloc::{AllocError, Global};
 
-/// Where the pass over the code stands: depth, head and body, and the typedef that is open.
+/// The state of the pass over the code: depth, head and body, and the typedef that is open.
 #[derive(Clone, Copy)]
 pub(crate) struct CodeState {
     pub machine: Machine,

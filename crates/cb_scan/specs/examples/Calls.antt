@@ -34,7 +34,7 @@ pub outside : called (codes "int x = g(1);") ≡ []
 unfolding calling
 outside = refl
 
--- the `(` may stand on the next line, and a comment between
+-- the `(` may be on the next line, and a comment between
 pub paren_on_next_line : called (codes "f() { g /**/\n(1); }") ≡ by (codes "f") (codes "g") ∷ []
 unfolding calling
 paren_on_next_line = refl
@@ -54,7 +54,7 @@ pub in_macro : called (codes "#define F(x) g(x) h\n") ≡ by (codes "F") (codes 
 unfolding calling
 in_macro = refl
 
--- by place, where a macro stands in a function
+-- by place, also where a macro is in a function
 pub by_place : called (codes "f() { a();\n#define G() b()\nc(); }") ≡ by (codes "f") (codes "a") ∷ by (codes "G") (codes "b") ∷ by (codes "f") (codes "c") ∷ []
 unfolding calling
 by_place = refl

@@ -29,7 +29,7 @@ unfoldable pub finding : Unit {0}
 unfolding cutting depth head_start ends_in_declarator called_name is_reserved reserved_words word_of
 finding = tt
 
--- the `{` after `extern` and a string doesn't count, so `f` stands at depth 0
+-- the `{` after `extern` and a string doesn't count, so `f` is at depth 0
 pub linkage_block : names (codes "extern \"C\" {\nint f(int a) {") ≡ codes "f" ∷ []
 unfolding finding
 linkage_block = refl
@@ -39,7 +39,7 @@ pub open_linkage : names (codes "extern \"C\n{ int f() {") ≡ codes "f" ∷ []
 unfolding finding
 open_linkage = refl
 
--- a prefix is a name and stands between: this `{` counts
+-- a prefix is a name and is between them: this `{` counts
 pub prefixed_linkage : names (codes "extern L\"C\" { int f() {") ≡ []
 unfolding finding
 prefixed_linkage = refl
@@ -109,10 +109,10 @@ pub directive_in_head : names (codes "int f()\n#if g() {\n{") ≡ codes "f" ∷ 
 unfolding finding
 directive_in_head = refl
 
--- notes and literals hold no code
-pub note_and_literal : names (codes "/*f(){*/ char c[2]; '{' \"{\" g() {") ≡ codes "g" ∷ []
+-- comments and literals hold no code
+pub comment_and_literal : names (codes "/*f(){*/ char c[2]; '{' \"{\" g() {") ≡ codes "g" ∷ []
 unfolding finding
-note_and_literal = refl
+comment_and_literal = refl
 
 pub nested_call : names (codes "f() { if (g()) { } } h() {") ≡ codes "f" ∷ codes "h" ∷ []
 unfolding finding

@@ -5,7 +5,7 @@ use Rattle.cb_scan.specs.declared.lex.piece.Class.{Class}
 use Rattle.cb_scan.specs.declared.lex.piece.Class.TheVariants.{Name, Number, Str, LineNote, BlockNote, Blank, Newline, Byte}
 use Rattle.cb_scan.specs.declared.lex.piece.Piece.{Piece}
 use Rattle.cb_scan.specs.lex.Lexeme.{first_is, IsLexeme, not_closed, quoted_byte}
-use Rattle.cb_scan.specs.steps.Cut.{ends_join, class_at, number_len, blank_len, note_escape, ends_note, note_len, literal_escape, ends_literal, literal_len, block_len, length_in, pieces_from, pieces}
+use Rattle.cb_scan.specs.steps.Cut.{ends_join, class_at, number_len, blank_len, comment_escape, ends_comment, comment_len, literal_escape, ends_literal, literal_len, block_len, length_in, pieces_from, pieces}
 
 -- the piece of this class from one place to another
 abbrev piece : Class → ℕ → ℕ → Piece
@@ -13,7 +13,7 @@ piece class i j = record { class = class; span = record { start = i; end = j } }
 
 -- `unfolding cutting` opens how pieces are counted
 unfoldable pub cutting : Unit {0}
-unfolding first_is ends_join class_at number_len blank_len note_escape ends_note note_len literal_escape ends_literal literal_len block_len length_in pieces_from
+unfolding first_is ends_join class_at number_len blank_len comment_escape ends_comment comment_len literal_escape ends_literal literal_len block_len length_in pieces_from
 cutting = tt
 
 -- `"a` LF `b`: a literal that isn't closed ends before the line's end
@@ -57,23 +57,23 @@ pub lone_dot : pieces (codes ".x") ≡ piece Byte 0 1 ∷ piece Name 1 2 ∷ []
 unfolding cutting
 lone_dot = refl
 
-pub open_note : pieces (codes "/*a") ≡ piece BlockNote 0 3 ∷ []
+pub open_comment : pieces (codes "/*a") ≡ piece BlockNote 0 3 ∷ []
 unfolding cutting
-open_note = refl
+open_comment = refl
 
--- the `*` that opens a note doesn't close it
+-- the `*` that opens a comment doesn't close it
 pub shared_star : pieces (codes "/*/") ≡ piece BlockNote 0 3 ∷ []
 unfolding cutting
 shared_star = refl
 
-pub closed_note : pieces (codes "/**/a") ≡ piece BlockNote 0 4 ∷ piece Name 4 5 ∷ []
+pub closed_comment : pieces (codes "/**/a") ≡ piece BlockNote 0 4 ∷ piece Name 4 5 ∷ []
 unfolding cutting
-closed_note = refl
+closed_comment = refl
 
--- `//\` CR LF `b` LF: a line note goes on behind a join
-pub joined_note : pieces (47 ∷ 47 ∷ 92 ∷ 13 ∷ 10 ∷ 98 ∷ 10 ∷ []) ≡ piece LineNote 0 6 ∷ piece Newline 6 7 ∷ []
+-- `//\` CR LF `b` LF: a line comment goes on after a join
+pub joined_comment : pieces (47 ∷ 47 ∷ 92 ∷ 13 ∷ 10 ∷ 98 ∷ 10 ∷ []) ≡ piece LineNote 0 6 ∷ piece Newline 6 7 ∷ []
 unfolding cutting
-joined_note = refl
+joined_comment = refl
 
 -- `"a` before an LF is a literal
 pub open_lexeme : IsLexeme Str (34 ∷ 97 ∷ 10 ∷ []) 2

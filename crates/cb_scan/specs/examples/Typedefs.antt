@@ -39,7 +39,7 @@ pub const_pointer : names (codes "typedef int (*const p)(void);") ≡ []
 unfolding naming
 const_pointer = refl
 
--- parameters stand in parentheses
+-- parameters are in parentheses
 pub function_type : names (codes "typedef int f(int a, int b);") ≡ codes "f" ∷ []
 unfolding naming
 function_type = refl

@@ -57,14 +57,14 @@ pub data Blanks : List ℕ → ℕ → Type 0 where
 abbrev pub IsLineEnd : List ℕ → Type 0
 IsLineEnd rest = (length rest ≡ 0) ⊎ (take 1 rest ≡ line_feed ∷ [])
 
--- a line note behind its `//` (C11 6.4.9): joins and bytes other than LF, up to an LF or the end
-pub data Noted : List ℕ → ℕ → Type 0 where
-  note_ends : {rest : List ℕ} → IsLineEnd rest → Noted rest 0
-  noted_byte : {a n : ℕ} {rest : List ℕ} → a ≢ line_feed → Noted rest n → Noted (a ∷ rest) (suc n)
-  noted_join : {a b n : ℕ} {rest : List ℕ} → a ≡ backslash → b ≡ line_feed → Noted rest n → Noted (a ∷ b ∷ rest) (suc (suc n))
-  noted_cr_join : {a b c n : ℕ} {rest : List ℕ} → a ≡ backslash → b ≡ carriage_return → c ≡ line_feed → Noted rest n → Noted (a ∷ b ∷ c ∷ rest) (suc (suc (suc n)))
+-- a line comment after its `//` (C11 6.4.9): joins and bytes other than LF, up to an LF or the end
+pub data Commented : List ℕ → ℕ → Type 0 where
+  comment_ends : {rest : List ℕ} → IsLineEnd rest → Commented rest 0
+  commented_byte : {a n : ℕ} {rest : List ℕ} → a ≢ line_feed → Commented rest n → Commented (a ∷ rest) (suc n)
+  commented_join : {a b n : ℕ} {rest : List ℕ} → a ≡ backslash → b ≡ line_feed → Commented rest n → Commented (a ∷ b ∷ rest) (suc (suc n))
+  commented_cr_join : {a b c n : ℕ} {rest : List ℕ} → a ≡ backslash → b ≡ carriage_return → c ≡ line_feed → Commented rest n → Commented (a ∷ b ∷ c ∷ rest) (suc (suc (suc n)))
 
--- a literal behind its quote q (C11 6.4.4.4 and 6.4.5; this project's profile where it isn't closed): it ends with q or before a line's end,
+-- a literal after its quote q (C11 6.4.4.4 and 6.4.5; this project's profile where it isn't closed): it ends with q or before a line's end,
 -- and its items are `\` CR LF; else `\` and any byte, also a `\` that ends the text; else any byte but q, `\` and LF
 pub data Quoted (q : ℕ) : List ℕ → ℕ → Type 0 where
   closed : {a : ℕ} {rest : List ℕ} → a ≡ q → Quoted q (a ∷ rest) 1
@@ -82,18 +82,18 @@ IsLiteral q rest n = (take 1 rest ≡ q ∷ []) × (1 ≤ n) × Quoted q (drop 1
 abbrev pub IsClosedLiteral : ℕ → List ℕ → Type 0
 IsClosedLiteral q bytes = (more : List ℕ) → IsLiteral q (bytes ++ more) (length bytes)
 
--- a line note: `//`, and what follows it
-abbrev pub IsLineNote : List ℕ → ℕ → Type 0
-IsLineNote rest n = (take 2 rest ≡ codes "//") × (2 ≤ n) × Noted (drop 2 rest) (n - 2)
+-- a line comment: `//`, and what follows it
+abbrev pub IsLineComment : List ℕ → ℕ → Type 0
+IsLineComment rest n = (take 2 rest ≡ codes "//") × (2 ≤ n) × Commented (drop 2 rest) (n - 2)
 
--- where a note ends whose `*/` is found so many bytes behind its `/*`, or nowhere
-abbrev pub note_end : ℕ → Option ℕ → ℕ
-note_end len None = len
-note_end len (Some k) = k + 4
+-- where a comment ends whose `*/` is found so many bytes after its `/*`, or nowhere
+abbrev pub comment_end : ℕ → Option ℕ → ℕ
+comment_end len None = len
+comment_end len (Some k) = k + 4
 
--- a block note (C11 6.4.9): `/*`, up to and with the first `*/` after these two bytes, else to the end
-abbrev pub IsBlockNote : List ℕ → ℕ → Type 0
-IsBlockNote rest n = (take 2 rest ≡ codes "/*") × ((found : Option ℕ) × FindsNeedle (drop 2 rest) (codes "*/") 0 found × (n ≡ note_end (length rest) found))
+-- a block comment (C11 6.4.9): `/*`, up to and with the first `*/` after these two bytes, else to the end
+abbrev pub IsBlockComment : List ℕ → ℕ → Type 0
+IsBlockComment rest n = (take 2 rest ≡ codes "/*") × ((found : Option ℕ) × FindsNeedle (drop 2 rest) (codes "*/") 0 found × (n ≡ comment_end (length rest) found))
 
 -- the first n bytes spell a lexeme of a class other than `Byte`
 abbrev pub Spells : Class → List ℕ → ℕ → Type 0
@@ -101,8 +101,8 @@ Spells Name rest n = (n ≤ length rest) × (is_identifier (take n rest) ≡ tru
 Spells Number rest n = (n ≤ length rest) × (is_number (take n rest) ≡ true)
 Spells Str rest n = IsLiteral quote rest n
 Spells Chr rest n = IsLiteral apostrophe rest n
-Spells LineNote rest n = IsLineNote rest n
-Spells BlockNote rest n = IsBlockNote rest n
+Spells LineNote rest n = IsLineComment rest n
+Spells BlockNote rest n = IsBlockComment rest n
 Spells Blank rest n = (1 ≤ n) × Blanks rest n
 Spells Newline rest n = (take 1 rest ≡ line_feed ∷ []) × (n ≡ 1)
 Spells Byte rest n = ⊥

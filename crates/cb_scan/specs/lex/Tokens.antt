@@ -18,7 +18,7 @@ use Rattle.cb_scan.specs.Bytes.{line_feed}
 abbrev pub bytes_of : List ℕ → Span → List ℕ
 bytes_of text span = slice_range text span.start span.end
 
--- names, numbers, literals and lone bytes are tokens (ISO C 2011, 6.4); notes, blanks and newlines are none
+-- names, numbers, literals and lone bytes are tokens (ISO C 2011, 6.4); comments, blanks and newlines are none
 abbrev pub is_significant : Class → Bool
 is_significant class.Name = true
 is_significant class.Number = true

@@ -1,11 +1,11 @@
--- How deep in braces a token of the code stands, and where declarations part. This is the project's profile.
+-- How deep in braces a token of the code is, and where declarations part. This is the project's profile.
 use Rattle.std.specs.Prelude.{ℕ, zero, suc, ◌+◌, ◌-◌, Bool, false, ◌&&◌, ◌||◌, ◌==◌, not, List, if◌then◌else◌, slice_index_or}
 use Rattle.cb_scan.specs.declared.lex.token.Token.{Token}
 use Rattle.cb_scan.specs.declared.lex.token.Role.TheVariants.{Other}
 use Rattle.cb_scan.specs.lex.Tokens.{is_mark, is_extern, is_str}
 use Rattle.cb_scan.specs.Bytes.{close_brace, open_brace, semicolon}
 
--- what stands for a token where there is none
+-- the token where there is none
 abbrev pub no_token : Token
 no_token = record { role = Other; span = record { start = 0; end = 0 }; line = 0; starts_line = false }
 
@@ -13,7 +13,7 @@ no_token = record { role = Other; span = record { start = 0; end = 0 }; line = 0
 abbrev pub token_at : List Token → ℕ → Token
 token_at ts k = slice_index_or ts k no_token
 
--- `extern` and a string stand directly before token k
+-- `extern` and a string are directly before token k
 abbrev pub follows_linkage : List Token → ℕ → Bool
 follows_linkage ts zero = false
 follows_linkage ts (suc zero) = false

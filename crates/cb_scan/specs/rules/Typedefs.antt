@@ -19,7 +19,7 @@ ends_declaration ts k = is_mark semicolon (token_at ts k).role && depth ts k == 
 abbrev pub typedef_stop : List Token → ℕ → Option ℕ
 typedef_stop ts k = find (λ j. ends_declaration ts j || begins_typedef ts j) (range_with_len k (length ts - k))
 
--- token k if it is taken: it stands at depth 0 and is no brace
+-- token k if it is taken: it is at depth 0 and is no brace
 abbrev pub taken_at : List Token → ℕ → List Token
 taken_at ts k =
     let t = token_at ts k in

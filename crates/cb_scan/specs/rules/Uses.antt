@@ -25,15 +25,15 @@ is_include [] = false
 is_include (hash ∷ []) = false
 is_include (hash ∷ own ∷ rest) = has_kind kind_is_include own.role
 
--- the tokens of a directive behind its own word
-abbrev pub behind_own_word : List Token → List Token
-behind_own_word [] = []
-behind_own_word (hash ∷ []) = []
-behind_own_word (hash ∷ own ∷ rest) = if is_any_word own.role then rest else own ∷ rest
+-- the tokens of a directive after its own word
+abbrev pub after_own_word : List Token → List Token
+after_own_word [] = []
+after_own_word (hash ∷ []) = []
+after_own_word (hash ∷ own ∷ rest) = if is_any_word own.role then rest else own ∷ rest
 
 -- the tokens of a line among which names are uses: no token of an include, and no own word
 abbrev pub usable : List Token → List Token
-usable line = if is_directive line then (if is_include line then [] else behind_own_word line) else line
+usable line = if is_directive line then (if is_include line then [] else after_own_word line) else line
 
 -- the names used on a line
 abbrev pub used : List Token → List Token
@@ -82,8 +82,8 @@ macro_calls ms = flat_map (λ (m : Macro). calls_among m.name.span m.body) ms
 abbrev pub header_between : ℕ → ℕ → ℕ → List Include
 header_between start end line = if nat_lt start end then record { header = record { start = start; end = end }; line = line; scope = None } ∷ [] else []
 
--- the header that the third token of an include begins: a closed string (`IsClosedLiteral`), or what stands between `<` and the first `>` (ISO C
--- 2011, 6.4.7 and 6.10.2). Its first byte stands on the token's line.
+-- the header that the third token of an include begins: a closed string (`IsClosedLiteral`), or what is between `<` and the first `>` (ISO C
+-- 2011, 6.4.7 and 6.10.2). Its first byte is on the token's line.
 abbrev pub header_of : List ℕ → Token → List Token → List Include
 header_of text t rest =
     if is_str t.role then (if is_closed (bytes_of text t.span) then header_between (t.span.start + 1) (t.span.end - 1) t.line else [])

@@ -45,17 +45,17 @@ may_end (Some t) = is_mark close_paren t.role || is_name_token t.role
 abbrev pub defined : Head → Option Token
 defined h = if not h.begins_with_typedef && not h.has_equals && may_end h.last then h.called else None
 
--- `extern` stands directly before
+-- `extern` is directly before
 abbrev pub is_after_extern : Before → Bool
 is_after_extern Extern = true
 is_after_extern _ = false
 
--- `extern` and a string stand directly before
+-- `extern` and a string are directly before
 abbrev pub is_after_linkage : Before → Bool
 is_after_linkage Linkage = true
 is_after_linkage _ = false
 
--- what stands directly before the token after this one
+-- what is directly before the token after this one
 abbrev pub before_after : Before → Token → Before
 before_after b t = if is_extern t.role then Extern else (if is_str t.role && is_after_extern b then Linkage else Anything)
 

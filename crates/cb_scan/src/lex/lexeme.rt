@@ -8,9 +8,9 @@ ghost use Rattle.cb_scan.specs.steps.Cut.{
   class_at,
   number_len,
   blank_len,
-  note_escape,
-  ends_note,
-  note_len,
+  comment_escape,
+  ends_comment,
+  comment_len,
   literal_escape,
   ends_literal,
   literal_len,
@@ -21,7 +21,7 @@ ghost use Rattle.cb_scan.specs.steps.Cut.{
 use crate::lex::piece::Class;
 use memchr::memmem;
 
-/// What stands directly before a byte of a note or literal: nothing of note, a `\`, or a `\` and a carriage return.
+/// What is directly before a byte of a comment or literal: nothing special, a `\`, or a `\` and a carriage return.
 #[derive(Clone, Copy, Debug, PartialEq, Eq)]
 pub(crate) enum Escape {
     Plain,
@@ -135,9 +135,9 @@ fn blank_len(text: &[u8]) -> usize
 }
 
 #[inline]
-#[tactic(auto, unfolding(crate::specs::steps::Cut::note_escape))]
-fn note_escape(escape: Escape, byte: u8) -> Escape
-    ensures { result ≡ note_escape escape byte }
+#[tactic(auto, unfolding(crate::specs::steps::Cut::comment_escape))]
+fn comment_escape(escape: Escape, byte: u8) -> Escape
+    ensures { result ≡ comment_escape escape byte }
 {
     match (escape, byte) {
         (_, b'\\') => Escape::Backslash,
@@ -146,9 +146,9 @@ fn note_escape(escape: Escape, byte: u8) -> Escape
     }
 }
 
-#[tactic(auto, unfolding(crate::specs::steps::Cut::note_len, crate::specs::steps::Cut::ends_note))]
-fn note_len(text: &[u8]) -> usize
-    ensures value { result ≡ note_len Escape.Plain text.now }
+#[tactic(auto, unfolding(crate::specs::steps::Cut::comment_len, crate::specs::steps::Cut::ends_comment))]
+fn comment_len(text: &[u8]) -> usize
+    ensures value { result ≡ comment_len Escape.Plain text.now }
     ensures within { result ≤ length text.now }
 {
     let mut escape = Escape::Plain;
@@ -156,7 +156,7 @@ fn note_len(text: &[u8]) -> usize
         if *byte == b'\n' && escape == Escape::Plain {
             return i;
         }
-        escape = note_escape(escape, *byte);
+        escape = comment_escape(escape, *byte);
     }
     text.len()
 }
@@ -226,7 +226,7 @@ pub(crate) fn length_in(class: Class, text: &[u8]) -> usize
         Class::Number => number_len(text),
         Class::Str => 1 + literal_len(b'"', &text[1..]),
         Class::Chr => 1 + literal_len(b'\'', &text[1..]),
-        Class::LineNote => 2 + note_len(&text[2..]),
+        Class::LineNote => 2 + comment_len(&text[2..]),
         Class::BlockNote => 2 + block_len(&text[2..]),
         Class::Blank => blank_len(text),
         Class::Newline | Class::Byte => 1,

@@ -17,7 +17,7 @@ pub(crate) struct Head {
     called: Option<Token>,
 }
 
-/// What stands directly before a token: `extern`, `extern` and a string, or anything else.
+/// What is directly before a token: `extern`, `extern` and a string, or anything else.
 #[derive(Clone, Copy)]
 pub(crate) enum Before {
     Anything,
@@ -25,7 +25,7 @@ pub(crate) enum Before {
     Linkage,
 }
 
-/// Where the pass stands: the depth in braces, what stands directly before, the head so far, and the name of the function
+/// The state of the pass: the depth in braces, what is directly before, the head so far, and the name of the function
 /// whose body it is in.
 #[derive(Clone, Copy)]
 pub(crate) struct Machine {
@@ -46,7 +46,7 @@ fn called_after(called: Option<Token>, last: Option<Token>, token: Token) -> Opt
     }
 }
 
-/// What stands directly before the token after this one.
+/// What is directly before the token after this one.
 fn before_after(before: Before, token: Token) -> Before
     ensures { result ≡ before_after before token }
 {

@@ -64,7 +64,7 @@ fn order_calls(calls: &mut [Call])
     );
 }
 
-/// Three lists behind each other, at their exact size.
+/// Three lists, one after the other, at their exact size.
 fn joined<T: Copy>(
     alloc: Global,
     first: &[T],

@@ -21,7 +21,7 @@ pub(crate) struct Around<'a> {
     pub macros: &'a [Range],
 }
 
-/// The ranges without those at the front that end by a place.
+/// The ranges without those at the beginning that end by a place.
 fn reached(ranges: &[Range], place: u32) -> &[Range]
     ensures { result.now ≡ reached place ranges.now }
 {

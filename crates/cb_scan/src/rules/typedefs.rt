@@ -128,7 +128,7 @@ fn ends(machine: Machine, token: Token) -> bool
     token.is_mark(b';') && machine.depth == 0
 }
 
-/// The token stands at depth 0 and is no brace.
+/// The token is at depth 0 and is no brace.
 fn takes(machine: Machine, token: Token) -> bool
     ensures { result ≡ takes machine token }
 {

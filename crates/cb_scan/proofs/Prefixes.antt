@@ -8,27 +8,27 @@ use Rattle.cb_scan.specs.lex.Lexeme.{is_letter, is_digit, is_blank, first_is}
 use Rattle.cb_scan.specs.steps.Cut.{begins, ends_join, class_at}
 
 -- the tests that made the choice
-pub data Front (b : ℕ) (rest : List ℕ) : Class → Type 0 where
-  at_name : is_letter b ≡ true → Front b rest Name
-  at_number : (is_digit b || (b == 46 && first_is is_digit rest)) ≡ true → Front b rest Number
-  at_str : (b == 34) ≡ true → Front b rest Str
-  at_chr : (b == 39) ≡ true → Front b rest Chr
-  at_line_note : (b == 47 && begins 47 rest) ≡ true → Front b rest LineNote
-  at_block_note : (b == 47 && begins 42 rest) ≡ true → Front b rest BlockNote
-  at_blank : (is_blank b || (b == 92 && ends_join rest)) ≡ true → Front b rest Blank
-  at_newline : (b == 10) ≡ true → Front b rest Newline
-  at_byte : (b == 10) ≡ false → Front b rest Byte
+pub data Prefix (b : ℕ) (rest : List ℕ) : Class → Type 0 where
+  at_name : is_letter b ≡ true → Prefix b rest Name
+  at_number : (is_digit b || (b == 46 && first_is is_digit rest)) ≡ true → Prefix b rest Number
+  at_str : (b == 34) ≡ true → Prefix b rest Str
+  at_chr : (b == 39) ≡ true → Prefix b rest Chr
+  at_line_comment : (b == 47 && begins 47 rest) ≡ true → Prefix b rest LineNote
+  at_block_comment : (b == 47 && begins 42 rest) ≡ true → Prefix b rest BlockNote
+  at_blank : (is_blank b || (b == 92 && ends_join rest)) ≡ true → Prefix b rest Blank
+  at_newline : (b == 10) ≡ true → Prefix b rest Newline
+  at_byte : (b == 10) ≡ false → Prefix b rest Byte
 
-pub front : (b : ℕ) (rest : List ℕ) → Front b rest (class_at (b ∷ rest))
+pub front : (b : ℕ) (rest : List ℕ) → Prefix b rest (class_at (b ∷ rest))
 unfolding class_at
 front b rest =
-    let P = Front b rest in
+    let P = Prefix b rest in
     cond_both _ _ _ P (λ t. at_name t) (λ _.
     cond_both _ _ _ P (λ t. at_number t) (λ _.
     cond_both _ _ _ P (λ t. at_str t) (λ _.
     cond_both _ _ _ P (λ t. at_chr t) (λ _.
-    cond_both _ _ _ P (λ t. at_line_note t) (λ _.
-    cond_both _ _ _ P (λ t. at_block_note t) (λ _.
+    cond_both _ _ _ P (λ t. at_line_comment t) (λ _.
+    cond_both _ _ _ P (λ t. at_block_comment t) (λ _.
     cond_both _ _ _ P (λ t. at_blank t) (λ _.
     cond_both _ _ _ P (λ t. at_newline t) (λ f. at_byte f))))))))
 
@@ -64,13 +64,13 @@ pub class-apostrophe : (rest : List ℕ) → class_at (39 ∷ rest) ≡ Chr
 unfolding class_at
 class-apostrophe rest = refl
 
-pub class-line_note : (rest : List ℕ) → class_at (47 ∷ 47 ∷ rest) ≡ LineNote
+pub class-line_comment : (rest : List ℕ) → class_at (47 ∷ 47 ∷ rest) ≡ LineNote
 unfolding class_at first_is
-class-line_note rest = refl
+class-line_comment rest = refl
 
-pub class-block_note : (rest : List ℕ) → class_at (47 ∷ 42 ∷ rest) ≡ BlockNote
+pub class-block_comment : (rest : List ℕ) → class_at (47 ∷ 42 ∷ rest) ≡ BlockNote
 unfolding class_at first_is
-class-block_note rest = refl
+class-block_comment rest = refl
 
 blank_is : (b : ℕ) → is_blank b ≡ true → (b ≡ 32) ⊎ ((b ≡ 9) ⊎ ((b ≡ 11) ⊎ ((b ≡ 12) ⊎ (b ≡ 13))))
 blank_is b t = grind (arith, nat_tests)
