@@ -1,29 +1,29 @@
 //! The scanner: one pass over the pieces of a text, and then its facts in order and with their scopes.
 ghost use Rattle.std.specs.Prelude.{◌≡◌, ◌+◌, ◌++◌, ◌^◌, ◌-◌, ◌<◌, ◌≤◌, min, List, length, map, IfOk, IfErr};
 ghost use Rattle.std.specs.List.{AllByRecursion, flat_map};
-ghost use Rattle.cb_scan.specs.declared.piece.Piece.{Piece};
-ghost use Rattle.cb_scan.specs.Code.{code, directives, logical_lines};
+ghost use Rattle.cb_scan.specs.declared.lex.piece.Piece.{Piece};
+ghost use Rattle.cb_scan.specs.rules.Code.{code, directives, logical_lines};
 ghost use Rattle.cb_scan.specs.Definitions.{definitions, calls, facts_from, facts_of, function_def, macro_def, typedef_def, AreWithin};
-ghost use Rattle.cb_scan.specs.Functions.{functions};
-ghost use Rattle.cb_scan.specs.Macros.{macros};
-ghost use Rattle.cb_scan.specs.Pieces.{IsPieces};
-ghost use Rattle.cb_scan.specs.Scope.{function_ranges, macro_ranges};
+ghost use Rattle.cb_scan.specs.rules.Functions.{functions};
+ghost use Rattle.cb_scan.specs.rules.Macros.{macros};
+ghost use Rattle.cb_scan.specs.lex.Pieces.{IsPieces};
+ghost use Rattle.cb_scan.specs.rules.Scope.{function_ranges, macro_ranges};
 ghost use Rattle.cb_scan.specs.steps.Cut.{pieces};
-ghost use Rattle.cb_scan.specs.Tokens.{is_significant};
-ghost use Rattle.cb_scan.specs.Typedefs.{typedefs};
-ghost use Rattle.cb_scan.specs.Uses.{function_calls, include_of, macro_calls, used};
+ghost use Rattle.cb_scan.specs.lex.Tokens.{is_significant};
+ghost use Rattle.cb_scan.specs.rules.Typedefs.{typedefs};
+ghost use Rattle.cb_scan.specs.rules.Uses.{function_calls, include_of, macro_calls, used};
 
 use crate::facts::Facts;
 use crate::gather::{CodeLists, CodeState, LineLists};
-use crate::line::Stage;
-use crate::lined::lined_pieces;
-use crate::machine::Machine;
+use crate::rules::directives::Stage;
+use crate::lex::lined::lined_pieces;
+use crate::rules::functions::Machine;
 use crate::meter::Meter;
-use crate::order::{ordered_calls, ordered_defs};
-use crate::piece::Class;
-use crate::scope::{Around, scoped_includes, scoped_uses};
+use crate::rules::order::{ordered_calls, ordered_defs};
+use crate::lex::piece::Class;
+use crate::rules::scope::{Around, scoped_includes, scoped_uses};
 use crate::source::{ScanError, Source};
-use crate::token::token_of;
+use crate::lex::token::token_of;
 use std::alloc::{AllocError, Global};
 
 /// What one pass gathers.
