@@ -1,7 +1,7 @@
 -- What changes do to small worlds, computed. Expected worlds and refusals are worked out by hand.
 use Rattle.std.specs.Prelude.{◌≡◌, ℕ, List, [], ◌∷◌, Ok, Err, codes, refl}
-use Rattle.cb_scan.specs.Definitions.{definitions}
-use Rattle.cb_scan.specs.FunctionExamples.{finding}
+use Rattle.cb_scan.specs.Definitions.{definitions_from}
+use Rattle.cb_scan.specs.examples.Functions.{finding}
 use Rattle.cb_scan.specs.Order.{put, in_order}
 use Rattle.cb_desk.specs.declared.refusal.Refusal.TheVariants.{BadName, NoSuchFile, FileExists, NoSuchDefinition, StackEmpty}
 use Rattle.cb_desk.specs.World.{World, File, Frame, empty_world, text_of_file}
@@ -65,16 +65,16 @@ abbrev functions_f : World
 functions_f = record { files = file (codes "a.c") (codes "\nf(){}f(){}") ∷ file (codes "b.c") (codes "f(){}") ∷ []; frames = frame (codes "b.c") 1 ∷ [] }
 
 pub tagged_second : step functions_f (tag (codes "f") 2) ≡ Ok (record functions_f { frames = frame (codes "b.c") 1 ∷ frame (codes "a.c") 2 ∷ [] })
-unfolding step definitions put in_order finding
+unfolding step definitions_from put in_order finding
 tagged_second = refl
 
 pub tagged_third : step functions_f (tag (codes "f") 3) ≡ Ok (record functions_f { frames = frame (codes "b.c") 1 ∷ frame (codes "b.c") 1 ∷ [] })
-unfolding step definitions put in_order finding
+unfolding step definitions_from put in_order finding
 tagged_third = refl
 
 -- there is no fourth, and none has the number 0
 pub no_fourth : step functions_f (tag (codes "f") 4) ≡ Err NoSuchDefinition
-unfolding step definitions put in_order finding
+unfolding step definitions_from put in_order finding
 no_fourth = refl
 
 pub no_definition_0 : step functions_f (tag (codes "f") 0) ≡ Err NoSuchDefinition
