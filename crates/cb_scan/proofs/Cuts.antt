@@ -8,7 +8,7 @@ use Rattle.cb_scan.specs.declared.lex.piece.Class.TheVariants.{Name, Number, Str
 use Rattle.cb_scan.specs.lex.Lexeme.{is_letter, is_digit, is_word, is_blank, is_identifier, is_number, first_is, goes_on, all_go_on, comment_end, Blanks, no_blank, a_blank, a_join, a_cr_join, Commented, Quoted, Spells, IsLexeme}
 use Rattle.cb_scan.specs.steps.Cut.{begins, ends_join, class_at, number_len, goes_on_blank, blank_len, comment_len, literal_len, block_len, length_in, piece_len}
 use Rattle.cb_scan.proofs.Blocks.{block_len-within, block_len-found, finds_close}
-use Rattle.cb_scan.proofs.Prefixes.{Prefix, front, at_name, at_number, at_str, at_chr, at_line_comment, at_block_comment, at_blank, at_newline, at_byte, class-letter, class-number, class-quote, class-apostrophe, class-line_comment, class-block_comment, class-blank, class-join, class-cr_join, class-feed}
+use Rattle.cb_scan.proofs.Prefixes.{Prefix, prefix_of, at_name, at_number, at_str, at_chr, at_line_comment, at_block_comment, at_blank, at_newline, at_byte, class-letter, class-number, class-quote, class-apostrophe, class-line_comment, class-block_comment, class-blank, class-join, class-cr_join, class-feed}
 use Rattle.cb_scan.proofs.Lengths.{list_all-prefix, prefix-step, prefix_within, prefix_longest, all_go_on-counted, number-step, number_longest, number_len-within, blank-step, blank_counted, blank_longest, blank_len-within, comment_longest, comment_spelled, comment_len-within, IsQuote, literal_longest, literal_spelled, literal_len-within}
 
 pub quote : IsQuote 34
@@ -80,11 +80,11 @@ bounds_of b rest Byte (at_byte f) = record { some = omega arith; within = omega 
 -- a piece takes a byte at least, and no more than there are
 pub piece-some : (text : List ℕ) → 0 < length text → 1 ≤ piece_len text
 piece-some [] some = absurd (omega arith)
-piece-some (b ∷ rest) some = let h = bounds_of b rest (class_at (b ∷ rest)) (front b rest) in h.some
+piece-some (b ∷ rest) some = let h = bounds_of b rest (class_at (b ∷ rest)) (prefix_of b rest) in h.some
 
 pub piece-within : (text : List ℕ) → 0 < length text → piece_len text ≤ length text
 piece-within [] some = absurd (omega arith)
-piece-within (b ∷ rest) some = let h = bounds_of b rest (class_at (b ∷ rest)) (front b rest) in h.within
+piece-within (b ∷ rest) some = let h = bounds_of b rest (class_at (b ∷ rest)) (prefix_of b rest) in h.within
 
 -- the same class by class, for the code that counts
 pub name_some : (text : List ℕ) → class_at text ≡ Name → 0 < length text → 1 ≤ prefix_len is_word text
@@ -258,7 +258,7 @@ piece-lexeme (b ∷ rest) some = ⊎_elim
     let known = parts_of class (b ∷ rest) m h in
     subst (λ c. Spells c (b ∷ rest) m) (sym known.0 ∙ e) h in
     subst (λ c. IsLexeme c (b ∷ rest) (length_in c (b ∷ rest))) (sym e) (omega arith, refl, none))
-    (spelled b rest (class_at (b ∷ rest)) (front b rest))
+    (spelled b rest (class_at (b ∷ rest)) (prefix_of b rest))
 
 -- where no other class has a lexeme the class is `Byte`
 lone : (text : List ℕ) (n : ℕ) → IsLexeme Byte text n → class_at text ≡ Byte
@@ -266,7 +266,7 @@ lone [] n h = absurd (let x : ⊥ = omega (arith, h.0) in x)
 lone (b ∷ rest) n h = ⊎_elim
     (λ s. absurd (h.2 (class_at (b ∷ rest)) (piece_len (b ∷ rest)) s))
     (λ e. e)
-    (spelled b rest (class_at (b ∷ rest)) (front b rest))
+    (spelled b rest (class_at (b ∷ rest)) (prefix_of b rest))
 
 -- each lexeme at a place is of the class there
 pub lexeme-class : (class : Class) (text : List ℕ) (n : ℕ) → IsLexeme class text n → class_at text ≡ class

@@ -16,7 +16,7 @@ use Rattle.cb_scan.specs.Lines.{line_of}
 use Rattle.cb_scan.specs.lex.Pieces.{LiesIn}
 use Rattle.cb_scan.specs.steps.Cut.{class_at, length_in, number_len, piece_len, piece_at, pieces_at, pieces}
 use Rattle.cb_scan.specs.steps.Lined.{is_feed, lined, Within, holds_feeds}
-use Rattle.cb_scan.proofs.Prefixes.{Prefix, front, at_name, at_number, at_str, at_chr, at_line_comment, at_block_comment, at_blank, at_newline, at_byte}
+use Rattle.cb_scan.proofs.Prefixes.{Prefix, prefix_of, at_name, at_number, at_str, at_chr, at_line_comment, at_block_comment, at_blank, at_newline, at_byte}
 use Rattle.cb_scan.proofs.Lengths.{list_all-prefix, all_go_on-counted}
 use Rattle.cb_scan.proofs.PieceLists.{pieces-empty, pieces-step, pieces-lie, length-pieces}
 
@@ -57,7 +57,7 @@ no_feeds_in b rest Byte (at_byte f) bare = grind (arith, nat_tests)
 
 no_feeds_first : (rest : List ℕ) → 0 < length rest → holds_feeds (class_at rest) ≡ false → count_by is_feed (take (piece_len rest) rest) ≡ 0
 no_feeds_first [] some bare = absurd (let x : ⊥ = omega arith in x)
-no_feeds_first (b ∷ rest) some bare = no_feeds_in b rest (class_at (b ∷ rest)) (front b rest) bare
+no_feeds_first (b ∷ rest) some bare = no_feeds_in b rest (class_at (b ∷ rest)) (prefix_of b rest) bare
 
 -- a piece of a class that holds no line feeds has none
 pub no_feeds : (place : ℕ) (rest : List ℕ) (p : Piece) → 0 < length rest → p ≡ piece_at place rest → holds_feeds p.class ≡ false

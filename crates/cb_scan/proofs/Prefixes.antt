@@ -19,9 +19,9 @@ pub data Prefix (b : ℕ) (rest : List ℕ) : Class → Type 0 where
   at_newline : (b == 10) ≡ true → Prefix b rest Newline
   at_byte : (b == 10) ≡ false → Prefix b rest Byte
 
-pub front : (b : ℕ) (rest : List ℕ) → Prefix b rest (class_at (b ∷ rest))
+pub prefix_of : (b : ℕ) (rest : List ℕ) → Prefix b rest (class_at (b ∷ rest))
 unfolding class_at
-front b rest =
+prefix_of b rest =
     let P = Prefix b rest in
     cond_both _ _ _ P (λ t. at_name t) (λ _.
     cond_both _ _ _ P (λ t. at_number t) (λ _.

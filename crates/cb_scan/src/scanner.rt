@@ -1,5 +1,6 @@
 //! The scanner: one pass over the pieces of a text, and then its facts in order and with their scopes.
 ghost use Rattle.std.specs.Prelude.{◌≡◌, ◌+◌, ◌++◌, ◌^◌, ◌-◌, ◌<◌, ◌≤◌, min, List, length, map, IfOk, IfErr};
+ghost use Rattle.cb_scan.specs.declared.source.TheConstants.{MOST_BYTES};
 ghost use Rattle.std.specs.List.{AllByRecursion, flat_map};
 ghost use Rattle.cb_scan.specs.declared.lex.piece.Piece.{Piece};
 ghost use Rattle.cb_scan.specs.rules.Code.{code, directives, logical_lines};
@@ -44,7 +45,7 @@ fn is_significant(class: Class) -> bool
 
 /// The one pass over a text: each piece is looked at once.
 fn gather(alloc: Global, text: &[u8]) -> Result<Gathered, AllocError>
-    requires { length text.now ≤ 1000000 }
+    requires { length text.now ≤ MOST_BYTES }
     ensures functions { IfOk result (λ g. g.code.functions.items ≡ map function_def (functions (code text.now (pieces text.now)))) }
     ensures function_ranges { IfOk result (λ g. g.code.ranges.items ≡ function_ranges text.now (pieces text.now)) }
     ensures function_calls { IfOk result (λ g. g.code.calls.items ≡ function_calls (code text.now (pieces text.now))) }
@@ -81,7 +82,7 @@ fn gather(alloc: Global, text: &[u8]) -> Result<Gathered, AllocError>
 
 /// What is found in a text: what was gathered, in order, with scopes, each list at its exact size.
 fn facts_in(alloc: Global, text: &[u8]) -> Result<Facts, AllocError>
-    requires { length text.now ≤ 1000000 }
+    requires { length text.now ≤ MOST_BYTES }
     ensures { IfOk result (λ f. f ≡ facts_of text.now) }
 {
     let gathered = gather(alloc, text)?;

@@ -1,5 +1,6 @@
 //! Cuts a source into its pieces.
 ghost use Rattle.std.specs.Prelude.{◌≡◌, ◌≤◌, length};
+ghost use Rattle.cb_scan.specs.declared.source.TheConstants.{MOST_BYTES};
 ghost use Rattle.cb_scan.specs.lex.Pieces.{IsPieces};
 ghost use Rattle.cb_scan.specs.steps.Cut.{pieces};
 
@@ -11,7 +12,7 @@ use crate::source::Source;
 pub fn pieces(source: &Source) -> Pieces<'_>
     ensures are { IsPieces source.now result }
     ensures same { result ≡ pieces source.now }
-    ensures len { length result ≤ 1000000 }
+    ensures len { length result ≤ MOST_BYTES }
 {
     Pieces::new(source.bytes())
 }

@@ -1,5 +1,6 @@
 //! The pieces of a text with their lines. No line feed is counted twice.
 ghost use Rattle.std.specs.Prelude.{◌≡◌, ◌≤◌, ◌<◌, false, length, map, count_by};
+ghost use Rattle.cb_scan.specs.declared.source.TheConstants.{MOST_BYTES};
 ghost use Rattle.std.specs.Iterator.{YieldsFirst, item_count};
 ghost use Rattle.std.specs.List.{AllByRecursion};
 ghost use Rattle.cb_scan.specs.steps.Cut.{pieces};
@@ -24,6 +25,7 @@ pub(crate) struct LinedPieces<'a> {
 }
 
 impl<'a> Model for LinedPieces<'a> {
+    ghost use Rattle.cb_scan.specs.declared.source.TheConstants.{MOST_BYTES};
     ghost use Rattle.std.specs.Prelude.{List, ◌≡◌, ◌≤◌, length, drop, map};
     ghost use Rattle.cb_scan.specs.declared.lex.lined.Lined.{Lined};
     ghost use Rattle.cb_scan.specs.Lines.{line_of};
@@ -34,14 +36,14 @@ impl<'a> Model for LinedPieces<'a> {
 
     ghost view = { λ s. map (lined s.text.now) (pieces_at s.at (drop s.at s.text.now)) };
 
-    ghost invariant = { λ s. (length s.text.now ≤ 1000000) × (s.at ≤ length s.text.now) × (s.line ≡ line_of s.text.now s.at) };
+    ghost invariant = { λ s. (length s.text.now ≤ MOST_BYTES) × (s.at ≤ length s.text.now) × (s.line ≡ line_of s.text.now s.at) };
 }
 
 /// How many line feeds the bytes of a piece hold: pieces that can hold none are not looked at again.
 #[inline]
 fn feeds_in(class: Class, bytes: &[u8]) -> u32
     requires none { holds_feeds class ≡ false → count_by is_feed bytes.now ≡ 0 }
-    requires small { length bytes.now ≤ 1000000 }
+    requires small { length bytes.now ≤ MOST_BYTES }
     ensures { result ≡ count_by is_feed bytes.now }
 {
     match class {
@@ -52,10 +54,10 @@ fn feeds_in(class: Class, bytes: &[u8]) -> u32
 
 /// The pieces of a text with their lines.
 pub(crate) fn lined_pieces(text: &[u8]) -> LinedPieces<'_>
-    requires { length text.now ≤ 1000000 }
+    requires { length text.now ≤ MOST_BYTES }
     ensures value { result ≡ map (lined text.now) (pieces text.now) }
     ensures within { AllByRecursion (Within text.now) result }
-    ensures len { length result ≤ 1000000 }
+    ensures len { length result ≤ MOST_BYTES }
 {
     LinedPieces {
         text,

@@ -1,5 +1,6 @@
 //! What a text is cut into.
 ghost use Rattle.std.specs.Prelude.{◌≡◌, ◌+◌, ◌<◌, ◌≤◌, ⊤, length};
+ghost use Rattle.cb_scan.specs.declared.source.TheConstants.{MOST_BYTES};
 ghost use Rattle.std.specs.Iterator.{YieldsFirst, item_count};
 ghost use Rattle.cb_scan.specs.steps.Cut.{piece_at, pieces_at, piece_len};
 
@@ -40,7 +41,7 @@ pub struct Piece {
 #[inline]
 pub(crate) fn first_piece(at: u32, rest: &[u8]) -> Piece
     requires some { 0 < length rest.now }
-    requires small { at + length rest.now ≤ 1000000 }
+    requires small { at + length rest.now ≤ MOST_BYTES }
     ensures value { result ≡ piece_at at rest.now }
     ensures after { at + 1 ≤ result.span.end }
     ensures within { result.span.end ≤ at + length rest.now }
@@ -62,6 +63,7 @@ pub struct Pieces<'a> {
 }
 
 impl<'a> Model for Pieces<'a> {
+    ghost use Rattle.cb_scan.specs.declared.source.TheConstants.{MOST_BYTES};
     ghost use Rattle.std.specs.Prelude.{List, ◌+◌, ◌≤◌, length};
     ghost use Rattle.cb_scan.specs.declared.lex.piece.Piece.{Piece};
     ghost use Rattle.cb_scan.specs.steps.Cut.{pieces_at};
@@ -70,7 +72,7 @@ impl<'a> Model for Pieces<'a> {
 
     ghost view = { λ s. pieces_at s.at s.rest.now };
 
-    ghost invariant = { λ s. s.at + length s.rest.now ≤ 1000000 };
+    ghost invariant = { λ s. s.at + length s.rest.now ≤ MOST_BYTES };
 }
 
 impl<'a> Clone for Pieces<'a> {
@@ -88,9 +90,9 @@ impl<'a> Clone for Pieces<'a> {
 
 impl<'a> Pieces<'a> {
     pub(crate) fn new(text: &'a [u8]) -> Pieces<'a>
-        requires { length text.now ≤ 1000000 }
+        requires { length text.now ≤ MOST_BYTES }
         ensures value { result ≡ pieces_at 0 text.now }
-        ensures len { length result ≤ 1000000 }
+        ensures len { length result ≤ MOST_BYTES }
     {
         Pieces { rest: text, at: 0 }
     }

@@ -1,5 +1,6 @@
 //! How far a logical line has come: code, or a directive with what it defines or includes.
 ghost use Rattle.std.specs.Prelude.{◌≡◌, ◌≤◌, ◌<◌, ◌&&◌, length};
+ghost use Rattle.cb_scan.specs.declared.source.TheConstants.{MOST_BYTES};
 ghost use Rattle.std.specs.Option.{option_to_list};
 ghost use Rattle.cb_scan.specs.lex.Tokens.{is_name_token};
 ghost use Rattle.cb_scan.specs.steps.Directives.{body_call, directive_of, header_found, include_out, is_code, macro_call, macro_ended, macro_found, macro_opened, names_count, next_defining, next_directive, next_including, next_stage, range_ended};
@@ -136,7 +137,7 @@ impl Including {
     fn found(self, text: &[u8], token: Token) -> Option<Include>
         requires some { token.span.start < token.span.end }
         requires within { token.span.end ≤ length text.now }
-        requires small { length text.now ≤ 1000000 }
+        requires small { length text.now ≤ MOST_BYTES }
         ensures { option_to_list result ≡ header_found text.now self token }
     {
         match (self, token.role) {
@@ -236,7 +237,7 @@ impl Stage {
     pub(crate) fn include_found(self, text: &[u8], token: Token) -> Option<Include>
         requires some { token.span.start < token.span.end }
         requires within { token.span.end ≤ length text.now }
-        requires small { length text.now ≤ 1000000 }
+        requires small { length text.now ≤ MOST_BYTES }
         ensures { option_to_list result ≡ include_out text.now self token }
     {
         match self {

@@ -1,5 +1,6 @@
 //! The header that an include names.
 ghost use Rattle.std.specs.Prelude.{◌≡◌, ◌≤◌, ◌+◌, ◌<◌, [], length};
+ghost use Rattle.cb_scan.specs.declared.source.TheConstants.{MOST_BYTES};
 ghost use Rattle.std.specs.Option.{option_to_list};
 ghost use Rattle.cb_scan.specs.rules.Uses.{header_between, header_of};
 ghost use Rattle.cb_scan.specs.steps.Quote.{closes_from, is_closed};
@@ -54,7 +55,7 @@ fn header_between(start: u32, end: u32, line: u32) -> Option<Include>
 pub(crate) fn string_header(text: &[u8], token: Token) -> Option<Include>
     requires some { token.span.start < token.span.end }
     requires within { token.span.end ≤ length text.now }
-    requires small { length text.now ≤ 1000000 }
+    requires small { length text.now ≤ MOST_BYTES }
     requires string { token.role ≡ Role.Str }
     ensures { option_to_list result ≡ header_of text.now token [] }
 {

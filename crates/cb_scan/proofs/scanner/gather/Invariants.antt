@@ -3,6 +3,7 @@ use Rattle.std.proofs.Common.{◌≡◌, ◌+◌, ◌≤◌, ◌++◌, length, m
 use Rattle.std.specs.List.{AllByRecursion, flat_map}
 use Rattle.cb_scan.specs.steps.Cut.{pieces}
 use Rattle.cb_scan.specs.rules.Code.{code, directives, logical_lines}
+use Rattle.cb_scan.specs.declared.source.TheConstants.{MOST_BYTES}
 use Rattle.cb_scan.specs.Definitions.{function_def, macro_def, typedef_def}
 use Rattle.cb_scan.specs.rules.Functions.{functions}
 use Rattle.cb_scan.specs.rules.Macros.{macros}
@@ -27,6 +28,6 @@ invariant-loop-lined l = record {
   macro_calls_found : l.lines.calls.items ++ walk macro_call_out nothing l.text l.line l.lined-iterator ≡ macro_calls (macros l.text (pieces l.text));
   includes_found : l.lines.includes.items ++ walk (include_out l.text) nothing l.text l.line l.lined-iterator ≡ flat_map (include_of l.text) (directives l.text (pieces l.text));
   within : AllByRecursion (Within l.text) l.lined-iterator;
-  room : l.state.machine.depth + length l.lined-iterator ≤ 1000000;
-  nested : nesting_of l.state.declared + length l.lined-iterator ≤ 1000000;
+  room : l.state.machine.depth + length l.lined-iterator ≤ MOST_BYTES;
+  nested : nesting_of l.state.declared + length l.lined-iterator ≤ MOST_BYTES;
 }
