@@ -1,5 +1,6 @@
 #!/usr/bin/env bash
-# Tries the edits that the gate leaves out: the prover has to refuse each of crates/NAME/must-fail/more/*.edit.
+# Tries the edits that the gate leaves out: the prover has to refuse each of crates/NAME/must-fail/more/*.edit.md. (The
+# gate tries every file *.edit below must-fail, so those that it leaves out end in .md.)
 #
 #     scripts/more-edits.sh [CRATE..]      all crates, or the ones named
 #
@@ -19,6 +20,9 @@ cp -a . "$copy/cbrowse"
 cd "$copy/cbrowse"
 for crate in "${crates[@]}"; do
     rm -f "crates/$crate"/must-fail/*.edit
-    mv "crates/$crate"/must-fail/more/*.edit "crates/$crate/must-fail/"
+    for edit in "crates/$crate"/must-fail/more/*.edit.md; do
+        name=${edit##*/}
+        mv "$edit" "crates/$crate/must-fail/${name%.md}"
+    done
 done
 rt must-fail "${crates[@]}"

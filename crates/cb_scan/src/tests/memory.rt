@@ -1,4 +1,5 @@
-//! Tests in which memory may be refused: `scripts/each-growth-refused.sh` lets each growth fail in turn, one a run.
+//! Tests in which memory may be refused, each growth in turn, one a run. For each call that takes memory,
+//! `refused_growth_of_CALL` passes in each run, and `no_refusal_of_CALL` only in a run that refuses nothing.
 use crate::meter::Meter;
 use crate::scanner::scan;
 use crate::source::{ScanError, Source};
@@ -25,32 +26,60 @@ fn scans_at_last(rt: &impl Abort, alloc: Global, source: &Source, meter: &mut Me
     }
 }
 
-/// Makes a source and scans it, and checks what must hold whether or not memory is refused. Whether it was.
-fn meets_a_refusal(rt: &impl Abort, alloc: Global) -> bool {
-    let Ok(bytes) = TEXT.to_vec(alloc) else {
+/// Makes a source. Where memory refuses it, it is made the next time. Whether memory was refused.
+fn source_meets_a_refusal(rt: &impl Abort, alloc: Global) -> bool {
+    let (Ok(first), Ok(again)) = (TEXT.to_vec(alloc), TEXT.to_vec(alloc)) else {
         return true;
     };
-    match Source::new(alloc, bytes) {
+    match Source::new(alloc, first) {
         Ok(source) => {
-            let mut meter = Meter::new();
-            let refused = scans_at_last(rt, alloc, &source, &mut meter);
             assert_eq!(rt; source.bytes(), TEXT);
             assert_eq!(rt; source.line_count(), 17);
-            refused
+            false
         }
         Err(error) => {
             assert_eq!(rt; error, ScanError::OutOfMemory);
+            let lines = Source::new(alloc, again).map_or(0, |source| source.line_count());
+            assert_eq!(rt; lines, 17);
             true
         }
     }
 }
 
-#[test]
-fn a_refused_growth_is_answered(rt: HostRuntime) {
-    let _refused = meets_a_refusal(&rt, rt.alloc());
+/// Scans a source. Whether memory was refused.
+fn scan_meets_a_refusal(rt: &impl Abort, alloc: Global) -> bool {
+    let Ok(bytes) = TEXT.to_vec(alloc) else {
+        return true;
+    };
+    let Ok(source) = Source::new(alloc, bytes) else {
+        return true;
+    };
+    let mut meter = Meter::new();
+    scans_at_last(rt, alloc, &source, &mut meter)
 }
 
 #[test]
-fn no_growth_is_refused(rt: HostRuntime) {
-    assert!(rt; !meets_a_refusal(&rt, rt.alloc()), "memory was refused");
+fn refused_growth_of_source(rt: HostRuntime) {
+    let _refused = source_meets_a_refusal(&rt, rt.alloc());
+}
+
+#[test]
+fn no_refusal_of_source(rt: HostRuntime) {
+    assert!(rt;
+        !source_meets_a_refusal(&rt, rt.alloc()),
+        "memory was refused"
+    );
+}
+
+#[test]
+fn refused_growth_of_scan(rt: HostRuntime) {
+    let _refused = scan_meets_a_refusal(&rt, rt.alloc());
+}
+
+#[test]
+fn no_refusal_of_scan(rt: HostRuntime) {
+    assert!(rt;
+        !scan_meets_a_refusal(&rt, rt.alloc()),
+        "memory was refused"
+    );
 }
