@@ -12,13 +12,13 @@ mod finish;
 #[cfg(test)]
 mod tests;
 
+use crate::execute::files::{make_file, read_operands};
+use crate::execute::finish::{Finish, conclude, files_of};
 use crate::job::{Job, job_of};
 use cb_desk::{Desk, Format};
 use cb_session::{Ended, Fault, Feed, Limits, Session, prepare, put_listing_file, put_tags_file};
 use cb_tags::{Sink, TagRow};
-use files::{make_file, read_operands};
-pub use finish::refuse;
-use finish::{Finish, conclude, files_of};
+pub(crate) use finish::refuse;
 use std::alloc::Global;
 use std::io::{BufRead, Write};
 use std::rt::Files;

@@ -5,7 +5,7 @@ ghost use Rattle.cbrowse.specs.Jobs.{browse_app, IsJobOf};
 ghost use Rattle.cbrowse.specs.Usages.{IsUsageOf, TellsKind};
 
 mod command;
-mod found;
+mod matched;
 #[cfg(test)]
 mod tests;
 
@@ -60,7 +60,7 @@ pub fn job_of(alloc: Global, words: &[String]) -> Result<Job, Usage>
         Ok(matches) => matches,
         Err(error) => return Err(usage_of(alloc, &error)),
     };
-    match found::found_job(alloc, &matches)? {
+    match matched::found_job(alloc, &matches)? {
         Some(job) => Ok(job),
         // clap refuses words without a subcommand and other formats, so no words lead here.
         None => Err(Usage::Wrong(command.render_usage()?)),

@@ -2,7 +2,7 @@
 ghost use Rattle.std.specs.Prelude.{◌≡◌, IfOk, IfErr, MatchResult, map, string_bytes};
 ghost use Rattle.cbrowse.specs.Program.{EndsIntoFile, StopsReading};
 
-use super::finish::Finish;
+use crate::execute::finish::Finish;
 use cb_session::{Ended, Fault, Operand, Operands};
 use std::alloc::{AllocError, Global};
 use std::fs;
@@ -41,7 +41,7 @@ fn read_operand<R: Files + AllocGlobal>(rt: &R, folder: &str, name: &str) -> io:
 }
 
 /// Reads files in order. The first that cannot be read ends it.
-pub fn read_operands<R: Files + AllocGlobal>(
+pub(crate) fn read_operands<R: Files + AllocGlobal>(
     rt: &R,
     folder: &str,
     files: &[String],
@@ -63,7 +63,7 @@ pub fn read_operands<R: Files + AllocGlobal>(
 }
 
 /// Makes or empties a tags file.
-pub(super) fn make_file<R: Files + AllocGlobal>(
+pub(crate) fn make_file<R: Files + AllocGlobal>(
     rt: &R,
     folder: &str,
     name: &str,

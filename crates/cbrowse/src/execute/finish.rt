@@ -11,7 +11,7 @@ use std::io::Write;
 
 /// How a job ended.
 #[derive(Clone, Copy, Debug, PartialEq, Eq)]
-pub enum Finish {
+pub(crate) enum Finish {
     /// Its run ended so.
     Ran(Ended),
     /// The file at this place of its files, counted from 0, cannot be read.
@@ -21,7 +21,7 @@ pub enum Finish {
 }
 
 /// The files of a job.
-pub fn files_of(job: &Job) -> &[String]
+pub(crate) fn files_of(job: &Job) -> &[String]
     ensures { map string_bytes result.now ≡ files_of job.now }
 {
     match job {
@@ -151,7 +151,7 @@ fn put_usage<E: Write>(errors: &mut Sink<E>, usage: &Usage) -> Result<(), WriteF
 }
 
 /// Says how a job ended, and answers the exit status.
-pub fn conclude<E: Write>(errors: &mut Sink<E>, job: &Job, end: Finish) -> u8
+pub(crate) fn conclude<E: Write>(errors: &mut Sink<E>, job: &Job, end: Finish) -> u8
     ensures status { result ≡ status_of end }
     ensures said { Says errors.old errors.new (said_of job.now end) }
 {
@@ -161,7 +161,7 @@ pub fn conclude<E: Write>(errors: &mut Sink<E>, job: &Job, end: Finish) -> u8
 }
 
 /// Says why there is no job, and answers the exit status.
-pub fn refuse<E: Write>(errors: &mut Sink<E>, usage: &Usage) -> u8
+pub(crate) fn refuse<E: Write>(errors: &mut Sink<E>, usage: &Usage) -> u8
     ensures status { result ≡ usage_status usage.now }
     ensures said { Says errors.old errors.new (usage_said usage.now) }
 {

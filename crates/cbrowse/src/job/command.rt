@@ -12,7 +12,7 @@ use std::alloc::{AllocError, Global};
 static FORMATS: [&str; 2] = ["1", "2"];
 
 /// The command of the program.
-pub fn browse_command<'a>(alloc: Global) -> Result<Command<'a>, AllocError>
+pub(crate) fn browse_command<'a>(alloc: Global) -> Result<Command<'a>, AllocError>
     ensures { IfOk result (λ command. TakesFormats browse_app_of (app_of command)) }
 {
     Command::new(alloc, "cbrowse")

@@ -11,12 +11,14 @@ fn job_meets_a_refusal(rt: &impl Abort, alloc: Global) -> bool {
         return true;
     };
     match job_of(alloc, words.as_slice()) {
-        Ok(Job::Tags {
-            listing,
-            tagsfile,
-            files,
-            ..
-        }) => {
+        Ok(
+            Job::Tags {
+                listing,
+                tagsfile,
+                files,
+                ..
+            },
+        ) => {
             assert!(rt; !listing);
             assert!(rt; tagsfile.as_str() == "two");
             assert_eq!(rt; files.len(), 2);

@@ -7,13 +7,13 @@ ghost use Rattle.cbrowse.specs.declared.job.Job.{Job};
 ghost use Rattle.cb_desk.specs.declared.tags.Format.{Format};
 ghost use Rattle.cbrowse.specs.Commands.{rows_in};
 
-use super::Job;
+use crate::job::Job;
 use cb_desk::Format;
 use clap::ArgMatches;
 use std::alloc::{AllocError, Global};
 
 /// The job of the subcommand that was found, or `None` where there is no such subcommand or format.
-pub fn found_job(alloc: Global, matches: &ArgMatches<'_>) -> Result<Option<Job>, AllocError>
+pub(crate) fn found_job(alloc: Global, matches: &ArgMatches<'_>) -> Result<Option<Job>, AllocError>
     ensures { IfOk result (λ found. MatchOption found ((job : Job) → IsJobOf (subcommand_rows_of matches.now) job → ⊥) (IsJobOf (subcommand_rows_of matches.now))) }
 {
     match matches.subcommand() {
