@@ -1,25 +1,60 @@
 #!/usr/bin/env bash
-# Runs the tests of a crate (cb_scan, or the one named) with the Nth growth of memory refused, for N from 1 on until a run meets no refusal.
-# The crate's tests::memory has two tests: `a_refused_growth_is_answered` must pass in each run, `no_growth_is_refused` in the last one alone.
+# Refuses each growth of memory in turn: the Nth growth of a test fails, for N from 1 on.
+#
+#     scripts/each-growth-refused.sh [CRATE..]      all crates with a module tests::memory, or the ones named
+#
+# That module has two tests for each call that takes memory. `refused_growth_of_CALL` accepts a refusal, checks what must
+# hold after it, and has to pass in every run. `no_refusal_of_CALL` passes only where nothing was refused. A crate is done
+# when a run refuses nothing to any of its calls. One line for each call says how many growths were refused in turn,
+# those of the test's own preparation among them. A run builds the tests anew, so a crate takes some minutes.
 set -euo pipefail
-crate=${1:-cb_scan}
-cd "$(dirname "${BASH_SOURCE[0]}")/../crates/$crate"
-for ((n = 1; n <= 100; n++)); do
-    out=$(rt try --test --fail-alloc "$n" 2>&1) || true
-    if ! grep -q '^test tests::memory::a_refused_growth_is_answered \.\.\. ok$' <<<"$out"; then
-        printf '%s\n' "$out"
-        echo "growth $n refused: wrong answer"
-        exit 1
-    fi
-    if grep -q '^test tests::memory::no_growth_is_refused \.\.\. ok$' <<<"$out"; then
-        if [ "$n" -eq 1 ]; then
-            echo "no run met a refusal"
-            exit 1
+cd "$(dirname "${BASH_SOURCE[0]}")/.."
+most=400
+
+one_crate() {
+    local crate=$1 n out calls left line call
+    declare -A done_at=()
+    for ((n = 1; n <= most; n++)); do
+        out=$(cd "crates/$crate" && rt try --test --fail-alloc "$n" -- tests::memory 2>&1) || true
+        calls=$(sed -n 's/^test .*tests::memory::refused_growth_of_\([a-z_]*\) \.\.\. .*/\1/p' <<<"$out")
+        if [ -z "$calls" ]; then
+            printf '%s\n' "$out"
+            echo "$crate: no test of memory ran"
+            return 1
         fi
-        echo "each of $((n - 1)) growths was refused in turn and answered as such"
-        exit 0
-    fi
-    echo "growth $n refused: answered"
+        left=0
+        for call in $calls; do
+            if ! grep -q "tests::memory::refused_growth_of_$call \.\.\. ok\$" <<<"$out"; then
+                printf '%s\n' "$out"
+                echo "$crate: $call answers wrongly where growth $n is refused"
+                return 1
+            fi
+            if ! grep -q "tests::memory::no_refusal_of_$call \.\.\. ok\$" <<<"$out"; then
+                left=1
+                unset "done_at[$call]"
+            elif [ -z "${done_at[$call]:-}" ]; then
+                done_at[$call]=$n
+            fi
+        done
+        if [ "$left" -eq 0 ]; then
+            for call in $calls; do
+                echo "$crate: $call: each of $((done_at[$call] - 1)) growths was refused in turn and answered"
+            done
+            return 0
+        fi
+    done
+    echo "$crate: $most growths refused, and there are more"
+    return 1
+}
+
+crates=("$@")
+if [ ${#crates[@]} -eq 0 ]; then
+    for tests in crates/*/src/tests/memory.rt crates/*/src/*/tests/memory.rt; do
+        [ -e "$tests" ] || continue
+        tests=${tests#crates/}
+        crates+=("${tests%%/*}")
+    done
+fi
+for crate in "${crates[@]}"; do
+    one_crate "$crate"
 done
-echo "100 growths refused, and there are more"
-exit 1

@@ -8,18 +8,18 @@ use Rattle.cb_scan.specs.declared.facts.Def.{Def}
 use Rattle.cb_scan.specs.Definitions.{definitions}
 use Rattle.cb_desk.specs.Answer.{defines}
 use Rattle.cb_desk.specs.World.{File, Frame}
-use Rattle.cb_desk.specs.Step.{places, places_in}
+use Rattle.cb_desk.specs.Stack.{places, places_in}
 use Rattle.cb_desk.proofs.Texts.{next_file}
 
-slice_get-front : {X : Type 0} (xs ys : List X) (i : ℕ) (x : X) → slice_get xs i ≡ Some x → slice_get (xs ++ ys) i ≡ Some x
-slice_get-front [] ys i x e = cc
-slice_get-front (y ∷ xs) ys zero x e = e
-slice_get-front (y ∷ xs) ys (suc i) x e = slice_get-front xs ys i x e
+slice_get-prefix : {X : Type 0} (xs ys : List X) (i : ℕ) (x : X) → slice_get xs i ≡ Some x → slice_get (xs ++ ys) i ≡ Some x
+slice_get-prefix [] ys i x e = cc
+slice_get-prefix (y ∷ xs) ys zero x e = e
+slice_get-prefix (y ∷ xs) ys (suc i) x e = slice_get-prefix xs ys i x e
 
-slice_get-behind : {X : Type 0} (xs ys : List X) (i : ℕ) → slice_get xs i ≡ None → slice_get (xs ++ ys) i ≡ slice_get ys (i - length xs)
-slice_get-behind [] ys i e = simp unary_clauses refl
-slice_get-behind (y ∷ xs) ys zero e = cc
-slice_get-behind (y ∷ xs) ys (suc i) e = simp unary_clauses (slice_get-behind xs ys i e)
+slice_get-after : {X : Type 0} (xs ys : List X) (i : ℕ) → slice_get xs i ≡ None → slice_get (xs ++ ys) i ≡ slice_get ys (i - length xs)
+slice_get-after [] ys i e = simp unary_clauses refl
+slice_get-after (y ∷ xs) ys zero e = cc
+slice_get-after (y ∷ xs) ys (suc i) e = simp unary_clauses (slice_get-after xs ys i e)
 
 abbrev framed : List ℕ → Def → Frame
 framed name d = record { file = name; line = d.line }
@@ -44,15 +44,15 @@ module _ {X : Type 0} (v : X → File) (xs : List X) (i : ℕ) (x : X) (name lin
   placed-here line within is found short at =
       let there : slice_get (lines_named name (v x)) passed ≡ Some line = ap (λ ls. slice_get ls passed) (sym found) ∙ slice_get-get_or lines passed line short ∙ ap (λ l. Some l) (sym at) in
       ap (λ fs. slice_get (places fs name) passed) (next_file v xs i x within is)
-      ∙ slice_get-front (places_in name (v x)) (places (map v (drop (i + 1) xs)) name) passed _
+      ∙ slice_get-prefix (places_in name (v x)) (places (map v (drop (i + 1) xs)) name) passed _
       (slice_get-map (framed (v x).name) (named name (v x)) passed ∙ same-line (v x).name line (slice_get (named name (v x)) passed) (sym (slice_get-map (λ (d : Def). d.line) (named name (v x)) passed) ∙ there))
 
-  -- or it stands behind all of them
-  pub placed-behind : i < length xs → x ≡ get_or xs i x → lines ≡ lines_named name (v x) → length lines ≤ passed
+  -- or it comes after all of them
+  pub placed-later : i < length xs → x ≡ get_or xs i x → lines ≡ lines_named name (v x) → length lines ≤ passed
       → slice_get (places (map v (drop i xs)) name) passed ≡ slice_get (places (map v (drop (i + 1) xs)) name) (passed - length lines)
-  placed-behind within is found long =
+  placed-later within is found long =
       let many : length (places_in name (v x)) ≡ length lines = length-map (named name (v x)) (framed (v x).name) ∙ sym (length-map (named name (v x)) (λ (d : Def). d.line)) ∙ ap length (sym found) in
       let gone : slice_get (places_in name (v x)) passed ≡ None = slice_get_past (places_in name (v x)) passed (omega (arith, many)) in
       ap (λ fs. slice_get (places fs name) passed) (next_file v xs i x within is)
-      ∙ slice_get-behind (places_in name (v x)) (places (map v (drop (i + 1) xs)) name) passed gone
+      ∙ slice_get-after (places_in name (v x)) (places (map v (drop (i + 1) xs)) name) passed gone
       ∙ ap (λ n. slice_get (places (map v (drop (i + 1) xs)) name) (passed - n)) many

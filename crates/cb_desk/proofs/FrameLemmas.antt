@@ -13,9 +13,11 @@ use Rattle.std.proofs.lemmas.List.{length-map}
 use Rattle.cb_scan.proofs.FactsWithin.{facts_lie}
 use Rattle.cb_scan.proofs.LineTable.{lines-few}
 use Rattle.cb_desk.specs.Answer.{defines}
+use Rattle.cb_desk.specs.declared.limits.TheConstants.{MOST_BYTES}
 use Rattle.cb_desk.specs.World.{File, Frame, is_named, has_file, text_of_file, IsAscending, IsFrameOf}
-use Rattle.cb_desk.specs.Step.{with_file, without_file, renamed_frame, places_in, places, nth}
-use Rattle.cb_desk.proofs.Placed.{by_name, before}
+use Rattle.cb_desk.specs.Files.{is_before, with_file, without_file}
+use Rattle.cb_desk.specs.Stack.{renamed_frame, without_frames, renamed_frames, places_in, places, nth}
+use Rattle.cb_desk.proofs.Placed.{by_name}
 use Rattle.cb_desk.proofs.Valid.{all-along, all-both, all-filter, all-join, all-passed}
 
 same-name : (a b : List ℕ) → bytes_eq a b ≡ true → a ≡ b
@@ -72,28 +74,28 @@ text-kept p name all (f ∷ files) =
     ]) refl
 
 -- ---- one file more
-side : (f : File) (name : List ℕ) (g : File) → is_named name g ≡ true → before f g ≡ is_lt (slice_cmp nat_cmp name f.name)
+side : (f : File) (name : List ℕ) (g : File) → is_named name g ≡ true → is_before f g ≡ is_lt (slice_cmp nat_cmp name f.name)
 side f name g e = ap (λ n. is_lt (slice_cmp nat_cmp n f.name)) (same-name g.name name e)
 
 -- another name has the text that it had
 pub text-with : (f : File) (files : List File) (name : List ℕ) → is_named name f ≡ false → text_of_file (with_file f files) name ≡ text_of_file files name
 unfolding text_of_file
 text-with f files name other =
-    text-join (filter (before f) files) (f ∷ filter (λ g. not (before f g)) files) name ∙ rw other (
-    (elim (is_lt (slice_cmp nat_cmp name f.name)) as (λ b. is_lt (slice_cmp nat_cmp name f.name) ≡ b → cond (has_file (filter (before f) files) name) (text_of_file (filter (before f) files) name) (text_of_file (filter (λ g. not (before f g)) files) name) ≡ text_of_file files name) [
+    text-join (filter (is_before f) files) (f ∷ filter (λ g. not (is_before f g)) files) name ∙ rw other (
+    (elim (is_lt (slice_cmp nat_cmp name f.name)) as (λ b. is_lt (slice_cmp nat_cmp name f.name) ≡ b → cond (has_file (filter (is_before f) files) name) (text_of_file (filter (is_before f) files) name) (text_of_file (filter (λ g. not (is_before f g)) files) name) ≡ text_of_file files name) [
       | true ↦ λ h.
-          let has : has_file (filter (before f) files) name ≡ has_file files name = has-kept (before f) true name (λ g e. side f name g e ∙ h) files in
-          let text : text_of_file (filter (before f) files) name ≡ text_of_file files name = text-kept (before f) name (λ g e. side f name g e ∙ h) files in
-          let out : has_file (filter (λ g. not (before f g)) files) name ≡ false = has-kept (λ g. not (before f g)) false name (λ g e. ap not (side f name g e ∙ h)) files in
-          rw (has, text, no-text (filter (λ g. not (before f g)) files) name out) (
+          let has : has_file (filter (is_before f) files) name ≡ has_file files name = has-kept (is_before f) true name (λ g e. side f name g e ∙ h) files in
+          let text : text_of_file (filter (is_before f) files) name ≡ text_of_file files name = text-kept (is_before f) name (λ g e. side f name g e ∙ h) files in
+          let out : has_file (filter (λ g. not (is_before f g)) files) name ≡ false = has-kept (λ g. not (is_before f g)) false name (λ g e. ap not (side f name g e ∙ h)) files in
+          rw (has, text, no-text (filter (λ g. not (is_before f g)) files) name out) (
           (elim (has_file files name) as (λ b. has_file files name ≡ b → cond b (text_of_file files name) [] ≡ text_of_file files name) [
             | true ↦ λ k. refl
             | false ↦ λ k. sym (no-text files name k)
           ]) refl
           )
       | false ↦ λ h.
-          let has : has_file (filter (before f) files) name ≡ false = has-kept (before f) false name (λ g e. side f name g e ∙ h) files in
-          rw has (text-kept (λ g. not (before f g)) name (λ g e. ap not (side f name g e ∙ h)) files)
+          let has : has_file (filter (is_before f) files) name ≡ false = has-kept (is_before f) false name (λ g e. side f name g e ∙ h) files in
+          rw has (text-kept (λ g. not (is_before f g)) name (λ g e. ap not (side f name g e ∙ h)) files)
     ]) refl
     )
 
@@ -101,12 +103,12 @@ text-with f files name other =
 pub text-with-here : (f : File) (files : List File) → has_file files f.name ≡ false → text_of_file (with_file f files) f.name ≡ f.bytes
 unfolding text_of_file
 text-with-here f files fresh =
-    let out : has_file (filter (before f) files) f.name ≡ false =
-    (elim (is_lt (slice_cmp nat_cmp f.name f.name)) as (λ b. is_lt (slice_cmp nat_cmp f.name f.name) ≡ b → has_file (filter (before f) files) f.name ≡ false) [
-      | true ↦ λ h. has-kept (before f) true f.name (λ g e. side f f.name g e ∙ h) files ∙ fresh
-      | false ↦ λ h. has-kept (before f) false f.name (λ g e. side f f.name g e ∙ h) files
+    let out : has_file (filter (is_before f) files) f.name ≡ false =
+    (elim (is_lt (slice_cmp nat_cmp f.name f.name)) as (λ b. is_lt (slice_cmp nat_cmp f.name f.name) ≡ b → has_file (filter (is_before f) files) f.name ≡ false) [
+      | true ↦ λ h. has-kept (is_before f) true f.name (λ g e. side f f.name g e ∙ h) files ∙ fresh
+      | false ↦ λ h. has-kept (is_before f) false f.name (λ g e. side f f.name g e ∙ h) files
     ]) refl in
-    text-join (filter (before f) files) (f ∷ filter (λ g. not (before f g)) files) f.name ∙ rw (out, name-same f.name) refl
+    text-join (filter (is_before f) files) (f ∷ filter (λ g. not (is_before f g)) files) f.name ∙ rw (out, name-same f.name) refl
 
 -- ---- one file less
 -- a name has the text that it had where another one is taken away
@@ -114,11 +116,11 @@ pub text-without : (files : List File) (gone name : List ℕ) → bytes_eq name 
 text-without files gone name other =
     text-kept (λ f. not (is_named gone f)) name (λ f e. rw (same-name f.name name e, other) refl) files
 
-pub text-small : (files : List File) (name : List ℕ) → AllByRecursion (λ (f : File). length f.bytes ≤ 1000000) files → length (text_of_file files name) ≤ 1000000
+pub text-small : (files : List File) (name : List ℕ) → AllByRecursion (λ (f : File). length f.bytes ≤ MOST_BYTES) files → length (text_of_file files name) ≤ MOST_BYTES
 unfolding text_of_file
 text-small [] name all = omega arith
 text-small (f ∷ files) name all =
-    elim (is_named name f) as (λ b. length (cond b f.bytes (text_of_file files name)) ≤ 1000000) [ true ↦ all.0 | false ↦ text-small files name all.1 ]
+    elim (is_named name f) as (λ b. length (cond b f.bytes (text_of_file files name)) ≤ MOST_BYTES) [ true ↦ all.0 | false ↦ text-small files name all.1 ]
 
 -- ---- frames
 -- a frame's file is there

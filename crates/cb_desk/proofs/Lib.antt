@@ -4,6 +4,7 @@ pub mod FoundRows
 pub mod FrameLemmas
 pub mod Moves
 pub mod Placed
+pub mod StepsValid
 pub mod Swaps
 pub mod TagOrder
 pub mod Texts

@@ -20,7 +20,7 @@ module _ (others : List World) (present next : World) where
       let one : done ≡ (done - 1) + 1 = omega (arith, some) in
       ap (λ n. undone (timeline_of n others present)) one ∙ undo-at (done - 1) (omega (arith, some, fits)) is
 
-  -- the world behind the present one
+  -- the world after the present one
   pub redo-swapped : (done : ℕ) → done < length others → next ≡ get_or others done next → redone (timeline_of done others present) ≡ Ok (timeline_of (done + 1) (slice_set others done present) next)
   unfolding redone
   redo-swapped done within is =

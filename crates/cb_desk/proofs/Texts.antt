@@ -14,9 +14,9 @@ module _ {X : Type 0} (v : X → File) (xs : List X) (i : ℕ) (x : X) (within :
   named-here name e = ap (λ fs. text_of_file fs name) next_file ∙ rw e refl
 
   -- or another one has it
-  pub named-behind : (name : List ℕ) → is_named name (v x) ≡ false → text_of_file (map v (drop i xs)) name ≡ text_of_file (map v (drop (i + 1) xs)) name
+  pub named-later : (name : List ℕ) → is_named name (v x) ≡ false → text_of_file (map v (drop i xs)) name ≡ text_of_file (map v (drop (i + 1) xs)) name
   unfolding text_of_file
-  named-behind name e = ap (λ fs. text_of_file fs name) next_file ∙ rw e refl
+  named-later name e = ap (λ fs. text_of_file fs name) next_file ∙ rw e refl
 
   pub still-there : (name : List ℕ) → is_named name (v x) ≡ false → IsTrue (has_file (map v (drop i xs)) name) → IsTrue (has_file (map v (drop (i + 1) xs)) name)
   still-there name e there = subst IsTrue (ap (λ fs. has_file fs name) next_file ∙ rw e refl) there

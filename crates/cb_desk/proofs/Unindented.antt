@@ -1,10 +1,10 @@
 -- What stays of a line without its leading blanks.
 use Rattle.std.proofs.Common.{◌≡◌, refl, ℕ, ◌+◌, Bool, true, false, ◌||◌, ◌==◌, cond, List, [], ◌∷◌, drop, one-add}
 use Rattle.std.specs.List.{prefix_len}
-use Rattle.cb_desk.specs.Answer.{unindented}
+use Rattle.cb_desk.specs.Answer.{space, tab, unindented}
 
 abbrev pub is_blank : ℕ → Bool
-is_blank b = b == 32 || b == 9
+is_blank b = b == space || b == tab
 
 -- what follows the blanks that a line begins with
 pub drop-blanks : (line : List ℕ) → drop (prefix_len is_blank line) line ≡ unindented line

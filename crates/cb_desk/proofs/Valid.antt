@@ -9,9 +9,10 @@ use Rattle.std.proofs.lemmas.Map.Text.{is_eq-slice_cmp}
 use Rattle.std.proofs.lemmas.List.Filters.{length-filter_both}
 use Rattle.std.proofs.lemmas.List.Kept.{IsStrictlySortedBy-filter}
 use Rattle.cb_tags.specs.Names.{is_file_name}
+use Rattle.cb_desk.specs.declared.limits.TheConstants.{MOST_BYTES, MOST_FILES}
 use Rattle.cb_desk.specs.World.{File, is_named, has_file, AreValidFiles}
-use Rattle.cb_desk.specs.Step.{with_file, without_file}
-use Rattle.cb_desk.proofs.Placed.{by_name, before}
+use Rattle.cb_desk.specs.Files.{is_before, with_file, without_file}
+use Rattle.cb_desk.proofs.Placed.{by_name}
 
 pub all-filter : {X : Type 0} (P : X → Type 0) (p : X → Bool) (xs : List X) → AllByRecursion P xs → AllByRecursion P (filter p xs)
 all-filter P p [] all = all
@@ -65,7 +66,7 @@ above-from Equal e k = cc
 above-from Greater e k = refl
 
 -- what is not below f and has another name is above it
-above-f : (f y : File) → not (before f y) ≡ true → bytes_eq y.name f.name ≡ false → by_name f y ≡ Less
+above-f : (f y : File) → not (is_before f y) ≡ true → bytes_eq y.name f.name ≡ false → by_name f y ≡ Less
 above-f f y out other =
     nat_list_cmp_total.antisymm f.name y.name ∙ above-from (slice_cmp nat_cmp y.name f.name) out (is_eq-slice_cmp y.name f.name ∙ other)
 
@@ -74,17 +75,17 @@ all-both P Q R [] both all more = all
 all-both P Q R (x ∷ xs) both all more = (both x all.0 more.0, all-both P Q R xs both all.1 more.1)
 
 -- valid files with one more of a good name that is not there, not too large, and below the greatest number of files
-pub with_file-valid : (files : List File) (f : File) → AreValidFiles files → is_file_name f.name ≡ true → has_file files f.name ≡ false → length f.bytes ≤ 1000000 → length files < 4096 → AreValidFiles (with_file f files)
+pub with_file-valid : (files : List File) (f : File) → AreValidFiles files → is_file_name f.name ≡ true → has_file files f.name ≡ false → length f.bytes ≤ MOST_BYTES → length files < MOST_FILES → AreValidFiles (with_file f files)
 with_file-valid files f valid good fresh small room =
-    let after : File → Bool = λ g. not (before f g) in
-    let split : length (filter (before f) files) + length (filter after files) ≡ length files = length-filter_both (before f) after (λ g. refl) files in
+    let after : File → Bool = λ g. not (is_before f g) in
+    let split : length (filter (is_before f) files) + length (filter after files) ≡ length files = length-filter_both (is_before f) after (λ g. refl) files in
     let fresh-all = none-named f.name files fresh in
     record {
-      names = all-join (λ (g : File). IsTrue (is_file_name g.name)) (filter (before f) files) (f ∷ filter after files) (all-filter (λ (g : File). IsTrue (is_file_name g.name)) (before f) files valid.names) (good, all-filter (λ (g : File). IsTrue (is_file_name g.name)) after files valid.names);
-      sizes = all-join (λ (g : File). length g.bytes ≤ 1000000) (filter (before f) files) (f ∷ filter after files) (all-filter (λ (g : File). length g.bytes ≤ 1000000) (before f) files valid.sizes) (small, all-filter (λ (g : File). length g.bytes ≤ 1000000) after files valid.sizes);
-      count = omega (arith, length-append (filter (before f) files) (f ∷ filter after files));
-      ascending = sorted-join f (filter (before f) files) (filter after files) (IsStrictlySortedBy-filter by_name (before f) files valid.ascending) (IsStrictlySortedBy-filter by_name after files valid.ascending)
-          (all-along (λ (x : File). before f x ≡ true) (λ x. by_name x f ≡ Less) (filter (before f) files) (λ x h. less-from (by_name x f) h) (all-passed (before f) files))
+      names = all-join (λ (g : File). IsTrue (is_file_name g.name)) (filter (is_before f) files) (f ∷ filter after files) (all-filter (λ (g : File). IsTrue (is_file_name g.name)) (is_before f) files valid.names) (good, all-filter (λ (g : File). IsTrue (is_file_name g.name)) after files valid.names);
+      sizes = all-join (λ (g : File). length g.bytes ≤ MOST_BYTES) (filter (is_before f) files) (f ∷ filter after files) (all-filter (λ (g : File). length g.bytes ≤ MOST_BYTES) (is_before f) files valid.sizes) (small, all-filter (λ (g : File). length g.bytes ≤ MOST_BYTES) after files valid.sizes);
+      count = omega (arith, length-append (filter (is_before f) files) (f ∷ filter after files));
+      ascending = sorted-join f (filter (is_before f) files) (filter after files) (IsStrictlySortedBy-filter by_name (is_before f) files valid.ascending) (IsStrictlySortedBy-filter by_name after files valid.ascending)
+          (all-along (λ (x : File). is_before f x ≡ true) (λ x. by_name x f ≡ Less) (filter (is_before f) files) (λ x h. less-from (by_name x f) h) (all-passed (is_before f) files))
           (all-both (λ (y : File). after y ≡ true) (λ y. bytes_eq y.name f.name ≡ false) (λ y. by_name f y ≡ Less) (filter after files) (λ y h k. above-f f y h k) (all-passed after files) (all-filter (λ (y : File). bytes_eq y.name f.name ≡ false) after files fresh-all));
     }
 
@@ -95,7 +96,7 @@ length-kept p xs = let split = length-filter_both p (λ x. not (p x)) (λ x. ref
 pub without_file-valid : (files : List File) (name : List ℕ) → AreValidFiles files → AreValidFiles (without_file name files)
 without_file-valid files name valid = record {
   names = all-filter (λ (g : File). IsTrue (is_file_name g.name)) (λ f. not (is_named name f)) files valid.names;
-  sizes = all-filter (λ (g : File). length g.bytes ≤ 1000000) (λ f. not (is_named name f)) files valid.sizes;
+  sizes = all-filter (λ (g : File). length g.bytes ≤ MOST_BYTES) (λ f. not (is_named name f)) files valid.sizes;
   count = let few = length-kept (λ f. not (is_named name f)) files in let count = valid.count in omega (arith, few, count);
   ascending = IsStrictlySortedBy-filter by_name (λ f. not (is_named name f)) files valid.ascending;
 }

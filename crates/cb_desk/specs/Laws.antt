@@ -4,7 +4,8 @@ use Rattle.cb_desk.specs.World.{World, IsValidWorld}
 use Rattle.cb_desk.specs.Step.{Step, step}
 use Rattle.cb_desk.specs.Timeline.{Timeline, changed, undone, redone, IsValidTimeline}
 
--- an accepted change followed by undo gives back the past and the present, and the new world is the future
+-- an accepted change followed by undo gives back the past and the present, and the new world is
+-- the future
 abbrev pub UndoTakesBack : Type 0
 UndoTakesBack = (t u : Timeline) (s : Step) → changed t s ≡ Ok u → undone u ≡ Ok (record t { future = u.present ∷ [] })
 

@@ -1,9 +1,11 @@
 pub mod Answer
-pub mod Collects
+pub mod Files
 pub mod Laws
-pub mod Meant
+pub mod Models
 pub mod Refusals
+pub mod Stack
 pub mod Step
+pub mod StepExamples
 pub mod Tags
 pub mod Timeline
 pub mod World

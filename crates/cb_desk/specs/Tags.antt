@@ -14,18 +14,27 @@ use Rattle.cb_desk.specs.World.{World, File}
 
 -- a definition of a file as a tag
 abbrev pub tag_in : File → Def → Tag
-tag_in f d = record { name = name_of f.bytes d; file = f.name; line = d.line; text = line_text f.bytes d.line; kind = d.kind; local = d.local }
+tag_in f d = record {
+  name = name_of f.bytes d;
+  file = f.name;
+  line = d.line;
+  text = line_text f.bytes d.line;
+  kind = d.kind;
+  local = d.local;
+}
 
 -- the tags of a file, by place
 abbrev pub file_tags : File → List Tag
 file_tags f = map (tag_in f) (definitions f.bytes)
 
--- what tags are ordered by (POSIX ctags, tags(5)): the tag name in a plain file, the name in an extended one and in a listing
+-- what tags are ordered by (POSIX ctags, tags(5)): the tag name in a plain file, the name in an
+-- extended one and in a listing
 abbrev pub tag_key : Format → Tag → List ℕ
 tag_key Plain t = tag_name t.name t.file
 tag_key Extended t = t.name
 
--- the tags of a world: every definition, in the order of the keys, and those of one key by file and place
+-- the tags of a world: every definition, in the order of the keys, and those of one key by file
+-- and place
 unfoldable pub tags : Format → World → List Tag
 tags format w = in_order (tag_key format) (flat_map file_tags w.files)
 

@@ -1,6 +1,8 @@
--- The worlds of a session: those that undo leads back to, the present one, and those that redo leads to.
+-- The worlds of a session: those that undo leads back to, the present one, and those that redo
+-- leads to.
 use Rattle.std.specs.Prelude.{◌≡◌, ◌≤◌, ◌+◌, nat_le, Bool, true, false, List, [], ◌∷◌, length, Result, Ok, Err, if◌then◌else◌}
 use Rattle.std.specs.List.{AllByRecursion}
+use Rattle.cb_desk.specs.declared.limits.TheConstants.{MOST_CHANGES}
 use Rattle.cb_desk.specs.declared.refusal.Refusal.{Refusal}
 use Rattle.cb_desk.specs.declared.refusal.Refusal.TheVariants.{NothingToUndo, NothingToRedo, HistoryFull, OutOfMemory}
 use Rattle.cb_desk.specs.World.{World, empty_world, IsValidWorld}
@@ -20,14 +22,15 @@ new_timeline = record { past = []; present = empty_world; future = [] }
 pub record IsValidTimeline (t : Timeline) : Type 0 where
   pub before : AllByRecursion IsValidWorld t.past
   pub now : IsValidWorld t.present
-  pub behind : AllByRecursion IsValidWorld t.future
-  pub bounded : length t.past + length t.future ≤ 65536
+  pub later : AllByRecursion IsValidWorld t.future
+  pub bounded : length t.past + length t.future ≤ MOST_CHANGES
 
--- the timeline with a new present, or why there is none: the old present joins the past, and the future is gone
+-- the timeline with a new present, or why there is none: the old present joins the past, and the
+-- future is gone
 abbrev pub advanced : Timeline → Result World Refusal → Result Timeline Refusal
 advanced t (Err r) = Err r
 advanced t (Ok w) =
-    if nat_le 65536 (length t.past) then Err HistoryFull
+    if nat_le MOST_CHANGES (length t.past) then Err HistoryFull
     else Ok (record { past = t.present ∷ t.past; present = w; future = [] })
 
 -- the timeline after a change
@@ -52,8 +55,8 @@ on_to (w ∷ ws) t = Ok (record { past = t.present ∷ t.past; present = w; futu
 unfoldable pub redone : Timeline → Result Timeline Refusal
 redone t = on_to t.future t
 
--- what a change comes to where memory is wanted: a change that would be done is refused for it, and so is a tag, which is
--- judged only behind a scan of the files
+-- the outcome of a change; when memory runs out, one that would be done is refused, and a tag is
+-- refused in any case, since it is judged only after a scan of the files
 abbrev pub judged : Bool → Step → Result Timeline Refusal → Result Timeline Refusal
 judged false s meant = meant
 judged true (tag name n) meant = Err OutOfMemory
@@ -65,6 +68,6 @@ abbrev pub Moves : Result Timeline Refusal → Timeline → Timeline → Result 
 Moves meant old new (Ok _) = meant ≡ Ok new
 Moves meant old new (Err r) = (meant ≡ Err r) × (new ≡ old)
 
--- a change moves the timeline as meant, with memory or for want of it
+-- a change moves the timeline as meant, or memory was refused to it
 abbrev pub Changes : Step → Timeline → Timeline → Result (Unit {0}) Refusal → Type 0
-Changes s old new result = (wanted : Bool) × Moves (judged wanted s (changed old s)) old new result
+Changes s old new result = (out_of_memory : Bool) × Moves (judged out_of_memory s (changed old s)) old new result

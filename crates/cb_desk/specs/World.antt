@@ -7,6 +7,7 @@ use Rattle.std.specs.Ordering.{nat_cmp}
 use Rattle.std.specs.Cmp.Lexicographic.{slice_cmp}
 use Rattle.cb_scan.specs.Lines.{IsLineOf}
 use Rattle.cb_tags.specs.Names.{is_file_name}
+use Rattle.cb_desk.specs.declared.limits.TheConstants.{MOST_BYTES, MOST_FILES}
 
 -- a file: its name and its text
 pub record File : Type 0 where
@@ -47,8 +48,8 @@ IsAscending = IsStrictlySortedBy (λ (f g : File). slice_cmp nat_cmp f.name g.na
 -- every limit of files is kept: names, sizes, their number, and their order
 pub record AreValidFiles (files : List File) : Type 0 where
   pub names : AllByRecursion (λ (f : File). IsTrue (is_file_name f.name)) files
-  pub sizes : AllByRecursion (λ (f : File). length f.bytes ≤ 1000000) files
-  pub count : length files ≤ 4096
+  pub sizes : AllByRecursion (λ (f : File). length f.bytes ≤ MOST_BYTES) files
+  pub count : length files ≤ MOST_FILES
   pub ascending : IsAscending files
 
 -- a frame names a line that is there

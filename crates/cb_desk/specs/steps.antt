@@ -1,1 +1,3 @@
+pub mod Collects
+pub mod Scans
 pub mod Worlds

@@ -1,17 +1,21 @@
 //! The files of a world, one after another.
 ghost use Rattle.std.specs.Prelude.{◌≡◌, map};
 ghost use Rattle.std.specs.Iterator.{YieldsFirstBy, item_count};
-ghost use Rattle.cb_desk.specs.Meant.{file_of};
+ghost use Rattle.cb_desk.specs.Models.{file_of};
 
-use super::entry::Entry;
+mod list;
+mod stored;
+
 use cb_scan::Source;
+pub(crate) use list::{add_file, has_name, remove_file, with_name};
 use std::marker::Model;
 use std::rc::Rc;
+pub(crate) use stored::StoredFile;
 
 /// The files of a world, name and text, ascending by the bytes of their names.
 #[derive(Drop)]
 pub struct Files<'a> {
-    rest: &'a [Rc<Entry>],
+    rest: &'a [Rc<StoredFile>],
 }
 
 impl<'a> Model for Files<'a> {
@@ -24,7 +28,7 @@ impl<'a> Model for Files<'a> {
 }
 
 impl<'a> Files<'a> {
-    pub(super) fn new(files: &'a [Rc<Entry>]) -> Files<'a>
+    pub(crate) fn new(files: &'a [Rc<StoredFile>]) -> Files<'a>
         ensures { result ≡ map (λ shared. shared.value) files.now }
     {
         Files { rest: files }
@@ -41,7 +45,7 @@ impl<'a> Iterator for Files<'a> {
     fn next(&mut self) -> Option<(&'a [u8], &'a Source)> {
         let (first, rest) = self.rest.split_first()?;
         self.rest = rest;
-        let entry = first.as_ref();
-        Some((entry.name(), entry.source()))
+        let file = first.as_ref();
+        Some((file.name(), file.source()))
     }
 }

@@ -7,7 +7,7 @@ ghost use Rattle.cb_desk.specs.Answer.{name_of};
 use cb_scan::{Def, Source};
 
 /// The name of a definition in its text.
-pub(super) fn defined_name<'a>(source: &'a Source, def: &Def) -> &'a [u8]
+pub(crate) fn defined_name<'a>(source: &'a Source, def: &Def) -> &'a [u8]
     requires { IsWithin source.now def.now.name }
     ensures { result.now ≡ name_of source.now def.now }
 {
@@ -15,10 +15,10 @@ pub(super) fn defined_name<'a>(source: &'a Source, def: &Def) -> &'a [u8]
 }
 
 /// A line of a text, without its end; no bytes where there is none. Lines count from 1.
-pub(super) fn shown_line(source: &Source, line: u32) -> &[u8]
+pub(crate) fn shown_line(source: &Source, line: u32) -> &[u8]
     ensures { result.now ≡ line_text source.now line }
 {
-    match source.line(line.max(1)) {
+    match source.line(line) {
         Some(text) => text,
         None => b"",
     }

@@ -1,7 +1,8 @@
 //! What follows from the definitions alone: no code runs here.
 ghost use Rattle.cb_desk.specs.Laws.{UndoTakesBack, RedoTakesBack, StepKeepsValid, TimelineStaysValid};
 
-/// An accepted change followed by undo gives back the past and the present; the new world is then the future.
+/// An accepted change followed by undo gives back the past and the present; the new world is then
+/// the future.
 pub fn undo_takes_back()
     ensures { UndoTakesBack }
 {}

@@ -1,21 +1,20 @@
 //! The files of a session, their past, and what is asked of them.
 //!
-//! A desk holds a timeline of worlds. A change moves it to the world that the step gives, undo moves it back, and
-//! every answer is read from the present world. It stands on `cb_scan` (texts and what they define) and `cb_tags` (tags,
-//! their order, and which names are names of files).
+//! A desk holds a timeline of worlds. A change moves it to the world that the step gives, undo moves
+//! it back, and every answer is read from the present world. It is built on `cb_scan` (texts and what
+//! they define) and `cb_tags` (tags, their order, and which names are names of files).
 //! The layer above uses the contracts of [`Desk`].
 #![tactic(auto)]
 
 mod change;
-mod entry;
 mod files;
 mod found;
-mod frames;
 pub mod laws;
-mod places;
+mod limits;
 mod refusal;
 mod rows;
 mod snapshot;
+mod stack;
 mod state;
 mod tags;
 #[cfg(test)]
@@ -23,8 +22,8 @@ mod tests;
 
 pub use change::Change;
 pub use files::Files;
-pub use frames::Frames;
 pub use refusal::Refusal;
-pub use rows::{Field, RefRow, RowList, line_row};
+pub use rows::{Field, RefRow, RowIter, RowList, line_row};
+pub use stack::Frames;
 pub use state::Desk;
-pub use tags::{Format, TagRowList};
+pub use tags::{Format, TagRowIter, TagRowList};

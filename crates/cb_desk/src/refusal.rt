@@ -4,7 +4,7 @@ ghost use Rattle.cb_desk.specs.Refusals.{number_of, text_of};
 
 use std::alloc::{AllocError, AllocFailed};
 
-/// Why a command is refused. The lowest number of those that hold is answered.
+/// Why a command is refused. Of the refusals that apply, the lowest-numbered one is answered.
 #[derive(Clone, Copy, Debug, PartialEq, Eq)]
 pub enum Refusal {
     UnknownCommand,
@@ -38,8 +38,8 @@ impl Refusal {
         self as u8 + 1
     }
 
-    #[tactic(auto, unfolding(crate::specs::Refusals::text_of))]
     /// Its text, as replies and error messages show it.
+    #[tactic(auto, unfolding(crate::specs::Refusals::text_of))]
     pub fn text(self) -> &'static str
         ensures { result.now ≡ text_of self }
     {

@@ -1,22 +1,36 @@
 //! Questions and the rows that answer them.
 ghost use Rattle.std.specs.Prelude.{◌≡◌, ◌≤◌, ◌==◌, ◌||◌, [], ◌∷◌, ◌++◌, List, length, map, IfOk};
+ghost use Rattle.std.specs.Iterator.{YieldsFirstBy, item_count};
 ghost use Rattle.std.specs.List.{list_any, prefix_len};
 ghost use Rattle.cb_scan.specs.Definitions.{IsWithin};
 ghost use Rattle.cb_desk.specs.World.{File};
-ghost use Rattle.cb_desk.specs.Answer.{AnswerRow, row_eq, distinct, unindented, line_row, definition_row, definition_rows};
-ghost use Rattle.cb_desk.specs.Collects.{Collects};
-ghost use Rattle.cb_desk.specs.Meant.{row_of, file_of};
+ghost use Rattle.cb_desk.specs.Answer.{AnswerRow, row_eq, distinct, space, tab, unindented, line_row, definition_row, definition_rows, field_of_digit, field_rows};
+ghost use Rattle.cb_desk.specs.steps.Collects.{Collects};
+ghost use Rattle.cb_desk.specs.Models.{row_of, file_of};
 
-use super::found::{defined_name, shown_line};
+use crate::found::{defined_name, shown_line};
 use cb_scan::{Def, Meter, Source, scan};
 use std::alloc::{AllocError, Global};
 use std::marker::Model;
+use std::slice;
 
-/// What is asked. The digit of a question names its field.
+/// What is asked: the field of a question.
 #[derive(Clone, Copy, Debug, PartialEq, Eq)]
 pub enum Field {
     /// 1: the definitions of a name.
     Definition,
+}
+
+impl Field {
+    /// The field that a digit names, if there is one. `digit` is the byte of the digit, as `b'1'`.
+    pub fn of_digit(digit: u8) -> Option<Field>
+        ensures { result ≡ field_of_digit digit }
+    {
+        match digit {
+            b'1' => Some(Field::Definition),
+            _ => None,
+        }
+    }
 }
 
 /// A row of an answer; its text has no leading spaces and tabs.
@@ -30,7 +44,7 @@ pub struct RefRow<'a> {
 }
 
 impl<'a> RefRow<'a> {
-    /// Whether two rows are equal in all four columns. The lines are compared first, since that is cheap.
+    /// Whether two rows are equal in all four columns. The lines come first, since that is cheap.
     fn equals(&self, other: &RefRow<'_>) -> bool
         ensures { result ≡ row_eq (row_of self.now) (row_of other.now) }
     {
@@ -50,7 +64,7 @@ pub struct RowList<'a> {
 impl<'a> Model for RowList<'a> {
     ghost use Rattle.std.specs.Prelude.{List, map};
     ghost use Rattle.cb_desk.specs.Answer.{AnswerRow};
-    ghost use Rattle.cb_desk.specs.Meant.{row_of};
+    ghost use Rattle.cb_desk.specs.Models.{row_of};
 
     ghost Value = { List AnswerRow };
 
@@ -66,8 +80,24 @@ impl<'a> RowList<'a> {
         self.rows.as_slice()
     }
 
+    /// How many rows there are.
+    pub fn len(&self) -> usize
+        ensures { result ≡ length self.now }
+    {
+        self.rows.len()
+    }
+
+    /// The rows one after another, in order.
+    pub fn iter(&self) -> RowIter<'_, 'a>
+        ensures { result ≡ self.now }
+    {
+        RowIter {
+            rest: self.rows.iter(),
+        }
+    }
+
     /// No rows. It takes no memory.
-    pub(super) fn new(alloc: Global) -> RowList<'a>
+    pub(crate) fn new(alloc: Global) -> RowList<'a>
         ensures { result ≡ [] }
     {
         RowList {
@@ -86,8 +116,24 @@ impl<'a> RowList<'a> {
         Ok(())
     }
 
-    /// Adds the rows of the definitions of that name in a file, which is scanned afresh.
-    pub(super) fn add_definitions(
+    /// Adds the rows of a field in a file, which is scanned afresh.
+    pub(crate) fn add_rows(
+        &mut self,
+        alloc: Global,
+        field: Field,
+        name: &'a [u8],
+        source: &'a Source,
+        pattern: &[u8],
+    ) -> Result<(), AllocError>
+        ensures { IfOk result (λ _. Collects self.old self.new (field_rows field pattern.now (file_of (name.entry, source.entry)))) }
+    {
+        match field {
+            Field::Definition => self.add_definitions(alloc, name, source, pattern),
+        }
+    }
+
+    /// Adds the rows of the definitions of that name in a file.
+    fn add_definitions(
         &mut self,
         alloc: Global,
         name: &'a [u8],
@@ -107,6 +153,36 @@ impl<'a> RowList<'a> {
             }
         }
         Ok(())
+    }
+}
+
+/// The rows of an answer that are still to come.
+#[derive(Drop)]
+pub struct RowIter<'list, 'a> {
+    rest: slice::Iter<'list, RefRow<'a>>,
+}
+
+impl<'list, 'a> Model for RowIter<'list, 'a> {
+    ghost use Rattle.std.specs.Prelude.{List, map};
+    ghost use Rattle.std.specs.Slice.Iter.{iter_rest};
+    ghost use Rattle.cb_desk.specs.Answer.{AnswerRow};
+    ghost use Rattle.cb_desk.specs.Models.{row_of};
+
+    ghost Value = { List AnswerRow };
+
+    ghost view = { λ r. map row_of (iter_rest r.rest) };
+}
+
+impl<'list, 'a> Iterator for RowIter<'list, 'a> {
+    type Item = RefRow<'a>;
+
+    ghost next_gives = { YieldsFirstBy row_of (λ rows. rows) };
+
+    ghost remaining = { item_count (λ rows. rows) };
+
+    fn next(&mut self) -> Option<RefRow<'a>> {
+        let row = self.rest.next()?;
+        Some(*row)
     }
 }
 
@@ -151,7 +227,7 @@ fn unindented(line: &[u8]) -> &[u8]
 
 /// How many spaces and tabs a line begins with.
 fn blanks(line: &[u8]) -> usize
-    ensures value { result ≡ prefix_len (λ b. b == 32 || b == 9) line.now }
+    ensures value { result ≡ prefix_len (λ b. b == space || b == tab) line.now }
     ensures within { result ≤ length line.now }
 {
     line.iter()

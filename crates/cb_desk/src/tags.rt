@@ -1,26 +1,29 @@
 //! The tags of a world.
 ghost use Rattle.std.specs.Prelude.{◌≡◌, [], ◌++◌, length, map, IfOk};
+ghost use Rattle.std.specs.Iterator.{YieldsFirstBy, item_count};
 ghost use Rattle.std.specs.Ordering.{nat_cmp};
 ghost use Rattle.std.specs.Cmp.Lexicographic.{slice_cmp};
 ghost use Rattle.cb_scan.specs.Definitions.{IsWithin};
 ghost use Rattle.cb_scan.specs.Order.{in_order};
 ghost use Rattle.cb_tags.specs.TagLines.{tag_of};
-ghost use Rattle.cb_desk.specs.Meant.{file_of};
+ghost use Rattle.cb_desk.specs.Models.{file_of};
 ghost use Rattle.cb_desk.specs.Tags.{tag_in, file_tags, tag_key};
 
-use super::found::{defined_name, shown_line};
+use crate::found::{defined_name, shown_line};
 use cb_scan::{Def, Meter, Source, scan};
 use cb_tags::{TagRow, compare_tag_names};
 use std::alloc::{AllocError, Global};
 use std::cmp::Ordering;
 use std::marker::Model;
+use std::slice;
 
 /// The form of a tags file.
 #[derive(Clone, Copy, Debug, PartialEq, Eq)]
 pub enum Format {
     /// POSIX `ctags`: name, file and address, in the order of the tag names.
     Plain,
-    /// tags(5): with fields for kind, line and scope, in the order of the names, which is the order of a listing, too.
+    /// tags(5): with fields for kind, line and scope, in the order of the names. A listing has
+    /// that order too.
     Extended,
 }
 
@@ -60,8 +63,24 @@ impl<'a> TagRowList<'a> {
         self.rows.as_slice()
     }
 
+    /// How many tags there are.
+    pub fn len(&self) -> usize
+        ensures { result ≡ length self.now }
+    {
+        self.rows.len()
+    }
+
+    /// The rows one after another, in order.
+    pub fn iter(&self) -> TagRowIter<'_, 'a>
+        ensures { result ≡ self.now }
+    {
+        TagRowIter {
+            rest: self.rows.iter(),
+        }
+    }
+
     /// No rows. It takes no memory.
-    pub(super) fn new(alloc: Global) -> TagRowList<'a>
+    pub(crate) fn new(alloc: Global) -> TagRowList<'a>
         ensures { result ≡ [] }
     {
         TagRowList {
@@ -70,7 +89,7 @@ impl<'a> TagRowList<'a> {
     }
 
     /// Adds the tags of a file, which is scanned afresh, by place.
-    pub(super) fn add_file(
+    pub(crate) fn add_file(
         &mut self,
         alloc: Global,
         name: &'a [u8],
@@ -90,7 +109,7 @@ impl<'a> TagRowList<'a> {
     }
 
     /// Puts the rows in the order of a format; those of one key stay in the order that they have.
-    pub(super) fn sort(&mut self, format: Format) -> Result<(), AllocError>
+    pub(crate) fn sort(&mut self, format: Format) -> Result<(), AllocError>
         ensures { IfOk result (λ _. self.new ≡ in_order (tag_key format) self.old) }
     {
         self.rows.sort_by(
@@ -99,6 +118,35 @@ impl<'a> TagRowList<'a> {
             { format.compare(a, b) },
         )?;
         Ok(())
+    }
+}
+
+/// The tags of a world that are still to come.
+#[derive(Drop)]
+pub struct TagRowIter<'list, 'a> {
+    rest: slice::Iter<'list, TagRow<'a>>,
+}
+
+impl<'list, 'a> Model for TagRowIter<'list, 'a> {
+    ghost use Rattle.std.specs.Prelude.{List, map};
+    ghost use Rattle.std.specs.Slice.Iter.{iter_rest};
+    ghost use Rattle.cb_tags.specs.TagLines.{Tag, tag_of};
+
+    ghost Value = { List Tag };
+
+    ghost view = { λ r. map tag_of (iter_rest r.rest) };
+}
+
+impl<'list, 'a> Iterator for TagRowIter<'list, 'a> {
+    type Item = TagRow<'a>;
+
+    ghost next_gives = { YieldsFirstBy tag_of (λ rows. rows) };
+
+    ghost remaining = { item_count (λ rows. rows) };
+
+    fn next(&mut self) -> Option<TagRow<'a>> {
+        let row = self.rest.next()?;
+        Some(*row)
     }
 }
 

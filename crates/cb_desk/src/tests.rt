@@ -1,3 +1,5 @@
+mod calls;
+mod memory;
 mod moves;
 
 use super::*;
@@ -89,40 +91,6 @@ fn undo_takes_loads_back_one_by_one(rt: HostRuntime) -> Result<(), AllocError> {
     assert_eq!(rt; Refusal::NothingToUndo.number(), 17);
     assert!(rt; Refusal::NothingToUndo.text() == "nothing to undo");
     Ok(())
-}
-
-/// A load whose bytes may be refused too.
-fn load_or_refused(desk: &mut Desk, alloc: Global, name: &[u8]) -> Result<(), Refusal> {
-    match load(desk, alloc, name, 4) {
-        Ok(outcome) => outcome,
-        Err(_error) => Err(Refusal::OutOfMemory),
-    }
-}
-
-/// Run it with each allocation refused in turn: want of memory moves nothing.
-#[test]
-fn a_refused_growth_moves_nothing(rt: HostRuntime) {
-    let alloc = rt.alloc();
-    let mut desk = Desk::new(alloc);
-    if load_or_refused(&mut desk, alloc, b"b.c") == Err(Refusal::OutOfMemory) {
-        assert!(rt; shows(&desk, &[]));
-        assert!(rt; desk.undo() == Err(Refusal::NothingToUndo));
-        assert!(rt; load_or_refused(&mut desk, alloc, b"b.c") == Ok(()));
-    }
-    assert!(rt; shows(&desk, &[b"b.c".as_slice()]));
-    if load_or_refused(&mut desk, alloc, b"a.c") == Err(Refusal::OutOfMemory) {
-        assert!(rt; shows(&desk, &[b"b.c".as_slice()]));
-        assert!(rt; load_or_refused(&mut desk, alloc, b"a.c") == Ok(()));
-    }
-    assert!(rt; shows(&desk, &[b"a.c".as_slice(), b"b.c"]));
-    if let Ok(rows) = desk.rows(alloc, Field::Definition, b"none") {
-        assert!(rt; rows.rows().is_empty());
-    }
-    assert!(rt; desk.undo() == Ok(()));
-    assert!(rt; shows(&desk, &[b"b.c".as_slice()]));
-    assert!(rt; desk.undo() == Ok(()));
-    assert!(rt; shows(&desk, &[]));
-    assert!(rt; desk.undo() == Err(Refusal::NothingToUndo));
 }
 
 /// A load of a text.
@@ -266,31 +234,4 @@ fn load_text_or_refused(
         Ok(outcome) => outcome,
         Err(_error) => Err(Refusal::OutOfMemory),
     }
-}
-
-/// Run it with each allocation refused in turn: want of memory refuses the tags and moves nothing.
-#[test]
-fn a_refused_growth_refuses_the_tags(rt: HostRuntime) {
-    let alloc = rt.alloc();
-    let mut desk = Desk::new(alloc);
-    // more than twenty tags, so that the sort takes memory
-    let text =
-        b"t(){}s(){}r(){}q(){}p(){}o(){}n(){}m(){}l(){}k(){}j(){}i(){}h(){}g(){}f(){}e(){}d(){}c(){}b(){}a(){}main(){}\n";
-    if load_text_or_refused(&mut desk, alloc, b"a.c", text) == Err(Refusal::OutOfMemory) {
-        assert!(rt; load_text_or_refused(&mut desk, alloc, b"a.c", text) == Ok(()));
-    }
-    match desk.tag_rows(alloc, Format::Plain) {
-        Ok(rows) => assert_eq!(rt; rows.rows().len(), 21),
-        Err(refusal) => {
-            assert!(rt; refusal == Refusal::OutOfMemory);
-            assert!(rt; shows(&desk, &[b"a.c".as_slice()]));
-            match desk.tag_rows(alloc, Format::Plain) {
-                Ok(rows) => assert_eq!(rt; rows.rows().len(), 21),
-                Err(_refusal) => assert!(rt; false),
-            }
-        }
-    }
-    assert!(rt; shows(&desk, &[b"a.c".as_slice()]));
-    assert!(rt; desk.undo() == Ok(()));
-    assert!(rt; shows(&desk, &[]));
 }

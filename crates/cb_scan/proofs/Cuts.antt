@@ -11,7 +11,7 @@ use Rattle.cb_scan.proofs.Blocks.{block_len-within, block_len-found, finds_close
 use Rattle.cb_scan.proofs.Fronts.{Front, front, at_name, at_number, at_str, at_chr, at_line_note, at_block_note, at_blank, at_newline, at_byte, class-letter, class-number, class-quote, class-apostrophe, class-line_note, class-block_note, class-blank, class-join, class-cr_join, class-feed}
 use Rattle.cb_scan.proofs.Lengths.{list_all-prefix, prefix-step, prefix_within, prefix_longest, all_go_on-counted, number-step, number_longest, number_len-within, blank-step, blank_counted, blank_longest, blank_len-within, note_longest, note_spelled, note_len-within, IsQuote, literal_longest, literal_spelled, literal_len-within}
 
-quote : IsQuote 34
+pub quote : IsQuote 34
 quote = record { slash = refl; feed = refl }
 
 apostrophe : IsQuote 39

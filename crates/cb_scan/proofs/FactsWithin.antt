@@ -13,18 +13,20 @@ use Rattle.cb_scan.specs.declared.piece.Span.{Span}
 use Rattle.cb_scan.specs.declared.token.Token.{Token}
 use Rattle.cb_scan.specs.declared.scope.Range.{Range}
 use Rattle.cb_scan.specs.Code.{code, directives, is_newline, logical_lines}
-use Rattle.cb_scan.specs.Definitions.{AreWithin, IsScopeWithin, IsWithin, calls, facts_of, definitions, macro_def, typedef_def}
+use Rattle.cb_scan.specs.Definitions.{AreWithin, IsScopeWithin, IsWithin, calls, facts_of, definitions, definitions_from, macro_def, typedef_def}
 use Rattle.cb_scan.specs.Depth.{depth, head_start, no_token, token_at}
 use Rattle.cb_scan.specs.Functions.{Function, function_at, functions}
 use Rattle.cb_scan.specs.Lines.{IsLineOf}
-use Rattle.cb_scan.specs.Macros.{Macro, after_arguments, defines_macro, line_end, macro_of, macros}
+use Rattle.cb_scan.specs.Macros.{Macro, after_arguments, defines_macro, macro_of, macros}
 use Rattle.cb_scan.specs.Order.{call_key, def_key, goes_first, in_order, put}
 use Rattle.cb_scan.specs.Pieces.{LiesIn}
-use Rattle.cb_scan.specs.Scope.{function_range, function_ranges, holds, macro_range, macro_ranges, name_around, scope}
+use Rattle.cb_scan.specs.Scope.{function_range, function_ranges, holds, macro_ranges, name_around, scope}
 use Rattle.cb_scan.specs.Tokens.{bytes_of, has_kind, is_mark, is_name_token, is_str, kind_is_include}
+use Rattle.cb_scan.specs.steps.Quote.{is_closed}
 use Rattle.cb_scan.specs.steps.Cut.{pieces}
 use Rattle.cb_scan.specs.Typedefs.{Nested, begins_with_star, last_name, name_after_stars, nested, nesting_after, part_name, parts, parts_here, pointer_name, taken, taken_at, typedef_at, typedef_names, typedef_stop, begins_typedef, ends_declaration, typedefs}
-use Rattle.cb_scan.specs.Uses.{call_at, call_of, calls_among, calls_of_function, header_between, header_of, include_of, includes, is_call, quote_ends, used, uses}
+use Rattle.cb_scan.specs.Uses.{call_at, call_of, calls_among, calls_of_function, header_between, header_of, include_of, includes, is_call, used, uses}
+use Rattle.cb_scan.proofs.DirectiveLemmas.{range_names}
 use Rattle.cb_scan.proofs.Rising.{all-front, all-picked, all_implied, macro_picks, macro_names, names_flat, named_in_head, only_directives, used_picks}
 use Rattle.cb_scan.proofs.PieceLists.{pieces-lie}
 use Rattle.cb_scan.proofs.WithinLemmas.{DefWithin, TokenWithin, all-append, all-drop, all-joined, all-split, all-take, code-within, functions-lie, lines-within}
@@ -57,10 +59,6 @@ all_taken P ts k (suc n) within a =
     all-append P (taken_at ts k) (flat_map (taken_at ts) (range_with_len (k + 1) n))
     (elim (depth ts k == 0 && not (is_mark 123 (token_at ts k).role || is_mark 125 (token_at ts k).role)) as (λ b. AllByRecursion P (cond b (token_at ts k ∷ []) [])) [ true ↦ (at_any P ts k (λ past. absurd (omega arith)) a, tt) | false ↦ tt ])
     (all_taken P ts (k + 1) n (omega arith) a)
-
--- with its nesting a token is the same
-AllNested : (Token → Type 0) → List Nested → Type 0
-AllNested P xs = AllByRecursion (λ (x : Nested). P x.token) xs
 
 module _ (P : Token → Type 0) where
   all_nested : (n : ℕ) (ts : List Token) → AllByRecursion P ts → AllByRecursion (λ (x : Nested). P x.token) (nested n ts)
@@ -177,7 +175,7 @@ module _ (S : Span → Type 0) where
   calls_of_line (h ∷ o ∷ []) a = tt
   calls_of_line (h ∷ o ∷ n ∷ []) a = tt
   calls_of_line (h ∷ o ∷ n ∷ p ∷ l) a =
-      elim (defines_macro o n p) as (λ b. AllByRecursion (λ (c : Call). S c.callee × S c.caller) (flat_map (λ (m : Macro). calls_among m.name.span m.body) (cond b (record { name = n; body = after_arguments l; end = line_end p.span.end l } ∷ []) []))) [
+      elim (defines_macro o n p) as (λ b. AllByRecursion (λ (c : Call). S c.callee × S c.caller) (flat_map (λ (m : Macro). calls_among m.name.span m.body) (cond b (record { name = n; body = after_arguments l } ∷ []) []))) [
         | true ↦ all-append (λ (c : Call). S c.callee × S c.caller) (calls_among n.span (after_arguments l)) [] (among_calls n.span (after_arguments l) a.1.1.0 (behind_arguments l a.1.1.1.1)) tt
         | false ↦ tt
       ]
@@ -191,13 +189,17 @@ module _ (S : Span → Type 0) where
 
 -- ---- scopes
 module _ (text : List ℕ) where
-  named_ranges_of_functions : (fs : List Function) → AllByRecursion (SpanWithin text) (map (λ (f : Function). f.name) fs) → AllByRecursion (λ (r : Range). IsWithin text r.name) (map (function_range text (code text)) fs)
+  named_ranges_of_functions : (fs : List Function) → AllByRecursion (SpanWithin text) (map (λ (f : Function). f.name) fs) → AllByRecursion (λ (r : Range). IsWithin text r.name) (map (function_range text (code text (pieces text))) fs)
   named_ranges_of_functions [] a = tt
   named_ranges_of_functions (f ∷ fs) a = (a.0, named_ranges_of_functions fs a.1)
 
-  named_ranges_of_macros : (ms : List Macro) → AllByRecursion (SpanWithin text) (map (λ (m : Macro). m.name) ms) → AllByRecursion (λ (r : Range). IsWithin text r.name) (map macro_range ms)
-  named_ranges_of_macros [] a = tt
-  named_ranges_of_macros (m ∷ ms) a = (a.0, named_ranges_of_macros ms a.1)
+  named_ranges : (rs : List Range) → AllByRecursion (IsWithin text) (map (λ (r : Range). r.name) rs) → AllByRecursion (λ (r : Range). IsWithin text r.name) rs
+  named_ranges [] a = tt
+  named_ranges (r ∷ rs) a = (a.0, named_ranges rs a.1)
+
+  spans_of_macros : (ms : List Macro) → AllByRecursion (SpanWithin text) (map (λ (m : Macro). m.name) ms) → AllByRecursion (IsWithin text) (map (λ (m : Macro). m.name.span) ms)
+  spans_of_macros [] a = tt
+  spans_of_macros (m ∷ ms) a = (a.0, spans_of_macros ms a.1)
 
   around_within : (ranges : List Range) (place : ℕ) → AllByRecursion (λ (r : Range). IsWithin text r.name) ranges → IsScopeWithin text (name_around ranges place)
   around_within ranges place a =
@@ -205,14 +207,14 @@ module _ (text : List ℕ) where
       (found_among (λ r. IsWithin text r.name) (holds place) ranges a)
 
   -- the scope of a place lies in the text
-  scope_within : AllByRecursion (λ (r : Range). IsWithin text r.name) (macro_ranges text) → AllByRecursion (λ (r : Range). IsWithin text r.name) (function_ranges text) → (place : ℕ) → IsScopeWithin text (scope text place)
+  scope_within : AllByRecursion (λ (r : Range). IsWithin text r.name) (macro_ranges text (pieces text)) → AllByRecursion (λ (r : Range). IsWithin text r.name) (function_ranges text (pieces text)) → (place : ℕ) → IsScopeWithin text (scope text (pieces text) place)
   scope_within ms fs place =
-      elim (name_around (macro_ranges text) place) as (λ o. IsScopeWithin text o → IsScopeWithin text (option_map_or (λ name. Some name) o (name_around (function_ranges text) place))) [
-        | None ↦ λ _. around_within (function_ranges text) place fs
+      elim (name_around (macro_ranges text (pieces text)) place) as (λ o. IsScopeWithin text o → IsScopeWithin text (option_map_or (λ name. Some name) o (name_around (function_ranges text (pieces text)) place))) [
+        | None ↦ λ _. around_within (function_ranges text (pieces text)) place fs
         | Some s ↦ λ p. p
-      ] (around_within (macro_ranges text) place ms)
+      ] (around_within (macro_ranges text (pieces text)) place ms)
 
-  uses_within : ((place : ℕ) → IsScopeWithin text (scope text place)) → (ts : List Token) → AllByRecursion (SpanWithin text) ts → AllByRecursion (λ (u : Use). IsWithin text u.name × IsScopeWithin text u.scope) (map (λ (t : Token). record { name = t.span; line = t.line; scope = scope text t.span.start }) ts)
+  uses_within : ((place : ℕ) → IsScopeWithin text (scope text (pieces text) place)) → (ts : List Token) → AllByRecursion (SpanWithin text) ts → AllByRecursion (λ (u : Use). IsWithin text u.name × IsScopeWithin text u.scope) (map (λ (t : Token). record { name = t.span; line = t.line; scope = scope text (pieces text) t.span.start }) ts)
   uses_within scopes [] a = tt
   uses_within scopes (t ∷ ts) a = ((a.0, scopes t.span.start), uses_within scopes ts a.1)
 
@@ -233,8 +235,8 @@ module _ (text : List ℕ) where
 
   header_within : (t : Token) (rest : List Token) → SpanWithin text t → AllByRecursion (SpanWithin text) rest → AllByRecursion (λ (i : Include). IsWithin text i.header) (header_of text t rest)
   header_within t rest w a =
-      elim (is_str t.role) as (λ b. AllByRecursion (λ (i : Include). IsWithin text i.header) (cond b (cond (quote_ends (bytes_of text (record { start = t.span.start + 1; end = t.span.end }))) (header_between (t.span.start + 1) (t.span.end - 1) t.line) []) (cond (is_mark 60 t.role) (option_map_or (λ (g : Token). header_between t.span.end g.span.start t.line) (find (λ (u : Token). is_mark 62 u.role) rest) []) []))) [
-        | true ↦ elim (quote_ends (bytes_of text (record { start = t.span.start + 1; end = t.span.end }))) as (λ b. AllByRecursion (λ (i : Include). IsWithin text i.header) (cond b (header_between (t.span.start + 1) (t.span.end - 1) t.line) [])) [
+      elim (is_str t.role) as (λ b. AllByRecursion (λ (i : Include). IsWithin text i.header) (cond b (cond (is_closed (bytes_of text t.span)) (header_between (t.span.start + 1) (t.span.end - 1) t.line) []) (cond (is_mark 60 t.role) (option_map_or (λ (g : Token). header_between t.span.end g.span.start t.line) (find (λ (u : Token). is_mark 62 u.role) rest) []) []))) [
+        | true ↦ elim (is_closed (bytes_of text t.span)) as (λ b. AllByRecursion (λ (i : Include). IsWithin text i.header) (cond b (header_between (t.span.start + 1) (t.span.end - 1) t.line) [])) [
           | true ↦ between_within (t.span.start + 1) (t.span.end - 1) t.line (omega (arith, w.1))
           | false ↦ tt
         ]
@@ -257,7 +259,7 @@ module _ (text : List ℕ) where
       let parts = all-front (SpanWithin text) l (flat_map (λ l. l) ls) a in
       all-append (λ (i : Include). IsWithin text i.header) (include_of text l) _ (include_within l parts.0) (headers_within ls parts.1)
 
-  includes_within : ((place : ℕ) → IsScopeWithin text (scope text place)) → (is : List Include) → AllByRecursion (λ (i : Include). IsWithin text i.header) is → AllByRecursion (λ (i : Include). IsWithin text i.header × IsScopeWithin text i.scope) (map (λ (i : Include). record i { scope = scope text i.header.start }) is)
+  includes_within : ((place : ℕ) → IsScopeWithin text (scope text (pieces text) place)) → (is : List Include) → AllByRecursion (λ (i : Include). IsWithin text i.header) is → AllByRecursion (λ (i : Include). IsWithin text i.header × IsScopeWithin text i.scope) (map (λ (i : Include). record i { scope = scope text (pieces text) i.header.start }) is)
   includes_within scopes [] a = tt
   includes_within scopes (i ∷ is) a = ((a.0, scopes i.header.start), includes_within scopes is a.1)
 
@@ -276,50 +278,53 @@ module _ (text : List ℕ) where
   defs_of_tokens [] a = tt
   defs_of_tokens (t ∷ ts) a = ((span_within t a.0, a.0.2), defs_of_tokens ts a.1)
 
-  line_tokens : AllByRecursion (TokenWithin text) (flat_map (λ l. l) (logical_lines text))
+  line_tokens : AllByRecursion (TokenWithin text) (flat_map (λ l. l) (logical_lines text (pieces text)))
   line_tokens =
-      all-joined (TokenWithin text) (logical_lines text) (lines-within text _ (all-split (LiesIn text) (λ p. is_newline p.class) (pieces text) (pieces-lie text)))
+      all-joined (TokenWithin text) (logical_lines text (pieces text)) (lines-within text _ (all-split (LiesIn text) (λ p. is_newline p.class) (pieces text) (pieces-lie text)))
 
-  code_tokens : AllByRecursion (TokenWithin text) (code text)
+  code_tokens : AllByRecursion (TokenWithin text) (code text (pieces text))
   code_tokens = code-within text (pieces text) (pieces-lie text)
 
-  directive_tokens : AllByRecursion (TokenWithin text) (flat_map (λ l. l) (directives text))
-  directive_tokens = only_directives (logical_lines text) (TokenWithin text) line_tokens
+  directive_tokens : AllByRecursion (TokenWithin text) (flat_map (λ l. l) (directives text (pieces text)))
+  directive_tokens = only_directives (logical_lines text (pieces text)) (TokenWithin text) line_tokens
 
-  function_names : AllByRecursion (SpanWithin text) (map (λ (f : Function). f.name) (functions (code text)))
-  function_names = all_function_names (SpanWithin text) (code text) 0 (length (code text)) (spans_of (code text) code_tokens)
+  function_names : AllByRecursion (SpanWithin text) (map (λ (f : Function). f.name) (functions (code text (pieces text))))
+  function_names = all_function_names (SpanWithin text) (code text (pieces text)) 0 (length (code text (pieces text))) (spans_of (code text (pieces text)) code_tokens)
 
-  macro_tokens : AllByRecursion (TokenWithin text) (map (λ (m : Macro). m.name) (macros text))
-  macro_tokens = subst (AllByRecursion (TokenWithin text)) (names_flat (directives text)) (all-picked macro_names macro_picks (TokenWithin text) (directives text) directive_tokens)
+  macro_tokens : AllByRecursion (TokenWithin text) (map (λ (m : Macro). m.name) (macros text (pieces text)))
+  macro_tokens = subst (AllByRecursion (TokenWithin text)) (names_flat (directives text (pieces text))) (all-picked macro_names macro_picks (TokenWithin text) (directives text (pieces text)) directive_tokens)
 
   origin : IsWithin text no_token.span
   origin = (omega (arith), omega (arith))
 
-  scopes_lie : (place : ℕ) → IsScopeWithin text (scope text place)
-  scopes_lie = scope_within (named_ranges_of_macros (macros text) (spans_of _ macro_tokens)) (named_ranges_of_functions (functions (code text)) function_names)
+  scopes_lie : (place : ℕ) → IsScopeWithin text (scope text (pieces text) place)
+  scopes_lie = scope_within 
+      (named_ranges (macro_ranges text (pieces text))
+      (subst (AllByRecursion (IsWithin text)) (sym (range_names text (pieces text))) (spans_of_macros (macros text (pieces text)) (spans_of _ macro_tokens))))
+      (named_ranges_of_functions (functions (code text (pieces text))) function_names)
 
   definitions_lie : AllByRecursion (DefWithin text) (definitions text)
-  unfolding definitions
+  unfolding definitions_from
   definitions_lie =
       all_in_order def_key (DefWithin text) _
       (all-append (DefWithin text) _ _
-      (all-append (DefWithin text) _ _ (functions-lie text (pieces-lie text)) (defs_of_macros (macros text) macro_tokens))
-      (defs_of_tokens (typedefs (code text)) (all_typedefs (TokenWithin text) (code text) code_tokens)))
+      (all-append (DefWithin text) _ _ (functions-lie text (pieces-lie text)) (defs_of_macros (macros text (pieces text)) macro_tokens))
+      (defs_of_tokens (typedefs (code text (pieces text))) (all_typedefs (TokenWithin text) (code text (pieces text)) code_tokens)))
 
-  uses_lie : AllByRecursion (λ (u : Use). IsWithin text u.name × IsScopeWithin text u.scope) (uses text)
+  uses_lie : AllByRecursion (λ (u : Use). IsWithin text u.name × IsScopeWithin text u.scope) (uses text (pieces text))
   unfolding uses
-  uses_lie = uses_within scopes_lie (flat_map used (logical_lines text)) (all-picked used used_picks (SpanWithin text) (logical_lines text) (spans_of _ line_tokens))
+  uses_lie = uses_within scopes_lie (flat_map used (logical_lines text (pieces text))) (all-picked used used_picks (SpanWithin text) (logical_lines text (pieces text)) (spans_of _ line_tokens))
 
-  calls_lie : AllByRecursion (λ (c : Call). IsWithin text c.callee × IsWithin text c.caller) (calls text)
+  calls_lie : AllByRecursion (λ (c : Call). IsWithin text c.callee × IsWithin text c.caller) (calls text (pieces text))
   unfolding calls
   calls_lie =
       all_in_order call_key (λ (c : Call). IsWithin text c.callee × IsWithin text c.caller) _
-      (all-append (λ (c : Call). IsWithin text c.callee × IsWithin text c.caller) _ _ (calls_of_all (IsWithin text) (code text) (functions (code text)) origin function_names (spans_of (code text) code_tokens))
-      (calls_of_lines (IsWithin text) (directives text) (spans_of _ directive_tokens)))
+      (all-append (λ (c : Call). IsWithin text c.callee × IsWithin text c.caller) _ _ (calls_of_all (IsWithin text) (code text (pieces text)) (functions (code text (pieces text))) origin function_names (spans_of (code text (pieces text)) code_tokens))
+      (calls_of_lines (IsWithin text) (directives text (pieces text)) (spans_of _ directive_tokens)))
 
-  includes_lie : AllByRecursion (λ (i : Include). IsWithin text i.header × IsScopeWithin text i.scope) (includes text)
+  includes_lie : AllByRecursion (λ (i : Include). IsWithin text i.header × IsScopeWithin text i.scope) (includes text (pieces text))
   unfolding includes
-  includes_lie = includes_within scopes_lie _ (headers_within (directives text) (spans_of _ directive_tokens))
+  includes_lie = includes_within scopes_lie _ (headers_within (directives text (pieces text)) (spans_of _ directive_tokens))
 
   -- what is found in a text lies in it, and its definitions stand on lines of it
   pub facts_lie : AreWithin text (facts_of text)

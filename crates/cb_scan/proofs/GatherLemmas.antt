@@ -2,7 +2,8 @@
 use Rattle.std.proofs.Common.{◌≡◌, ◌∙◌, ℕ, true, false, List, [], ◌∷◌, ◌++◌, None, length, map, ap, sym, refl, append_assoc}
 use Rattle.std.proofs.lemmas.Bool.{false≢true}
 use Rattle.std.specs.Prelude.{cond}
-use Rattle.cb_scan.specs.declared.line.Line.{Line}
+use Rattle.cb_scan.specs.declared.line.Stage.{Stage}
+use Rattle.cb_scan.specs.declared.line.Stage.TheVariants.{Start}
 use Rattle.cb_scan.specs.declared.lined.Lined.{Lined}
 use Rattle.cb_scan.specs.declared.piece.Class.{Class}
 use Rattle.cb_scan.specs.declared.piece.Class.TheVariants.{Name, Number, Str, Chr, LineNote, BlockNote, Blank, Newline, Byte}
@@ -14,7 +15,7 @@ use Rattle.cb_scan.specs.Scope.{function_ranges}
 use Rattle.cb_scan.specs.Typedefs.{typedefs}
 use Rattle.cb_scan.specs.Uses.{function_calls}
 use Rattle.cb_scan.specs.steps.Cut.{pieces}
-use Rattle.cb_scan.specs.steps.Line.{code_out, is_code, line_start, lined_token, next_line, nothing, walk}
+use Rattle.cb_scan.specs.steps.Line.{code_out, is_code, lined_token, next_stage, nothing, walk}
 use Rattle.cb_scan.specs.Tokens.{is_significant}
 use Rattle.cb_scan.specs.steps.Lined.{lined}
 use Rattle.cb_scan.specs.steps.Machine.{calls_from, defs_from, ranges_from, start}
@@ -25,17 +26,17 @@ use Rattle.cb_scan.proofs.FunctionLemmas.{defs_from_start}
 use Rattle.cb_scan.proofs.TypedefLemmas.{typedef_defs_from_start}
 
 module _ (text : List ℕ) where
-  pub functions_found : defs_from start (walk code_out nothing text line_start (map (lined text) (pieces text))) ≡ map function_def (functions (code text))
-  functions_found = ap (defs_from start) (code_is text) ∙ defs_from_start (code text)
+  pub functions_found : defs_from start (walk code_out nothing text Start (map (lined text) (pieces text))) ≡ map function_def (functions (code text (pieces text)))
+  functions_found = ap (defs_from start) (code_is text (pieces text)) ∙ defs_from_start (code text (pieces text))
 
-  pub ranges_found : ranges_from (length text) start (walk code_out nothing text line_start (map (lined text) (pieces text))) ≡ function_ranges text
-  ranges_found = ap (ranges_from (length text) start) (code_is text) ∙ ranges_from_start text (code text)
+  pub ranges_found : ranges_from (length text) start (walk code_out nothing text Start (map (lined text) (pieces text))) ≡ function_ranges text (pieces text)
+  ranges_found = ap (ranges_from (length text) start) (code_is text (pieces text)) ∙ ranges_from_start text (code text (pieces text))
 
-  pub calls_found : calls_from start (walk code_out nothing text line_start (map (lined text) (pieces text))) ≡ function_calls (code text)
-  calls_found = ap (calls_from start) (code_is text) ∙ calls_from_start text (code text)
+  pub calls_found : calls_from start (walk code_out nothing text Start (map (lined text) (pieces text))) ≡ function_calls (code text (pieces text))
+  calls_found = ap (calls_from start) (code_is text (pieces text)) ∙ calls_from_start text (code text (pieces text))
 
-  pub typedefs_found : typedef_defs_from start None [] (walk code_out nothing text line_start (map (lined text) (pieces text))) ≡ map typedef_def (typedefs (code text))
-  typedefs_found = ap (typedef_defs_from start None []) (code_is text) ∙ typedef_defs_from_start (code text)
+  pub typedefs_found : typedef_defs_from start None [] (walk code_out nothing text Start (map (lined text) (pieces text))) ≡ map typedef_def (typedefs (code text (pieces text)))
+  typedefs_found = ap (typedef_defs_from start None []) (code_is text (pieces text)) ∙ typedef_defs_from_start (code text (pieces text))
 
 -- what is appended was to come
 pub appended : {A : Type 0} (old new x y z all : List A) → new ≡ old ++ x → y ≡ x ++ z → old ++ y ≡ all → new ++ z ≡ all
@@ -53,15 +54,15 @@ token_no_newline Byte is = refl
 token_no_newline Newline is = absurd (false≢true is)
 
 -- a token of a line
-pub walk_on : {A : Type 0} (out : Line → Token → List A) (finish : Line → List A) (text : List ℕ) (s s' : Line) (t : Token) (x : Lined) (all rest : List Lined) → all ≡ x ∷ rest → is_significant x.piece.class ≡ true → t ≡ lined_token text x → s' ≡ next_line s t → walk out finish text s all ≡ out s t ++ walk out finish text s' rest
+pub walk_on : {A : Type 0} (out : Stage → Token → List A) (finish : Stage → ℕ → List A) (text : List ℕ) (s s' : Stage) (t : Token) (x : Lined) (all rest : List Lined) → all ≡ x ∷ rest → is_significant x.piece.class ≡ true → t ≡ lined_token text x → s' ≡ next_stage s t → walk out finish text s all ≡ out s t ++ walk out finish text s' rest
 walk_on out finish text s s' t x all rest all_is is t_is s_is =
     ap (walk out finish text s) all_is
-    ∙ (λ i. cond (token_no_newline x.piece.class is i) (finish s ++ walk out finish text line_start rest) (cond (is i) (out s (lined_token text x) ++ walk out finish text (next_line s (lined_token text x)) rest) (walk out finish text s rest)))
-    ∙ (λ i. out s (sym t_is i) ++ walk out finish text (next_line s (sym t_is i)) rest)
+    ∙ (λ i. cond (token_no_newline x.piece.class is i) (finish s x.piece.span.start ++ walk out finish text Start rest) (cond (is i) (out s (lined_token text x) ++ walk out finish text (next_stage s (lined_token text x)) rest) (walk out finish text s rest)))
+    ∙ (λ i. out s (sym t_is i) ++ walk out finish text (next_stage s (sym t_is i)) rest)
     ∙ ap (λ k. out s t ++ walk out finish text k rest) (sym s_is)
 
 -- a token of the code
-pub code_on : (text : List ℕ) (s s' : Line) (t : Token) (x : Lined) (all rest : List Lined) → all ≡ x ∷ rest → is_significant x.piece.class ≡ true → t ≡ lined_token text x → s' ≡ next_line s t → is_code s'.stage ≡ true → walk code_out nothing text s all ≡ t ∷ walk code_out nothing text s' rest
+pub code_on : (text : List ℕ) (s s' : Stage) (t : Token) (x : Lined) (all rest : List Lined) → all ≡ x ∷ rest → is_significant x.piece.class ≡ true → t ≡ lined_token text x → s' ≡ next_stage s t → is_code s' ≡ true → walk code_out nothing text s all ≡ t ∷ walk code_out nothing text s' rest
 code_on text s s' t x all rest all_is is t_is s_is code_is =
     walk_on code_out nothing text s s' t x all rest all_is is t_is s_is
-    ∙ ap (λ b. cond b (t ∷ []) [] ++ walk code_out nothing text s' rest) (sym (ap (λ (k : Line). is_code k.stage) s_is) ∙ code_is)
+    ∙ ap (λ b. cond b (t ∷ []) [] ++ walk code_out nothing text s' rest) (sym (ap is_code s_is) ∙ code_is)

@@ -5,7 +5,7 @@ use Rattle.std.proofs.lemmas.Bool.Decides.{nat_tests}
 use Rattle.std.specs.List.{list_all, prefix_len}
 use Rattle.cb_scan.specs.declared.lexeme.Escape.{Escape}
 use Rattle.cb_scan.specs.declared.lexeme.Escape.TheVariants.{Plain, Backslash, Return}
-use Rattle.cb_scan.specs.Lexeme.{is_blank, goes_on, first_is, all_go_on, Blanks, no_blank, a_blank, a_join, a_cr_join, Noted, note_ends, noted_byte, noted_join, noted_cr_join, Quoted, closed, not_closed, joined, escaped, last_escape, quoted_byte}
+use Rattle.cb_scan.specs.Lexeme.{IsLineEnd, is_blank, goes_on, first_is, all_go_on, Blanks, no_blank, a_blank, a_join, a_cr_join, Noted, note_ends, noted_byte, noted_join, noted_cr_join, Quoted, closed, not_closed, joined, escaped, last_escape, quoted_byte}
 use Rattle.cb_scan.specs.steps.Cut.{ends_join, number_len, goes_on_blank, blank_len, note_escape, ends_note, note_len, literal_escape, ends_literal, literal_len}
 
 -- words
@@ -341,18 +341,32 @@ module _ (q : ℕ) (is : IsQuote q) where
   plain_other : Plain ≢ Backslash
   plain_other e = cc
 
-  pub literal_longest : {rest : List ℕ} {n : ℕ} → Quoted q rest n → n ≤ literal_len q Plain rest
-  literal_longest (closed {a = a} {rest = rest} x) =
+  -- a literal that isn't closed ends at once before a line's end
+  literal_at_end : (rest : List ℕ) → IsLineEnd rest → 0 ≡ literal_len q Plain rest
+  unfolding literal_len
+  literal_at_end [] ends = refl
+  literal_at_end (a ∷ rest) ends = ⊎_elim (λ e. absurd (omega arith)) (λ e. sym (ap (λ b. literal_len q Plain (b ∷ rest)) (feed e) ∙ literal-feed rest)) ends
+    where
+      feed : take 1 (a ∷ rest) ≡ 10 ∷ [] → a ≡ 10
+      feed e = cc
+
+  literal-empty : (e : Escape) → literal_len q e [] ≡ 0
+  unfolding literal_len
+  literal-empty e = refl
+
+  -- a literal has one length
+  pub literal_exact : {rest : List ℕ} {n : ℕ} → Quoted q rest n → n ≡ literal_len q Plain rest
+  literal_exact (closed {a = a} {rest = rest} x) =
       let same : literal_len q Plain (a ∷ rest) ≡ 1 = rw x (literal-closed rest) in
       omega arith
-  literal_longest (not_closed h) = omega arith
-  literal_longest (joined {a = a} {b = b} {c = c} {n = n} {rest = rest} x y z more) =
-      let inner = literal_longest more in
+  literal_exact (not_closed {rest = rest} h) = literal_at_end rest h
+  literal_exact (joined {a = a} {b = b} {c = c} {n = n} {rest = rest} x y z more) =
+      let inner = literal_exact more in
       let same : literal_len q Plain (a ∷ b ∷ c ∷ rest) ≡ suc (suc (suc (literal_len q Plain rest))) =
       rw (x, y, z) (literal-slash Plain (13 ∷ 10 ∷ rest) plain_other ∙ ap suc (literal-return (10 ∷ rest)) ∙ ap (λ m. suc (suc m)) (literal-joined rest)) in
       omega arith
-  literal_longest (escaped {a = a} {b = b} {n = n} {rest = rest} x other more) =
-      let inner = literal_longest more in
+  literal_exact (escaped {a = a} {b = b} {n = n} {rest = rest} x other more) =
+      let inner = literal_exact more in
       let first : literal_len q Plain (a ∷ b ∷ rest) ≡ suc (literal_len q Backslash (b ∷ rest)) = rw x (literal-slash Plain (b ∷ rest) plain_other) in
       let second : literal_len q Backslash (b ∷ rest) ≡ suc (literal_len q Plain rest) = ⊎_elim
       (λ e.
@@ -361,23 +375,23 @@ module _ (q : ℕ) (is : IsQuote q) where
       (λ ne. literal-escaped b rest ne)
       (cases_eq b 13) in
       omega arith
-  literal_longest (last_escape {a = a} x) =
+  literal_exact (last_escape {a = a} x) =
       let same : literal_len q Plain (a ∷ []) ≡ suc (literal_len q Backslash []) = rw x (literal-slash Plain [] plain_other) in
+      let none = literal-empty Backslash in
       omega arith
-  literal_longest (quoted_byte {a = a} {n = n} {rest = rest} x y z more) =
-      let inner = literal_longest more in
+  literal_exact (quoted_byte {a = a} {n = n} {rest = rest} x y z more) =
+      let inner = literal_exact more in
       let same = literal-byte a rest x y z in
       omega arith
+
+  pub literal_longest : {rest : List ℕ} {n : ℕ} → Quoted q rest n → n ≤ literal_len q Plain rest
+  literal_longest is = let same = literal_exact is in omega (arith, same)
 
   -- what is counted behind nothing of note, behind `\` and behind `\` CR
   record LiteralCounted (xs : List ℕ) : Type 0 where
     plain : Quoted q xs (literal_len q Plain xs)
     slash : Quoted q (92 ∷ xs) (suc (literal_len q Backslash xs))
     return : Quoted q (92 ∷ 13 ∷ xs) (suc (suc (literal_len q Return xs)))
-
-  literal-empty : (e : Escape) → literal_len q e [] ≡ 0
-  unfolding literal_len
-  literal-empty e = refl
 
   alone : (b : ℕ) (rest : List ℕ) → b ≢ 10 → take 2 (13 ∷ b ∷ rest) ≢ 13 ∷ 10 ∷ []
   alone b rest other e = other cc

@@ -1,5 +1,6 @@
 pub mod Blocks
 pub mod BodyLemmas
+pub mod ClosedStrings
 pub mod Cuts
 pub mod DeclarationLemmas
 pub mod DirectiveLemmas
@@ -8,16 +9,15 @@ pub mod Fronts
 pub mod FunctionLemmas
 pub mod GatherLemmas
 pub mod HeadLemmas
+pub mod InOrder
 pub mod Lengths
 pub mod LineLemmas
 pub mod LineTable
 pub mod LinedPieces
 pub mod OrderLemmas
 pub mod PieceLists
-pub mod QuoteLemmas
 pub mod Rising
 pub mod ScopeLemmas
-pub mod TypedefExamples
 pub mod TypedefLemmas
 pub mod WithinLemmas
 pub mod WordLemmas

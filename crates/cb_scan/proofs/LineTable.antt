@@ -1,13 +1,13 @@
 -- The table of line starts finds each line, and each byte stands on one of the lines.
 use Rattle.std.proofs.Common.{◌≡◌, ◌∙◌, ℕ, zero, suc, ◌+◌, ◌-◌, ◌<◌, ◌≤◌, ◌==◌, true, false, cond, List, [], ◌∷◌, ◌++◌, Some, None, length, take, drop, get_or, refl, sym, ap, subst, arith, add-one, append_assoc, length-append, length-drop, take-append-drop}
 use Rattle.std.specs.Prelude.{slice_get, slice_range}
-use Rattle.std.specs.List.{count_by, flat_map}
+use Rattle.std.specs.List.{count_by, flat_map, slice_index_or}
 use Rattle.std.proofs.lemmas.List.{drop_at, take_at, length-map}
 use Rattle.std.proofs.lemmas.List.Sums.{sum_by-cons}
 use Rattle.std.proofs.lemmas.Option.{slice_get-get_or, slice_get_past}
 use Rattle.bstr.specs.Text.{lines_of, line_len, without_terminator}
 use Rattle.bstr.proofs.lemmas.LineLemmas.{line_len-bounds, lines-step, lines-nil}
-use Rattle.cb_scan.specs.Lines.{IsLineOf, line_of, lines}
+use Rattle.cb_scan.specs.Lines.{IsLineOf, line_of, line_text, lines}
 use Rattle.cb_scan.specs.steps.LineStarts.{starts_from, line_starts}
 
 -- lines, one after the other
@@ -125,3 +125,8 @@ module _ (text starts : List ℕ) (k : ℕ) (table : starts ≡ line_starts text
   -- no line behind the table
   pub table_none : length starts ≤ k + 1 → None ≡ slice_get (lines_of text) k
   table_none past = sym (slice_get_past (lines_of text) k (omega (arith, past, ap length table, line_starts-length text, length-map (lines_of text) without_terminator)))
+
+-- from 1 on the shown line n is the line at index n - 1
+pub line_text-at : (text : List ℕ) (n : ℕ) → 0 < n → line_text text n ≡ slice_index_or (lines text) (n - 1) []
+line_text-at text zero above = absurd (omega arith)
+line_text-at text (suc n) above = let before : n ≡ suc n - 1 = omega arith in ap (λ k. slice_index_or (lines text) k []) before

@@ -6,18 +6,19 @@ use Rattle.std.specs.List.{AllByRecursion, flat_map, list_any, range_with_len}
 use Rattle.std.specs.Option.{MatchOption, option_map_or}
 use Rattle.std.proofs.lemmas.Bool.{cases_Bool, eqb-true, false_from_ne_true}
 use Rattle.std.proofs.Math.Bool.{and-false}
-use Rattle.cb_scan.specs.declared.line.Line.{Line}
+use Rattle.cb_scan.specs.declared.line.Stage.{Stage}
+use Rattle.cb_scan.specs.declared.line.Stage.TheVariants.{Start}
 use Rattle.cb_scan.specs.declared.piece.Piece.{Piece}
 use Rattle.cb_scan.specs.declared.token.Token.{Token}
 use Rattle.cb_scan.specs.Code.{is_newline, is_directive, code, directives, logical_lines}
 use Rattle.cb_scan.specs.Depth.{closes, depth, depth_after, head_start, is_counted, is_stop, is_uncounted, token_at}
 use Rattle.cb_scan.specs.Functions.{Function, called_name, close_from, function_at, functions, head, may_define}
-use Rattle.cb_scan.specs.Macros.{Macro, after_arguments, defines_macro, line_end, macro_of, macros}
+use Rattle.cb_scan.specs.Macros.{Macro, after_arguments, defines_macro, macro_of, macros}
 use Rattle.cb_scan.specs.Pieces.{Adjoin}
 use Rattle.cb_scan.specs.Tokens.{is_any_word, is_mark, is_name_token, is_static, is_significant, token_of}
 use Rattle.cb_scan.specs.Uses.{behind_own_word, is_include, usable, used}
 use Rattle.cb_scan.specs.steps.Cut.{pieces}
-use Rattle.cb_scan.specs.steps.Line.{line_start, next_line, nothing, run, walk}
+use Rattle.cb_scan.specs.steps.Line.{next_stage, nothing, run, walk}
 use Rattle.cb_scan.specs.steps.Lined.{lined}
 use Rattle.cb_scan.proofs.BodyLemmas.{and_left, function_named, none_here, stays_deep}
 use Rattle.cb_scan.proofs.FunctionLemmas.{head_start_le}
@@ -85,13 +86,13 @@ module _ (pick : List Token → List Token) (picks : Picks pick) where
       (picks.all (λ x. AllByRecursion (From x.span.end) (flat_map pick ls)) l (each_before ls l parts.2))
 
 -- ---- the tokens of all lines
-each_token : Line → Token → List Token
+each_token : Stage → Token → List Token
 each_token s t = t ∷ []
 
-run_each : (s : Line) (l : List Token) → run each_token nothing s l ≡ l
+run_each : (s : Stage) (l : List Token) → run each_token (λ s. []) s l ≡ l
 unfolding each_token
 run_each s [] = refl
-run_each s (t ∷ ts) = ap (λ c. t ∷ c) (run_each (next_line s t) ts)
+run_each s (t ∷ ts) = ap (λ c. t ∷ c) (run_each (next_stage s t) ts)
 
 -- the pieces from a place on give tokens from there on, in order
 pub record RisesFrom (place : ℕ) (ts : List Token) : Type 0 where
@@ -105,29 +106,29 @@ from_later i j (t ∷ ts) le a = (omega (arith, a.0), from_later i j ts le a.1)
 rises_later : (i j : ℕ) (ts : List Token) → i ≤ j → RisesFrom j ts → RisesFrom i ts
 rises_later i j ts le r = record { rises = r.rises; from = from_later i j ts le r.from }
 
-walk_rises : (text : List ℕ) (s : Line) (i j : ℕ) (ps : List Piece) → Adjoin i j ps → RisesFrom i (walk each_token nothing text s (map (lined text) ps))
+walk_rises : (text : List ℕ) (s : Stage) (i j : ℕ) (ps : List Piece) → Adjoin i j ps → RisesFrom i (walk each_token nothing text s (map (lined text) ps))
 unfolding each_token lined Adjoin
 walk_rises text s i j [] a = record { rises = tt; from = tt }
 walk_rises text s i j (p ∷ ps) a =
-    let after : (s : Line) → RisesFrom p.span.end (walk each_token nothing text s (map (lined text) ps)) = λ s. walk_rises text s p.span.end j ps a.2 in
-    let skip : (s : Line) → RisesFrom i (walk each_token nothing text s (map (lined text) ps)) = λ s. rises_later i p.span.end _ (omega (arith, a.1)) (after s) in
+    let after : (s : Stage) → RisesFrom p.span.end (walk each_token nothing text s (map (lined text) ps)) = λ s. walk_rises text s p.span.end j ps a.2 in
+    let skip : (s : Stage) → RisesFrom i (walk each_token nothing text s (map (lined text) ps)) = λ s. rises_later i p.span.end _ (omega (arith, a.1)) (after s) in
     let t = token_of text p in
-    elim (is_newline p.class) as (λ b. RisesFrom i (cond b (walk each_token nothing text line_start (map (lined text) ps)) (cond (is_significant p.class) (t ∷ walk each_token nothing text (next_line s t) (map (lined text) ps)) (walk each_token nothing text s (map (lined text) ps))))) [
-      | true ↦ skip line_start
-      | false ↦ elim (is_significant p.class) as (λ b. RisesFrom i (cond b (t ∷ walk each_token nothing text (next_line s t) (map (lined text) ps)) (walk each_token nothing text s (map (lined text) ps)))) [
+    elim (is_newline p.class) as (λ b. RisesFrom i (cond b (walk each_token nothing text Start (map (lined text) ps)) (cond (is_significant p.class) (t ∷ walk each_token nothing text (next_stage s t) (map (lined text) ps)) (walk each_token nothing text s (map (lined text) ps))))) [
+      | true ↦ skip Start
+      | false ↦ elim (is_significant p.class) as (λ b. RisesFrom i (cond b (t ∷ walk each_token nothing text (next_stage s t) (map (lined text) ps)) (walk each_token nothing text s (map (lined text) ps)))) [
         | true ↦ record {
-          rises = (omega (arith, a.0, a.1), (after (next_line s t)).from, (after (next_line s t)).rises);
-          from = (omega (arith, a.0), from_later i p.span.end _ (omega (arith, a.1)) (after (next_line s t)).from);
+          rises = (omega (arith, a.0, a.1), (after (next_stage s t)).from, (after (next_stage s t)).rises);
+          from = (omega (arith, a.0), from_later i p.span.end _ (omega (arith, a.1)) (after (next_stage s t)).from);
         }
         | false ↦ skip s
       ]
     ]
 
-pub all_rise : (text : List ℕ) → Rising (flat_map (λ l. l) (logical_lines text))
+pub all_rise : (text : List ℕ) → Rising (flat_map (λ l. l) (logical_lines text (pieces text)))
 unfolding each_token
 all_rise text =
-    subst Rising (walk_lines each_token nothing text ∙ (λ i. flat_map (λ l. run_each line_start l i) (logical_lines text)))
-    (walk_rises text line_start 0 (length text) (pieces text) (pieces-adjoin text)).rises
+    subst Rising (walk_lines each_token (λ s. []) text (pieces text) ∙ (λ i. flat_map (λ l. run_each Start l i) (logical_lines text (pieces text))))
+    (walk_rises text Start 0 (length text) (pieces text) (pieces-adjoin text)).rises
 
 -- ---- the code
 code_pick : List Token → List Token
@@ -149,13 +150,10 @@ code_flat (l ∷ ls) =
       | false ↦ ap (λ c. l ++ c) (code_flat ls)
     ]
 
-pub code_rises : (text : List ℕ) → Rising (code text)
-code_rises text = subst Rising (sym (code_flat (logical_lines text))) (rising-picked code_pick code_picks (logical_lines text) (all_rise text))
+pub code_rises : (text : List ℕ) → Rising (code text (pieces text))
+code_rises text = subst Rising (sym (code_flat (logical_lines text (pieces text)))) (rising-picked code_pick code_picks (logical_lines text (pieces text)) (all_rise text))
 
 -- ---- the names used
-tail_all : (P : Token → Type 0) (h : Token) (l : List Token) → AllByRecursion P (h ∷ l) → AllByRecursion P l
-tail_all P h l a = a.1
-
 behind_all : (P : Token → Type 0) (l : List Token) → AllByRecursion P l → AllByRecursion P (behind_own_word l)
 behind_all P [] a = tt
 behind_all P (h ∷ []) a = tt
@@ -186,8 +184,8 @@ used_picks = record {
           | false ↦ r
         ]
 
-pub used_rise : (text : List ℕ) → Rising (flat_map used (logical_lines text))
-used_rise text = rising-picked used used_picks (logical_lines text) (all_rise text)
+pub used_rise : (text : List ℕ) → Rising (flat_map used (logical_lines text (pieces text)))
+used_rise text = rising-picked used used_picks (logical_lines text (pieces text)) (all_rise text)
 
 -- ---- the names of macros
 pub macro_names : List Token → List Token
@@ -203,7 +201,7 @@ macro_picks = record { all = names_all; rises = names_rise }
     names_all P (h ∷ o ∷ []) a = tt
     names_all P (h ∷ o ∷ n ∷ []) a = tt
     names_all P (h ∷ o ∷ n ∷ p ∷ l) a =
-        elim (defines_macro o n p) as (λ b. AllByRecursion P (map (λ (m : Macro). m.name) (cond b (record { name = n; body = after_arguments l; end = line_end p.span.end l } ∷ []) []))) [ true ↦ (a.1.1.0, tt) | false ↦ tt ]
+        elim (defines_macro o n p) as (λ b. AllByRecursion P (map (λ (m : Macro). m.name) (cond b (record { name = n; body = after_arguments l } ∷ []) []))) [ true ↦ (a.1.1.0, tt) | false ↦ tt ]
 
     names_rise : (l : List Token) → Rising l → Rising (map (λ (m : Macro). m.name) (macro_of l))
     names_rise [] r = tt
@@ -211,7 +209,7 @@ macro_picks = record { all = names_all; rises = names_rise }
     names_rise (h ∷ o ∷ []) r = tt
     names_rise (h ∷ o ∷ n ∷ []) r = tt
     names_rise (h ∷ o ∷ n ∷ p ∷ l) r =
-        elim (defines_macro o n p) as (λ b. Rising (map (λ (m : Macro). m.name) (cond b (record { name = n; body = after_arguments l; end = line_end p.span.end l } ∷ []) []))) [ true ↦ (r.2.2.0, tt, tt) | false ↦ tt ]
+        elim (defines_macro o n p) as (λ b. Rising (map (λ (m : Macro). m.name) (cond b (record { name = n; body = after_arguments l } ∷ []) []))) [ true ↦ (r.2.2.0, tt, tt) | false ↦ tt ]
 
 pub names_flat : (ls : List (List Token)) → flat_map macro_names ls ≡ map (λ (m : Macro). m.name) (flat_map macro_of ls)
 unfolding macro_names
@@ -240,11 +238,11 @@ directives_rise (l ∷ ls) r =
       | false ↦ directives_rise ls parts.1
     ]
 
-pub directive_tokens_rise : (text : List ℕ) → Rising (flat_map (λ l. l) (directives text))
-directive_tokens_rise text = directives_rise (logical_lines text) (all_rise text)
+pub directive_tokens_rise : (text : List ℕ) → Rising (flat_map (λ l. l) (directives text (pieces text)))
+directive_tokens_rise text = directives_rise (logical_lines text (pieces text)) (all_rise text)
 
-pub macros_rise : (text : List ℕ) → Rising (map (λ (m : Macro). m.name) (macros text))
-macros_rise text = subst Rising (names_flat (directives text)) (rising-picked macro_names macro_picks (directives text) (directive_tokens_rise text))
+pub macros_rise : (text : List ℕ) → Rising (map (λ (m : Macro). m.name) (macros text (pieces text)))
+macros_rise text = subst Rising (names_flat (directives text (pieces text))) (rising-picked macro_names macro_picks (directives text (pieces text)) (directive_tokens_rise text))
 
 -- ---- the names of functions
 abbrev function_name : Function → Token
@@ -378,5 +376,5 @@ names_rise_from ts k (suc n) r =
         later
         (named_in_head Q ts k (all-drop Q (head_start ts k) (take k ts) (all_implied (λ x. AllByRecursion (From x.span.end) (drop k ts)) Q (behind_it ts k n is) (take k ts) parts.2)))
 
-pub functions_rise : (text : List ℕ) → Rising (map function_name (functions (code text)))
-functions_rise text = names_rise_from (code text) 0 (length (code text)) (code_rises text)
+pub functions_rise : (text : List ℕ) → Rising (map function_name (functions (code text (pieces text))))
+functions_rise text = names_rise_from (code text (pieces text)) 0 (length (code text (pieces text))) (code_rises text)

@@ -1,10 +1,11 @@
 -- The scopes that are found range by range are those of all ranges.
-use Rattle.std.proofs.Common.{◌≡◌, ◌∙◌, ◌≤◌, ◌<◌, ◌+◌, ◌-◌, ℕ, true, false, List, [], ◌∷◌, ◌++◌, Option, Some, None, refl, sym, ap, map, arith, lt-ltb, le-leb, ⊎_elim}
+use Rattle.std.proofs.Common.{◌≡◌, ◌∙◌, ◌≤◌, ◌<◌, ◌+◌, ◌-◌, ℕ, true, false, List, [], ◌∷◌, ◌++◌, Option, Some, None, refl, sym, ap, subst, map, arith, lt-ltb, le-leb, ⊎_elim}
 use Rattle.std.proofs.lemmas.Bool.{cases_Bool, cases_lt, false_from_ne_true, ltb-true, leb-true, true≢false}
 use Rattle.std.proofs.Math.Bool.{and-false}
 use Rattle.std.specs.Prelude.{◌&&◌, cond, find, nat_le, nat_lt}
 use Rattle.std.specs.List.{AllByRecursion, flat_map}
 use Rattle.std.specs.Option.{option_map, option_map_or}
+use Rattle.cb_scan.specs.steps.Cut.{pieces}
 use Rattle.cb_scan.specs.declared.facts.Include.{Include}
 use Rattle.cb_scan.specs.declared.piece.Span.{Span}
 use Rattle.cb_scan.specs.declared.scope.Range.{Range}
@@ -12,10 +13,12 @@ use Rattle.cb_scan.specs.declared.token.Token.{Token}
 use Rattle.cb_scan.specs.Code.{code, directives, logical_lines}
 use Rattle.cb_scan.specs.Functions.{Function, functions}
 use Rattle.cb_scan.specs.Macros.{Macro, macros}
-use Rattle.cb_scan.specs.Scope.{function_range, function_ranges, holds, macro_range, macro_ranges, name_around}
-use Rattle.cb_scan.specs.Uses.{header_between, header_of, include_of, includes, quote_ends, used, uses}
+use Rattle.cb_scan.specs.Scope.{function_range, function_ranges, holds, macro_ranges, name_around}
+use Rattle.cb_scan.specs.Uses.{header_between, header_of, include_of, includes, used, uses}
 use Rattle.cb_scan.specs.Tokens.{bytes_of, has_kind, is_mark, is_str, kind_is_include}
+use Rattle.cb_scan.specs.steps.Quote.{is_closed}
 use Rattle.cb_scan.specs.steps.Scopes.{first_around, include_place, include_with, reached, scoped, token_place, use_of}
+use Rattle.cb_scan.proofs.DirectiveLemmas.{range_names}
 use Rattle.cb_scan.proofs.Rising.{From, Rising, all-front, directive_tokens_rise, functions_rise, rising-split, macros_rise, used_rise}
 
 -- ranges begin in order
@@ -114,19 +117,34 @@ function_ranges_ascend : (text : List ℕ) (ts : List Token) (fs : List Function
 function_ranges_ascend text ts [] r = tt
 function_ranges_ascend text ts (f ∷ fs) r = (from_starts f.name.span.start f.name.span.end fs text ts (omega (arith, r.0)) r.1, function_ranges_ascend text ts fs r.2)
 
-from_macro_starts : (p q : ℕ) (ms : List Macro) → p ≤ q → AllByRecursion (From q) (map (λ (m : Macro). m.name) ms) → AllByRecursion (λ (s : Range). p ≤ s.name.start) (map macro_range ms)
-from_macro_starts p q [] le a = tt
-from_macro_starts p q (m ∷ ms) le a = (omega (arith, a.0), from_macro_starts p q ms le a.1)
+-- names begin in order
+abbrev NamesAscend : List Span → Type 0
+NamesAscend [] = Unit {0}
+NamesAscend (s ∷ ss) = AllByRecursion (λ (t : Span). s.start ≤ t.start) ss × NamesAscend ss
 
-macro_ranges_ascend : (ms : List Macro) → Rising (map (λ (m : Macro). m.name) ms) → Ascending (map macro_range ms)
-macro_ranges_ascend [] r = tt
-macro_ranges_ascend (m ∷ ms) r = (from_macro_starts m.name.span.start m.name.span.end ms (omega (arith, r.0)) r.1, macro_ranges_ascend ms r.2)
+macro_names_ascend : (ms : List Macro) → Rising (map (λ (m : Macro). m.name) ms) → NamesAscend (map (λ (m : Macro). m.name.span) ms)
+macro_names_ascend [] r = tt
+macro_names_ascend (m ∷ ms) r = (later m.name.span.start m.name.span.end ms (omega (arith, r.0)) r.1, macro_names_ascend ms r.2)
+  where
+    later : (p q : ℕ) (ms : List Macro) → p ≤ q → AllByRecursion (From q) (map (λ (m : Macro). m.name) ms) → AllByRecursion (λ (t : Span). p ≤ t.start) (map (λ (m : Macro). m.name.span) ms)
+    later p q [] le a = tt
+    later p q (m ∷ ms) le a = (omega (arith, a.0), later p q ms le a.1)
 
-pub functions_ascend : (text : List ℕ) → Ascending (function_ranges text)
-functions_ascend text = function_ranges_ascend text (code text) (functions (code text)) (functions_rise text)
+named_ascend : (rs : List Range) → NamesAscend (map (λ (r : Range). r.name) rs) → Ascending rs
+named_ascend [] a = tt
+named_ascend (r ∷ rs) a = (later r.name.start rs a.0, named_ascend rs a.1)
+  where
+    later : (p : ℕ) (rs : List Range) → AllByRecursion (λ (t : Span). p ≤ t.start) (map (λ (r : Range). r.name) rs) → AllByRecursion (λ (s : Range). p ≤ s.name.start) rs
+    later p [] a = tt
+    later p (r ∷ rs) a = (a.0, later p rs a.1)
 
-pub macros_ascend : (text : List ℕ) → Ascending (macro_ranges text)
-macros_ascend text = macro_ranges_ascend (macros text) (macros_rise text)
+pub functions_ascend : (text : List ℕ) → Ascending (function_ranges text (pieces text))
+functions_ascend text = function_ranges_ascend text (code text (pieces text)) (functions (code text (pieces text))) (functions_rise text)
+
+pub macros_ascend : (text : List ℕ) → Ascending (macro_ranges text (pieces text))
+macros_ascend text =
+    named_ascend (macro_ranges text (pieces text))
+    (subst NamesAscend (sym (range_names text (pieces text))) (macro_names_ascend (macros text (pieces text)) (macros_rise text)))
 
 tokens_ordered : (p : ℕ) (ts : List Token) → AllByRecursion (From p) ts → Rising ts → Ordered token_place p ts
 tokens_ordered p [] a r = tt
@@ -140,11 +158,15 @@ from_zero : (ts : List Token) → AllByRecursion (From 0) ts
 from_zero [] = tt
 from_zero (t ∷ ts) = (omega arith, from_zero ts)
 
-pub uses_scoped : (text : List ℕ) → scoped token_place use_of (function_ranges text) (macro_ranges text) (flat_map used (logical_lines text)) ≡ uses text
+-- the names used come in the order of their places
+pub names_in_order : (text : List ℕ) → Ordered token_place 0 (flat_map used (logical_lines text (pieces text)))
+names_in_order text = tokens_ordered 0 (flat_map used (logical_lines text (pieces text))) (from_zero (flat_map used (logical_lines text (pieces text)))) (used_rise text)
+
+pub uses_scoped : (text : List ℕ) → scoped token_place use_of (function_ranges text (pieces text)) (macro_ranges text (pieces text)) (flat_map used (logical_lines text (pieces text))) ≡ uses text (pieces text)
 unfolding uses
 uses_scoped text =
-    scoped_all token_place use_of (function_ranges text) (macro_ranges text) (flat_map used (logical_lines text)) (functions_ascend text) (macros_ascend text)
-    (tokens_ordered 0 (flat_map used (logical_lines text)) (from_zero (flat_map used (logical_lines text))) (used_rise text))
+    scoped_all token_place use_of (function_ranges text (pieces text)) (macro_ranges text (pieces text)) (flat_map used (logical_lines text (pieces text))) (functions_ascend text) (macros_ascend text)
+    (names_in_order text)
 
 -- ---- includes
 -- there is one header or none, and it begins in its token or directly behind it
@@ -154,8 +176,8 @@ one_between Q s e l none one =
 
 one_header : (text : List ℕ) (Q : List Include → Type 0) (t : Token) (rest : List Token) → t.span.start < t.span.end → Q [] → ((i : Include) → t.span.start ≤ i.header.start → i.header.start ≤ t.span.end → Q (i ∷ [])) → Q (header_of text t rest)
 one_header text Q t rest some none one =
-    elim (is_str t.role) as (λ b. Q (cond b (cond (quote_ends (bytes_of text (record { start = t.span.start + 1; end = t.span.end }))) (header_between (t.span.start + 1) (t.span.end - 1) t.line) []) (cond (is_mark 60 t.role) (option_map_or (λ (g : Token). header_between t.span.end g.span.start t.line) (find (λ (u : Token). is_mark 62 u.role) rest) []) []))) [
-      | true ↦ elim (quote_ends (bytes_of text (record { start = t.span.start + 1; end = t.span.end }))) as (λ b. Q (cond b (header_between (t.span.start + 1) (t.span.end - 1) t.line) [])) [
+    elim (is_str t.role) as (λ b. Q (cond b (cond (is_closed (bytes_of text t.span)) (header_between (t.span.start + 1) (t.span.end - 1) t.line) []) (cond (is_mark 60 t.role) (option_map_or (λ (g : Token). header_between t.span.end g.span.start t.line) (find (λ (u : Token). is_mark 62 u.role) rest) []) []))) [
+      | true ↦ elim (is_closed (bytes_of text t.span)) as (λ b. Q (cond b (header_between (t.span.start + 1) (t.span.end - 1) t.line) [])) [
         | true ↦ one_between Q (t.span.start + 1) (t.span.end - 1) t.line none (λ i is. one i (omega (arith, is)) (omega (arith, is)))
         | false ↦ none
       ]
@@ -192,8 +214,12 @@ includes_ordered text p (l ∷ ls) a r =
     (includes_ordered text p ls starts.1 parts.1)
     (λ t i among low high. (omega (arith, among (From p) starts.0), includes_ordered text i.header.start ls (from_less i.header.start t.span.end rest high (among (λ x. AllByRecursion (From x.span.end) rest) parts.2)) parts.1))
 
-pub includes_scoped : (text : List ℕ) → scoped include_place include_with (function_ranges text) (macro_ranges text) (flat_map (include_of text) (directives text)) ≡ includes text
+-- headers come in the order of their places
+pub headers_in_order : (text : List ℕ) → Ordered include_place 0 (flat_map (include_of text) (directives text (pieces text)))
+headers_in_order text = includes_ordered text 0 (directives text (pieces text)) (from_zero (flat_map (λ l. l) (directives text (pieces text)))) (directive_tokens_rise text)
+
+pub includes_scoped : (text : List ℕ) → scoped include_place include_with (function_ranges text (pieces text)) (macro_ranges text (pieces text)) (flat_map (include_of text) (directives text (pieces text))) ≡ includes text (pieces text)
 unfolding includes
 includes_scoped text =
-    scoped_all include_place include_with (function_ranges text) (macro_ranges text) (flat_map (include_of text) (directives text)) (functions_ascend text) (macros_ascend text)
-    (includes_ordered text 0 (directives text) (from_zero (flat_map (λ l. l) (directives text))) (directive_tokens_rise text))
+    scoped_all include_place include_with (function_ranges text (pieces text)) (macro_ranges text (pieces text)) (flat_map (include_of text) (directives text (pieces text))) (functions_ascend text) (macros_ascend text)
+    (headers_in_order text)

@@ -6,7 +6,7 @@ use Rattle.std.specs.Option.{option_map_or, MatchOption}
 use Rattle.std.proofs.lemmas.List.{map-append}
 use Rattle.cb_scan.specs.declared.piece.Piece.{Piece}
 use Rattle.cb_scan.specs.declared.token.Token.{Token}
-use Rattle.cb_scan.specs.Code.{is_newline, is_directive, code, code_of_lines, lines_of_tokens}
+use Rattle.cb_scan.specs.Code.{is_newline, is_directive, code, logical_lines}
 use Rattle.cb_scan.specs.Definitions.{IsWithin, function_def}
 use Rattle.cb_scan.specs.Functions.{Function, called_name, may_define, head, function_from, function_at, functions, close_from}
 use Rattle.cb_scan.specs.Depth.{depth, head_start, is_counted}
@@ -71,9 +71,9 @@ lines-within text [] a = tt
 lines-within text (l ∷ ls) a = (tokens-within text l a.0, lines-within text ls a.1)
 
 -- the code of pieces that lie in the text
-pub code-within : (text : List ℕ) (ps : List Piece) → AllByRecursion (LiesIn text) ps → AllByRecursion (TokenWithin text) (code_of_lines (lines_of_tokens text ps))
+pub code-within : (text : List ℕ) (ps : List Piece) → AllByRecursion (LiesIn text) ps → AllByRecursion (TokenWithin text) (code text ps)
 code-within text ps a =
-    all-joined (TokenWithin text) _ (all-filter (AllByRecursion (TokenWithin text)) (λ l. not (is_directive l)) (lines_of_tokens text ps) (lines-within text _ (all-split (LiesIn text) (λ p. is_newline p.class) ps a)))
+    all-joined (TokenWithin text) _ (all-filter (AllByRecursion (TokenWithin text)) (λ l. not (is_directive l)) (logical_lines text ps) (lines-within text _ (all-split (LiesIn text) (λ p. is_newline p.class) ps a)))
 
 -- the first called name of some tokens is one of them
 pub called-among : (P : Token → Type 0) (h : List Token) → AllByRecursion P h → MatchOption (called_name h) (Unit {0}) P
@@ -111,5 +111,5 @@ functions-within text ts k (suc n) a =
     (all-append (DefWithin text) _ _ (function-within text ts k a) (functions-within text ts (k + 1) n a))
 
 -- the functions of a text whose pieces lie in it
-pub functions-lie : (text : List ℕ) → AllByRecursion (LiesIn text) (pieces text) → AllByRecursion (DefWithin text) (map function_def (functions (code text)))
-functions-lie text a = functions-within text (code text) 0 (length (code text)) (code-within text (pieces text) a)
+pub functions-lie : (text : List ℕ) → AllByRecursion (LiesIn text) (pieces text) → AllByRecursion (DefWithin text) (map function_def (functions (code text (pieces text))))
+functions-lie text a = functions-within text (code text (pieces text)) 0 (length (code text (pieces text))) (code-within text (pieces text) a)

@@ -7,6 +7,7 @@ use Rattle.cb_scan.specs.declared.facts.Def.{Def}
 use Rattle.cb_scan.specs.declared.facts.Include.{Include}
 use Rattle.cb_scan.specs.declared.facts.Use.{Use}
 use Rattle.cb_scan.specs.declared.facts.Kind.TheVariants as kind
+use Rattle.cb_scan.specs.declared.piece.Piece.{Piece}
 use Rattle.cb_scan.specs.declared.piece.Span.{Span}
 use Rattle.cb_scan.specs.declared.token.Token.{Token}
 use Rattle.cb_scan.specs.Code.{code}
@@ -16,6 +17,7 @@ use Rattle.cb_scan.specs.Macros.{Macro, macros}
 use Rattle.cb_scan.specs.Order.{call_key, def_key, in_order}
 use Rattle.cb_scan.specs.TextFacts.{TextFacts}
 use Rattle.cb_scan.specs.Typedefs.{typedefs}
+use Rattle.cb_scan.specs.steps.Cut.{pieces}
 use Rattle.cb_scan.specs.Uses.{function_calls, includes, macro_calls, uses}
 
 -- a function, a macro and a name of a typedef as definitions
@@ -28,18 +30,32 @@ macro_def m = record { name = m.name.span; kind = kind.Macro; line = m.name.line
 abbrev pub typedef_def : Token → Def
 typedef_def t = record { name = t.span; kind = kind.Typedef; line = t.line; local = false }
 
--- the definitions of a text, by place, a function before a typedef at one place
-unfoldable pub definitions : List ℕ → List Def
-definitions text =
-    in_order def_key (map function_def (functions (code text)) ++ map macro_def (macros text) ++ map typedef_def (typedefs (code text)))
+-- the definitions of a text with these pieces, by place, a function before a typedef at one place
+unfoldable pub definitions_from : List ℕ → List Piece → List Def
+definitions_from text ps =
+    in_order def_key
+    (map function_def (functions (code text ps)) ++ map macro_def (macros text ps) ++ map typedef_def (typedefs (code text ps)))
 
--- the calls of a text, by place
-unfoldable pub calls : List ℕ → List Call
-calls text = in_order call_key (function_calls (code text) ++ macro_calls (macros text))
+-- the calls of a text with these pieces, by place
+unfoldable pub calls : List ℕ → List Piece → List Call
+calls text ps = in_order call_key (function_calls (code text ps) ++ macro_calls (macros text ps))
+
+-- what is found in a text with these pieces
+abbrev pub facts_from : List ℕ → List Piece → TextFacts
+facts_from text ps =
+    record { defs = definitions_from text ps; uses = uses text ps; calls = calls text ps; includes = includes text ps }
+
+-- ---- by the pieces as they are computed, which are the pieces (`IsPieces`) of the text
+
+-- the definitions of a text
+abbrev pub definitions : List ℕ → List Def
+definitions text = definitions_from text (pieces text)
 
 -- what is found in a text
 abbrev pub facts_of : List ℕ → TextFacts
-facts_of text = record { defs = definitions text; uses = uses text; calls = calls text; includes = includes text }
+facts_of text = facts_from text (pieces text)
+
+-- ---- what holds of all facts
 
 -- the span lies in the text
 abbrev pub IsWithin : List ℕ → Span → Type 0

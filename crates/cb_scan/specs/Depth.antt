@@ -3,6 +3,7 @@ use Rattle.std.specs.Prelude.{ℕ, zero, suc, ◌+◌, ◌-◌, Bool, false, ◌
 use Rattle.cb_scan.specs.declared.token.Token.{Token}
 use Rattle.cb_scan.specs.declared.token.Role.TheVariants.{Other}
 use Rattle.cb_scan.specs.Tokens.{is_mark, is_extern, is_str}
+use Rattle.cb_scan.specs.Bytes.{close_brace, open_brace, semicolon}
 
 -- what stands for a token where there is none
 abbrev pub no_token : Token
@@ -20,7 +21,7 @@ follows_linkage ts (suc (suc k)) = is_extern (token_at ts k).role && is_str (tok
 
 -- token k is a `{`
 abbrev pub is_open : List Token → ℕ → Bool
-is_open ts k = is_mark 123 (token_at ts k).role
+is_open ts k = is_mark open_brace (token_at ts k).role
 
 -- token k is a `{` that counts: all do but the one after `extern` and a string
 abbrev pub is_counted : List Token → ℕ → Bool
@@ -32,7 +33,7 @@ is_uncounted ts k = is_open ts k && follows_linkage ts k
 
 -- the depth after a token: a `{` that counts adds one, a `}` takes one, and one in the first column ends all
 abbrev pub depth_after : Bool → Token → ℕ → ℕ
-depth_after counted t d = if counted then d + 1 else (if is_mark 125 t.role then (if t.starts_line then 0 else d - 1) else d)
+depth_after counted t d = if counted then d + 1 else (if is_mark close_brace t.role then (if t.starts_line then 0 else d - 1) else d)
 
 -- the depth before token k
 unfoldable pub depth : List Token → ℕ → ℕ
@@ -41,11 +42,11 @@ depth ts (suc k) = depth_after (is_counted ts k) (token_at ts k) (depth ts k)
 
 -- token k is a `}` after which the depth is 0
 abbrev pub closes : List Token → ℕ → Bool
-closes ts k = is_mark 125 (token_at ts k).role && depth ts (suc k) == 0
+closes ts k = is_mark close_brace (token_at ts k).role && depth ts (suc k) == 0
 
 -- token k is a stop: a `;` at depth 0, a `}` that leaves depth 0, or a `{` that does not count
 abbrev pub is_stop : List Token → ℕ → Bool
-is_stop ts k = (is_mark 59 (token_at ts k).role && depth ts k == 0) || closes ts k || is_uncounted ts k
+is_stop ts k = (is_mark semicolon (token_at ts k).role && depth ts k == 0) || closes ts k || is_uncounted ts k
 
 -- the place after the last stop before token k, or the beginning of the code
 unfoldable pub head_start : List Token → ℕ → ℕ

@@ -5,23 +5,24 @@ use Rattle.cb_scan.specs.Depth.{depth, head_start}
 use Rattle.cb_scan.specs.Functions.{functions, ends_in_declarator, called_name}
 use Rattle.cb_scan.specs.PieceExamples.{cutting}
 use Rattle.cb_scan.specs.Reserved.{is_reserved, reserved_words}
+use Rattle.cb_scan.specs.steps.Cut.{pieces}
 use Rattle.cb_scan.specs.Tokens.{bytes_of, word_of}
 
 -- the names of the functions of a text
 abbrev names : List ℕ → List (List ℕ)
-names text = map (λ f. bytes_of text f.name.span) (functions (code text))
+names text = map (λ f. bytes_of text f.name.span) (functions (code text (pieces text)))
 
 -- the lines of their names
 abbrev lines_of_names : List ℕ → List ℕ
-lines_of_names text = map (λ f. f.name.line) (functions (code text))
+lines_of_names text = map (λ f. f.name.line) (functions (code text (pieces text)))
 
 -- which of them are static
 abbrev statics : List ℕ → List Bool
-statics text = map (λ f. f.local) (functions (code text))
+statics text = map (λ f. f.local) (functions (code text (pieces text)))
 
 -- the indices of the tokens that end their bodies
 abbrev ends : List ℕ → List ℕ
-ends text = map (λ f. f.end) (functions (code text))
+ends text = map (λ f. f.end) (functions (code text (pieces text)))
 
 -- `unfolding finding` opens how functions are found
 unfoldable pub finding : Unit {0}

@@ -5,6 +5,7 @@ use Rattle.std.specs.Option.{option_map_or, unwrap_or}
 use Rattle.cb_scan.specs.declared.token.Token.{Token}
 use Rattle.cb_scan.specs.Tokens.{is_mark, is_name_token, is_typedef, is_static}
 use Rattle.cb_scan.specs.Depth.{depth, head_start, is_counted, closes}
+use Rattle.cb_scan.specs.Bytes.{close_paren, equals, open_paren}
 
 -- a function: the token of its name, whether it is static, the index of its `{`, and that of the `}` that ends it, or the end
 pub record Function : Type 0 where
@@ -25,18 +26,18 @@ begins_with_typedef (t ∷ ts) = is_typedef t.role
 -- the last token is `)` or a name
 unfoldable pub ends_in_declarator : List Token → Bool
 ends_in_declarator [] = false
-ends_in_declarator (t ∷ []) = is_mark 41 t.role || is_name_token t.role
+ends_in_declarator (t ∷ []) = is_mark close_paren t.role || is_name_token t.role
 ends_in_declarator (t ∷ u ∷ ts) = ends_in_declarator (u ∷ ts)
 
 -- the first name that is directly followed by `(`
 unfoldable pub called_name : List Token → Option Token
 called_name [] = None
 called_name (t ∷ []) = None
-called_name (t ∷ u ∷ ts) = if is_name_token t.role && is_mark 40 u.role then Some t else called_name (u ∷ ts)
+called_name (t ∷ u ∷ ts) = if is_name_token t.role && is_mark open_paren u.role then Some t else called_name (u ∷ ts)
 
 -- the head is that of a function: it does not begin with `typedef`, has no `=`, and ends in `)` or a name
 abbrev pub may_define : List Token → Bool
-may_define h = not (begins_with_typedef h) && not (list_any (λ (t : Token). is_mark 61 t.role) h) && ends_in_declarator h
+may_define h = not (begins_with_typedef h) && not (list_any (λ (t : Token). is_mark equals t.role) h) && ends_in_declarator h
 
 -- the name that a head defines
 abbrev pub defined_name : List Token → Option Token

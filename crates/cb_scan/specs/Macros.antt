@@ -1,30 +1,26 @@
 -- Macros with arguments (ISO C 2011, 6.10.3).
 use Rattle.std.specs.Prelude.{ℕ, Bool, ◌&&◌, ◌==◌, List, [], ◌∷◌, if◌then◌else◌}
 use Rattle.std.specs.List.{flat_map}
+use Rattle.cb_scan.specs.declared.piece.Piece.{Piece}
 use Rattle.cb_scan.specs.declared.token.Token.{Token}
 use Rattle.cb_scan.specs.Tokens.{has_kind, kind_is_define, is_mark, is_name_token}
 use Rattle.cb_scan.specs.Code.{directives}
+use Rattle.cb_scan.specs.Bytes.{close_paren, open_paren}
 
--- a macro: the token of its name, the tokens of its body, and the place where the tokens of its logical line end
+-- a macro: the token of its name, and the tokens of its body
 pub record Macro : Type 0 where
   pub name : Token
   pub body : List Token
-  pub end : ℕ
 
 -- the tokens after the first `)`
 unfoldable pub after_arguments : List Token → List Token
 after_arguments [] = []
-after_arguments (t ∷ ts) = if is_mark 41 t.role then ts else after_arguments ts
-
--- where the last token ends
-unfoldable pub line_end : ℕ → List Token → ℕ
-line_end place [] = place
-line_end place (t ∷ ts) = line_end t.span.end ts
+after_arguments (t ∷ ts) = if is_mark close_paren t.role then ts else after_arguments ts
 
 -- the third token of `# define` names a macro with arguments: the fourth is a `(` that begins where the name ends
 abbrev pub defines_macro : Token → Token → Token → Bool
 defines_macro own name paren =
-    has_kind kind_is_define own.role && is_name_token name.role && is_mark 40 paren.role && paren.span.start == name.span.end
+    has_kind kind_is_define own.role && is_name_token name.role && is_mark open_paren paren.role && paren.span.start == name.span.end
 
 -- the macro that a directive defines, if it defines one
 abbrev pub macro_of : List Token → List Macro
@@ -33,11 +29,8 @@ macro_of (hash ∷ []) = []
 macro_of (hash ∷ own ∷ []) = []
 macro_of (hash ∷ own ∷ name ∷ []) = []
 macro_of (hash ∷ own ∷ name ∷ paren ∷ rest) =
-    if defines_macro own name paren then record { name = name; body = after_arguments rest; end = line_end paren.span.end rest } ∷ [] else []
+    if defines_macro own name paren then record { name = name; body = after_arguments rest } ∷ [] else []
 
 -- the macros with arguments, by place
-abbrev pub macros_of : List (List Token) → List Macro
-macros_of lines = flat_map macro_of lines
-
-abbrev pub macros : List ℕ → List Macro
-macros text = macros_of (directives text)
+abbrev pub macros : List ℕ → List Piece → List Macro
+macros text ps = flat_map macro_of (directives text ps)

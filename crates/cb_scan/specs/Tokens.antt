@@ -12,6 +12,7 @@ use Rattle.cb_scan.specs.declared.token.WordKind.{WordKind}
 use Rattle.cb_scan.specs.declared.token.WordKind.TheVariants.{Name, Define, Include, Typedef, Extern, Static, Reserved}
 use Rattle.cb_scan.specs.Lines.{line_of}
 use Rattle.cb_scan.specs.Reserved.{is_reserved}
+use Rattle.cb_scan.specs.Bytes.{line_feed}
 
 -- the bytes of a span
 abbrev pub bytes_of : List ℕ → Span → List ℕ
@@ -54,7 +55,7 @@ role_of text p = role_by p.class text p.span
 
 -- a place at which a line begins: the first of the text, or one after a line feed
 abbrev pub starts_line : List ℕ → ℕ → Bool
-starts_line text place = place == 0 || slice_index text (place - 1) == 10
+starts_line text place = place == 0 || slice_index text (place - 1) == line_feed
 
 -- the token of a piece
 abbrev pub token_of : List ℕ → Piece → Token

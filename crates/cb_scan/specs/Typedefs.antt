@@ -5,6 +5,7 @@ use Rattle.std.specs.Option.{option_map_or, option_to_list}
 use Rattle.cb_scan.specs.declared.token.Token.{Token}
 use Rattle.cb_scan.specs.Tokens.{is_mark, is_name_token, is_typedef}
 use Rattle.cb_scan.specs.Depth.{depth, head_start, token_at}
+use Rattle.cb_scan.specs.Bytes.{close_brace, close_bracket, close_paren, comma, open_brace, open_bracket, open_paren, semicolon, star}
 
 -- token k is a `typedef` that directly follows a stop
 abbrev pub begins_typedef : List Token → ℕ → Bool
@@ -12,7 +13,7 @@ begins_typedef ts k = is_typedef (token_at ts k).role && head_start ts k == k
 
 -- token k is a `;` at depth 0
 abbrev pub ends_declaration : List Token → ℕ → Bool
-ends_declaration ts k = is_mark 59 (token_at ts k).role && depth ts k == 0
+ends_declaration ts k = is_mark semicolon (token_at ts k).role && depth ts k == 0
 
 -- the first token from k on that ends a typedef or begins another
 abbrev pub typedef_stop : List Token → ℕ → Option ℕ
@@ -22,7 +23,7 @@ typedef_stop ts k = find (λ j. ends_declaration ts j || begins_typedef ts j) (r
 abbrev pub taken_at : List Token → ℕ → List Token
 taken_at ts k =
     let t = token_at ts k in
-    if depth ts k == 0 && not (is_mark 123 t.role || is_mark 125 t.role) then t ∷ [] else []
+    if depth ts k == 0 && not (is_mark open_brace t.role || is_mark close_brace t.role) then t ∷ [] else []
 
 -- the tokens taken from k up to j
 abbrev pub taken : List Token → ℕ → ℕ → List Token
@@ -36,8 +37,8 @@ pub record Nested : Type 0 where
 -- the nesting after a token: `(` and `[` add one, `)` and `]` take one, never below 0
 abbrev pub nesting_after : Token → ℕ → ℕ
 nesting_after t n =
-    if is_mark 40 t.role || is_mark 91 t.role then n + 1
-    else (if is_mark 41 t.role || is_mark 93 t.role then n - 1 else n)
+    if is_mark open_paren t.role || is_mark open_bracket t.role then n + 1
+    else (if is_mark close_paren t.role || is_mark close_bracket t.role then n - 1 else n)
 
 -- each token with its nesting, from a nesting on
 unfoldable pub nested : ℕ → List Token → List Nested
@@ -46,7 +47,7 @@ nested n (t ∷ ts) = record { token = t; nesting = n } ∷ nested (nesting_afte
 
 -- a comma outside parentheses and brackets
 abbrev pub parts_here : Nested → Bool
-parts_here x = is_mark 44 x.token.role && x.nesting == 0
+parts_here x = is_mark comma x.token.role && x.nesting == 0
 
 -- the parts between such commas
 abbrev pub parts : List Token → List (List Nested)
@@ -55,18 +56,18 @@ parts ts = slice_split parts_here (nested 0 ts)
 -- the list begins with `*`s, at least as many as asked, and then a name: that name
 unfoldable pub name_after_stars : List Nested → Option Token
 name_after_stars [] = None
-name_after_stars (x ∷ xs) = if is_mark 42 x.token.role then name_after_stars xs else (if is_name_token x.token.role then Some x.token else None)
+name_after_stars (x ∷ xs) = if is_mark star x.token.role then name_after_stars xs else (if is_name_token x.token.role then Some x.token else None)
 
 -- the list begins with a `*`
 abbrev pub begins_with_star : List Nested → Bool
 begins_with_star [] = false
-begins_with_star (x ∷ xs) = is_mark 42 x.token.role
+begins_with_star (x ∷ xs) = is_mark star x.token.role
 
 -- the first name of a part that directly follows a `(` and one or more `*`
 unfoldable pub pointer_name : List Nested → Option Token
 pointer_name [] = None
 pointer_name (x ∷ xs) =
-    if is_mark 40 x.token.role && begins_with_star xs then (option_map_or (λ name. Some name) (name_after_stars xs) (pointer_name xs)) else pointer_name xs
+    if is_mark open_paren x.token.role && begins_with_star xs then (option_map_or (λ name. Some name) (name_after_stars xs) (pointer_name xs)) else pointer_name xs
 
 -- its last name outside parentheses and brackets
 unfoldable pub last_name : Option Token → List Nested → Option Token

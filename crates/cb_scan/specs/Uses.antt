@@ -2,6 +2,7 @@
 use Rattle.std.specs.Prelude.{ℕ, suc, ◌+◌, ◌-◌, Bool, true, false, ◌&&◌, ◌||◌, ◌==◌, nat_lt, List, [], ◌∷◌, None, if◌then◌else◌, filter, map, find}
 use Rattle.std.specs.List.{flat_map, range_with_len}
 use Rattle.std.specs.Option.{option_map_or}
+use Rattle.cb_scan.specs.declared.piece.Piece.{Piece}
 use Rattle.cb_scan.specs.declared.piece.Span.{Span}
 use Rattle.cb_scan.specs.declared.facts.Use.{Use}
 use Rattle.cb_scan.specs.declared.facts.Call.{Call}
@@ -12,7 +13,9 @@ use Rattle.cb_scan.specs.Depth.{token_at}
 use Rattle.cb_scan.specs.Functions.{Function, functions}
 use Rattle.cb_scan.specs.Macros.{Macro}
 use Rattle.cb_scan.specs.Scope.{scope}
+use Rattle.cb_scan.specs.steps.Quote.{is_closed}
 use Rattle.cb_scan.specs.Tokens.{bytes_of, has_kind, is_any_word, is_mark, is_name_token, is_str, kind_is_include}
+use Rattle.cb_scan.specs.Bytes.{greater, less, open_paren}
 
 -- ---- uses
 
@@ -37,14 +40,15 @@ abbrev pub used : List Token → List Token
 used line = filter (λ (t : Token). is_name_token t.role) (usable line)
 
 -- the uses of a text, by place
-unfoldable pub uses : List ℕ → List Use
-uses text = map (λ (t : Token). record { name = t.span; line = t.line; scope = scope text t.span.start }) (flat_map used (logical_lines text))
+unfoldable pub uses : List ℕ → List Piece → List Use
+uses text ps =
+    map (λ (t : Token). record { name = t.span; line = t.line; scope = scope text ps t.span.start }) (flat_map used (logical_lines text ps))
 
 -- ---- calls
 
 -- a name directly followed by `(` is a call
 abbrev pub is_call : Token → Token → Bool
-is_call t next = is_name_token t.role && is_mark 40 next.role
+is_call t next = is_name_token t.role && is_mark open_paren next.role
 
 -- the call of a name
 abbrev pub call_of : Span → Token → Call
@@ -74,28 +78,16 @@ macro_calls ms = flat_map (λ (m : Macro). calls_among m.name.span m.body) ms
 
 -- ---- includes
 
--- the bytes of a string behind its first quote have a quote that no item takes (ISO C 2011, 6.4.5): the items are `\` CR LF,
--- else `\` and any byte, else any byte but a quote, `\` and LF
-unfoldable pub quote_ends : List ℕ → Bool
-quote_ends [] = false
-quote_ends (b ∷ []) = b == 34
-quote_ends (b ∷ c ∷ []) = if b == 34 then true else (if b == 10 || b == 92 then false else c == 34)
-quote_ends (b ∷ c ∷ d ∷ rest) =
-    if b == 34 then true
-    else (if b == 10 then false
-    else (if b == 92 then (if c == 13 && d == 10 then quote_ends rest else quote_ends (d ∷ rest))
-    else quote_ends (c ∷ d ∷ rest)))
-
 -- the header between two places, if it is not empty
 abbrev pub header_between : ℕ → ℕ → ℕ → List Include
 header_between start end line = if nat_lt start end then record { header = record { start = start; end = end }; line = line; scope = None } ∷ [] else []
 
--- the header that the third token of an include begins: a closed string, or what stands between `<` and the first `>` (ISO C
+-- the header that the third token of an include begins: a closed string (`IsClosedLiteral`), or what stands between `<` and the first `>` (ISO C
 -- 2011, 6.4.7 and 6.10.2). Its first byte stands on the token's line.
 abbrev pub header_of : List ℕ → Token → List Token → List Include
 header_of text t rest =
-    if is_str t.role then (if quote_ends (bytes_of text (record { start = t.span.start + 1; end = t.span.end })) then header_between (t.span.start + 1) (t.span.end - 1) t.line else [])
-    else (if is_mark 60 t.role then option_map_or (λ (g : Token). header_between t.span.end g.span.start t.line) (find (λ (u : Token). is_mark 62 u.role) rest) [] else [])
+    if is_str t.role then (if is_closed (bytes_of text t.span) then header_between (t.span.start + 1) (t.span.end - 1) t.line else [])
+    else (if is_mark less t.role then option_map_or (λ (g : Token). header_between t.span.end g.span.start t.line) (find (λ (u : Token). is_mark greater u.role) rest) [] else [])
 
 -- the include that a directive is, if it is one; its scope is still to be found
 abbrev pub include_of : List ℕ → List Token → List Include
@@ -105,6 +97,6 @@ include_of text (hash ∷ own ∷ []) = []
 include_of text (hash ∷ own ∷ t ∷ rest) = if has_kind kind_is_include own.role then header_of text t rest else []
 
 -- the includes of a text, by place
-unfoldable pub includes : List ℕ → List Include
-includes text =
-    map (λ (i : Include). record i { scope = scope text i.header.start }) (flat_map (include_of text) (directives text))
+unfoldable pub includes : List ℕ → List Piece → List Include
+includes text ps =
+    map (λ (i : Include). record i { scope = scope text ps i.header.start }) (flat_map (include_of text) (directives text ps))

@@ -1,12 +1,12 @@
 //! What one pass over a text gathers, list by list.
 ghost use Rattle.std.specs.Prelude.{◌≡◌, ◌≤◌, ◌<◌, ◌+◌, ◌++◌, ◌^◌, [], length, IfOk};
 ghost use Rattle.std.specs.Option.{option_to_list};
-ghost use Rattle.cb_scan.specs.steps.Line.{include_out, macro_call_out, macro_out, next_line, range_finish, use_out};
+ghost use Rattle.cb_scan.specs.steps.Line.{include_out, macro_call_out, macro_out, next_stage, range_finish, use_out};
 ghost use Rattle.cb_scan.specs.steps.Machine.{called, closed, found, left_open, next};
 ghost use Rattle.cb_scan.specs.steps.Typedefs.{nesting_of, next_declaration, next_pending, typedefs_out};
 
 use crate::facts::{Call, Def, Include};
-use crate::line::Line;
+use crate::line::Stage;
 use crate::machine::Machine;
 use crate::scope::Range;
 use crate::token::Token;
@@ -67,7 +67,7 @@ impl CodeLists {
         }
     }
 
-    /// A token of the code, in the state of the pass before it; gives the state behind it.
+    /// A token of the code, in the state of the pass before it; gives the state after it.
     pub(crate) fn add(&mut self, state: CodeState, token: Token) -> Result<CodeState, AllocError>
         requires deep { state.machine.depth + 1 < 2 ^ 32 }
         requires nested { nesting_of state.declared + 1 < 2 ^ 32 }
@@ -124,12 +124,17 @@ impl LineLists {
         }
     }
 
-    /// A token, in the state of its line before it; gives the state behind it.
-    pub(crate) fn add(&mut self, text: &[u8], line: Line, token: Token) -> Result<Line, AllocError>
+    /// A token, by how far its line came before it; gives how far it comes with it.
+    pub(crate) fn add(
+        &mut self,
+        text: &[u8],
+        line: Stage,
+        token: Token,
+    ) -> Result<Stage, AllocError>
         requires some { token.span.start < token.span.end }
         requires within { token.span.end ≤ length text.now }
         requires few { length text.now ≤ 1000000 }
-        ensures line { IfOk result (λ s. s ≡ next_line line token) }
+        ensures line { IfOk result (λ s. s ≡ next_stage line token) }
         ensures names { IfOk result (λ _. self.new.names.items ≡ self.old.names.items ++ use_out line token) }
         ensures macros { IfOk result (λ _. self.new.macros.items ≡ self.old.macros.items ++ macro_out line token) }
         ensures calls { IfOk result (λ _. self.new.calls.items ≡ self.old.calls.items ++ macro_call_out line token) }
@@ -145,11 +150,11 @@ impl LineLists {
         Ok(line.next(token))
     }
 
-    /// The end of a line, in its last state.
-    pub(crate) fn end(&mut self, line: Line) -> Result<(), AllocError>
-        ensures ranges { IfOk result (λ _. self.new.ranges.items ≡ self.old.ranges.items ++ range_finish line) }
+    /// The end of a line that came so far, and the place where it ends.
+    pub(crate) fn end(&mut self, line: Stage, end: u32) -> Result<(), AllocError>
+        ensures ranges { IfOk result (λ _. self.new.ranges.items ≡ self.old.ranges.items ++ range_finish line end) }
         ensures others { IfOk result (λ _. self.new ≡ record self.old { ranges = self.new.ranges }) }
     {
-        push_some(&mut self.ranges, line.macro_ended())
+        push_some(&mut self.ranges, line.macro_ended(end))
     }
 }

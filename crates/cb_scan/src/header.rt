@@ -1,25 +1,38 @@
 //! The header that an include names.
 ghost use Rattle.std.specs.Prelude.{◌≡◌, ◌≤◌, ◌+◌, ◌<◌, [], length};
 ghost use Rattle.std.specs.Option.{option_to_list};
-ghost use Rattle.cb_scan.specs.Uses.{header_between, header_of, quote_ends};
+ghost use Rattle.cb_scan.specs.Uses.{header_between, header_of};
+ghost use Rattle.cb_scan.specs.steps.Quote.{closes_from, is_closed};
+ghost use Rattle.cb_scan.specs.declared.lexeme.Escape.TheVariants.{Plain};
 
 use crate::facts::Include;
 use crate::lexeme::{Escape, ends_literal, literal_escape};
 use crate::piece::Span;
 use crate::token::{Role, Token};
 
-/// Whether the bytes of a string behind its first quote have a quote that closes it.
-fn quote_ends(bytes: &[u8]) -> bool
-    ensures { result ≡ quote_ends bytes.now }
+/// Whether the bytes after the first quote of a string end with the quote that closes it.
+fn closes(bytes: &[u8]) -> bool
+    ensures { result ≡ closes_from Plain bytes.now }
 {
     let mut escape = Escape::Plain;
-    for byte in bytes {
+    for (i, byte) in bytes.iter().enumerate() {
         if ends_literal(b'"', escape, *byte) {
-            return *byte == b'"';
+            return *byte == b'"' && i + 1 == bytes.len();
         }
         escape = literal_escape(escape, *byte);
     }
     false
+}
+
+/// Whether the bytes are a closed string.
+#[tactic(auto, unfolding(crate::specs::steps::Quote::is_closed))]
+fn is_closed(bytes: &[u8]) -> bool
+    ensures { result ≡ is_closed bytes.now }
+{
+    match bytes {
+        [b'"', rest @ ..] => closes(rest),
+        _ => false,
+    }
 }
 
 /// The header between two places, if it is not empty; its scope is still to be found.
@@ -46,7 +59,7 @@ pub(crate) fn string_header(text: &[u8], token: Token) -> Option<Include>
     ensures { option_to_list result ≡ header_of text.now token [] }
 {
     let start = token.span.start + 1;
-    if quote_ends(&text[start as usize..token.span.end as usize]) {
+    if is_closed(&text[token.span.start as usize..token.span.end as usize]) {
         header_between(start, token.span.end - 1, token.line)
     } else {
         None

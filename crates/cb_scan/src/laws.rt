@@ -1,9 +1,13 @@
-//! What holds of the pieces of every text, as functions that do nothing and whose contracts are the laws.
-ghost use Rattle.std.specs.Prelude.{◌≡◌, ◌<◌, ◌≤◌, ℕ, List, length};
+//! What holds of every text, as functions that do nothing and whose contracts are the laws.
+ghost use Rattle.std.specs.Prelude.{◌≡◌, ◌<◌, ◌≤◌, ◌↔◌, ℕ, true, List, length};
 ghost use Rattle.std.specs.List.{AllByRecursion};
 ghost use Rattle.cb_scan.specs.declared.piece.Piece.{Piece};
 ghost use Rattle.cb_scan.specs.Pieces.{IsPieces, Adjoin, LiesIn};
+ghost use Rattle.cb_scan.specs.Definitions.{facts_from, facts_of};
+ghost use Rattle.cb_scan.specs.Lexeme.{IsClosedLiteral};
+ghost use Rattle.cb_scan.specs.Order.{AreInOrder};
 ghost use Rattle.cb_scan.specs.steps.Cut.{pieces};
+ghost use Rattle.cb_scan.specs.steps.Quote.{is_closed};
 
 /// The computed pieces of a text are its pieces.
 pub fn pieces_are()
@@ -19,4 +23,19 @@ pub fn pieces_only()
 pub fn pieces_in_order()
     ensures within { (text : List ℕ) → AllByRecursion (LiesIn text) (pieces text) }
     ensures order { (text : List ℕ) → Adjoin 0 (length text) (pieces text) }
+{}
+
+/// The facts of a text follow from any list of its pieces, however it was found.
+pub fn facts_are()
+    ensures { (text : List ℕ) (ps : List Piece) → IsPieces text ps → facts_of text ≡ facts_from text ps }
+{}
+
+/// A string is found closed exactly if it is a literal whatever follows it.
+pub fn closed_strings()
+    ensures { (bytes : List ℕ) → (is_closed bytes ≡ true) ↔ IsClosedLiteral 34 bytes }
+{}
+
+/// The facts of a text are in order: each of the four lists ascends by place, and definitions at one place go by kind.
+pub fn facts_in_order()
+    ensures { (text : List ℕ) → AreInOrder (facts_of text) }
 {}

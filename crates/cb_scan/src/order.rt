@@ -22,8 +22,8 @@ fn def_key(def: &Def) -> [u32; 5]
     let local = if def.local { 1 } else { 0 };
     [
         def.name.start,
-        def.name.end,
         kind_rank(def.kind),
+        def.name.end,
         def.line,
         local,
     ]

@@ -1,18 +1,21 @@
 //! The scanner: one pass over the pieces of a text, and then its facts in order and with their scopes.
-ghost use Rattle.std.specs.Prelude.{◌≡◌, ◌+◌, ◌++◌, ◌^◌, ◌-◌, ◌<◌, ◌≤◌, min, length, map, IfOk, IfErr};
+ghost use Rattle.std.specs.Prelude.{◌≡◌, ◌+◌, ◌++◌, ◌^◌, ◌-◌, ◌<◌, ◌≤◌, min, List, length, map, IfOk, IfErr};
 ghost use Rattle.std.specs.List.{AllByRecursion, flat_map};
+ghost use Rattle.cb_scan.specs.declared.piece.Piece.{Piece};
 ghost use Rattle.cb_scan.specs.Code.{code, directives, logical_lines};
-ghost use Rattle.cb_scan.specs.Definitions.{definitions, calls, facts_of, function_def, macro_def, typedef_def, AreWithin};
+ghost use Rattle.cb_scan.specs.Definitions.{definitions, calls, facts_from, facts_of, function_def, macro_def, typedef_def, AreWithin};
 ghost use Rattle.cb_scan.specs.Functions.{functions};
 ghost use Rattle.cb_scan.specs.Macros.{macros};
+ghost use Rattle.cb_scan.specs.Pieces.{IsPieces};
 ghost use Rattle.cb_scan.specs.Scope.{function_ranges, macro_ranges};
+ghost use Rattle.cb_scan.specs.steps.Cut.{pieces};
 ghost use Rattle.cb_scan.specs.Tokens.{is_significant};
 ghost use Rattle.cb_scan.specs.Typedefs.{typedefs};
 ghost use Rattle.cb_scan.specs.Uses.{function_calls, include_of, macro_calls, used};
 
 use crate::facts::Facts;
 use crate::gather::{CodeLists, CodeState, LineLists};
-use crate::line::Line;
+use crate::line::Stage;
 use crate::lined::lined_pieces;
 use crate::machine::Machine;
 use crate::meter::Meter;
@@ -42,27 +45,27 @@ fn is_significant(class: Class) -> bool
 /// The one pass over a text: each piece is looked at once.
 fn gather(alloc: Global, text: &[u8]) -> Result<Gathered, AllocError>
     requires { length text.now ≤ 1000000 }
-    ensures functions { IfOk result (λ g. g.code.functions.items ≡ map function_def (functions (code text.now))) }
-    ensures function_ranges { IfOk result (λ g. g.code.ranges.items ≡ function_ranges text.now) }
-    ensures function_calls { IfOk result (λ g. g.code.calls.items ≡ function_calls (code text.now)) }
-    ensures typedefs { IfOk result (λ g. g.code.typedefs.items ≡ map typedef_def (typedefs (code text.now))) }
-    ensures names { IfOk result (λ g. g.lines.names.items ≡ flat_map used (logical_lines text.now)) }
-    ensures macros { IfOk result (λ g. g.lines.macros.items ≡ map macro_def (macros text.now)) }
-    ensures macro_ranges { IfOk result (λ g. g.lines.ranges.items ≡ macro_ranges text.now) }
-    ensures macro_calls { IfOk result (λ g. g.lines.calls.items ≡ macro_calls (macros text.now)) }
-    ensures includes { IfOk result (λ g. g.lines.includes.items ≡ flat_map (include_of text.now) (directives text.now)) }
+    ensures functions { IfOk result (λ g. g.code.functions.items ≡ map function_def (functions (code text.now (pieces text.now)))) }
+    ensures function_ranges { IfOk result (λ g. g.code.ranges.items ≡ function_ranges text.now (pieces text.now)) }
+    ensures function_calls { IfOk result (λ g. g.code.calls.items ≡ function_calls (code text.now (pieces text.now))) }
+    ensures typedefs { IfOk result (λ g. g.code.typedefs.items ≡ map typedef_def (typedefs (code text.now (pieces text.now)))) }
+    ensures names { IfOk result (λ g. g.lines.names.items ≡ flat_map used (logical_lines text.now (pieces text.now))) }
+    ensures macros { IfOk result (λ g. g.lines.macros.items ≡ map macro_def (macros text.now (pieces text.now))) }
+    ensures macro_ranges { IfOk result (λ g. g.lines.ranges.items ≡ macro_ranges text.now (pieces text.now)) }
+    ensures macro_calls { IfOk result (λ g. g.lines.calls.items ≡ macro_calls (macros text.now (pieces text.now))) }
+    ensures includes { IfOk result (λ g. g.lines.includes.items ≡ flat_map (include_of text.now) (directives text.now (pieces text.now))) }
 {
     let mut code = CodeLists::new(alloc);
     let mut lines = LineLists::new(alloc);
-    let mut line = Line::start();
+    let mut line = Stage::Start;
     let mut state = CodeState {
         machine: Machine::start(),
         declared: None,
     };
     for lined in lined_pieces(text) {
         if lined.piece.class == Class::Newline {
-            lines.end(line)?;
-            line = Line::start();
+            lines.end(line, lined.piece.span.start)?;
+            line = Stage::Start;
         } else if is_significant(lined.piece.class) {
             let token = token_of(text, lined);
             line = lines.add(text, line, token)?;
@@ -71,7 +74,7 @@ fn gather(alloc: Global, text: &[u8]) -> Result<Gathered, AllocError>
             }
         }
     }
-    lines.end(line)?;
+    lines.end(line, text.len() as u32)?;
     code.end(state.machine, text.len() as u32)?;
     Ok(Gathered { code, lines })
 }
@@ -100,10 +103,12 @@ fn facts_in(alloc: Global, text: &[u8]) -> Result<Facts, AllocError>
     Ok(Facts::new(defs, uses, calls, includes))
 }
 
-/// What is found in the text. The meter counts the bytes of the source, also where memory was refused, which is the only
-/// error. One pass, and time in proportion to the text (ordering what is out of order aside).
+/// What is found in the text: the facts that follow from its pieces (`exact`), which lie in it (`within`) and are in order
+/// ([`crate::laws::facts_in_order`]). The meter counts the bytes of the source, also where memory was refused, which is
+/// the only error. One pass, and time in proportion to the text (ordering what is out of order aside).
 pub fn scan(alloc: Global, meter: &mut Meter, source: &Source) -> Result<Facts, ScanError>
     ensures facts { IfOk result (λ f. f ≡ facts_of source.now) }
+    ensures exact { IfOk result (λ f. (ps : List Piece) → IsPieces source.now ps → f ≡ facts_from source.now ps) }
     ensures within { IfOk result (λ f. AreWithin source.now f) }
     ensures memory { IfErr result (λ e. e ≡ ScanError.OutOfMemory) }
     ensures counted { meter.new ≡ min (meter.old + length source.now) (2 ^ 64 - 1) }

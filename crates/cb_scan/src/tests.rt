@@ -10,6 +10,7 @@ mod meter;
 mod names;
 mod scopes;
 mod shown;
+mod sizes;
 mod typedefs;
 mod uses;
 

@@ -77,4 +77,5 @@ at-one (l ∷ ls) (suc k) f = at-one ls k f.1
 
 -- each shown line of a text
 pub line_text-one : (text : List ℕ) (n : ℕ) → IsOneLine (line_text text n)
-line_text-one text n = at-one (lines_of text) (n - 1) (each_line (length text) text)
+line_text-one text zero = tt
+line_text-one text (suc n) = at-one (lines_of text) n (each_line (length text) text)

@@ -1,2 +1,4 @@
 pub mod Choices
 pub mod Local
+pub mod Refusing
+pub mod Working

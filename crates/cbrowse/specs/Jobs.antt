@@ -1,16 +1,12 @@
 -- The command line: its subcommands, and the job that the words give.
-use Rattle.std.specs.Prelude.{◌≡◌, ◌≢◌, Bool, List, [], ◌∷◌, Option, None, Some, true, false, codes, map, string_bytes, unwrap_or}
+use Rattle.std.specs.Prelude.{◌≡◌, Bool, List, [], ◌∷◌, Option, None, Some, true, false, codes, map, string_bytes, unwrap_or}
 use Rattle.std.specs.Str.{bytes_eq}
 use Rattle.clap.specs.Words.{App, Row, Rule, Text, all_of, first_of, new_app, new_rule, with_rule, with_subcommand}
 use Rattle.clap.specs.declared.builder.ArgAction.TheVariants.{Append, SetTrue}
-use Rattle.clap.specs.declared.error.kind.ErrorKind.{ErrorKind}
-use Rattle.clap.specs.declared.error.kind.ErrorKind.TheVariants.{DisplayHelp, OutOfMemory}
 use Rattle.cb_desk.specs.declared.tags.Format.{Format}
 use Rattle.cb_desk.specs.declared.tags.Format.TheVariants.{Plain, Extended}
 use Rattle.cbrowse.specs.declared.job.Job.{Job}
 use Rattle.cbrowse.specs.declared.job.Job.TheVariants.{Line, Tags}
-use Rattle.cbrowse.specs.declared.job.Usage.{Usage}
-use Rattle.cbrowse.specs.declared.job.Usage.TheVariants.{Help, Wrong, Memory}
 
 -- `FILE..`, of which there may have to be one
 abbrev pub files_rule : Bool → Rule
@@ -69,9 +65,3 @@ IsJobOf (Some found) (Tags listing tagsfile format files) =
     × (string_bytes tagsfile ≡ first_or (codes "tagsfile") (codes "tags") found.1)
     × (format_number format ≡ first_or (codes "format") (codes "1") found.1)
     × (map string_bytes files.items ≡ all_or_none (codes "files") found.1)
-
--- help where clap shows help, wrong words where it refuses them, or want of memory
-abbrev pub IsUsageOf : ErrorKind → Usage → Type 0
-IsUsageOf kind (Help text) = kind ≡ DisplayHelp
-IsUsageOf kind (Wrong text) = (kind ≢ DisplayHelp) × (kind ≢ OutOfMemory)
-IsUsageOf kind Memory = Unit {0}

@@ -1,3 +1,6 @@
 pub mod Commands
+pub mod Endings
 pub mod Jobs
+pub mod Messages
 pub mod Program
+pub mod Usages

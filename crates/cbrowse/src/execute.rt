@@ -1,7 +1,10 @@
 //! The program behind its entry: words in, a job done, an exit status out.
-ghost use Rattle.std.specs.Prelude.{◌≡◌, map, string_bytes};
+ghost use Rattle.std.specs.Prelude.{◌≡◌, ◌⊎◌, true, false, map, string_bytes};
+ghost use Rattle.std.specs.Option.{MatchOption};
 ghost use Rattle.cb_tags.specs.TagLines.{tag_of};
-ghost use Rattle.cbrowse.specs.Program.{output_format, output_text, tags_output, WritesText, DoesJob, Ends};
+ghost use Rattle.cbrowse.specs.Endings.{EndsJob, EndsUsage};
+ghost use Rattle.cbrowse.specs.Messages.{tagsfile_of};
+ghost use Rattle.cbrowse.specs.Program.{output_format, output_text, tags_output, writes_file, WritesText, DoesJob, EndsIntoFile, Works};
 ghost use Rattle.cb_session.specs.Writing.{Puts};
 
 mod files;
@@ -94,6 +97,24 @@ pub fn run_job<R: BufRead, W: Write>(
     }
 }
 
+/// The name of the tags file that a job writes, if it writes one.
+fn output_file(job: &Job) -> Option<&str>
+    ensures { MatchOption result (writes_file job.now ≡ false) (λ name. (writes_file job.now ≡ true) × (name.now ≡ tagsfile_of job.now)) }
+{
+    match job {
+        Job::Line { .. } => None,
+        Job::Tags {
+            listing,
+            tagsfile,
+            ..
+        } => if *listing {
+            None
+        } else {
+            Some(tagsfile.as_str())
+        },
+    }
+}
+
 /// Does a job of tags into a file of this name.
 fn run_job_into<R: Files + AllocGlobal, I: BufRead>(
     rt: &R,
@@ -102,7 +123,11 @@ fn run_job_into<R: Files + AllocGlobal, I: BufRead>(
     job: &Job,
     session: Session,
     feed: &mut Feed<I>,
-) -> Finish {
+) -> Finish
+    requires { writes_file job.now ≡ true }
+    ensures end { EndsIntoFile result }
+    ensures feed { feed.new ≡ feed.old }
+{
     let writer = match make_file(rt, folder, name) {
         Ok(writer) => writer,
         Err(end) => return end,
@@ -121,7 +146,9 @@ fn work<R: Files + AllocGlobal, I: BufRead, O: Write>(
     job: &Job,
     feed: &mut Feed<I>,
     out: &mut Sink<O>,
-) -> Finish {
+) -> Finish
+    ensures { Works job.now feed.old feed.new out.old out.new result }
+{
     let operands = match read_operands(rt, folder, files_of(job)) {
         Ok(operands) => operands,
         Err(end) => return end,
@@ -130,13 +157,9 @@ fn work<R: Files + AllocGlobal, I: BufRead, O: Write>(
         Ok(session) => session,
         Err(ended) => return Finish::Ran(ended),
     };
-    match job {
-        Job::Tags {
-            listing: false,
-            tagsfile,
-            ..
-        } => run_job_into(rt, folder, tagsfile.as_str(), job, session, feed),
-        _ => Finish::Ran(run_job(rt.alloc(), job, &LIMITS, session, feed, out)),
+    match output_file(job) {
+        Some(name) => run_job_into(rt, folder, name, job, session, feed),
+        None => Finish::Ran(run_job(rt.alloc(), job, &LIMITS, session, feed, out)),
     }
 }
 
@@ -150,7 +173,8 @@ pub fn execute<R: Files + AllocGlobal, I: BufRead, O: Write, E: Write>(
     out: &mut Sink<O>,
     errors: &mut Sink<E>,
 ) -> u8
-    ensures { Ends (map string_bytes words.now) result errors.old.bytes errors.new.bytes }
+    ensures { EndsJob (map string_bytes words.now) result feed.old feed.new out.old out.new errors.old errors.new
+        ⊎ EndsUsage (map string_bytes words.now) result feed.old feed.new out.old out.new errors.old errors.new }
 {
     match job_of(rt.alloc(), words) {
         Ok(job) => conclude(errors, &job, work(rt, folder, &job, feed, out)),

@@ -1,7 +1,8 @@
 //! What the words of the command line ask for.
-ghost use Rattle.std.specs.Prelude.{◌≡◌, IfOk, map, string_bytes};
+ghost use Rattle.std.specs.Prelude.{◌≡◌, MatchResult, map, string_bytes};
 ghost use Rattle.clap.specs.Words.{kind_of, subcommand_of};
-ghost use Rattle.cbrowse.specs.Jobs.{browse_app, IsJobOf, IsUsageOf};
+ghost use Rattle.cbrowse.specs.Jobs.{browse_app, IsJobOf};
+ghost use Rattle.cbrowse.specs.Usages.{IsUsageOf, TellsKind};
 
 mod command;
 mod found;
@@ -41,6 +42,10 @@ pub enum Usage {
 }
 
 impl From<AllocError> for Usage {
+    ghost use Rattle.cbrowse.specs.declared.job.Usage.TheVariants.{Memory};
+
+    ghost from_gives = { λ _ usage. usage ≡ Memory };
+
     fn from(_error: AllocError) -> Usage {
         Usage::Memory
     }
@@ -48,7 +53,7 @@ impl From<AllocError> for Usage {
 
 /// The job of the words, of which the first is the program's name.
 pub fn job_of(alloc: Global, words: &[String]) -> Result<Job, Usage>
-    ensures { IfOk result (λ job. IsJobOf (subcommand_of browse_app (map string_bytes words.now)) job) }
+    ensures { MatchResult result (IsJobOf (subcommand_of browse_app (map string_bytes words.now))) (IsUsageOf (map string_bytes words.now)) }
 {
     let mut command = command::browse_command(alloc)?;
     let matches = match command.try_get_matches_from_mut(words) {
@@ -64,7 +69,7 @@ pub fn job_of(alloc: Global, words: &[String]) -> Result<Job, Usage>
 
 /// The text that clap gives, as help or as what is wrong.
 fn usage_of(alloc: Global, error: &Error) -> Usage
-    ensures { IsUsageOf (kind_of error.now) result }
+    ensures { TellsKind (kind_of error.now) result }
 {
     match (error.kind(), error.to_string(alloc)) {
         (ErrorKind::OutOfMemory, _) => Usage::Memory,

@@ -1,10 +1,10 @@
-//! Drops, renames, the tag stack, undo and redo. The expected frames and refusals are worked out by hand.
+//! Drops, renames, the tag stack, undo and redo. Expected frames and refusals are worked out by hand.
 use super::{NINE_LINES, load, load_text, load_text_or_refused, shows};
 use crate::{Change, Desk, Refusal};
 use std::alloc::{AllocError, Global};
 
 /// Whether the frames are these, bottom first.
-fn has_frames(desk: &Desk, frames: &[(&[u8], u32)]) -> bool {
+pub(crate) fn has_frames(desk: &Desk, frames: &[(&[u8], u32)]) -> bool {
     let mut shown = desk.frames();
     for (name, line) in frames {
         match shown.next() {
@@ -41,7 +41,7 @@ fn has_text(desk: &Desk, name: &[u8], text: &[u8]) -> bool {
 const ONE_FUNCTION: &[u8] = b"int Mb(void) {\n}\n";
 
 /// A desk with two files.
-fn two_files(alloc: Global) -> Result<Desk, Refusal> {
+pub(crate) fn two_files(alloc: Global) -> Result<Desk, Refusal> {
     let mut desk = Desk::new(alloc);
     load_text_or_refused(&mut desk, alloc, b"a.c", NINE_LINES)?;
     load_text_or_refused(&mut desk, alloc, b"m.c", ONE_FUNCTION)?;
@@ -224,89 +224,4 @@ fn a_refused_change_keeps_the_future_and_an_accepted_one_ends_it(
     assert!(rt; desk.undo() == Ok(()));
     assert!(rt; shows(&desk, &[b"y.c".as_slice()]));
     Ok(())
-}
-
-/// Two files, a frame, and a future: a load that was taken back.
-fn with_a_future(alloc: Global) -> Result<Desk, Refusal> {
-    let mut desk = two_files(alloc)?;
-    desk.change(alloc, Change::Tag(b"add", 1))?;
-    load_text_or_refused(&mut desk, alloc, b"b.c", b"")?;
-    desk.undo()?;
-    Ok(desk)
-}
-
-/// Whether present and future are those of `with_a_future`, and the past too, as far as undo shows it.
-fn is_as_before(desk: &mut Desk) -> bool {
-    shows(desk, &[b"a.c".as_slice(), b"m.c"])
-        && has_frames(desk, &[(b"a.c".as_slice(), 4)])
-        && desk.redo() == Ok(())
-        && shows(desk, &[b"a.c".as_slice(), b"b.c", b"m.c"])
-        && desk.undo() == Ok(())
-        && desk.undo() == Ok(())
-        && has_frames(desk, &[])
-        && desk.redo() == Ok(())
-}
-
-/// Whether a change is done, or memory refuses it, nothing has moved, and then it is done.
-fn is_done_in_the_end(
-    desk: &mut Desk,
-    alloc: Global,
-    first: Change<'_>,
-    again: Change<'_>,
-) -> bool {
-    match desk.change(alloc, first) {
-        Ok(()) => true,
-        Err(refusal) => {
-            refusal == Refusal::OutOfMemory
-                && is_as_before(desk)
-                && desk.change(alloc, again) == Ok(())
-        }
-    }
-}
-
-/// Run it with each allocation refused in turn: want of memory moves nothing, and undo and redo want none.
-#[test]
-fn a_refused_growth_of_a_change_moves_nothing(rt: HostRuntime) {
-    let alloc = rt.alloc();
-    if let Ok(mut desk) = with_a_future(alloc) {
-        assert!(rt;
-            is_done_in_the_end(
-                &mut desk,
-                alloc,
-                Change::Unload(b"m.c"),
-                Change::Unload(b"m.c")
-            )
-        );
-        assert!(rt; shows(&desk, &[b"a.c".as_slice()]));
-        assert!(rt; desk.redo() == Err(Refusal::NothingToRedo));
-    }
-    if let Ok(mut desk) = with_a_future(alloc) {
-        assert!(rt;
-            is_done_in_the_end(
-                &mut desk,
-                alloc,
-                Change::Rename(b"a.c", b"z.c"),
-                Change::Rename(b"a.c", b"z.c")
-            )
-        );
-        assert!(rt; has_frames(&desk, &[(b"z.c".as_slice(), 4)]));
-        assert!(rt; desk.redo() == Err(Refusal::NothingToRedo));
-    }
-    if let Ok(mut desk) = with_a_future(alloc) {
-        assert!(rt;
-            is_done_in_the_end(
-                &mut desk,
-                alloc,
-                Change::Tag(b"Mb", 1),
-                Change::Tag(b"Mb", 1)
-            )
-        );
-        assert!(rt; has_frames(&desk, &[(b"a.c".as_slice(), 4), (b"m.c", 1)]));
-        assert!(rt; desk.redo() == Err(Refusal::NothingToRedo));
-    }
-    if let Ok(mut desk) = with_a_future(alloc) {
-        assert!(rt; is_done_in_the_end(&mut desk, alloc, Change::Pop, Change::Pop));
-        assert!(rt; has_frames(&desk, &[]));
-        assert!(rt; desk.redo() == Err(Refusal::NothingToRedo));
-    }
 }

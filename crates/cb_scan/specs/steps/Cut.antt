@@ -7,6 +7,7 @@ use Rattle.cb_scan.specs.declared.piece.Class.{Class}
 use Rattle.cb_scan.specs.declared.piece.Class.TheVariants.{Name, Number, Str, Chr, LineNote, BlockNote, Blank, Newline, Byte}
 use Rattle.cb_scan.specs.declared.piece.Piece.{Piece}
 use Rattle.cb_scan.specs.Lexeme.{is_letter, is_digit, is_word, is_blank, goes_on, first_is}
+use Rattle.cb_scan.specs.Bytes.{apostrophe, backslash, carriage_return, dot, line_feed, quote, slash, star}
 
 -- the first byte is b
 abbrev pub begins : ℕ → List ℕ → Bool
@@ -15,20 +16,20 @@ begins b rest = first_is (λ a. a == b) rest
 -- the bytes behind a `\` make it a join
 unfoldable pub ends_join : List ℕ → Bool
 ends_join [] = false
-ends_join (b ∷ rest) = b == 10 || (b == 13 && begins 10 rest)
+ends_join (b ∷ rest) = b == line_feed || (b == carriage_return && begins line_feed rest)
 
 -- the class of the piece that begins here
 unfoldable pub class_at : List ℕ → Class
 class_at [] = Byte
 class_at (b ∷ rest) =
     if is_letter b then Name
-    else if is_digit b || (b == 46 && first_is is_digit rest) then Number
-    else if b == 34 then Str
-    else if b == 39 then Chr
-    else if b == 47 && begins 47 rest then LineNote
-    else if b == 47 && begins 42 rest then BlockNote
-    else if is_blank b || (b == 92 && ends_join rest) then Blank
-    else if b == 10 then Newline
+    else if is_digit b || (b == dot && first_is is_digit rest) then Number
+    else if b == quote then Str
+    else if b == apostrophe then Chr
+    else if b == slash && begins slash rest then LineNote
+    else if b == slash && begins star rest then BlockNote
+    else if is_blank b || (b == backslash && ends_join rest) then Blank
+    else if b == line_feed then Newline
     else Byte
 
 -- how many bytes go on a number behind the byte `last`
@@ -38,23 +39,23 @@ number_len last (b ∷ rest) = if goes_on last b then suc (number_len b rest) el
 
 -- b goes on a blank, in a join or out of one
 abbrev pub goes_on_blank : Bool → ℕ → List ℕ → Bool
-goes_on_blank joining b rest = is_blank b || (joining && b == 10) || (b == 92 && ends_join rest)
+goes_on_blank joining b rest = is_blank b || (joining && b == line_feed) || (b == backslash && ends_join rest)
 
 -- how many bytes go on a blank; `joining` says that a join has begun whose LF is still to come
 unfoldable pub blank_len : Bool → List ℕ → ℕ
 blank_len joining [] = 0
 blank_len joining (b ∷ rest) =
-    if goes_on_blank joining b rest then suc (blank_len (b == 92 || (joining && not (b == 10))) rest) else 0
+    if goes_on_blank joining b rest then suc (blank_len (b == backslash || (joining && not (b == line_feed))) rest) else 0
 
 -- what stands behind b in a line note
 unfoldable pub note_escape : Escape → ℕ → Escape
-note_escape Plain b = if b == 92 then Backslash else Plain
-note_escape Backslash b = if b == 92 then Backslash else if b == 13 then Return else Plain
-note_escape Return b = if b == 92 then Backslash else Plain
+note_escape Plain b = if b == backslash then Backslash else Plain
+note_escape Backslash b = if b == backslash then Backslash else if b == carriage_return then Return else Plain
+note_escape Return b = if b == backslash then Backslash else Plain
 
 -- b ends a line note
 unfoldable pub ends_note : Escape → ℕ → Bool
-ends_note Plain b = b == 10
+ends_note Plain b = b == line_feed
 ends_note Backslash b = false
 ends_note Return b = false
 
@@ -65,13 +66,13 @@ note_len e (b ∷ rest) = if ends_note e b then 0 else suc (note_len (note_escap
 
 -- what stands behind b in a literal
 unfoldable pub literal_escape : Escape → ℕ → Escape
-literal_escape Plain b = if b == 92 then Backslash else Plain
-literal_escape Backslash b = if b == 13 then Return else Plain
-literal_escape Return b = if b == 92 then Backslash else Plain
+literal_escape Plain b = if b == backslash then Backslash else Plain
+literal_escape Backslash b = if b == carriage_return then Return else Plain
+literal_escape Return b = if b == backslash then Backslash else Plain
 
 -- b ends a literal with the quote q
 unfoldable pub ends_literal : ℕ → Escape → ℕ → Bool
-ends_literal q Plain b = b == q || b == 10
+ends_literal q Plain b = b == q || b == line_feed
 ends_literal q Backslash b = false
 ends_literal q Return b = b == q
 
@@ -81,17 +82,17 @@ literal_len q e [] = 0
 literal_len q e (b ∷ rest) =
     if ends_literal q e b then (if b == q then 1 else 0) else suc (literal_len q (literal_escape e b) rest)
 
--- how many bytes go on a block note, with its `*/`; `star` says that a `*` stands directly before
+-- how many bytes go on a block note, with its `*/`; `starred` says that a `*` stands directly before
 unfoldable pub block_len : Bool → List ℕ → ℕ
-block_len star [] = 0
-block_len star (b ∷ rest) = if star && b == 47 then 1 else suc (block_len (b == 42) rest)
+block_len starred [] = 0
+block_len starred (b ∷ rest) = if starred && b == slash then 1 else suc (block_len (b == star) rest)
 
 -- how many bytes the piece of this class takes that begins here
 unfoldable pub length_in : Class → List ℕ → ℕ
 length_in Name rest = prefix_len is_word rest
-length_in Number rest = number_len 46 rest
-length_in Str rest = suc (literal_len 34 Plain (drop 1 rest))
-length_in Chr rest = suc (literal_len 39 Plain (drop 1 rest))
+length_in Number rest = number_len dot rest
+length_in Str rest = suc (literal_len quote Plain (drop 1 rest))
+length_in Chr rest = suc (literal_len apostrophe Plain (drop 1 rest))
 length_in LineNote rest = suc (suc (note_len Plain (drop 2 rest)))
 length_in BlockNote rest = suc (suc (block_len false (drop 2 rest)))
 length_in Blank rest = blank_len false rest

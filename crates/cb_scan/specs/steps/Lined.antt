@@ -5,10 +5,11 @@ use Rattle.cb_scan.specs.declared.piece.Class.{Class}
 use Rattle.cb_scan.specs.declared.piece.Class.TheVariants.{Name, Number, Str, Chr, LineNote, BlockNote, Blank, Newline, Byte}
 use Rattle.cb_scan.specs.declared.piece.Piece.{Piece}
 use Rattle.cb_scan.specs.Lines.{line_of}
+use Rattle.cb_scan.specs.Bytes.{line_feed}
 
 -- the byte is a line feed
 abbrev pub is_feed : ℕ → Bool
-is_feed b = b == 10
+is_feed b = b == line_feed
 
 -- a piece of the text with the line of its first byte
 unfoldable pub lined : List ℕ → Piece → Lined

@@ -14,6 +14,7 @@ use Rattle.cb_scan.specs.declared.token.Token.{Token}
 use Rattle.cb_scan.specs.Uses.{call_of, is_call}
 use Rattle.cb_scan.specs.Tokens.{is_mark, is_name_token, is_typedef, is_static, is_extern, is_str}
 use Rattle.cb_scan.specs.Depth.{depth_after}
+use Rattle.cb_scan.specs.Bytes.{close_brace, close_paren, equals, open_brace, open_paren, semicolon}
 
 -- no token since the last stop
 abbrev pub empty_head : Head
@@ -22,7 +23,7 @@ empty_head = record { last = None; begins_with_typedef = false; has_equals = fal
 -- the first called name so far, after one more token
 abbrev pub called_after : Option Token → Option Token → Token → Option Token
 called_after (Some name) last t = Some name
-called_after None (Some name) t = if is_name_token name.role && is_mark 40 t.role then Some name else None
+called_after None (Some name) t = if is_name_token name.role && is_mark open_paren t.role then Some name else None
 called_after None None t = None
 
 -- one more token of the head
@@ -30,7 +31,7 @@ abbrev pub add : Head → Token → Head
 add h t = record {
   last = Some t;
   begins_with_typedef = if is_none h.last then is_typedef t.role else h.begins_with_typedef;
-  has_equals = h.has_equals || is_mark 61 t.role;
+  has_equals = h.has_equals || is_mark equals t.role;
   has_static = h.has_static || is_static t.role;
   called = called_after h.called h.last t;
 }
@@ -38,7 +39,7 @@ add h t = record {
 -- the last token may end the head of a function
 abbrev pub may_end : Option Token → Bool
 may_end None = false
-may_end (Some t) = is_mark 41 t.role || is_name_token t.role
+may_end (Some t) = is_mark close_paren t.role || is_name_token t.role
 
 -- the name that the head defines
 abbrev pub defined : Head → Option Token
@@ -64,7 +65,7 @@ start = record { depth = 0; before = Anything; head = empty_head; body = None }
 
 -- the token is a `{` that counts
 abbrev pub counts : Machine → Token → Bool
-counts m t = is_mark 123 t.role && not (is_after_linkage m.before)
+counts m t = is_mark open_brace t.role && not (is_after_linkage m.before)
 
 -- the depth after the token
 abbrev pub next_depth : Machine → Token → ℕ
@@ -72,7 +73,7 @@ next_depth m t = depth_after (counts m t) t m.depth
 
 -- the token is a stop
 abbrev pub stops : Machine → Token → Bool
-stops m t = (is_mark 59 t.role && m.depth == 0) || (is_mark 125 t.role && next_depth m t == 0) || (is_mark 123 t.role && is_after_linkage m.before)
+stops m t = (is_mark semicolon t.role && m.depth == 0) || (is_mark close_brace t.role && next_depth m t == 0) || (is_mark open_brace t.role && is_after_linkage m.before)
 
 -- the definition of a function of that name
 abbrev pub def_of : Bool → Token → Def
@@ -97,7 +98,7 @@ next m t = record {
 
 -- the token is a `}` after which the depth is 0
 abbrev pub ends_all : Machine → Token → Bool
-ends_all m t = is_mark 125 t.role && next_depth m t == 0
+ends_all m t = is_mark close_brace t.role && next_depth m t == 0
 
 -- a range that ends at a place
 abbrev pub range_to : ℕ → Span → Range

@@ -11,6 +11,7 @@ use Rattle.cb_scan.specs.Definitions.{typedef_def}
 use Rattle.cb_scan.specs.Tokens.{is_mark, is_name_token, is_typedef}
 use Rattle.cb_scan.specs.Typedefs.{nesting_after}
 use Rattle.cb_scan.specs.steps.Machine.{next}
+use Rattle.cb_scan.specs.Bytes.{close_brace, comma, open_brace, open_paren, semicolon, star}
 
 -- ---- the parts of one typedef
 
@@ -32,7 +33,7 @@ is_starred Stars = true
 
 -- how far `(`, `*`s and a name have come after a token
 abbrev pub reach_after : Reach → Token → Reach
-reach_after r t = if is_mark 40 t.role then Paren else (if is_mark 42 t.role && is_reached r then Stars else Nothing)
+reach_after r t = if is_mark open_paren t.role then Paren else (if is_mark star t.role && is_reached r then Stars else Nothing)
 
 -- the first name behind `(` and `*`s
 abbrev pub pointer_after : Option Token → Reach → Token → Option Token
@@ -41,7 +42,7 @@ pointer_after None r t = if is_name_token t.role && is_starred r then Some t els
 
 -- a comma outside parentheses and brackets
 abbrev pub parts_at : ℕ → Token → Bool
-parts_at n t = is_mark 44 t.role && n == 0
+parts_at n t = is_mark comma t.role && n == 0
 
 -- one more token of the part
 abbrev pub goes_on : Declaration → Token → Declaration
@@ -73,11 +74,11 @@ begins m t = is_typedef t.role && is_none m.head.last
 
 -- the token is a `;` at depth 0
 abbrev pub ends : Machine → Token → Bool
-ends m t = is_mark 59 t.role && m.depth == 0
+ends m t = is_mark semicolon t.role && m.depth == 0
 
 -- the token stands at depth 0 and is no brace
 abbrev pub takes : Machine → Token → Bool
-takes m t = m.depth == 0 && not (is_mark 123 t.role || is_mark 125 t.role)
+takes m t = m.depth == 0 && not (is_mark open_brace t.role || is_mark close_brace t.role)
 
 -- the typedef that is open, after a token that neither ends nor begins one
 abbrev pub stays : Machine → Token → Declaration → Declaration

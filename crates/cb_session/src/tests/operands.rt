@@ -7,7 +7,7 @@ use std::alloc::{AllocError, Global};
 use std::test::Fail;
 
 /// Operands of these names and texts.
-fn operands(alloc: Global, files: &[(&[u8], &[u8])]) -> Result<Operands, AllocError> {
+pub(super) fn operands(alloc: Global, files: &[(&[u8], &[u8])]) -> Result<Operands, AllocError> {
     let mut operands = Vec::new(alloc);
     for (name, bytes) in files {
         operands.push(Operand {

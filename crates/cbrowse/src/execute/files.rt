@@ -1,5 +1,6 @@
 //! The files of the program: operands that are read, and a tags file that is written.
-ghost use Rattle.std.specs.Prelude.{◌≡◌, IfOk, map, string_bytes};
+ghost use Rattle.std.specs.Prelude.{◌≡◌, IfOk, IfErr, MatchResult, map, string_bytes};
+ghost use Rattle.cbrowse.specs.Program.{EndsIntoFile, StopsReading};
 
 use super::finish::Finish;
 use cb_session::{Ended, Fault, Operand, Operands};
@@ -45,7 +46,7 @@ pub fn read_operands<R: Files + AllocGlobal>(
     folder: &str,
     files: &[String],
 ) -> Result<Operands, Finish>
-    ensures { IfOk result (λ operands. map (λ o. o.name.items) operands.items ≡ map string_bytes files.now) }
+    ensures { MatchResult result (λ operands. map (λ o. o.name.items) operands.items ≡ map string_bytes files.now) (StopsReading files.now) }
 {
     let mut operands = Vec::new(rt.alloc());
     for name in files {
@@ -66,7 +67,9 @@ pub(super) fn make_file<R: Files + AllocGlobal>(
     rt: &R,
     folder: &str,
     name: &str,
-) -> Result<BufWriter<R::File>, Finish> {
+) -> Result<BufWriter<R::File>, Finish>
+    ensures { IfErr result EndsIntoFile }
+{
     match open_new(rt, folder, name) {
         Ok(writer) => Ok(writer),
         Err(error) if error.kind() == ErrorKind::OutOfMemory => Err(OUT_OF_MEMORY),

@@ -1,8 +1,8 @@
 //! How the program ends: its exit status, and what it says on standard error.
 ghost use Rattle.std.specs.Prelude.{◌≡◌, [], map, string_bytes};
 ghost use Rattle.std.specs.List.{slice_index_or};
-ghost use Rattle.cb_tags.specs.Writing.{AppendsPrefix, Puts};
-ghost use Rattle.cbrowse.specs.Program.{error_line, file_line, files_of, tagsfile_of, run_said, said_of, run_status, status_of, usage_status, usage_said};
+ghost use Rattle.cb_tags.specs.Writing.{Puts};
+ghost use Rattle.cbrowse.specs.Messages.{Says, error_line, fault_text, file_line, files_of, tagsfile_of, run_said, said_of, run_status, status_of, usage_status, usage_said};
 
 use crate::job::{Job, Usage};
 use cb_session::{Ended, Fault};
@@ -97,6 +97,19 @@ fn put_file_error<E: Write>(
     put_texts(errors, &[b"cbrowse: ", name, b": ", text, b"\n"])
 }
 
+/// What a fault is called.
+fn fault_text(fault: Fault) -> &'static [u8]
+    ensures { result.now ≡ fault_text fault }
+{
+    match fault {
+        Fault::Read => b"read fault",
+        Fault::Write => b"write fault",
+        Fault::Memory => b"out of memory",
+        Fault::LongLine => b"line over 1000000 bytes",
+        Fault::ManyLines => b"too many lines",
+    }
+}
+
 /// Says how a run over these files ended, if not as it should.
 fn put_run<E: Write>(errors: &mut Sink<E>, files: &[String], ended: Ended) -> Result<(), WriteFault>
     ensures { Puts errors.old errors.new result (run_said (map string_bytes files.now) ended) }
@@ -104,11 +117,7 @@ fn put_run<E: Write>(errors: &mut Sink<E>, files: &[String], ended: Ended) -> Re
     match ended {
         Ended::Done => Ok(()),
         Ended::Cut => put_error(errors, b"input ended"),
-        Ended::Fault(Fault::Read) => put_error(errors, b"read fault"),
-        Ended::Fault(Fault::Write) => put_error(errors, b"write fault"),
-        Ended::Fault(Fault::Memory) => put_error(errors, b"out of memory"),
-        Ended::Fault(Fault::LongLine) => put_error(errors, b"line over 1000000 bytes"),
-        Ended::Fault(Fault::ManyLines) => put_error(errors, b"too many lines"),
+        Ended::Fault(fault) => put_error(errors, fault_text(fault)),
         Ended::Operand(place, refusal) => put_file_error(
             errors,
             name_at(files, place as usize),
@@ -144,7 +153,7 @@ fn put_usage<E: Write>(errors: &mut Sink<E>, usage: &Usage) -> Result<(), WriteF
 /// Says how a job ended, and answers the exit status.
 pub fn conclude<E: Write>(errors: &mut Sink<E>, job: &Job, end: Finish) -> u8
     ensures status { result ≡ status_of end }
-    ensures said { AppendsPrefix errors.old.bytes errors.new.bytes (said_of job.now end) }
+    ensures said { Says errors.old errors.new (said_of job.now end) }
 {
     // Nobody is left to hear that standard error failed.
     let _ = put_finish(errors, job, end);
@@ -154,7 +163,7 @@ pub fn conclude<E: Write>(errors: &mut Sink<E>, job: &Job, end: Finish) -> u8
 /// Says why there is no job, and answers the exit status.
 pub fn refuse<E: Write>(errors: &mut Sink<E>, usage: &Usage) -> u8
     ensures status { result ≡ usage_status usage.now }
-    ensures said { AppendsPrefix errors.old.bytes errors.new.bytes (usage_said usage.now) }
+    ensures said { Says errors.old errors.new (usage_said usage.now) }
 {
     let _ = put_usage(errors, usage);
     usage_status(usage)

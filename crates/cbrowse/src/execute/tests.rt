@@ -1,10 +1,12 @@
 //! The program on words and bytes of memory: its output, its exit status, and what it says on standard error.
+mod devices;
 mod files;
+mod memory;
 
 use super::execute;
 use cb_session::Feed;
 use cb_tags::Sink;
-use std::alloc::AllocError;
+use std::alloc::{AllocError, Global};
 
 /// The output, the status and the text on standard error of `cbrowse` and these words over this input.
 fn program(
@@ -15,6 +17,16 @@ fn program(
     program_in(rt, "", words, input)
 }
 
+/// The program's name and these words.
+fn words_of(alloc: Global, words: &[&str]) -> Result<Vec<String>, AllocError> {
+    let mut all = Vec::new(alloc);
+    all.push(String::from_str(alloc, "cbrowse")?)?;
+    for word in words {
+        all.push(String::from_str(alloc, word)?)?;
+    }
+    Ok(all)
+}
+
 /// The same, with the files in a folder.
 fn program_in(
     rt: &HostRuntime,
@@ -22,11 +34,7 @@ fn program_in(
     words: &[&str],
     input: &[u8],
 ) -> Result<(Vec<u8>, u8, Vec<u8>), AllocError> {
-    let mut all = Vec::new(rt.alloc());
-    all.push(String::from_str(rt.alloc(), "cbrowse")?)?;
-    for word in words {
-        all.push(String::from_str(rt.alloc(), word)?)?;
-    }
+    let all = words_of(rt.alloc(), words)?;
     let mut written = Vec::new(rt.alloc());
     let mut said = Vec::new(rt.alloc());
     let mut feed = Feed::new(input);
@@ -54,6 +62,21 @@ fn sessions(rt: HostRuntime) -> Result<(), AllocError> {
         assert_eq!(rt; status, end);
         assert_eq!(rt; said.as_slice(), text);
     }
+    Ok(())
+}
+
+#[test]
+fn a_line_of_a_million_bytes(rt: HostRuntime) -> Result<(), AllocError> {
+    let mut input = Vec::new(rt.alloc());
+    input.resize(1_000_000, b'a')?;
+    input.extend_from_slice(b"\n:undo\n")?;
+    let (written, status, said) = program(&rt, &["line"], input.as_slice())?;
+    assert_eq!(rt;
+        written.as_slice(),
+        b">> cscope: refused: line too long\n>> cscope: refused: nothing to undo\n>> ".as_slice()
+    );
+    assert_eq!(rt; status, 0);
+    assert!(rt; said.is_empty());
     Ok(())
 }
 

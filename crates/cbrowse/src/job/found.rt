@@ -1,7 +1,10 @@
 //! The job of what clap found in the words.
-ghost use Rattle.std.specs.Prelude.{◌≡◌, IfOk, IfSome, Some, codes, map, string_bytes};
+ghost use Rattle.std.specs.Prelude.{◌≡◌, IfOk, Some, codes, map, string_bytes};
+ghost use Rattle.std.specs.Option.{MatchOption};
 ghost use Rattle.clap.specs.Words.{subcommand_rows_of};
 ghost use Rattle.cbrowse.specs.Jobs.{IsJobOf, all_or_none, first_or, format_number};
+ghost use Rattle.cbrowse.specs.declared.job.Job.{Job};
+ghost use Rattle.cb_desk.specs.declared.tags.Format.{Format};
 ghost use Rattle.cbrowse.specs.Commands.{rows_in};
 
 use super::Job;
@@ -11,7 +14,7 @@ use std::alloc::{AllocError, Global};
 
 /// The job of the subcommand that was found, or `None` where there is no such subcommand or format.
 pub fn found_job(alloc: Global, matches: &ArgMatches<'_>) -> Result<Option<Job>, AllocError>
-    ensures { IfOk result (λ found. IfSome found (IsJobOf (subcommand_rows_of matches.now))) }
+    ensures { IfOk result (λ found. MatchOption found ((job : Job) → IsJobOf (subcommand_rows_of matches.now) job → ⊥) (IsJobOf (subcommand_rows_of matches.now))) }
 {
     match matches.subcommand() {
         Some(("line", found)) => Ok(Some(line_job(alloc, found)?)),
@@ -31,7 +34,7 @@ fn line_job(alloc: Global, found: &ArgMatches<'_>) -> Result<Job, AllocError>
 
 /// The tags that were asked for, or `None` where there is no such format.
 fn tags_job(alloc: Global, found: &ArgMatches<'_>) -> Result<Option<Job>, AllocError>
-    ensures { IfOk result (λ job. IfSome job (IsJobOf (Some (codes "tags", rows_in found.now)))) }
+    ensures { IfOk result (λ job. MatchOption job ((job : Job) → IsJobOf (Some (codes "tags", rows_in found.now)) job → ⊥) (IsJobOf (Some (codes "tags", rows_in found.now)))) }
 {
     let Some(format) = format_of(value_or(found, "format", "1")) else {
         return Ok(None);
@@ -46,7 +49,7 @@ fn tags_job(alloc: Global, found: &ArgMatches<'_>) -> Result<Option<Job>, AllocE
 
 /// The format of this number.
 fn format_of(number: &str) -> Option<Format>
-    ensures { IfSome result (λ format. format_number format ≡ number.now) }
+    ensures { MatchOption result ((format : Format) → format_number format ≡ number.now → ⊥) (λ format. format_number format ≡ number.now) }
 {
     match number {
         "1" => Some(Format::Plain),

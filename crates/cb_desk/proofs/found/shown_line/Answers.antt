@@ -1,11 +1,26 @@
-use Rattle.std.proofs.Common.{◌≡◌, ◌∙◌, sym, ap, ◌-◌, arith, [], unwrap_or, slice_get, None}
-use Rattle.std.proofs.lemmas.Option.{unwrap_or-slice_get}
-use Rattle.cb_scan.specs.Lines.{lines}
+use Rattle.std.proofs.Common.{◌∙◌, ◌<◌, ◌-◌, [], sym, ap, arith, unwrap_or, ⊎_elim}
+use Rattle.std.proofs.lemmas.Bool.{cases_eq}
+use Rattle.std.proofs.lemmas.Option.{get_or_from_slice_get, none-some, unwrap_or-slice_get}
+use Rattle.cb_scan.specs.Lines.{line_text, lines}
+use Rattle.cb_scan.proofs.LineTable.{line_text-at}
 use Rattle.cb_desk.proofs.found.shown_line.Goals as goal
+
+pub returns-in-Some : goal.returns-in-Some
+returns-in-Some c =
+    let text = c.args.source.now in
+    ⊎_elim
+    (λ none. absurd (none-some _ (sym (c.in-Some.ensures.zero none))))
+    (λ some.
+    let above : 0 < c.args.line = omega (arith, some) in
+    sym (line_text-at text c.args.line above ∙ get_or_from_slice_get (lines text) (c.args.line - 1) _ [] (sym (c.in-Some.ensures.line above))))
+    (cases_eq c.args.line 0)
 
 pub returns-in-None : goal.returns-in-None
 returns-in-None c =
-    let place : c.max.result - 1 ≡ c.args.line - 1 = omega arith in
-    let none : slice_get (lines c.args.source.now) (c.args.line - 1) ≡ None =
-    rw place at (sym (c.in-None.ensures.line (omega arith))) in
-    ap (λ found. unwrap_or found []) (sym none) ∙ unwrap_or-slice_get (lines c.args.source.now) (c.args.line - 1) []
+    let text = c.args.source.now in
+    ⊎_elim
+    (λ none. sym (ap (line_text text) none))
+    (λ some.
+    let above : 0 < c.args.line = omega (arith, some) in
+    sym (line_text-at text c.args.line above ∙ sym (unwrap_or-slice_get (lines text) (c.args.line - 1) []) ∙ ap (λ found. unwrap_or found []) (sym (c.in-None.ensures.line above))))
+    (cases_eq c.args.line 0)

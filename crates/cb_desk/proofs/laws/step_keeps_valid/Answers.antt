@@ -1,4 +1,4 @@
-use Rattle.cb_desk.proofs.Moves.{step_keeps_valid}
+use Rattle.cb_desk.proofs.StepsValid.{step_keeps_valid}
 use Rattle.cb_desk.proofs.laws.step_keeps_valid.Goals as goal
 
 pub returns : goal.returns

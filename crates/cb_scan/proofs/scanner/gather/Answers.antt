@@ -1,7 +1,9 @@
 use Rattle.std.proofs.Common.{◌≡◌, ◌∙◌, ◌++◌, true, None, length, sym, ap, subst, arith}
 use Rattle.std.specs.List.{AllByRecursion}
 use Rattle.std.specs.Option.{option_to_list}
+use Rattle.cb_scan.specs.declared.line.Stage.TheVariants.{Start}
 use Rattle.cb_scan.specs.Tokens.{is_significant}
+use Rattle.cb_scan.specs.steps.Cut.{pieces}
 use Rattle.cb_scan.specs.steps.Line.{code_out, include_out, is_code, macro_call_out, macro_out, no_range, nothing, range_finish, use_out, walk}
 use Rattle.cb_scan.specs.steps.Lined.{Within}
 use Rattle.cb_scan.specs.steps.Machine.{called, calls_from, closed, defs_from, found, ranges_from}
@@ -18,18 +20,17 @@ loop-lined-init c =
     let bounds = c.lined_pieces-lined-items.ensures in
     let code = c.new-code.ensures in
     let lines = c.new-lines.ensures in
-    let line = c.start-line.ensures in
     let machine = c.start.ensures in
     record {
-      functions_found = (λ i. code.functions i ++ defs_from (machine i) (walk code_out nothing text (line i) (source i))) ∙ functions_found text;
-      ranges_found = (λ i. code.ranges i ++ ranges_from (length text) (machine i) (walk code_out nothing text (line i) (source i))) ∙ ranges_found text;
-      calls_found = (λ i. code.calls i ++ calls_from (machine i) (walk code_out nothing text (line i) (source i))) ∙ calls_found text;
-      typedefs_found = (λ i. code.typedefs i ++ typedef_defs_from (machine i) None (code.pending i) (walk code_out nothing text (line i) (source i))) ∙ typedefs_found text;
-      names_found = (λ i. lines.names i ++ walk use_out nothing text (line i) (source i)) ∙ uses_are text;
-      macros_found = (λ i. lines.macros i ++ walk macro_out nothing text (line i) (source i)) ∙ macros_are text;
-      macro_ranges_found = (λ i. lines.ranges i ++ walk no_range range_finish text (line i) (source i)) ∙ macro_ranges_are text;
-      macro_calls_found = (λ i. lines.calls i ++ walk macro_call_out nothing text (line i) (source i)) ∙ macro_calls_are text;
-      includes_found = (λ i. lines.includes i ++ walk (include_out text) nothing text (line i) (source i)) ∙ includes_are text;
+      functions_found = (λ i. code.functions i ++ defs_from (machine i) (walk code_out nothing text Start (source i))) ∙ functions_found text;
+      ranges_found = (λ i. code.ranges i ++ ranges_from (length text) (machine i) (walk code_out nothing text Start (source i))) ∙ ranges_found text;
+      calls_found = (λ i. code.calls i ++ calls_from (machine i) (walk code_out nothing text Start (source i))) ∙ calls_found text;
+      typedefs_found = (λ i. code.typedefs i ++ typedef_defs_from (machine i) None (code.pending i) (walk code_out nothing text Start (source i))) ∙ typedefs_found text;
+      names_found = (λ i. lines.names i ++ walk use_out nothing text Start (source i)) ∙ uses_are text (pieces text);
+      macros_found = (λ i. lines.macros i ++ walk macro_out nothing text Start (source i)) ∙ macros_are text (pieces text);
+      macro_ranges_found = (λ i. lines.ranges i ++ walk no_range range_finish text Start (source i)) ∙ macro_ranges_are text (pieces text);
+      macro_calls_found = (λ i. lines.calls i ++ walk macro_call_out nothing text Start (source i)) ∙ macro_calls_are text (pieces text);
+      includes_found = (λ i. lines.includes i ++ walk (include_out text) nothing text Start (source i)) ∙ includes_are text (pieces text);
       within = subst (AllByRecursion (Within text)) (sym c.into_iter-lined-iterator.ensures.into_iter_gives) bounds.within;
       room = omega (arith, bounds.len, ap length c.into_iter-lined-iterator.ensures.into_iter_gives, ap (λ m. m.depth) machine);
       nested = omega (arith, bounds.len, ap length c.into_iter-lined-iterator.ensures.into_iter_gives);
@@ -43,7 +44,7 @@ loop-lined-preserved-then-is_code c =
     let is : is_significant c.in-Some.lined.piece.class ≡ true = sym c.is_significant.ensures ∙ c.if-is_significant.true in
     let token_is = c.token_of-token.ensures in
     let line_is = c.in_ok-line.ensures.line in
-    let code_is : is_code c.in_ok-line.line.stage ≡ true = sym c.is_code.ensures ∙ c.if-is_code.true in
+    let code_is : is_code c.in_ok-line.line ≡ true = sym c.is_code.ensures ∙ c.if-is_code.true in
     let code = c.in_ok-state.ensures in
     let lines = c.in_ok-line.ensures in
     let on = code_on text c.loop-lined.line c.in_ok-line.line c.token_of-token.result c.in-Some.lined c.loop-lined.lined-iterator c.next.new.self all_is is token_is line_is code_is in

@@ -1,8 +1,9 @@
-use Rattle.std.proofs.Common.{inl, inr}
+use Rattle.std.proofs.Common.{inl, inr, refl}
 use Rattle.cbrowse.proofs.execute.execute.Goals as goal
 
 pub returns-in-Ok : goal.returns-in-Ok
-returns-in-Ok g c = inl (c.in-Ok.job, c.work.result, c.in-Ok.ensures, c.conclude.ensures.status, c.conclude.ensures.said)
+returns-in-Ok g c =
+    inl (c.in-Ok.job, c.work.result, c.in-Ok.ensures, c.work.ensures, c.conclude.ensures.status, c.conclude.ensures.said)
 
 pub returns-in-Err : goal.returns-in-Err
-returns-in-Err g c = inr (c.in-Err.usage, c.refuse.ensures.status, c.refuse.ensures.said)
+returns-in-Err g c = inr (c.in-Err.usage, c.in-Err.ensures, (refl, refl), c.refuse.ensures.status, c.refuse.ensures.said)

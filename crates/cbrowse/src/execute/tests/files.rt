@@ -155,6 +155,26 @@ fn no_tags_file_is_made_for_a_refused_operand(rt: HostRuntime) -> Result<(), Fai
 }
 
 #[test]
+fn a_file_is_read_to_its_end(rt: HostRuntime) -> Result<(), Fail> {
+    let folder = new_folder(&rt)?;
+    let end = b"\nint last(void) {\n}\n".as_slice();
+    let mut large = Vec::new(rt.alloc());
+    large.resize(1_000_000 - end.len(), b' ')?;
+    large.extend_from_slice(end)?;
+    let path = within(&rt, folder.as_str(), "big.c")?;
+    fs::write(&rt, path.as_str(), large.as_slice())?;
+    let (written, status, said) = program_in(&rt, folder.as_str(), &["tags", "-x", "big.c"], b"")?;
+    assert_eq!(rt;
+        written.as_slice(),
+        b"last 2 big.c int last(void) {\n".as_slice()
+    );
+    assert_eq!(rt; status, 0);
+    assert!(rt; said.is_empty());
+    fs::remove_dir_all(&rt, folder.as_str())?;
+    Ok(())
+}
+
+#[test]
 fn a_session_begins_with_its_files(rt: HostRuntime) -> Result<(), Fail> {
     let folder = new_folder(&rt)?;
     fs::write(&rt, within(&rt, folder.as_str(), "a.c")?.as_str(), A)?;

@@ -2,7 +2,7 @@ use Rattle.std.proofs.Common.{◌≡◌, ◌∙◌, sym, ap, refl, true, false, 
 use Rattle.std.specs.List.{list_any}
 use Rattle.std.proofs.lemmas.List.{map-append}
 use Rattle.cb_desk.specs.Answer.{row_eq}
-use Rattle.cb_desk.specs.Meant.{row_of}
+use Rattle.cb_desk.specs.Models.{row_of}
 use Rattle.cb_desk.proofs.Distinct.{distinct-push}
 use Rattle.cb_desk.proofs.Placed.{list_any-map}
 use Rattle.cb_desk.proofs.rows.RowList.add.Goals as goal

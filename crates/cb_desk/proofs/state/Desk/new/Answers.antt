@@ -9,7 +9,7 @@ invariant_of-result c = rw (c.new-2.ensures, c.new.ensures.items) (
   record {
     before = tt;
     now = record { files = record { names = tt; sizes = tt; count = omega arith; ascending = tt }; frames = tt };
-    behind = tt;
+    later = tt;
     bounded = omega arith;
   },
 )

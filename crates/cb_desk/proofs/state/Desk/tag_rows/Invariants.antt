@@ -1,5 +1,5 @@
 use Rattle.std.proofs.Common.{◌≡◌, ◌++◌, flat_map, map}
-use Rattle.cb_desk.specs.Meant.{file_of}
+use Rattle.cb_desk.specs.Models.{file_of}
 use Rattle.cb_desk.specs.Tags.{file_tags}
 use Rattle.cb_desk.proofs.state.Desk.tag_rows.Given as goal
 

@@ -1,0 +1,211 @@
+//! Tests in which memory may be refused, each growth in turn, one a run. For each call that takes memory,
+//! `refused_growth_of_CALL` passes in each run, and `no_refusal_of_CALL` only in a run that refuses nothing.
+use super::moves::{has_frames, two_files};
+use super::{load_text_or_refused, shows};
+use crate::{Change, Desk, Field, Format, Refusal};
+use std::alloc::Global;
+use std::process::Abort;
+
+/// Two files, a frame, and a future: a load that was taken back.
+fn with_a_future(alloc: Global) -> Result<Desk, Refusal> {
+    let mut desk = two_files(alloc)?;
+    desk.change(alloc, Change::Tag(b"add", 1))?;
+    load_text_or_refused(&mut desk, alloc, b"b.c", b"")?;
+    desk.undo()?;
+    Ok(desk)
+}
+
+/// Whether present and future are those of `with_a_future`, and the past as far as undo shows it.
+fn is_as_before(desk: &mut Desk) -> bool {
+    shows(desk, &[b"a.c".as_slice(), b"m.c"])
+        && has_frames(desk, &[(b"a.c".as_slice(), 4)])
+        && desk.redo() == Ok(())
+        && shows(desk, &[b"a.c".as_slice(), b"b.c", b"m.c"])
+        && desk.undo() == Ok(())
+        && desk.undo() == Ok(())
+        && has_frames(desk, &[])
+        && desk.redo() == Ok(())
+}
+
+/// Makes a change. Where memory refuses it, nothing has moved, and then it is done. Whether memory
+/// was refused.
+fn change_meets_a_refusal(
+    rt: &impl Abort,
+    alloc: Global,
+    first: Change<'_>,
+    again: Change<'_>,
+) -> bool {
+    let Ok(mut desk) = with_a_future(alloc) else {
+        return true;
+    };
+    match desk.change(alloc, first) {
+        Ok(()) => false,
+        Err(refusal) => {
+            assert!(rt; refusal == Refusal::OutOfMemory);
+            assert!(rt; is_as_before(&mut desk));
+            assert!(rt; desk.change(alloc, again) == Ok(()));
+            assert!(rt; desk.redo() == Err(Refusal::NothingToRedo));
+            true
+        }
+    }
+}
+
+/// Loads a file.
+fn load_meets_a_refusal(rt: &impl Abort, alloc: Global) -> bool {
+    let (Ok(first), Ok(again)) = (b"x;".to_vec(alloc), b"x;".to_vec(alloc)) else {
+        return true;
+    };
+    change_meets_a_refusal(
+        rt,
+        alloc,
+        Change::Load(b"c.c", first),
+        Change::Load(b"c.c", again),
+    )
+}
+
+/// Asks for the definitions of a name. Where memory refuses it, it is answered the next time.
+fn rows_meet_a_refusal(rt: &impl Abort, alloc: Global) -> bool {
+    let Ok(desk) = two_files(alloc) else {
+        return true;
+    };
+    match desk.rows(alloc, Field::Definition, b"add") {
+        Ok(rows) => {
+            assert_eq!(rt; rows.len(), 1);
+            false
+        }
+        Err(refusal) => {
+            assert!(rt; refusal == Refusal::OutOfMemory);
+            let found = desk
+                .rows(alloc, Field::Definition, b"add")
+                .map_or(0, |rows| rows.len());
+            assert_eq!(rt; found, 1);
+            true
+        }
+    }
+}
+
+/// More than twenty functions, so that the sort of their tags takes memory.
+const FUNCTIONS: &[u8] =
+    b"t(){}s(){}r(){}q(){}p(){}o(){}n(){}m(){}l(){}k(){}j(){}i(){}h(){}g(){}f(){}e(){}d(){}c(){}b(){}a(){}main(){}\n";
+
+/// Asks for the tags. Where memory refuses them, they are answered the next time.
+fn tags_meet_a_refusal(rt: &impl Abort, alloc: Global) -> bool {
+    let mut desk = Desk::new(alloc);
+    if load_text_or_refused(&mut desk, alloc, b"a.c", FUNCTIONS) != Ok(()) {
+        return true;
+    }
+    match desk.tag_rows(alloc, Format::Plain) {
+        Ok(rows) => {
+            assert_eq!(rt; rows.len(), 21);
+            false
+        }
+        Err(refusal) => {
+            assert!(rt; refusal == Refusal::OutOfMemory);
+            let found = desk
+                .tag_rows(alloc, Format::Plain)
+                .map_or(0, |rows| rows.len());
+            assert_eq!(rt; found, 21);
+            true
+        }
+    }
+}
+
+/// Makes a change that brings no bytes.
+fn unload_meets_a_refusal(rt: &impl Abort, alloc: Global) -> bool {
+    change_meets_a_refusal(rt, alloc, Change::Unload(b"m.c"), Change::Unload(b"m.c"))
+}
+
+fn rename_meets_a_refusal(rt: &impl Abort, alloc: Global) -> bool {
+    let (first, again) = (
+        Change::Rename(b"a.c", b"z.c"),
+        Change::Rename(b"a.c", b"z.c"),
+    );
+    change_meets_a_refusal(rt, alloc, first, again)
+}
+
+fn tag_meets_a_refusal(rt: &impl Abort, alloc: Global) -> bool {
+    change_meets_a_refusal(rt, alloc, Change::Tag(b"Mb", 1), Change::Tag(b"Mb", 1))
+}
+
+fn pop_meets_a_refusal(rt: &impl Abort, alloc: Global) -> bool {
+    change_meets_a_refusal(rt, alloc, Change::Pop, Change::Pop)
+}
+
+#[test]
+fn refused_growth_of_load(rt: HostRuntime) {
+    let _refused = load_meets_a_refusal(&rt, rt.alloc());
+}
+
+#[test]
+fn no_refusal_of_load(rt: HostRuntime) {
+    assert!(rt;
+        !load_meets_a_refusal(&rt, rt.alloc()),
+        "memory was refused"
+    );
+}
+
+#[test]
+fn refused_growth_of_unload(rt: HostRuntime) {
+    let _refused = unload_meets_a_refusal(&rt, rt.alloc());
+}
+
+#[test]
+fn no_refusal_of_unload(rt: HostRuntime) {
+    assert!(rt;
+        !unload_meets_a_refusal(&rt, rt.alloc()),
+        "memory was refused"
+    );
+}
+
+#[test]
+fn refused_growth_of_rename(rt: HostRuntime) {
+    let _refused = rename_meets_a_refusal(&rt, rt.alloc());
+}
+
+#[test]
+fn no_refusal_of_rename(rt: HostRuntime) {
+    assert!(rt;
+        !rename_meets_a_refusal(&rt, rt.alloc()),
+        "memory was refused"
+    );
+}
+
+#[test]
+fn refused_growth_of_tag(rt: HostRuntime) {
+    let _refused = tag_meets_a_refusal(&rt, rt.alloc());
+}
+
+#[test]
+fn no_refusal_of_tag(rt: HostRuntime) {
+    assert!(rt; !tag_meets_a_refusal(&rt, rt.alloc()), "memory was refused");
+}
+
+#[test]
+fn refused_growth_of_pop(rt: HostRuntime) {
+    let _refused = pop_meets_a_refusal(&rt, rt.alloc());
+}
+
+#[test]
+fn no_refusal_of_pop(rt: HostRuntime) {
+    assert!(rt; !pop_meets_a_refusal(&rt, rt.alloc()), "memory was refused");
+}
+
+#[test]
+fn refused_growth_of_rows(rt: HostRuntime) {
+    let _refused = rows_meet_a_refusal(&rt, rt.alloc());
+}
+
+#[test]
+fn no_refusal_of_rows(rt: HostRuntime) {
+    assert!(rt; !rows_meet_a_refusal(&rt, rt.alloc()), "memory was refused");
+}
+
+#[test]
+fn refused_growth_of_tag_rows(rt: HostRuntime) {
+    let _refused = tags_meet_a_refusal(&rt, rt.alloc());
+}
+
+#[test]
+fn no_refusal_of_tag_rows(rt: HostRuntime) {
+    assert!(rt; !tags_meet_a_refusal(&rt, rt.alloc()), "memory was refused");
+}

@@ -1,0 +1,106 @@
+-- The bytes that definitions name, in ASCII.
+use Rattle.std.specs.Prelude.{ℕ}
+
+-- ---- white space
+abbrev pub tab : ℕ
+tab = 9
+
+abbrev pub line_feed : ℕ
+line_feed = 10
+
+abbrev pub vertical_tab : ℕ
+vertical_tab = 11
+
+abbrev pub form_feed : ℕ
+form_feed = 12
+
+abbrev pub carriage_return : ℕ
+carriage_return = 13
+
+abbrev pub space : ℕ
+space = 32
+
+-- ---- marks
+-- "
+abbrev pub quote : ℕ
+quote = 34
+
+-- #
+abbrev pub hash : ℕ
+hash = 35
+
+-- '
+abbrev pub apostrophe : ℕ
+apostrophe = 39
+
+-- (
+abbrev pub open_paren : ℕ
+open_paren = 40
+
+-- )
+abbrev pub close_paren : ℕ
+close_paren = 41
+
+-- *
+abbrev pub star : ℕ
+star = 42
+
+-- +
+abbrev pub plus : ℕ
+plus = 43
+
+-- ,
+abbrev pub comma : ℕ
+comma = 44
+
+-- -
+abbrev pub minus : ℕ
+minus = 45
+
+-- .
+abbrev pub dot : ℕ
+dot = 46
+
+-- /
+abbrev pub slash : ℕ
+slash = 47
+
+-- ;
+abbrev pub semicolon : ℕ
+semicolon = 59
+
+-- <
+abbrev pub less : ℕ
+less = 60
+
+-- =
+abbrev pub equals : ℕ
+equals = 61
+
+-- >
+abbrev pub greater : ℕ
+greater = 62
+
+-- [
+abbrev pub open_bracket : ℕ
+open_bracket = 91
+
+-- \
+abbrev pub backslash : ℕ
+backslash = 92
+
+-- ]
+abbrev pub close_bracket : ℕ
+close_bracket = 93
+
+-- _
+abbrev pub underscore : ℕ
+underscore = 95
+
+-- {
+abbrev pub open_brace : ℕ
+open_brace = 123
+
+-- }
+abbrev pub close_brace : ℕ
+close_brace = 125

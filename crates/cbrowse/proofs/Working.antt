@@ -1,0 +1,50 @@
+-- A job over files: from the loads to what is done.
+use Rattle.std.proofs.Common.{◌≡◌, ◌∙◌, ap, refl, inr, true, false, List, [], ◌∷◌, map, Result, Ok, Err}
+use Rattle.cb_desk.specs.Timeline.{Timeline, new_timeline}
+use Rattle.cb_session.specs.declared.input.Ended.{Ended}
+use Rattle.cb_session.specs.declared.input.Ended.TheVariants.{Done, Cut, Fault, Operand as StoppedAt}
+use Rattle.cb_session.specs.declared.operands.Operand.{Operand}
+use Rattle.cb_session.specs.Devices.{Reader}
+use Rattle.cb_session.specs.Operands.{Loads, Prepares, Stop, file_of_operand}
+use Rattle.cb_tags.specs.Writers.{Writer}
+use Rattle.cbrowse.specs.declared.execute.finish.Finish.{Finish}
+use Rattle.cbrowse.specs.declared.execute.finish.Finish.TheVariants.{Ran, Unreadable, Unwritable}
+use Rattle.cbrowse.specs.declared.job.Job.{Job}
+use Rattle.cbrowse.specs.declared.job.Job.TheVariants.{Line, Tags}
+use Rattle.cbrowse.specs.Messages.{files_of}
+use Rattle.cbrowse.specs.Program.{DoesFrom, DoesJob, DoesLoaded, EndsIntoFile, Reaches, Works, most_line_bytes, most_lines, writes_file}
+
+-- operands under the names of a job's files are contents of those files
+pub reaches : (job : Job) (ops : List Operand) (end : Result Timeline Stop) → map (λ o. o.name.items) ops ≡ files_of job
+    → Loads 0 new_timeline (map file_of_operand ops) end → Reaches job end
+reaches job ops end named loads = (map file_of_operand ops, names ops ∙ named, loads)
+  where
+    names : (os : List Operand) → map (λ f. f.name) (map file_of_operand os) ≡ map (λ o. o.name.items) os
+    names [] = refl
+    names (o ∷ os) = ap (λ ns. o.name.items ∷ ns) (names os)
+
+-- an operand was refused
+pub stopped : (job : Job) (ops : List Operand) (feed : Reader) (out : Writer) (ended : Ended) → map (λ o. o.name.items) ops ≡ files_of job
+    → Prepares (map file_of_operand ops) (Err ended)
+    → (end : Result Timeline Stop) × Reaches job end × DoesLoaded job end feed feed out out ended
+stopped job ops feed out (StoppedAt place why) named p =
+    (Err (record { place = place; why = why }), reaches job ops (Err (record { place = place; why = why })) named p, (refl, (refl, refl)))
+stopped job ops feed out Done named p = absurd p
+stopped job ops feed out Cut named p = absurd p
+stopped job ops feed out (Fault fault) named p = absurd p
+
+-- a job that writes a tags file
+pub into_file : (job : Job) (t : Timeline) (feed feed' : Reader) (out : Writer) (f : Finish) → writes_file job ≡ true → Reaches job (Ok t)
+    → EndsIntoFile f → feed' ≡ feed → Works job feed feed' out out f
+into_file (Line files) t feed feed' out f writes reached ends same = cc
+into_file (Tags true tagsfile format files) t feed feed' out f writes reached ends same = cc
+into_file (Tags false tagsfile format files) t feed feed' out (Ran ended) writes reached ends same = inr (Ok t, reached, (ends, (same, refl)))
+into_file (Tags false tagsfile format files) t feed feed' out Unwritable writes reached ends same = (writes, (t, reached), (same, refl))
+into_file (Tags false tagsfile format files) t feed feed' out (Unreadable place) writes reached ends same = absurd ends
+
+-- a job over the input and the output
+pub over_both : (job : Job) (t : Timeline) (feed feed' : Reader) (out out' : Writer) (ended : Ended) → writes_file job ≡ false
+    → DoesJob job most_lines most_line_bytes t feed feed' out out' ended → DoesFrom t job feed feed' out out' ended
+over_both (Line files) t feed feed' out out' ended writes does = does
+over_both (Tags true tagsfile format files) t feed feed' out out' ended writes does = does
+over_both (Tags false tagsfile format files) t feed feed' out out' ended writes does = cc

@@ -1,0 +1,86 @@
+-- How the program ends: its exit status and what it says on standard error.
+use Rattle.std.specs.Prelude.{◌≡◌, ℕ, false, List, [], ◌++◌, codes, map, string_bytes}
+use Rattle.std.specs.Io.KnownBytes.{Appends}
+use Rattle.std.specs.List.{slice_index_or}
+use Rattle.cb_desk.specs.Refusals.{text_of}
+use Rattle.cb_session.specs.declared.input.Ended.{Ended}
+use Rattle.cb_session.specs.declared.input.Ended.TheVariants.{Done, Cut, Fault, Operand}
+use Rattle.cb_session.specs.declared.input.Fault.{Fault as Reason}
+use Rattle.cb_session.specs.declared.input.Fault.TheVariants.{Read, Write, Memory, LongLine, ManyLines}
+use Rattle.cb_tags.specs.Writers.{Writer}
+use Rattle.cb_tags.specs.Writing.{AppendsPrefix}
+use Rattle.cbrowse.specs.declared.execute.finish.Finish.{Finish}
+use Rattle.cbrowse.specs.declared.execute.finish.Finish.TheVariants.{Ran, Unreadable, Unwritable}
+use Rattle.cbrowse.specs.declared.job.Job.{Job}
+use Rattle.cbrowse.specs.declared.job.Job.TheVariants.{Line, Tags}
+use Rattle.cbrowse.specs.declared.job.Usage.{Usage}
+use Rattle.cbrowse.specs.declared.job.Usage.TheVariants.{Help, Wrong, Memory as NoMemory}
+
+-- the names of a job's files
+abbrev pub files_of : Job → List (List ℕ)
+files_of (Line files) = map string_bytes files.items
+files_of (Tags listing tagsfile format files) = map string_bytes files.items
+
+-- the name of a job's tags file
+abbrev pub tagsfile_of : Job → List ℕ
+tagsfile_of (Line files) = []
+tagsfile_of (Tags listing tagsfile format files) = string_bytes tagsfile
+
+-- a line that names the program
+abbrev pub error_line : List ℕ → List ℕ
+error_line text = codes "cbrowse: " ++ text ++ codes "\n"
+
+-- a line that names the program and a file
+abbrev pub file_line : List ℕ → List ℕ → List ℕ
+file_line name text = codes "cbrowse: " ++ name ++ codes ": " ++ text ++ codes "\n"
+
+-- what a fault is called
+abbrev pub fault_text : Reason → List ℕ
+fault_text Read = codes "read fault"
+fault_text Write = codes "write fault"
+fault_text Memory = codes "out of memory"
+fault_text LongLine = codes "line over 1000000 bytes"
+fault_text ManyLines = codes "too many lines"
+
+-- what is said of a run over these files
+abbrev pub run_said : List (List ℕ) → Ended → List ℕ
+run_said files Done = []
+run_said files Cut = error_line (codes "input ended")
+run_said files (Fault fault) = error_line (fault_text fault)
+run_said files (Operand place why) = file_line (slice_index_or files place []) (text_of why)
+
+-- what is said of a job
+abbrev pub said_of : Job → Finish → List ℕ
+said_of job (Ran ended) = run_said (files_of job) ended
+said_of job (Unreadable place) = file_line (slice_index_or (files_of job) place []) (codes "cannot be read")
+said_of job Unwritable = file_line (tagsfile_of job) (codes "cannot be written")
+
+-- the exit status of a run
+abbrev pub run_status : Ended → ℕ
+run_status Done = 0
+run_status Cut = 1
+run_status (Fault fault) = 1
+run_status (Operand place why) = 1
+
+-- the exit status of a job
+abbrev pub status_of : Finish → ℕ
+status_of (Ran ended) = run_status ended
+status_of (Unreadable place) = 1
+status_of Unwritable = 1
+
+-- the exit status where there is no job
+abbrev pub usage_status : Usage → ℕ
+usage_status (Help text) = 0
+usage_status (Wrong text) = 2
+usage_status NoMemory = 1
+
+-- what is said then: clap's text as it is
+abbrev pub usage_said : Usage → List ℕ
+usage_said (Help text) = string_bytes text
+usage_said (Wrong text) = string_bytes text
+usage_said NoMemory = error_line (codes "out of memory")
+
+-- the whole text is on standard error, unless that has failed; then a prefix of it is
+pub record Says (old new : Writer) (text : List ℕ) : Type 0 where
+  pub whole : new.failed ≡ false → Appends old.bytes new.bytes text
+  pub prefix : AppendsPrefix old.bytes new.bytes text
