@@ -16,7 +16,7 @@ use Rattle.cb_desk.specs.Answer.{defines}
 use Rattle.cb_desk.specs.declared.limits.TheConstants.{MOST_BYTES}
 use Rattle.cb_desk.specs.World.{File, Frame, is_named, has_file, text_of_file, IsAscending, IsFrameOf}
 use Rattle.cb_desk.specs.Files.{is_before, with_file, without_file}
-use Rattle.cb_desk.specs.Stack.{renamed_frame, without_frames, renamed_frames, places_in, places, nth}
+use Rattle.cb_desk.specs.Stack.{renamed_frame, places_in, places, nth}
 use Rattle.cb_desk.proofs.Placed.{by_name}
 use Rattle.cb_desk.proofs.Valid.{all-along, all-both, all-filter, all-join, all-passed}
 

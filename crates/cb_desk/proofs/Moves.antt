@@ -1,12 +1,12 @@
 -- What changes, undos and redos do to a timeline.
-use Rattle.std.proofs.Common.{◌≡◌, ◌∙◌, sym, ap, refl, subst, ℕ, ◌<◌, Bool, true, false, cond, List, [], ◌∷◌, length, arith, Result, Ok, Err, Option, Some, None, nat_le}
+use Rattle.std.proofs.Common.{◌≡◌, ◌∙◌, sym, ap, refl, subst, ◌<◌, Bool, true, false, cond, List, [], ◌∷◌, length, arith, Result, Ok, Err, Option, Some, None, nat_le}
 use Rattle.std.specs.List.{AllByRecursion}
 use Rattle.cb_desk.specs.declared.limits.TheConstants.{MOST_CHANGES}
 use Rattle.cb_desk.specs.declared.refusal.Refusal.{Refusal}
 use Rattle.cb_desk.specs.declared.refusal.Refusal.TheVariants.{HistoryFull, OutOfMemory}
 use Rattle.cb_desk.specs.World.{World, IsValidWorld}
-use Rattle.cb_desk.specs.Step.{Step, load, unload, rename, tag, pop, refusal_of, after, step, unless_refused}
-use Rattle.cb_desk.specs.Timeline.{Timeline, IsValidTimeline, advanced, changed, back_to, undone, on_to, redone, judged, Changes}
+use Rattle.cb_desk.specs.Step.{Step, load, unload, rename, tag, pop, refusal_of, after, step}
+use Rattle.cb_desk.specs.Timeline.{Timeline, IsValidTimeline, moved_on, advanced, changed, back_to, undone, on_to, redone, judged, Changes}
 use Rattle.cb_desk.specs.Laws.{UndoTakesBack, RedoTakesBack}
 use Rattle.cb_desk.proofs.StepsValid.{step_keeps_valid}
 
@@ -16,19 +16,16 @@ same-Ok a b r e h = cc
 abbrev pub accepted : World → Result World Refusal
 accepted w = Ok w
 
--- the timeline whose present has joined the past
-abbrev pub forth : Timeline → World → Timeline
-forth t w = record { past = t.present ∷ t.past; present = w; future = [] }
-
 -- an accepted change: the step was accepted, and the old present joins the past
 pub record Advances (t u : Timeline) (w : World) : Type 0 where
   pub short : length t.past < MOST_CHANGES
-  pub is : u ≡ forth t w
+  pub is : u ≡ moved_on t w
 
 pub advanced-Ok : (t u : Timeline) (r : Result World Refusal) → advanced t r ≡ Ok u → (w : World) × (r ≡ Ok w) × Advances t u w
 advanced-Ok t u (Err e) h = cc
 advanced-Ok t u (Ok w) h =
-    (elim (nat_le MOST_CHANGES (length t.past)) as (λ b. nat_le MOST_CHANGES (length t.past) ≡ b → cond b (Err HistoryFull) (Ok (forth t w)) ≡ Ok u → (v : World) × (accepted w ≡ Ok v) × Advances t u v) [
+    let Q : Type 0 = (v : World) × (accepted w ≡ Ok v) × Advances t u v in
+    (elim (nat_le MOST_CHANGES (length t.past)) as (λ b. nat_le MOST_CHANGES (length t.past) ≡ b → cond b (Err HistoryFull) (Ok (moved_on t w)) ≡ Ok u → Q) [
       | true ↦ λ full k. cc
       | false ↦ λ full k. (w, refl, record { short = grind arith; is = cc })
     ]) refl h
@@ -58,14 +55,14 @@ unfolding undone redone
 redo_takes_back = record { undo = λ t u h. redo-undone t.past t u refl h; redo = λ t u h. undo-redone t.future t u refl h }
 
 -- a change of a valid timeline to a valid world
-pub forth-valid : (t : Timeline) (w : World) → IsValidTimeline t → IsValidWorld w → length t.past < MOST_CHANGES → IsValidTimeline (forth t w)
-forth-valid t w valid next short = record { before = (valid.now, valid.before); now = next; later = tt; bounded = omega (arith, short) }
+pub moved_on-valid : (t : Timeline) (w : World) → IsValidTimeline t → IsValidWorld w → length t.past < MOST_CHANGES → IsValidTimeline (moved_on t w)
+moved_on-valid t w valid next short = record { before = (valid.now, valid.before); now = next; later = tt; bounded = omega (arith, short) }
 
 pub change_keeps_valid : (t u : Timeline) (s : Step) → IsValidTimeline t → changed t s ≡ Ok u → IsValidTimeline u
 unfolding changed
 change_keeps_valid t u s valid h =
     let found = advanced-Ok t u (step t.present s) h in
-    rw found.2.is (forth-valid t found.0 valid (step_keeps_valid t.present found.0 s valid.now found.1) found.2.short)
+    rw found.2.is (moved_on-valid t found.0 valid (step_keeps_valid t.present found.0 s valid.now found.1) found.2.short)
 
 back-valid : (past : List World) (t u : Timeline) → t.past ≡ past → IsValidTimeline t → back_to past t ≡ Ok u → IsValidTimeline u
 back-valid [] t u e valid h = cc
@@ -100,50 +97,53 @@ unfolding redone
 redo_keeps_valid t u valid h = on-valid t.future t u refl valid h
 
 -- ---- changes as they are judged and done
-same-when-refused : (s : Step) (t : Timeline) → judged true s (Ok t) ≡ Err OutOfMemory
-same-when-refused (load name bytes) t = refl
-same-when-refused (unload name) t = refl
-same-when-refused (rename old new) t = refl
-same-when-refused (tag name n) t = refl
-same-when-refused pop t = refl
+no-memory-when-done : (s : Step) (t : Timeline) → judged true s (Ok t) ≡ Err OutOfMemory
+no-memory-when-done (load name bytes) t = refl
+no-memory-when-done (unload name) t = refl
+no-memory-when-done (rename old new) t = refl
+no-memory-when-done (tag name n) t = refl
+no-memory-when-done pop t = refl
 
 none-from : (o : Option Refusal) → ((r : Refusal) → o ≡ Some r → ⊥) → o ≡ None
 none-from None h = refl
 none-from (Some r) h = absurd (h r refl)
 
--- a desk changes its timeline by a step of its present world, as it sees that world
-module _ (t : Timeline) (s : Step) (present : World) (same : present ≡ t.present) where
-  module _ (o : Option Refusal) (judged-so : o ≡ refusal_of present s) where
-    -- the step is refused
-    pub refused : (r : Refusal) → o ≡ Some r → Changes s t t (Err r)
-    unfolding changed step
-    refused r is = (false, (rw (← same, ← judged-so, is) refl, refl))
+-- a desk judges a step by its present world, and finds o
+module _ (t : Timeline) (s : Step) (present : World) (same : present ≡ t.present)
+    (o : Option Refusal) (found : o ≡ refusal_of present s) where
+  -- the step is refused
+  pub refused : (r : Refusal) → o ≡ Some r → Changes s t t (Err r)
+  unfolding changed step
+  refused r is = (false, (rw (← same, ← found, is) refl, refl))
 
-    module _ (due : (r : Refusal) → o ≡ Some r → ⊥) where
-      pub accepted-so : refusal_of present s ≡ None
-      accepted-so = sym judged-so ∙ none-from o due
+  module _ (due : (r : Refusal) → o ≡ Some r → ⊥) where
+    accepted-step : step t.present s ≡ Ok (after t.present s)
+    unfolding step
+    accepted-step = let none = sym found ∙ none-from o due in rw (← same, none) refl
 
-      is-accepted : step t.present s ≡ Ok (after t.present s)
-      unfolding step
-      is-accepted = rw (← same, accepted-so) refl
+    -- the next world is valid
+    pub valid-after : (w : World) → IsValidWorld present → w ≡ after present s → IsValidWorld w
+    valid-after w valid is =
+        step_keeps_valid t.present w s (subst IsValidWorld same valid) (accepted-step ∙ rw (is, same) refl)
 
+    module _ (b : Bool) (is : b ≡ nat_le MOST_CHANGES (length t.past)) where
       -- the past is full
-      pub full : (b : Bool) → b ≡ nat_le MOST_CHANGES (length t.past) → b ≡ true → Changes s t t (Err HistoryFull)
+      pub full : b ≡ true → Changes s t t (Err HistoryFull)
       unfolding changed
-      full b is long = let l = sym is ∙ long in (false, (rw (is-accepted, l) refl, refl))
+      full long = let l = sym is ∙ long in (false, (rw (accepted-step, l) refl, refl))
 
       -- memory is refused to a step that would be done
-      pub no-memory : (b : Bool) (u : Timeline) (e : Result (Unit {0}) Refusal) → b ≡ nat_le MOST_CHANGES (length t.past) → b ≡ false → u ≡ t → e ≡ Err OutOfMemory → Changes s t u e
+      pub no-memory : b ≡ false → (u : Timeline) → u ≡ t
+          → (e : Result (Unit {0}) Refusal) → e ≡ Err OutOfMemory → Changes s t u e
       unfolding changed
-      no-memory b u e is short kept err =
+      no-memory short u kept e err =
           let l = sym is ∙ short in
-          rw (kept, err) (true, (rw (is-accepted, l) (same-when-refused s (forth t (after t.present s))), refl))
-
-      -- the next world is valid
-      pub valid-after : (w : World) → IsValidWorld present → w ≡ after present s → IsValidWorld w
-      valid-after w valid is = step_keeps_valid t.present w s (subst IsValidWorld same valid) (is-accepted ∙ rw (is, same) refl)
+          let refused = no-memory-when-done s (moved_on t (after t.present s)) in
+          rw (kept, err) (true, (rw (accepted-step, l) refused, refl))
 
       -- the step is done
-      pub done : (b : Bool) (u : Timeline) (w : World) → b ≡ nat_le MOST_CHANGES (length t.past) → b ≡ false → w ≡ after present s → u ≡ forth t w → Changes s t u (Ok tt)
+      pub done : b ≡ false → (u : Timeline) (w : World) → w ≡ after present s → u ≡ moved_on t w
+          → Changes s t u (Ok tt)
       unfolding changed
-      done b u w is short made ends = let l = sym is ∙ short in (false, rw (is-accepted, l, ends, made, same) refl)
+      done short u w made ends =
+          let l = sym is ∙ short in (false, rw (accepted-step, l, ends, made, same) refl)

@@ -1,5 +1,5 @@
 -- Steps keep a world valid.
-use Rattle.std.proofs.Common.{◌≡◌, refl, ℕ, ◌≤◌, ◌<◌, true, false, not, cond, List, [], ◌∷◌, length, arith, Result, Ok, Option, Some, None, nat_le, nat_lt}
+use Rattle.std.proofs.Common.{◌≡◌, refl, ℕ, ◌≤◌, ◌<◌, Bool, true, false, not, cond, List, [], ◌∷◌, length, arith, Ok, Option, Some, None, nat_le, nat_lt}
 use Rattle.cb_desk.specs.declared.limits.TheConstants.{MOST_BYTES, MOST_FILES}
 use Rattle.cb_desk.specs.declared.refusal.Refusal.{Refusal}
 use Rattle.cb_desk.specs.declared.refusal.Refusal.TheVariants.{BadName, NoSuchFile, FileExists, TooLarge, TooManyFiles}
@@ -16,47 +16,44 @@ not-refused : (o : Option Refusal) (w v : World) → unless_refused o w ≡ Ok v
 not-refused None w v e = (refl, cc)
 not-refused (Some r) w v e = cc
 
--- what an accepted load says of the file
-pub record Loadable (w : World) (name bytes : List ℕ) : Type 0 where
-  pub good : is_file_name name ≡ true
-  pub fresh : has_file w.files name ≡ false
-  pub small : length bytes ≤ MOST_BYTES
-  pub room : length w.files < MOST_FILES
+-- the first test of a list of refusals is passed, and what is left accepts too
+passed : (b : Bool) (r : Refusal) (rest : Option Refusal) → cond b (Some r) rest ≡ None → (b ≡ false) × (rest ≡ None)
+passed true r rest e = cc
+passed false r rest e = (refl, e)
 
-pub loadable : (w : World) (name bytes : List ℕ) → load_refusal w name bytes ≡ None → Loadable w name bytes
+not-false : (b : Bool) → not b ≡ false → b ≡ true
+not-false true e = refl
+not-false false e = cc
+
+-- what an accepted load says of the file
+record Loadable (w : World) (name bytes : List ℕ) : Type 0 where
+  good : is_file_name name ≡ true
+  fresh : has_file w.files name ≡ false
+  small : length bytes ≤ MOST_BYTES
+  room : length w.files < MOST_FILES
+
+loadable : (w : World) (name bytes : List ℕ) → load_refusal w name bytes ≡ None → Loadable w name bytes
 loadable w name bytes none =
-    (elim (is_file_name name) as (λ b. is_file_name name ≡ b → cond (not b) (Some BadName) (cond (has_file w.files name) (Some FileExists) (cond (nat_lt MOST_BYTES (length bytes)) (Some TooLarge) (cond (nat_le MOST_FILES (length w.files)) (Some TooManyFiles) None))) ≡ None → Loadable w name bytes) [
-      | false ↦ λ good k. cc
-      | true ↦ λ good. (elim (has_file w.files name) as (λ b. has_file w.files name ≡ b → cond b (Some FileExists) (cond (nat_lt MOST_BYTES (length bytes)) (Some TooLarge) (cond (nat_le MOST_FILES (length w.files)) (Some TooManyFiles) None)) ≡ None → Loadable w name bytes) [
-        | true ↦ λ fresh k. cc
-        | false ↦ λ fresh. (elim (nat_lt MOST_BYTES (length bytes)) as (λ b. nat_lt MOST_BYTES (length bytes) ≡ b → cond b (Some TooLarge) (cond (nat_le MOST_FILES (length w.files)) (Some TooManyFiles) None) ≡ None → Loadable w name bytes) [
-          | true ↦ λ small k. cc
-          | false ↦ λ small. (elim (nat_le MOST_FILES (length w.files)) as (λ b. nat_le MOST_FILES (length w.files) ≡ b → cond b (Some TooManyFiles) None ≡ None → Loadable w name bytes) [
-            | true ↦ λ room k. cc
-            | false ↦ λ room k. record { good = good; fresh = fresh; small = grind arith; room = grind arith }
-          ]) refl
-        ]) refl
-      ]) refl
-    ]) refl none
+    let named = passed (not (is_file_name name)) BadName _ none in
+    let new = passed (has_file w.files name) FileExists _ named.1 in
+    let sized = passed (nat_lt MOST_BYTES (length bytes)) TooLarge _ new.1 in
+    let counted = passed (nat_le MOST_FILES (length w.files)) TooManyFiles _ sized.1 in
+    let small = sized.0 in
+    let room = counted.0 in
+    record { good = not-false _ named.0; fresh = new.0; small = grind (arith, small); room = grind (arith, room) }
 
 -- what an accepted rename says of the names
-pub record Renamable (w : World) (old new : List ℕ) : Type 0 where
-  pub good : is_file_name new ≡ true
-  pub there : has_file w.files old ≡ true
-  pub fresh : has_file w.files new ≡ false
+record Renamable (w : World) (old new : List ℕ) : Type 0 where
+  good : is_file_name new ≡ true
+  there : has_file w.files old ≡ true
+  fresh : has_file w.files new ≡ false
 
-pub renamable : (w : World) (old new : List ℕ) → rename_refusal w old new ≡ None → Renamable w old new
+renamable : (w : World) (old new : List ℕ) → rename_refusal w old new ≡ None → Renamable w old new
 renamable w old new none =
-    (elim (is_file_name new) as (λ b. is_file_name new ≡ b → cond (not b) (Some BadName) (cond (not (has_file w.files old)) (Some NoSuchFile) (cond (has_file w.files new) (Some FileExists) None)) ≡ None → Renamable w old new) [
-      | false ↦ λ good k. cc
-      | true ↦ λ good. (elim (has_file w.files old) as (λ b. has_file w.files old ≡ b → cond (not b) (Some NoSuchFile) (cond (has_file w.files new) (Some FileExists) None) ≡ None → Renamable w old new) [
-        | false ↦ λ there k. cc
-        | true ↦ λ there. (elim (has_file w.files new) as (λ b. has_file w.files new ≡ b → cond b (Some FileExists) None ≡ None → Renamable w old new) [
-          | true ↦ λ fresh k. cc
-          | false ↦ λ fresh k. record { good = good; there = there; fresh = fresh }
-        ]) refl
-      ]) refl
-    ]) refl none
+    let named = passed (not (is_file_name new)) BadName _ none in
+    let there = passed (not (has_file w.files old)) NoSuchFile _ named.1 in
+    let fresh = passed (has_file w.files new) FileExists _ there.1 in
+    record { good = not-false _ named.0; there = not-false _ there.0; fresh = fresh.0 }
 
 -- the file of the new name
 abbrev file_of_new : World → List ℕ → List ℕ → File

@@ -7,7 +7,8 @@ use Rattle.cb_desk.specs.Timeline.{Timeline, changed, undone, redone, IsValidTim
 -- an accepted change followed by undo gives back the past and the present, and the new world is
 -- the future
 abbrev pub UndoTakesBack : Type 0
-UndoTakesBack = (t u : Timeline) (s : Step) → changed t s ≡ Ok u → undone u ≡ Ok (record t { future = u.present ∷ [] })
+UndoTakesBack =
+    (t u : Timeline) (s : Step) → changed t s ≡ Ok u → undone u ≡ Ok (record t { future = u.present ∷ [] })
 
 -- an undo followed by redo, and a redo followed by undo, give the timeline back
 pub record RedoTakesBack : Type 0 where

@@ -27,7 +27,8 @@ renamed_frames old new frames = map (renamed_frame old new) frames
 
 -- the places of the definitions of a name in a file
 abbrev pub places_in : List ℕ → File → List Frame
-places_in name f = map (λ (d : Def). record { file = f.name; line = d.line }) (filter (defines f.bytes name) (definitions f.bytes))
+places_in name f =
+    map (λ (d : Def). record { file = f.name; line = d.line }) (filter (defines f.bytes name) (definitions f.bytes))
 
 -- those of all files, by file and place; equal ones all count
 abbrev pub places : List File → List ℕ → List Frame

@@ -1,7 +1,7 @@
 -- What changes do to small worlds, computed. Expected worlds and refusals are worked out by hand.
 use Rattle.std.specs.Prelude.{◌≡◌, ℕ, List, [], ◌∷◌, Ok, Err, codes, refl}
-use Rattle.cb_scan.specs.Definitions.{definitions}
-use Rattle.cb_scan.specs.FunctionExamples.{finding}
+use Rattle.cb_scan.specs.Definitions.{definitions_from}
+use Rattle.cb_scan.specs.examples.Functions.{finding}
 use Rattle.cb_scan.specs.Order.{put, in_order}
 use Rattle.cb_desk.specs.declared.refusal.Refusal.TheVariants.{BadName, NoSuchFile, FileExists, NoSuchDefinition, StackEmpty}
 use Rattle.cb_desk.specs.World.{World, File, Frame, empty_world, text_of_file}
@@ -16,65 +16,81 @@ abbrev frame : (name : List ℕ) (line : ℕ) → Frame
 frame name line = record { file = name; line = line }
 
 -- three files, and four frames of two of them
+abbrev a : File
+a = file (codes "a.c") (codes "x;\ny;")
+
+abbrev b : File
+b = file (codes "b.h") (codes "z;")
+
+abbrev d : File
+d = file (codes "d.c") []
+
+abbrev at_a : ℕ → Frame
+at_a line = frame (codes "a.c") line
+
+abbrev at_b : Frame
+at_b = frame (codes "b.h") 1
+
 abbrev three_files : World
-three_files = record {
-  files = file (codes "a.c") (codes "x;\ny;") ∷ file (codes "b.h") (codes "z;") ∷ file (codes "d.c") [] ∷ [];
-  frames = frame (codes "a.c") 2 ∷ frame (codes "b.h") 1 ∷ frame (codes "a.c") 1 ∷ frame (codes "b.h") 1 ∷ [];
-}
+three_files = record { files = a ∷ b ∷ d ∷ []; frames = at_a 2 ∷ at_b ∷ at_a 1 ∷ at_b ∷ [] }
 
 -- a file is put between those of a lower and a higher name, and the frames stay
-pub loaded_in_order : step three_files (load (codes "c.c") (codes "new")) ≡ Ok (record three_files {
-  files = file (codes "a.c") (codes "x;\ny;") ∷ file (codes "b.h") (codes "z;") ∷ file (codes "c.c") (codes "new") ∷ file (codes "d.c") [] ∷ [];
-})
+pub loaded_in_order : step three_files (load (codes "c.c") (codes "new"))
+    ≡ Ok (record three_files { files = a ∷ b ∷ file (codes "c.c") (codes "new") ∷ d ∷ [] })
 unfolding step
 loaded_in_order = refl
 
 -- capital letters come first
-pub loaded_first : step (record three_files { frames = [] }) (load (codes "Z.c") []) ≡ Ok (record {
-  files = file (codes "Z.c") [] ∷ three_files.files;
-  frames = [];
-})
+pub loaded_first : step (record three_files { frames = [] }) (load (codes "Z.c") [])
+    ≡ Ok (record { files = file (codes "Z.c") [] ∷ a ∷ b ∷ d ∷ []; frames = [] })
 unfolding step
 loaded_first = refl
 
 -- a file is taken away with its frames, and the others keep their order
-pub unloaded_with_frames : step three_files (unload (codes "a.c")) ≡ Ok (record {
-  files = file (codes "b.h") (codes "z;") ∷ file (codes "d.c") [] ∷ [];
-  frames = frame (codes "b.h") 1 ∷ frame (codes "b.h") 1 ∷ [];
-})
+pub unloaded_with_frames : step three_files (unload (codes "a.c"))
+    ≡ Ok (record { files = b ∷ d ∷ []; frames = at_b ∷ at_b ∷ [] })
 unfolding step
 unloaded_with_frames = refl
 
+-- the file of the text of `a`, under its new name
+abbrev c : File
+c = file (codes "c.h") (codes "x;\ny;")
+
 -- a renamed file goes to its new place, and its frames keep theirs
 pub renamed_in_place : step three_files (rename (codes "a.c") (codes "c.h")) ≡ Ok (record {
-  files = file (codes "b.h") (codes "z;") ∷ file (codes "c.h") (codes "x;\ny;") ∷ file (codes "d.c") [] ∷ [];
-  frames = frame (codes "c.h") 2 ∷ frame (codes "b.h") 1 ∷ frame (codes "c.h") 1 ∷ frame (codes "b.h") 1 ∷ [];
+  files = b ∷ c ∷ d ∷ [];
+  frames = frame (codes "c.h") 2 ∷ at_b ∷ frame (codes "c.h") 1 ∷ at_b ∷ [];
 })
 unfolding step text_of_file
 renamed_in_place = refl
 
 -- the top frame is the last one
-pub popped_top : step three_files pop ≡ Ok (record three_files {
-  frames = frame (codes "a.c") 2 ∷ frame (codes "b.h") 1 ∷ frame (codes "a.c") 1 ∷ [];
-})
+pub popped_top : step three_files pop
+    ≡ Ok (record three_files { frames = at_a 2 ∷ at_b ∷ at_a 1 ∷ [] })
 unfolding step
 popped_top = refl
 
--- definitions of a name count by file and place, equal places included
+-- two functions `f` on one line, and a third one in another file
 abbrev functions_f : World
-functions_f = record { files = file (codes "a.c") (codes "\nf(){}f(){}") ∷ file (codes "b.c") (codes "f(){}") ∷ []; frames = frame (codes "b.c") 1 ∷ [] }
+functions_f = record {
+  files = file (codes "a.c") (codes "\nf(){}f(){}") ∷ file (codes "b.c") (codes "f(){}") ∷ [];
+  frames = frame (codes "b.c") 1 ∷ [];
+}
 
-pub tagged_second : step functions_f (tag (codes "f") 2) ≡ Ok (record functions_f { frames = frame (codes "b.c") 1 ∷ frame (codes "a.c") 2 ∷ [] })
-unfolding step definitions put in_order finding
+-- definitions of a name count by file and place, equal places included
+pub tagged_second : step functions_f (tag (codes "f") 2)
+    ≡ Ok (record functions_f { frames = frame (codes "b.c") 1 ∷ at_a 2 ∷ [] })
+unfolding step definitions_from put in_order finding
 tagged_second = refl
 
-pub tagged_third : step functions_f (tag (codes "f") 3) ≡ Ok (record functions_f { frames = frame (codes "b.c") 1 ∷ frame (codes "b.c") 1 ∷ [] })
-unfolding step definitions put in_order finding
+pub tagged_third : step functions_f (tag (codes "f") 3)
+    ≡ Ok (record functions_f { frames = frame (codes "b.c") 1 ∷ frame (codes "b.c") 1 ∷ [] })
+unfolding step definitions_from put in_order finding
 tagged_third = refl
 
 -- there is no fourth, and none has the number 0
 pub no_fourth : step functions_f (tag (codes "f") 4) ≡ Err NoSuchDefinition
-unfolding step definitions put in_order finding
+unfolding step definitions_from put in_order finding
 no_fourth = refl
 
 pub no_definition_0 : step functions_f (tag (codes "f") 0) ≡ Err NoSuchDefinition
@@ -90,10 +106,12 @@ pub no_file_before_file_exists : step three_files (rename (codes "q.c") (codes "
 unfolding step
 no_file_before_file_exists = refl
 
+-- a file can't get the name that it has
 pub renamed_to_itself : step three_files (rename (codes "a.c") (codes "a.c")) ≡ Err FileExists
 unfolding step
 renamed_to_itself = refl
 
+-- a name that is there can't be loaded, and one that is not there can't be unloaded
 pub loaded_twice : step three_files (load (codes "a.c") []) ≡ Err FileExists
 unfolding step
 loaded_twice = refl
@@ -102,6 +120,7 @@ pub unloaded_nothing : step three_files (unload (codes "q.c")) ≡ Err NoSuchFil
 unfolding step
 unloaded_nothing = refl
 
+-- an empty stack has no top
 pub popped_nothing : step empty_world pop ≡ Err StackEmpty
 unfolding step
 popped_nothing = refl

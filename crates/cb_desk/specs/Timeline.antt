@@ -25,13 +25,14 @@ pub record IsValidTimeline (t : Timeline) : Type 0 where
   pub later : AllByRecursion IsValidWorld t.future
   pub bounded : length t.past + length t.future ≤ MOST_CHANGES
 
--- the timeline with a new present, or why there is none: the old present joins the past, and the
--- future is gone
+-- the timeline with a new present: the old one joins the past, and the future is gone
+abbrev pub moved_on : Timeline → World → Timeline
+moved_on t w = record { past = t.present ∷ t.past; present = w; future = [] }
+
+-- the timeline moved on to a new world, or why there is none
 abbrev pub advanced : Timeline → Result World Refusal → Result Timeline Refusal
 advanced t (Err r) = Err r
-advanced t (Ok w) =
-    if nat_le MOST_CHANGES (length t.past) then Err HistoryFull
-    else Ok (record { past = t.present ∷ t.past; present = w; future = [] })
+advanced t (Ok w) = if nat_le MOST_CHANGES (length t.past) then Err HistoryFull else Ok (moved_on t w)
 
 -- the timeline after a change
 unfoldable pub changed : Timeline → Step → Result Timeline Refusal

@@ -1,3 +1,4 @@
 pub mod Collects
 pub mod Scans
+pub mod SharedFiles
 pub mod Worlds

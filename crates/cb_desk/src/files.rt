@@ -1,7 +1,8 @@
 //! The files of a world, one after another.
-ghost use Rattle.std.specs.Prelude.{◌≡◌, map};
+ghost use Rattle.std.specs.Prelude.{◌≡◌};
 ghost use Rattle.std.specs.Iterator.{YieldsFirstBy, item_count};
 ghost use Rattle.cb_desk.specs.Models.{file_of};
+ghost use Rattle.cb_desk.specs.steps.SharedFiles.{files_of};
 
 mod list;
 mod stored;
@@ -19,17 +20,18 @@ pub struct Files<'a> {
 }
 
 impl<'a> Model for Files<'a> {
-    ghost use Rattle.std.specs.Prelude.{List, map};
+    ghost use Rattle.std.specs.Prelude.{List};
     ghost use Rattle.cb_desk.specs.World.{File};
+    ghost use Rattle.cb_desk.specs.steps.SharedFiles.{files_of};
 
     ghost Value = { List File };
 
-    ghost view = { λ f. map (λ shared. shared.value) f.rest.now };
+    ghost view = { λ f. files_of f.rest.now };
 }
 
 impl<'a> Files<'a> {
     pub(crate) fn new(files: &'a [Rc<StoredFile>]) -> Files<'a>
-        ensures { result ≡ map (λ shared. shared.value) files.now }
+        ensures { result ≡ files_of files.now }
     {
         Files { rest: files }
     }

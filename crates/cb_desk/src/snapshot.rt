@@ -25,12 +25,12 @@ pub(crate) struct Snapshot {
 }
 
 impl Model for Snapshot {
-    ghost use Rattle.std.specs.Prelude.{map};
     ghost use Rattle.cb_desk.specs.World.{World};
+    ghost use Rattle.cb_desk.specs.steps.SharedFiles.{files_of};
 
     ghost Value = { World };
 
-    ghost view = { λ s. record { files = map (λ shared. shared.value) s.files.items; frames = s.frames.items } };
+    ghost view = { λ s. record { files = files_of s.files.items; frames = s.frames.items } };
 }
 
 impl Snapshot {

@@ -1,8 +1,8 @@
 //! The state of a session.
-ghost use Rattle.std.specs.Prelude.{◌≡◌, ◌≢◌, ◌<◌, ◌∷◌, [], length, IfOk, IfErr, MatchResult, nat_le};
+ghost use Rattle.std.specs.Prelude.{◌≡◌, ◌≢◌, ◌<◌, [], length, IfOk, IfErr, MatchResult, nat_le};
 ghost use Rattle.cb_desk.specs.declared.limits.TheConstants.{MOST_CHANGES};
 ghost use Rattle.cb_desk.specs.World.{IsValidWorld};
-ghost use Rattle.cb_desk.specs.Timeline.{new_timeline, undone, redone, Moves, Changes};
+ghost use Rattle.cb_desk.specs.Timeline.{new_timeline, moved_on, undone, redone, Moves, Changes};
 ghost use Rattle.cb_desk.specs.Answer.{answer};
 ghost use Rattle.cb_desk.specs.Tags.{tags};
 ghost use Rattle.cb_desk.specs.Models.{step_of};
@@ -79,7 +79,7 @@ impl Desk {
     fn advance(&mut self, next: Snapshot) -> Result<(), AllocError>
         requires valid { IsValidWorld next }
         requires short { length self.old.past < MOST_CHANGES }
-        ensures { MatchResult result (λ _. self.new ≡ record { past = self.old.present ∷ self.old.past; present = next; future = [] }) (λ _. self.new ≡ self.old) }
+        ensures { MatchResult result (λ _. self.new ≡ moved_on self.old next) (λ _. self.new ≡ self.old) }
     {
         self.others.reserve(1)?;
         self.others.truncate(self.done);

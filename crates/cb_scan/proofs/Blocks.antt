@@ -1,12 +1,12 @@
--- Where a block note ends: the search for `*/` against the count of its bytes.
+-- Where a block comment ends: the search for `*/` against the count of its bytes.
 use Rattle.std.proofs.Common.{◌≡◌, ◌≢◌, ◌⊎◌, ◌+◌, ◌<◌, ◌≤◌, ℕ, zero, suc, Bool, true, false, ◌==◌, ◌&&◌, List, [], ◌∷◌, length, slice_index, Option, Some, None, codes, refl, sym, ap, subst, ◌∙◌, arith, ⊎_elim}
 use Rattle.std.proofs.lemmas.Bool.{cases_Bool, cases_eq, both_ways, cond-true, cond-false, cond_both, eqb-true, eq-eqb, and_from, and_parts, false_from_ne_true}
 use Rattle.memchr.specs.Find.{OccursAt, occurs_at, IsFirst, FindsNeedle}
 use Rattle.memchr.proofs.lemmas.MatchLemmas.{OccursAt-true, occurs_at-true}
-use Rattle.cb_scan.specs.Lexeme.{note_end}
+use Rattle.cb_scan.specs.lex.Lexeme.{comment_end}
 use Rattle.cb_scan.specs.steps.Cut.{block_len}
 
--- `*/` stands in xs from place k on
+-- `*/` is in xs from place k on
 record Closes (xs : List ℕ) (k : ℕ) : Type 0 where
   fits : k + 2 ≤ length xs
   star : slice_index xs k ≡ 42
@@ -119,6 +119,6 @@ pub finds_close : (xs : List ℕ) → (r : Option ℕ) × FindsNeedle xs (codes 
 finds_close xs = first_place (OccursAt xs (codes "*/")) (occurs_at xs (codes "*/")) (OccursAt-true xs (codes "*/")) (occurs_at-true xs (codes "*/")) (length xs + 1) 0 (length xs + 1) (omega arith)
 
 -- and it is where the count of bytes ends
-pub block_len-found : (xs : List ℕ) (r : Option ℕ) → FindsNeedle xs (codes "*/") 0 r → suc (suc (block_len false xs)) ≡ note_end (suc (suc (length xs))) r
+pub block_len-found : (xs : List ℕ) (r : Option ℕ) → FindsNeedle xs (codes "*/") 0 r → suc (suc (block_len false xs)) ≡ comment_end (suc (suc (length xs))) r
 block_len-found xs None h = ap (λ n. suc (suc n)) (block_len-none xs h)
 block_len-found xs (Some k) h = ap (λ n. suc (suc n)) (block_len-some xs k h) ∙ omega arith

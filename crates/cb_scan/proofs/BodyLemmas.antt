@@ -9,19 +9,19 @@ use Rattle.std.specs.List.{flat_map, list_any, range_with_len}
 use Rattle.std.specs.Option.{MatchOption, option_to_list, option_map, option_map_or}
 use Rattle.cb_scan.specs.declared.facts.Call.{Call}
 use Rattle.cb_scan.specs.declared.facts.Def.{Def}
-use Rattle.cb_scan.specs.declared.machine.Machine.{Machine}
-use Rattle.cb_scan.specs.declared.piece.Span.{Span}
-use Rattle.cb_scan.specs.declared.scope.Range.{Range}
-use Rattle.cb_scan.specs.declared.token.Token.{Token}
-use Rattle.cb_scan.specs.declared.token.Role.{Role}
-use Rattle.cb_scan.specs.declared.token.Role.TheVariants.{Word, Mark, Str, Other}
-use Rattle.cb_scan.specs.Depth.{depth, depth_after, head_start, follows_linkage, is_counted, closes, is_stop, token_at, no_token}
+use Rattle.cb_scan.specs.declared.rules.functions.Machine.{Machine}
+use Rattle.cb_scan.specs.declared.lex.piece.Span.{Span}
+use Rattle.cb_scan.specs.declared.rules.scope.Range.{Range}
+use Rattle.cb_scan.specs.declared.lex.token.Token.{Token}
+use Rattle.cb_scan.specs.declared.lex.token.Role.{Role}
+use Rattle.cb_scan.specs.declared.lex.token.Role.TheVariants.{Word, Mark, Str, Other}
+use Rattle.cb_scan.specs.rules.Depth.{depth, depth_after, head_start, follows_linkage, is_counted, closes, is_stop, token_at, no_token}
 use Rattle.cb_scan.specs.Definitions.{function_def}
-use Rattle.cb_scan.specs.Functions.{Function, close_from, defined_name, function_at, functions, head}
-use Rattle.cb_scan.specs.Scope.{function_range}
-use Rattle.cb_scan.specs.Tokens.{is_mark, is_name_token, is_static}
-use Rattle.cb_scan.specs.Uses.{call_at, call_of, calls_of_function, function_calls, is_call}
-use Rattle.cb_scan.specs.steps.Machine.{add, counts, empty_head, start, def_of, defined, found, is_after_linkage, next, next_body, next_depth, ends_all, closed, called, call_before, range_to, ranges_from, calls_from}
+use Rattle.cb_scan.specs.rules.Functions.{Function, close_from, defined_name, function_at, functions, head}
+use Rattle.cb_scan.specs.rules.Scope.{function_range}
+use Rattle.cb_scan.specs.lex.Tokens.{is_mark, is_name_token, is_static}
+use Rattle.cb_scan.specs.rules.Uses.{call_at, call_of, calls_of_function, function_calls, is_call}
+use Rattle.cb_scan.specs.steps.Functions.{add, counts, empty_head, start, def_of, defined, found, is_after_linkage, next, next_body, next_depth, ends_all, closed, called, call_before, range_to, ranges_from, calls_from}
 use Rattle.cb_scan.proofs.FunctionLemmas.{IsAt, step, depth_next, stops_is, found_is}
 
 -- the token directly before token k, unless it is a stop
@@ -244,7 +244,7 @@ call_told ts k caller = by_cases (is_stop ts k) refl
     by_cases true is = sym (ap (λ n. cond (n && is_mark 40 (token_at ts (suc k)).role) (call_of caller (token_at ts k) ∷ []) []) (no_name (token_at ts k).role _ _ _ is))
     by_cases false is = one (is_call (token_at ts k) (token_at ts (suc k)))
 
--- no token behind the last one calls it
+-- no token after the last one calls it
 no_call_at_end : (ts : List Token) (k : ℕ) (caller : Span) → length ts ≤ suc k → call_at ts caller k ≡ []
 no_call_at_end ts k caller past =
     let none : is_mark 40 (token_at ts (suc k)).role ≡ false = ap (λ (u : Token). is_mark 40 u.role) (get_or_past ts (suc k) no_token past) in

@@ -2,14 +2,14 @@
 use Rattle.std.proofs.Common.{◌≡◌, ◌⊎◌, ◌-◌, ◌<◌, ◌≤◌, ℕ, zero, suc, Bool, true, false, ◌==◌, ◌&&◌, ◌||◌, List, [], ◌∷◌, length, length-drop, take, drop, refl, sym, ap, subst, ◌∙◌, arith, inl, inr, ⊎_elim}
 use Rattle.std.proofs.lemmas.Bool.{eqb-true, and_from, and_parts, or_cases, or_left, or_right, true≢false}
 use Rattle.std.specs.List.{list_all, prefix_len}
-use Rattle.cb_scan.specs.declared.lexeme.Escape.TheVariants.{Plain}
-use Rattle.cb_scan.specs.declared.piece.Class.{Class}
-use Rattle.cb_scan.specs.declared.piece.Class.TheVariants.{Name, Number, Str, Chr, LineNote, BlockNote, Blank, Newline, Byte}
-use Rattle.cb_scan.specs.Lexeme.{is_letter, is_digit, is_word, is_blank, is_identifier, is_number, first_is, goes_on, all_go_on, note_end, Blanks, no_blank, a_blank, a_join, a_cr_join, Noted, Quoted, Spells, IsLexeme}
-use Rattle.cb_scan.specs.steps.Cut.{begins, ends_join, class_at, number_len, goes_on_blank, blank_len, note_len, literal_len, block_len, length_in, piece_len}
+use Rattle.cb_scan.specs.declared.lex.lexeme.Escape.TheVariants.{Plain}
+use Rattle.cb_scan.specs.declared.lex.piece.Class.{Class}
+use Rattle.cb_scan.specs.declared.lex.piece.Class.TheVariants.{Name, Number, Str, Chr, LineNote, BlockNote, Blank, Newline, Byte}
+use Rattle.cb_scan.specs.lex.Lexeme.{is_letter, is_digit, is_word, is_blank, is_identifier, is_number, first_is, goes_on, all_go_on, comment_end, Blanks, no_blank, a_blank, a_join, a_cr_join, Commented, Quoted, Spells, IsLexeme}
+use Rattle.cb_scan.specs.steps.Cut.{begins, ends_join, class_at, number_len, goes_on_blank, blank_len, comment_len, literal_len, block_len, length_in, piece_len}
 use Rattle.cb_scan.proofs.Blocks.{block_len-within, block_len-found, finds_close}
-use Rattle.cb_scan.proofs.Fronts.{Front, front, at_name, at_number, at_str, at_chr, at_line_note, at_block_note, at_blank, at_newline, at_byte, class-letter, class-number, class-quote, class-apostrophe, class-line_note, class-block_note, class-blank, class-join, class-cr_join, class-feed}
-use Rattle.cb_scan.proofs.Lengths.{list_all-prefix, prefix-step, prefix_within, prefix_longest, all_go_on-counted, number-step, number_longest, number_len-within, blank-step, blank_counted, blank_longest, blank_len-within, note_longest, note_spelled, note_len-within, IsQuote, literal_longest, literal_spelled, literal_len-within}
+use Rattle.cb_scan.proofs.Prefixes.{Prefix, prefix_of, at_name, at_number, at_str, at_chr, at_line_comment, at_block_comment, at_blank, at_newline, at_byte, class-letter, class-number, class-quote, class-apostrophe, class-line_comment, class-block_comment, class-blank, class-join, class-cr_join, class-feed}
+use Rattle.cb_scan.proofs.Lengths.{list_all-prefix, prefix-step, prefix_within, prefix_longest, all_go_on-counted, number-step, number_longest, number_len-within, blank-step, blank_counted, blank_longest, blank_len-within, comment_longest, comment_spelled, comment_len-within, IsQuote, literal_longest, literal_spelled, literal_len-within}
 
 pub quote : IsQuote 34
 quote = record { slash = refl; feed = refl }
@@ -43,7 +43,7 @@ record Bounds (n size : ℕ) : Type 0 where
   pub some : 1 ≤ n
   pub within : n ≤ size
 
-bounds_of : (b : ℕ) (rest : List ℕ) (class : Class) → Front b rest class → Bounds (length_in class (b ∷ rest)) (length (b ∷ rest))
+bounds_of : (b : ℕ) (rest : List ℕ) (class : Class) → Prefix b rest class → Bounds (length_in class (b ∷ rest)) (length (b ∷ rest))
 unfolding length_in
 bounds_of b rest Name (at_name t) =
     let step = prefix-step is_word b rest (letter-word b t) in
@@ -59,14 +59,14 @@ bounds_of b rest Str (at_str t) =
 bounds_of b rest Chr (at_chr t) =
     let inner = literal_len-within 39 apostrophe Plain rest in
     record { some = omega arith; within = omega arith }
-bounds_of b rest LineNote (at_line_note t) =
+bounds_of b rest LineNote (at_line_comment t) =
     let parts = and_parts (b == 47) (begins 47 rest) t in
     let more = second 47 rest parts.1 in
     let size = ap length more.1 in
-    let inner = note_len-within Plain (drop 1 rest) in
+    let inner = comment_len-within Plain (drop 1 rest) in
     let left : length (drop 1 rest) ≡ length rest - 1 = length-drop 1 rest in
     record { some = omega arith; within = omega arith }
-bounds_of b rest BlockNote (at_block_note t) =
+bounds_of b rest BlockNote (at_block_comment t) =
     let parts = and_parts (b == 47) (begins 42 rest) t in
     let more = second 42 rest parts.1 in
     let size = ap length more.1 in
@@ -80,11 +80,11 @@ bounds_of b rest Byte (at_byte f) = record { some = omega arith; within = omega 
 -- a piece takes a byte at least, and no more than there are
 pub piece-some : (text : List ℕ) → 0 < length text → 1 ≤ piece_len text
 piece-some [] some = absurd (omega arith)
-piece-some (b ∷ rest) some = let h = bounds_of b rest (class_at (b ∷ rest)) (front b rest) in h.some
+piece-some (b ∷ rest) some = let h = bounds_of b rest (class_at (b ∷ rest)) (prefix_of b rest) in h.some
 
 pub piece-within : (text : List ℕ) → 0 < length text → piece_len text ≤ length text
 piece-within [] some = absurd (omega arith)
-piece-within (b ∷ rest) some = let h = bounds_of b rest (class_at (b ∷ rest)) (front b rest) in h.within
+piece-within (b ∷ rest) some = let h = bounds_of b rest (class_at (b ∷ rest)) (prefix_of b rest) in h.within
 
 -- the same class by class, for the code that counts
 pub name_some : (text : List ℕ) → class_at text ≡ Name → 0 < length text → 1 ≤ prefix_len is_word text
@@ -99,15 +99,15 @@ pub blank_some : (text : List ℕ) → class_at text ≡ Blank → 0 < length te
 unfolding length_in
 blank_some text e some = subst (λ c. 1 ≤ length_in c text) e (piece-some text some)
 
-pub line_note_two : (text : List ℕ) → class_at text ≡ LineNote → 0 < length text → 2 ≤ length text
+pub line_comment_two : (text : List ℕ) → class_at text ≡ LineNote → 0 < length text → 2 ≤ length text
 unfolding length_in
-line_note_two text e some = let h = subst (λ c. length_in c text ≤ length text) e (piece-within text some) in omega arith
+line_comment_two text e some = let h = subst (λ c. length_in c text ≤ length text) e (piece-within text some) in omega arith
 
-pub block_note_two : (text : List ℕ) → class_at text ≡ BlockNote → 0 < length text → 2 ≤ length text
+pub block_comment_two : (text : List ℕ) → class_at text ≡ BlockNote → 0 < length text → 2 ≤ length text
 unfolding length_in
-block_note_two text e some = let h = subst (λ c. length_in c text ≤ length text) e (piece-within text some) in omega arith
+block_comment_two text e some = let h = subst (λ c. length_in c text ≤ length text) e (piece-within text some) in omega arith
 
-pub ruleset first_bytes = (name_some, number_some, blank_some, line_note_two, block_note_two)
+pub ruleset first_bytes = (name_some, number_some, blank_some, line_comment_two, block_comment_two)
 
 -- a test on the first byte, before and after a cut
 first_is-take : (p : ℕ → Bool) (n : ℕ) (xs : List ℕ) → first_is p (take n xs) ≡ true → first_is p xs ≡ true
@@ -123,9 +123,9 @@ digit_kept last (d ∷ xs) t =
     let goes : goes_on last d ≡ true = or_left _ _ (or_left _ _ (or_right (is_letter d) (is_digit d) t)) in
     subst (λ n. first_is is_digit (take n (d ∷ xs)) ≡ true) (sym (number-step last d xs goes)) t
 
-number_front : (b : ℕ) (rest more : List ℕ) → (first_is is_digit rest ≡ true → first_is is_digit more ≡ true)
+number_prefix : (b : ℕ) (rest more : List ℕ) → (first_is is_digit rest ≡ true → first_is is_digit more ≡ true)
     → (is_digit b || (b == 46 && first_is is_digit rest)) ≡ true → (is_digit b || (b == 46 && first_is is_digit more)) ≡ true
-number_front b rest more along t = ⊎_elim
+number_prefix b rest more along t = ⊎_elim
     (λ d. or_left (is_digit b) (b == 46 && first_is is_digit more) d)
     (λ e.
     let parts = and_parts (b == 46) (first_is is_digit rest) e in
@@ -133,7 +133,7 @@ number_front b rest more along t = ⊎_elim
     (or_cases (is_digit b) (b == 46 && first_is is_digit rest) t)
 
 -- what the class at a place counts is a lexeme of that class
-spelled : (b : ℕ) (rest : List ℕ) (class : Class) → Front b rest class → Spells class (b ∷ rest) (length_in class (b ∷ rest)) ⊎ (class ≡ Byte)
+spelled : (b : ℕ) (rest : List ℕ) (class : Class) → Prefix b rest class → Spells class (b ∷ rest) (length_in class (b ∷ rest)) ⊎ (class ≡ Byte)
 unfolding length_in is_identifier is_number
 spelled b rest Name (at_name t) =
     let inner = prefix_within is_word rest in
@@ -143,7 +143,7 @@ spelled b rest Number (at_number t) =
     let inner = number_len-within b rest in
     let taken = take (number_len b rest) rest in
     inl (subst (λ n. Spells Number (b ∷ rest) n) (sym (number-step 46 b rest (number-goes b rest t)))
-    (omega arith, and_from (is_digit b || (b == 46 && first_is is_digit taken)) (all_go_on b taken) (number_front b rest taken (digit_kept b rest) t) (all_go_on-counted b rest)))
+    (omega arith, and_from (is_digit b || (b == 46 && first_is is_digit taken)) (all_go_on b taken) (number_prefix b rest taken (digit_kept b rest) t) (all_go_on-counted b rest)))
 spelled b rest Str (at_str t) =
     let n = literal_len 34 Plain rest in
     let e : n ≡ suc n - 1 = omega arith in
@@ -152,13 +152,13 @@ spelled b rest Chr (at_chr t) =
     let n = literal_len 39 Plain rest in
     let e : n ≡ suc n - 1 = omega arith in
     inl (ap (λ x. x ∷ []) (eqb-true b 39 t), omega arith, subst (λ m. Quoted 39 rest m) e (literal_spelled 39 apostrophe rest))
-spelled b rest LineNote (at_line_note t) =
+spelled b rest LineNote (at_line_comment t) =
     let parts = and_parts (b == 47) (begins 47 rest) t in
     let more = second 47 rest parts.1 in
-    let n = note_len Plain (drop 1 rest) in
+    let n = comment_len Plain (drop 1 rest) in
     let e : n ≡ suc (suc n) - 2 = omega arith in
-    inl (ap (λ x. x ∷ take 1 rest) (eqb-true b 47 parts.0) ∙ ap (λ l. 47 ∷ take 1 l) more.1, omega arith, subst (λ m. Noted (drop 1 rest) m) e (note_spelled (drop 1 rest)))
-spelled b rest BlockNote (at_block_note t) =
+    inl (ap (λ x. x ∷ take 1 rest) (eqb-true b 47 parts.0) ∙ ap (λ l. 47 ∷ take 1 l) more.1, omega arith, subst (λ m. Commented (drop 1 rest) m) e (comment_spelled (drop 1 rest)))
+spelled b rest BlockNote (at_block_comment t) =
     let parts = and_parts (b == 47) (begins 42 rest) t in
     let more = second 42 rest parts.1 in
     let size = ap length more.1 in
@@ -168,7 +168,7 @@ spelled b rest BlockNote (at_block_note t) =
     let long : suc (suc (length xs)) ≡ length (b ∷ rest) = omega arith in
     inl (
       ap (λ x. x ∷ take 1 rest) (eqb-true b 47 parts.0) ∙ ap (λ l. 47 ∷ take 1 l) more.1,
-      (close.0, close.1, block_len-found xs close.0 close.1 ∙ ap (λ n. note_end n close.0) long),
+      (close.0, close.1, block_len-found xs close.0 close.1 ∙ ap (λ n. comment_end n close.0) long),
     )
 spelled b rest Blank (at_blank t) = inl (blank-some b rest t, blank_counted (length (b ∷ rest)) (b ∷ rest) (omega arith))
 spelled b rest Newline (at_newline t) = inl (ap (λ x. x ∷ []) (eqb-true b 10 t), refl)
@@ -207,7 +207,7 @@ number_parts text zero le t = absurd (true≢false (sym t))
 number_parts [] (suc n) le t = absurd (let x : ⊥ = omega arith in x)
 number_parts (b ∷ rest) (suc n) le t =
     let parts = and_parts (is_digit b || (b == 46 && first_is is_digit (take n rest))) (all_go_on b (take n rest)) t in
-    let start = number_front b (take n rest) rest (first_is-take is_digit n rest) parts.0 in
+    let start = number_prefix b (take n rest) rest (first_is-take is_digit n rest) parts.0 in
     (class-number b rest start, number_longest 46 (b ∷ rest) (suc n) le (and_from (goes_on 46 b) (all_go_on b (take n rest)) (number-goes b rest start) parts.1))
 
 -- a lexeme of a class says what the class is, and is no longer than what that class counts
@@ -222,15 +222,15 @@ parts_of Chr text n h =
     let inner = literal_longest 39 apostrophe h.2 in
     (first_from 39 Chr class-apostrophe text h.0, omega arith)
 parts_of LineNote text n h =
-    let inner = note_longest h.2 Plain in
-    let two = two_from 47 47 LineNote class-line_note text h.0 in
+    let inner = comment_longest h.2 Plain in
+    let two = two_from 47 47 LineNote class-line_comment text h.0 in
     (two.0, omega arith)
 parts_of BlockNote text n h =
-    let two = two_from 47 42 BlockNote class-block_note text h.0 in
+    let two = two_from 47 42 BlockNote class-block_comment text h.0 in
     let close = h.1 in
     let size : length (drop 2 text) ≡ length text - 2 = length-drop 2 text in
     let long : length text ≡ suc (suc (length (drop 2 text))) = omega (arith, two.1) in
-    let e : n ≡ suc (suc (block_len false (drop 2 text))) = close.2 ∙ ap (λ m. note_end m close.0) long ∙ sym (block_len-found (drop 2 text) close.0 close.1) in
+    let e : n ≡ suc (suc (block_len false (drop 2 text))) = close.2 ∙ ap (λ m. comment_end m close.0) long ∙ sym (block_len-found (drop 2 text) close.0 close.1) in
     (two.0, omega arith)
 parts_of Blank text n h = (blanks_class h.1 h.0, blank_longest h.1 false)
 parts_of Newline text n h = (first_from 10 Newline class-feed text h.0, omega (arith, h.1))
@@ -258,7 +258,7 @@ piece-lexeme (b ∷ rest) some = ⊎_elim
     let known = parts_of class (b ∷ rest) m h in
     subst (λ c. Spells c (b ∷ rest) m) (sym known.0 ∙ e) h in
     subst (λ c. IsLexeme c (b ∷ rest) (length_in c (b ∷ rest))) (sym e) (omega arith, refl, none))
-    (spelled b rest (class_at (b ∷ rest)) (front b rest))
+    (spelled b rest (class_at (b ∷ rest)) (prefix_of b rest))
 
 -- where no other class has a lexeme the class is `Byte`
 lone : (text : List ℕ) (n : ℕ) → IsLexeme Byte text n → class_at text ≡ Byte
@@ -266,7 +266,7 @@ lone [] n h = absurd (let x : ⊥ = omega (arith, h.0) in x)
 lone (b ∷ rest) n h = ⊎_elim
     (λ s. absurd (h.2 (class_at (b ∷ rest)) (piece_len (b ∷ rest)) s))
     (λ e. e)
-    (spelled b rest (class_at (b ∷ rest)) (front b rest))
+    (spelled b rest (class_at (b ∷ rest)) (prefix_of b rest))
 
 -- each lexeme at a place is of the class there
 pub lexeme-class : (class : Class) (text : List ℕ) (n : ℕ) → IsLexeme class text n → class_at text ≡ class

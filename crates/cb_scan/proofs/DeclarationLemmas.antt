@@ -5,15 +5,15 @@ use Rattle.std.proofs.lemmas.List.{append-nil}
 use Rattle.std.specs.Prelude.{◌||◌, ◌&&◌, ◌==◌, if◌then◌else◌, cond}
 use Rattle.std.specs.List.{flat_map, slice_split, onto_first}
 use Rattle.std.specs.Option.{option_to_list, option_map_or}
-use Rattle.cb_scan.specs.declared.token.Token.{Token}
-use Rattle.cb_scan.specs.declared.token.Role.{Role}
-use Rattle.cb_scan.specs.declared.token.Role.TheVariants.{Word, Mark, Str, Other}
-use Rattle.cb_scan.specs.declared.token.WordKind.TheVariants.{Name, Define, Include, Typedef, Extern, Static, Reserved}
-use Rattle.cb_scan.specs.declared.typedefs.Declaration.{Declaration}
-use Rattle.cb_scan.specs.declared.typedefs.Reach.{Reach}
-use Rattle.cb_scan.specs.declared.typedefs.Reach.TheVariants.{Nothing, Paren, Stars}
-use Rattle.cb_scan.specs.Tokens.{is_mark, is_name_token, is_typedef, kind_is_name}
-use Rattle.cb_scan.specs.Typedefs.{Nested, begins_with_star, last_name, name_after_stars, nested, nesting_after, part_name, parts, parts_here, pointer_name, typedef_names}
+use Rattle.cb_scan.specs.declared.lex.token.Token.{Token}
+use Rattle.cb_scan.specs.declared.lex.token.Role.{Role}
+use Rattle.cb_scan.specs.declared.lex.token.Role.TheVariants.{Word, Mark, Str, Other}
+use Rattle.cb_scan.specs.declared.lex.token.WordKind.TheVariants.{Name, Define, Include, Typedef, Extern, Static, Reserved}
+use Rattle.cb_scan.specs.declared.rules.typedefs.Declaration.{Declaration}
+use Rattle.cb_scan.specs.declared.rules.typedefs.Reach.{Reach}
+use Rattle.cb_scan.specs.declared.rules.typedefs.Reach.TheVariants.{Nothing, Paren, Stars}
+use Rattle.cb_scan.specs.lex.Tokens.{is_mark, is_name_token, is_typedef, kind_is_name}
+use Rattle.cb_scan.specs.rules.Typedefs.{Nested, begins_with_star, last_name, name_after_stars, nested, nesting_after, part_name, parts, parts_here, pointer_name, typedef_names}
 use Rattle.cb_scan.specs.steps.Typedefs.{after, declaration_start, goes_on, is_reached, is_starred, name_of, or_else, parts_at, pointer_after, reach_after}
 
 -- the names that the parts give from a state on
@@ -23,11 +23,11 @@ names_from d (t ∷ ts) = option_to_list (if parts_at d.nesting t then name_of d
 
 -- ---- one part
 
--- the name behind `*`s, or else the first one that follows
+-- the name after `*`s, or else the first one that follows
 abbrev stars_on : List Nested → Option Token
 stars_on xs = option_map_or (λ name. Some name) (name_after_stars xs) (pointer_name xs)
 
--- the first name behind `(` and `*`s, which have come so far
+-- the first name after `(` and `*`s, which have come so far
 abbrev pointer_on : Reach → List Nested → Option Token
 pointer_on Nothing xs = pointer_name xs
 pointer_on Paren xs = if begins_with_star xs then stars_on xs else pointer_name xs
@@ -184,9 +184,9 @@ goes_on_by r t = record {
 }
 
 -- the word itself, taken or not, says nothing of the names
-pub names_behind : (t : Token) (b : Bool) (ts : List Token) → is_typedef t.role ≡ true → names_from declaration_start ((if b then t ∷ [] else []) ++ ts) ≡ names_from declaration_start ts
+pub names_after : (t : Token) (b : Bool) (ts : List Token) → is_typedef t.role ≡ true → names_from declaration_start ((if b then t ∷ [] else []) ++ ts) ≡ names_from declaration_start ts
 unfolding after
-names_behind t false ts is = refl
-names_behind t true ts is =
+names_after t false ts is = refl
+names_after t true ts is =
     let word : t.role ≡ Word Typedef = typedef_only t.role is in
     λ i. option_to_list (if is_mark 44 (word i) && 0 == 0 then None else None) ++ names_from (if is_mark 44 (word i) && 0 == 0 then declaration_start else goes_on_by (word i) t) ts

@@ -9,28 +9,28 @@ use Rattle.std.specs.List.{flat_map, zip}
 use Rattle.std.specs.Option.{option_map_or, option_to_list}
 use Rattle.cb_scan.specs.declared.facts.Include.{Include}
 use Rattle.cb_scan.specs.declared.facts.Kind.TheVariants as fact_kind
-use Rattle.cb_scan.specs.declared.line.Defining.{Defining}
-use Rattle.cb_scan.specs.declared.line.Defining.TheVariants as defining
-use Rattle.cb_scan.specs.declared.line.Directive.{Directive}
-use Rattle.cb_scan.specs.declared.line.Directive.TheVariants as directive
-use Rattle.cb_scan.specs.declared.line.Including.{Including}
-use Rattle.cb_scan.specs.declared.line.Including.TheVariants as including
-use Rattle.cb_scan.specs.declared.line.Stage.{Stage}
-use Rattle.cb_scan.specs.declared.line.Stage.TheVariants.{Start, Code, Directive as InDirective}
-use Rattle.cb_scan.specs.declared.piece.Piece.{Piece}
-use Rattle.cb_scan.specs.declared.piece.Span.{Span}
-use Rattle.cb_scan.specs.declared.scope.Range.{Range}
-use Rattle.cb_scan.specs.declared.token.Role.{Role}
-use Rattle.cb_scan.specs.declared.token.Role.TheVariants.{Word, Mark, Str, Other}
-use Rattle.cb_scan.specs.declared.token.WordKind.TheVariants as kind
-use Rattle.cb_scan.specs.declared.token.Token.{Token}
-use Rattle.cb_scan.specs.Code.{code, directives, is_directive, line_ends, logical_lines}
+use Rattle.cb_scan.specs.declared.rules.directives.Defining.{Defining}
+use Rattle.cb_scan.specs.declared.rules.directives.Defining.TheVariants as defining
+use Rattle.cb_scan.specs.declared.rules.directives.Directive.{Directive}
+use Rattle.cb_scan.specs.declared.rules.directives.Directive.TheVariants as directive
+use Rattle.cb_scan.specs.declared.rules.directives.Including.{Including}
+use Rattle.cb_scan.specs.declared.rules.directives.Including.TheVariants as including
+use Rattle.cb_scan.specs.declared.rules.directives.Stage.{Stage}
+use Rattle.cb_scan.specs.declared.rules.directives.Stage.TheVariants.{Start, Code, Directive as InDirective}
+use Rattle.cb_scan.specs.declared.lex.piece.Piece.{Piece}
+use Rattle.cb_scan.specs.declared.lex.piece.Span.{Span}
+use Rattle.cb_scan.specs.declared.rules.scope.Range.{Range}
+use Rattle.cb_scan.specs.declared.lex.token.Role.{Role}
+use Rattle.cb_scan.specs.declared.lex.token.Role.TheVariants.{Word, Mark, Str, Other}
+use Rattle.cb_scan.specs.declared.lex.token.WordKind.TheVariants as kind
+use Rattle.cb_scan.specs.declared.lex.token.Token.{Token}
+use Rattle.cb_scan.specs.rules.Code.{code, directives, is_directive, line_ends, logical_lines}
 use Rattle.cb_scan.specs.Definitions.{macro_def}
-use Rattle.cb_scan.specs.Macros.{Macro, after_arguments, macro_of, macros}
-use Rattle.cb_scan.specs.Scope.{macro_range, macro_ranges, range_of_line}
-use Rattle.cb_scan.specs.Tokens.{bytes_of, has_kind, is_any_word, is_mark, is_name_token, is_str, kind_is_define, kind_is_include}
-use Rattle.cb_scan.specs.Uses.{behind_own_word, call_of, calls_among, header_between, header_of, include_of, is_call, is_include, macro_calls, used}
-use Rattle.cb_scan.specs.steps.Line.{code_out, directive_of, include_out, is_code, macro_call_out, macro_out, next_defining, next_directive, next_including, next_stage, names_count, no_range, nothing, range_finish, run, use_out, walk}
+use Rattle.cb_scan.specs.rules.Macros.{Macro, after_arguments, macro_of, macros}
+use Rattle.cb_scan.specs.rules.Scope.{macro_range, macro_ranges, range_of_line}
+use Rattle.cb_scan.specs.lex.Tokens.{bytes_of, has_kind, is_any_word, is_mark, is_name_token, is_str, kind_is_define, kind_is_include}
+use Rattle.cb_scan.specs.rules.Uses.{after_own_word, call_of, calls_among, header_between, header_of, include_of, is_call, is_include, macro_calls, used}
+use Rattle.cb_scan.specs.steps.Directives.{code_out, directive_of, include_out, is_code, macro_call_out, macro_out, next_defining, next_directive, next_including, next_stage, names_count, no_range, nothing, range_finish, run, use_out, walk}
 use Rattle.cb_scan.specs.steps.Lined.{lined}
 use Rattle.cb_scan.specs.steps.Quote.{is_closed}
 use Rattle.cb_scan.proofs.LineLemmas.{firsts, lines_as_many, walk_ended, walk_lines}
@@ -153,7 +153,7 @@ names_of_cond true b xs ys = refl
 names_of_cond false true xs ys = refl
 names_of_cond false false xs ys = refl
 
-hash_uses : (hash : Token) (ts : List Token) → run use_out none (InDirective directive.Hash) ts ≡ names (cond (is_include (hash ∷ ts)) [] (behind_own_word (hash ∷ ts)))
+hash_uses : (hash : Token) (ts : List Token) → run use_out none (InDirective directive.Hash) ts ≡ names (cond (is_include (hash ∷ ts)) [] (after_own_word (hash ∷ ts)))
 unfolding names
 hash_uses hash [] = refl
 hash_uses hash (own ∷ rest) =
@@ -172,7 +172,7 @@ use_run : (l : List Token) → run use_out none Start l ≡ used l
 unfolding names
 use_run [] = refl
 use_run (t ∷ ts) =
-    let usable = λ (b : Bool). names (cond b (cond (is_include (t ∷ ts)) [] (behind_own_word (t ∷ ts))) (t ∷ ts)) in
+    let usable = λ (b : Bool). names (cond b (cond (is_include (t ∷ ts)) [] (after_own_word (t ∷ ts))) (t ∷ ts)) in
     ⊎_elim
     (λ is.
     (λ i. cond (mark_no_name t.role 35 is i && true) (t ∷ []) [] ++ run use_out none (cond (is i) (InDirective directive.Hash) Code) ts)

@@ -1,4 +1,4 @@
--- What is found in a text lies in it, and its definitions stand on lines of it.
+-- What is found in a text lies in it, and its definitions are on lines of it.
 use Rattle.std.proofs.Common.{ltb-true, ◌≡◌, ◌≤◌, ◌<◌, ◌+◌, ◌-◌, ℕ, zero, suc, Bool, true, false, List, [], ◌∷◌, Option, Some, None, refl, sym, subst, map, take, length, arith}
 use Rattle.std.specs.Prelude.{◌&&◌, ◌||◌, ◌==◌, cond, not, find, nat_lt}
 use Rattle.std.specs.List.{AllByRecursion, flat_map, range_with_len}
@@ -9,25 +9,25 @@ use Rattle.cb_scan.specs.declared.facts.Call.{Call}
 use Rattle.cb_scan.specs.declared.facts.Def.{Def}
 use Rattle.cb_scan.specs.declared.facts.Include.{Include}
 use Rattle.cb_scan.specs.declared.facts.Use.{Use}
-use Rattle.cb_scan.specs.declared.piece.Span.{Span}
-use Rattle.cb_scan.specs.declared.token.Token.{Token}
-use Rattle.cb_scan.specs.declared.scope.Range.{Range}
-use Rattle.cb_scan.specs.Code.{code, directives, is_newline, logical_lines}
+use Rattle.cb_scan.specs.declared.lex.piece.Span.{Span}
+use Rattle.cb_scan.specs.declared.lex.token.Token.{Token}
+use Rattle.cb_scan.specs.declared.rules.scope.Range.{Range}
+use Rattle.cb_scan.specs.rules.Code.{code, directives, is_newline, logical_lines}
 use Rattle.cb_scan.specs.Definitions.{AreWithin, IsScopeWithin, IsWithin, calls, facts_of, definitions, definitions_from, macro_def, typedef_def}
-use Rattle.cb_scan.specs.Depth.{depth, head_start, no_token, token_at}
-use Rattle.cb_scan.specs.Functions.{Function, function_at, functions}
+use Rattle.cb_scan.specs.rules.Depth.{depth, head_start, no_token, token_at}
+use Rattle.cb_scan.specs.rules.Functions.{Function, function_at, functions}
 use Rattle.cb_scan.specs.Lines.{IsLineOf}
-use Rattle.cb_scan.specs.Macros.{Macro, after_arguments, defines_macro, macro_of, macros}
+use Rattle.cb_scan.specs.rules.Macros.{Macro, after_arguments, defines_macro, macro_of, macros}
 use Rattle.cb_scan.specs.Order.{call_key, def_key, goes_first, in_order, put}
-use Rattle.cb_scan.specs.Pieces.{LiesIn}
-use Rattle.cb_scan.specs.Scope.{function_range, function_ranges, holds, macro_ranges, name_around, scope}
-use Rattle.cb_scan.specs.Tokens.{bytes_of, has_kind, is_mark, is_name_token, is_str, kind_is_include}
+use Rattle.cb_scan.specs.lex.Pieces.{LiesIn}
+use Rattle.cb_scan.specs.rules.Scope.{function_range, function_ranges, holds, macro_ranges, name_around, scope}
+use Rattle.cb_scan.specs.lex.Tokens.{bytes_of, has_kind, is_mark, is_name_token, is_str, kind_is_include}
 use Rattle.cb_scan.specs.steps.Quote.{is_closed}
 use Rattle.cb_scan.specs.steps.Cut.{pieces}
-use Rattle.cb_scan.specs.Typedefs.{Nested, begins_with_star, last_name, name_after_stars, nested, nesting_after, part_name, parts, parts_here, pointer_name, taken, taken_at, typedef_at, typedef_names, typedef_stop, begins_typedef, ends_declaration, typedefs}
-use Rattle.cb_scan.specs.Uses.{call_at, call_of, calls_among, calls_of_function, header_between, header_of, include_of, includes, is_call, used, uses}
+use Rattle.cb_scan.specs.rules.Typedefs.{Nested, begins_with_star, last_name, name_after_stars, nested, nesting_after, part_name, parts, parts_here, pointer_name, taken, taken_at, typedef_at, typedef_names, typedef_stop, begins_typedef, ends_declaration, typedefs}
+use Rattle.cb_scan.specs.rules.Uses.{call_at, call_of, calls_among, calls_of_function, header_between, header_of, include_of, includes, is_call, used, uses}
 use Rattle.cb_scan.proofs.DirectiveLemmas.{range_names}
-use Rattle.cb_scan.proofs.Rising.{all-front, all-picked, all_implied, macro_picks, macro_names, names_flat, named_in_head, only_directives, used_picks}
+use Rattle.cb_scan.proofs.Rising.{all-prefix, all-picked, all_implied, macro_picks, macro_names, names_flat, named_in_head, only_directives, used_picks}
 use Rattle.cb_scan.proofs.PieceLists.{pieces-lie}
 use Rattle.cb_scan.proofs.WithinLemmas.{DefWithin, TokenWithin, all-append, all-drop, all-joined, all-split, all-take, code-within, functions-lie, lines-within}
 
@@ -46,7 +46,7 @@ range_below : (k n bound : ℕ) → k + n ≤ bound → AllByRecursion (λ j. j 
 range_below k zero bound le = tt
 range_below k (suc n) bound le = (omega arith, range_below (k + 1) n bound (omega arith))
 
--- a token of the list, or none behind its end
+-- a token of the list, or none after its end
 at_any : (P : Token → Type 0) (ts : List Token) (k : ℕ) → (length ts ≤ k → P no_token) → AllByRecursion P ts → P (token_at ts k)
 at_any P [] k none a = none (omega arith)
 at_any P (t ∷ ts) zero none a = a.0
@@ -74,12 +74,12 @@ module _ (P : Token → Type 0) where
       (elim (is_name_token x.token.role && x.nesting == 0) as (λ b. MatchOption (cond b (Some x.token) found) (Unit {0}) P) [ true ↦ a.0 | false ↦ f ])
       a.1
 
-  all_behind_stars : (xs : List Nested) → AllByRecursion (λ (x : Nested). P x.token) xs → MatchOption (name_after_stars xs) (Unit {0}) P
+  all_after_stars : (xs : List Nested) → AllByRecursion (λ (x : Nested). P x.token) xs → MatchOption (name_after_stars xs) (Unit {0}) P
   unfolding name_after_stars
-  all_behind_stars [] a = tt
-  all_behind_stars (x ∷ xs) a =
+  all_after_stars [] a = tt
+  all_after_stars (x ∷ xs) a =
       elim (is_mark 42 x.token.role) as (λ b. MatchOption (cond b (name_after_stars xs) (cond (is_name_token x.token.role) (Some x.token) None)) (Unit {0}) P) [
-        | true ↦ all_behind_stars xs a.1
+        | true ↦ all_after_stars xs a.1
         | false ↦ elim (is_name_token x.token.role) as (λ b. MatchOption (cond b (Some x.token) None) (Unit {0}) P) [ true ↦ a.0 | false ↦ tt ]
       ]
 
@@ -88,7 +88,7 @@ module _ (P : Token → Type 0) where
   all_pointer [] a = tt
   all_pointer (x ∷ xs) a =
       elim (is_mark 40 x.token.role && begins_with_star xs) as (λ b. MatchOption (cond b (option_map_or (λ name. Some name) (name_after_stars xs) (pointer_name xs)) (pointer_name xs)) (Unit {0}) P) [
-        | true ↦ elim (name_after_stars xs) as (λ o. MatchOption o (Unit {0}) P → MatchOption (option_map_or (λ name. Some name) o (pointer_name xs)) (Unit {0}) P) [ None ↦ λ _. all_pointer xs a.1 | Some t ↦ λ p. p ] (all_behind_stars xs a.1)
+        | true ↦ elim (name_after_stars xs) as (λ o. MatchOption o (Unit {0}) P → MatchOption (option_map_or (λ name. Some name) o (pointer_name xs)) (Unit {0}) P) [ None ↦ λ _. all_pointer xs a.1 | Some t ↦ λ p. p ] (all_after_stars xs a.1)
         | false ↦ all_pointer xs a.1
       ]
 
@@ -164,10 +164,10 @@ module _ (S : Span → Type 0) where
         | false ↦ among_calls caller (u ∷ l) s a.1
       ]
 
-  behind_arguments : (l : List Token) → AllByRecursion (λ (t : Token). S t.span) l → AllByRecursion (λ (t : Token). S t.span) (after_arguments l)
+  after_the_arguments : (l : List Token) → AllByRecursion (λ (t : Token). S t.span) l → AllByRecursion (λ (t : Token). S t.span) (after_arguments l)
   unfolding after_arguments
-  behind_arguments [] a = tt
-  behind_arguments (t ∷ l) a = elim (is_mark 41 t.role) as (λ b. AllByRecursion (λ (t : Token). S t.span) (cond b l (after_arguments l))) [ true ↦ a.1 | false ↦ behind_arguments l a.1 ]
+  after_the_arguments [] a = tt
+  after_the_arguments (t ∷ l) a = elim (is_mark 41 t.role) as (λ b. AllByRecursion (λ (t : Token). S t.span) (cond b l (after_arguments l))) [ true ↦ a.1 | false ↦ after_the_arguments l a.1 ]
 
   calls_of_line : (l : List Token) → AllByRecursion (λ (t : Token). S t.span) l → AllByRecursion (λ (c : Call). S c.callee × S c.caller) (flat_map (λ (m : Macro). calls_among m.name.span m.body) (macro_of l))
   calls_of_line [] a = tt
@@ -176,14 +176,14 @@ module _ (S : Span → Type 0) where
   calls_of_line (h ∷ o ∷ n ∷ []) a = tt
   calls_of_line (h ∷ o ∷ n ∷ p ∷ l) a =
       elim (defines_macro o n p) as (λ b. AllByRecursion (λ (c : Call). S c.callee × S c.caller) (flat_map (λ (m : Macro). calls_among m.name.span m.body) (cond b (record { name = n; body = after_arguments l } ∷ []) []))) [
-        | true ↦ all-append (λ (c : Call). S c.callee × S c.caller) (calls_among n.span (after_arguments l)) [] (among_calls n.span (after_arguments l) a.1.1.0 (behind_arguments l a.1.1.1.1)) tt
+        | true ↦ all-append (λ (c : Call). S c.callee × S c.caller) (calls_among n.span (after_arguments l)) [] (among_calls n.span (after_arguments l) a.1.1.0 (after_the_arguments l a.1.1.1.1)) tt
         | false ↦ tt
       ]
 
   calls_of_lines : (ls : List (List Token)) → AllByRecursion (λ (t : Token). S t.span) (flat_map (λ l. l) ls) → AllByRecursion (λ (c : Call). S c.callee × S c.caller) (flat_map (λ (m : Macro). calls_among m.name.span m.body) (flat_map macro_of ls))
   calls_of_lines [] a = tt
   calls_of_lines (l ∷ ls) a =
-      let parts = all-front (λ (t : Token). S t.span) l (flat_map (λ l. l) ls) a in
+      let parts = all-prefix (λ (t : Token). S t.span) l (flat_map (λ l. l) ls) a in
       subst (AllByRecursion (λ (c : Call). S c.callee × S c.caller)) (sym (flat_map-append (λ (m : Macro). calls_among m.name.span m.body) (macro_of l) (flat_map macro_of ls)))
       (all-append (λ (c : Call). S c.callee × S c.caller) _ _ (calls_of_line l parts.0) (calls_of_lines ls parts.1))
 
@@ -256,7 +256,7 @@ module _ (text : List ℕ) where
   headers_within : (ls : List (List Token)) → AllByRecursion (SpanWithin text) (flat_map (λ l. l) ls) → AllByRecursion (λ (i : Include). IsWithin text i.header) (flat_map (include_of text) ls)
   headers_within [] a = tt
   headers_within (l ∷ ls) a =
-      let parts = all-front (SpanWithin text) l (flat_map (λ l. l) ls) a in
+      let parts = all-prefix (SpanWithin text) l (flat_map (λ l. l) ls) a in
       all-append (λ (i : Include). IsWithin text i.header) (include_of text l) _ (include_within l parts.0) (headers_within ls parts.1)
 
   includes_within : ((place : ℕ) → IsScopeWithin text (scope text (pieces text) place)) → (is : List Include) → AllByRecursion (λ (i : Include). IsWithin text i.header) is → AllByRecursion (λ (i : Include). IsWithin text i.header × IsScopeWithin text i.scope) (map (λ (i : Include). record i { scope = scope text (pieces text) i.header.start }) is)
@@ -326,7 +326,7 @@ module _ (text : List ℕ) where
   unfolding includes
   includes_lie = includes_within scopes_lie _ (headers_within (directives text (pieces text)) (spans_of _ directive_tokens))
 
-  -- what is found in a text lies in it, and its definitions stand on lines of it
+  -- what is found in a text lies in it, and its definitions are on lines of it
   pub facts_lie : AreWithin text (facts_of text)
   facts_lie = record {
     defs = all_implied (DefWithin text) (λ (d : Def). IsWithin text d.name) (λ d w. w.0) (definitions text) definitions_lie;

@@ -6,23 +6,23 @@ use Rattle.std.proofs.lemmas.List.Sums.{fold-append}
 use Rattle.std.specs.Prelude.{◌||◌, ◌&&◌, ◌==◌, not, if◌then◌else◌}
 use Rattle.std.specs.List.{list_any, flat_map, range_with_len}
 use Rattle.std.specs.Option.{option_to_list, option_map, option_map_or}
-use Rattle.cb_scan.specs.declared.machine.Machine.{Machine}
-use Rattle.cb_scan.specs.declared.token.Token.{Token}
-use Rattle.cb_scan.specs.declared.machine.Before.{Before}
-use Rattle.cb_scan.specs.declared.machine.Before.TheVariants.{Anything, Extern, Linkage}
-use Rattle.cb_scan.specs.declared.token.Role.{Role}
-use Rattle.cb_scan.specs.declared.token.Role.TheVariants.{Word, Mark, Str, Other}
-use Rattle.cb_scan.specs.declared.token.WordKind.TheVariants.{Name, Define, Include, Typedef, Static, Reserved}
-use Rattle.cb_scan.specs.declared.token.WordKind.TheVariants as kind
+use Rattle.cb_scan.specs.declared.rules.functions.Machine.{Machine}
+use Rattle.cb_scan.specs.declared.lex.token.Token.{Token}
+use Rattle.cb_scan.specs.declared.rules.functions.Before.{Before}
+use Rattle.cb_scan.specs.declared.rules.functions.Before.TheVariants.{Anything, Extern, Linkage}
+use Rattle.cb_scan.specs.declared.lex.token.Role.{Role}
+use Rattle.cb_scan.specs.declared.lex.token.Role.TheVariants.{Word, Mark, Str, Other}
+use Rattle.cb_scan.specs.declared.lex.token.WordKind.TheVariants.{Name, Define, Include, Typedef, Static, Reserved}
+use Rattle.cb_scan.specs.declared.lex.token.WordKind.TheVariants as kind
 use Rattle.std.proofs.Math.Bool.{and-false}
-use Rattle.cb_scan.specs.Tokens.{is_mark, is_static, is_extern, is_str}
-use Rattle.cb_scan.specs.Depth.{depth, head_start, is_counted, is_stop, token_at, no_token, follows_linkage, depth_after}
-use Rattle.cb_scan.specs.Functions.{head, defined_name, close_from, function_at, functions}
+use Rattle.cb_scan.specs.lex.Tokens.{is_mark, is_static, is_extern, is_str}
+use Rattle.cb_scan.specs.rules.Depth.{depth, head_start, is_counted, is_stop, token_at, no_token, follows_linkage, depth_after}
+use Rattle.cb_scan.specs.rules.Functions.{head, defined_name, close_from, function_at, functions}
 use Rattle.cb_scan.specs.Definitions.{function_def}
-use Rattle.cb_scan.specs.steps.Machine.{add, empty_head, defined, start, next, next_depth, stops, found, defs_from, def_of, is_after_linkage, is_after_extern}
+use Rattle.cb_scan.specs.steps.Functions.{add, empty_head, defined, start, next, next_depth, stops, found, defs_from, def_of, is_after_linkage, is_after_extern}
 use Rattle.cb_scan.proofs.HeadLemmas.{defined_of, static_is}
 
--- `extern` stands directly before token k
+-- `extern` is directly before token k
 abbrev pub follows_extern : List Token → ℕ → Bool
 follows_extern ts zero = false
 follows_extern ts (suc k) = is_extern (token_at ts k).role
@@ -41,7 +41,7 @@ head_start_le ts (suc k) =
     let before = head_start_le ts k in
     elim (is_stop ts k) as (λ b. (if b then suc k else head_start ts k) ≤ suc k) [ true ↦ omega arith | false ↦ omega arith ]
 
--- what stands directly before the next token
+-- what is directly before the next token
 linkage_after : (b : Before) (r : Role) → is_after_linkage (if is_extern r then Extern else (if is_str r && is_after_extern b then Linkage else Anything)) ≡ (is_after_extern b && is_str r)
 linkage_after b (Word Name) = sym (and-false (is_after_extern b))
 linkage_after b (Word Define) = sym (and-false (is_after_extern b))

@@ -2,23 +2,23 @@
 use Rattle.std.proofs.Common.{◌≡◌, ◌∙◌, ℕ, true, false, List, [], ◌∷◌, ◌++◌, None, length, map, ap, sym, refl, append_assoc}
 use Rattle.std.proofs.lemmas.Bool.{false≢true}
 use Rattle.std.specs.Prelude.{cond}
-use Rattle.cb_scan.specs.declared.line.Stage.{Stage}
-use Rattle.cb_scan.specs.declared.line.Stage.TheVariants.{Start}
-use Rattle.cb_scan.specs.declared.lined.Lined.{Lined}
-use Rattle.cb_scan.specs.declared.piece.Class.{Class}
-use Rattle.cb_scan.specs.declared.piece.Class.TheVariants.{Name, Number, Str, Chr, LineNote, BlockNote, Blank, Newline, Byte}
-use Rattle.cb_scan.specs.declared.token.Token.{Token}
-use Rattle.cb_scan.specs.Code.{code, is_newline}
+use Rattle.cb_scan.specs.declared.rules.directives.Stage.{Stage}
+use Rattle.cb_scan.specs.declared.rules.directives.Stage.TheVariants.{Start}
+use Rattle.cb_scan.specs.declared.lex.lined.Lined.{Lined}
+use Rattle.cb_scan.specs.declared.lex.piece.Class.{Class}
+use Rattle.cb_scan.specs.declared.lex.piece.Class.TheVariants.{Name, Number, Str, Chr, LineNote, BlockNote, Blank, Newline, Byte}
+use Rattle.cb_scan.specs.declared.lex.token.Token.{Token}
+use Rattle.cb_scan.specs.rules.Code.{code, is_newline}
 use Rattle.cb_scan.specs.Definitions.{function_def, typedef_def}
-use Rattle.cb_scan.specs.Functions.{functions}
-use Rattle.cb_scan.specs.Scope.{function_ranges}
-use Rattle.cb_scan.specs.Typedefs.{typedefs}
-use Rattle.cb_scan.specs.Uses.{function_calls}
+use Rattle.cb_scan.specs.rules.Functions.{functions}
+use Rattle.cb_scan.specs.rules.Scope.{function_ranges}
+use Rattle.cb_scan.specs.rules.Typedefs.{typedefs}
+use Rattle.cb_scan.specs.rules.Uses.{function_calls}
 use Rattle.cb_scan.specs.steps.Cut.{pieces}
-use Rattle.cb_scan.specs.steps.Line.{code_out, is_code, lined_token, next_stage, nothing, walk}
-use Rattle.cb_scan.specs.Tokens.{is_significant}
+use Rattle.cb_scan.specs.steps.Directives.{code_out, is_code, lined_token, next_stage, nothing, walk}
+use Rattle.cb_scan.specs.lex.Tokens.{is_significant}
 use Rattle.cb_scan.specs.steps.Lined.{lined}
-use Rattle.cb_scan.specs.steps.Machine.{calls_from, defs_from, ranges_from, start}
+use Rattle.cb_scan.specs.steps.Functions.{calls_from, defs_from, ranges_from, start}
 use Rattle.cb_scan.specs.steps.Typedefs.{typedef_defs_from}
 use Rattle.cb_scan.proofs.BodyLemmas.{calls_from_start, ranges_from_start}
 use Rattle.cb_scan.proofs.DirectiveLemmas.{code_is}

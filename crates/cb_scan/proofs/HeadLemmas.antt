@@ -4,11 +4,11 @@ use Rattle.std.specs.Prelude.{◌||◌, ◌&&◌, if◌then◌else◌}
 use Rattle.std.proofs.Math.Bool.{or-false}
 use Rattle.std.specs.List.{list_any, last_or}
 use Rattle.std.specs.Option.{is_none, option_to_list}
-use Rattle.cb_scan.specs.declared.machine.Head.{Head}
-use Rattle.cb_scan.specs.declared.token.Token.{Token}
-use Rattle.cb_scan.specs.Tokens.{is_mark, is_name_token, is_typedef, is_static}
-use Rattle.cb_scan.specs.Functions.{begins_with_typedef, ends_in_declarator, called_name, defined_name}
-use Rattle.cb_scan.specs.steps.Machine.{add, empty_head, called_after, may_end, defined}
+use Rattle.cb_scan.specs.declared.rules.functions.Head.{Head}
+use Rattle.cb_scan.specs.declared.lex.token.Token.{Token}
+use Rattle.cb_scan.specs.lex.Tokens.{is_mark, is_name_token, is_typedef, is_static}
+use Rattle.cb_scan.specs.rules.Functions.{begins_with_typedef, ends_in_declarator, called_name, defined_name}
+use Rattle.cb_scan.specs.steps.Functions.{add, empty_head, called_after, may_end, defined}
 
 or_assoc : (a b c : Bool) → ((a || b) || c) ≡ (a || (b || c))
 or_assoc true b c = refl

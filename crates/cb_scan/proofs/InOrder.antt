@@ -12,12 +12,12 @@ use Rattle.cb_scan.specs.declared.facts.Call.{Call}
 use Rattle.cb_scan.specs.declared.facts.Def.{Def}
 use Rattle.cb_scan.specs.declared.facts.Include.{Include}
 use Rattle.cb_scan.specs.declared.facts.Use.{Use}
-use Rattle.cb_scan.specs.declared.token.Token.{Token}
-use Rattle.cb_scan.specs.Code.{directives, logical_lines}
+use Rattle.cb_scan.specs.declared.lex.token.Token.{Token}
+use Rattle.cb_scan.specs.rules.Code.{directives, logical_lines}
 use Rattle.cb_scan.specs.Definitions.{calls, definitions_from, facts_of, function_def, macro_def, typedef_def}
 use Rattle.cb_scan.specs.Order.{AreInOrder, AreOrdered, IsDefBefore, call_key, def_key, goes_first, in_order, kind_rank}
-use Rattle.cb_scan.specs.Scope.{scope}
-use Rattle.cb_scan.specs.Uses.{include_of, includes, used, uses}
+use Rattle.cb_scan.specs.rules.Scope.{scope}
+use Rattle.cb_scan.specs.rules.Uses.{include_of, includes, used, uses}
 use Rattle.cb_scan.specs.steps.Scopes.{include_place, token_place}
 use Rattle.cb_scan.proofs.OrderLemmas.{Sorted, in_order_sorted}
 use Rattle.cb_scan.proofs.ScopeLemmas.{Ordered, headers_in_order, names_in_order}

@@ -3,10 +3,10 @@ use Rattle.std.proofs.Common.{◌≡◌, ◌≢◌, ◌⊎◌, ◌≤◌, ℕ, z
 use Rattle.std.proofs.lemmas.Bool.{cases_Bool, cases_eq, false≢true, or_from, or_left, or_right, cond-true, cond-false, cond_both, eqb-true, eq-eqb, ne_eqb, and_from, and_parts, or_cases}
 use Rattle.std.proofs.lemmas.Bool.Decides.{nat_tests}
 use Rattle.std.specs.List.{list_all, prefix_len}
-use Rattle.cb_scan.specs.declared.lexeme.Escape.{Escape}
-use Rattle.cb_scan.specs.declared.lexeme.Escape.TheVariants.{Plain, Backslash, Return}
-use Rattle.cb_scan.specs.Lexeme.{IsLineEnd, is_blank, goes_on, first_is, all_go_on, Blanks, no_blank, a_blank, a_join, a_cr_join, Noted, note_ends, noted_byte, noted_join, noted_cr_join, Quoted, closed, not_closed, joined, escaped, last_escape, quoted_byte}
-use Rattle.cb_scan.specs.steps.Cut.{ends_join, number_len, goes_on_blank, blank_len, note_escape, ends_note, note_len, literal_escape, ends_literal, literal_len}
+use Rattle.cb_scan.specs.declared.lex.lexeme.Escape.{Escape}
+use Rattle.cb_scan.specs.declared.lex.lexeme.Escape.TheVariants.{Plain, Backslash, Return}
+use Rattle.cb_scan.specs.lex.Lexeme.{IsLineEnd, is_blank, goes_on, first_is, all_go_on, Blanks, no_blank, a_blank, a_join, a_cr_join, Commented, comment_ends, commented_byte, commented_join, commented_cr_join, Quoted, closed, not_closed, joined, escaped, last_escape, quoted_byte}
+use Rattle.cb_scan.specs.steps.Cut.{ends_join, number_len, goes_on_blank, blank_len, comment_escape, ends_comment, comment_len, literal_escape, ends_literal, literal_len}
 
 -- words
 pub list_all-prefix : (p : ℕ → Bool) (xs : List ℕ) → list_all p (take (prefix_len p xs) xs) ≡ true
@@ -111,7 +111,7 @@ blank-stops : (b : ℕ) (rest : List ℕ) → is_blank b ≡ false → (b == 92 
 unfolding blank_len
 blank-stops b rest f g = cond-false (goes_on_blank false b rest) _ _ (grind arith)
 
--- what stands behind the `\` of a join
+-- what is after the `\` of a join
 joins : (rest : List ℕ) → ends_join rest ≡ true → (r : List ℕ) × ((rest ≡ 10 ∷ r) ⊎ (rest ≡ 13 ∷ 10 ∷ r))
 unfolding ends_join first_is
 joins [] t = cc
@@ -163,52 +163,52 @@ blank_len-within j (x ∷ xs) =
     let inner = blank_len-within (x == 92 || (j && not (x == 10))) xs in
     cond_both (goes_on_blank j x xs) _ _ (λ n. n ≤ suc (length xs)) (λ _. omega arith) (λ _. omega arith)
 
--- line notes
-pub note_len-within : (e : Escape) (xs : List ℕ) → note_len e xs ≤ length xs
-unfolding note_len
-note_len-within e [] = omega arith
-note_len-within e (x ∷ xs) =
-    let inner = note_len-within (note_escape e x) xs in
-    cond_both (ends_note e x) _ _ (λ n. n ≤ suc (length xs)) (λ _. omega arith) (λ _. omega arith)
+-- line comments
+pub comment_len-within : (e : Escape) (xs : List ℕ) → comment_len e xs ≤ length xs
+unfolding comment_len
+comment_len-within e [] = omega arith
+comment_len-within e (x ∷ xs) =
+    let inner = comment_len-within (comment_escape e x) xs in
+    cond_both (ends_comment e x) _ _ (λ n. n ≤ suc (length xs)) (λ _. omega arith) (λ _. omega arith)
 
-note-goes : (e : Escape) (a : ℕ) (rest : List ℕ) → a ≢ 10 → note_len e (a ∷ rest) ≡ suc (note_len (note_escape e a) rest)
-unfolding note_len ends_note
-note-goes Plain a rest other = cond-false _ _ _ (ne_eqb a 10 other)
-note-goes Backslash a rest other = refl
-note-goes Return a rest other = refl
+comment-goes : (e : Escape) (a : ℕ) (rest : List ℕ) → a ≢ 10 → comment_len e (a ∷ rest) ≡ suc (comment_len (comment_escape e a) rest)
+unfolding comment_len ends_comment
+comment-goes Plain a rest other = cond-false _ _ _ (ne_eqb a 10 other)
+comment-goes Backslash a rest other = refl
+comment-goes Return a rest other = refl
 
-note-join : (e : Escape) (rest : List ℕ) → note_len e (92 ∷ 10 ∷ rest) ≡ suc (suc (note_len Plain rest))
-unfolding note_len ends_note note_escape
-note-join Plain rest = refl
-note-join Backslash rest = refl
-note-join Return rest = refl
+comment-join : (e : Escape) (rest : List ℕ) → comment_len e (92 ∷ 10 ∷ rest) ≡ suc (suc (comment_len Plain rest))
+unfolding comment_len ends_comment comment_escape
+comment-join Plain rest = refl
+comment-join Backslash rest = refl
+comment-join Return rest = refl
 
-note-cr_join : (e : Escape) (rest : List ℕ) → note_len e (92 ∷ 13 ∷ 10 ∷ rest) ≡ suc (suc (suc (note_len Plain rest)))
-unfolding note_len ends_note note_escape
-note-cr_join Plain rest = refl
-note-cr_join Backslash rest = refl
-note-cr_join Return rest = refl
+comment-cr_join : (e : Escape) (rest : List ℕ) → comment_len e (92 ∷ 13 ∷ 10 ∷ rest) ≡ suc (suc (suc (comment_len Plain rest)))
+unfolding comment_len ends_comment comment_escape
+comment-cr_join Plain rest = refl
+comment-cr_join Backslash rest = refl
+comment-cr_join Return rest = refl
 
-pub note_longest : {rest : List ℕ} {n : ℕ} → Noted rest n → (e : Escape) → n ≤ note_len e rest
-note_longest (note_ends h) e = omega arith
-note_longest (noted_byte {a = a} {n = n} {rest = rest} other more) e =
-    let inner = note_longest more (note_escape e a) in
-    let same = note-goes e a rest other in
+pub comment_longest : {rest : List ℕ} {n : ℕ} → Commented rest n → (e : Escape) → n ≤ comment_len e rest
+comment_longest (comment_ends h) e = omega arith
+comment_longest (commented_byte {a = a} {n = n} {rest = rest} other more) e =
+    let inner = comment_longest more (comment_escape e a) in
+    let same = comment-goes e a rest other in
     omega arith
-note_longest (noted_join {a = a} {b = b} {n = n} {rest = rest} x y more) e =
-    let inner = note_longest more Plain in
-    let same : note_len e (a ∷ b ∷ rest) ≡ suc (suc (note_len Plain rest)) = rw (x, y) (note-join e rest) in
+comment_longest (commented_join {a = a} {b = b} {n = n} {rest = rest} x y more) e =
+    let inner = comment_longest more Plain in
+    let same : comment_len e (a ∷ b ∷ rest) ≡ suc (suc (comment_len Plain rest)) = rw (x, y) (comment-join e rest) in
     omega arith
-note_longest (noted_cr_join {a = a} {b = b} {c = c} {n = n} {rest = rest} x y z more) e =
-    let inner = note_longest more Plain in
-    let same : note_len e (a ∷ b ∷ c ∷ rest) ≡ suc (suc (suc (note_len Plain rest))) = rw (x, y, z) (note-cr_join e rest) in
+comment_longest (commented_cr_join {a = a} {b = b} {c = c} {n = n} {rest = rest} x y z more) e =
+    let inner = comment_longest more Plain in
+    let same : comment_len e (a ∷ b ∷ c ∷ rest) ≡ suc (suc (suc (comment_len Plain rest))) = rw (x, y, z) (comment-cr_join e rest) in
     omega arith
 
--- what is counted behind nothing of note, behind `\` and behind `\` CR
-record NoteCounted (xs : List ℕ) : Type 0 where
-  plain : Noted xs (note_len Plain xs)
-  slash : Noted (92 ∷ xs) (suc (note_len Backslash xs))
-  return : Noted (92 ∷ 13 ∷ xs) (suc (suc (note_len Return xs)))
+-- what is counted after nothing special, after `\` and after `\` CR
+record CommentCounted (xs : List ℕ) : Type 0 where
+  plain : Commented xs (comment_len Plain xs)
+  slash : Commented (92 ∷ xs) (suc (comment_len Backslash xs))
+  return : Commented (92 ∷ 13 ∷ xs) (suc (suc (comment_len Return xs)))
 
 slash_byte : ◌≢◌ {A = ℕ} 92 10
 slash_byte e = omega arith
@@ -216,67 +216,67 @@ slash_byte e = omega arith
 return_byte : ◌≢◌ {A = ℕ} 13 10
 return_byte e = omega arith
 
-note_counted-nil : NoteCounted []
-unfolding note_len
-note_counted-nil = record {
-  plain = note_ends (inl refl);
-  slash = noted_byte slash_byte (note_ends (inl refl));
-  return = noted_byte slash_byte (noted_byte return_byte (note_ends (inl refl)));
+comment_counted-nil : CommentCounted []
+unfolding comment_len
+comment_counted-nil = record {
+  plain = comment_ends (inl refl);
+  slash = commented_byte slash_byte (comment_ends (inl refl));
+  return = commented_byte slash_byte (commented_byte return_byte (comment_ends (inl refl)));
 }
 
-note_counted-feed : (r : List ℕ) → NoteCounted r → NoteCounted (10 ∷ r)
-unfolding note_len ends_note note_escape
-note_counted-feed r h = record {
-  plain = note_ends (inr refl);
-  slash = noted_join refl refl h.plain;
-  return = noted_cr_join refl refl refl h.plain;
+comment_counted-feed : (r : List ℕ) → CommentCounted r → CommentCounted (10 ∷ r)
+unfolding comment_len ends_comment comment_escape
+comment_counted-feed r h = record {
+  plain = comment_ends (inr refl);
+  slash = commented_join refl refl h.plain;
+  return = commented_cr_join refl refl refl h.plain;
 }
 
-note_counted-slash : (r : List ℕ) → NoteCounted r → NoteCounted (92 ∷ r)
-unfolding note_len ends_note note_escape
-note_counted-slash r h = record {
+comment_counted-slash : (r : List ℕ) → CommentCounted r → CommentCounted (92 ∷ r)
+unfolding comment_len ends_comment comment_escape
+comment_counted-slash r h = record {
   plain = h.slash;
-  slash = noted_byte slash_byte h.slash;
-  return = noted_byte slash_byte (noted_byte return_byte h.slash);
+  slash = commented_byte slash_byte h.slash;
+  return = commented_byte slash_byte (commented_byte return_byte h.slash);
 }
 
-note_counted-return : (r : List ℕ) → NoteCounted r → NoteCounted (13 ∷ r)
-unfolding note_len ends_note note_escape
-note_counted-return r h = record {
-  plain = noted_byte return_byte h.plain;
+comment_counted-return : (r : List ℕ) → CommentCounted r → CommentCounted (13 ∷ r)
+unfolding comment_len ends_comment comment_escape
+comment_counted-return r h = record {
+  plain = commented_byte return_byte h.plain;
   slash = h.return;
-  return = noted_byte slash_byte (noted_byte return_byte (noted_byte return_byte h.plain));
+  return = commented_byte slash_byte (commented_byte return_byte (commented_byte return_byte h.plain));
 }
 
-note_escape-other : (e : Escape) (b : ℕ) → b ≢ 92 → b ≢ 13 → note_escape e b ≡ Plain
-unfolding note_escape
-note_escape-other Plain b x y = cond-false _ _ _ (ne_eqb b 92 x)
-note_escape-other Backslash b x y = cond-false _ _ _ (ne_eqb b 92 x) ∙ cond-false _ _ _ (ne_eqb b 13 y)
-note_escape-other Return b x y = cond-false _ _ _ (ne_eqb b 92 x)
+comment_escape-other : (e : Escape) (b : ℕ) → b ≢ 92 → b ≢ 13 → comment_escape e b ≡ Plain
+unfolding comment_escape
+comment_escape-other Plain b x y = cond-false _ _ _ (ne_eqb b 92 x)
+comment_escape-other Backslash b x y = cond-false _ _ _ (ne_eqb b 92 x) ∙ cond-false _ _ _ (ne_eqb b 13 y)
+comment_escape-other Return b x y = cond-false _ _ _ (ne_eqb b 92 x)
 
-note-other : (e : Escape) (b : ℕ) (r : List ℕ) → b ≢ 92 → b ≢ 13 → b ≢ 10 → note_len e (b ∷ r) ≡ suc (note_len Plain r)
-note-other e b r x y z = note-goes e b r z ∙ ap (λ s. suc (note_len s r)) (note_escape-other e b x y)
+comment-other : (e : Escape) (b : ℕ) (r : List ℕ) → b ≢ 92 → b ≢ 13 → b ≢ 10 → comment_len e (b ∷ r) ≡ suc (comment_len Plain r)
+comment-other e b r x y z = comment-goes e b r z ∙ ap (λ s. suc (comment_len s r)) (comment_escape-other e b x y)
 
-note_counted-other : (b : ℕ) (r : List ℕ) → b ≢ 92 → b ≢ 13 → b ≢ 10 → NoteCounted r → NoteCounted (b ∷ r)
-note_counted-other b r x y z h =
-    let one : Noted (b ∷ r) (suc (note_len Plain r)) = noted_byte z h.plain in
+comment_counted-other : (b : ℕ) (r : List ℕ) → b ≢ 92 → b ≢ 13 → b ≢ 10 → CommentCounted r → CommentCounted (b ∷ r)
+comment_counted-other b r x y z h =
+    let one : Commented (b ∷ r) (suc (comment_len Plain r)) = commented_byte z h.plain in
     record {
-      plain = subst (λ n. Noted (b ∷ r) n) (sym (note-other Plain b r x y z)) one;
-      slash = subst (λ n. Noted (92 ∷ b ∷ r) (suc n)) (sym (note-other Backslash b r x y z)) (noted_byte slash_byte one);
-      return = subst (λ n. Noted (92 ∷ 13 ∷ b ∷ r) (suc (suc n))) (sym (note-other Return b r x y z)) (noted_byte slash_byte (noted_byte return_byte one));
+      plain = subst (λ n. Commented (b ∷ r) n) (sym (comment-other Plain b r x y z)) one;
+      slash = subst (λ n. Commented (92 ∷ b ∷ r) (suc n)) (sym (comment-other Backslash b r x y z)) (commented_byte slash_byte one);
+      return = subst (λ n. Commented (92 ∷ 13 ∷ b ∷ r) (suc (suc n))) (sym (comment-other Return b r x y z)) (commented_byte slash_byte (commented_byte return_byte one));
     }
 
-note_counted : (xs : List ℕ) → NoteCounted xs
-note_counted [] = note_counted-nil
-note_counted (b ∷ r) =
-    let h = note_counted r in
-    ⊎_elim (λ e. subst (λ a. NoteCounted (a ∷ r)) (sym e) (note_counted-feed r h)) (λ z.
-    ⊎_elim (λ e. subst (λ a. NoteCounted (a ∷ r)) (sym e) (note_counted-slash r h)) (λ x.
-    ⊎_elim (λ e. subst (λ a. NoteCounted (a ∷ r)) (sym e) (note_counted-return r h)) (λ y.
-    note_counted-other b r x y z h) (cases_eq b 13)) (cases_eq b 92)) (cases_eq b 10)
+comment_counted : (xs : List ℕ) → CommentCounted xs
+comment_counted [] = comment_counted-nil
+comment_counted (b ∷ r) =
+    let h = comment_counted r in
+    ⊎_elim (λ e. subst (λ a. CommentCounted (a ∷ r)) (sym e) (comment_counted-feed r h)) (λ z.
+    ⊎_elim (λ e. subst (λ a. CommentCounted (a ∷ r)) (sym e) (comment_counted-slash r h)) (λ x.
+    ⊎_elim (λ e. subst (λ a. CommentCounted (a ∷ r)) (sym e) (comment_counted-return r h)) (λ y.
+    comment_counted-other b r x y z h) (cases_eq b 13)) (cases_eq b 92)) (cases_eq b 10)
 
-pub note_spelled : (xs : List ℕ) → Noted xs (note_len Plain xs)
-note_spelled xs = let h = note_counted xs in h.plain
+pub comment_spelled : (xs : List ℕ) → Commented xs (comment_len Plain xs)
+comment_spelled xs = let h = comment_counted xs in h.plain
 
 -- literals
 -- a quote is neither `\` nor LF
@@ -329,7 +329,7 @@ module _ (q : ℕ) (is : IsQuote q) where
   literal-byte a rest x y z =
       literal-goes Plain a rest (or_from _ _ (ne_eqb a q x) (ne_eqb a 10 z)) ∙ ap (λ e. suc (literal_len q e rest)) (cond-false _ _ _ (ne_eqb a 92 y))
 
-  -- behind `\` CR without an LF it goes on as ever
+  -- after `\` CR without an LF it goes on as ever
   literal-resumes : (rest : List ℕ) → take 1 rest ≢ 10 ∷ [] → literal_len q Return rest ≡ literal_len q Plain rest
   unfolding literal_len ends_literal literal_escape
   literal-resumes [] other = refl
@@ -387,7 +387,7 @@ module _ (q : ℕ) (is : IsQuote q) where
   pub literal_longest : {rest : List ℕ} {n : ℕ} → Quoted q rest n → n ≤ literal_len q Plain rest
   literal_longest is = let same = literal_exact is in omega (arith, same)
 
-  -- what is counted behind nothing of note, behind `\` and behind `\` CR
+  -- what is counted after nothing special, after `\` and after `\` CR
   record LiteralCounted (xs : List ℕ) : Type 0 where
     plain : Quoted q xs (literal_len q Plain xs)
     slash : Quoted q (92 ∷ xs) (suc (literal_len q Backslash xs))

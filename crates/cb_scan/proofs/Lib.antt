@@ -5,7 +5,7 @@ pub mod Cuts
 pub mod DeclarationLemmas
 pub mod DirectiveLemmas
 pub mod FactsWithin
-pub mod Fronts
+pub mod Prefixes
 pub mod FunctionLemmas
 pub mod GatherLemmas
 pub mod HeadLemmas

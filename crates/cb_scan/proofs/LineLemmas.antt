@@ -4,13 +4,13 @@ use Rattle.std.proofs.lemmas.Bool.{cases_Bool}
 use Rattle.std.proofs.lemmas.List.{append-nil, length-map}
 use Rattle.std.specs.Prelude.{cond, filter}
 use Rattle.std.specs.List.{slice_split, onto_first, flat_map, zip}
-use Rattle.cb_scan.specs.declared.line.Stage.{Stage}
-use Rattle.cb_scan.specs.declared.line.Stage.TheVariants.{Start}
-use Rattle.cb_scan.specs.declared.piece.Piece.{Piece}
-use Rattle.cb_scan.specs.declared.token.Token.{Token}
-use Rattle.cb_scan.specs.Code.{is_newline, line_ends, logical_lines}
-use Rattle.cb_scan.specs.Tokens.{tokens, token_of, is_significant}
-use Rattle.cb_scan.specs.steps.Line.{next_stage, run, walk}
+use Rattle.cb_scan.specs.declared.rules.directives.Stage.{Stage}
+use Rattle.cb_scan.specs.declared.rules.directives.Stage.TheVariants.{Start}
+use Rattle.cb_scan.specs.declared.lex.piece.Piece.{Piece}
+use Rattle.cb_scan.specs.declared.lex.token.Token.{Token}
+use Rattle.cb_scan.specs.rules.Code.{is_newline, line_ends, logical_lines}
+use Rattle.cb_scan.specs.lex.Tokens.{tokens, token_of, is_significant}
+use Rattle.cb_scan.specs.steps.Directives.{next_stage, run, walk}
 use Rattle.cb_scan.specs.steps.Lined.{lined}
 
 -- the pieces of each line

@@ -1,4 +1,4 @@
--- The table of line starts finds each line, and each byte stands on one of the lines.
+-- The table of line starts finds each line, and each byte is on one of the lines.
 use Rattle.std.proofs.Common.{◌≡◌, ◌∙◌, ℕ, zero, suc, ◌+◌, ◌-◌, ◌<◌, ◌≤◌, ◌==◌, true, false, cond, List, [], ◌∷◌, ◌++◌, Some, None, length, take, drop, get_or, refl, sym, ap, subst, arith, add-one, append_assoc, length-append, length-drop, take-append-drop}
 use Rattle.std.specs.Prelude.{slice_get, slice_range}
 use Rattle.std.specs.List.{count_by, flat_map, slice_index_or}
@@ -38,15 +38,15 @@ lines-whole text = (are_lines (length text) text (omega arith)).whole
 pub lines-few : (text : List ℕ) → length (lines_of text) ≤ length text
 lines-few text = (are_lines (length text) text (omega arith)).few
 
--- the lines behind the first are one less at most
+-- the lines after the first are one less at most
 lines_rest : (bs : List ℕ) → length (lines_of bs) ≤ suc (length (lines_of (drop (line_len bs) bs)))
 lines_rest [] = omega (arith, ap length lines-nil)
 lines_rest (b ∷ bs) = omega (arith, ap length (lines-step (b ∷ bs) (omega arith)))
 
 -- a byte before some bytes takes no line away, and a line feed adds one
-lines_behind : (b : ℕ) (bs : List ℕ) → cond (b == 10) 1 0 + length (lines_of bs) ≤ length (lines_of (b ∷ bs))
+lines_after : (b : ℕ) (bs : List ℕ) → cond (b == 10) 1 0 + length (lines_of bs) ≤ length (lines_of (b ∷ bs))
 unfolding line_len
-lines_behind b bs =
+lines_after b bs =
     let step = ap length (lines-step (b ∷ bs) (omega arith)) in
     let split =
     elim (b == 10) as (λ c. cond c 1 0 + length (lines_of bs) ≤ suc (length (lines_of (drop (cond c 1 (suc (line_len bs))) (b ∷ bs))))) [ true ↦ omega arith | false ↦ omega (arith, lines_rest bs) ] in
@@ -56,9 +56,9 @@ lines_behind b bs =
 feeds_few : (text : List ℕ) (place : ℕ) → place < length text → count_by (λ b. b == 10) (take place text) + 1 ≤ length (lines_of text)
 feeds_few [] place within = absurd (omega arith)
 feeds_few (b ∷ bs) zero within = omega (arith, ap length (lines-step (b ∷ bs) (omega arith)))
-feeds_few (b ∷ bs) (suc place) within = omega (arith, sum_by-cons (λ c. cond (c == 10) 1 0) b (take place bs), lines_behind b bs, feeds_few bs place (omega arith))
+feeds_few (b ∷ bs) (suc place) within = omega (arith, sum_by-cons (λ c. cond (c == 10) 1 0) b (take place bs), lines_after b bs, feeds_few bs place (omega arith))
 
--- a byte of a text stands on one of its lines
+-- a byte of a text is on one of its lines
 pub line-within : (text : List ℕ) (place : ℕ) → place < length text → IsLineOf text (line_of text place)
 line-within text place within = (omega arith, omega (arith, feeds_few text place within, length-map (lines_of text) without_terminator))
 
@@ -71,7 +71,7 @@ pub line_starts-length : (text : List ℕ) → length (line_starts text) ≡ len
 unfolding line_starts
 line_starts-length text = starts_length 0 (lines_of text) ∙ ap (λ n. n + 1) (sym (length-map (lines_of text) without_terminator))
 
--- line k of some lines behind a text lies between its entries
+-- line k of some lines after a text lies between its entries
 pub record LiesBetween (text line : List ℕ) (start end : ℕ) : Type 0 where
   pub order : start ≤ end
   pub within : end ≤ length text
@@ -122,7 +122,7 @@ module _ (text starts : List ℕ) (k : ℕ) (table : starts ≡ line_starts text
   pub table_reads : k + 1 < length starts → Some (slice_range text (get_or starts k 0) (get_or starts (k + 1) 0)) ≡ slice_get (lines_of text) k
   table_reads within = ap Some (table_line within).reads ∙ sym (slice_get-get_or (lines_of text) k [] (in_table within))
 
-  -- no line behind the table
+  -- no line after the table
   pub table_none : length starts ≤ k + 1 → None ≡ slice_get (lines_of text) k
   table_none past = sym (slice_get_past (lines_of text) k (omega (arith, past, ap length table, line_starts-length text, length-map (lines_of text) without_terminator)))
 

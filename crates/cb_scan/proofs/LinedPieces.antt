@@ -7,16 +7,16 @@ use Rattle.std.proofs.Common.{cond}
 use Rattle.std.proofs.lemmas.List.{drop-drop, length-map, take_rest}
 use Rattle.std.proofs.lemmas.List.Sums.{count_by-le-length, sum_by-append}
 use Rattle.std.specs.List.{AllByRecursion, count_by, list_all, prefix_len}
-use Rattle.cb_scan.specs.declared.lined.Lined.{Lined}
-use Rattle.cb_scan.specs.declared.piece.Class.{Class}
-use Rattle.cb_scan.specs.declared.piece.Class.TheVariants.{Name, Number, Str, Chr, LineNote, BlockNote, Blank, Newline, Byte}
-use Rattle.cb_scan.specs.declared.piece.Piece.{Piece}
-use Rattle.cb_scan.specs.Lexeme.{is_word, goes_on, all_go_on}
+use Rattle.cb_scan.specs.declared.lex.lined.Lined.{Lined}
+use Rattle.cb_scan.specs.declared.lex.piece.Class.{Class}
+use Rattle.cb_scan.specs.declared.lex.piece.Class.TheVariants.{Name, Number, Str, Chr, LineNote, BlockNote, Blank, Newline, Byte}
+use Rattle.cb_scan.specs.declared.lex.piece.Piece.{Piece}
+use Rattle.cb_scan.specs.lex.Lexeme.{is_word, goes_on, all_go_on}
 use Rattle.cb_scan.specs.Lines.{line_of}
-use Rattle.cb_scan.specs.Pieces.{LiesIn}
+use Rattle.cb_scan.specs.lex.Pieces.{LiesIn}
 use Rattle.cb_scan.specs.steps.Cut.{class_at, length_in, number_len, piece_len, piece_at, pieces_at, pieces}
 use Rattle.cb_scan.specs.steps.Lined.{is_feed, lined, Within, holds_feeds}
-use Rattle.cb_scan.proofs.Fronts.{Front, front, at_name, at_number, at_str, at_chr, at_line_note, at_block_note, at_blank, at_newline, at_byte}
+use Rattle.cb_scan.proofs.Prefixes.{Prefix, prefix_of, at_name, at_number, at_str, at_chr, at_line_comment, at_block_comment, at_blank, at_newline, at_byte}
 use Rattle.cb_scan.proofs.Lengths.{list_all-prefix, all_go_on-counted}
 use Rattle.cb_scan.proofs.PieceLists.{pieces-empty, pieces-step, pieces-lie, length-pieces}
 
@@ -43,21 +43,21 @@ numbers-no_feed last (x ∷ xs) t =
     let inner = numbers-no_feed x xs parts.1 in
     grind (arith, nat_tests)
 
-no_feeds_in : (b : ℕ) (rest : List ℕ) (class : Class) → Front b rest class → holds_feeds class ≡ false → count_by is_feed (take (length_in class (b ∷ rest)) (b ∷ rest)) ≡ 0
+no_feeds_in : (b : ℕ) (rest : List ℕ) (class : Class) → Prefix b rest class → holds_feeds class ≡ false → count_by is_feed (take (length_in class (b ∷ rest)) (b ∷ rest)) ≡ 0
 unfolding length_in
 no_feeds_in b rest Name (at_name t) bare = words-no_feed (take (prefix_len is_word (b ∷ rest)) (b ∷ rest)) (list_all-prefix is_word (b ∷ rest))
 no_feeds_in b rest Number (at_number t) bare = numbers-no_feed 46 (take (number_len 46 (b ∷ rest)) (b ∷ rest)) (all_go_on-counted 46 (b ∷ rest))
 no_feeds_in b rest Str (at_str t) bare = cc
 no_feeds_in b rest Chr (at_chr t) bare = cc
-no_feeds_in b rest LineNote (at_line_note t) bare = cc
-no_feeds_in b rest BlockNote (at_block_note t) bare = cc
+no_feeds_in b rest LineNote (at_line_comment t) bare = cc
+no_feeds_in b rest BlockNote (at_block_comment t) bare = cc
 no_feeds_in b rest Blank (at_blank t) bare = cc
 no_feeds_in b rest Newline (at_newline t) bare = cc
 no_feeds_in b rest Byte (at_byte f) bare = grind (arith, nat_tests)
 
 no_feeds_first : (rest : List ℕ) → 0 < length rest → holds_feeds (class_at rest) ≡ false → count_by is_feed (take (piece_len rest) rest) ≡ 0
 no_feeds_first [] some bare = absurd (let x : ⊥ = omega arith in x)
-no_feeds_first (b ∷ rest) some bare = no_feeds_in b rest (class_at (b ∷ rest)) (front b rest) bare
+no_feeds_first (b ∷ rest) some bare = no_feeds_in b rest (class_at (b ∷ rest)) (prefix_of b rest) bare
 
 -- a piece of a class that holds no line feeds has none
 pub no_feeds : (place : ℕ) (rest : List ℕ) (p : Piece) → 0 < length rest → p ≡ piece_at place rest → holds_feeds p.class ≡ false
@@ -84,7 +84,7 @@ line-next text place end le =
 pub line-small : (text : List ℕ) (place : ℕ) → place ≤ length text → line_of text place ≤ length text + 1
 line-small text place le = omega (arith, count_by-le-length is_feed (take place text), length-take-le place text le)
 
--- the place and the line behind a piece
+-- the place and the line after a piece
 pub line_after : (text : List ℕ) (place end line fed : ℕ) → place ≤ length text → place ≤ end → end ≤ place + length (take (length text - place) (drop place text))
     → line ≡ line_of text place → fed ≡ count_by is_feed (take (end - place) (take (length text - place) (drop place text)))
     → (end ≤ length text) × (line + fed ≡ line_of text end)

@@ -83,7 +83,7 @@ module _ (a b c : List ℕ) where
 abbrev number : Bool → ℕ
 number b = cond b 1 0
 
--- no element goes before one that stands in front of it
+-- no element goes before one that comes after it
 abbrev pub Sorted : {X : Type 0} → (X → List ℕ) → List X → Type 0
 Sorted key [] = Unit {0}
 Sorted key (x ∷ xs) = AllByRecursion (λ y. goes_first key x y ≡ true) xs × Sorted key xs

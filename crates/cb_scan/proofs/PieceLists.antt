@@ -4,10 +4,10 @@ use Rattle.std.proofs.lemmas.Bool.Decides.{nat_tests}
 use Rattle.std.proofs.lemmas.List.{drop-drop, take_rest}
 use Rattle.std.specs.Iterator.{MakesProgress, item_count}
 use Rattle.std.specs.List.{AllByRecursion}
-use Rattle.cb_scan.specs.declared.piece.Class.{Class}
-use Rattle.cb_scan.specs.declared.piece.Piece.{Piece}
-use Rattle.cb_scan.specs.Lexeme.{IsLexeme, Lexeme}
-use Rattle.cb_scan.specs.Pieces.{IsLongest, ArePiecesFrom, IsPieces, Adjoin, LiesIn}
+use Rattle.cb_scan.specs.declared.lex.piece.Class.{Class}
+use Rattle.cb_scan.specs.declared.lex.piece.Piece.{Piece}
+use Rattle.cb_scan.specs.lex.Lexeme.{IsLexeme, Lexeme}
+use Rattle.cb_scan.specs.lex.Pieces.{IsLongest, ArePiecesFrom, IsPieces, Adjoin, LiesIn}
 use Rattle.cb_scan.specs.steps.Cut.{class_at, piece_len, piece_at, pieces_from, pieces_at, pieces}
 use Rattle.cb_scan.proofs.Cuts.{piece-some, piece-within, piece-lexeme, lexeme-class, lexeme-longest}
 
@@ -188,7 +188,7 @@ gave_first can always s t x e = record {
 pub some_left : (n : ℕ) → (n == 0) ≡ false → 0 < n
 some_left n other = grind (arith, nat_tests)
 
--- what a step leaves: the piece p is the first, and the rest is cut behind it
+-- what a step leaves: the piece p is the first, and the rest is cut after it
 pub pieces-next : (place : ℕ) (rest : List ℕ) (p : Piece) → 0 < length rest → p ≡ piece_at place rest
     → pieces_at place rest ≡ p ∷ pieces_at p.span.end (take (length rest - (p.span.end - place)) (drop (p.span.end - place) rest))
 pieces-next place rest p some e =

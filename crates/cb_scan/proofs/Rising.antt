@@ -6,19 +6,19 @@ use Rattle.std.specs.List.{AllByRecursion, flat_map, list_any, range_with_len}
 use Rattle.std.specs.Option.{MatchOption, option_map_or}
 use Rattle.std.proofs.lemmas.Bool.{cases_Bool, eqb-true, false_from_ne_true}
 use Rattle.std.proofs.Math.Bool.{and-false}
-use Rattle.cb_scan.specs.declared.line.Stage.{Stage}
-use Rattle.cb_scan.specs.declared.line.Stage.TheVariants.{Start}
-use Rattle.cb_scan.specs.declared.piece.Piece.{Piece}
-use Rattle.cb_scan.specs.declared.token.Token.{Token}
-use Rattle.cb_scan.specs.Code.{is_newline, is_directive, code, directives, logical_lines}
-use Rattle.cb_scan.specs.Depth.{closes, depth, depth_after, head_start, is_counted, is_stop, is_uncounted, token_at}
-use Rattle.cb_scan.specs.Functions.{Function, called_name, close_from, function_at, functions, head, may_define}
-use Rattle.cb_scan.specs.Macros.{Macro, after_arguments, defines_macro, macro_of, macros}
-use Rattle.cb_scan.specs.Pieces.{Adjoin}
-use Rattle.cb_scan.specs.Tokens.{is_any_word, is_mark, is_name_token, is_static, is_significant, token_of}
-use Rattle.cb_scan.specs.Uses.{behind_own_word, is_include, usable, used}
+use Rattle.cb_scan.specs.declared.rules.directives.Stage.{Stage}
+use Rattle.cb_scan.specs.declared.rules.directives.Stage.TheVariants.{Start}
+use Rattle.cb_scan.specs.declared.lex.piece.Piece.{Piece}
+use Rattle.cb_scan.specs.declared.lex.token.Token.{Token}
+use Rattle.cb_scan.specs.rules.Code.{is_newline, is_directive, code, directives, logical_lines}
+use Rattle.cb_scan.specs.rules.Depth.{closes, depth, depth_after, head_start, is_counted, is_stop, is_uncounted, token_at}
+use Rattle.cb_scan.specs.rules.Functions.{Function, called_name, close_from, function_at, functions, head, may_define}
+use Rattle.cb_scan.specs.rules.Macros.{Macro, after_arguments, defines_macro, macro_of, macros}
+use Rattle.cb_scan.specs.lex.Pieces.{Adjoin}
+use Rattle.cb_scan.specs.lex.Tokens.{is_any_word, is_mark, is_name_token, is_static, is_significant, token_of}
+use Rattle.cb_scan.specs.rules.Uses.{after_own_word, is_include, usable, used}
 use Rattle.cb_scan.specs.steps.Cut.{pieces}
-use Rattle.cb_scan.specs.steps.Line.{next_stage, nothing, run, walk}
+use Rattle.cb_scan.specs.steps.Directives.{next_stage, nothing, run, walk}
 use Rattle.cb_scan.specs.steps.Lined.{lined}
 use Rattle.cb_scan.proofs.BodyLemmas.{and_left, function_named, none_here, stays_deep}
 use Rattle.cb_scan.proofs.FunctionLemmas.{head_start_le}
@@ -26,7 +26,7 @@ use Rattle.cb_scan.proofs.LineLemmas.{walk_lines}
 use Rattle.cb_scan.proofs.PieceLists.{pieces-adjoin}
 use Rattle.cb_scan.proofs.WithinLemmas.{all-append, all-take, all-drop, all-filter, called-among}
 
--- the token begins at a place or behind it
+-- the token begins at a place or after it
 abbrev pub From : ℕ → Token → Type 0
 From place t = place ≤ t.span.start
 
@@ -39,15 +39,15 @@ Rising (t ∷ ts) = (t.span.start < t.span.end) × AllByRecursion (From t.span.e
 abbrev pub Before : List Token → List Token → Type 0
 Before xs ys = AllByRecursion (λ (x : Token). AllByRecursion (From x.span.end) ys) xs
 
-pub all-front : {X : Type 0} (P : X → Type 0) (xs ys : List X) → AllByRecursion P (xs ++ ys) → AllByRecursion P xs × AllByRecursion P ys
-all-front P [] ys a = (tt, a)
-all-front P (x ∷ xs) ys a = let later = all-front P xs ys a.1 in ((a.0, later.0), later.1)
+pub all-prefix : {X : Type 0} (P : X → Type 0) (xs ys : List X) → AllByRecursion P (xs ++ ys) → AllByRecursion P xs × AllByRecursion P ys
+all-prefix P [] ys a = (tt, a)
+all-prefix P (x ∷ xs) ys a = let later = all-prefix P xs ys a.1 in ((a.0, later.0), later.1)
 
 pub rising-split : (xs ys : List Token) → Rising (xs ++ ys) → Rising xs × Rising ys × Before xs ys
 rising-split [] ys r = (tt, r, tt)
 rising-split (x ∷ xs) ys r =
     let later = rising-split xs ys r.2 in
-    let parts = all-front (From x.span.end) xs ys r.1 in
+    let parts = all-prefix (From x.span.end) xs ys r.1 in
     ((r.0, parts.0, later.0), later.1, (parts.1, later.2))
 
 pub rising-join : (xs ys : List Token) → Rising xs → Rising ys → Before xs ys → Rising (xs ++ ys)
@@ -71,7 +71,7 @@ module _ (pick : List Token → List Token) (picks : Picks pick) where
   pub all-picked : (P : Token → Type 0) (ls : List (List Token)) → AllByRecursion P (flat_map (λ l. l) ls) → AllByRecursion P (flat_map pick ls)
   all-picked P [] a = tt
   all-picked P (l ∷ ls) a =
-      let parts = all-front P l (flat_map (λ l. l) ls) a in
+      let parts = all-prefix P l (flat_map (λ l. l) ls) a in
       all-append P (pick l) (flat_map pick ls) (picks.all P l parts.0) (all-picked P ls parts.1)
 
   each_before : (ls : List (List Token)) (xs : List Token) → Before xs (flat_map (λ l. l) ls) → Before xs (flat_map pick ls)
@@ -154,15 +154,15 @@ pub code_rises : (text : List ℕ) → Rising (code text (pieces text))
 code_rises text = subst Rising (sym (code_flat (logical_lines text (pieces text)))) (rising-picked code_pick code_picks (logical_lines text (pieces text)) (all_rise text))
 
 -- ---- the names used
-behind_all : (P : Token → Type 0) (l : List Token) → AllByRecursion P l → AllByRecursion P (behind_own_word l)
-behind_all P [] a = tt
-behind_all P (h ∷ []) a = tt
-behind_all P (h ∷ own ∷ l) a = elim (is_any_word own.role) as (λ b. AllByRecursion P (cond b l (own ∷ l))) [ true ↦ a.1.1 | false ↦ a.1 ]
+after_all : (P : Token → Type 0) (l : List Token) → AllByRecursion P l → AllByRecursion P (after_own_word l)
+after_all P [] a = tt
+after_all P (h ∷ []) a = tt
+after_all P (h ∷ own ∷ l) a = elim (is_any_word own.role) as (λ b. AllByRecursion P (cond b l (own ∷ l))) [ true ↦ a.1.1 | false ↦ a.1 ]
 
-behind_rises : (l : List Token) → Rising l → Rising (behind_own_word l)
-behind_rises [] r = tt
-behind_rises (h ∷ []) r = tt
-behind_rises (h ∷ own ∷ l) r = elim (is_any_word own.role) as (λ b. Rising (cond b l (own ∷ l))) [ true ↦ r.2.2 | false ↦ r.2 ]
+after_rises : (l : List Token) → Rising l → Rising (after_own_word l)
+after_rises [] r = tt
+after_rises (h ∷ []) r = tt
+after_rises (h ∷ own ∷ l) r = elim (is_any_word own.role) as (λ b. Rising (cond b l (own ∷ l))) [ true ↦ r.2.2 | false ↦ r.2 ]
 
 pub used_picks : Picks used
 used_picks = record {
@@ -172,15 +172,15 @@ used_picks = record {
   where
     usable_all : (P : Token → Type 0) (l : List Token) → AllByRecursion P l → AllByRecursion P (usable l)
     usable_all P l a =
-        elim (is_directive l) as (λ b. AllByRecursion P (cond b (cond (is_include l) [] (behind_own_word l)) l)) [
-          | true ↦ elim (is_include l) as (λ b. AllByRecursion P (cond b [] (behind_own_word l))) [ true ↦ tt | false ↦ behind_all P l a ]
+        elim (is_directive l) as (λ b. AllByRecursion P (cond b (cond (is_include l) [] (after_own_word l)) l)) [
+          | true ↦ elim (is_include l) as (λ b. AllByRecursion P (cond b [] (after_own_word l))) [ true ↦ tt | false ↦ after_all P l a ]
           | false ↦ a
         ]
 
     usable_rises : (l : List Token) → Rising l → Rising (usable l)
     usable_rises l r =
-        elim (is_directive l) as (λ b. Rising (cond b (cond (is_include l) [] (behind_own_word l)) l)) [
-          | true ↦ elim (is_include l) as (λ b. Rising (cond b [] (behind_own_word l))) [ true ↦ tt | false ↦ behind_rises l r ]
+        elim (is_directive l) as (λ b. Rising (cond b (cond (is_include l) [] (after_own_word l)) l)) [
+          | true ↦ elim (is_include l) as (λ b. Rising (cond b [] (after_own_word l))) [ true ↦ tt | false ↦ after_rises l r ]
           | false ↦ r
         ]
 
@@ -219,7 +219,7 @@ names_flat (l ∷ ls) = ap (λ c. macro_names l ++ c) (names_flat ls) ∙ sym (m
 pub only_directives : (ls : List (List Token)) (P : Token → Type 0) → AllByRecursion P (flat_map (λ l. l) ls) → AllByRecursion P (flat_map (λ l. l) (filter is_directive ls))
 only_directives [] P a = tt
 only_directives (l ∷ ls) P a =
-    let parts = all-front P l (flat_map (λ l. l) ls) a in
+    let parts = all-prefix P l (flat_map (λ l. l) ls) a in
     elim (is_directive l) as (λ b. AllByRecursion P (flat_map (λ l. l) (cond b (l ∷ filter is_directive ls) (filter is_directive ls)))) [
       | true ↦ all-append P l _ parts.0 (only_directives ls P parts.1)
       | false ↦ only_directives ls P parts.1
@@ -264,7 +264,7 @@ named_in_head P ts k a = by_cases (is_counted ts k && depth ts k == 0) (may_defi
     by_cases true false = tt
     by_cases false c = tt
 
--- from a depth above 0 on the depth stays above 0, or a head begins behind it
+-- from a depth above 0 on the depth stays above 0, or a head begins after it
 deep_or_new : (ts : List Token) (a n : ℕ) → 0 < depth ts a → (0 < depth ts (a + n)) ⊎ (a < head_start ts (a + n))
 unfolding depth head_start
 deep_or_new ts a zero deep = inl (subst (λ k. 0 < depth ts k) (sym (add-zero a)) deep)
@@ -293,7 +293,7 @@ deep_or_new ts a (suc n) deep =
     later_start ts k a new =
         elim (is_stop ts k) as (λ b. a < cond b (suc k) (head_start ts k)) [ true ↦ omega (arith, new, head_start_le ts k) | false ↦ new ]
 
--- a part of a list behind its first k tokens
+-- a part of a list after its first k tokens
 nothing_left : {X : Type 0} (P : X → Type 0) (h : ℕ) → AllByRecursion P (drop h [])
 nothing_left P zero = tt
 nothing_left P (suc h) = tt
@@ -307,7 +307,7 @@ part_of_rest P (x ∷ xs) (suc k) zero (suc m) behind a = absurd (omega arith)
 part_of_rest P (x ∷ xs) zero (suc h) (suc m) behind a = part_of_rest P xs zero h m (omega arith) a.1
 part_of_rest P (x ∷ xs) (suc k) (suc h) (suc m) behind a = part_of_rest P xs k h m (omega arith) a
 
--- the functions whose `{` stands behind a body that token a is in are named by tokens behind token a
+-- the functions whose `{` is after a body that token a is in are named by tokens after token a
 later_names : (P : Token → Type 0) (ts : List Token) (a k n : ℕ) → a ≤ k → ((j : ℕ) → k ≤ j → (0 < depth ts j) ⊎ (a < head_start ts j)) → AllByRecursion P (drop a ts) → AllByRecursion P (map function_name (flat_map (function_at ts) (range_with_len k n)))
 later_names P ts a k zero behind new all = tt
 later_names P ts a k (suc n) behind new all =
@@ -348,10 +348,10 @@ one_rises ts k a = by_cases (is_counted ts k && depth ts k == 0) (may_define (he
     by_cases true false = tt
     by_cases false c = tt
 
--- the functions behind one are named behind its `{`
-behind_it : (ts : List Token) (k n : ℕ) → (is_counted ts k && depth ts k == 0) ≡ true → (x : Token) → AllByRecursion (From x.span.end) (drop k ts) → AllByRecursion (From x.span.end) (map function_name (flat_map (function_at ts) (range_with_len (k + 1) n)))
+-- the functions after one are named after its `{`
+after_it : (ts : List Token) (k n : ℕ) → (is_counted ts k && depth ts k == 0) ≡ true → (x : Token) → AllByRecursion (From x.span.end) (drop k ts) → AllByRecursion (From x.span.end) (map function_name (flat_map (function_at ts) (range_with_len (k + 1) n)))
 unfolding depth
-behind_it ts k n is x all =
+after_it ts k n is x all =
     let counted : is_counted ts k ≡ true = and_left (is_counted ts k) (depth ts k == 0) is in
     let opened : depth ts (suc k) ≡ depth ts k + 1 = ap (λ b. depth_after b (token_at ts k) (depth ts k)) counted in
     let deep : 0 < depth ts (k + 1) = subst (λ j. 0 < depth ts j) (sym (add-one k)) (omega arith) in
@@ -374,7 +374,7 @@ names_rise_from ts k (suc n) r =
         rising-join _ _
         (one_rises ts k (all-drop HasByte (head_start ts k) (take k ts) (all_some (take k ts) parts.0)))
         later
-        (named_in_head Q ts k (all-drop Q (head_start ts k) (take k ts) (all_implied (λ x. AllByRecursion (From x.span.end) (drop k ts)) Q (behind_it ts k n is) (take k ts) parts.2)))
+        (named_in_head Q ts k (all-drop Q (head_start ts k) (take k ts) (all_implied (λ x. AllByRecursion (From x.span.end) (drop k ts)) Q (after_it ts k n is) (take k ts) parts.2)))
 
 pub functions_rise : (text : List ℕ) → Rising (map function_name (functions (code text (pieces text))))
 functions_rise text = names_rise_from (code text (pieces text)) 0 (length (code text (pieces text))) (code_rises text)

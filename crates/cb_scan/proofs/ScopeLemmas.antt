@@ -7,19 +7,19 @@ use Rattle.std.specs.List.{AllByRecursion, flat_map}
 use Rattle.std.specs.Option.{option_map, option_map_or}
 use Rattle.cb_scan.specs.steps.Cut.{pieces}
 use Rattle.cb_scan.specs.declared.facts.Include.{Include}
-use Rattle.cb_scan.specs.declared.piece.Span.{Span}
-use Rattle.cb_scan.specs.declared.scope.Range.{Range}
-use Rattle.cb_scan.specs.declared.token.Token.{Token}
-use Rattle.cb_scan.specs.Code.{code, directives, logical_lines}
-use Rattle.cb_scan.specs.Functions.{Function, functions}
-use Rattle.cb_scan.specs.Macros.{Macro, macros}
-use Rattle.cb_scan.specs.Scope.{function_range, function_ranges, holds, macro_ranges, name_around}
-use Rattle.cb_scan.specs.Uses.{header_between, header_of, include_of, includes, used, uses}
-use Rattle.cb_scan.specs.Tokens.{bytes_of, has_kind, is_mark, is_str, kind_is_include}
+use Rattle.cb_scan.specs.declared.lex.piece.Span.{Span}
+use Rattle.cb_scan.specs.declared.rules.scope.Range.{Range}
+use Rattle.cb_scan.specs.declared.lex.token.Token.{Token}
+use Rattle.cb_scan.specs.rules.Code.{code, directives, logical_lines}
+use Rattle.cb_scan.specs.rules.Functions.{Function, functions}
+use Rattle.cb_scan.specs.rules.Macros.{Macro, macros}
+use Rattle.cb_scan.specs.rules.Scope.{function_range, function_ranges, holds, macro_ranges, name_around}
+use Rattle.cb_scan.specs.rules.Uses.{header_between, header_of, include_of, includes, used, uses}
+use Rattle.cb_scan.specs.lex.Tokens.{bytes_of, has_kind, is_mark, is_str, kind_is_include}
 use Rattle.cb_scan.specs.steps.Quote.{is_closed}
 use Rattle.cb_scan.specs.steps.Scopes.{first_around, include_place, include_with, reached, scoped, token_place, use_of}
 use Rattle.cb_scan.proofs.DirectiveLemmas.{range_names}
-use Rattle.cb_scan.proofs.Rising.{From, Rising, all-front, directive_tokens_rise, functions_rise, rising-split, macros_rise, used_rise}
+use Rattle.cb_scan.proofs.Rising.{From, Rising, all-prefix, directive_tokens_rise, functions_rise, rising-split, macros_rise, used_rise}
 
 -- ranges begin in order
 abbrev pub Ascending : List Range → Type 0
@@ -30,7 +30,7 @@ ascending_reached : (p : ℕ) (rs : List Range) → Ascending rs → Ascending (
 ascending_reached p [] a = tt
 ascending_reached p (r ∷ rs) a = elim (nat_lt p r.end) as (λ b. Ascending (cond b (r ∷ rs) (reached p rs))) [ true ↦ a | false ↦ ascending_reached p rs a.1 ]
 
--- a range that ends by a place holds none behind it
+-- a range that ends by a place holds none after it
 ended : (p q : ℕ) (r : Range) → p ≤ q → nat_lt p r.end ≡ false → holds q r ≡ false
 ended p q r le is =
     ap (λ b. nat_le r.name.start q && b) (false_from_ne_true (nat_lt q r.end) (λ e. let below : q < r.end = ltb-true q r.end e in true≢false (sym (lt-ltb p r.end (omega arith)) ∙ is)))
@@ -44,7 +44,7 @@ find_reached p q (r ∷ rs) le =
     (λ is. ap (λ b. find (holds q) (cond b (r ∷ rs) (reached p rs))) is ∙ find_reached p q rs le ∙ sym (ap (λ b. cond b (Some r) (find (holds q) rs)) (ended p q r le is)))
     (cases_Bool (nat_lt p r.end))
 
--- none of the ranges that begin behind a place holds it
+-- none of the ranges that begin after a place holds it
 none_yet : (q s : ℕ) (rs : List Range) → q < s → AllByRecursion (λ (r : Range). s ≤ r.name.start) rs → find (holds q) rs ≡ None
 none_yet q s [] below a = refl
 none_yet q s (r ∷ rs) below a =
@@ -74,7 +74,7 @@ first_decides q (r ∷ rs) a =
     not_le : (m n : ℕ) → nat_le m n ≡ false → n < m
     not_le m n is = ⊎_elim (λ lt. lt) (λ le. absurd (true≢false (sym (le-leb m n le) ∙ is))) (cases_lt n m)
 
--- what was left behind a place serves every place behind it
+-- what was left after a place serves every place after it
 record Serves (p : ℕ) (left all : List Range) : Type 0 where
   ascends : Ascending left
   finds : (q : ℕ) → p ≤ q → find (holds q) left ≡ find (holds q) all
@@ -169,7 +169,7 @@ uses_scoped text =
     (names_in_order text)
 
 -- ---- includes
--- there is one header or none, and it begins in its token or directly behind it
+-- there is one header or none, and it begins in its token or directly after it
 one_between : (Q : List Include → Type 0) (s e l : ℕ) → Q [] → ((i : Include) → i.header.start ≡ s → Q (i ∷ [])) → Q (header_between s e l)
 one_between Q s e l none one =
     elim (nat_lt s e) as (λ b. Q (cond b (record { header = record { start = s; end = e }; line = l; scope = None } ∷ []) [])) [ true ↦ one (record { header = record { start = s; end = e }; line = l; scope = None }) refl | false ↦ none ]
@@ -209,7 +209,7 @@ includes_ordered text p [] a r = tt
 includes_ordered text p (l ∷ ls) a r =
     let rest = flat_map (λ (k : List Token). k) ls in
     let parts = rising-split l rest r in
-    let starts = all-front (From p) l rest a in
+    let starts = all-prefix (From p) l rest a in
     one_include text (λ is. Ordered include_place p (is ++ flat_map (include_of text) ls)) l parts.0
     (includes_ordered text p ls starts.1 parts.1)
     (λ t i among low high. (omega (arith, among (From p) starts.0), includes_ordered text i.header.start ls (from_less i.header.start t.span.end rest high (among (λ x. AllByRecursion (From x.span.end) rest) parts.2)) parts.1))

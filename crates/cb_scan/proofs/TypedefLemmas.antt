@@ -5,18 +5,18 @@ use Rattle.std.proofs.lemmas.List.{drop_more, append-nil, map-append}
 use Rattle.std.specs.Prelude.{◌||◌, ◌&&◌, ◌==◌, not, if◌then◌else◌, cond, find}
 use Rattle.std.specs.List.{flat_map, range_with_len}
 use Rattle.std.specs.Option.{is_none, option_map, option_to_list, option_map_or}
-use Rattle.cb_scan.specs.declared.machine.Machine.{Machine}
-use Rattle.cb_scan.specs.declared.token.Token.{Token}
-use Rattle.cb_scan.specs.declared.token.Role.{Role}
-use Rattle.cb_scan.specs.declared.token.Role.TheVariants.{Word, Mark, Str, Other}
-use Rattle.cb_scan.specs.declared.typedefs.Declaration.{Declaration}
+use Rattle.cb_scan.specs.declared.rules.functions.Machine.{Machine}
+use Rattle.cb_scan.specs.declared.lex.token.Token.{Token}
+use Rattle.cb_scan.specs.declared.lex.token.Role.{Role}
+use Rattle.cb_scan.specs.declared.lex.token.Role.TheVariants.{Word, Mark, Str, Other}
+use Rattle.cb_scan.specs.declared.rules.typedefs.Declaration.{Declaration}
 use Rattle.cb_scan.specs.Definitions.{typedef_def}
-use Rattle.cb_scan.specs.Depth.{depth, head_start, is_stop, token_at, no_token}
-use Rattle.cb_scan.specs.Tokens.{is_mark, is_typedef}
-use Rattle.cb_scan.specs.Typedefs.{begins_typedef, ends_declaration, taken, taken_at, typedef_at, typedef_names, typedef_stop, typedefs}
-use Rattle.cb_scan.specs.steps.Machine.{add, empty_head, next, start}
+use Rattle.cb_scan.specs.rules.Depth.{depth, head_start, is_stop, token_at, no_token}
+use Rattle.cb_scan.specs.lex.Tokens.{is_mark, is_typedef}
+use Rattle.cb_scan.specs.rules.Typedefs.{begins_typedef, ends_declaration, taken, taken_at, typedef_at, typedef_names, typedef_stop, typedefs}
+use Rattle.cb_scan.specs.steps.Functions.{add, empty_head, next, start}
 use Rattle.cb_scan.specs.steps.Typedefs.{after, all_names, begins, declaration_start, ends, name_of, names_out, next_declaration, next_pending, parts_at, takes, typedef_defs_from, typedefs_from}
-use Rattle.cb_scan.proofs.DeclarationLemmas.{names_behind, names_from, names_of_typedef}
+use Rattle.cb_scan.proofs.DeclarationLemmas.{names_after, names_from, names_of_typedef}
 use Rattle.cb_scan.proofs.FunctionLemmas.{IsAt, step, stops_is}
 
 -- ---- where a declaration begins
@@ -116,7 +116,7 @@ typedef_here ts k is =
     names j later =
         sym (names_of_typedef (taken ts k j))
         ∙ ap (names_from declaration_start) (taken_step ts k j later)
-        ∙ names_behind (token_at ts k) (is_taken ts k) (taken ts (suc k) j) (and_left _ _ is)
+        ∙ names_after (token_at ts k) (is_taken ts k) (taken ts (suc k) j) (and_left _ _ is)
 
 no_typedef_here : (ts : List Token) (k : ℕ) → begins_typedef ts k ≡ false → typedef_at ts k ≡ []
 no_typedef_here ts k is = ap (λ b. if b then option_map_or (λ j. if ends_declaration ts j then typedef_names (taken ts k j) else []) (typedef_stop ts (suc k)) [] else []) is

@@ -4,17 +4,17 @@ use Rattle.std.specs.Prelude.{◌&&◌, ◌==◌, cond, not, filter}
 use Rattle.std.specs.List.{AllByRecursion, list_any, flat_map, slice_split, onto_first, range_with_len}
 use Rattle.std.specs.Option.{option_map_or, MatchOption}
 use Rattle.std.proofs.lemmas.List.{map-append}
-use Rattle.cb_scan.specs.declared.piece.Piece.{Piece}
-use Rattle.cb_scan.specs.declared.token.Token.{Token}
-use Rattle.cb_scan.specs.Code.{is_newline, is_directive, code, logical_lines}
+use Rattle.cb_scan.specs.declared.lex.piece.Piece.{Piece}
+use Rattle.cb_scan.specs.declared.lex.token.Token.{Token}
+use Rattle.cb_scan.specs.rules.Code.{is_newline, is_directive, code, logical_lines}
 use Rattle.cb_scan.specs.Definitions.{IsWithin, function_def}
-use Rattle.cb_scan.specs.Functions.{Function, called_name, may_define, head, function_from, function_at, functions, close_from}
-use Rattle.cb_scan.specs.Depth.{depth, head_start, is_counted}
+use Rattle.cb_scan.specs.rules.Functions.{Function, called_name, may_define, head, function_from, function_at, functions, close_from}
+use Rattle.cb_scan.specs.rules.Depth.{depth, head_start, is_counted}
 use Rattle.cb_scan.specs.declared.facts.Def.{Def}
 use Rattle.cb_scan.specs.Lines.{IsLineOf}
 use Rattle.cb_scan.specs.steps.Cut.{pieces}
-use Rattle.cb_scan.specs.Pieces.{LiesIn}
-use Rattle.cb_scan.specs.Tokens.{tokens, token_of, is_significant, is_name_token, is_mark, is_static}
+use Rattle.cb_scan.specs.lex.Pieces.{LiesIn}
+use Rattle.cb_scan.specs.lex.Tokens.{tokens, token_of, is_significant, is_name_token, is_mark, is_static}
 use Rattle.cb_scan.proofs.LineTable.{line-within}
 
 -- each of a list of lists
@@ -54,7 +54,7 @@ module _ {X : Type 0} (P : X → Type 0) where
   all-split test (x ∷ xs) a =
       elim (test x) as (λ b. AllOfAll P (cond b ([] ∷ slice_split test xs) (onto_first x (slice_split test xs)))) [ true ↦ (tt, all-split test xs a.1) | false ↦ all-onto_first x (slice_split test xs) a.0 (all-split test xs a.1) ]
 
--- a token lies in the text, has a byte at least, and stands on a line of the text
+-- a token lies in the text, has a byte at least, and is on a line of the text
 abbrev pub TokenWithin : List ℕ → Token → Type 0
 TokenWithin text t = (t.span.start < t.span.end) × (t.span.end ≤ length text) × IsLineOf text t.line
 

@@ -2,7 +2,7 @@
 use Rattle.std.proofs.Common.{◌≡◌, ◌≤◌, ◌<◌, get_or, drop, arith, ℕ, Bool, true, false, List, [], ◌∷◌, length, refl, sym, ap, ◌∙◌}
 use Rattle.std.specs.Prelude.{filter, ◌||◌, ◌&&◌, cond}
 use Rattle.std.specs.List.{list_all, list_any}
-use Rattle.cb_scan.specs.Lexeme.{is_identifier, is_letter, is_word}
+use Rattle.cb_scan.specs.lex.Lexeme.{is_identifier, is_letter, is_word}
 use Rattle.std.specs.Str.{bytes_eq}
 use Rattle.std.proofs.lemmas.Bool.{false≢true, false_from_ne_true}
 use Rattle.std.proofs.lemmas.Slice.Eq.{bytes_eq-Decides}

@@ -7,18 +7,18 @@ use Rattle.cb_scan.specs.declared.facts.Def.{Def}
 use Rattle.cb_scan.specs.declared.facts.Include.{Include}
 use Rattle.cb_scan.specs.declared.facts.Use.{Use}
 use Rattle.cb_scan.specs.declared.facts.Kind.TheVariants as kind
-use Rattle.cb_scan.specs.declared.piece.Piece.{Piece}
-use Rattle.cb_scan.specs.declared.piece.Span.{Span}
-use Rattle.cb_scan.specs.declared.token.Token.{Token}
-use Rattle.cb_scan.specs.Code.{code}
-use Rattle.cb_scan.specs.Functions.{Function, functions}
+use Rattle.cb_scan.specs.declared.lex.piece.Piece.{Piece}
+use Rattle.cb_scan.specs.declared.lex.piece.Span.{Span}
+use Rattle.cb_scan.specs.declared.lex.token.Token.{Token}
+use Rattle.cb_scan.specs.rules.Code.{code}
+use Rattle.cb_scan.specs.rules.Functions.{Function, functions}
 use Rattle.cb_scan.specs.Lines.{IsLineOf}
-use Rattle.cb_scan.specs.Macros.{Macro, macros}
+use Rattle.cb_scan.specs.rules.Macros.{Macro, macros}
 use Rattle.cb_scan.specs.Order.{call_key, def_key, in_order}
 use Rattle.cb_scan.specs.TextFacts.{TextFacts}
-use Rattle.cb_scan.specs.Typedefs.{typedefs}
+use Rattle.cb_scan.specs.rules.Typedefs.{typedefs}
 use Rattle.cb_scan.specs.steps.Cut.{pieces}
-use Rattle.cb_scan.specs.Uses.{function_calls, includes, macro_calls, uses}
+use Rattle.cb_scan.specs.rules.Uses.{function_calls, includes, macro_calls, uses}
 
 -- a function, a macro and a name of a typedef as definitions
 abbrev pub function_def : Function → Def

@@ -1,8 +1,8 @@
 pub mod Cut
-pub mod Line
+pub mod Directives
+pub mod Functions
 pub mod LineStarts
 pub mod Lined
-pub mod Machine
 pub mod Quote
 pub mod Scopes
 pub mod Typedefs

@@ -1,7 +1,7 @@
 //! What a text defines.
 ghost use Rattle.std.specs.Prelude.{◌≡◌};
 
-use crate::piece::Span;
+use crate::lex::piece::Span;
 use std::marker::Model;
 
 /// The kinds of definitions.

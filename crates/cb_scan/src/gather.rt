@@ -1,19 +1,20 @@
 //! What one pass over a text gathers, list by list.
 ghost use Rattle.std.specs.Prelude.{◌≡◌, ◌≤◌, ◌<◌, ◌+◌, ◌++◌, ◌^◌, [], length, IfOk};
+ghost use Rattle.cb_scan.specs.declared.source.TheConstants.{MOST_BYTES};
 ghost use Rattle.std.specs.Option.{option_to_list};
-ghost use Rattle.cb_scan.specs.steps.Line.{include_out, macro_call_out, macro_out, next_stage, range_finish, use_out};
-ghost use Rattle.cb_scan.specs.steps.Machine.{called, closed, found, left_open, next};
+ghost use Rattle.cb_scan.specs.steps.Directives.{include_out, macro_call_out, macro_out, next_stage, range_finish, use_out};
+ghost use Rattle.cb_scan.specs.steps.Functions.{called, closed, found, left_open, next};
 ghost use Rattle.cb_scan.specs.steps.Typedefs.{nesting_of, next_declaration, next_pending, typedefs_out};
 
 use crate::facts::{Call, Def, Include};
-use crate::line::Stage;
-use crate::machine::Machine;
-use crate::scope::Range;
-use crate::token::Token;
-use crate::typedefs::{Declaration, take_token};
+use crate::rules::directives::Stage;
+use crate::rules::functions::Machine;
+use crate::rules::scope::Range;
+use crate::lex::token::Token;
+use crate::rules::typedefs::{Declaration, take_token};
 use std::alloc::{AllocError, Global};
 
-/// Where the pass over the code stands: depth, head and body, and the typedef that is open.
+/// The state of the pass over the code: depth, head and body, and the typedef that is open.
 #[derive(Clone, Copy)]
 pub(crate) struct CodeState {
     pub machine: Machine,
@@ -133,7 +134,7 @@ impl LineLists {
     ) -> Result<Stage, AllocError>
         requires some { token.span.start < token.span.end }
         requires within { token.span.end ≤ length text.now }
-        requires few { length text.now ≤ 1000000 }
+        requires few { length text.now ≤ MOST_BYTES }
         ensures line { IfOk result (λ s. s ≡ next_stage line token) }
         ensures names { IfOk result (λ _. self.new.names.items ≡ self.old.names.items ++ use_out line token) }
         ensures macros { IfOk result (λ _. self.new.macros.items ≡ self.old.macros.items ++ macro_out line token) }

@@ -1,10 +1,10 @@
 //! What holds of every text, as functions that do nothing and whose contracts are the laws.
 ghost use Rattle.std.specs.Prelude.{◌≡◌, ◌<◌, ◌≤◌, ◌↔◌, ℕ, true, List, length};
 ghost use Rattle.std.specs.List.{AllByRecursion};
-ghost use Rattle.cb_scan.specs.declared.piece.Piece.{Piece};
-ghost use Rattle.cb_scan.specs.Pieces.{IsPieces, Adjoin, LiesIn};
+ghost use Rattle.cb_scan.specs.declared.lex.piece.Piece.{Piece};
+ghost use Rattle.cb_scan.specs.lex.Pieces.{IsPieces, Adjoin, LiesIn};
 ghost use Rattle.cb_scan.specs.Definitions.{facts_from, facts_of};
-ghost use Rattle.cb_scan.specs.Lexeme.{IsClosedLiteral};
+ghost use Rattle.cb_scan.specs.lex.Lexeme.{IsClosedLiteral};
 ghost use Rattle.cb_scan.specs.Order.{AreInOrder};
 ghost use Rattle.cb_scan.specs.steps.Cut.{pieces};
 ghost use Rattle.cb_scan.specs.steps.Quote.{is_closed};

@@ -1,29 +1,30 @@
 //! The scanner: one pass over the pieces of a text, and then its facts in order and with their scopes.
 ghost use Rattle.std.specs.Prelude.{◌≡◌, ◌+◌, ◌++◌, ◌^◌, ◌-◌, ◌<◌, ◌≤◌, min, List, length, map, IfOk, IfErr};
+ghost use Rattle.cb_scan.specs.declared.source.TheConstants.{MOST_BYTES};
 ghost use Rattle.std.specs.List.{AllByRecursion, flat_map};
-ghost use Rattle.cb_scan.specs.declared.piece.Piece.{Piece};
-ghost use Rattle.cb_scan.specs.Code.{code, directives, logical_lines};
+ghost use Rattle.cb_scan.specs.declared.lex.piece.Piece.{Piece};
+ghost use Rattle.cb_scan.specs.rules.Code.{code, directives, logical_lines};
 ghost use Rattle.cb_scan.specs.Definitions.{definitions, calls, facts_from, facts_of, function_def, macro_def, typedef_def, AreWithin};
-ghost use Rattle.cb_scan.specs.Functions.{functions};
-ghost use Rattle.cb_scan.specs.Macros.{macros};
-ghost use Rattle.cb_scan.specs.Pieces.{IsPieces};
-ghost use Rattle.cb_scan.specs.Scope.{function_ranges, macro_ranges};
+ghost use Rattle.cb_scan.specs.rules.Functions.{functions};
+ghost use Rattle.cb_scan.specs.rules.Macros.{macros};
+ghost use Rattle.cb_scan.specs.lex.Pieces.{IsPieces};
+ghost use Rattle.cb_scan.specs.rules.Scope.{function_ranges, macro_ranges};
 ghost use Rattle.cb_scan.specs.steps.Cut.{pieces};
-ghost use Rattle.cb_scan.specs.Tokens.{is_significant};
-ghost use Rattle.cb_scan.specs.Typedefs.{typedefs};
-ghost use Rattle.cb_scan.specs.Uses.{function_calls, include_of, macro_calls, used};
+ghost use Rattle.cb_scan.specs.lex.Tokens.{is_significant};
+ghost use Rattle.cb_scan.specs.rules.Typedefs.{typedefs};
+ghost use Rattle.cb_scan.specs.rules.Uses.{function_calls, include_of, macro_calls, used};
 
 use crate::facts::Facts;
 use crate::gather::{CodeLists, CodeState, LineLists};
-use crate::line::Stage;
-use crate::lined::lined_pieces;
-use crate::machine::Machine;
+use crate::rules::directives::Stage;
+use crate::lex::lined::lined_pieces;
+use crate::rules::functions::Machine;
 use crate::meter::Meter;
-use crate::order::{ordered_calls, ordered_defs};
-use crate::piece::Class;
-use crate::scope::{Around, scoped_includes, scoped_uses};
+use crate::rules::order::{ordered_calls, ordered_defs};
+use crate::lex::piece::Class;
+use crate::rules::scope::{Around, scoped_includes, scoped_uses};
 use crate::source::{ScanError, Source};
-use crate::token::token_of;
+use crate::lex::token::token_of;
 use std::alloc::{AllocError, Global};
 
 /// What one pass gathers.
@@ -44,7 +45,7 @@ fn is_significant(class: Class) -> bool
 
 /// The one pass over a text: each piece is looked at once.
 fn gather(alloc: Global, text: &[u8]) -> Result<Gathered, AllocError>
-    requires { length text.now ≤ 1000000 }
+    requires { length text.now ≤ MOST_BYTES }
     ensures functions { IfOk result (λ g. g.code.functions.items ≡ map function_def (functions (code text.now (pieces text.now)))) }
     ensures function_ranges { IfOk result (λ g. g.code.ranges.items ≡ function_ranges text.now (pieces text.now)) }
     ensures function_calls { IfOk result (λ g. g.code.calls.items ≡ function_calls (code text.now (pieces text.now))) }
@@ -81,7 +82,7 @@ fn gather(alloc: Global, text: &[u8]) -> Result<Gathered, AllocError>
 
 /// What is found in a text: what was gathered, in order, with scopes, each list at its exact size.
 fn facts_in(alloc: Global, text: &[u8]) -> Result<Facts, AllocError>
-    requires { length text.now ≤ 1000000 }
+    requires { length text.now ≤ MOST_BYTES }
     ensures { IfOk result (λ f. f ≡ facts_of text.now) }
 {
     let gathered = gather(alloc, text)?;

@@ -1,5 +1,6 @@
 //! A text and its lines.
 ghost use Rattle.std.specs.Prelude.{◌≡◌, ◌≤◌, ◌<◌, ◌-◌, ◌+◌, ◌^◌, ◌↔◌, length, vec_len, IfOk, slice_get, None};
+ghost use Rattle.cb_scan.specs.declared.source.TheConstants.{MOST_BYTES};
 ghost use Rattle.std.specs.Option.{option_copied};
 ghost use Rattle.bstr.specs.Text.{lines_of, without_terminator};
 ghost use Rattle.cb_scan.specs.Lines.{lines};
@@ -32,6 +33,7 @@ pub struct Source {
 }
 
 impl Model for Source {
+    ghost use Rattle.cb_scan.specs.declared.source.TheConstants.{MOST_BYTES};
     ghost use Rattle.std.specs.Prelude.{List, ℕ, ◌≤◌, ◌≡◌, length};
     ghost use Rattle.cb_scan.specs.steps.LineStarts.{line_starts};
 
@@ -39,12 +41,12 @@ impl Model for Source {
 
     ghost view = { λ s. s.bytes.items };
 
-    ghost invariant = { λ s. (length s.bytes.items ≤ 1000000) × (s.starts.items ≡ line_starts s.bytes.items) };
+    ghost invariant = { λ s. (length s.bytes.items ≤ MOST_BYTES) × (s.starts.items ≡ line_starts s.bytes.items) };
 }
 
 /// Where the lines of a text begin, and where the last one ends.
 fn line_starts(alloc: Global, text: &[u8]) -> Result<Vec<u32>, AllocError>
-    requires { length text.now ≤ 1000000 }
+    requires { length text.now ≤ MOST_BYTES }
     ensures { IfOk result (λ starts. starts.items ≡ line_starts text.now) }
 {
     let mut starts = Vec::new(alloc);
@@ -87,8 +89,8 @@ impl Source {
     /// the bytes are dropped.
     pub fn new(alloc: Global, bytes: Vec<u8>) -> Result<Source, ScanError>
         ensures ok { IfOk result (λ s. s ≡ bytes.items) }
-        ensures large { (result ≡ Err ScanError.TooLarge) ↔ (1000000 < vec_len bytes) }
-        ensures small { IfOk result (λ s. vec_len bytes ≤ 1000000) }
+        ensures large { (result ≡ Err ScanError.TooLarge) ↔ (MOST_BYTES < vec_len bytes) }
+        ensures small { IfOk result (λ s. vec_len bytes ≤ MOST_BYTES) }
     {
         if bytes.len() > MOST_BYTES {
             return Err(ScanError::TooLarge);
@@ -102,7 +104,7 @@ impl Source {
     /// The text.
     pub fn bytes(&self) -> &[u8]
         ensures value { result.now ≡ self.now }
-        ensures small { length result.now ≤ 1000000 }
+        ensures small { length result.now ≤ MOST_BYTES }
     {
         self.bytes.as_slice()
     }

@@ -14,9 +14,9 @@ mod sizes;
 mod typedefs;
 mod uses;
 
-use crate::cut::pieces;
-use crate::lined::lined_pieces;
-use crate::piece::Class;
+use crate::lex::cut::pieces;
+use crate::lex::lined::lined_pieces;
+use crate::lex::piece::Class;
 use crate::source::Source;
 use std::test::Fail;
 

@@ -1,5 +1,5 @@
 -- The rows of the frames, written from the top of the stack down.
-use Rattle.std.proofs.Common.{◌≡◌, ◌≤◌, ◌-◌, ℕ, List, [], ◌∷◌, ◌++◌, map, reverse, length, codes, Result, refl, sym, ap, ◌∙◌, subst, append_assoc, append-nil, arith, slice_index_or}
+use Rattle.std.proofs.Common.{◌≡◌, ◌≤◌, ℕ, zero, suc, List, [], ◌∷◌, ◌++◌, map, reverse, length, codes, Result, refl, sym, ap, ◌∙◌, subst, append_assoc, append-nil, arith, slice_index_or}
 use Rattle.std.proofs.lemmas.List.{reverse-append, length-map, length-reverse}
 use Rattle.std.specs.Prelude.{IsErrAnd}
 use Rattle.std.specs.List.{flat_map}
@@ -79,6 +79,7 @@ no_lines =
 -- and so the row of a line of it shows no bytes
 pub line_row-empty : (file : List ℕ) (line : ℕ) → line_row file [] line ≡ record { file = file; function = codes "<unknown>"; line = line; text = [] }
 unfolding unindented
-line_row-empty file line =
-    let row : List (List ℕ) → AnswerRow = λ ls. record { file = file; function = codes "<unknown>"; line = line; text = unindented (slice_index_or ls (line - 1) []) } in
+line_row-empty file zero = refl
+line_row-empty file (suc n) =
+    let row : List (List ℕ) → AnswerRow = λ ls. record { file = file; function = codes "<unknown>"; line = suc n; text = unindented (slice_index_or ls n []) } in
     ap row no_lines

@@ -11,7 +11,7 @@ use Rattle.cb_session.specs.declared.input.Command.{Command as Asks}
 use Rattle.cb_session.specs.declared.input.Command.TheVariants.{Query, Change, Undo, Redo, Tags, Listing, Stack}
 use Rattle.cb_session.specs.declared.line.Asked.{Asked}
 use Rattle.cb_session.specs.declared.line.Asked.TheVariants.{Whole, Block}
-use Rattle.cb_desk.specs.Meant.{step_of}
+use Rattle.cb_desk.specs.Models.{step_of}
 use Rattle.cb_session.specs.Inputs.{Entry, query, change, undo, redo, tags_file, listing, stack, refused, nothing, quit, Line, whole, block, is_space}
 
 -- the entry that a command is

@@ -3,7 +3,7 @@ ghost use Rattle.std.specs.Prelude.{◌≡◌, ◌∷◌, [], ◌++◌, map, cod
 ghost use Rattle.std.specs.List.{flat_map};
 ghost use Rattle.cb_session.specs.Writing.{Puts};
 ghost use Rattle.cb_session.specs.Output.{row_line, answer_lines, count_line, done_line, refused_line, prompt};
-ghost use Rattle.cb_desk.specs.Meant.{row_of};
+ghost use Rattle.cb_desk.specs.Models.{row_of};
 ghost use Rattle.cb_session.specs.Serving.{move_line};
 
 use super::Fault;

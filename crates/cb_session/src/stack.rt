@@ -1,7 +1,7 @@
 //! The tag stack, as a reply shows it.
 ghost use Rattle.std.specs.Prelude.{◌≡◌};
 ghost use Rattle.std.specs.List.{flat_map};
-ghost use Rattle.cb_desk.specs.Meant.{row_of, frame_of};
+ghost use Rattle.cb_desk.specs.Models.{row_of, frame_of};
 ghost use Rattle.cb_desk.specs.World.{text_of_file};
 ghost use Rattle.cb_session.specs.Output.{answer_lines, row_line};
 ghost use Rattle.cb_session.specs.Said.{text_found};

@@ -5,4 +5,8 @@ use Rattle.cb_desk.specs.Timeline.{Timeline}
 
 -- the first of the other worlds are the past, its newest world last; the rest are the future
 abbrev pub timeline_of : ℕ → List World → World → Timeline
-timeline_of done others present = record { past = reverse (take done others); present = present; future = drop done others }
+timeline_of done others present = record {
+  past = reverse (take done others);
+  present = present;
+  future = drop done others;
+}

@@ -1,11 +1,12 @@
 //! The files of a world as a list, ascending by the bytes of their names.
-ghost use Rattle.std.specs.Prelude.{◌≡◌, ◌≤◌, IsTrue, length, count_by, map, IfOk};
+ghost use Rattle.std.specs.Prelude.{◌≡◌, ◌≤◌, IsTrue, length, count_by, IfOk};
 ghost use Rattle.std.specs.List.{list_any};
 ghost use Rattle.std.specs.Str.{bytes_eq};
 ghost use Rattle.std.specs.Ordering.{nat_cmp, is_lt};
 ghost use Rattle.std.specs.Cmp.Lexicographic.{slice_cmp};
 ghost use Rattle.cb_desk.specs.Files.{with_file, without_file};
 ghost use Rattle.cb_desk.specs.World.{has_file, text_of_file, IsAscending};
+ghost use Rattle.cb_desk.specs.steps.SharedFiles.{files_of};
 
 use crate::files::StoredFile;
 use std::alloc::AllocError;
@@ -20,8 +21,8 @@ pub(crate) fn has_name(files: &[Rc<StoredFile>], name: &[u8]) -> bool
 
 /// The file of that name.
 pub(crate) fn with_name<'a>(files: &'a [Rc<StoredFile>], name: &[u8]) -> &'a StoredFile
-    requires { IsTrue (has_file (map (λ shared. shared.value) files.now) name.now) }
-    ensures { result.now.bytes ≡ text_of_file (map (λ shared. shared.value) files.now) name.now }
+    requires { IsTrue (has_file (files_of files.now) name.now) }
+    ensures { result.now.bytes ≡ text_of_file (files_of files.now) name.now }
 {
     for file in files {
         if file.name() == name {
@@ -47,8 +48,8 @@ pub(crate) fn add_file(
     files: &mut Vec<Rc<StoredFile>>,
     file: Rc<StoredFile>,
 ) -> Result<(), AllocError>
-    requires { IsAscending (map (λ shared. shared.value) files.old.items) }
-    ensures { IfOk result (λ _. map (λ shared. shared.value) files.new.items ≡ with_file file.value (map (λ shared. shared.value) files.old.items)) }
+    requires { IsAscending (files_of files.old.items) }
+    ensures { IfOk result (λ _. files_of files.new.items ≡ with_file file.value (files_of files.old.items)) }
 {
     let index = index_for(files.as_slice(), file.name());
     files.insert(index, file)?;
@@ -57,7 +58,7 @@ pub(crate) fn add_file(
 
 /// Takes the file of a name away.
 pub(crate) fn remove_file(files: &mut Vec<Rc<StoredFile>>, name: &[u8])
-    ensures { map (λ shared. shared.value) files.new.items ≡ without_file name.now (map (λ shared. shared.value) files.old.items) }
+    ensures { files_of files.new.items ≡ without_file name.now (files_of files.old.items) }
 {
     files.retain(|file| file.name() != name);
 }

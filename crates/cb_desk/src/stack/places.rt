@@ -3,6 +3,7 @@ ghost use Rattle.std.specs.Prelude.{◌≡◌, map, filter, IfOk};
 ghost use Rattle.cb_scan.specs.Definitions.{definitions};
 ghost use Rattle.cb_desk.specs.Answer.{defines};
 ghost use Rattle.cb_desk.specs.Stack.{nth, places};
+ghost use Rattle.cb_desk.specs.steps.SharedFiles.{files_of};
 
 use crate::files::StoredFile;
 use crate::found::defined_name;
@@ -36,7 +37,7 @@ pub(crate) fn nth_place(
     name: &[u8],
     n: u64,
 ) -> Result<Option<Frame>, AllocError>
-    ensures { IfOk result (λ place. place ≡ nth n (places (map (λ shared. shared.value) files.now) name.now)) }
+    ensures { IfOk result (λ place. place ≡ nth n (places (files_of files.now) name.now)) }
 {
     if n == 0 {
         return Ok(None);

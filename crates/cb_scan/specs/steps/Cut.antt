@@ -1,19 +1,19 @@
 -- The pieces of a text as they are computed: one byte after the other, the first byte decides the class.
 use Rattle.std.specs.Prelude.{◌+◌, ℕ, zero, suc, Bool, false, ◌==◌, ◌||◌, ◌&&◌, not, if◌then◌else◌, List, [], ◌∷◌, length, drop}
 use Rattle.std.specs.List.{prefix_len}
-use Rattle.cb_scan.specs.declared.lexeme.Escape.{Escape}
-use Rattle.cb_scan.specs.declared.lexeme.Escape.TheVariants.{Plain, Backslash, Return}
-use Rattle.cb_scan.specs.declared.piece.Class.{Class}
-use Rattle.cb_scan.specs.declared.piece.Class.TheVariants.{Name, Number, Str, Chr, LineNote, BlockNote, Blank, Newline, Byte}
-use Rattle.cb_scan.specs.declared.piece.Piece.{Piece}
-use Rattle.cb_scan.specs.Lexeme.{is_letter, is_digit, is_word, is_blank, goes_on, first_is}
+use Rattle.cb_scan.specs.declared.lex.lexeme.Escape.{Escape}
+use Rattle.cb_scan.specs.declared.lex.lexeme.Escape.TheVariants.{Plain, Backslash, Return}
+use Rattle.cb_scan.specs.declared.lex.piece.Class.{Class}
+use Rattle.cb_scan.specs.declared.lex.piece.Class.TheVariants.{Name, Number, Str, Chr, LineNote, BlockNote, Blank, Newline, Byte}
+use Rattle.cb_scan.specs.declared.lex.piece.Piece.{Piece}
+use Rattle.cb_scan.specs.lex.Lexeme.{is_letter, is_digit, is_word, is_blank, goes_on, first_is}
 use Rattle.cb_scan.specs.Bytes.{apostrophe, backslash, carriage_return, dot, line_feed, quote, slash, star}
 
 -- the first byte is b
 abbrev pub begins : ℕ → List ℕ → Bool
 begins b rest = first_is (λ a. a == b) rest
 
--- the bytes behind a `\` make it a join
+-- the bytes after a `\` make it a join
 unfoldable pub ends_join : List ℕ → Bool
 ends_join [] = false
 ends_join (b ∷ rest) = b == line_feed || (b == carriage_return && begins line_feed rest)
@@ -32,7 +32,7 @@ class_at (b ∷ rest) =
     else if b == line_feed then Newline
     else Byte
 
--- how many bytes go on a number behind the byte `last`
+-- how many bytes go on a number after the byte `last`
 unfoldable pub number_len : ℕ → List ℕ → ℕ
 number_len last [] = 0
 number_len last (b ∷ rest) = if goes_on last b then suc (number_len b rest) else 0
@@ -47,24 +47,24 @@ blank_len joining [] = 0
 blank_len joining (b ∷ rest) =
     if goes_on_blank joining b rest then suc (blank_len (b == backslash || (joining && not (b == line_feed))) rest) else 0
 
--- what stands behind b in a line note
-unfoldable pub note_escape : Escape → ℕ → Escape
-note_escape Plain b = if b == backslash then Backslash else Plain
-note_escape Backslash b = if b == backslash then Backslash else if b == carriage_return then Return else Plain
-note_escape Return b = if b == backslash then Backslash else Plain
+-- what is after b in a line comment
+unfoldable pub comment_escape : Escape → ℕ → Escape
+comment_escape Plain b = if b == backslash then Backslash else Plain
+comment_escape Backslash b = if b == backslash then Backslash else if b == carriage_return then Return else Plain
+comment_escape Return b = if b == backslash then Backslash else Plain
 
--- b ends a line note
-unfoldable pub ends_note : Escape → ℕ → Bool
-ends_note Plain b = b == line_feed
-ends_note Backslash b = false
-ends_note Return b = false
+-- b ends a line comment
+unfoldable pub ends_comment : Escape → ℕ → Bool
+ends_comment Plain b = b == line_feed
+ends_comment Backslash b = false
+ends_comment Return b = false
 
--- how many bytes go on a line note
-unfoldable pub note_len : Escape → List ℕ → ℕ
-note_len e [] = 0
-note_len e (b ∷ rest) = if ends_note e b then 0 else suc (note_len (note_escape e b) rest)
+-- how many bytes go on a line comment
+unfoldable pub comment_len : Escape → List ℕ → ℕ
+comment_len e [] = 0
+comment_len e (b ∷ rest) = if ends_comment e b then 0 else suc (comment_len (comment_escape e b) rest)
 
--- what stands behind b in a literal
+-- what is after b in a literal
 unfoldable pub literal_escape : Escape → ℕ → Escape
 literal_escape Plain b = if b == backslash then Backslash else Plain
 literal_escape Backslash b = if b == carriage_return then Return else Plain
@@ -82,7 +82,7 @@ literal_len q e [] = 0
 literal_len q e (b ∷ rest) =
     if ends_literal q e b then (if b == q then 1 else 0) else suc (literal_len q (literal_escape e b) rest)
 
--- how many bytes go on a block note, with its `*/`; `starred` says that a `*` stands directly before
+-- how many bytes go on a block comment, with its `*/`; `starred` says that a `*` is directly before
 unfoldable pub block_len : Bool → List ℕ → ℕ
 block_len starred [] = 0
 block_len starred (b ∷ rest) = if starred && b == slash then 1 else suc (block_len (b == star) rest)
@@ -93,7 +93,7 @@ length_in Name rest = prefix_len is_word rest
 length_in Number rest = number_len dot rest
 length_in Str rest = suc (literal_len quote Plain (drop 1 rest))
 length_in Chr rest = suc (literal_len apostrophe Plain (drop 1 rest))
-length_in LineNote rest = suc (suc (note_len Plain (drop 2 rest)))
+length_in LineNote rest = suc (suc (comment_len Plain (drop 2 rest)))
 length_in BlockNote rest = suc (suc (block_len false (drop 2 rest)))
 length_in Blank rest = blank_len false rest
 length_in Newline rest = 1

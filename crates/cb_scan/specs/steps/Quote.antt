@@ -1,7 +1,7 @@
 -- Whether a string is closed, a byte at a time.
 use Rattle.std.specs.Prelude.{ℕ, Bool, false, ◌==◌, ◌&&◌, List, [], ◌∷◌, length, if◌then◌else◌}
-use Rattle.cb_scan.specs.declared.lexeme.Escape.{Escape}
-use Rattle.cb_scan.specs.declared.lexeme.Escape.TheVariants.{Plain}
+use Rattle.cb_scan.specs.declared.lex.lexeme.Escape.{Escape}
+use Rattle.cb_scan.specs.declared.lex.lexeme.Escape.TheVariants.{Plain}
 use Rattle.cb_scan.specs.steps.Cut.{ends_literal, literal_escape}
 use Rattle.cb_scan.specs.Bytes.{quote}
 

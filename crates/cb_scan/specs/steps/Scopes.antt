@@ -3,11 +3,11 @@ use Rattle.std.specs.Prelude.{ℕ, nat_le, nat_lt, List, [], ◌∷◌, Option, 
 use Rattle.std.specs.Option.{option_map_or}
 use Rattle.cb_scan.specs.declared.facts.Include.{Include}
 use Rattle.cb_scan.specs.declared.facts.Use.{Use}
-use Rattle.cb_scan.specs.declared.piece.Span.{Span}
-use Rattle.cb_scan.specs.declared.scope.Range.{Range}
-use Rattle.cb_scan.specs.declared.token.Token.{Token}
+use Rattle.cb_scan.specs.declared.lex.piece.Span.{Span}
+use Rattle.cb_scan.specs.declared.rules.scope.Range.{Range}
+use Rattle.cb_scan.specs.declared.lex.token.Token.{Token}
 
--- the ranges without those at the front that end by a place
+-- the ranges without those at the beginning that end by a place
 abbrev pub reached : ℕ → List Range → List Range
 reached place [] = []
 reached place (r ∷ rs) = if nat_lt place r.end then r ∷ rs else reached place rs
@@ -27,14 +27,14 @@ scoped place give functions macros [] = []
 scoped place give functions macros (x ∷ xs) =
     give x (around (reached (place x) functions) (reached (place x) macros) (place x)) ∷ scoped place give (reached (place x) functions) (reached (place x) macros) xs
 
--- where a token stands, and what it is as a use
+-- where a token begins, and what it is as a use
 abbrev pub token_place : Token → ℕ
 token_place t = t.span.start
 
 abbrev pub use_of : Token → Option Span → Use
 use_of t scope = record { name = t.span; line = t.line; scope = scope }
 
--- where a header stands, and its include with a scope
+-- where a header begins, and its include with a scope
 abbrev pub include_place : Include → ℕ
 include_place i = i.header.start
 

@@ -2,15 +2,15 @@
 use Rattle.std.specs.Prelude.{ℕ, Bool, true, false, ◌&&◌, ◌||◌, ◌==◌, not, List, [], ◌∷◌, ◌++◌, if◌then◌else◌, Option, None, Some, map}
 use Rattle.std.specs.Option.{is_none, option_map, option_to_list}
 use Rattle.cb_scan.specs.declared.facts.Def.{Def}
-use Rattle.cb_scan.specs.declared.machine.Machine.{Machine}
-use Rattle.cb_scan.specs.declared.token.Token.{Token}
-use Rattle.cb_scan.specs.declared.typedefs.Declaration.{Declaration}
-use Rattle.cb_scan.specs.declared.typedefs.Reach.{Reach}
-use Rattle.cb_scan.specs.declared.typedefs.Reach.TheVariants.{Nothing, Paren, Stars}
+use Rattle.cb_scan.specs.declared.rules.functions.Machine.{Machine}
+use Rattle.cb_scan.specs.declared.lex.token.Token.{Token}
+use Rattle.cb_scan.specs.declared.rules.typedefs.Declaration.{Declaration}
+use Rattle.cb_scan.specs.declared.rules.typedefs.Reach.{Reach}
+use Rattle.cb_scan.specs.declared.rules.typedefs.Reach.TheVariants.{Nothing, Paren, Stars}
 use Rattle.cb_scan.specs.Definitions.{typedef_def}
-use Rattle.cb_scan.specs.Tokens.{is_mark, is_name_token, is_typedef}
-use Rattle.cb_scan.specs.Typedefs.{nesting_after}
-use Rattle.cb_scan.specs.steps.Machine.{next}
+use Rattle.cb_scan.specs.lex.Tokens.{is_mark, is_name_token, is_typedef}
+use Rattle.cb_scan.specs.rules.Typedefs.{nesting_after}
+use Rattle.cb_scan.specs.steps.Functions.{next}
 use Rattle.cb_scan.specs.Bytes.{close_brace, comma, open_brace, open_paren, semicolon, star}
 
 -- ---- the parts of one typedef
@@ -19,13 +19,13 @@ use Rattle.cb_scan.specs.Bytes.{close_brace, comma, open_brace, open_paren, semi
 abbrev pub declaration_start : Declaration
 declaration_start = record { nesting = 0; reach = Nothing; pointer = None; last = None }
 
--- `*`s go on behind a `(`
+-- `*`s go on after a `(`
 abbrev pub is_reached : Reach → Bool
 is_reached Nothing = false
 is_reached Paren = true
 is_reached Stars = true
 
--- a `*` stands directly before, and behind it `*`s up to a `(`
+-- a `*` is directly before, and after it `*`s up to a `(`
 abbrev pub is_starred : Reach → Bool
 is_starred Nothing = false
 is_starred Paren = false
@@ -35,7 +35,7 @@ is_starred Stars = true
 abbrev pub reach_after : Reach → Token → Reach
 reach_after r t = if is_mark open_paren t.role then Paren else (if is_mark star t.role && is_reached r then Stars else Nothing)
 
--- the first name behind `(` and `*`s
+-- the first name after `(` and `*`s
 abbrev pub pointer_after : Option Token → Reach → Token → Option Token
 pointer_after (Some name) r t = Some name
 pointer_after None r t = if is_name_token t.role && is_starred r then Some t else None
@@ -76,7 +76,7 @@ begins m t = is_typedef t.role && is_none m.head.last
 abbrev pub ends : Machine → Token → Bool
 ends m t = is_mark semicolon t.role && m.depth == 0
 
--- the token stands at depth 0 and is no brace
+-- the token is at depth 0 and is no brace
 abbrev pub takes : Machine → Token → Bool
 takes m t = m.depth == 0 && not (is_mark open_brace t.role || is_mark close_brace t.role)
 

@@ -6,7 +6,7 @@ use std::test::Fail;
 const EXAMPLE: &str =
     "#include \"a.h\"\n#define TWICE(x) ((x) + add(x, 0))\ntypedef unsigned long word;\nstatic int add(int a, int b) {\n\treturn a + b;\n}\nint main(void) {\n\treturn add(1, 2) / TWICE(3);\n}\n";
 
-/// A note before a directive, an open literal, an uncounted brace, and lines that end in CR LF.
+/// A comment before a directive, an open literal, an uncounted brace, and lines that end in CR LF.
 const LITERALS: &str =
     "/* f( */ #define G(x) g(x)\r\nchar *s = \"k(1)\r\nextern \"C\" {\r\nint f(void) { return h('\"'); } // i()\r\n";
 
@@ -31,7 +31,7 @@ fn finds_the_facts_of_the_example(rt: HostRuntime) -> Result<(), Fail> {
 }
 
 #[test]
-fn finds_the_facts_among_literals_and_notes(rt: HostRuntime) -> Result<(), Fail> {
+fn finds_the_facts_among_literals_and_comments(rt: HostRuntime) -> Result<(), Fail> {
     let found = show(rt.alloc(), LITERALS)?;
     assert_eq!(rt; found.defs.as_str(), "G d 1;f f 4;");
     assert_eq!(rt;

@@ -40,7 +40,7 @@ fn finds_the_macros_of_short_texts(rt: HostRuntime) -> Result<(), Fail> {
 }
 
 #[test]
-fn a_macro_lasts_over_joined_lines_and_notes(rt: HostRuntime) -> Result<(), Fail> {
+fn a_macro_lasts_over_joined_lines_and_comments(rt: HostRuntime) -> Result<(), Fail> {
     let found = show(rt.alloc(), "#define F(x) a(x) \\\n /* b(\n */ c(x)\nd")?;
     assert_eq!(rt; found.defs.as_str(), "F d 1;");
     assert_eq!(rt;

@@ -1,5 +1,5 @@
 //! Tests of names, with the reserved words as C11 6.4.1 lists them and the six that the profile adds.
-use crate::name::is_name;
+use crate::lex::name::is_name;
 
 const RESERVED: [&str; 50] = [
     "auto",

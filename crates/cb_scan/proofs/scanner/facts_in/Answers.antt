@@ -2,7 +2,7 @@ use Rattle.std.proofs.Common.{◌≡◌, ◌∙◌, ◌++◌}
 use Rattle.cb_scan.specs.steps.Cut.{pieces}
 use Rattle.cb_scan.specs.Definitions.{calls, definitions, definitions_from}
 use Rattle.cb_scan.specs.Order.{call_key, def_key, in_order}
-use Rattle.cb_scan.specs.Uses.{includes, uses}
+use Rattle.cb_scan.specs.rules.Uses.{includes, uses}
 use Rattle.cb_scan.specs.steps.Scopes.{include_place, include_with, scoped, token_place, use_of}
 use Rattle.cb_scan.proofs.ScopeLemmas.{includes_scoped, uses_scoped}
 use Rattle.cb_scan.proofs.scanner.facts_in.Goals as goal

@@ -1,12 +1,12 @@
 use Rattle.std.proofs.Common.{◌≡◌, ◌∙◌, ◌++◌, true, None, length, sym, ap, subst, arith}
 use Rattle.std.specs.List.{AllByRecursion}
 use Rattle.std.specs.Option.{option_to_list}
-use Rattle.cb_scan.specs.declared.line.Stage.TheVariants.{Start}
-use Rattle.cb_scan.specs.Tokens.{is_significant}
+use Rattle.cb_scan.specs.declared.rules.directives.Stage.TheVariants.{Start}
+use Rattle.cb_scan.specs.lex.Tokens.{is_significant}
 use Rattle.cb_scan.specs.steps.Cut.{pieces}
-use Rattle.cb_scan.specs.steps.Line.{code_out, include_out, is_code, macro_call_out, macro_out, no_range, nothing, range_finish, use_out, walk}
+use Rattle.cb_scan.specs.steps.Directives.{code_out, include_out, is_code, macro_call_out, macro_out, no_range, nothing, range_finish, use_out, walk}
 use Rattle.cb_scan.specs.steps.Lined.{Within}
-use Rattle.cb_scan.specs.steps.Machine.{called, calls_from, closed, defs_from, found, ranges_from}
+use Rattle.cb_scan.specs.steps.Functions.{called, calls_from, closed, defs_from, found, ranges_from}
 use Rattle.cb_scan.specs.steps.Typedefs.{typedef_defs_from, typedefs_out}
 use Rattle.cb_scan.proofs.DirectiveLemmas.{includes_are, macro_calls_are, macro_ranges_are, macros_are, uses_are}
 use Rattle.cb_scan.proofs.GatherLemmas.{appended, calls_found, code_on, walk_on, functions_found, ranges_found, typedefs_found}

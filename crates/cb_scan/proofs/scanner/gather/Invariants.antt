@@ -2,16 +2,17 @@
 use Rattle.std.proofs.Common.{◌≡◌, ◌+◌, ◌≤◌, ◌++◌, length, map}
 use Rattle.std.specs.List.{AllByRecursion, flat_map}
 use Rattle.cb_scan.specs.steps.Cut.{pieces}
-use Rattle.cb_scan.specs.Code.{code, directives, logical_lines}
+use Rattle.cb_scan.specs.rules.Code.{code, directives, logical_lines}
+use Rattle.cb_scan.specs.declared.source.TheConstants.{MOST_BYTES}
 use Rattle.cb_scan.specs.Definitions.{function_def, macro_def, typedef_def}
-use Rattle.cb_scan.specs.Functions.{functions}
-use Rattle.cb_scan.specs.Macros.{macros}
-use Rattle.cb_scan.specs.Scope.{function_ranges, macro_ranges}
-use Rattle.cb_scan.specs.Typedefs.{typedefs}
-use Rattle.cb_scan.specs.Uses.{function_calls, include_of, macro_calls, used}
-use Rattle.cb_scan.specs.steps.Line.{code_out, include_out, macro_call_out, macro_out, no_range, nothing, range_finish, use_out, walk}
+use Rattle.cb_scan.specs.rules.Functions.{functions}
+use Rattle.cb_scan.specs.rules.Macros.{macros}
+use Rattle.cb_scan.specs.rules.Scope.{function_ranges, macro_ranges}
+use Rattle.cb_scan.specs.rules.Typedefs.{typedefs}
+use Rattle.cb_scan.specs.rules.Uses.{function_calls, include_of, macro_calls, used}
+use Rattle.cb_scan.specs.steps.Directives.{code_out, include_out, macro_call_out, macro_out, no_range, nothing, range_finish, use_out, walk}
 use Rattle.cb_scan.specs.steps.Lined.{Within}
-use Rattle.cb_scan.specs.steps.Machine.{calls_from, defs_from, ranges_from}
+use Rattle.cb_scan.specs.steps.Functions.{calls_from, defs_from, ranges_from}
 use Rattle.cb_scan.specs.steps.Typedefs.{nesting_of, typedef_defs_from}
 use Rattle.cb_scan.proofs.scanner.gather.Given as goal
 
@@ -27,6 +28,6 @@ invariant-loop-lined l = record {
   macro_calls_found : l.lines.calls.items ++ walk macro_call_out nothing l.text l.line l.lined-iterator ≡ macro_calls (macros l.text (pieces l.text));
   includes_found : l.lines.includes.items ++ walk (include_out l.text) nothing l.text l.line l.lined-iterator ≡ flat_map (include_of l.text) (directives l.text (pieces l.text));
   within : AllByRecursion (Within l.text) l.lined-iterator;
-  room : l.state.machine.depth + length l.lined-iterator ≤ 1000000;
-  nested : nesting_of l.state.declared + length l.lined-iterator ≤ 1000000;
+  room : l.state.machine.depth + length l.lined-iterator ≤ MOST_BYTES;
+  nested : nesting_of l.state.declared + length l.lined-iterator ≤ MOST_BYTES;
 }

@@ -1,4 +1,4 @@
-use Rattle.cb_desk.specs.Meant.{row_of}
+use Rattle.cb_desk.specs.Models.{row_of}
 use Rattle.cb_session.specs.Output.{row_line}
 use Rattle.cb_tags.proofs.Prefixes.{PutsAll-none, PutsAll-element, PutsPrefix-element}
 use Rattle.cb_session.proofs.Puts.{Puts-fault}

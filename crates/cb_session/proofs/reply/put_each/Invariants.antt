@@ -1,6 +1,6 @@
 use Rattle.std.proofs.Common.{take}
 use Rattle.std.specs.List.{flat_map}
-use Rattle.cb_desk.specs.Meant.{row_of}
+use Rattle.cb_desk.specs.Models.{row_of}
 use Rattle.cb_session.specs.Output.{row_line}
 use Rattle.cb_tags.specs.Writing.{PutsAll}
 use Rattle.cb_session.proofs.reply.put_each.Given as goal

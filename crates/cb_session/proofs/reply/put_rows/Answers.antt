@@ -1,5 +1,5 @@
 use Rattle.std.proofs.lemmas.List.{length-map}
-use Rattle.cb_desk.specs.Meant.{row_of}
+use Rattle.cb_desk.specs.Models.{row_of}
 use Rattle.cb_session.specs.Output.{row_line}
 use Rattle.cb_session.proofs.Puts.{Puts-unfinished, Puts-after, flat_map-map}
 use Rattle.cb_session.proofs.reply.put_rows.Goals as goal

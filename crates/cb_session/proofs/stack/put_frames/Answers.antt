@@ -1,5 +1,5 @@
 use Rattle.std.proofs.Common.{subst}
-use Rattle.cb_desk.specs.Meant.{frame_of}
+use Rattle.cb_desk.specs.Models.{frame_of}
 use Rattle.cb_tags.specs.Writing.{PutsAll, PutsPrefix}
 use Rattle.cb_session.specs.Output.{row_line}
 use Rattle.cb_session.proofs.Shown.{Shown-more, Shown-fault}

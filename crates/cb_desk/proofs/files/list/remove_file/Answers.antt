@@ -1,4 +1,4 @@
-use Rattle.std.proofs.Common.{rules, ◌≡◌, ◌∙◌, ap, map, filter, not, bytes_eq}
+use Rattle.std.proofs.Common.{rules, ◌≡◌, ◌∙◌, ap, map, filter, not}
 use Rattle.std.proofs.lemmas.Fn.{filter_same}
 use Rattle.cb_desk.specs.World.{is_named}
 use Rattle.cb_desk.proofs.Placed.{map-filter}

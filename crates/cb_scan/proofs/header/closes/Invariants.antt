@@ -1,8 +1,0 @@
--- What is left decides from the state reached.
-use Rattle.std.proofs.Common.{◌≡◌, drop}
-use Rattle.cb_scan.specs.declared.lexeme.Escape.TheVariants.{Plain}
-use Rattle.cb_scan.specs.steps.Quote.{closes_from}
-use Rattle.cb_scan.proofs.header.closes.Given as goal
-
-abbrev pub invariant-loop-i : goal.invariant-loop-i
-invariant-loop-i l = closes_from l.escape (drop l.i l.bytes) ≡ closes_from Plain l.bytes

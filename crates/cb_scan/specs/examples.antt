@@ -1,0 +1,7 @@
+pub mod Calls
+pub mod Functions
+pub mod Includes
+pub mod Macros
+pub mod Pieces
+pub mod Typedefs
+pub mod Uses

@@ -1,0 +1,4 @@
+pub mod Lexeme
+pub mod Pieces
+pub mod Reserved
+pub mod Tokens

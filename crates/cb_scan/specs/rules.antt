@@ -1,0 +1,7 @@
+pub mod Code
+pub mod Depth
+pub mod Functions
+pub mod Macros
+pub mod Scope
+pub mod Typedefs
+pub mod Uses

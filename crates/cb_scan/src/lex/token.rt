@@ -1,0 +1,145 @@
+//! Tokens: the pieces that the rules on definitions speak of, each with what it is for them.
+ghost use Rattle.std.specs.Prelude.{◌≡◌, ◌≤◌, ◌<◌, length};
+ghost use Rattle.std.specs.Str.{bytes_eq};
+ghost use Rattle.cb_scan.specs.lex.Tokens.{bytes_of, is_mark, is_name_token, is_static, is_typedef, name_kind, role_of, starts_line, word_of};
+ghost use Rattle.cb_scan.specs.steps.Lined.{Within};
+ghost use Rattle.cb_scan.specs.steps.Directives.{lined_token};
+
+use crate::lex::lined::Lined;
+use crate::lex::name::is_reserved;
+use crate::lex::piece::{Class, Piece, Span};
+
+/// A `Name` piece: a name, two of which mean something as the own word of a directive; or a reserved word, three of which
+/// a rule asks for.
+#[derive(Clone, Copy, Debug, PartialEq, Eq)]
+pub(crate) enum WordKind {
+    Name,
+    Define,
+    Include,
+    Typedef,
+    Extern,
+    Static,
+    Reserved,
+}
+
+/// What a token is for the rules: a word, a lone byte, a string, or anything else.
+#[derive(Clone, Copy, Debug, PartialEq, Eq)]
+pub(crate) enum Role {
+    Word(WordKind),
+    Mark(u8),
+    Str,
+    Other,
+}
+
+/// A token: what it is, its bytes, its line, and whether its line begins with it.
+#[derive(Clone, Copy, Debug, PartialEq, Eq)]
+pub(crate) struct Token {
+    pub role: Role,
+    pub span: Span,
+    pub line: u32,
+    pub starts_line: bool,
+}
+
+fn is_same(word: &[u8], other: &[u8]) -> bool
+    ensures { result ≡ bytes_eq word.now other.now }
+{
+    word == other
+}
+
+fn name_kind(name: &[u8]) -> WordKind
+    ensures { result ≡ name_kind name.now }
+{
+    if is_same(name, b"define") {
+        WordKind::Define
+    } else if is_same(name, b"include") {
+        WordKind::Include
+    } else {
+        WordKind::Name
+    }
+}
+
+#[tactic(auto, unfolding(crate::specs::lex::Tokens::word_of))]
+fn word_of(word: &[u8]) -> WordKind
+    ensures { result ≡ word_of word.now }
+{
+    if !is_reserved(word) {
+        name_kind(word)
+    } else if is_same(word, b"typedef") {
+        WordKind::Typedef
+    } else if is_same(word, b"extern") {
+        WordKind::Extern
+    } else if is_same(word, b"static") {
+        WordKind::Static
+    } else {
+        WordKind::Reserved
+    }
+}
+
+fn role_of(text: &[u8], piece: Piece) -> Role
+    requires start { piece.span.start < length text.now }
+    requires order { piece.span.start ≤ piece.span.end }
+    requires end { piece.span.end ≤ length text.now }
+    ensures { result ≡ role_of text.now piece }
+{
+    let start = piece.span.start as usize;
+    match piece.class {
+        Class::Name => Role::Word(word_of(&text[start..piece.span.end as usize])),
+        Class::Byte => Role::Mark(text[start]),
+        Class::Str => Role::Str,
+        _ => Role::Other,
+    }
+}
+
+fn starts_line(text: &[u8], place: u32) -> bool
+    requires { place ≤ length text.now }
+    ensures { result ≡ starts_line text.now place }
+{
+    place == 0 || text[place as usize - 1] == b'\n'
+}
+
+/// The token of a piece.
+pub(crate) fn token_of(text: &[u8], lined: Lined) -> Token
+    requires { Within text.now lined }
+    ensures { result ≡ lined_token text.now lined }
+{
+    Token {
+        role: role_of(text, lined.piece),
+        span: lined.piece.span,
+        line: lined.line,
+        starts_line: starts_line(text, lined.piece.span.start),
+    }
+}
+
+impl Token {
+    /// A name that is not reserved.
+    pub(crate) fn is_name(self) -> bool
+        ensures { result ≡ is_name_token self.role }
+    {
+        matches!(
+            self.role,
+            Role::Word(WordKind::Name | WordKind::Define | WordKind::Include)
+        )
+    }
+
+    pub(crate) fn is_typedef(self) -> bool
+        ensures { result ≡ is_typedef self.role }
+    {
+        matches!(self.role, Role::Word(WordKind::Typedef))
+    }
+
+    pub(crate) fn is_static(self) -> bool
+        ensures { result ≡ is_static self.role }
+    {
+        matches!(self.role, Role::Word(WordKind::Static))
+    }
+
+    /// The lone byte.
+    pub(crate) fn is_mark(self, byte: u8) -> bool
+        ensures { result ≡ is_mark byte self.role }
+    {
+        match self.role {
+            Role::Mark(mark) => mark == byte,
+            _ => false,
+        }
+    }
+}

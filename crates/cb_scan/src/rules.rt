@@ -1,0 +1,7 @@
+//! What tokens mean: functions, typedefs, directives, headers, scopes, and the order of facts.
+pub(crate) mod directives;
+pub(crate) mod functions;
+pub(crate) mod header;
+pub(crate) mod order;
+pub(crate) mod scope;
+pub(crate) mod typedefs;

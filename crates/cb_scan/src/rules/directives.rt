@@ -1,0 +1,248 @@
+//! How far a logical line has come: code, or a directive with what it defines or includes.
+ghost use Rattle.std.specs.Prelude.{◌≡◌, ◌≤◌, ◌<◌, ◌&&◌, length};
+ghost use Rattle.cb_scan.specs.declared.source.TheConstants.{MOST_BYTES};
+ghost use Rattle.std.specs.Option.{option_to_list};
+ghost use Rattle.cb_scan.specs.lex.Tokens.{is_name_token};
+ghost use Rattle.cb_scan.specs.steps.Directives.{body_call, directive_of, header_found, include_out, is_code, macro_call, macro_ended, macro_found, macro_opened, names_count, next_defining, next_directive, next_including, next_stage, range_ended};
+
+use crate::facts::{Call, Def, Include, Kind};
+use crate::rules::header::{angle_header, string_header};
+use crate::lex::piece::Span;
+use crate::rules::scope::Range;
+use crate::lex::token::{Role, Token, WordKind};
+
+/// How far a `# define` has come.
+#[derive(Clone, Copy)]
+pub(crate) enum Defining {
+    /// `# define`.
+    Begun,
+    /// `# define` and a name.
+    Name(Token),
+    /// The arguments of a macro of that name.
+    Arguments(Span),
+    /// The body of a macro of that name, and its last token.
+    Body(Span, Option<Token>),
+    /// Nothing more is asked.
+    Other,
+}
+
+/// How far a `# include` has come.
+#[derive(Clone, Copy)]
+pub(crate) enum Including {
+    /// `# include`.
+    Begun,
+    /// The `<` of a header.
+    Angle(Token),
+    /// Nothing more is asked.
+    Done,
+}
+
+/// How far a directive has come.
+#[derive(Clone, Copy)]
+pub(crate) enum Directive {
+    /// The `#`.
+    Hash,
+    /// `# define`.
+    Define(Defining),
+    /// `# include`.
+    Include(Including),
+    /// Any other directive.
+    Other,
+}
+
+/// How far a logical line has come.
+#[derive(Clone, Copy)]
+pub(crate) enum Stage {
+    /// No token yet.
+    Start,
+    /// A line of code.
+    Code,
+    /// A directive.
+    Directive(Directive),
+}
+
+impl Defining {
+    /// After a token. A macro has arguments where a `(` directly follows its name.
+    fn next(self, token: Token) -> Defining
+        ensures { result ≡ next_defining self token }
+    {
+        match self {
+            Defining::Begun if token.is_name() => Defining::Name(token),
+            Defining::Name(name) if token.is_mark(b'(') && token.span.start == name.span.end =>
+                Defining::Arguments(name.span),
+            Defining::Arguments(name) if token.is_mark(b')') => Defining::Body(name, None),
+            Defining::Arguments(_) => self,
+            Defining::Body(name, _) => Defining::Body(name, Some(token)),
+            Defining::Begun | Defining::Name(_) | Defining::Other => Defining::Other,
+        }
+    }
+
+    /// The macro whose arguments the next token opens, if it opens some.
+    fn opened(self, token: Token) -> Option<Def>
+        ensures { result ≡ macro_opened self token }
+    {
+        match self {
+            Defining::Name(name) if token.is_mark(b'(') && token.span.start == name.span.end => Some(
+                Def {
+                    name: name.span,
+                    kind: Kind::Macro,
+                    line: name.line,
+                    local: false,
+                },
+            ),
+            _ => None,
+        }
+    }
+
+    /// The range of the macro, where the line ends at a place.
+    fn ended(self, end: u32) -> Option<Range>
+        ensures { result ≡ range_ended self end }
+    {
+        match self {
+            Defining::Arguments(name) | Defining::Body(name, _) => Some(Range { name, end }),
+            _ => None,
+        }
+    }
+
+    /// The call that the last token is, if the next one tells so.
+    fn call(self, token: Token) -> Option<Call>
+        ensures { result ≡ body_call self token }
+    {
+        match self {
+            Defining::Body(caller, Some(last)) if last.is_name() && token.is_mark(b'(') => Some(
+                Call {
+                    callee: last.span,
+                    line: last.line,
+                    caller,
+                },
+            ),
+            _ => None,
+        }
+    }
+}
+
+impl Including {
+    /// After a token.
+    fn next(self, token: Token) -> Including
+        ensures { result ≡ next_including self token }
+    {
+        match self {
+            Including::Begun if token.is_mark(b'<') => Including::Angle(token),
+            Including::Angle(_) if !token.is_mark(b'>') => self,
+            _ => Including::Done,
+        }
+    }
+
+    /// The include whose header the next token is or ends.
+    fn found(self, text: &[u8], token: Token) -> Option<Include>
+        requires some { token.span.start < token.span.end }
+        requires within { token.span.end ≤ length text.now }
+        requires small { length text.now ≤ MOST_BYTES }
+        ensures { option_to_list result ≡ header_found text.now self token }
+    {
+        match (self, token.role) {
+            (Including::Begun, Role::Str) => string_header(text, token),
+            (Including::Angle(open), Role::Mark(b'>')) => angle_header(open, token),
+            _ => None,
+        }
+    }
+}
+
+impl Directive {
+    /// After the own word of a directive.
+    fn of(own: Token) -> Directive
+        ensures { result ≡ directive_of own }
+    {
+        match own.role {
+            Role::Word(WordKind::Define) => Directive::Define(Defining::Begun),
+            Role::Word(WordKind::Include) => Directive::Include(Including::Begun),
+            _ => Directive::Other,
+        }
+    }
+
+    /// After a token.
+    fn next(self, token: Token) -> Directive
+        ensures { result ≡ next_directive self token }
+    {
+        match self {
+            Directive::Hash => Directive::of(token),
+            Directive::Define(define) => Directive::Define(define.next(token)),
+            Directive::Include(include) => Directive::Include(include.next(token)),
+            Directive::Other => Directive::Other,
+        }
+    }
+}
+
+impl Stage {
+    /// After a token.
+    pub(crate) fn next(self, token: Token) -> Stage
+        ensures { result ≡ next_stage self token }
+    {
+        match self {
+            Stage::Start if token.is_mark(b'#') => Stage::Directive(Directive::Hash),
+            Stage::Start | Stage::Code => Stage::Code,
+            Stage::Directive(directive) => Stage::Directive(directive.next(token)),
+        }
+    }
+
+    /// Whether the last token was code.
+    pub(crate) fn is_code(self) -> bool
+        ensures { result ≡ is_code self }
+    {
+        matches!(self, Stage::Code)
+    }
+
+    /// Whether the next token is a use.
+    pub(crate) fn is_use(self, token: Token) -> bool
+        ensures { result ≡ (is_name_token token.role && names_count self) }
+    {
+        token.is_name()
+            && !matches!(
+                self,
+                Stage::Directive(Directive::Hash | Directive::Include(_))
+            )
+    }
+
+    /// The macro whose arguments the next token opens, if it opens some.
+    pub(crate) fn macro_found(self, token: Token) -> Option<Def>
+        ensures { result ≡ macro_found self token }
+    {
+        match self {
+            Stage::Directive(Directive::Define(define)) => define.opened(token),
+            _ => None,
+        }
+    }
+
+    /// The range of the macro whose line ends at a place.
+    pub(crate) fn macro_ended(self, end: u32) -> Option<Range>
+        ensures { result ≡ macro_ended self end }
+    {
+        match self {
+            Stage::Directive(Directive::Define(define)) => define.ended(end),
+            _ => None,
+        }
+    }
+
+    /// The call that the last token is, if the next one tells so.
+    pub(crate) fn macro_call(self, token: Token) -> Option<Call>
+        ensures { result ≡ macro_call self token }
+    {
+        match self {
+            Stage::Directive(Directive::Define(define)) => define.call(token),
+            _ => None,
+        }
+    }
+
+    /// The include whose header the next token is or ends.
+    pub(crate) fn include_found(self, text: &[u8], token: Token) -> Option<Include>
+        requires some { token.span.start < token.span.end }
+        requires within { token.span.end ≤ length text.now }
+        requires small { length text.now ≤ MOST_BYTES }
+        ensures { option_to_list result ≡ include_out text.now self token }
+    {
+        match self {
+            Stage::Directive(Directive::Include(include)) => include.found(text, token),
+            _ => None,
+        }
+    }
+}
