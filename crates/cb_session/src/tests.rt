@@ -5,8 +5,8 @@ mod memory;
 mod operands;
 mod tags;
 
-use super::reply::put_rows;
-use super::{Ended, Fault, Feed, Limits, Session, put_row};
+use crate::reply::put_rows;
+use crate::{Ended, Fault, Feed, Limits, Session, put_row};
 use cb_desk::RefRow;
 use cb_tags::Sink;
 use std::alloc::Global;
@@ -35,10 +35,10 @@ fn run(alloc: Global, limits: &Limits, input: &[u8]) -> (Vec<u8>, Ended) {
 }
 
 /// A text of so many bytes `a`, and then another.
-fn many(alloc: Global, count: usize, behind: &[u8]) -> Result<Vec<u8>, Fail> {
+fn many(alloc: Global, count: usize, after: &[u8]) -> Result<Vec<u8>, Fail> {
     let mut text = Vec::with_capacity(alloc, 8_192)?;
     text.resize(count, b'a')?;
-    text.extend_from_slice(behind)?;
+    text.extend_from_slice(after)?;
     Ok(text)
 }
 

@@ -80,7 +80,8 @@ fn a_failed_flush_ends_the_run(rt: HostRuntime) {
     assert_eq!(rt; feed.byte(), Ok(Some(b':')));
 }
 
-/// A reader that gives so many of its bytes one by one, and then fails; at its end it says so once, and then fails too.
+/// A reader that gives so many of its bytes one by one, and then fails; at its end it says so once,
+/// and then fails too.
 #[derive(Drop)]
 struct Broken<'a> {
     bytes: &'a [u8],
@@ -226,7 +227,8 @@ impl Write for Flushed {
     }
 }
 
-/// Each prompt is flushed, and the whole output once more at the end: also where a block is cut off.
+/// Each prompt is flushed, and the whole output once more at the end: also where a block is cut
+/// off.
 #[test]
 fn prompts_and_the_end_are_flushed(rt: HostRuntime) {
     let cases = [
