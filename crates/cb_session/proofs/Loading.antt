@@ -5,13 +5,13 @@ use Rattle.cb_desk.specs.declared.refusal.Refusal.TheVariants.{OutOfMemory}
 use Rattle.cb_desk.specs.World.{File}
 use Rattle.cb_desk.specs.Step.{load, step}
 use Rattle.cb_desk.specs.Timeline.{Timeline, Changes, judged, changed}
-use Rattle.cb_session.specs.Operands.{Stop, Loads, all_loaded, first_loaded, first_refused, memory_refused}
+use Rattle.cb_session.specs.Operands.{RefusedOperand, Loads, all_loaded, first_loaded, first_refused, memory_refused}
 use Rattle.cb_desk.proofs.Moves.{advanced-Ok}
 
 -- a load that was made is as it was meant
 accepted : (t u : Timeline) (name bytes : List ℕ) (x : Unit {0}) → Changes (load name bytes) t u (Ok x) → changed t (load name bytes) ≡ Ok u
 accepted t u name bytes x p =
-    let P : Bool → Result Timeline Refusal → Type 0 = λ wanted meant. judged wanted (load name bytes) meant ≡ Ok u → meant ≡ Ok u in
+    let P : Bool → Result Timeline Refusal → Type 0 = λ out_of_memory meant. judged out_of_memory (load name bytes) meant ≡ Ok u → meant ≡ Ok u in
     let none : (meant : Result Timeline Refusal) → P true meant = λ meant. elim meant as (λ m. P true m) [ Ok v ↦ λ e. cc | Err r ↦ λ e. e ] in
     (elim p.0 as (λ b. P b (changed t (load name bytes))) [ true ↦ none (changed t (load name bytes)) | false ↦ λ e. e ]) p.1
 
@@ -29,7 +29,7 @@ refused : (place : ℕ) (t u : Timeline) (f : File) (fs : List File) (r : Refusa
 refused place t u f fs r p =
     let meant = changed t (load f.name f.bytes) in
     let Q : Type 0 = Loads place t (f ∷ fs) (Err (record { place = place; why = r })) in
-    let P : Bool → Result Timeline Refusal → Type 0 = λ wanted m. meant ≡ m → judged wanted (load f.name f.bytes) m ≡ Err r → Q in
+    let P : Bool → Result Timeline Refusal → Type 0 = λ out_of_memory m. meant ≡ m → judged out_of_memory (load f.name f.bytes) m ≡ Err r → Q in
     let none : (m : Result Timeline Refusal) → P true m = λ m. elim m as (λ n. P true n) [
       | Ok v ↦ λ is e.
           let why : OutOfMemory ≡ r = cc in
@@ -42,7 +42,7 @@ refused place t u f fs r p =
 
 -- loads that go on from a place, with those that were done
 abbrev pub Goes : ℕ → Timeline → Timeline → List File → List File → Type 0
-Goes place start t all left = (end : Result Timeline Stop) → Loads place t left end → Loads 0 start all end
+Goes place start t all left = (end : Result Timeline RefusedOperand) → Loads place t left end → Loads 0 start all end
 
 module _ (place : ℕ) (start t u : Timeline) (all left rest : List File) (f : File) (name : List ℕ) where
   pub goes_on : (x : Unit {0}) → Goes place start t all left → left ≡ f ∷ rest → name ≡ f.name → Changes (load name f.bytes) t u (Ok x) → Goes (place + 1) start u all rest

@@ -11,88 +11,89 @@ use Rattle.cb_desk.specs.Answer.{answer}
 use Rattle.cb_tags.specs.Writers.{Writer}
 use Rattle.cb_desk.specs.declared.tags.Format.{Format}
 use Rattle.cb_desk.specs.declared.tags.Format.TheVariants.{Extended}
-use Rattle.cb_session.specs.Inputs.{Entry, query, change, undo, redo, tags_file, listing, stack, refused, nothing, quit}
-use Rattle.cb_session.specs.Output.{moved, outcome, refused_line, answer_lines, tags_reply, listing_reply}
+use Rattle.cb_session.specs.Requests.{Request, query, change, undo, redo, tags_file, listing, stack, refused, nothing, quit}
+use Rattle.cb_session.specs.Serving.{Does}
+use Rattle.cb_session.specs.steps.Rounds.{move_line}
+use Rattle.cb_session.specs.Output.{moved, done_line, outcome, refused_line, answer_lines, tags_reply, listing_reply}
 use Rattle.cb_desk.specs.Tags.{tags}
 use Rattle.cb_session.specs.Stack.{stack_rows}
 use Rattle.cb_session.specs.Writing.{Puts}
-use Rattle.cb_session.specs.Serving.{move_line, Does}
 
 -- a move as it was meant, and its reply
-moves : (meant : Result Timeline Refusal) (old new : Timeline) (r : Result (Unit {0}) Refusal)
-    → Moves meant old new r → (new ≡ (moved old meant).timeline) × (move_line r ≡ (moved old meant).reply)
-moves meant old new (Ok x) p = (ap (λ m. (moved old m).timeline) (sym p), ap (λ m. (moved old m).reply) (sym p))
-moves meant old new (Err r) p = (p.1 ∙ ap (λ m. (moved old m).timeline) (sym p.0), ap (λ m. (moved old m).reply) (sym p.0))
+moves : (done : List ℕ) (meant : Result Timeline Refusal) (old new : Timeline) (r : Result (Unit {0}) Refusal)
+    → Moves meant old new r → (new ≡ (moved old done meant).timeline) × (move_line done r ≡ (moved old done meant).reply)
+moves done meant old new (Ok x) p = (ap (λ m. (moved old done m).timeline) (sym p), ap (λ m. (moved old done m).reply) (sym p))
+moves done meant old new (Err r) p = (p.1 ∙ ap (λ m. (moved old done m).timeline) (sym p.0), ap (λ m. (moved old done m).reply) (sym p.0))
 
-Does-moved : {A : Type 0} (meant : Result Timeline Refusal) (old new : Timeline) (r : Result (Unit {0}) Refusal) (out out' : Writer) (result : Result A Fault)
-    → Moves meant old new r → Puts out out' result (move_line r) → Does (moved old meant) new out out' result
-Does-moved meant old new r out out' result p q =
-    let m = moves meant old new r p in
+Does-moved : {A : Type 0} (done : List ℕ) (meant : Result Timeline Refusal) (old new : Timeline) (r : Result (Unit {0}) Refusal) (out out' : Writer) (result : Result A Fault)
+    → Moves meant old new r → Puts out out' result (move_line done r) → Does (moved old done meant) new out out' result
+Does-moved done meant old new r out out' result p q =
+    let m = moves done meant old new r p in
     (m.0, subst (λ l. Puts out out' result l) m.1 q)
 
--- each kind of entry is done
-pub Does-change : {A : Type 0} (start old new : Timeline) (e : Entry) (s : Step) (r : Result (Unit {0}) Refusal) (out out' : Writer) (result : Result A Fault)
-    → old ≡ start → e ≡ change s → Changes s old new r → Puts out out' result (move_line r) → (mark : Bool) × Does (outcome mark start e) new out out' result
+-- each kind of request is done
+pub Does-change : {A : Type 0} (start old new : Timeline) (e : Request) (s : Step) (r : Result (Unit {0}) Refusal) (out out' : Writer) (result : Result A Fault)
+    → old ≡ start → e ≡ change s → Changes s old new r → Puts out out' result (move_line done_line r) → (out_of_memory : Bool) × Does (outcome out_of_memory start e) new out out' result
 unfolding outcome
 Does-change start old new e s r out out' result same h p q =
-    subst (λ v. (mark : Bool) × Does (outcome mark v e) new out out' result) same
-    (subst (λ x. (mark : Bool) × Does (outcome mark old x) new out out' result) (sym h)
-    (p.0, Does-moved (judged p.0 s (changed old s)) old new r out out' result p.1 q))
+    subst (λ v. (out_of_memory : Bool) × Does (outcome out_of_memory v e) new out out' result) same
+    (subst (λ x. (out_of_memory : Bool) × Does (outcome out_of_memory old x) new out out' result) (sym h)
+    (p.0, Does-moved done_line (judged p.0 s (changed old s)) old new r out out' result p.1 q))
 
-pub Does-undo : {A : Type 0} (start old new : Timeline) (e : Entry) (r : Result (Unit {0}) Refusal) (out out' : Writer) (result : Result A Fault)
-    → old ≡ start → e ≡ undo → Moves (undone old) old new r → Puts out out' result (move_line r) → (mark : Bool) × Does (outcome mark start e) new out out' result
+pub Does-undo : {A : Type 0} (start old new : Timeline) (e : Request) (r : Result (Unit {0}) Refusal) (out out' : Writer) (result : Result A Fault)
+    → old ≡ start → e ≡ undo → Moves (undone old) old new r → Puts out out' result (move_line done_line r) → (out_of_memory : Bool) × Does (outcome out_of_memory start e) new out out' result
 unfolding outcome
 Does-undo start old new e r out out' result same h p q =
-    subst (λ v. (mark : Bool) × Does (outcome mark v e) new out out' result) same
-    (subst (λ x. (mark : Bool) × Does (outcome mark old x) new out out' result) (sym h)
-    (false, Does-moved (undone old) old new r out out' result p q))
+    subst (λ v. (out_of_memory : Bool) × Does (outcome out_of_memory v e) new out out' result) same
+    (subst (λ x. (out_of_memory : Bool) × Does (outcome out_of_memory old x) new out out' result) (sym h)
+    (false, Does-moved done_line (undone old) old new r out out' result p q))
 
-pub Does-redo : {A : Type 0} (start old new : Timeline) (e : Entry) (r : Result (Unit {0}) Refusal) (out out' : Writer) (result : Result A Fault)
-    → old ≡ start → e ≡ redo → Moves (redone old) old new r → Puts out out' result (move_line r) → (mark : Bool) × Does (outcome mark start e) new out out' result
+pub Does-redo : {A : Type 0} (start old new : Timeline) (e : Request) (r : Result (Unit {0}) Refusal) (out out' : Writer) (result : Result A Fault)
+    → old ≡ start → e ≡ redo → Moves (redone old) old new r → Puts out out' result (move_line done_line r) → (out_of_memory : Bool) × Does (outcome out_of_memory start e) new out out' result
 unfolding outcome
 Does-redo start old new e r out out' result same h p q =
-    subst (λ v. (mark : Bool) × Does (outcome mark v e) new out out' result) same
-    (subst (λ x. (mark : Bool) × Does (outcome mark old x) new out out' result) (sym h)
-    (false, Does-moved (redone old) old new r out out' result p q))
+    subst (λ v. (out_of_memory : Bool) × Does (outcome out_of_memory v e) new out out' result) same
+    (subst (λ x. (out_of_memory : Bool) × Does (outcome out_of_memory old x) new out out' result) (sym h)
+    (false, Does-moved done_line (redone old) old new r out out' result p q))
 
-pub Does-stack : {A : Type 0} (t desk : Timeline) (e : Entry) (out out' : Writer) (result : Result A Fault)
-    → desk ≡ t → e ≡ stack → Puts out out' result (answer_lines (stack_rows desk.present)) → (mark : Bool) × Does (outcome mark t e) t out out' result
+pub Does-stack : {A : Type 0} (t desk : Timeline) (e : Request) (out out' : Writer) (result : Result A Fault)
+    → desk ≡ t → e ≡ stack → Puts out out' result (answer_lines (stack_rows desk.present)) → (out_of_memory : Bool) × Does (outcome out_of_memory t e) t out out' result
 unfolding outcome
 Does-stack t desk e out out' result same h p =
-    subst (λ x. (mark : Bool) × Does (outcome mark t x) t out out' result) (sym h)
+    subst (λ x. (out_of_memory : Bool) × Does (outcome out_of_memory t x) t out out' result) (sym h)
     (false, (refl, subst (λ v. Puts out out' result (answer_lines (stack_rows v.present))) same p))
 
-pub Does-query : {A : Type 0} (t : Timeline) (e : Entry) (field : Field) (pattern : List ℕ) (out out' : Writer) (result : Result A Fault)
-    → e ≡ query field pattern → (mark : Bool) × Puts out out' result (outcome mark t (query field pattern)).reply → (mark : Bool) × Does (outcome mark t e) t out out' result
+pub Does-query : {A : Type 0} (t : Timeline) (e : Request) (field : Field) (pattern : List ℕ) (out out' : Writer) (result : Result A Fault)
+    → e ≡ query field pattern → (out_of_memory : Bool) × Puts out out' result (outcome out_of_memory t (query field pattern)).reply → (out_of_memory : Bool) × Does (outcome out_of_memory t e) t out out' result
 unfolding outcome
 Does-query t e field pattern out out' result h p =
-    subst (λ x. (mark : Bool) × Does (outcome mark t x) t out out' result) (sym h) (p.0, (refl, p.1))
+    subst (λ x. (out_of_memory : Bool) × Does (outcome out_of_memory t x) t out out' result) (sym h) (p.0, (refl, p.1))
 
-pub Does-tags : {A : Type 0} (t : Timeline) (e : Entry) (format : Format) (out out' : Writer) (result : Result A Fault)
-    → e ≡ tags_file format → (mark : Bool) × Puts out out' result (outcome mark t (tags_file format)).reply → (mark : Bool) × Does (outcome mark t e) t out out' result
+pub Does-tags : {A : Type 0} (t : Timeline) (e : Request) (format : Format) (out out' : Writer) (result : Result A Fault)
+    → e ≡ tags_file format → (out_of_memory : Bool) × Puts out out' result (outcome out_of_memory t (tags_file format)).reply → (out_of_memory : Bool) × Does (outcome out_of_memory t e) t out out' result
 unfolding outcome
 Does-tags t e format out out' result h p =
-    subst (λ x. (mark : Bool) × Does (outcome mark t x) t out out' result) (sym h) (p.0, (refl, p.1))
+    subst (λ x. (out_of_memory : Bool) × Does (outcome out_of_memory t x) t out out' result) (sym h) (p.0, (refl, p.1))
 
-pub Does-listing : {A : Type 0} (t : Timeline) (e : Entry) (out out' : Writer) (result : Result A Fault)
-    → e ≡ listing → (mark : Bool) × Puts out out' result (outcome mark t listing).reply → (mark : Bool) × Does (outcome mark t e) t out out' result
+pub Does-listing : {A : Type 0} (t : Timeline) (e : Request) (out out' : Writer) (result : Result A Fault)
+    → e ≡ listing → (out_of_memory : Bool) × Puts out out' result (outcome out_of_memory t listing).reply → (out_of_memory : Bool) × Does (outcome out_of_memory t e) t out out' result
 unfolding outcome
 Does-listing t e out out' result h p =
-    subst (λ x. (mark : Bool) × Does (outcome mark t x) t out out' result) (sym h) (p.0, (refl, p.1))
+    subst (λ x. (out_of_memory : Bool) × Does (outcome out_of_memory t x) t out out' result) (sym h) (p.0, (refl, p.1))
 
-pub Does-refused : {A : Type 0} (t : Timeline) (e : Entry) (r : Refusal) (out out' : Writer) (result : Result A Fault)
-    → e ≡ refused r → Puts out out' result (refused_line r) → (mark : Bool) × Does (outcome mark t e) t out out' result
+pub Does-refused : {A : Type 0} (t : Timeline) (e : Request) (r : Refusal) (out out' : Writer) (result : Result A Fault)
+    → e ≡ refused r → Puts out out' result (refused_line r) → (out_of_memory : Bool) × Does (outcome out_of_memory t e) t out out' result
 unfolding outcome
 Does-refused t e r out out' result h p =
-    subst (λ x. (mark : Bool) × Does (outcome mark t x) t out out' result) (sym h) (false, (refl, p))
+    subst (λ x. (out_of_memory : Bool) × Does (outcome out_of_memory t x) t out out' result) (sym h) (false, (refl, p))
 
-pub Does-nothing : {A : Type 0} (t : Timeline) (e : Entry) (out : Writer) (x : A) → e ≡ nothing → (mark : Bool) × Does (outcome mark t e) t out out (Ok x)
+pub Does-nothing : {A : Type 0} (t : Timeline) (e : Request) (out : Writer) (x : A) → e ≡ nothing → (out_of_memory : Bool) × Does (outcome out_of_memory t e) t out out (Ok x)
 unfolding outcome
-Does-nothing t e out x h = subst (λ y. (mark : Bool) × Does (outcome mark t y) t out out (Ok x)) (sym h) (false, (refl, (PutsAll-none out, tt)))
+Does-nothing t e out x h = subst (λ y. (out_of_memory : Bool) × Does (outcome out_of_memory t y) t out out (Ok x)) (sym h) (false, (refl, (PutsAll-none out, tt)))
 
-pub Does-quit : {A : Type 0} (t : Timeline) (e : Entry) (out : Writer) (x : A) → e ≡ quit → (mark : Bool) × Does (outcome mark t e) t out out (Ok x)
+pub Does-quit : {A : Type 0} (t : Timeline) (e : Request) (out : Writer) (x : A) → e ≡ quit → (out_of_memory : Bool) × Does (outcome out_of_memory t e) t out out (Ok x)
 unfolding outcome
-Does-quit t e out x h = subst (λ y. (mark : Bool) × Does (outcome mark t y) t out out (Ok x)) (sym h) (false, (refl, (PutsAll-none out, tt)))
+Does-quit t e out x h = subst (λ y. (out_of_memory : Bool) × Does (outcome out_of_memory t y) t out out (Ok x)) (sym h) (false, (refl, (PutsAll-none out, tt)))
 
 -- a question is answered, or memory refused it
 pub query-answered : (t : Timeline) (field : Field) (pattern : List ℕ) → (outcome false t (query field pattern)).reply ≡ answer_lines (answer t.present field pattern)

@@ -1,25 +1,29 @@
 -- A question that is read has a pattern.
 use Rattle.std.proofs.Common.{◌≡◌, ℕ, Bool, true, false, cond, ◌||◌, List, [], ◌∷◌, Option, Some, None, sym, subst, nat_lt, nat_eq, codes}
-use Rattle.std.specs.List.{slice_split}
+use Rattle.std.specs.List.{position}
 use Rattle.std.specs.Str.{bytes_eq}
-use Rattle.cb_session.specs.Inputs.{Entry, refused, quit, change, undo, redo, tags_file, listing, stack, tags_numbered, tags_words, drop_words, rename_words, tag_numbered, tag_words, alone, number_in, Line, whole, block, is_space, is_digit, load_sized, load_words, definition_query, field_query, command, command_words, short_line}
-use Rattle.cb_desk.specs.declared.refusal.Refusal.TheVariants.{NoSuchField, BadCount}
+use Rattle.cb_session.specs.Commands.{words_in, cut_at, letter_q, end_of_transmission, tags_numbered, tags_words, drop_words, rename_words, tag_numbered, tag_words, alone, number_in, is_space, is_digit, load_sized, load_words, query_of, command, command_line, short_line}
+use Rattle.cb_session.specs.Models.{HasPattern}
+use Rattle.cb_session.specs.Requests.{Request, refused, quit, change, undo, redo, tags_file, listing, stack, LineRequest, whole, block}
+use Rattle.cb_desk.specs.declared.refusal.Refusal.TheVariants.{BadCount}
+use Rattle.cb_desk.specs.declared.rows.Field.{Field}
+use Rattle.cb_desk.specs.Answer.{field_of_digit}
+use Rattle.cb_session.specs.declared.limits.TheConstants.{MOST_BYTES}
 use Rattle.cb_desk.specs.declared.tags.Format.TheVariants.{Plain, Extended}
 use Rattle.cb_desk.specs.Step.{pop}
-use Rattle.cb_session.specs.Said.{HasPattern}
 
-abbrev IsPatterned : Line → Type 0
+abbrev IsPatterned : LineRequest → Type 0
 IsPatterned (whole e) = HasPattern e
 IsPatterned (block name n) = Unit {0}
 
 -- both choices do, and so the choice
-IsPatterned-choice : (b : Bool) (x y : Line) → IsPatterned x → IsPatterned y → IsPatterned (cond b x y)
+IsPatterned-choice : (b : Bool) (x y : LineRequest) → IsPatterned x → IsPatterned y → IsPatterned (cond b x y)
 IsPatterned-choice true x y p q = p
 IsPatterned-choice false x y p q = q
 
 load_sized-patterned : (name : List ℕ) (n : Option ℕ) → IsPatterned (load_sized name n)
 load_sized-patterned name None = tt
-load_sized-patterned name (Some n) = IsPatterned-choice (nat_lt 1000000 n) _ _ tt tt
+load_sized-patterned name (Some n) = IsPatterned-choice (nat_lt MOST_BYTES n) _ _ tt tt
 
 load_words-patterned : (words : List (List ℕ)) → IsPatterned (load_words words)
 load_words-patterned [] = load_sized-patterned [] (number_in [])
@@ -27,13 +31,10 @@ load_words-patterned (name ∷ []) = load_sized-patterned name (number_in [])
 load_words-patterned (name ∷ count ∷ []) = load_sized-patterned name (number_in count)
 load_words-patterned (name ∷ count ∷ more ∷ others) = tt
 
-definition_query-patterned : (pattern : List ℕ) → HasPattern (definition_query pattern)
-definition_query-patterned [] = tt
-definition_query-patterned (b ∷ bs) = λ e. cc
-
-field_query-patterned : (digit : ℕ) (pattern : List ℕ) → HasPattern (field_query digit pattern)
-field_query-patterned digit pattern =
-    elim (nat_eq digit 49) as (λ b. HasPattern (cond b (definition_query pattern) (refused NoSuchField))) [ true ↦ definition_query-patterned pattern | false ↦ tt ]
+query_of-patterned : (field : Option Field) (pattern : List ℕ) → HasPattern (query_of field pattern)
+query_of-patterned None pattern = tt
+query_of-patterned (Some field) [] = tt
+query_of-patterned (Some field) (b ∷ bs) = λ e. cc
 
 tags_numbered-patterned : (n : Option ℕ) → HasPattern (tags_numbered n)
 tags_numbered-patterned None = tt
@@ -69,13 +70,14 @@ tag_words-patterned (name ∷ []) = tt
 tag_words-patterned (name ∷ number ∷ []) = tag_numbered-patterned name (number_in number)
 tag_words-patterned (name ∷ number ∷ more ∷ others) = tt
 
-alone-patterned : (e : Entry) (words : List (List ℕ)) → HasPattern e → IsPatterned (alone e words)
+alone-patterned : (e : Request) (words : List (List ℕ)) → HasPattern e → IsPatterned (alone e words)
 alone-patterned e [] p = p
 alone-patterned e (word ∷ words) p = tt
 
-command-patterned : (word : List ℕ) (words : List (List ℕ)) → IsPatterned (command word words)
+command-patterned : (word : List ℕ) (rest : Option (List ℕ)) → IsPatterned (command word rest)
 unfolding command
-command-patterned word words =
+command-patterned word rest =
+    let words = words_in rest in
     IsPatterned-choice (bytes_eq word (codes ":load")) _ _ (load_words-patterned words)
     (IsPatterned-choice (bytes_eq word (codes ":drop")) (whole (drop_words words)) _ (drop_words-patterned words)
     (IsPatterned-choice (bytes_eq word (codes ":rename")) (whole (rename_words words)) _ (rename_words-patterned words)
@@ -87,16 +89,13 @@ command-patterned word words =
     (IsPatterned-choice (bytes_eq word (codes ":listing")) _ _ (alone-patterned listing words tt)
     (IsPatterned-choice (bytes_eq word (codes ":stack")) _ _ (alone-patterned stack words tt) tt)))))))))
 
-command_words-patterned : (words : List (List ℕ)) → IsPatterned (command_words words)
-command_words-patterned [] = tt
-command_words-patterned (word ∷ words) = command-patterned word words
-
 short_line-patterned : (line : List ℕ) → IsPatterned (short_line line)
 short_line-patterned [] = tt
 short_line-patterned (b ∷ bs) =
-    IsPatterned-choice (nat_eq b 113 || nat_eq b 4) (whole quit) _ tt
-    (IsPatterned-choice (is_digit b) (whole (field_query b bs)) (command_words (slice_split is_space (b ∷ bs))) (field_query-patterned b bs) (command_words-patterned (slice_split is_space (b ∷ bs))))
+    let parts = cut_at (b ∷ bs) (position is_space (b ∷ bs)) in
+    IsPatterned-choice (nat_eq b letter_q || nat_eq b end_of_transmission) (whole quit) _ tt
+    (IsPatterned-choice (is_digit b) (whole (query_of (field_of_digit b) bs)) (command_line (b ∷ bs)) (query_of-patterned (field_of_digit b) bs) (command-patterned parts.0 parts.1))
 
--- the entry of a line has its pattern
-pub HasPattern-whole : (line : List ℕ) (e : Entry) → whole e ≡ short_line line → HasPattern e
+-- the request of a line has its pattern
+pub HasPattern-whole : (line : List ℕ) (e : Request) → whole e ≡ short_line line → HasPattern e
 HasPattern-whole line e h = subst IsPatterned (sym h) (short_line-patterned line)

@@ -10,11 +10,13 @@ use Rattle.cb_session.specs.declared.input.Fault.TheVariants.{Read, Write, Memor
 use Rattle.cb_desk.specs.Timeline.{Timeline}
 use Rattle.cb_tags.specs.Writers.{Writer}
 use Rattle.cb_session.specs.Devices.{Reader}
-use Rattle.cb_session.specs.Inputs.{Entry, First, overlong, ending_of}
+use Rattle.cb_session.specs.Inputs.{First, ending_of}
+use Rattle.cb_session.specs.Reading.{Reads}
+use Rattle.cb_session.specs.Requests.{Request, overlong}
+use Rattle.cb_session.specs.Serving.{Does, Leaves}
+use Rattle.cb_session.specs.steps.Rounds.{LeavesRound}
 use Rattle.cb_session.specs.Output.{prompt, outcome, exchange}
 use Rattle.cb_tags.specs.Writing.{AppendsPrefix}
-use Rattle.cb_session.specs.Reading.{Reads}
-use Rattle.cb_session.specs.Serving.{Does, Leaves, LeavesRound}
 use Rattle.cb_tags.proofs.Prefixes.{AppendsPrefix-more, AppendsPrefix-after, AppendsPrefix-whole}
 
 -- a whole text with the ending that is meant
@@ -29,54 +31,54 @@ Leaves-whole text meant old new Cut e p = (e, p)
 Leaves-whole text meant old new (Operand place why) e p = (e, p)
 
 -- a fault that is passed on
-passed_on : (mark : Bool) (f : First) (t next : Timeline) (feed : Reader) (old new : Writer) (r : Result (Option Ended) Reason) (fault : Reason)
-    → IsErrAnd r (λ e. e ≡ fault) → Leaves (exchange mark t f.entry) (ending_of f.entry) old new (Fault fault) → LeavesRound mark f t next feed old new r
-passed_on mark f t next feed old new (Ok x) fault e p = absurd e
-passed_on mark f t next feed old new (Err x) fault e p = subst (λ k. Leaves (exchange mark t f.entry) (ending_of f.entry) old new (Fault k)) (sym e) p
+passed_on : (out_of_memory : Bool) (f : First) (t next : Timeline) (feed : Reader) (old new : Writer) (r : Result (Option Ended) Reason) (fault : Reason)
+    → IsErrAnd r (λ e. e ≡ fault) → Leaves (exchange out_of_memory t f.request) (ending_of f.request) old new (Fault fault) → LeavesRound out_of_memory f t next feed old new r
+passed_on out_of_memory f t next feed old new (Ok x) fault e p = absurd e
+passed_on out_of_memory f t next feed old new (Err x) fault e p = subst (λ k. Leaves (exchange out_of_memory t f.request) (ending_of f.request) old new (Fault k)) (sym e) p
 
 -- the prompt could not be written
 pub Round-unprompted : (f : First) (t next : Timeline) (feed : Reader) (old new : Writer) (r : Result (Option Ended) Reason) (fault : Reason)
-    → IsErrAnd r (λ e. e ≡ fault) → fault ≡ Write → AppendsPrefix old.bytes new.bytes prompt → (mark : Bool) × LeavesRound mark f t next feed old new r
+    → IsErrAnd r (λ e. e ≡ fault) → fault ≡ Write → AppendsPrefix old.bytes new.bytes prompt → (out_of_memory : Bool) × LeavesRound out_of_memory f t next feed old new r
 Round-unprompted f t next feed old new r fault e w p =
-    (false, passed_on false f t next feed old new r Write (subst (λ k. IsErrAnd r (λ x. x ≡ k)) w e) (AppendsPrefix-more old.bytes new.bytes prompt (outcome false t f.entry).reply p))
+    (false, passed_on false f t next feed old new r Write (subst (λ k. IsErrAnd r (λ x. x ≡ k)) w e) (AppendsPrefix-more old.bytes new.bytes prompt (outcome false t f.request).reply p))
 
 -- a line that is too long for the run has a prompt and no reply
-overlong_exchange : (t : Timeline) (e : Entry) → e ≡ overlong → exchange false t e ≡ prompt
+overlong_exchange : (t : Timeline) (e : Request) → e ≡ overlong → exchange false t e ≡ prompt
 unfolding outcome
 overlong_exchange t e h = ap (exchange false t) h
 
 -- no input could be read
 unread : (f : First) (t : Timeline) (feed : Reader) (old new : Writer) (fault : Reason) → Reads f feed (Err fault) → Appends old.bytes new.bytes prompt
-    → Leaves (exchange false t f.entry) (ending_of f.entry) old new (Fault fault)
-unread f t feed old new Read h p = AppendsPrefix-more old.bytes new.bytes prompt (outcome false t f.entry).reply (AppendsPrefix-whole old.bytes new.bytes prompt p)
+    → Leaves (exchange false t f.request) (ending_of f.request) old new (Fault fault)
+unread f t feed old new Read h p = AppendsPrefix-more old.bytes new.bytes prompt (outcome false t f.request).reply (AppendsPrefix-whole old.bytes new.bytes prompt p)
 unread f t feed old new Write h p = absurd h
-unread f t feed old new Memory h p = AppendsPrefix-more old.bytes new.bytes prompt (outcome false t f.entry).reply (AppendsPrefix-whole old.bytes new.bytes prompt p)
-unread f t feed old new LongLine h p = (ap ending_of h, subst (λ l. Appends old.bytes new.bytes l) (sym (overlong_exchange t f.entry h)) p)
+unread f t feed old new Memory h p = AppendsPrefix-more old.bytes new.bytes prompt (outcome false t f.request).reply (AppendsPrefix-whole old.bytes new.bytes prompt p)
+unread f t feed old new LongLine h p = (ap ending_of h, subst (λ l. Appends old.bytes new.bytes l) (sym (overlong_exchange t f.request h)) p)
 unread f t feed old new ManyLines h p = absurd h
 
 pub Round-unread : (f : First) (t next : Timeline) (feed : Reader) (old new : Writer) (r : Result (Option Ended) Reason) (fault : Reason)
-    → IsErrAnd r (λ e. e ≡ fault) → Reads f feed (Err fault) → Appends old.bytes new.bytes prompt → (mark : Bool) × LeavesRound mark f t next feed old new r
+    → IsErrAnd r (λ e. e ≡ fault) → Reads f feed (Err fault) → Appends old.bytes new.bytes prompt → (out_of_memory : Bool) × LeavesRound out_of_memory f t next feed old new r
 Round-unread f t next feed old new r fault e h p = (false, passed_on false f t next feed old new r fault e (unread f t feed old new fault h p))
 
 -- the reply could not be written
-pub Round-unanswered : (A : Type 0) (f : First) (t next : Timeline) (feed : Reader) (old mid new : Writer) (r : Result (Option Ended) Reason) (fault : Reason) (entry : Entry)
-    → IsErrAnd r (λ e. e ≡ fault) → entry ≡ f.entry → Appends old.bytes mid.bytes prompt → (mark : Bool) × Does {A = A} (outcome mark t entry) next mid new (Err fault)
-    → (mark : Bool) × LeavesRound mark f t next feed old new r
-Round-unanswered A f t next feed old mid new r fault entry e same p d =
-    let text : AppendsPrefix old.bytes new.bytes (exchange d.0 t entry) =
-    AppendsPrefix-after old.bytes mid.bytes new.bytes prompt (outcome d.0 t entry).reply p d.1.1.0.2 in (
+pub Round-unanswered : (A : Type 0) (f : First) (t next : Timeline) (feed : Reader) (old mid new : Writer) (r : Result (Option Ended) Reason) (fault : Reason) (request : Request)
+    → IsErrAnd r (λ e. e ≡ fault) → request ≡ f.request → Appends old.bytes mid.bytes prompt → (out_of_memory : Bool) × Does {A = A} (outcome out_of_memory t request) next mid new (Err fault)
+    → (out_of_memory : Bool) × LeavesRound out_of_memory f t next feed old new r
+Round-unanswered A f t next feed old mid new r fault request e same p d =
+    let text : AppendsPrefix old.bytes new.bytes (exchange d.0 t request) =
+    AppendsPrefix-after old.bytes mid.bytes new.bytes prompt (outcome d.0 t request).reply p d.1.1.0.2 in (
       d.0,
       passed_on d.0 f t next feed old new r Write (subst (λ k. IsErrAnd r (λ x. x ≡ k)) d.1.1.1 e)
           (subst (λ x. AppendsPrefix old.bytes new.bytes (exchange d.0 t x)) same text),
     )
 
 -- the reply was written
-pub Round-answered : (A : Type 0) (f : First) (t next : Timeline) (feed : Reader) (old mid new : Writer) (ending : Option Ended) (x : A) (entry : Entry)
-    → entry ≡ f.entry → feed.bytes ≡ Some f.rest → ending ≡ ending_of entry → Appends old.bytes mid.bytes prompt → (mark : Bool) × Does {A = A} (outcome mark t entry) next mid new (Ok x)
-    → (mark : Bool) × LeavesRound mark f t next feed old new (Ok ending)
-Round-answered A f t next feed old mid new None x entry same left e p d =
-    let text : Appends old.bytes new.bytes (exchange d.0 t entry) = Appends-trans old.bytes mid.bytes new.bytes prompt (outcome d.0 t entry).reply p d.1.1.0.2 in
+pub Round-answered : (A : Type 0) (f : First) (t next : Timeline) (feed : Reader) (old mid new : Writer) (ending : Option Ended) (x : A) (request : Request)
+    → request ≡ f.request → feed.bytes ≡ Some f.rest → ending ≡ ending_of request → Appends old.bytes mid.bytes prompt → (out_of_memory : Bool) × Does {A = A} (outcome out_of_memory t request) next mid new (Ok x)
+    → (out_of_memory : Bool) × LeavesRound out_of_memory f t next feed old new (Ok ending)
+Round-answered A f t next feed old mid new None x request same left e p d =
+    let text : Appends old.bytes new.bytes (exchange d.0 t request) = Appends-trans old.bytes mid.bytes new.bytes prompt (outcome d.0 t request).reply p d.1.1.0.2 in
     (d.0, (sym (e ∙ ap ending_of same), left, d.1.0 ∙ ap (λ y. (outcome d.0 t y).timeline) same, subst (λ y. Appends old.bytes new.bytes (exchange d.0 t y)) same text))
-Round-answered A f t next feed old mid new (Some ended) x entry same left e p d =
-    let text : Appends old.bytes new.bytes (exchange d.0 t entry) = Appends-trans old.bytes mid.bytes new.bytes prompt (outcome d.0 t entry).reply p d.1.1.0.2 in
-    (d.0, Leaves-whole (exchange d.0 t f.entry) (ending_of f.entry) old new ended (sym (e ∙ ap ending_of same)) (subst (λ y. Appends old.bytes new.bytes (exchange d.0 t y)) same text))
+Round-answered A f t next feed old mid new (Some ended) x request same left e p d =
+    let text : Appends old.bytes new.bytes (exchange d.0 t request) = Appends-trans old.bytes mid.bytes new.bytes prompt (outcome d.0 t request).reply p d.1.1.0.2 in
+    (d.0, Leaves-whole (exchange d.0 t f.request) (ending_of f.request) old new ended (sym (e ∙ ap ending_of same)) (subst (λ y. Appends old.bytes new.bytes (exchange d.0 t y)) same text))

@@ -1,5 +1,5 @@
 -- The rows of the frames, written from the top of the stack down.
-use Rattle.std.proofs.Common.{◌≡◌, ◌≤◌, ℕ, zero, suc, List, [], ◌∷◌, ◌++◌, map, reverse, length, codes, Result, refl, sym, ap, ◌∙◌, subst, append_assoc, append-nil, arith, slice_index_or}
+use Rattle.std.proofs.Common.{◌≡◌, ◌≤◌, ℕ, zero, suc, List, [], ◌∷◌, ◌++◌, map, reverse, length, codes, Result, refl, sym, ap, ◌∙◌, subst, append_assoc, arith, slice_index_or}
 use Rattle.std.proofs.lemmas.List.{reverse-append, length-map, length-reverse}
 use Rattle.std.specs.Prelude.{IsErrAnd}
 use Rattle.std.specs.List.{flat_map}
@@ -10,7 +10,7 @@ use Rattle.cb_desk.specs.World.{World, File, Frame}
 use Rattle.cb_session.specs.declared.input.Fault.TheVariants.{Write}
 use Rattle.cb_tags.specs.Writers.{Writer}
 use Rattle.cb_tags.specs.Writing.{PutsAll, PutsPrefix}
-use Rattle.cb_tags.proofs.Prefixes.{PutsAll-none, PutsAll-after, PutsPrefix-more, PutsPrefix-after}
+use Rattle.cb_tags.proofs.Prefixes.{PutsAll-after, PutsPrefix-more, PutsPrefix-after}
 use Rattle.cb_desk.specs.Answer.{AnswerRow, line_row, unindented}
 use Rattle.cb_session.specs.Output.{row_line}
 use Rattle.cb_session.specs.Stack.{frame_row, stack_rows}
@@ -30,9 +30,6 @@ pub record Shown (w : World) (old : Writer) (left : List Frame) (out : Writer) :
   pub so_far : List ℕ
   pub wrote : PutsAll old out so_far
   pub rest : so_far ++ rows_back w.files left ≡ flat_map row_line (stack_rows w)
-
-pub Shown-start : (w : World) (old : Writer) → Shown w old w.frames old
-Shown-start w old = record { so_far = []; wrote = PutsAll-none old; rest = refl }
 
 pub Shown-more : (w : World) (old out new : Writer) (left rest : List Frame) (f : Frame) → Shown w old left out → left ≡ rest ++ f ∷ []
     → PutsAll out new (row_line (frame_row w.files f)) → Shown w old rest new
@@ -57,14 +54,6 @@ Shown-fault w old out new left rest f r fault s is e why p =
     (Puts-fault old new r fault _ e why
     (PutsPrefix-after old out new s.so_far (row ++ rows_back w.files rest) s.wrote
     (PutsPrefix-more out new row (rows_back w.files rest) p)))
-
--- no frame is left
-pub Shown-end : (w : World) (old out : Writer) (left : List Frame) → Shown w old left out → left ≡ []
-    → PutsAll old out (flat_map row_line (stack_rows w))
-Shown-end w old out left s none =
-    let whole : s.so_far ≡ flat_map row_line (stack_rows w) =
-    sym (append-nil s.so_far) ∙ ap (λ l. s.so_far ++ rows_back w.files l) (sym none) ∙ s.rest in
-    subst (λ l. PutsAll old out l) whole s.wrote
 
 -- there are as many rows as frames
 pub stack_rows-length : (w : World) → length (stack_rows w) ≡ length w.frames

@@ -5,12 +5,15 @@ use Rattle.std.specs.List.{position_or_len, before_first, after_first}
 use Rattle.std.proofs.lemmas.List.{take_all, drop_all, take-append-le, length-append, length-take}
 use Rattle.std.proofs.Math.Seq.{take-append_seam, take-length, drop-append_seam, drop-append-add}
 use Rattle.std.specs.Io.KnownBytes.{Consumes, IsAtEnd}
-use Rattle.std.proofs.KnownBytes.{Consumes-nil, Consumes-trans}
+use Rattle.std.proofs.KnownBytes.{Consumes-trans}
 use Rattle.cb_desk.specs.declared.refusal.Refusal.TheVariants.{LineTooLong}
 use Rattle.cb_session.specs.declared.intake.LineRead.TheVariants.{End, Line, Long}
+use Rattle.cb_session.specs.declared.limits.TheConstants.{MOST_LINE}
 use Rattle.cb_session.specs.Devices.{Reader}
-use Rattle.cb_session.specs.Inputs.{is_line_feed, whole, refused, overlong, first, with_block, line_asks, short_line}
-use Rattle.cb_session.specs.Reading.{ReadsLine, line_of_length}
+use Rattle.cb_session.specs.Commands.{short_line}
+use Rattle.cb_session.specs.Inputs.{is_line_feed, first, with_block, line_asks}
+use Rattle.cb_session.specs.Requests.{whole, refused, overlong}
+use Rattle.cb_session.specs.steps.Lines.{ReadsLine, line_of_length}
 
 -- no line feed is among the bytes
 abbrev pub IsPlain : List ℕ → Type 0
@@ -22,11 +25,11 @@ IsPlain-push [] b p q = (q, tt)
 IsPlain-push (x ∷ xs) b p q = (p.0, IsPlain-push xs b p.1 q)
 
 -- plain bytes before a line feed, or alone, have it at their end
-line_feed_behind : (xs rest : List ℕ) → IsPlain xs → position_or_len is_line_feed (xs ++ 10 ∷ rest) ≡ length xs
-line_feed_behind [] rest p = refl
-line_feed_behind (x ∷ xs) rest p =
+line_feed_place : (xs rest : List ℕ) → IsPlain xs → position_or_len is_line_feed (xs ++ 10 ∷ rest) ≡ length xs
+line_feed_place [] rest p = refl
+line_feed_place (x ∷ xs) rest p =
     subst (λ b. cond (not b) (1 + position_or_len is_line_feed (xs ++ 10 ∷ rest)) 0 ≡ suc (length xs)) (sym p.0)
-    (let e = line_feed_behind xs rest p.1 in omega (arith, e))
+    (let e = line_feed_place xs rest p.1 in omega (arith, e))
 
 no_line_feed : (xs : List ℕ) → IsPlain xs → position_or_len is_line_feed xs ≡ length xs
 no_line_feed [] p = refl
@@ -35,12 +38,13 @@ no_line_feed (x ∷ xs) p =
     (let e = no_line_feed xs p.1 in omega (arith, e))
 
 before_line_feed : (xs rest : List ℕ) → IsPlain xs → before_first is_line_feed (xs ++ 10 ∷ rest) ≡ xs
-before_line_feed xs rest p = ap (λ n. take n (xs ++ 10 ∷ rest)) (line_feed_behind xs rest p) ∙ take-append_seam xs (10 ∷ rest)
+before_line_feed xs rest p = ap (λ n. take n (xs ++ 10 ∷ rest)) (line_feed_place xs rest p) ∙ take-append_seam xs (10 ∷ rest)
 
 after_line_feed : (xs rest : List ℕ) → IsPlain xs → after_first is_line_feed (xs ++ 10 ∷ rest) ≡ rest
-after_line_feed xs rest p = ap (λ n. drop (n + 1) (xs ++ 10 ∷ rest)) (line_feed_behind xs rest p) ∙ drop-append-add xs (10 ∷ rest) 1
+after_line_feed xs rest p = ap (λ n. drop (n + 1) (xs ++ 10 ∷ rest)) (line_feed_place xs rest p) ∙ drop-append-add xs (10 ∷ rest) 1
 
--- the first entry of a stream that begins with a line, and of one that is a line without its line feed
+-- the first request of a stream that begins with a line, and of one that is a line without its line
+-- feed
 first_nonempty : (limit : ℕ) (xs : List ℕ) → xs ≢ [] → first limit xs ≡ with_block (line_asks limit (before_first is_line_feed xs)) (after_first is_line_feed xs)
 unfolding first
 first_nonempty limit [] h = absurd (h refl)
@@ -65,16 +69,13 @@ last_line limit xs p h =
     ∙ ap (λ line. with_block (line_asks limit line) (after_first is_line_feed xs)) (ap (λ n. take n xs) at ∙ take-length xs)
     ∙ ap (with_block (line_asks limit xs)) (ap (λ n. drop (n + 1) xs) at ∙ drop_all (length xs + 1) xs (omega arith))
 
--- so many bytes of a line were read, and the first 4,096 of them kept
+-- so many bytes of a line were read, and as many of them kept as a command may have
 pub record Seen (old new : Option (List ℕ)) (line : List ℕ) (read : ℕ) : Type 0 where
   pub bytes : List ℕ
   pub plain : IsPlain bytes
   pub count : length bytes ≡ read
   pub taken : Consumes old new bytes
-  pub kept : line ≡ take 4096 bytes
-
-pub Seen-none : (a : Option (List ℕ)) (line : List ℕ) → line ≡ [] → Seen a a line 0
-Seen-none a line e = record { bytes = []; plain = tt; count = refl; taken = Consumes-nil a; kept = e }
+  pub kept : line ≡ take MOST_LINE bytes
 
 plain_byte : (b : ℕ) → b ≢ 10 → is_line_feed b ≡ false
 plain_byte b h = grind (arith, nat_tests)
@@ -94,62 +95,62 @@ left_byte m b line bytes e h =
     e ∙ sym (take-append-le m bytes (b ∷ []) (omega (arith, size)))
 
 pub Seen-kept : (a b c : Option (List ℕ)) (line next : List ℕ) (read byte : ℕ) → Seen a b line read → Consumes b c (byte ∷ []) → byte ≢ 10
-    → length line < 4096 → next ≡ line ++ byte ∷ [] → Seen a c next (read + 1)
+    → length line < MOST_LINE → next ≡ line ++ byte ∷ [] → Seen a c next (read + 1)
 Seen-kept a b c line next read byte s t p h e = record {
   bytes = s.bytes ++ byte ∷ [];
   plain = IsPlain-push s.bytes byte s.plain (plain_byte byte p);
   count = omega (arith, length-append s.bytes (byte ∷ []), s.count);
   taken = Consumes-trans a b c s.bytes (byte ∷ []) s.taken t;
-  kept = e ∙ kept_byte 4096 byte line s.bytes s.kept h;
+  kept = e ∙ kept_byte MOST_LINE byte line s.bytes s.kept h;
 }
 
 pub Seen-left : (a b c : Option (List ℕ)) (line : List ℕ) (read byte : ℕ) → Seen a b line read → Consumes b c (byte ∷ []) → byte ≢ 10
-    → 4096 ≤ length line → Seen a c line (read + 1)
+    → MOST_LINE ≤ length line → Seen a c line (read + 1)
 Seen-left a b c line read byte s t p h = record {
   bytes = s.bytes ++ byte ∷ [];
   plain = IsPlain-push s.bytes byte s.plain (plain_byte byte p);
   count = omega (arith, length-append s.bytes (byte ∷ []), s.count);
   taken = Consumes-trans a b c s.bytes (byte ∷ []) s.taken t;
-  kept = left_byte 4096 byte line s.bytes s.kept h;
+  kept = left_byte MOST_LINE byte line s.bytes s.kept h;
 }
 
 -- one byte more, which was kept or left
 pub Seen-more : (a b c : Option (List ℕ)) (line next : List ℕ) (read byte : ℕ) → Seen a b line read → Consumes b c (byte ∷ []) → byte ≢ 10
-    → (length line < 4096 → next ≡ line ++ byte ∷ []) → (4096 ≤ length line → next ≡ line) → Seen a c next (read + 1)
+    → (length line < MOST_LINE → next ≡ line ++ byte ∷ []) → (MOST_LINE ≤ length line → next ≡ line) → Seen a c next (read + 1)
 Seen-more a b c line next read byte s t p kept left =
-    let Q : Bool → Type 0 = λ v. nat_lt (length line) 4096 ≡ v → Seen a c next (read + 1) in
+    let Q : Bool → Type 0 = λ v. nat_lt (length line) MOST_LINE ≡ v → Seen a c next (read + 1) in
     let f : (v : Bool) → Q v = λ v. elim v as Q [
-      | true ↦ λ q. let h : length line < 4096 = grind (arith, nat_tests) in Seen-kept a b c line next read byte s t p h (kept h)
-      | false ↦ λ q. let h : 4096 ≤ length line = grind (arith, nat_tests) in
+      | true ↦ λ q. let h : length line < MOST_LINE = grind (arith, nat_tests) in Seen-kept a b c line next read byte s t p h (kept h)
+      | false ↦ λ q. let h : MOST_LINE ≤ length line = grind (arith, nat_tests) in
           subst (λ l. Seen a c l (read + 1)) (sym (left h)) (Seen-left a b c line read byte s t p h)
     ] in
-    f (nat_lt (length line) 4096) refl
+    f (nat_lt (length line) MOST_LINE) refl
 
 -- what is answered of a line with so many bytes
 answered : (limit : ℕ) (bytes line xs rest : List ℕ) (new : Reader) → first limit bytes ≡ with_block (line_asks limit xs) rest → new.bytes ≡ Some rest
-    → length xs ≤ limit → line ≡ take 4096 xs → ReadsLine limit bytes new line (Ok (line_of_length (length xs)))
+    → length xs ≤ limit → line ≡ take MOST_LINE xs → ReadsLine limit bytes new line (Ok (line_of_length (length xs)))
 answered limit bytes line xs rest new e r h k =
     let within : nat_lt limit (length xs) ≡ false = grind (arith, nat_tests) in
-    let Q : Bool → Type 0 = λ b. nat_le (length xs) 4096 ≡ b → ReadsLine limit bytes new line (Ok (cond b Line Long)) in
+    let Q : Bool → Type 0 = λ b. nat_le (length xs) MOST_LINE ≡ b → ReadsLine limit bytes new line (Ok (cond b Line Long)) in
     let f : (b : Bool) → Q b = λ b. elim b as Q [
       | true ↦ λ t.
-          let short : length xs ≤ 4096 = grind (arith, nat_tests) in
-          let all : line ≡ xs = k ∙ take_all 4096 xs short in
-          let test : nat_lt 4096 (length xs) ≡ false = grind (arith, nat_tests) in
+          let short : length xs ≤ MOST_LINE = grind (arith, nat_tests) in
+          let all : line ≡ xs = k ∙ take_all MOST_LINE xs short in
+          let test : nat_lt MOST_LINE (length xs) ≡ false = grind (arith, nat_tests) in
           let asks : line_asks limit xs ≡ short_line xs =
-          ap (λ b. cond b (whole overlong) (cond (nat_lt 4096 (length xs)) (whole (refused LineTooLong)) (short_line xs))) within
+          ap (λ b. cond b (whole overlong) (cond (nat_lt MOST_LINE (length xs)) (whole (refused LineTooLong)) (short_line xs))) within
           ∙ ap (λ b. cond b (whole (refused LineTooLong)) (short_line xs)) test in
           (rest, e ∙ ap (λ l. with_block l rest) (asks ∙ ap short_line (sym all)), r)
       | false ↦ λ t.
-          let test : nat_lt 4096 (length xs) ≡ true = grind (arith, nat_tests) in
+          let test : nat_lt MOST_LINE (length xs) ≡ true = grind (arith, nat_tests) in
           let asks : line_asks limit xs ≡ whole (refused LineTooLong) =
-          ap (λ b. cond b (whole overlong) (cond (nat_lt 4096 (length xs)) (whole (refused LineTooLong)) (short_line xs))) within
+          ap (λ b. cond b (whole overlong) (cond (nat_lt MOST_LINE (length xs)) (whole (refused LineTooLong)) (short_line xs))) within
           ∙ ap (λ b. cond b (whole (refused LineTooLong)) (short_line xs)) test in
           (rest, e ∙ ap (λ l. with_block l rest) asks, r)
     ] in
-    f (nat_le (length xs) 4096) refl
+    f (nat_le (length xs) MOST_LINE) refl
 
--- known bytes that were consumed are the front of what was known
+-- known bytes that were consumed are a prefix of what was known
 Consumes-known : (old new : Option (List ℕ)) (bs xs : List ℕ) → Consumes old new bs → old ≡ Some xs → (ys : List ℕ) × (new ≡ Some ys) × (xs ≡ bs ++ ys)
 Consumes-known None new bs xs p e = cc
 Consumes-known (Some a) None bs xs p e = absurd p
@@ -190,12 +191,12 @@ unfolding first
 ReadsLine-none limit bytes line old mid new read s t n z e =
     (ap (first limit) (all_seen bytes line old mid read s t e ∙ no_bytes s.bytes (s.count ∙ z)), n)
 
--- plain bytes at the front stand before the first line feed
-plain_front : (xs ys : List ℕ) → IsPlain xs → length xs ≤ position_or_len is_line_feed (xs ++ ys)
-plain_front [] ys p = omega arith
-plain_front (x ∷ xs) ys p =
+-- plain bytes at the start come before the first line feed
+plain_prefix : (xs ys : List ℕ) → IsPlain xs → length xs ≤ position_or_len is_line_feed (xs ++ ys)
+plain_prefix [] ys p = omega arith
+plain_prefix (x ∷ xs) ys p =
     subst (λ b. suc (length xs) ≤ cond (not b) (1 + position_or_len is_line_feed (xs ++ ys)) 0) (sym p.0)
-    (let e = plain_front xs ys p.1 in omega (arith, e))
+    (let e = plain_prefix xs ys p.1 in omega (arith, e))
 
 nonempty_push : (xs ys : List ℕ) (b : ℕ) → (xs ++ b ∷ []) ++ ys ≢ []
 nonempty_push [] ys b = λ e. cc
@@ -203,22 +204,22 @@ nonempty_push (x ∷ xs) ys b = λ e. cc
 
 -- a line that is too long for the run
 pub first_overlong : (limit : ℕ) (bytes line : List ℕ) (old mid new : Option (List ℕ)) (byte : ℕ) → Seen old mid line limit → Consumes mid new (byte ∷ []) → byte ≢ 10
-    → old ≡ Some bytes → (first limit bytes).entry ≡ overlong
+    → old ≡ Some bytes → (first limit bytes).request ≡ overlong
 first_overlong limit bytes line old mid new byte s t h e =
     let seen = s.bytes ++ byte ∷ [] in
     let k = Consumes-known old new seen bytes (Consumes-trans old mid new s.bytes (byte ∷ []) s.taken t) e in
     let all = seen ++ k.0 in
     let at = position_or_len is_line_feed all in
     let plain : IsPlain seen = IsPlain-push s.bytes byte s.plain (plain_byte byte h) in
-    let far : length seen ≤ at = plain_front seen k.0 plain in
+    let far : length seen ≤ at = plain_prefix seen k.0 plain in
     let size : length seen ≡ limit + 1 = omega (arith, length-append s.bytes (byte ∷ []), s.count) in
     let within : length seen ≤ length all = omega (arith, length-append seen k.0) in
     let long : length (take at all) ≡ min at (length all) = length-take at all in
     let over : limit < length (take at all) = omega (arith, far, size, within, long) in
     let test : nat_lt limit (length (take at all)) ≡ true = grind (arith, nat_tests) in
     let parts = first_nonempty limit all (nonempty_push s.bytes k.0 byte) in
-    ap (λ l. (first limit l).entry) k.2 ∙ ap (λ f. f.entry) parts
-    ∙ ap (λ b. (with_block (cond b (whole overlong) (cond (nat_lt 4096 (length (take at all))) (whole (refused LineTooLong)) (short_line (take at all)))) (after_first is_line_feed all)).entry) test
+    ap (λ l. (first limit l).request) k.2 ∙ ap (λ f. f.request) parts
+    ∙ ap (λ b. (with_block (cond b (whole overlong) (cond (nat_lt MOST_LINE (length (take at all))) (whole (refused LineTooLong)) (short_line (take at all)))) (after_first is_line_feed all)).request) test
 
 -- a block that was read
 pub ReadsBlock-whole : (old new : Option (List ℕ)) (block bytes : List ℕ) (count : ℕ) → Consumes old new block → length block ≡ count → old ≡ Some bytes
@@ -226,8 +227,8 @@ pub ReadsBlock-whole : (old new : Option (List ℕ)) (block bytes : List ℕ) (c
 ReadsBlock-whole old new block bytes count t n e =
     let k = Consumes-known old new block bytes t e in
     let front : take count (block ++ k.0) ≡ block = subst (λ m. take m (block ++ k.0) ≡ block) n (take-append_seam block k.0) in
-    let behind : drop count (block ++ k.0) ≡ k.0 = subst (λ m. drop m (block ++ k.0) ≡ k.0) n (drop-append_seam block k.0) in
-    (omega (arith, ap length k.2, length-append block k.0), sym (ap (take count) k.2 ∙ front), k.1 ∙ ap Some (sym (ap (drop count) k.2 ∙ behind)))
+    let after : drop count (block ++ k.0) ≡ k.0 = subst (λ m. drop m (block ++ k.0) ≡ k.0) n (drop-append_seam block k.0) in
+    (omega (arith, ap length k.2, length-append block k.0), sym (ap (take count) k.2 ∙ front), k.1 ∙ ap Some (sym (ap (drop count) k.2 ∙ after)))
 
 -- a block that the input does not fill
 pub ReadsBlock-cut : (old mid : Option (List ℕ)) (block bytes : List ℕ) → Consumes old mid block → IsAtEnd mid → old ≡ Some bytes → bytes ≡ block

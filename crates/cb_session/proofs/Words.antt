@@ -8,8 +8,8 @@ use Rattle.std.proofs.lemmas.Int.Digits.{digits_value_more}
 use Rattle.std.proofs.lemmas.List.Folds.{list_all_at}
 use Rattle.std.proofs.Math.Nat.{pow-suc, pow-le-pow_right}
 use denote.Ref.{Bor}
-use Rattle.cb_session.specs.Inputs.{is_digit, is_space}
-use Rattle.cb_session.specs.Said.{words_behind, parts_of}
+use Rattle.cb_session.specs.Commands.{is_digit, is_space}
+use Rattle.cb_session.specs.steps.Words.{words_after, parts_of}
 use Rattle.std.specs.List.{slice_split, onto_first, position, position_or_len}
 use Rattle.std.proofs.lemmas.List.Splits.{slice_split_first, slice_split-cons_no}
 
@@ -92,25 +92,25 @@ first_word (x ∷ xs) =
       | false ↦ parts (slice_split is_space xs)
     ]
 
--- what is meant where a word stands behind a command
+-- what is meant where a word stands after a command
 pub too_many-0 : {A : Type 0} (f : List (List ℕ) → A) (y : A) → ((a : List ℕ) (words : List (List ℕ)) → f (a ∷ words) ≡ y)
-    → (behind : Option (Bor (List ℕ))) (more : Bor (List ℕ)) → behind ≡ Some more → f (words_behind behind) ≡ y
-too_many-0 f y h behind more e =
+    → (after : Option (Bor (List ℕ))) (more : Bor (List ℕ)) → after ≡ Some more → f (words_after after) ≡ y
+too_many-0 f y h after more e =
     let w = first_word more.now in
-    ap (λ b. f (words_behind b)) e ∙ ap f w.2 ∙ h w.0 w.1
+    ap (λ b. f (words_after b)) e ∙ ap f w.2 ∙ h w.0 w.1
 
 -- what is meant where a second word stands there
 pub too_many-1 : {A : Type 0} (f : List (List ℕ) → A) (y : A) → ((a b : List ℕ) (words : List (List ℕ)) → f (a ∷ b ∷ words) ≡ y)
-    → (behind second : Option (Bor (List ℕ))) (first more : Bor (List ℕ)) (a : List ℕ)
-    → behind ≡ Some first → slice_split is_space first.now ≡ parts_of a second → second ≡ Some more → f (words_behind behind) ≡ y
-too_many-1 f y h behind second first more a e cut e' =
-    ap (λ b. f (words_behind b)) e ∙ ap f cut ∙ too_many-0 (λ words. f (a ∷ words)) y (h a) second more e'
+    → (after second : Option (Bor (List ℕ))) (first more : Bor (List ℕ)) (a : List ℕ)
+    → after ≡ Some first → slice_split is_space first.now ≡ parts_of a second → second ≡ Some more → f (words_after after) ≡ y
+too_many-1 f y h after second first more a e cut e' =
+    ap (λ b. f (words_after b)) e ∙ ap f cut ∙ too_many-0 (λ words. f (a ∷ words)) y (h a) second more e'
 
 -- what is meant where a third word stands there
 pub too_many-2 : {A : Type 0} (f : List (List ℕ) → A) (y : A) → ((a b c : List ℕ) (words : List (List ℕ)) → f (a ∷ b ∷ c ∷ words) ≡ y)
-    → (behind second third : Option (Bor (List ℕ))) (first next more : Bor (List ℕ)) (a b : List ℕ)
-    → behind ≡ Some first → slice_split is_space first.now ≡ parts_of a second
-    → second ≡ Some next → slice_split is_space next.now ≡ parts_of b third → third ≡ Some more → f (words_behind behind) ≡ y
-too_many-2 f y h behind second third first next more a b e cut e' cut' e'' =
-    ap (λ o. f (words_behind o)) e ∙ ap f cut
+    → (after second third : Option (Bor (List ℕ))) (first next more : Bor (List ℕ)) (a b : List ℕ)
+    → after ≡ Some first → slice_split is_space first.now ≡ parts_of a second
+    → second ≡ Some next → slice_split is_space next.now ≡ parts_of b third → third ≡ Some more → f (words_after after) ≡ y
+too_many-2 f y h after second third first next more a b e cut e' cut' e'' =
+    ap (λ o. f (words_after o)) e ∙ ap f cut
     ∙ too_many-1 (λ words. f (a ∷ words)) y (h a) second third next more b e' cut' e''

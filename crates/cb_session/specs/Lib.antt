@@ -1,9 +1,13 @@
+pub mod Commands
 pub mod Devices
 pub mod Inputs
+pub mod Models
 pub mod Operands
 pub mod Output
 pub mod Reading
-pub mod Said
+pub mod Requests
+pub mod RunExamples
 pub mod Serving
 pub mod Stack
 pub mod Writing
+pub mod steps

@@ -9,22 +9,23 @@ use Rattle.cb_desk.specs.World.{File}
 use Rattle.cb_desk.specs.Step.{load}
 use Rattle.cb_desk.specs.Timeline.{Timeline, new_timeline, changed}
 use Rattle.cb_session.specs.Inputs.{Inputs}
-use Rattle.cb_tags.specs.Writers.{Writer}
 use Rattle.cb_session.specs.Serving.{LeavesRun}
+use Rattle.cb_tags.specs.Writers.{Writer}
 
 -- the file that an operand is
 abbrev pub file_of_operand : Operand → File
 file_of_operand o = record { name = o.name.items; bytes = o.bytes.items }
 
 -- where loads stop: the place of an operand, counted from 0, and why it is refused
-pub record Stop : Type 0 where
+pub record RefusedOperand : Type 0 where
   pub place : ℕ
   pub why : Refusal
 
--- loads one after another, and where they lead: all are done, or the first that is refused ends them; memory refuses only what would be done
-pub data Loads : ℕ → Timeline → List File → Result Timeline Stop → Type 0 where
+-- loads one after another, and where they lead: all are done, or the first that is refused ends
+-- them; memory refuses only what would be done
+pub data Loads : ℕ → Timeline → List File → Result Timeline RefusedOperand → Type 0 where
   all_loaded : {place : ℕ} {t : Timeline} → Loads place t [] (Ok t)
-  first_loaded : {place : ℕ} {t u : Timeline} {f : File} {fs : List File} {end : Result Timeline Stop}
+  first_loaded : {place : ℕ} {t u : Timeline} {f : File} {fs : List File} {end : Result Timeline RefusedOperand}
       → changed t (load f.name f.bytes) ≡ Ok u → Loads (place + 1) u fs end → Loads place t (f ∷ fs) end
   first_refused : {place : ℕ} {t : Timeline} {f : File} {fs : List File} {r : Refusal}
       → changed t (load f.name f.bytes) ≡ Err r → Loads place t (f ∷ fs) (Err (record { place = place; why = r }))
@@ -38,10 +39,10 @@ Prepares files (Err (StoppedAt place why)) = Loads 0 new_timeline files (Err (re
 Prepares files (Err _) = ⊥
 
 -- a run that begins where the loads lead; where one is refused nothing is written
-abbrev pub RunsFrom : Result Timeline Stop → Inputs → Writer → Writer → Ended → Type 0
+abbrev pub RunsFrom : Result Timeline RefusedOperand → Inputs → Writer → Writer → Ended → Type 0
 RunsFrom (Ok t) i old new ended = LeavesRun i t old new ended
 RunsFrom (Err stop) i old new ended = (ended ≡ StoppedAt stop.place stop.why) × (new ≡ old)
 
 -- a run with operands
 abbrev pub Runs : List File → Inputs → Writer → Writer → Ended → Type 0
-Runs files i old new ended = (end : Result Timeline Stop) × Loads 0 new_timeline files end × RunsFrom end i old new ended
+Runs files i old new ended = (end : Result Timeline RefusedOperand) × Loads 0 new_timeline files end × RunsFrom end i old new ended

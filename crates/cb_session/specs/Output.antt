@@ -11,7 +11,7 @@ use Rattle.cb_tags.specs.TagLines.{Tag}
 use Rattle.cb_desk.specs.declared.tags.Format.{Format}
 use Rattle.cb_desk.specs.declared.tags.Format.TheVariants.{Extended}
 use Rattle.cb_session.specs.Stack.{stack_rows}
-use Rattle.cb_session.specs.Inputs.{Entry, query, change, undo, redo, tags_file, listing, stack, refused, nothing, quit, overlong}
+use Rattle.cb_session.specs.Requests.{Request, query, change, undo, redo, tags_file, listing, stack, refused, nothing, quit, overlong}
 
 -- the prompt
 abbrev pub prompt : List ℕ
@@ -25,7 +25,7 @@ row_line r = r.file ++ codes " " ++ r.function ++ codes " " ++ decimal r.line ++
 abbrev pub count_line : ℕ → List ℕ
 count_line n = codes "cscope: " ++ decimal n ++ codes " lines\n"
 
--- the reply to a question: how many rows there are, and the rows
+-- the reply to a query: how many rows there are, and the rows
 abbrev pub answer_lines : List AnswerRow → List ℕ
 answer_lines rows = count_line (length rows) ++ flat_map row_line rows
 
@@ -55,41 +55,42 @@ pub record Outcome : Type 0 where
   pub timeline : Timeline
   pub reply : List ℕ
 
--- a move of the timeline is done, or refused and nothing moves
-abbrev pub moved : Timeline → Result Timeline Refusal → Outcome
-moved t (Err r) = record { timeline = t; reply = refused_line r }
-moved t (Ok next) = record { timeline = next; reply = done_line }
+-- a move of the timeline is done and has its reply, or is refused and nothing moves
+abbrev pub moved : Timeline → List ℕ → Result Timeline Refusal → Outcome
+moved t done (Err r) = record { timeline = t; reply = refused_line r }
+moved t done (Ok next) = record { timeline = next; reply = done }
 
 -- the outcome of an input; `out_of_memory` says that memory was refused to it, where it takes any
-unfoldable pub outcome : Bool → Timeline → Entry → Outcome
+unfoldable pub outcome : Bool → Timeline → Request → Outcome
 outcome out_of_memory t (query field pattern) = record { timeline = t; reply = shown out_of_memory (answer_lines (answer t.present field pattern)) }
 outcome out_of_memory t (tags_file format) = record { timeline = t; reply = shown out_of_memory (tags_reply format (tags format t.present)) }
 outcome out_of_memory t listing = record { timeline = t; reply = shown out_of_memory (listing_reply (tags Extended t.present)) }
 outcome out_of_memory t stack = record { timeline = t; reply = answer_lines (stack_rows t.present) }
-outcome out_of_memory t (change s) = moved t (judged out_of_memory s (changed t s))
-outcome out_of_memory t undo = moved t (undone t)
-outcome out_of_memory t redo = moved t (redone t)
+outcome out_of_memory t (change s) = moved t done_line (judged out_of_memory s (changed t s))
+outcome out_of_memory t undo = moved t done_line (undone t)
+outcome out_of_memory t redo = moved t done_line (redone t)
 outcome out_of_memory t (refused r) = record { timeline = t; reply = refused_line r }
 outcome out_of_memory t nothing = record { timeline = t; reply = [] }
 outcome out_of_memory t quit = record { timeline = t; reply = [] }
 outcome out_of_memory t overlong = record { timeline = t; reply = [] }
 
--- the mark of the first input: memory did not refuse what has no mark
-abbrev pub first_mark : List Bool → Bool
-first_mark [] = false
-first_mark (m ∷ ms) = m
+-- whether memory was refused to the first input; not where nothing is said
+abbrev pub first_refusal : List Bool → Bool
+first_refusal [] = false
+first_refusal (m ∷ ms) = m
 
--- the marks of the inputs behind it
-abbrev pub later_marks : List Bool → List Bool
-later_marks [] = []
-later_marks (m ∷ ms) = ms
+-- the same for the inputs after it
+abbrev pub later_refusals : List Bool → List Bool
+later_refusals [] = []
+later_refusals (m ∷ ms) = ms
 
 -- the prompt and the reply to an input
-abbrev pub exchange : Bool → Timeline → Entry → List ℕ
-exchange mark t e = prompt ++ (outcome mark t e).reply
+abbrev pub exchange : Bool → Timeline → Request → List ℕ
+exchange out_of_memory t e = prompt ++ (outcome out_of_memory t e).reply
 
--- the output of a run that begins with a timeline: each input in turn; the marks say which of them memory refused
-unfoldable pub output : List Bool → Timeline → List Entry → List ℕ
-output marks t [] = []
-output marks t (e ∷ es) =
-    exchange (first_mark marks) t e ++ output (later_marks marks) (outcome (first_mark marks) t e).timeline es
+-- the output of a run that begins with a timeline: each input in turn; the list says which of them
+-- memory refused
+unfoldable pub output : List Bool → Timeline → List Request → List ℕ
+output refusals t [] = []
+output refusals t (e ∷ es) =
+    exchange (first_refusal refusals) t e ++ output (later_refusals refusals) (outcome (first_refusal refusals) t e).timeline es

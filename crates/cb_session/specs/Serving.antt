@@ -1,7 +1,6 @@
--- What a run and its rounds leave behind.
-use Rattle.std.specs.Prelude.{◌≡◌, ℕ, Bool, true, List, Option, None, Some, Result, Ok, Err}
+-- What a run leaves.
+use Rattle.std.specs.Prelude.{◌≡◌, ℕ, Bool, true, List, Option, None, Some, Result}
 use Rattle.std.specs.Io.KnownBytes.{Appends}
-use Rattle.cb_desk.specs.declared.refusal.Refusal.{Refusal}
 use Rattle.cb_session.specs.declared.feed.Stage.TheVariants.{Failed}
 use Rattle.cb_session.specs.declared.input.Ended.{Ended}
 use Rattle.cb_session.specs.declared.input.Ended.TheVariants.{Fault}
@@ -10,37 +9,27 @@ use Rattle.cb_session.specs.declared.input.Fault.{Fault as Reason}
 use Rattle.cb_desk.specs.Timeline.{Timeline}
 use Rattle.cb_tags.specs.Writers.{Writer}
 use Rattle.cb_session.specs.Devices.{Reader, HoldsOut}
-use Rattle.cb_session.specs.Inputs.{First, Inputs, ending_of}
-use Rattle.cb_session.specs.Output.{Outcome, done_line, refused_line, outcome, exchange, output}
+use Rattle.cb_session.specs.Inputs.{Inputs}
+use Rattle.cb_session.specs.Output.{Outcome, output}
 use Rattle.cb_tags.specs.Writing.{AppendsPrefix}
 use Rattle.cb_session.specs.Writing.{Puts}
-
--- the reply to a move of the timeline
-abbrev pub move_line : Result (Unit {0}) Refusal → List ℕ
-move_line (Ok _) = done_line
-move_line (Err r) = refused_line r
 
 -- an input is done: the timeline has moved, and its reply is written
 abbrev pub Does : {A : Type 0} → Outcome → Timeline → Writer → Writer → Result A Reason → Type 0
 Does o next old new result = (next ≡ o.timeline) × Puts old new result o.reply
 
--- after a fault of a device or of memory a prefix of the text is written; else the whole text is, and the ending is the one meant
+-- after a fault of a device or of memory a prefix of the text is written; else the whole text is,
+-- and the ending is the one meant
 abbrev pub Leaves : List ℕ → Option Ended → Writer → Writer → Ended → Type 0
 Leaves text meant old new (Fault Read) = AppendsPrefix old.bytes new.bytes text
 Leaves text meant old new (Fault Write) = AppendsPrefix old.bytes new.bytes text
 Leaves text meant old new (Fault Memory) = AppendsPrefix old.bytes new.bytes text
 Leaves text meant old new ended = (meant ≡ Some ended) × Appends old.bytes new.bytes text
 
--- one round: the exchange of a prompt and the reply to the first input, and the ending of the run if it has one
-abbrev pub LeavesRound : Bool → First → Timeline → Timeline → Reader → Writer → Writer → Result (Option Ended) Reason → Type 0
-LeavesRound mark f t next feed old new (Ok None) =
-    (ending_of f.entry ≡ None) × (feed.bytes ≡ Some f.rest) × (next ≡ (outcome mark t f.entry).timeline) × Appends old.bytes new.bytes (exchange mark t f.entry)
-LeavesRound mark f t next feed old new (Ok (Some ended)) = Leaves (exchange mark t f.entry) (ending_of f.entry) old new ended
-LeavesRound mark f t next feed old new (Err fault) = Leaves (exchange mark t f.entry) (ending_of f.entry) old new (Fault fault)
-
--- a run over these inputs: its output, for some marks of the inputs that memory refused, and its ending
+-- a run over these inputs: its output, for some list that says which inputs memory refused, and its
+-- ending
 abbrev pub LeavesRun : Inputs → Timeline → Writer → Writer → Ended → Type 0
-LeavesRun i t old new ended = (marks : List Bool) × Leaves (output marks t i.entries) (Some i.ending) old new ended
+LeavesRun i t old new ended = (refusals : List Bool) × Leaves (output refusals t i.requests) (Some i.ending) old new ended
 
 -- a fault of a device is answered only where that device has failed
 abbrev pub HasFailed : Reader → Writer → Reason → Type 0
@@ -53,12 +42,8 @@ abbrev pub fault_of : Ended → Option Reason
 fault_of (Fault fault) = Some fault
 fault_of _ = None
 
--- the fault that a call answers
-abbrev pub fault_in : {A : Type 0} → Result A Reason → Option Reason
-fault_in (Ok _) = None
-fault_in (Err fault) = Some fault
-
--- a device that fails is told: the reader by a fault of reading, the writer by one of writing; each is else as it was
+-- a device that fails is told: the reader by a fault of reading, the writer by one of writing; each
+-- is else as it was
 abbrev pub Tells : Reader → Reader → Writer → Writer → Option Reason → Type 0
 Tells feed feed' out out' (Some Read) = out'.failed ≡ out.failed
 Tells feed feed' out out' (Some Write) = HoldsOut feed feed'

@@ -1,11 +1,13 @@
 //! The block of a `:load`.
 ghost use Rattle.std.specs.Prelude.{◌≡◌, List, ℕ, Some, IfOk, IfErr};
 ghost use Rattle.cb_session.specs.Devices.{HoldsOut};
-ghost use Rattle.cb_session.specs.Inputs.{block, with_block};
-ghost use Rattle.cb_session.specs.Said.{entry_of, HasPattern};
-ghost use Rattle.cb_session.specs.Reading.{Reads, ReadsBlock, IsReadFault};
+ghost use Rattle.cb_session.specs.Inputs.{with_block};
+ghost use Rattle.cb_session.specs.Models.{request_of, HasPattern};
+ghost use Rattle.cb_session.specs.Reading.{Reads, IsReadFault};
+ghost use Rattle.cb_session.specs.Requests.{block};
+ghost use Rattle.cb_session.specs.steps.Lines.{ReadsBlock};
 
-use super::{Command, Fault, Feed, Input};
+use crate::{Command, Fault, Feed, Input};
 use cb_desk::{Change, Refusal};
 use std::alloc::Global;
 use std::io::BufRead;
@@ -43,7 +45,7 @@ pub fn read_load<'a, R: BufRead>(
     ensures first { (bytes : List ℕ) → feed.old.bytes ≡ Some bytes → Reads (with_block (block name.now count) bytes) feed.new result }
     ensures failed { IfErr result (IsReadFault feed.old feed.new) }
     ensures fine { IfOk result (λ _. HoldsOut feed.old feed.new) }
-    ensures pattern { IfOk result (λ input. HasPattern (entry_of input)) }
+    ensures pattern { IfOk result (λ input. HasPattern (request_of input)) }
 {
     match read_block(alloc, count, feed)? {
         Some(bytes) => Ok(Input::Command(Command::Change(Change::Load(name, bytes)))),

@@ -47,7 +47,8 @@ impl<R: BufRead> Feed<R> {
         }
     }
 
-    /// The next byte, or `None` at the end of input and ever after. After a fault each further call is a fault.
+    /// The next byte, or `None` at the end of input and ever after. After a fault each further call
+    /// is a fault.
     pub fn byte(&mut self) -> Result<Option<u8>, ReadFault>
         ensures { GivesByte self.old self.new result }
     {

@@ -1,9 +1,9 @@
 //! What is read at a prompt, and how a run ends.
 ghost use Rattle.std.specs.Prelude.{◌≡◌};
 ghost use Rattle.cb_session.specs.Inputs.{is_cut, ending_of};
-ghost use Rattle.cb_session.specs.Said.{entry_of, going_of};
+ghost use Rattle.cb_session.specs.Models.{request_of, going_of};
 
-use super::ReadFault;
+use crate::ReadFault;
 use cb_desk::{Change, Field, Format, Refusal};
 use cb_tags::WriteFault;
 
@@ -23,7 +23,7 @@ pub enum Input<'a> {
 /// A command.
 #[derive(Debug, Drop)]
 pub enum Command<'a> {
-    /// A question, whose pattern is not empty.
+    /// A query, whose pattern is not empty.
     Query(Field, &'a [u8]),
     /// A change of the files or of the tag stack.
     Change(Change<'a>),
@@ -103,7 +103,7 @@ fn is_cut(refusal: Refusal) -> bool
 impl Input<'_> {
     /// The ending of the run, where this is its last input.
     pub fn ending(&self) -> Option<Ended>
-        ensures { result ≡ ending_of (entry_of self.now) }
+        ensures { result ≡ ending_of (request_of self.now) }
     {
         match self {
             Input::End => Some(Ended::Done),
@@ -118,7 +118,7 @@ impl Input<'_> {
 
     /// Whether the run goes on after this input.
     pub fn going(&self) -> Going
-        ensures { result ≡ going_of (ending_of (entry_of self.now)) }
+        ensures { result ≡ going_of (ending_of (request_of self.now)) }
     {
         match self.ending() {
             None => Going::On,

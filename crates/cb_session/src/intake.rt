@@ -1,16 +1,15 @@
 //! Reading commands, one at a time.
 ghost use Rattle.std.specs.Prelude.{◌≡◌, ◌<◌, ◌≤◌, List, ◌∷◌, [], ◌++◌, ℕ, Some, IfOk, IfErr, length, vec_capacity};
-ghost use Rattle.cb_session.specs.Reading.{line_of_length};
+ghost use Rattle.cb_session.specs.declared.limits.TheConstants.{MOST_LINE};
+ghost use Rattle.cb_session.specs.steps.Lines.{line_of_length};
 
-use super::block::read_load;
-use super::line::{Asked, line_asks};
-use super::{Fault, Feed, Input, Limits};
+use crate::block::read_load;
+use crate::limits::MOST_LINE;
+use crate::line::{Asked, line_asks};
+use crate::{Fault, Feed, Input, Limits};
 use cb_desk::Refusal;
 use std::alloc::{AllocError, Global};
 use std::io::BufRead;
-
-/// The most bytes of a command's line.
-const MOST_LINE: usize = 4096;
 
 /// A growth of memory was refused.
 #[derive(Clone, Copy, Debug, PartialEq, Eq)]
@@ -39,14 +38,16 @@ enum LineRead {
 #[derive(Debug, Drop)]
 pub struct Intake {
     line: Vec<u8>,
-    ghost room: { 4096 ≤ vec_capacity line },
+    ghost room: { MOST_LINE ≤ vec_capacity line },
 }
 
 impl Intake {
-    ghost use Rattle.cb_session.specs.Inputs.{first, block, with_block};
-    ghost use Rattle.cb_session.specs.Said.{entry_of, HasPattern};
+    ghost use Rattle.cb_session.specs.Inputs.{first, with_block};
+    ghost use Rattle.cb_session.specs.Models.{request_of, HasPattern};
+    ghost use Rattle.cb_session.specs.Reading.{Reads, IsReadFault};
+    ghost use Rattle.cb_session.specs.Requests.{block};
+    ghost use Rattle.cb_session.specs.steps.Lines.{ReadsLine};
     ghost use Rattle.cb_session.specs.Devices.{HoldsOut};
-    ghost use Rattle.cb_session.specs.Reading.{Reads, ReadsLine, IsReadFault};
 
     /// An intake with room for one line.
     pub fn new(alloc: Global) -> Result<Intake, OutOfMemory>
@@ -56,7 +57,8 @@ impl Intake {
         Ok(Intake { line })
     }
 
-    /// Reads one command with its block. Memory is taken for the block of a `:load` with a good count alone.
+    /// Reads one command with its block. Memory is taken for the block of a `:load` with a good
+    /// count alone.
     pub fn read<R: BufRead>(
         &mut self,
         alloc: Global,
@@ -66,7 +68,7 @@ impl Intake {
         ensures first { (bytes : List ℕ) → feed.old.bytes ≡ Some bytes → Reads (first limits.now.line bytes) feed.new result }
         ensures failed { IfErr result (IsReadFault feed.old feed.new) }
         ensures fine { IfOk result (λ _. HoldsOut feed.old feed.new) }
-        ensures pattern { IfOk result (λ input. HasPattern (entry_of input)) }
+        ensures pattern { IfOk result (λ input. HasPattern (request_of input)) }
     {
         match self.read_line(limits, feed)? {
             LineRead::End => Ok(Input::End),
@@ -106,8 +108,8 @@ impl Intake {
 
     /// Keeps a byte of a line, unless no command can have so many.
     fn keep(&mut self, byte: u8)
-        ensures kept { length self.old.line.items < 4096 → self.new.line.items ≡ self.old.line.items ++ byte ∷ [] }
-        ensures left { 4096 ≤ length self.old.line.items → self.new.line.items ≡ self.old.line.items }
+        ensures kept { length self.old.line.items < MOST_LINE → self.new.line.items ≡ self.old.line.items ++ byte ∷ [] }
+        ensures left { MOST_LINE ≤ length self.old.line.items → self.new.line.items ≡ self.old.line.items }
     {
         if self.line.len() < MOST_LINE {
             self.line.push_reserved(byte);

@@ -1,9 +1,10 @@
 //! Commands and replies.
 //!
-//! A session reads commands from a feed, moves a desk and writes replies to a sink. It stands on `cb_desk` (the files, their
-//! past, the answers), `cb_scan` (their texts), `cb_tags` (tag lines, the sink) and `itoa` (numbers in replies).
-//! The layer above uses the contracts of [`run`], [`prepare`] and [`Session::serve`]: what is written is the output of a
-//! run over the bytes of the input.
+//! A session reads commands from a feed, moves a desk and writes replies to a sink. It stands on
+//! `cb_desk` (the files, their past, the answers), `cb_scan` (their texts), `cb_tags` (tag lines,
+//! the sink) and `itoa` (numbers in replies). The layer above uses the contracts of [`run`],
+//! [`prepare`] and [`Session::serve`]: what is written is the output of a run over the bytes of the
+//! input.
 #![tactic(auto)]
 
 mod block;

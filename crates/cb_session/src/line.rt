@@ -2,24 +2,22 @@
 ghost use Rattle.std.specs.Prelude.{◌≡◌, ◌≤◌, true, ◌∷◌, [], length};
 ghost use Rattle.std.specs.List.{list_all, slice_split, position};
 ghost use Rattle.std.specs.Str.Parse.{digits_value};
-ghost use Rattle.cb_session.specs.Inputs.{is_digit, is_space, is_number, number_in, load_sized, load_words, tags_numbered, tags_words, drop_words, rename_words, tag_numbered, tag_words, alone, definition_query, field_query, command, command_words, short_line};
-ghost use Rattle.cb_session.specs.Said.{entry_of, command_of, line_of, words_behind, parts_of};
+ghost use Rattle.cb_desk.specs.Answer.{field_of_digit};
+ghost use Rattle.cb_session.specs.declared.limits.TheConstants.{MOST_DIGITS};
+ghost use Rattle.cb_session.specs.Commands.{cut_at, is_digit, is_space, is_number, number_in, load_sized, load_words, tags_numbered, tags_words, drop_words, rename_words, tag_numbered, tag_words, alone, query_of, command, command_line, short_line};
+ghost use Rattle.cb_session.specs.Models.{request_of, command_of, line_request_of};
+ghost use Rattle.cb_session.specs.steps.Words.{rest_of, words_after, parts_of};
 
-use super::{Command, Input};
+use crate::limits::{MOST_BYTES, MOST_DIGITS};
+use crate::{Command, Input};
 use cb_desk::{Change, Field, Format, Refusal};
-
-/// The most digits of a number in a command.
-const MOST_DIGITS: usize = 9;
-
-/// The most bytes of a block.
-const MOST_BYTES: u32 = 1_000_000;
 
 /// What a line asks for.
 #[derive(Debug, Drop)]
 pub enum Asked<'a> {
     /// An input by itself.
     Whole(Input<'a>),
-    /// A load of this name, with a block of so many bytes behind the line.
+    /// A load of this name, with a block of so many bytes after the line.
     Block(&'a [u8], u32),
 }
 
@@ -45,7 +43,7 @@ fn is_number(word: &[u8]) -> bool
 /// The number that digits write.
 fn number(digits: &[u8]) -> u32
     requires digits { list_all is_digit digits.now ≡ true }
-    requires short { length digits.now ≤ 9 }
+    requires short { length digits.now ≤ MOST_DIGITS }
     ensures { result ≡ digits_value 10 digits.now }
 {
     let mut number = 0u32;
@@ -72,9 +70,10 @@ fn space_in(text: &[u8]) -> Option<usize>
     text.iter().position(|byte| *byte == b' ')
 }
 
-/// The bytes before the first space, and those behind it, if there is one.
+/// The bytes before the first space, and those after it, if there is one.
 fn cut_word(text: &[u8]) -> (&[u8], Option<&[u8]>)
-    ensures { slice_split is_space text.now ≡ parts_of result.0.now result.1 }
+    ensures words { slice_split is_space text.now ≡ parts_of result.0.now result.1 }
+    ensures cut { cut_at text.now (position is_space text.now) ≡ (result.0.now, rest_of result.1) }
 {
     match space_in(text) {
         Some(at) => (&text[..at], Some(&text[at + 1..])),
@@ -84,7 +83,7 @@ fn cut_word(text: &[u8]) -> (&[u8], Option<&[u8]>)
 
 /// A load by its name and its count.
 fn load_sized<'a>(name: &'a [u8], count: &[u8]) -> Asked<'a>
-    ensures { line_of result ≡ load_sized name.now (number_in count.now) }
+    ensures { line_request_of result ≡ load_sized name.now (number_in count.now) }
 {
     match number_in(count) {
         Some(count) if count <= MOST_BYTES => Asked::Block(name, count),
@@ -92,18 +91,18 @@ fn load_sized<'a>(name: &'a [u8], count: &[u8]) -> Asked<'a>
     }
 }
 
-/// A load by the words behind it.
-fn load_words(behind: Option<&[u8]>) -> Asked<'_>
-    ensures { line_of result ≡ load_words (words_behind behind.entry) }
+/// A load by the words after it.
+fn load_words(rest: Option<&[u8]>) -> Asked<'_>
+    ensures { line_request_of result ≡ load_words (words_after rest.entry) }
 {
-    let Some(words) = behind else {
+    let Some(words) = rest else {
         return load_sized(b"", b"");
     };
-    let (name, behind) = cut_word(words);
-    let Some(behind) = behind else {
+    let (name, rest) = cut_word(words);
+    let Some(rest) = rest else {
         return load_sized(name, b"");
     };
-    match cut_word(behind) {
+    match cut_word(rest) {
         (count, None) => load_sized(name, count),
         (_, Some(_)) => Asked::Whole(Input::Refused(Refusal::UnknownCommand)),
     }
@@ -111,7 +110,7 @@ fn load_words(behind: Option<&[u8]>) -> Asked<'_>
 
 /// A tags file by its number.
 fn tags_numbered(number: Option<u32>) -> Input<'static>
-    ensures { entry_of result ≡ tags_numbered number }
+    ensures { request_of result ≡ tags_numbered number }
 {
     match number {
         Some(1) => Input::Command(Command::Tags(Format::Plain)),
@@ -120,11 +119,11 @@ fn tags_numbered(number: Option<u32>) -> Input<'static>
     }
 }
 
-/// A tags file by the words behind it.
-fn tags_words(behind: Option<&[u8]>) -> Input<'static>
-    ensures { entry_of result ≡ tags_words (words_behind behind.entry) }
+/// A tags file by the words after it.
+fn tags_words(rest: Option<&[u8]>) -> Input<'static>
+    ensures { request_of result ≡ tags_words (words_after rest.entry) }
 {
-    let Some(words) = behind else {
+    let Some(words) = rest else {
         return Input::Command(Command::Tags(Format::Plain));
     };
     match cut_word(words) {
@@ -133,11 +132,11 @@ fn tags_words(behind: Option<&[u8]>) -> Input<'static>
     }
 }
 
-/// A file's removal by the words behind it.
-fn drop_words(behind: Option<&[u8]>) -> Input<'_>
-    ensures { entry_of result ≡ drop_words (words_behind behind.entry) }
+/// A file's removal by the words after it.
+fn drop_words(rest: Option<&[u8]>) -> Input<'_>
+    ensures { request_of result ≡ drop_words (words_after rest.entry) }
 {
-    let Some(words) = behind else {
+    let Some(words) = rest else {
         return Input::Command(Command::Change(Change::Unload(b"")));
     };
     match cut_word(words) {
@@ -146,18 +145,18 @@ fn drop_words(behind: Option<&[u8]>) -> Input<'_>
     }
 }
 
-/// A new name by the words behind it.
-fn rename_words(behind: Option<&[u8]>) -> Input<'_>
-    ensures { entry_of result ≡ rename_words (words_behind behind.entry) }
+/// A new name by the words after it.
+fn rename_words(rest: Option<&[u8]>) -> Input<'_>
+    ensures { request_of result ≡ rename_words (words_after rest.entry) }
 {
-    let Some(words) = behind else {
+    let Some(words) = rest else {
         return Input::Command(Command::Change(Change::Rename(b"", b"")));
     };
-    let (old, behind) = cut_word(words);
-    let Some(behind) = behind else {
+    let (old, rest) = cut_word(words);
+    let Some(rest) = rest else {
         return Input::Command(Command::Change(Change::Rename(old, b"")));
     };
-    match cut_word(behind) {
+    match cut_word(rest) {
         (new, None) => Input::Command(Command::Change(Change::Rename(old, new))),
         (_, Some(_)) => Input::Refused(Refusal::UnknownCommand),
     }
@@ -165,7 +164,7 @@ fn rename_words(behind: Option<&[u8]>) -> Input<'_>
 
 /// A push by its name and its number.
 fn tag_numbered(name: &[u8], number: Option<u32>) -> Input<'_>
-    ensures { entry_of result ≡ tag_numbered name.now number }
+    ensures { request_of result ≡ tag_numbered name.now number }
 {
     match number {
         Some(n) => Input::Command(Command::Change(Change::Tag(name, n as u64))),
@@ -173,71 +172,71 @@ fn tag_numbered(name: &[u8], number: Option<u32>) -> Input<'_>
     }
 }
 
-/// A push by the words behind it.
-fn tag_words(behind: Option<&[u8]>) -> Input<'_>
-    ensures { entry_of result ≡ tag_words (words_behind behind.entry) }
+/// A push by the words after it.
+fn tag_words(rest: Option<&[u8]>) -> Input<'_>
+    ensures { request_of result ≡ tag_words (words_after rest.entry) }
 {
-    let Some(words) = behind else {
+    let Some(words) = rest else {
         return tag_numbered(b"", Some(1));
     };
-    let (name, behind) = cut_word(words);
-    let Some(behind) = behind else {
+    let (name, rest) = cut_word(words);
+    let Some(rest) = rest else {
         return tag_numbered(name, Some(1));
     };
-    match cut_word(behind) {
+    match cut_word(rest) {
         (number, None) => tag_numbered(name, number_in(number)),
         (_, Some(_)) => Input::Refused(Refusal::UnknownCommand),
     }
 }
 
-/// A command that stands alone on its line.
-fn alone<'a>(command: Command<'a>, behind: Option<&[u8]>) -> Asked<'a>
-    ensures { line_of result ≡ alone (command_of command.entry) (words_behind behind.entry) }
+/// A command that is alone on its line.
+fn alone<'a>(command: Command<'a>, rest: Option<&[u8]>) -> Asked<'a>
+    ensures { line_request_of result ≡ alone (command_of command.entry) (words_after rest.entry) }
 {
-    match behind {
+    match rest {
         None => Asked::Whole(Input::Command(command)),
         Some(_) => Asked::Whole(Input::Refused(Refusal::UnknownCommand)),
     }
 }
 
-/// A question by its digit and its pattern.
+/// A query by the digit of its field and its pattern.
 fn field_query(digit: u8, pattern: &[u8]) -> Input<'_>
-    ensures { entry_of result ≡ field_query digit pattern.now }
+    ensures { request_of result ≡ query_of (field_of_digit digit) pattern.now }
 {
-    if digit != b'1' {
+    let Some(field) = Field::of_digit(digit) else {
         return Input::Refused(Refusal::NoSuchField);
-    }
+    };
     if pattern.is_empty() {
         return Input::Refused(Refusal::NoPattern);
     }
-    Input::Command(Command::Query(Field::Definition, pattern))
+    Input::Command(Command::Query(field, pattern))
 }
 
-#[tactic(auto, unfolding(crate::specs::Inputs::command))]
-/// A command by its first word and what stands behind it.
-fn command<'a>(word: &[u8], behind: Option<&'a [u8]>) -> Asked<'a>
-    ensures { line_of result ≡ command word.now (words_behind behind.entry) }
+/// A command by its word and the rest of its line.
+#[tactic(auto, unfolding(crate::specs::Commands::command))]
+fn command<'a>(word: &[u8], rest: Option<&'a [u8]>) -> Asked<'a>
+    ensures { line_request_of result ≡ command word.now (rest_of rest.entry) }
 {
     if word == b":load".as_slice() {
-        load_words(behind)
+        load_words(rest)
     } else if word == b":drop".as_slice() {
-        Asked::Whole(drop_words(behind))
+        Asked::Whole(drop_words(rest))
     } else if word == b":rename".as_slice() {
-        Asked::Whole(rename_words(behind))
+        Asked::Whole(rename_words(rest))
     } else if word == b":tag".as_slice() {
-        Asked::Whole(tag_words(behind))
+        Asked::Whole(tag_words(rest))
     } else if word == b":pop".as_slice() {
-        alone(Command::Change(Change::Pop), behind)
+        alone(Command::Change(Change::Pop), rest)
     } else if word == b":undo".as_slice() {
-        alone(Command::Undo, behind)
+        alone(Command::Undo, rest)
     } else if word == b":redo".as_slice() {
-        alone(Command::Redo, behind)
+        alone(Command::Redo, rest)
     } else if word == b":tags".as_slice() {
-        Asked::Whole(tags_words(behind))
+        Asked::Whole(tags_words(rest))
     } else if word == b":listing".as_slice() {
-        alone(Command::Listing, behind)
+        alone(Command::Listing, rest)
     } else if word == b":stack".as_slice() {
-        alone(Command::Stack, behind)
+        alone(Command::Stack, rest)
     } else {
         Asked::Whole(Input::Refused(Refusal::UnknownCommand))
     }
@@ -245,15 +244,15 @@ fn command<'a>(word: &[u8], behind: Option<&'a [u8]>) -> Asked<'a>
 
 /// A command by its line.
 fn command_line(line: &[u8]) -> Asked<'_>
-    ensures { line_of result ≡ command_words (slice_split is_space line.now) }
+    ensures { line_request_of result ≡ command_line line.now }
 {
-    let (word, behind) = cut_word(line);
-    command(word, behind)
+    let (word, rest) = cut_word(line);
+    command(word, rest)
 }
 
 /// What a line of at most 4,096 bytes asks for.
 pub fn line_asks(line: &[u8]) -> Asked<'_>
-    ensures { line_of result ≡ short_line line.now }
+    ensures { line_request_of result ≡ short_line line.now }
 {
     match line {
         [] => Asked::Whole(Input::Nothing),

@@ -1,10 +1,10 @@
 //! Files that are loaded before a run.
 ghost use Rattle.std.specs.Prelude.{◌≡◌, List, ℕ, Some, map};
 ghost use Rattle.cb_session.specs.Inputs.{inputs};
-ghost use Rattle.cb_session.specs.Operands.{file_of_operand, Prepares, Runs};
 ghost use Rattle.cb_session.specs.Serving.{HasFailed, IfFault, Tells, fault_of};
+ghost use Rattle.cb_session.specs.Operands.{file_of_operand, Prepares, Runs};
 
-use super::{Ended, Feed, Limits, Session};
+use crate::{Ended, Feed, Limits, Session};
 use cb_desk::{Change, Desk};
 use cb_tags::Sink;
 use std::alloc::Global;
@@ -20,7 +20,8 @@ pub struct Operand {
 /// Files that are to be loaded, in order.
 pub type Operands = Vec<Operand>;
 
-/// A session in which the operands are loaded, each as a change that can be taken back. The first refusal ends it.
+/// A session in which the operands are loaded, each as a change that can be taken back. The first
+/// refusal ends it.
 pub fn prepare(alloc: Global, operands: Operands) -> Result<Session, Ended>
     ensures { Prepares (map file_of_operand operands.items) result }
 {

@@ -4,9 +4,9 @@ ghost use Rattle.std.specs.List.{flat_map};
 ghost use Rattle.cb_session.specs.Writing.{Puts};
 ghost use Rattle.cb_session.specs.Output.{row_line, answer_lines, count_line, done_line, refused_line, prompt};
 ghost use Rattle.cb_desk.specs.Models.{row_of};
-ghost use Rattle.cb_session.specs.Serving.{move_line};
+ghost use Rattle.cb_session.specs.steps.Rounds.{move_line};
 
-use super::Fault;
+use crate::Fault;
 use cb_desk::{RefRow, Refusal};
 use cb_tags::{Sink, put_text, put_texts};
 use itoa::Buffer;
@@ -56,7 +56,7 @@ pub fn put_refusal<W: Write>(out: &mut Sink<W>, refusal: Refusal) -> Result<(), 
 
 /// Writes the reply to a move of the timeline.
 pub fn put_move<W: Write>(out: &mut Sink<W>, done: Result<(), Refusal>) -> Result<(), Fault>
-    ensures { Puts out.old out.new result (move_line done) }
+    ensures { Puts out.old out.new result (move_line done_line done) }
 {
     match done {
         Ok(()) => put_done(out),
@@ -104,7 +104,7 @@ pub fn put_count<W: Write>(out: &mut Sink<W>, count: u128) -> Result<(), Fault>
     put_all(out, &[b"cscope: ", count, b" lines\n"])
 }
 
-/// Writes the reply to a question: how many rows there are, and the rows.
+/// Writes the reply to a query: how many rows there are, and the rows.
 pub fn put_rows<W: Write>(out: &mut Sink<W>, rows: &[RefRow<'_>]) -> Result<(), Fault>
     ensures { Puts out.old out.new result (answer_lines (map row_of rows.now)) }
 {

@@ -4,19 +4,19 @@ ghost use Rattle.std.specs.List.{flat_map};
 ghost use Rattle.cb_desk.specs.Models.{row_of, frame_of};
 ghost use Rattle.cb_desk.specs.World.{text_of_file};
 ghost use Rattle.cb_session.specs.Output.{answer_lines, row_line};
-ghost use Rattle.cb_session.specs.Said.{text_found};
+ghost use Rattle.cb_session.specs.steps.Words.{text_found};
 ghost use Rattle.cb_session.specs.Stack.{frame_row, stack_rows};
 ghost use Rattle.cb_session.specs.Writing.{Puts};
 
-use super::Fault;
-use super::reply::{put_count, put_row};
+use crate::Fault;
+use crate::reply::{put_count, put_row};
 use cb_desk::{Desk, RefRow, line_row};
 use cb_scan::Source;
 use cb_tags::Sink;
 use std::io::Write;
 
-#[tactic(auto, unfolding(cb_desk::specs::World::text_of_file))]
 /// The text of the file of that name.
+#[tactic(auto, unfolding(cb_desk::specs::World::text_of_file))]
 fn text_of<'a>(desk: &'a Desk, name: &[u8]) -> Option<&'a Source>
     ensures { text_found result ≡ text_of_file desk.now.present.files name.now }
 {

@@ -1,16 +1,18 @@
 //! A session, and its runs.
 ghost use Rattle.std.specs.Prelude.{◌≡◌, ◌≢◌, Bool, List, ℕ, [], Some, IfOk, IfSome, MatchResult};
 ghost use Rattle.cb_desk.specs.Timeline.{new_timeline};
-ghost use Rattle.cb_session.specs.Inputs.{query, tags_file, listing, first, inputs, ending_of};
+ghost use Rattle.cb_session.specs.Inputs.{first, inputs, ending_of};
+ghost use Rattle.cb_session.specs.Models.{request_of, command_of, going_of, HasPattern};
+ghost use Rattle.cb_session.specs.Requests.{query, tags_file, listing};
+ghost use Rattle.cb_session.specs.Serving.{Does, LeavesRun, HasFailed, IfFault, Tells, fault_of};
+ghost use Rattle.cb_session.specs.steps.Rounds.{LeavesRound, fault_in};
 ghost use Rattle.cb_session.specs.Output.{outcome};
-ghost use Rattle.cb_session.specs.Said.{entry_of, command_of, going_of, HasPattern};
-ghost use Rattle.cb_session.specs.Serving.{Does, LeavesRound, LeavesRun, HasFailed, IfFault, Tells, fault_of, fault_in};
 ghost use Rattle.cb_session.specs.Writing.{Puts};
 
-use super::reply::{put_move, put_prompt, put_refusal, put_rows};
-use super::stack::put_stack;
-use super::tags::{put_listing_reply, put_tags_reply};
-use super::{Command, Ended, Fault, Feed, Going, Input, Intake, Limits};
+use crate::reply::{put_move, put_prompt, put_refusal, put_rows};
+use crate::stack::put_stack;
+use crate::tags::{put_listing_reply, put_tags_reply};
+use crate::{Command, Ended, Fault, Feed, Going, Input, Intake, Limits};
 use cb_desk::{Desk, Field, Format};
 use cb_tags::Sink;
 use std::alloc::Global;
@@ -42,7 +44,7 @@ impl Session {
     }
 
     /// A session on a desk.
-    pub(super) fn over(desk: Desk) -> Session
+    pub(crate) fn over(desk: Desk) -> Session
         ensures { result ≡ desk }
     {
         Session { desk }
@@ -55,16 +57,17 @@ impl Session {
         &self.desk
     }
 
-    /// Does what was read at a prompt, and writes the reply. At a fault of the sink the move is made all the same.
+    /// Does what was read at a prompt, and writes the reply. At a fault of the sink the move is
+    /// made all the same.
     pub fn one<W: Write>(
         &mut self,
         alloc: Global,
         input: Input<'_>,
         out: &mut Sink<W>,
     ) -> Result<Going, Fault>
-        requires { HasPattern (entry_of input) }
-        ensures does { (mark : Bool) × Does (outcome mark self.old (entry_of input.entry)) self.new out.old out.new result }
-        ensures going { IfOk result (λ going. going ≡ going_of (ending_of (entry_of input.entry))) }
+        requires { HasPattern (request_of input) }
+        ensures does { (out_of_memory : Bool) × Does (outcome out_of_memory self.old (request_of input.entry)) self.new out.old out.new result }
+        ensures going { IfOk result (λ going. going ≡ going_of (ending_of (request_of input.entry))) }
     {
         let going = input.going();
         self.answer(alloc, input, out)?;
@@ -77,8 +80,8 @@ impl Session {
         input: Input<'_>,
         out: &mut Sink<W>,
     ) -> Result<(), Fault>
-        requires { HasPattern (entry_of input) }
-        ensures { (mark : Bool) × Does (outcome mark self.old (entry_of input.entry)) self.new out.old out.new result }
+        requires { HasPattern (request_of input) }
+        ensures { (out_of_memory : Bool) × Does (outcome out_of_memory self.old (request_of input.entry)) self.new out.old out.new result }
     {
         match input {
             Input::Nothing => Ok(()),
@@ -95,7 +98,7 @@ impl Session {
         out: &mut Sink<W>,
     ) -> Result<(), Fault>
         requires { HasPattern (command_of command) }
-        ensures { (mark : Bool) × Does (outcome mark self.old (command_of command.entry)) self.new out.old out.new result }
+        ensures { (out_of_memory : Bool) × Does (outcome out_of_memory self.old (command_of command.entry)) self.new out.old out.new result }
     {
         match command {
             Command::Query(field, pattern) => self.query(alloc, field, pattern, out),
@@ -125,7 +128,7 @@ impl Session {
         out: &mut Sink<W>,
     ) -> Result<(), Fault>
         requires { pattern.now ≢ [] }
-        ensures { (mark : Bool) × Puts out.old out.new result (outcome mark self.now (query field pattern.now)).reply }
+        ensures { (out_of_memory : Bool) × Puts out.old out.new result (outcome out_of_memory self.now (query field pattern.now)).reply }
     {
         match self.desk.rows(alloc, field, pattern) {
             Ok(list) => put_rows(out, list.rows()),
@@ -134,7 +137,7 @@ impl Session {
     }
 
     fn tags<W: Write>(&self, alloc: Global, format: Format, out: &mut Sink<W>) -> Result<(), Fault>
-        ensures { (mark : Bool) × Puts out.old out.new result (outcome mark self.now (tags_file format)).reply }
+        ensures { (out_of_memory : Bool) × Puts out.old out.new result (outcome out_of_memory self.now (tags_file format)).reply }
     {
         match self.desk.tag_rows(alloc, format) {
             Ok(list) => put_tags_reply(out, format, list.rows()),
@@ -143,7 +146,7 @@ impl Session {
     }
 
     fn listing<W: Write>(&self, alloc: Global, out: &mut Sink<W>) -> Result<(), Fault>
-        ensures { (mark : Bool) × Puts out.old out.new result (outcome mark self.now listing).reply }
+        ensures { (out_of_memory : Bool) × Puts out.old out.new result (outcome out_of_memory self.now listing).reply }
     {
         match self.desk.tag_rows(alloc, Format::Extended) {
             Ok(list) => put_listing_reply(out, list.rows()),
@@ -207,7 +210,7 @@ impl Session {
         feed: &mut Feed<R>,
         out: &mut Sink<W>,
     ) -> Result<Option<Ended>, Fault>
-        ensures round { (bytes : List ℕ) → feed.old.bytes ≡ Some bytes → (mark : Bool) × LeavesRound mark (first limits.now.line bytes) self.old self.new feed.new out.old out.new result }
+        ensures round { (bytes : List ℕ) → feed.old.bytes ≡ Some bytes → (out_of_memory : Bool) × LeavesRound out_of_memory (first limits.now.line bytes) self.old self.new feed.new out.old out.new result }
         ensures failed { MatchResult result (λ ending. IfSome ending (λ ended. IfFault ended (HasFailed feed.new out.new))) (HasFailed feed.new out.new) }
         ensures told { Tells feed.old feed.new out.old out.new (fault_in result) }
     {

@@ -6,8 +6,8 @@ ghost use Rattle.cb_session.specs.Writing.{Puts};
 ghost use Rattle.cb_session.specs.Output.{tags_reply, listing_reply};
 ghost use Rattle.cb_desk.specs.Tags.{tag_line, heads, head_count, tags_text, listing_text};
 
-use super::Fault;
-use super::reply::put_count;
+use crate::Fault;
+use crate::reply::put_count;
 use cb_desk::Format;
 use cb_tags::{Sink, TagRow, put_extended, put_heads, put_listing, put_plain};
 use std::io::Write;

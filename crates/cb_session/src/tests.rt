@@ -1,15 +1,15 @@
 //! Runs over memory. The expected bytes are written by hand from the rules of commands and replies.
+mod devices;
 mod frames;
 mod memory;
 mod operands;
 mod tags;
 
-use super::reply::put_rows;
-use super::{Ended, Fault, Feed, Limits, Session, put_row};
+use crate::reply::put_rows;
+use crate::{Ended, Fault, Feed, Limits, Session, put_row};
 use cb_desk::RefRow;
 use cb_tags::Sink;
 use std::alloc::Global;
-use std::io::{self, BufRead, ErrorKind, Read, Write};
 use std::test::Fail;
 
 /// A command of each kind, and more lines refused than done.
@@ -35,10 +35,10 @@ fn run(alloc: Global, limits: &Limits, input: &[u8]) -> (Vec<u8>, Ended) {
 }
 
 /// A text of so many bytes `a`, and then another.
-fn many(alloc: Global, count: usize, behind: &[u8]) -> Result<Vec<u8>, Fail> {
+fn many(alloc: Global, count: usize, after: &[u8]) -> Result<Vec<u8>, Fail> {
     let mut text = Vec::with_capacity(alloc, 8_192)?;
     text.resize(count, b'a')?;
-    text.extend_from_slice(behind)?;
+    text.extend_from_slice(after)?;
     Ok(text)
 }
 
@@ -259,139 +259,5 @@ fn rows_have_single_spaces(rt: HostRuntime) -> Result<(), Fail> {
         written.as_slice(),
         b"f.c f 1 int f(void) {\ncscope: 2 lines\nf.c f 1 int f(void) {\nz/g.h <unknown> 1000000 \n".as_slice()
     );
-    Ok(())
-}
-
-/// A writer that takes so many bytes, two at a time at most, and then fails.
-#[derive(Drop)]
-struct Short {
-    taken: Vec<u8>,
-    room: usize,
-}
-
-impl Write for Short {
-    fn write(&mut self, buf: &[u8]) -> io::Result<usize> {
-        let taken = buf.len().min(self.room).min(2);
-        if taken == 0 {
-            return Err(io::Error::from(ErrorKind::StorageFull));
-        }
-        self.taken.extend_from_slice(&buf[..taken])?;
-        self.room -= taken;
-        Ok(taken)
-    }
-
-    fn flush(&mut self) -> io::Result<()> {
-        Ok(())
-    }
-}
-
-#[test]
-fn a_writer_that_fails_has_taken_a_front(rt: HostRuntime) -> Result<(), Fail> {
-    for room in 0..OUTPUT.len() + 2 {
-        let mut writer = Short {
-            taken: Vec::new(rt.alloc()),
-            room,
-        };
-        let mut session = Session::new(rt.alloc());
-        let mut sink = Sink::new(&mut writer);
-        let mut feed = Feed::new(INPUT);
-        let ended = session.serve(rt.alloc(), &WIDE, &mut feed, &mut sink);
-        let failed = sink.failed();
-        assert_eq!(rt; failed, room < OUTPUT.len());
-        if failed {
-            assert_eq!(rt; ended, Ended::Fault(Fault::Write));
-            assert!(rt; sink.write(b"x").is_err());
-            assert!(rt; sink.flush().is_err());
-        } else {
-            assert_eq!(rt; ended, Ended::Done);
-        }
-        let whole = room.min(OUTPUT.len());
-        assert_eq!(rt; writer.taken.as_slice(), &OUTPUT[..whole]);
-    }
-    Ok(())
-}
-
-/// A writer whose bytes never reach anybody.
-#[derive(Drop)]
-struct Stuck;
-
-impl Write for Stuck {
-    fn write(&mut self, buf: &[u8]) -> io::Result<usize> {
-        Ok(buf.len())
-    }
-
-    fn flush(&mut self) -> io::Result<()> {
-        Err(io::Error::from(ErrorKind::BrokenPipe))
-    }
-}
-
-#[test]
-fn a_failed_flush_ends_the_run(rt: HostRuntime) {
-    let mut session = Session::new(rt.alloc());
-    let mut sink = Sink::new(Stuck);
-    let mut feed = Feed::new(INPUT);
-    let ended = session.serve(rt.alloc(), &WIDE, &mut feed, &mut sink);
-    assert_eq!(rt; ended, Ended::Fault(Fault::Write));
-    assert!(rt; sink.failed());
-    assert_eq!(rt; feed.byte(), Ok(Some(b':')));
-}
-
-/// A reader that gives so many of its bytes one by one, and then fails; at its end it says so once, and then fails too.
-#[derive(Drop)]
-struct Broken<'a> {
-    bytes: &'a [u8],
-    left: usize,
-    ended: bool,
-}
-
-impl Read for Broken<'_> {
-    fn read(&mut self, _buf: &mut [u8]) -> io::Result<usize> {
-        Err(io::Error::from(ErrorKind::Unsupported))
-    }
-}
-
-impl BufRead for Broken<'_> {
-    fn fill_buf(&mut self) -> io::Result<&[u8]> {
-        if self.left == 0 || self.ended {
-            return Err(io::Error::from(ErrorKind::ConnectionReset));
-        }
-        if self.bytes.is_empty() {
-            self.ended = true;
-            return Ok(&[]);
-        }
-        Ok(&self.bytes[..1])
-    }
-
-    fn consume(&mut self, amount: usize) {
-        if amount <= self.bytes.len() && amount <= self.left {
-            self.bytes = &self.bytes[amount..];
-            self.left -= amount;
-        }
-    }
-}
-
-#[test]
-fn a_reader_that_fails_leaves_a_front(rt: HostRuntime) -> Result<(), Fail> {
-    for left in 0..INPUT.len() + 2 {
-        let mut written = Vec::new(rt.alloc());
-        let mut session = Session::new(rt.alloc());
-        let mut sink = Sink::new(&mut written);
-        let mut feed = Feed::new(Broken {
-            bytes: INPUT,
-            left,
-            ended: false,
-        });
-        let ended = session.serve(rt.alloc(), &WIDE, &mut feed, &mut sink);
-        assert_eq!(rt; feed.failed(), left <= INPUT.len());
-        if feed.failed() {
-            assert_eq!(rt; ended, Ended::Fault(Fault::Read));
-            assert!(rt; feed.byte().is_err());
-        } else {
-            // The reader would fail now; the feed asks it no more.
-            assert_eq!(rt; ended, Ended::Done);
-            assert_eq!(rt; feed.byte(), Ok(None));
-        }
-        assert!(rt; OUTPUT.starts_with(written.as_slice()));
-    }
     Ok(())
 }

@@ -1,6 +1,7 @@
 -- The lines of short definitions, computed.
 use Rattle.std.specs.Prelude.{◌≡◌, true, false, codes, refl}
 use Rattle.std.specs.Fmt.{digits}
+use Rattle.bstr.specs.Text.{lines_from, line_len}
 use Rattle.cb_scan.specs.declared.facts.Kind.TheVariants.{Function, Macro, Typedef}
 use Rattle.cb_tags.specs.Addresses.{escape, address}
 use Rattle.cb_tags.specs.TagLines.{Tag, plain_line, extended_line, listing_line}
@@ -10,6 +11,11 @@ use Rattle.cb_tags.specs.TagNames.{tag_name}
 unfoldable pub writing : Unit {0}
 unfolding escape address tag_name digits
 writing = tt
+
+-- `unfolding lining` opens how a text is cut into lines
+unfoldable pub lining : Unit {0}
+unfolding lines_from line_len
+lining = tt
 
 -- a static function
 abbrev add : Tag

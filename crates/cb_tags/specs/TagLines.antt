@@ -6,7 +6,8 @@ use Rattle.cb_tags.specs.declared.row.TagRow.{TagRow}
 use Rattle.cb_tags.specs.Addresses.{address}
 use Rattle.cb_tags.specs.TagNames.{tag_name}
 
--- a definition as a tags file has it (tags(5)): its name, its file, its line and the text of that line, its kind, and whether it is `static`
+-- a definition as a tags file has it (tags(5)): its name, its file, its line and the text of that
+-- line, its kind, and whether it is `static`
 pub record Tag : Type 0 where
   pub name : List ℕ
   pub file : List ℕ
@@ -39,13 +40,15 @@ is_function Typedef = false
 abbrev pub file_field : Tag → List ℕ
 file_field t = if is_function t.kind && t.local then codes "\tfile:" else []
 
--- the extended line (tags(5)): name, file and address, then the fields for the kind, the line and the scope
+-- the extended line (tags(5)): name, file and address, then the fields for the kind, the line and
+-- the scope
 abbrev pub extended_line : Tag → List ℕ
 extended_line t =
     t.name ++ codes "\t" ++ t.file ++ codes "\t" ++ address t.text
     ++ codes ";\"\t" ++ kind_letter t.kind ++ codes "\tline:" ++ decimal t.line ++ file_field t ++ codes "\n"
 
--- the line of a listing (POSIX ctags -x): name, line, file and the whole shown line, parted by single spaces
+-- the line of a listing (POSIX ctags -x): name, line, file and the whole shown line, parted by
+-- single spaces
 abbrev pub listing_line : Tag → List ℕ
 listing_line t = t.name ++ codes " " ++ decimal t.line ++ codes " " ++ t.file ++ codes " " ++ t.text ++ codes "\n"
 

@@ -99,15 +99,16 @@ fn stand_for(items: &[u8], text: &[u8]) -> bool
     rest.is_empty()
 }
 
-/// What stands between `/^` and `$/`; `None` where the bytes don't begin and end so.
+/// What is between `/^` and `$/`; `None` where the bytes don't begin and end so.
 fn between_anchors(bytes: &[u8]) -> Option<&[u8]>
     ensures { MatchOption result ((items : List ℕ) → bytes.now ≢ codes "/^" ++ items ++ codes "$/") (λ items. bytes.now ≡ codes "/^" ++ items.now ++ codes "$/") }
 {
     bytes.strip_prefix(b"/^")?.strip_suffix(b"$/")
 }
 
-/// The bytes as an address: `/^`, items that are `\/`, `\\` or a byte other than `/`, `\` and a line feed, then `$/`.
-/// Its text is the items without the `\` that escapes. `None` for any other bytes.
+/// The bytes as an address: `/^`, items that are `\/`, `\\` or a byte other than `/`, `\` and a
+/// line feed, then `$/`. Its text is the items without the `\` that escapes. `None` for any other
+/// bytes.
 pub fn read_address(bytes: &[u8]) -> Option<Address<'_>>
     ensures { MatchOption result ((text : List ℕ) → IsAddress bytes.now text → ⊥) (λ text. IsAddress bytes.now text) }
 {
@@ -130,7 +131,8 @@ impl Address<'_> {
         }
     }
 
-    /// The first line of the source, from 1, that reads as the address says; `None` where none does.
+    /// The first line of the source, from 1, that reads as the address says; `None` where none
+    /// does.
     #[tactic(auto, unfolding(crate::specs::Addresses::finds))]
     pub fn find(&self, source: &Source) -> Option<u32>
         ensures { result ≡ finds source.now self.now }

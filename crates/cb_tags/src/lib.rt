@@ -1,9 +1,11 @@
-//! The form of a tags file: its lines, their addresses and the names that they stand under, and the sink that takes them.
+//! The form of a tags file: its lines, their addresses and the names that they have, and the sink
+//! that takes them.
 //!
-//! It stands on `cb_scan` (sources, kinds of definitions), `itoa` (line numbers) and, in proofs alone, `bstr` (lines).
-//! No call takes memory.
-//! The layer above uses the contracts of [`put_plain`], [`put_extended`], [`put_listing`] and [`put_heads`]: on success
-//! exactly the lines of the definition are appended, on a fault a front of them.
+//! It stands on `cb_scan` (sources, kinds of definitions), `itoa` (line numbers) and, in proofs
+//! alone, `bstr` (lines). No call takes memory.
+//! The layer above uses the contracts of [`put_plain`], [`put_extended`], [`put_listing`] and
+//! [`put_heads`]: on success exactly the lines of the definition are appended, on a fault a prefix
+//! of them.
 #![tactic(auto)]
 
 mod address;

@@ -3,11 +3,18 @@ ghost use Rattle.std.specs.Prelude.{◌≡◌, ◌&&◌, ◌||◌, nat_le, nat_e
 ghost use Rattle.std.specs.List.{list_all, ends_with};
 ghost use Rattle.cb_tags.specs.Names.{is_file_name};
 
-/// Whether a file may have this name: 2 to 255 printable bytes without a blank that end in `.c` or `.h`.
+/// The fewest bytes of a file's name.
+const LEAST_NAME: usize = 2;
+
+/// The most bytes of a file's name.
+const MOST_NAME: usize = 255;
+
+/// Whether a file may have this name: 2 to 255 printable bytes without a blank that end in `.c` or
+/// `.h`.
 pub fn is_file_name(name: &[u8]) -> bool
     ensures { result ≡ is_file_name name.now }
 {
-    name.len() >= 2 && name.len() <= 255 && is_printable(name) && names_c(name)
+    name.len() >= LEAST_NAME && name.len() <= MOST_NAME && is_printable(name) && names_c(name)
 }
 
 /// Whether all bytes are from `!` to `~`.

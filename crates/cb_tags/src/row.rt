@@ -21,8 +21,8 @@ use cb_scan::Kind;
 use itoa::Buffer;
 use std::io::Write;
 
-/// A definition as a tags file has it: its name, its file, its line (from 1) and the whole shown text of that line, its
-/// kind, and whether it is `static`.
+/// A definition as a tags file has it: its name, its file, its line (from 1) and the whole shown
+/// text of that line, its kind, and whether it is `static`.
 #[derive(Clone, Copy, Debug, PartialEq, Eq)]
 pub struct TagRow<'a> {
     pub name: &'a [u8],
@@ -38,13 +38,13 @@ fn put_around<W: Write>(
     out: &mut Sink<W>,
     before: &[&[u8]],
     text: &[u8],
-    behind: &[&[u8]],
+    after: &[&[u8]],
 ) -> Result<(), WriteFault>
-    ensures { Puts out.old out.new result (flat_map (λ part. part.now) before.now ++ (address text.now ++ flat_map (λ part. part.now) behind.now)) }
+    ensures { Puts out.old out.new result (flat_map (λ part. part.now) before.now ++ (address text.now ++ flat_map (λ part. part.now) after.now)) }
 {
     put_texts(out, before)?;
     put_address(out, text)?;
-    put_texts(out, behind)
+    put_texts(out, after)
 }
 
 /// Writes the plain line of a row: tag name, file and address.
@@ -81,7 +81,8 @@ fn file_field(row: &TagRow<'_>) -> &'static [u8]
     }
 }
 
-/// Writes the extended line of a row: name, file and address, then the fields for the kind, the line and the scope.
+/// Writes the extended line of a row: name, file and address, then the fields for the kind, the
+/// line and the scope.
 pub fn put_extended<W: Write>(out: &mut Sink<W>, row: &TagRow<'_>) -> Result<(), WriteFault>
     ensures { Puts out.old out.new result (extended_line (tag_of row.now)) }
 {

@@ -36,7 +36,8 @@ impl<W: Write> Sink<W> {
         }
     }
 
-    /// Takes the first of the bytes, and answers how many it took. After a fault each further call is a fault.
+    /// Takes the first of the bytes, and answers how many it took. After a fault each further call
+    /// is a fault.
     pub fn write(&mut self, bytes: &[u8]) -> Result<usize, WriteFault>
         requires { bytes.now ≢ [] }
         ensures { TakesBytes self.old self.new result bytes.now }

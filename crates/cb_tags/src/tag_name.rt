@@ -34,8 +34,8 @@ fn without_c(name: &[u8]) -> &[u8]
     }
 }
 
-/// The name that a plain tags file has for a definition: its own, but for `main`, of which a program has one a file,
-/// `M` and the file's name (POSIX ctags).
+/// The name that a plain tags file has for a definition: its own, but for `main`, of which a
+/// program has one a file, `M` and the file's name (POSIX ctags).
 #[tactic(auto, unfolding(crate::specs::TagNames::tag_name))]
 pub(crate) fn tag_name<'a>(name: &'a [u8], file: &'a [u8]) -> NameParts<'a>
     ensures { result.first.now ++ result.rest.now ≡ tag_name name.now file.now }
@@ -62,7 +62,8 @@ fn compare(a: &NameParts<'_>, b: &NameParts<'_>) -> Ordering
     a_bytes.cmp(b_bytes)
 }
 
-/// The order of the plain tag names of two definitions by their bytes: of each its name and its file's name.
+/// The order of the plain tag names of two definitions by their bytes: of each its name and its
+/// file's name.
 pub fn compare_tag_names(a_name: &[u8], a_file: &[u8], b_name: &[u8], b_file: &[u8]) -> Ordering
     ensures { result ≡ slice_cmp nat_cmp (tag_name a_name.now a_file.now) (tag_name b_name.now b_file.now) }
 {

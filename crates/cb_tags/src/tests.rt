@@ -203,8 +203,8 @@ impl Write for Short {
     }
 }
 
-/// Whether the writing of a row to a writer with room for so many bytes leaves those of the row's bytes that it has room
-/// for, and a fault exactly where that is not all of them.
+/// Whether the writing of a row to a writer with room for so many bytes leaves those of the row's
+/// bytes that it has room for, and a fault exactly where that is not all of them.
 fn leaves_a_prefix(
     alloc: Global,
     form: Form,

@@ -1,5 +1,5 @@
-//! The tag stack, removals, new names and redo. The expected bytes are worked out by hand from the rules of commands and
-//! replies.
+//! The tag stack, removals, new names and redo. The expected bytes are worked out by hand from the
+//! rules of commands and replies.
 use super::operands::run_with;
 use crate::Ended;
 use std::test::Fail;

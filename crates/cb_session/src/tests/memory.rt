@@ -1,5 +1,6 @@
-//! Tests in which memory may be refused, each growth in turn, one a run. For each call that takes memory,
-//! `refused_growth_of_CALL` passes in each run, and `no_refusal_of_CALL` only in a run that refuses nothing.
+//! Tests in which memory may be refused, each growth in turn, one a run. For each call that takes
+//! memory, `refused_growth_of_CALL` passes in each run, and `no_refusal_of_CALL` only in a run that
+//! refuses nothing.
 use super::WIDE;
 use super::operands::operands;
 use crate::{Command, Ended, Fault, Feed, Input, Intake, Session, prepare};
@@ -11,7 +12,8 @@ use std::process::Abort;
 /// A command of each kind that takes memory, and two that show what it left.
 const INPUT: &[u8] = b":load f.c 16\nint f(void) {\n}\n1f\n:tags\n:tag f\n:stack\n:undo\n";
 
-/// The output of a run over it: with ample memory first, and then with each of the first four commands refused.
+/// The output of a run over it: with ample memory first, and then with each of the first four
+/// commands refused.
 const OUTPUTS: [&[u8]; 5] = [
     b">> cscope: done\n>> cscope: 1 lines\nf.c f 1 int f(void) {\n>> cscope: 1 lines\nf\tf.c\t/^int f(void) {$/\n>> cscope: done\n>> cscope: 1 lines\nf.c <unknown> 1 int f(void) {\n>> cscope: done\n>> ",
     b">> cscope: refused: out of memory\n>> cscope: 0 lines\n>> cscope: 0 lines\n>> cscope: refused: no such definition\n>> cscope: 0 lines\n>> cscope: refused: nothing to undo\n>> ",
@@ -20,7 +22,8 @@ const OUTPUTS: [&[u8]; 5] = [
     b">> cscope: done\n>> cscope: 1 lines\nf.c f 1 int f(void) {\n>> cscope: 1 lines\nf\tf.c\t/^int f(void) {$/\n>> cscope: refused: out of memory\n>> cscope: 0 lines\n>> cscope: done\n>> ",
 ];
 
-/// Runs the input. A refusal is one command's reply, or ends the run with a prefix of the output. Whether memory was refused.
+/// Runs the input. A refusal is one command's reply, or ends the run with a prefix of the output.
+/// Whether memory was refused.
 fn run_meets_a_refusal(rt: &impl Abort, alloc: Global) -> bool {
     let Ok(mut written) = Vec::with_capacity(alloc, 4_096) else {
         return true;
@@ -57,8 +60,10 @@ fn prepare_meets_a_refusal(rt: &impl Abort, alloc: Global) -> bool {
             false
         }
         Err(ended) => {
-            assert!(rt; ended == Ended::Operand(0, Refusal::OutOfMemory)
-                || ended == Ended::Operand(1, Refusal::OutOfMemory));
+            assert!(rt;
+                ended == Ended::Operand(0, Refusal::OutOfMemory)
+                    || ended == Ended::Operand(1, Refusal::OutOfMemory)
+            );
             true
         }
     }
@@ -104,7 +109,10 @@ fn refused_growth_of_prepare(rt: HostRuntime) {
 
 #[test]
 fn no_refusal_of_prepare(rt: HostRuntime) {
-    assert!(rt; !prepare_meets_a_refusal(&rt, rt.alloc()), "memory was refused");
+    assert!(rt;
+        !prepare_meets_a_refusal(&rt, rt.alloc()),
+        "memory was refused"
+    );
 }
 
 #[test]
@@ -114,5 +122,8 @@ fn refused_growth_of_intake(rt: HostRuntime) {
 
 #[test]
 fn no_refusal_of_intake(rt: HostRuntime) {
-    assert!(rt; !intake_meets_a_refusal(&rt, rt.alloc()), "memory was refused");
+    assert!(rt;
+        !intake_meets_a_refusal(&rt, rt.alloc()),
+        "memory was refused"
+    );
 }

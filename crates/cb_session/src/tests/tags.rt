@@ -1,4 +1,5 @@
-//! Tags files and listings that a session shows. The expected bytes are worked out by hand from the format of tag lines.
+//! Tags files and listings that a session shows. The expected bytes are worked out by hand from the
+//! format of tag lines.
 use super::{WIDE, run};
 use crate::Ended;
 use std::test::Fail;

@@ -17,7 +17,7 @@ fn long_text(alloc: Global) -> Result<Vec<u8>, Fail> {
     Ok(text)
 }
 
-/// What stands before a text, the text, and what stands after it.
+/// A text with others before and after it.
 fn around(alloc: Global, before: &[u8], text: &[u8], after: &[u8]) -> Result<Vec<u8>, Fail> {
     let mut whole = Vec::from_slice(alloc, before)?;
     whole.extend_from_slice(text)?;

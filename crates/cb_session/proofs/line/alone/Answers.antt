@@ -1,6 +1,6 @@
 use Rattle.std.proofs.Common.{sym, refl}
-use Rattle.cb_session.specs.Inputs.{alone}
-use Rattle.cb_session.specs.Said.{command_of}
+use Rattle.cb_session.specs.Commands.{alone}
+use Rattle.cb_session.specs.Models.{command_of}
 use Rattle.cb_session.proofs.Words.{too_many-0}
 use Rattle.cb_session.proofs.line.alone.Goals as goal
 

@@ -1,12 +1,12 @@
 use Rattle.std.proofs.Common.{◌≡◌, length, map, Result}
 use Rattle.std.specs.Vec.Iter.{into_iter_items, into_iter_len}
-use Rattle.cb_session.specs.Operands.{Stop, Loads, file_of_operand}
+use Rattle.cb_session.specs.Operands.{RefusedOperand, Loads, file_of_operand}
 use Rattle.cb_desk.specs.Timeline.{Timeline, new_timeline}
 use Rattle.cb_session.proofs.operands.prepare.Given as goal
 
 abbrev pub invariant-loop-operand : goal.invariant-loop-operand
 invariant-loop-operand l = record {
-  goes : (end : Result Timeline Stop) → Loads l.place l.desk (map file_of_operand (into_iter_items l.operand-iterator)) end → Loads 0 new_timeline (map file_of_operand l.fn.operands.items) end;
+  goes : (end : Result Timeline RefusedOperand) → Loads l.place l.desk (map file_of_operand (into_iter_items l.operand-iterator)) end → Loads 0 new_timeline (map file_of_operand l.fn.operands.items) end;
   placed : l.place ≡ length l.desk.past;
   counted : into_iter_len l.operand-iterator ≡ length (into_iter_items l.operand-iterator);
 }

@@ -1,5 +1,5 @@
 use Rattle.std.proofs.Common.{ap}
-use Rattle.cb_session.specs.Said.{command_of}
+use Rattle.cb_session.specs.Models.{command_of}
 use Rattle.cb_session.proofs.Outcomes.{Does-query, Does-change, Does-undo, Does-redo, Does-tags, Does-listing, Does-stack}
 use Rattle.cb_session.proofs.state.Session.command.Goals as goal
 

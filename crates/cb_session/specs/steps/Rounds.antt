@@ -1,0 +1,31 @@
+-- What a round of a run leaves, and the replies to moves.
+use Rattle.std.specs.Prelude.{◌≡◌, Bool, List, ℕ, Option, None, Some, Result, Ok, Err}
+use Rattle.std.specs.Io.KnownBytes.{Appends}
+use Rattle.cb_desk.specs.declared.refusal.Refusal.{Refusal}
+use Rattle.cb_desk.specs.Timeline.{Timeline}
+use Rattle.cb_session.specs.declared.input.Ended.{Ended}
+use Rattle.cb_session.specs.declared.input.Ended.TheVariants.{Fault}
+use Rattle.cb_session.specs.declared.input.Fault.{Fault as Reason}
+use Rattle.cb_session.specs.Devices.{Reader}
+use Rattle.cb_session.specs.Inputs.{First, ending_of}
+use Rattle.cb_session.specs.Serving.{Leaves}
+use Rattle.cb_session.specs.Output.{refused_line, outcome, exchange}
+use Rattle.cb_tags.specs.Writers.{Writer}
+
+-- the reply to a move of the timeline, by that of one that is done
+abbrev pub move_line : List ℕ → Result (Unit {0}) Refusal → List ℕ
+move_line done (Ok _) = done
+move_line done (Err r) = refused_line r
+
+-- the fault that a call answers
+abbrev pub fault_in : {A : Type 0} → Result A Reason → Option Reason
+fault_in (Ok _) = None
+fault_in (Err fault) = Some fault
+
+-- one round: the exchange of a prompt and the reply to the first input, and the ending of the run
+-- if it has one
+abbrev pub LeavesRound : Bool → First → Timeline → Timeline → Reader → Writer → Writer → Result (Option Ended) Reason → Type 0
+LeavesRound out_of_memory f t next feed old new (Ok None) =
+    (ending_of f.request ≡ None) × (feed.bytes ≡ Some f.rest) × (next ≡ (outcome out_of_memory t f.request).timeline) × Appends old.bytes new.bytes (exchange out_of_memory t f.request)
+LeavesRound out_of_memory f t next feed old new (Ok (Some ended)) = Leaves (exchange out_of_memory t f.request) (ending_of f.request) old new ended
+LeavesRound out_of_memory f t next feed old new (Err fault) = Leaves (exchange out_of_memory t f.request) (ending_of f.request) old new (Fault fault)

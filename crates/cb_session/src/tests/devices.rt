@@ -1,0 +1,282 @@
+//! Runs over readers and writers that fail.
+use super::{INPUT, OUTPUT, WIDE};
+use crate::{Ended, Fault, Feed, Session};
+use cb_tags::Sink;
+use std::alloc::Global;
+use std::io::{self, BufRead, ErrorKind, Read, Write};
+use std::test::Fail;
+
+/// A writer that takes so many bytes, two at a time at most, and then fails.
+#[derive(Drop)]
+struct Short {
+    taken: Vec<u8>,
+    room: usize,
+}
+
+impl Write for Short {
+    fn write(&mut self, buf: &[u8]) -> io::Result<usize> {
+        let taken = buf.len().min(self.room).min(2);
+        if taken == 0 {
+            return Err(io::Error::from(ErrorKind::StorageFull));
+        }
+        self.taken.extend_from_slice(&buf[..taken])?;
+        self.room -= taken;
+        Ok(taken)
+    }
+
+    fn flush(&mut self) -> io::Result<()> {
+        Ok(())
+    }
+}
+
+#[test]
+fn a_writer_that_fails_has_taken_a_prefix(rt: HostRuntime) -> Result<(), Fail> {
+    for room in 0..OUTPUT.len() + 2 {
+        let mut writer = Short {
+            taken: Vec::new(rt.alloc()),
+            room,
+        };
+        let mut session = Session::new(rt.alloc());
+        let mut sink = Sink::new(&mut writer);
+        let mut feed = Feed::new(INPUT);
+        let ended = session.serve(rt.alloc(), &WIDE, &mut feed, &mut sink);
+        let failed = sink.failed();
+        assert_eq!(rt; failed, room < OUTPUT.len());
+        if failed {
+            assert_eq!(rt; ended, Ended::Fault(Fault::Write));
+            assert!(rt; sink.write(b"x").is_err());
+            assert!(rt; sink.flush().is_err());
+        } else {
+            assert_eq!(rt; ended, Ended::Done);
+        }
+        let whole = room.min(OUTPUT.len());
+        assert_eq!(rt; writer.taken.as_slice(), &OUTPUT[..whole]);
+    }
+    Ok(())
+}
+
+/// A writer whose bytes never reach anybody.
+#[derive(Drop)]
+struct Stuck;
+
+impl Write for Stuck {
+    fn write(&mut self, buf: &[u8]) -> io::Result<usize> {
+        Ok(buf.len())
+    }
+
+    fn flush(&mut self) -> io::Result<()> {
+        Err(io::Error::from(ErrorKind::BrokenPipe))
+    }
+}
+
+#[test]
+fn a_failed_flush_ends_the_run(rt: HostRuntime) {
+    let mut session = Session::new(rt.alloc());
+    let mut sink = Sink::new(Stuck);
+    let mut feed = Feed::new(INPUT);
+    let ended = session.serve(rt.alloc(), &WIDE, &mut feed, &mut sink);
+    assert_eq!(rt; ended, Ended::Fault(Fault::Write));
+    assert!(rt; sink.failed());
+    assert_eq!(rt; feed.byte(), Ok(Some(b':')));
+}
+
+/// A reader that gives so many of its bytes one by one, and then fails; at its end it says so once,
+/// and then fails too.
+#[derive(Drop)]
+struct Broken<'a> {
+    bytes: &'a [u8],
+    left: usize,
+    ended: bool,
+}
+
+impl Read for Broken<'_> {
+    fn read(&mut self, _buf: &mut [u8]) -> io::Result<usize> {
+        Err(io::Error::from(ErrorKind::Unsupported))
+    }
+}
+
+impl BufRead for Broken<'_> {
+    fn fill_buf(&mut self) -> io::Result<&[u8]> {
+        if self.left == 0 || self.ended {
+            return Err(io::Error::from(ErrorKind::ConnectionReset));
+        }
+        if self.bytes.is_empty() {
+            self.ended = true;
+            return Ok(&[]);
+        }
+        Ok(&self.bytes[..1])
+    }
+
+    fn consume(&mut self, amount: usize) {
+        if amount <= self.bytes.len() && amount <= self.left {
+            self.bytes = &self.bytes[amount..];
+            self.left -= amount;
+        }
+    }
+}
+
+#[test]
+fn a_reader_that_fails_leaves_a_prefix(rt: HostRuntime) -> Result<(), Fail> {
+    for left in 0..INPUT.len() + 2 {
+        let mut written = Vec::new(rt.alloc());
+        let mut session = Session::new(rt.alloc());
+        let mut sink = Sink::new(&mut written);
+        let mut feed = Feed::new(Broken {
+            bytes: INPUT,
+            left,
+            ended: false,
+        });
+        let ended = session.serve(rt.alloc(), &WIDE, &mut feed, &mut sink);
+        assert_eq!(rt; feed.failed(), left <= INPUT.len());
+        if feed.failed() {
+            assert_eq!(rt; ended, Ended::Fault(Fault::Read));
+            assert!(rt; feed.byte().is_err());
+        } else {
+            // The reader would fail now; the feed asks it no more.
+            assert_eq!(rt; ended, Ended::Done);
+            assert_eq!(rt; feed.byte(), Ok(None));
+        }
+        assert!(rt; OUTPUT.starts_with(written.as_slice()));
+    }
+    Ok(())
+}
+
+/// A reader that fails once, after so many of its bytes, and would then go on.
+#[derive(Drop)]
+struct Interrupted<'a> {
+    bytes: &'a [u8],
+    left: usize,
+    has_failed: bool,
+}
+
+impl Read for Interrupted<'_> {
+    fn read(&mut self, _buf: &mut [u8]) -> io::Result<usize> {
+        Err(io::Error::from(ErrorKind::Unsupported))
+    }
+}
+
+impl BufRead for Interrupted<'_> {
+    fn fill_buf(&mut self) -> io::Result<&[u8]> {
+        if self.left == 0 && !self.has_failed {
+            self.has_failed = true;
+            return Err(io::Error::from(ErrorKind::Interrupted));
+        }
+        Ok(self.bytes)
+    }
+
+    fn consume(&mut self, amount: usize) {
+        if amount <= self.bytes.len() {
+            self.bytes = &self.bytes[amount..];
+            self.left = self.left.saturating_sub(amount);
+        }
+    }
+}
+
+#[test]
+fn a_reader_that_was_interrupted_is_asked_no_more(rt: HostRuntime) -> Result<(), Fail> {
+    for left in 0..INPUT.len() {
+        let mut written = Vec::new(rt.alloc());
+        let mut session = Session::new(rt.alloc());
+        let mut sink = Sink::new(&mut written);
+        let mut feed = Feed::new(Interrupted {
+            bytes: INPUT,
+            left,
+            has_failed: false,
+        });
+        let ended = session.serve(rt.alloc(), &WIDE, &mut feed, &mut sink);
+        assert_eq!(rt; ended, Ended::Fault(Fault::Read));
+        assert!(rt; feed.failed());
+        assert!(rt; feed.byte().is_err());
+        assert!(rt; feed.failed());
+        assert!(rt; OUTPUT.starts_with(written.as_slice()));
+    }
+    Ok(())
+}
+
+/// A writer that keeps how many bytes it had at each flush. One of its flushes fails.
+#[derive(Drop)]
+struct Flushed {
+    taken: Vec<u8>,
+    flushes: Vec<usize>,
+    failing: usize,
+}
+
+impl Flushed {
+    /// A writer of which this flush fails, counted from 1.
+    fn new(alloc: Global, failing: usize) -> Flushed {
+        Flushed {
+            taken: Vec::new(alloc),
+            flushes: Vec::new(alloc),
+            failing,
+        }
+    }
+}
+
+impl Write for Flushed {
+    fn write(&mut self, buf: &[u8]) -> io::Result<usize> {
+        self.taken.extend_from_slice(buf)?;
+        Ok(buf.len())
+    }
+
+    fn flush(&mut self) -> io::Result<()> {
+        self.flushes.push(self.taken.len())?;
+        if self.flushes.len() == self.failing {
+            return Err(io::Error::from(ErrorKind::StorageFull));
+        }
+        Ok(())
+    }
+}
+
+/// Each prompt is flushed, and the whole output once more at the end: also where a block is cut
+/// off.
+#[test]
+fn prompts_and_the_end_are_flushed(rt: HostRuntime) {
+    let cases = [
+        (
+            b":undo\n\nq\n".as_slice(),
+            [3, 39, 42, 42].as_slice(),
+            Ended::Done,
+        ),
+        (b":load a.c 1".as_slice(), [3, 32].as_slice(), Ended::Cut),
+    ];
+    for (input, places, end) in cases {
+        for failing in 0..places.len() + 1 {
+            let mut writer = Flushed::new(rt.alloc(), failing);
+            let mut session = Session::new(rt.alloc());
+            let mut sink = Sink::new(&mut writer);
+            let mut feed = Feed::new(input);
+            let ended = session.serve(rt.alloc(), &WIDE, &mut feed, &mut sink);
+            let failed = sink.failed();
+            if failing == 0 {
+                assert_eq!(rt; ended, end);
+                assert!(rt; !failed);
+                assert_eq!(rt; writer.flushes.as_slice(), places);
+            } else {
+                assert_eq!(rt; ended, Ended::Fault(Fault::Write));
+                assert!(rt; failed);
+                assert_eq!(rt; writer.flushes.as_slice(), &places[..failing]);
+                assert_eq!(rt; writer.taken.len(), places[failing - 1]);
+            }
+        }
+    }
+}
+
+/// After a fault of reading nothing is written and nothing is flushed.
+#[test]
+fn a_read_fault_ends_the_output(rt: HostRuntime) {
+    let mut writer = Flushed::new(rt.alloc(), 0);
+    let mut session = Session::new(rt.alloc());
+    let mut sink = Sink::new(&mut writer);
+    let mut feed = Feed::new(Broken {
+        bytes: b":undo\n:undo\n",
+        left: 6,
+        ended: false,
+    });
+    let ended = session.serve(rt.alloc(), &WIDE, &mut feed, &mut sink);
+    assert_eq!(rt; ended, Ended::Fault(Fault::Read));
+    assert_eq!(rt;
+        writer.taken.as_slice(),
+        b">> cscope: refused: nothing to undo\n>> ".as_slice()
+    );
+    assert_eq!(rt; writer.flushes.as_slice(), [3, 39].as_slice());
+}
