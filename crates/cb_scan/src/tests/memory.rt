@@ -1,4 +1,5 @@
-//! Tests in which memory may be refused: `scripts/each-growth-refused.sh` lets each growth fail in turn, one a run.
+//! Tests in which memory may be refused: `scripts/each-growth-refused.sh` lets each growth fail in
+//! turn, one a run.
 use crate::meter::Meter;
 use crate::scanner::scan;
 use crate::source::{ScanError, Source};
@@ -25,7 +26,8 @@ fn scans_at_last(rt: &impl Abort, alloc: Global, source: &Source, meter: &mut Me
     }
 }
 
-/// Makes a source and scans it, and checks what must hold whether or not memory is refused. Whether it was.
+/// Makes a source and scans it, and checks what must hold whether or not memory is refused. Whether
+/// it was.
 fn meets_a_refusal(rt: &impl Abort, alloc: Global) -> bool {
     let Ok(bytes) = TEXT.to_vec(alloc) else {
         return true;
