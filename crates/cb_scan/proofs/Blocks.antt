@@ -23,8 +23,10 @@ occurs_from : (xs : List ℕ) (k : ℕ) → Closes xs k → OccursAt xs (codes "
 occurs_from xs k h = record {
   fits = h.fits;
   reads = λ j low. ⊎_elim
-      (λ first. subst (λ i. slice_index xs (k + i) ≡ slice_index (codes "*/") i) (sym first) (ap (slice_index xs) (let e : k + 0 ≡ k = omega arith in e) ∙ h.star))
-      (λ second. subst (λ i. slice_index xs (k + i) ≡ slice_index (codes "*/") i) (sym second) (ap (slice_index xs) (let e : k + 1 ≡ suc k = omega arith in e) ∙ h.slash))
+      (λ first. subst (λ i. slice_index xs (k + i) ≡ slice_index (codes "*/") i) (sym first)
+      (ap (slice_index xs) (let e : k + 0 ≡ k = omega arith in e) ∙ h.star))
+      (λ second. subst (λ i. slice_index xs (k + i) ≡ slice_index (codes "*/") i) (sym second)
+      (ap (slice_index xs) (let e : k + 1 ≡ suc k = omega arith in e) ∙ h.slash))
       (let e : (j ≡ 0) ⊎ (j ≡ 1) = grind arith in e);
 }
 
@@ -62,7 +64,8 @@ found star (b ∷ c ∷ xs) zero parted here none =
     cond-false _ _ _ (stop star b (c ∷ xs) parted) ∙ ap suc (cond-true _ _ _ (and_from _ _ first second))
 found star (b ∷ xs) (suc k) parted here none =
     cond-false _ _ _ (stop star b xs parted)
-    ∙ ap suc (found (b == 42) xs k (parted_next b xs (none 0 (omega arith))) (sooner b xs k here) (λ j low h. none (suc j) (omega arith) (later b xs j h)))
+    ∙ ap suc (found (b == 42) xs k (parted_next b xs (none 0 (omega arith))) (sooner b xs k here)
+    (λ j low h. none (suc j) (omega arith) (later b xs j h)))
     ∙ omega arith
 
 missed : (star : Bool) (xs : List ℕ) → Parted star xs → ((j : ℕ) → ¬ Closes xs j) → block_len star xs ≡ length xs
@@ -83,7 +86,8 @@ block_len-some xs k h = found false xs k (not_parted xs) (closes_from xs k h.1) 
     first.before j (omega arith) low (occurs_from xs j c))
 
 pub block_len-none : (xs : List ℕ) → FindsNeedle xs (codes "*/") 0 None → block_len false xs ≡ length xs
-block_len-none xs h = missed false xs (not_parted xs) (λ j c. h j (omega arith) (let f = c.fits in omega arith) (occurs_from xs j c))
+block_len-none xs h = missed false xs (not_parted xs)
+    (λ j c. h j (omega arith) (let f = c.fits in omega arith) (occurs_from xs j c))
 
 pub block_len-within : (star : Bool) (xs : List ℕ) → block_len star xs ≤ length xs
 unfolding block_len
@@ -93,22 +97,35 @@ block_len-within star (b ∷ xs) =
     cond_both (star && b == 47) _ _ (λ n. n ≤ suc (length xs)) (λ _. omega arith) (λ _. omega arith)
 
 first_more : (P : ℕ → Type 0) (i j : ℕ) (r : Option ℕ) → i < j → ¬ P i → IsFirst P (i + 1) j r → IsFirst P i j r
-first_more P i j None le here h = λ k low high p. ⊎_elim (λ e. here (subst P e p)) (λ other. h k (omega arith) high p) (cases_eq k i)
+first_more P i j None le here h =
+    λ k low high p. ⊎_elim (λ e. here (subst P e p)) (λ other. h k (omega arith) high p) (cases_eq k i)
 first_more P i j (Some k) le here h =
     let first = h.0 in (
       record {
         low = omega (arith, first.low);
         high = first.high;
-        before = λ m low high p. ⊎_elim (λ e. here (subst P e p)) (λ other. first.before m (omega arith) high p) (cases_eq m i);
+        before = λ m low high p. ⊎_elim (λ e. here (subst P e p)) (λ other. first.before m (omega arith) high p)
+            (cases_eq m i);
       },
       h.1,
     )
 
 -- the first place that passes a test, or none
-first_place : (P : ℕ → Type 0) (test : ℕ → Bool) → ((k : ℕ) → test k ≡ true → P k) → ((k : ℕ) → P k → test k ≡ true) → (n i j : ℕ) → i + n ≡ j → (r : Option ℕ) × IsFirst P i j r
+first_place : (P : ℕ → Type 0) (test : ℕ → Bool) → ((k : ℕ) → test k ≡ true → P k) → ((k : ℕ) → P k → test k ≡ true)
+    → (n i j : ℕ) → i + n ≡ j → (r : Option ℕ) × IsFirst P i j r
 first_place P test sound complete zero i j e = (None, λ k low high p. absurd (let x : ⊥ = omega arith in x))
 first_place P test sound complete (suc n) i j e = ⊎_elim
-    (λ t. (Some i, (record { low = omega arith; high = omega arith; before = λ k low high p. absurd (let x : ⊥ = omega arith in x) }, sound i t)))
+    (λ t. (
+      Some i,
+      (
+        record {
+          low = omega arith;
+          high = omega arith;
+          before = λ k low high p. absurd (let x : ⊥ = omega arith in x);
+        },
+        sound i t,
+      ),
+    ))
     (λ f.
     let later = first_place P test sound complete n (i + 1) j (omega arith) in
     (later.0, first_more P i j later.0 (omega arith) (λ p. both_ways (test i) f (complete i p)) later.1))
@@ -116,9 +133,11 @@ first_place P test sound complete (suc n) i j e = ⊎_elim
 
 -- a search for `*/` has an answer
 pub finds_close : (xs : List ℕ) → (r : Option ℕ) × FindsNeedle xs (codes "*/") 0 r
-finds_close xs = first_place (OccursAt xs (codes "*/")) (occurs_at xs (codes "*/")) (OccursAt-true xs (codes "*/")) (occurs_at-true xs (codes "*/")) (length xs + 1) 0 (length xs + 1) (omega arith)
+finds_close xs = first_place (OccursAt xs (codes "*/")) (occurs_at xs (codes "*/")) (OccursAt-true xs (codes "*/"))
+    (occurs_at-true xs (codes "*/")) (length xs + 1) 0 (length xs + 1) (omega arith)
 
 -- and it is where the count of bytes ends
-pub block_len-found : (xs : List ℕ) (r : Option ℕ) → FindsNeedle xs (codes "*/") 0 r → suc (suc (block_len false xs)) ≡ comment_end (suc (suc (length xs))) r
+pub block_len-found : (xs : List ℕ) (r : Option ℕ) → FindsNeedle xs (codes "*/") 0 r
+    → suc (suc (block_len false xs)) ≡ comment_end (suc (suc (length xs))) r
 block_len-found xs None h = ap (λ n. suc (suc n)) (block_len-none xs h)
 block_len-found xs (Some k) h = ap (λ n. suc (suc n)) (block_len-some xs k h) ∙ omega arith

@@ -20,7 +20,8 @@ closed_len e (b ∷ bs) more is =
     let parts = and_parts (b == 34) (length bs == 0) (sym (cond-true _ _ _ ends) ∙ is) in
     let none : length bs ≡ 0 = eqb-true (length bs) 0 parts.1 in
     cond-true _ _ _ ends ∙ cond-true _ _ _ parts.0 ∙ omega (arith, none))
-    (λ goes_on. cond-false _ _ _ goes_on ∙ ap suc (closed_len (literal_escape e b) bs more (sym (cond-false _ _ _ goes_on) ∙ is)))
+    (λ goes_on. cond-false _ _ _ goes_on
+    ∙ ap suc (closed_len (literal_escape e b) bs more (sym (cond-false _ _ _ goes_on) ∙ is)))
     (cases_Bool (ends_literal 34 e b))
 
 -- a NUL ends no literal
@@ -33,7 +34,8 @@ goes_past Return = refl
 -- a string that has its length before a NUL closes
 len_closes : (e : Escape) (bs : List ℕ) → literal_len 34 e (bs ++ 0 ∷ []) ≡ length bs → closes_from e bs ≡ true
 unfolding literal_len
-len_closes e [] is = let past : literal_len 34 e (0 ∷ []) ≡ suc (literal_len 34 (literal_escape e 0) []) = cond-false _ _ _ (goes_past e) in absurd (omega (arith, past, is))
+len_closes e [] is = let past : literal_len 34 e (0 ∷ []) ≡ suc (literal_len 34 (literal_escape e 0) []) =
+    cond-false _ _ _ (goes_past e) in absurd (omega (arith, past, is))
 len_closes e (b ∷ bs) is =
     ⊎_elim
     (λ ends.
@@ -41,10 +43,12 @@ len_closes e (b ∷ bs) is =
     (λ quote_is.
     let one : 1 ≡ suc (length bs) = sym (cond-true _ _ _ quote_is) ∙ sym (cond-true _ _ _ ends) ∙ is in
     cond-true _ _ _ ends ∙ and_from _ _ quote_is (eq-eqb (length bs) 0 (omega (arith, one))))
-    (λ other. let none : 0 ≡ suc (length bs) = sym (cond-false _ _ _ other) ∙ sym (cond-true _ _ _ ends) ∙ is in absurd (omega (arith, none)))
+    (λ other. let none : 0 ≡ suc (length bs) =
+    sym (cond-false _ _ _ other) ∙ sym (cond-true _ _ _ ends) ∙ is in absurd (omega (arith, none)))
     (cases_Bool (b == 34)))
     (λ goes_on.
-    let more : suc (literal_len 34 (literal_escape e b) (bs ++ 0 ∷ [])) ≡ suc (length bs) = sym (cond-false _ _ _ goes_on) ∙ is in
+    let more : suc (literal_len 34 (literal_escape e b) (bs ++ 0 ∷ [])) ≡ suc (length bs) =
+    sym (cond-false _ _ _ goes_on) ∙ is in
     cond-false _ _ _ goes_on ∙ len_closes (literal_escape e b) bs (omega (arith, more)))
     (cases_Bool (ends_literal 34 e b))
 
@@ -53,8 +57,12 @@ unfolding is_closed
 closed_is [] is more = absurd (false≢true is)
 closed_is (b ∷ bs) is more =
     let parts = and_parts (b == 34) (closes_from Plain bs) is in
-    let len : literal_len 34 Plain (bs ++ more) ≡ suc (length bs) - 1 = closed_len Plain bs more parts.1 ∙ omega arith in
-    (ap (λ x. x ∷ []) (eqb-true b 34 parts.0), omega arith, subst (λ n. Quoted 34 (bs ++ more) n) len (literal_spelled 34 quote (bs ++ more)))
+    let len : literal_len 34 Plain (bs ++ more) ≡ suc (length bs) - 1 =
+    closed_len Plain bs more parts.1 ∙ omega arith in (
+      ap (λ x. x ∷ []) (eqb-true b 34 parts.0),
+      omega arith,
+      subst (λ n. Quoted 34 (bs ++ more) n) len (literal_spelled 34 quote (bs ++ more)),
+    )
 
 is_closed_literal : (bytes : List ℕ) → IsClosedLiteral 34 bytes → is_closed bytes ≡ true
 unfolding is_closed

@@ -1,4 +1,5 @@
--- The piece at a place: its class, how far it reaches, and that it alone is the longest lexeme there.
+-- The piece at a place: its class, how far it reaches, and that it alone is the longest lexeme
+-- there.
 use Rattle.std.proofs.Common.{◌≡◌, ◌⊎◌, ◌-◌, ◌<◌, ◌≤◌, ℕ, zero, suc, Bool, true, false, ◌==◌, ◌&&◌, ◌||◌, List, [], ◌∷◌, length, length-drop, take, drop, refl, sym, ap, subst, ◌∙◌, arith, inl, inr, ⊎_elim}
 use Rattle.std.proofs.lemmas.Bool.{eqb-true, and_from, and_parts, or_cases, or_left, or_right, true≢false}
 use Rattle.std.specs.List.{list_all, prefix_len}
@@ -23,7 +24,8 @@ letter-word b t = or_left _ _ t
 number-goes : (b : ℕ) (rest : List ℕ) → (is_digit b || (b == 46 && first_is is_digit rest)) ≡ true → goes_on 46 b ≡ true
 number-goes b rest t = ⊎_elim
     (λ d. or_left _ _ (or_left _ _ (or_right (is_letter b) (is_digit b) d)))
-    (λ e. let parts = and_parts (b == 46) (first_is is_digit rest) e in or_left _ _ (or_right (is_word b) (b == 46) parts.0))
+    (λ e. let parts = and_parts (b == 46) (first_is is_digit rest) e in or_left _ _
+    (or_right (is_word b) (b == 46) parts.0))
     (or_cases (is_digit b) (b == 46 && first_is is_digit rest) t)
 
 -- a second byte is there where a test on it passed
@@ -33,7 +35,8 @@ second b [] t = absurd (true≢false (sym t))
 second b (a ∷ r) t = (r, ap (λ x. x ∷ r) (eqb-true a b t))
 
 -- a blank takes a byte at least
-blank-some : (b : ℕ) (rest : List ℕ) → (is_blank b || (b == 92 && ends_join rest)) ≡ true → 1 ≤ blank_len false (b ∷ rest)
+blank-some : (b : ℕ) (rest : List ℕ) → (is_blank b || (b == 92 && ends_join rest)) ≡ true
+    → 1 ≤ blank_len false (b ∷ rest)
 blank-some b rest t =
     let goes : goes_on_blank false b rest ≡ true = grind arith in
     let e = blank-step false b rest goes in
@@ -43,7 +46,8 @@ record Bounds (n size : ℕ) : Type 0 where
   pub some : 1 ≤ n
   pub within : n ≤ size
 
-bounds_of : (b : ℕ) (rest : List ℕ) (class : Class) → Prefix b rest class → Bounds (length_in class (b ∷ rest)) (length (b ∷ rest))
+bounds_of : (b : ℕ) (rest : List ℕ) (class : Class) → Prefix b rest class
+    → Bounds (length_in class (b ∷ rest)) (length (b ∷ rest))
 unfolding length_in
 bounds_of b rest Name (at_name t) =
     let step = prefix-step is_word b rest (letter-word b t) in
@@ -101,11 +105,13 @@ blank_some text e some = subst (λ c. 1 ≤ length_in c text) e (piece-some text
 
 pub line_comment_two : (text : List ℕ) → class_at text ≡ LineNote → 0 < length text → 2 ≤ length text
 unfolding length_in
-line_comment_two text e some = let h = subst (λ c. length_in c text ≤ length text) e (piece-within text some) in omega arith
+line_comment_two text e some = let h =
+    subst (λ c. length_in c text ≤ length text) e (piece-within text some) in omega arith
 
 pub block_comment_two : (text : List ℕ) → class_at text ≡ BlockNote → 0 < length text → 2 ≤ length text
 unfolding length_in
-block_comment_two text e some = let h = subst (λ c. length_in c text ≤ length text) e (piece-within text some) in omega arith
+block_comment_two text e some = let h =
+    subst (λ c. length_in c text ≤ length text) e (piece-within text some) in omega arith
 
 pub ruleset first_bytes = (name_some, number_some, blank_some, line_comment_two, block_comment_two)
 
@@ -116,7 +122,8 @@ first_is-take p zero xs t = absurd (true≢false (sym t))
 first_is-take p (suc n) [] t = absurd (true≢false (sym t))
 first_is-take p (suc n) (x ∷ xs) t = t
 
-digit_kept : (last : ℕ) (xs : List ℕ) → first_is is_digit xs ≡ true → first_is is_digit (take (number_len last xs) xs) ≡ true
+digit_kept : (last : ℕ) (xs : List ℕ) → first_is is_digit xs ≡ true
+    → first_is is_digit (take (number_len last xs) xs) ≡ true
 unfolding first_is
 digit_kept last [] t = absurd (true≢false (sym t))
 digit_kept last (d ∷ xs) t =
@@ -124,40 +131,62 @@ digit_kept last (d ∷ xs) t =
     subst (λ n. first_is is_digit (take n (d ∷ xs)) ≡ true) (sym (number-step last d xs goes)) t
 
 number_prefix : (b : ℕ) (rest more : List ℕ) → (first_is is_digit rest ≡ true → first_is is_digit more ≡ true)
-    → (is_digit b || (b == 46 && first_is is_digit rest)) ≡ true → (is_digit b || (b == 46 && first_is is_digit more)) ≡ true
+    → (is_digit b || (b == 46 && first_is is_digit rest)) ≡ true
+    → (is_digit b || (b == 46 && first_is is_digit more)) ≡ true
 number_prefix b rest more along t = ⊎_elim
     (λ d. or_left (is_digit b) (b == 46 && first_is is_digit more) d)
     (λ e.
     let parts = and_parts (b == 46) (first_is is_digit rest) e in
-    or_right (is_digit b) (b == 46 && first_is is_digit more) (and_from (b == 46) (first_is is_digit more) parts.0 (along parts.1)))
+    or_right (is_digit b) (b == 46 && first_is is_digit more)
+    (and_from (b == 46) (first_is is_digit more) parts.0 (along parts.1)))
     (or_cases (is_digit b) (b == 46 && first_is is_digit rest) t)
 
 -- what the class at a place counts is a lexeme of that class
-spelled : (b : ℕ) (rest : List ℕ) (class : Class) → Prefix b rest class → Spells class (b ∷ rest) (length_in class (b ∷ rest)) ⊎ (class ≡ Byte)
+spelled : (b : ℕ) (rest : List ℕ) (class : Class) → Prefix b rest class
+    → Spells class (b ∷ rest) (length_in class (b ∷ rest)) ⊎ (class ≡ Byte)
 unfolding length_in is_identifier is_number
 spelled b rest Name (at_name t) =
     let inner = prefix_within is_word rest in
-    inl (subst (λ n. Spells Name (b ∷ rest) n) (sym (prefix-step is_word b rest (letter-word b t)))
-    (omega arith, and_from (is_letter b) (list_all is_word (take (prefix_len is_word rest) rest)) t (list_all-prefix is_word rest)))
+    inl (subst (λ n. Spells Name (b ∷ rest) n) (sym (prefix-step is_word b rest (letter-word b t))) (
+      omega arith,
+      and_from (is_letter b) (list_all is_word (take (prefix_len is_word rest) rest)) t
+          (list_all-prefix is_word rest),
+    ))
 spelled b rest Number (at_number t) =
     let inner = number_len-within b rest in
     let taken = take (number_len b rest) rest in
-    inl (subst (λ n. Spells Number (b ∷ rest) n) (sym (number-step 46 b rest (number-goes b rest t)))
-    (omega arith, and_from (is_digit b || (b == 46 && first_is is_digit taken)) (all_go_on b taken) (number_prefix b rest taken (digit_kept b rest) t) (all_go_on-counted b rest)))
+    inl (subst (λ n. Spells Number (b ∷ rest) n) (sym (number-step 46 b rest (number-goes b rest t))) (
+      omega arith,
+      and_from (is_digit b || (b == 46 && first_is is_digit taken)) (all_go_on b taken)
+          (number_prefix b rest taken (digit_kept b rest) t) (all_go_on-counted b rest),
+    ))
 spelled b rest Str (at_str t) =
     let n = literal_len 34 Plain rest in
     let e : n ≡ suc n - 1 = omega arith in
-    inl (ap (λ x. x ∷ []) (eqb-true b 34 t), omega arith, subst (λ m. Quoted 34 rest m) e (literal_spelled 34 quote rest))
+    inl (
+      ap (λ x. x ∷ []) (eqb-true b 34 t),
+      omega arith,
+      subst (λ m. Quoted 34 rest m) e (literal_spelled 34 quote rest),
+    )
 spelled b rest Chr (at_chr t) =
     let n = literal_len 39 Plain rest in
     let e : n ≡ suc n - 1 = omega arith in
-    inl (ap (λ x. x ∷ []) (eqb-true b 39 t), omega arith, subst (λ m. Quoted 39 rest m) e (literal_spelled 39 apostrophe rest))
+    inl (
+      ap (λ x. x ∷ []) (eqb-true b 39 t),
+      omega arith,
+      subst (λ m. Quoted 39 rest m) e (literal_spelled 39 apostrophe rest),
+    )
 spelled b rest LineNote (at_line_comment t) =
     let parts = and_parts (b == 47) (begins 47 rest) t in
     let more = second 47 rest parts.1 in
     let n = comment_len Plain (drop 1 rest) in
     let e : n ≡ suc (suc n) - 2 = omega arith in
-    inl (ap (λ x. x ∷ take 1 rest) (eqb-true b 47 parts.0) ∙ ap (λ l. 47 ∷ take 1 l) more.1, omega arith, subst (λ m. Commented (drop 1 rest) m) e (comment_spelled (drop 1 rest)))
+    inl (
+      ap (λ x. x ∷ take 1 rest) (eqb-true b 47 parts.0)
+          ∙ ap (λ l. 47 ∷ take 1 l) more.1,
+      omega arith,
+      subst (λ m. Commented (drop 1 rest) m) e (comment_spelled (drop 1 rest)),
+    )
 spelled b rest BlockNote (at_block_comment t) =
     let parts = and_parts (b == 47) (begins 42 rest) t in
     let more = second 42 rest parts.1 in
@@ -170,7 +199,8 @@ spelled b rest BlockNote (at_block_comment t) =
       ap (λ x. x ∷ take 1 rest) (eqb-true b 47 parts.0) ∙ ap (λ l. 47 ∷ take 1 l) more.1,
       (close.0, close.1, block_len-found xs close.0 close.1 ∙ ap (λ n. comment_end n close.0) long),
     )
-spelled b rest Blank (at_blank t) = inl (blank-some b rest t, blank_counted (length (b ∷ rest)) (b ∷ rest) (omega arith))
+spelled b rest Blank (at_blank t) =
+    inl (blank-some b rest t, blank_counted (length (b ∷ rest)) (b ∷ rest) (omega arith))
 spelled b rest Newline (at_newline t) = inl (ap (λ x. x ∷ []) (eqb-true b 10 t), refl)
 spelled b rest Byte (at_byte f) = inr refl
 
@@ -180,38 +210,53 @@ blanks_class (a_blank {a = a} {rest = rest} t more) some = class-blank a rest t
 blanks_class (a_join {a = a} {b = b} {rest = rest} x y more) some = rw (x, y) (class-join rest)
 blanks_class (a_cr_join {a = a} {b = b} {c = c} {rest = rest} x y z more) some = rw (x, y, z) (class-cr_join rest)
 
-first_from : (q : ℕ) (class : Class) → ((rest : List ℕ) → class_at (q ∷ rest) ≡ class) → (text : List ℕ) → take 1 text ≡ q ∷ [] → class_at text ≡ class
+first_from : (q : ℕ) (class : Class) → ((rest : List ℕ) → class_at (q ∷ rest) ≡ class) → (text : List ℕ)
+    → take 1 text ≡ q ∷ [] → class_at text ≡ class
 first_from q class known [] e = absurd (let x : ⊥ = cc in x)
-first_from q class known (b ∷ rest) e = subst (λ (a : ℕ). class_at (a ∷ rest) ≡ class) (let x : q ≡ b = cc in x) (known rest)
+first_from q class known (b ∷ rest) e =
+    subst (λ (a : ℕ). class_at (a ∷ rest) ≡ class) (let x : q ≡ b = cc in x) (known rest)
 
-two_from : (p q : ℕ) (class : Class) → ((rest : List ℕ) → class_at (p ∷ q ∷ rest) ≡ class) → (text : List ℕ) → take 2 text ≡ p ∷ q ∷ [] → (class_at text ≡ class) × (2 ≤ length text)
+two_from : (p q : ℕ) (class : Class) → ((rest : List ℕ) → class_at (p ∷ q ∷ rest) ≡ class) → (text : List ℕ)
+    → take 2 text ≡ p ∷ q ∷ [] → (class_at text ≡ class) × (2 ≤ length text)
 two_from p q class known [] e = absurd (let x : ⊥ = cc in x)
 two_from p q class known (a ∷ []) e = absurd (let x : ⊥ = cc in x)
 two_from p q class known (a ∷ b ∷ rest) e =
     let x : p ≡ a = cc in
-    let y : q ≡ b = cc in
-    (subst (λ (c : ℕ). class_at (c ∷ b ∷ rest) ≡ class) x (subst (λ (d : ℕ). class_at (p ∷ d ∷ rest) ≡ class) y (known rest)), omega arith)
+    let y : q ≡ b = cc in (
+      subst (λ (c : ℕ). class_at (c ∷ b ∷ rest) ≡ class) x
+          (subst (λ (d : ℕ). class_at (p ∷ d ∷ rest) ≡ class) y (known rest)),
+      omega arith,
+    )
 
 -- a name's or a number's bytes, taken apart
-name_parts : (text : List ℕ) (n : ℕ) → n ≤ length text → is_identifier (take n text) ≡ true → (class_at text ≡ Name) × (n ≤ prefix_len is_word text)
+name_parts : (text : List ℕ) (n : ℕ) → n ≤ length text → is_identifier (take n text) ≡ true
+    → (class_at text ≡ Name) × (n ≤ prefix_len is_word text)
 unfolding is_identifier
 name_parts text zero le t = absurd (true≢false (sym t))
 name_parts [] (suc n) le t = absurd (let x : ⊥ = omega arith in x)
 name_parts (b ∷ rest) (suc n) le t =
-    let parts = and_parts (is_letter b) (list_all is_word (take n rest)) t in
-    (class-letter b rest parts.0, prefix_longest is_word (b ∷ rest) (suc n) le (and_from (is_word b) (list_all is_word (take n rest)) (letter-word b parts.0) parts.1))
+    let parts = and_parts (is_letter b) (list_all is_word (take n rest)) t in (
+      class-letter b rest parts.0,
+      prefix_longest is_word (b ∷ rest) (suc n) le
+          (and_from (is_word b) (list_all is_word (take n rest)) (letter-word b parts.0) parts.1),
+    )
 
-number_parts : (text : List ℕ) (n : ℕ) → n ≤ length text → is_number (take n text) ≡ true → (class_at text ≡ Number) × (n ≤ number_len 46 text)
+number_parts : (text : List ℕ) (n : ℕ) → n ≤ length text → is_number (take n text) ≡ true
+    → (class_at text ≡ Number) × (n ≤ number_len 46 text)
 unfolding is_number all_go_on
 number_parts text zero le t = absurd (true≢false (sym t))
 number_parts [] (suc n) le t = absurd (let x : ⊥ = omega arith in x)
 number_parts (b ∷ rest) (suc n) le t =
     let parts = and_parts (is_digit b || (b == 46 && first_is is_digit (take n rest))) (all_go_on b (take n rest)) t in
-    let start = number_prefix b (take n rest) rest (first_is-take is_digit n rest) parts.0 in
-    (class-number b rest start, number_longest 46 (b ∷ rest) (suc n) le (and_from (goes_on 46 b) (all_go_on b (take n rest)) (number-goes b rest start) parts.1))
+    let start = number_prefix b (take n rest) rest (first_is-take is_digit n rest) parts.0 in (
+      class-number b rest start,
+      number_longest 46 (b ∷ rest) (suc n) le
+          (and_from (goes_on 46 b) (all_go_on b (take n rest)) (number-goes b rest start) parts.1),
+    )
 
 -- a lexeme of a class says what the class is, and is no longer than what that class counts
-parts_of : (class : Class) (text : List ℕ) (n : ℕ) → Spells class text n → (class_at text ≡ class) × (n ≤ length_in class text)
+parts_of : (class : Class) (text : List ℕ) (n : ℕ) → Spells class text n
+    → (class_at text ≡ class) × (n ≤ length_in class text)
 unfolding length_in
 parts_of Name text n h = name_parts text n h.0 h.1
 parts_of Number text n h = number_parts text n h.0 h.1
@@ -230,7 +275,8 @@ parts_of BlockNote text n h =
     let close = h.1 in
     let size : length (drop 2 text) ≡ length text - 2 = length-drop 2 text in
     let long : length text ≡ suc (suc (length (drop 2 text))) = omega (arith, two.1) in
-    let e : n ≡ suc (suc (block_len false (drop 2 text))) = close.2 ∙ ap (λ m. comment_end m close.0) long ∙ sym (block_len-found (drop 2 text) close.0 close.1) in
+    let e : n ≡ suc (suc (block_len false (drop 2 text))) =
+    close.2 ∙ ap (λ m. comment_end m close.0) long ∙ sym (block_len-found (drop 2 text) close.0 close.1) in
     (two.0, omega arith)
 parts_of Blank text n h = (blanks_class h.1 h.0, blank_longest h.1 false)
 parts_of Newline text n h = (first_from 10 Newline class-feed text h.0, omega (arith, h.1))
@@ -294,4 +340,5 @@ lexeme_within Byte text n h = omega (arith, h.1)
 
 -- and no longer than what is counted
 pub lexeme-longest : (class : Class) (text : List ℕ) (n : ℕ) → IsLexeme class text n → n ≤ piece_len text
-lexeme-longest class text n h = subst (λ c. n ≤ length_in c text) (sym (lexeme-class class text n h)) (lexeme_within class text n h)
+lexeme-longest class text n h =
+    subst (λ c. n ≤ length_in c text) (sym (lexeme-class class text n h)) (lexeme_within class text n h)

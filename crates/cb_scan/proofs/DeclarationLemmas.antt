@@ -42,7 +42,8 @@ or_else_none None = refl
 or_else_none (Some t) = refl
 
 -- a token is a `(`, a `*`, a name, or none of these
-pick : (P : Bool → Bool → Bool → Type 0) → P true false false → P false true false → P false false true → P false false false → (r : Role) → P (is_mark 40 r) (is_mark 42 r) (is_name_token r)
+pick : (P : Bool → Bool → Bool → Type 0) → P true false false → P false true false → P false false true
+    → P false false false → (r : Role) → P (is_mark 40 r) (is_mark 42 r) (is_name_token r)
 pick P open_ star name other (Word w) = elim (kind_is_name w) as (λ b. P false false b) [ true ↦ name | false ↦ other ]
 pick P open_ star name other Str = other
 pick P open_ star name other Other = other
@@ -57,7 +58,8 @@ abbrev first_at : Bool → List Nested → Option Token
 first_at a xs = if a && begins_with_star xs then stars_on xs else pointer_name xs
 
 abbrev stars_at : Bool → Bool → Bool → Token → List Nested → Option Token
-stars_at a s w t xs = option_map_or (λ name. Some name) (if s then name_after_stars xs else (if w then Some t else None)) (first_at a xs)
+stars_at a s w t xs = option_map_or (λ name. Some name)
+    (if s then name_after_stars xs else (if w then Some t else None)) (first_at a xs)
 
 abbrev on_next : Bool → Bool → Bool → Token → Reach → List Nested → Option Token
 on_next a s w t Nothing xs = first_at a xs
@@ -65,9 +67,12 @@ on_next a s w t Paren xs = if s then stars_at a s w t xs else first_at a xs
 on_next a s w t Stars xs = stars_at a s w t xs
 
 abbrev IsStep : Token → Reach → List Nested → Bool → Bool → Bool → Type 0
-IsStep t r xs a s w = on_next a s w t r xs ≡ or_else (if w && is_starred r then Some t else None) (pointer_on (if a then Paren else (if s && is_reached r then Stars else Nothing)) xs)
+IsStep t r xs a s w = on_next a s w t r xs
+    ≡ or_else (if w && is_starred r then Some t else None)
+    (pointer_on (if a then Paren else (if s && is_reached r then Stars else Nothing)) xs)
 
-one_step : (t : Token) (r : Reach) (xs : List Nested) → IsStep t r xs (is_mark 40 t.role) (is_mark 42 t.role) (is_name_token t.role)
+one_step : (t : Token) (r : Reach) (xs : List Nested)
+    → IsStep t r xs (is_mark 40 t.role) (is_mark 42 t.role) (is_name_token t.role)
 one_step t Nothing xs = pick (IsStep t Nothing xs) refl refl refl refl t.role
 one_step t Paren xs = pick (IsStep t Paren xs) refl refl refl refl t.role
 one_step t Stars xs = pick (IsStep t Stars xs) refl refl refl refl t.role
@@ -75,20 +80,25 @@ one_step t Stars xs = pick (IsStep t Stars xs) refl refl refl refl t.role
 abbrev at_nesting : Token → ℕ → Nested
 at_nesting t n = record { token = t; nesting = n }
 
-pointer_first : (t : Token) (n : ℕ) (r : Reach) (xs : List Nested) → pointer_on r (at_nesting t n ∷ xs) ≡ on_next (is_mark 40 t.role) (is_mark 42 t.role) (is_name_token t.role) t r xs
+pointer_first : (t : Token) (n : ℕ) (r : Reach) (xs : List Nested)
+    → pointer_on r (at_nesting t n ∷ xs) ≡ on_next (is_mark 40 t.role) (is_mark 42 t.role) (is_name_token t.role) t r xs
 unfolding pointer_name name_after_stars
 pointer_first t n Nothing xs = refl
 pointer_first t n Paren xs = refl
 pointer_first t n Stars xs = refl
 
-pointer_step : (p : Option Token) (r : Reach) (t : Token) (n : ℕ) (xs : List Nested) → or_else p (pointer_on r (at_nesting t n ∷ xs)) ≡ or_else (pointer_after p r t) (pointer_on (reach_after r t) xs)
+pointer_step : (p : Option Token) (r : Reach) (t : Token) (n : ℕ) (xs : List Nested)
+    → or_else p (pointer_on r (at_nesting t n ∷ xs)) ≡ or_else (pointer_after p r t) (pointer_on (reach_after r t) xs)
 pointer_step (Some name) r t n xs = refl
 pointer_step None r t n xs = pointer_first t n r xs ∙ one_step t r xs
 
 -- one more token of a part
-name_step : (d : Declaration) (t : Token) (xs : List Nested) → name_on d (at_nesting t d.nesting ∷ xs) ≡ name_on (goes_on d t) xs
+name_step : (d : Declaration) (t : Token) (xs : List Nested)
+    → name_on d (at_nesting t d.nesting ∷ xs) ≡ name_on (goes_on d t) xs
 unfolding last_name
-name_step d t xs = ap (λ o. or_else o (last_name (if is_name_token t.role && d.nesting == 0 then Some t else d.last) xs)) (pointer_step d.pointer d.reach t d.nesting xs)
+name_step d t xs = ap (λ o. or_else o
+    (last_name (if is_name_token t.role && d.nesting == 0 then Some t else d.last) xs))
+    (pointer_step d.pointer d.reach t d.nesting xs)
 
 pointer_none : (r : Reach) → pointer_on r [] ≡ None
 unfolding pointer_name name_after_stars
@@ -99,13 +109,16 @@ pointer_none Stars = refl
 -- the end of a part
 name_end : (d : Declaration) → name_on d [] ≡ name_of d
 unfolding last_name
-name_end d = ap (λ o. or_else (or_else d.pointer o) d.last) (pointer_none d.reach) ∙ ap (λ o. or_else o d.last) (or_else_none d.pointer)
+name_end d = ap (λ o. or_else (or_else d.pointer o) d.last) (pointer_none d.reach)
+    ∙ ap (λ o. or_else o d.last) (or_else_none d.pointer)
 
 -- a whole part
 name_whole : (xs : List Nested) → option_to_list (name_on declaration_start xs) ≡ part_name xs
 name_whole xs = by_cases (pointer_name xs)
   where
-    by_cases : (o : Option Token) → option_to_list (or_else o (last_name None xs)) ≡ option_map_or (λ name. name ∷ []) o (option_to_list (last_name None xs))
+    by_cases : (o : Option Token)
+        → option_to_list (or_else o (last_name None xs))
+        ≡ option_map_or (λ name. name ∷ []) o (option_to_list (last_name None xs))
     by_cases None = refl
     by_cases (Some name) = refl
 
@@ -124,17 +137,20 @@ names_whole : (ps : List (List Nested)) → names_on declaration_start ps ≡ fl
 names_whole [] = name_whole [] ∙ part_none
 names_whole (p ∷ ps) = ap (λ l. l ++ flat_map part_name ps) (name_whole p)
 
-names_first : (d : Declaration) (t : Token) (ps : List (List Nested)) → names_on (goes_on d t) ps ≡ names_on d (onto_first (at_nesting t d.nesting) ps)
+names_first : (d : Declaration) (t : Token) (ps : List (List Nested))
+    → names_on (goes_on d t) ps ≡ names_on d (onto_first (at_nesting t d.nesting) ps)
 names_first d t [] = ap option_to_list (sym (name_step d t [])) ∙ sym (append-nil _)
 names_first d t (p ∷ ps) = ap (λ o. option_to_list o ++ flat_map part_name ps) (sym (name_step d t p))
 
 -- a comma opens and closes nothing
-comma_nesting : (r : Role) (n : ℕ) → (is_mark 44 r && n == 0) ≡ true → (if is_mark 40 r || is_mark 91 r then n + 1 else (if is_mark 41 r || is_mark 93 r then n - 1 else n)) ≡ 0
+comma_nesting : (r : Role) (n : ℕ) → (is_mark 44 r && n == 0) ≡ true
+    → (if is_mark 40 r || is_mark 91 r then n + 1 else (if is_mark 41 r || is_mark 93 r then n - 1 else n)) ≡ 0
 comma_nesting (Word w) n is = absurd (false≢true is)
 comma_nesting Str n is = absurd (false≢true is)
 comma_nesting Other n is = absurd (false≢true is)
 comma_nesting (Mark x) n is =
-    (λ i. if eqb-true x 44 (and_left _ _ is) i == 40 || eqb-true x 44 (and_left _ _ is) i == 91 then n + 1 else (if eqb-true x 44 (and_left _ _ is) i == 41 || eqb-true x 44 (and_left _ _ is) i == 93 then n - 1 else n))
+    (λ i. if eqb-true x 44 (and_left _ _ is) i == 40 || eqb-true x 44 (and_left _ _ is) i == 91 then n + 1
+    else (if eqb-true x 44 (and_left _ _ is) i == 41 || eqb-true x 44 (and_left _ _ is) i == 93 then n - 1 else n))
     ∙ eqb-true n 0 (and_right _ _ is)
   where
     and_left : (a b : Bool) → (a && b) ≡ true → a ≡ true
@@ -145,16 +161,22 @@ comma_nesting (Mark x) n is =
     and_right true b is = is
     and_right false b is = absurd (false≢true is)
 
-names_are : (d : Declaration) (ts : List Token) → names_from d ts ≡ names_on d (slice_split parts_here (nested d.nesting ts))
+names_are : (d : Declaration) (ts : List Token)
+    → names_from d ts ≡ names_on d (slice_split parts_here (nested d.nesting ts))
 unfolding nested after
 names_are d [] = ap option_to_list (sym (name_end d)) ∙ sym (append-nil _)
 names_are d (t ∷ ts) =
-    elim (parts_at d.nesting t) as (λ b. parts_at d.nesting t ≡ b → option_to_list (if b then name_of d else None) ++ names_from (if b then declaration_start else goes_on d t) ts ≡ names_on d (cond b ([] ∷ slice_split parts_here (nested (nesting_after t d.nesting) ts)) (onto_first (at_nesting t d.nesting) (slice_split parts_here (nested (nesting_after t d.nesting) ts))))) [
+    elim (parts_at d.nesting t) as (λ b. parts_at d.nesting t ≡ b
+    → option_to_list (if b then name_of d else None) ++ names_from (if b then declaration_start else goes_on d t) ts
+    ≡ names_on d (cond b ([] ∷ slice_split parts_here (nested (nesting_after t d.nesting) ts))
+    (onto_first (at_nesting t d.nesting) (slice_split parts_here (nested (nesting_after t d.nesting) ts))))) [
       | true ↦ λ e.
           (λ i. option_to_list (sym (name_end d) i) ++ names_are declaration_start ts i)
           ∙ ap (λ l. option_to_list (name_on d []) ++ l) (names_whole (slice_split parts_here (nested 0 ts)))
-          ∙ ap (λ n. option_to_list (name_on d []) ++ flat_map part_name (slice_split parts_here (nested n ts))) (sym (comma_nesting t.role d.nesting e))
-      | false ↦ λ e. names_are (goes_on d t) ts ∙ names_first d t (slice_split parts_here (nested (nesting_after t d.nesting) ts))
+          ∙ ap (λ n. option_to_list (name_on d []) ++ flat_map part_name (slice_split parts_here (nested n ts)))
+          (sym (comma_nesting t.role d.nesting e))
+      | false ↦ λ e. names_are (goes_on d t) ts
+          ∙ names_first d t (slice_split parts_here (nested (nesting_after t d.nesting) ts))
     ] refl
 
 -- the names of a typedef
@@ -184,9 +206,11 @@ goes_on_by r t = record {
 }
 
 -- the word itself, taken or not, says nothing of the names
-pub names_after : (t : Token) (b : Bool) (ts : List Token) → is_typedef t.role ≡ true → names_from declaration_start ((if b then t ∷ [] else []) ++ ts) ≡ names_from declaration_start ts
+pub names_after : (t : Token) (b : Bool) (ts : List Token) → is_typedef t.role ≡ true
+    → names_from declaration_start ((if b then t ∷ [] else []) ++ ts) ≡ names_from declaration_start ts
 unfolding after
 names_after t false ts is = refl
 names_after t true ts is =
     let word : t.role ≡ Word Typedef = typedef_only t.role is in
-    λ i. option_to_list (if is_mark 44 (word i) && 0 == 0 then None else None) ++ names_from (if is_mark 44 (word i) && 0 == 0 then declaration_start else goes_on_by (word i) t) ts
+    λ i. option_to_list (if is_mark 44 (word i) && 0 == 0 then None else None)
+    ++ names_from (if is_mark 44 (word i) && 0 == 0 then declaration_start else goes_on_by (word i) t) ts

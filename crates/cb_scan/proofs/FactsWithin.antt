@@ -37,9 +37,12 @@ SpanWithin text t = IsWithin text t.span
 
 -- ---- places in a list
 -- the first element that passes is one of the list
-found_among : {X : Type 0} (Q : X → Type 0) (test : X → Bool) (xs : List X) → AllByRecursion Q xs → MatchOption (find test xs) (Unit {0}) Q
+found_among : {X : Type 0} (Q : X → Type 0) (test : X → Bool) (xs : List X) → AllByRecursion Q xs
+    → MatchOption (find test xs) (Unit {0}) Q
 found_among Q test [] a = tt
-found_among Q test (x ∷ xs) a = elim (test x) as (λ b. MatchOption (cond b (Some x) (find test xs)) (Unit {0}) Q) [ true ↦ a.0 | false ↦ found_among Q test xs a.1 ]
+found_among Q test (x ∷ xs) a =
+    elim (test x) as (λ b. MatchOption (cond b (Some x) (find test xs)) (Unit {0}) Q)
+    [ true ↦ a.0 | false ↦ found_among Q test xs a.1 ]
 
 -- a range up to a bound stays below it
 range_below : (k n bound : ℕ) → k + n ≤ bound → AllByRecursion (λ j. j < bound) (range_with_len k n)
@@ -47,219 +50,317 @@ range_below k zero bound le = tt
 range_below k (suc n) bound le = (omega arith, range_below (k + 1) n bound (omega arith))
 
 -- a token of the list, or none after its end
-at_any : (P : Token → Type 0) (ts : List Token) (k : ℕ) → (length ts ≤ k → P no_token) → AllByRecursion P ts → P (token_at ts k)
+at_any : (P : Token → Type 0) (ts : List Token) (k : ℕ) → (length ts ≤ k → P no_token) → AllByRecursion P ts
+    → P (token_at ts k)
 at_any P [] k none a = none (omega arith)
 at_any P (t ∷ ts) zero none a = a.0
 at_any P (t ∷ ts) (suc k) none a = at_any P ts k (λ past. none (omega arith)) a.1
 
 -- ---- typedefs
-all_taken : (P : Token → Type 0) (ts : List Token) (k n : ℕ) → k + n ≤ length ts → AllByRecursion P ts → AllByRecursion P (flat_map (taken_at ts) (range_with_len k n))
+all_taken : (P : Token → Type 0) (ts : List Token) (k n : ℕ) → k + n ≤ length ts → AllByRecursion P ts
+    → AllByRecursion P (flat_map (taken_at ts) (range_with_len k n))
 all_taken P ts k zero within a = tt
 all_taken P ts k (suc n) within a =
     all-append P (taken_at ts k) (flat_map (taken_at ts) (range_with_len (k + 1) n))
-    (elim (depth ts k == 0 && not (is_mark 123 (token_at ts k).role || is_mark 125 (token_at ts k).role)) as (λ b. AllByRecursion P (cond b (token_at ts k ∷ []) [])) [ true ↦ (at_any P ts k (λ past. absurd (omega arith)) a, tt) | false ↦ tt ])
+    (elim (depth ts k == 0 && not
+    (is_mark 123 (token_at ts k).role || is_mark 125 (token_at ts k).role)) as (λ b. AllByRecursion P
+    (cond b (token_at ts k ∷ []) [])) [ true ↦ (at_any P ts k (λ past. absurd (omega arith)) a, tt) | false ↦ tt ])
     (all_taken P ts (k + 1) n (omega arith) a)
 
 module _ (P : Token → Type 0) where
-  all_nested : (n : ℕ) (ts : List Token) → AllByRecursion P ts → AllByRecursion (λ (x : Nested). P x.token) (nested n ts)
+  all_nested : (n : ℕ) (ts : List Token) → AllByRecursion P ts
+      → AllByRecursion (λ (x : Nested). P x.token) (nested n ts)
   unfolding nested
   all_nested n [] a = tt
   all_nested n (t ∷ ts) a = (a.0, all_nested (nesting_after t n) ts a.1)
 
-  all_last : (found : Option Token) (xs : List Nested) → MatchOption found (Unit {0}) P → AllByRecursion (λ (x : Nested). P x.token) xs → MatchOption (last_name found xs) (Unit {0}) P
+  all_last : (found : Option Token) (xs : List Nested) → MatchOption found (Unit {0}) P
+      → AllByRecursion (λ (x : Nested). P x.token) xs → MatchOption (last_name found xs) (Unit {0}) P
   unfolding last_name
   all_last found [] f a = f
   all_last found (x ∷ xs) f a =
       all_last (cond (is_name_token x.token.role && x.nesting == 0) (Some x.token) found) xs
-      (elim (is_name_token x.token.role && x.nesting == 0) as (λ b. MatchOption (cond b (Some x.token) found) (Unit {0}) P) [ true ↦ a.0 | false ↦ f ])
+      (elim (is_name_token x.token.role
+      && x.nesting == 0) as (λ b. MatchOption (cond b (Some x.token) found) (Unit {0}) P)
+      [ true ↦ a.0 | false ↦ f ])
       a.1
 
-  all_after_stars : (xs : List Nested) → AllByRecursion (λ (x : Nested). P x.token) xs → MatchOption (name_after_stars xs) (Unit {0}) P
+  all_after_stars : (xs : List Nested) → AllByRecursion (λ (x : Nested). P x.token) xs
+      → MatchOption (name_after_stars xs) (Unit {0}) P
   unfolding name_after_stars
   all_after_stars [] a = tt
   all_after_stars (x ∷ xs) a =
-      elim (is_mark 42 x.token.role) as (λ b. MatchOption (cond b (name_after_stars xs) (cond (is_name_token x.token.role) (Some x.token) None)) (Unit {0}) P) [
+      elim (is_mark 42 x.token.role) as (λ b. MatchOption
+      (cond b (name_after_stars xs) (cond (is_name_token x.token.role) (Some x.token) None)) (Unit {0}) P) [
         | true ↦ all_after_stars xs a.1
-        | false ↦ elim (is_name_token x.token.role) as (λ b. MatchOption (cond b (Some x.token) None) (Unit {0}) P) [ true ↦ a.0 | false ↦ tt ]
+        | false ↦ elim (is_name_token x.token.role) as (λ b. MatchOption (cond b (Some x.token) None) (Unit {0}) P)
+            [ true ↦ a.0 | false ↦ tt ]
       ]
 
-  all_pointer : (xs : List Nested) → AllByRecursion (λ (x : Nested). P x.token) xs → MatchOption (pointer_name xs) (Unit {0}) P
+  all_pointer : (xs : List Nested) → AllByRecursion (λ (x : Nested). P x.token) xs
+      → MatchOption (pointer_name xs) (Unit {0}) P
   unfolding pointer_name
   all_pointer [] a = tt
   all_pointer (x ∷ xs) a =
-      elim (is_mark 40 x.token.role && begins_with_star xs) as (λ b. MatchOption (cond b (option_map_or (λ name. Some name) (name_after_stars xs) (pointer_name xs)) (pointer_name xs)) (Unit {0}) P) [
-        | true ↦ elim (name_after_stars xs) as (λ o. MatchOption o (Unit {0}) P → MatchOption (option_map_or (λ name. Some name) o (pointer_name xs)) (Unit {0}) P) [ None ↦ λ _. all_pointer xs a.1 | Some t ↦ λ p. p ] (all_after_stars xs a.1)
+      elim (is_mark 40 x.token.role
+      && begins_with_star xs) as (λ b. MatchOption
+      (cond b (option_map_or (λ name. Some name) (name_after_stars xs) (pointer_name xs)) (pointer_name xs))
+      (Unit {0}) P) [
+        | true ↦ elim (name_after_stars xs) as (λ o. MatchOption o (Unit {0}) P
+            → MatchOption (option_map_or (λ name. Some name) o (pointer_name xs)) (Unit {0}) P)
+            [ None ↦ λ _. all_pointer xs a.1 | Some t ↦ λ p. p ] (all_after_stars xs a.1)
         | false ↦ all_pointer xs a.1
       ]
 
   all_part : (part : List Nested) → AllByRecursion (λ (x : Nested). P x.token) part → AllByRecursion P (part_name part)
   all_part part a =
-      elim (pointer_name part) as (λ o. MatchOption o (Unit {0}) P → AllByRecursion P (option_map_or (λ name. name ∷ []) o (option_to_list (last_name None part)))) [
-        | None ↦ λ _. elim (last_name None part) as (λ o. MatchOption o (Unit {0}) P → AllByRecursion P (option_to_list o)) [ None ↦ λ _. tt | Some t ↦ λ p. (p, tt) ] (all_last None part tt a)
+      elim (pointer_name part) as (λ o. MatchOption o (Unit {0}) P
+      → AllByRecursion P (option_map_or (λ name. name ∷ []) o (option_to_list (last_name None part)))) [
+        | None ↦ λ _. elim (last_name None part) as (λ o. MatchOption o (Unit {0}) P
+            → AllByRecursion P (option_to_list o)) [ None ↦ λ _. tt | Some t ↦ λ p. (p, tt) ] (all_last None part tt a)
         | Some t ↦ λ p. (p, tt)
       ] (all_pointer part a)
 
-  all_parts : (ls : List (List Nested)) → AllByRecursion (AllByRecursion (λ (x : Nested). P x.token)) ls → AllByRecursion P (flat_map part_name ls)
+  all_parts : (ls : List (List Nested)) → AllByRecursion (AllByRecursion (λ (x : Nested). P x.token)) ls
+      → AllByRecursion P (flat_map part_name ls)
   all_parts [] a = tt
   all_parts (l ∷ ls) a = all-append P (part_name l) (flat_map part_name ls) (all_part l a.0) (all_parts ls a.1)
 
   all_typedef_names : (ts : List Token) → AllByRecursion P ts → AllByRecursion P (typedef_names ts)
-  all_typedef_names ts a = all_parts (parts ts) (all-split (λ (x : Nested). P x.token) parts_here (nested 0 ts) (all_nested 0 ts a))
+  all_typedef_names ts a =
+      all_parts (parts ts) (all-split (λ (x : Nested). P x.token) parts_here (nested 0 ts) (all_nested 0 ts a))
 
   all_typedef_at : (ts : List Token) (k : ℕ) → k < length ts → AllByRecursion P ts → AllByRecursion P (typedef_at ts k)
   all_typedef_at ts k within a =
-      elim (begins_typedef ts k) as (λ b. AllByRecursion P (cond b (option_map_or (λ j. cond (ends_declaration ts j) (typedef_names (taken ts k j)) []) (typedef_stop ts (suc k)) []) [])) [
-        | true ↦ elim (typedef_stop ts (suc k)) as (λ o. MatchOption o (Unit {0}) (λ j. j < length ts) → AllByRecursion P (option_map_or (λ j. cond (ends_declaration ts j) (typedef_names (taken ts k j)) []) o [])) [
-          | None ↦ λ _. tt
-          | Some j ↦ λ below. elim (ends_declaration ts j) as (λ b. AllByRecursion P (cond b (typedef_names (taken ts k j)) [])) [ true ↦ all_typedef_names (taken ts k j) (all_taken P ts k (j - k) (omega arith) a) | false ↦ tt ]
-        ] (found_among (λ j. j < length ts) (λ j. ends_declaration ts j || begins_typedef ts j) (range_with_len (suc k) (length ts - suc k)) (range_below (suc k) (length ts - suc k) (length ts) (omega arith)))
+      elim (begins_typedef ts k) as (λ b. AllByRecursion P
+      (cond b (option_map_or (λ j. cond (ends_declaration ts j) (typedef_names (taken ts k j)) [])
+      (typedef_stop ts (suc k)) []) [])) [
+        | true ↦ elim (typedef_stop ts (suc k)) as (λ o. MatchOption o (Unit {0}) (λ j. j < length ts)
+            → AllByRecursion P (option_map_or (λ j. cond (ends_declaration ts j) (typedef_names (taken ts k j)) []) o
+            [])) [
+              | None ↦ λ _. tt
+              | Some j ↦ λ below. elim (ends_declaration ts j) as (λ b. AllByRecursion P
+                  (cond b (typedef_names (taken ts k j)) []))
+                  [ true ↦ all_typedef_names (taken ts k j) (all_taken P ts k (j - k) (omega arith) a) | false ↦ tt ]
+            ] (found_among (λ j. j < length ts) (λ j. ends_declaration ts j || begins_typedef ts j)
+            (range_with_len (suc k) (length ts - suc k))
+            (range_below (suc k) (length ts - suc k) (length ts) (omega arith)))
         | false ↦ tt
       ]
 
-  all_typedefs_from : (ts : List Token) (k n : ℕ) → k + n ≤ length ts → AllByRecursion P ts → AllByRecursion P (flat_map (typedef_at ts) (range_with_len k n))
+  all_typedefs_from : (ts : List Token) (k n : ℕ) → k + n ≤ length ts → AllByRecursion P ts
+      → AllByRecursion P (flat_map (typedef_at ts) (range_with_len k n))
   all_typedefs_from ts k zero within a = tt
-  all_typedefs_from ts k (suc n) within a = all-append P (typedef_at ts k) _ (all_typedef_at ts k (omega arith) a) (all_typedefs_from ts (k + 1) n (omega arith) a)
+  all_typedefs_from ts k (suc n) within a =
+      all-append P (typedef_at ts k) _ (all_typedef_at ts k (omega arith) a)
+      (all_typedefs_from ts (k + 1) n (omega arith) a)
 
   pub all_typedefs : (ts : List Token) → AllByRecursion P ts → AllByRecursion P (typedefs ts)
   all_typedefs ts a = all_typedefs_from ts 0 (length ts) (omega arith) a
 
 -- ---- order
-all_put : {X : Type 0} (key : X → List ℕ) (Q : X → Type 0) (x : X) (ys : List X) → Q x → AllByRecursion Q ys → AllByRecursion Q (put key x ys)
+all_put : {X : Type 0} (key : X → List ℕ) (Q : X → Type 0) (x : X) (ys : List X) → Q x → AllByRecursion Q ys
+    → AllByRecursion Q (put key x ys)
 unfolding put
 all_put key Q x [] q a = (q, tt)
-all_put key Q x (y ∷ ys) q a = elim (goes_first key x y) as (λ b. AllByRecursion Q (cond b (x ∷ y ∷ ys) (y ∷ put key x ys))) [ true ↦ (q, a) | false ↦ (a.0, all_put key Q x ys q a.1) ]
+all_put key Q x (y ∷ ys) q a =
+    elim (goes_first key x y) as (λ b. AllByRecursion Q (cond b (x ∷ y ∷ ys) (y ∷ put key x ys)))
+    [ true ↦ (q, a) | false ↦ (a.0, all_put key Q x ys q a.1) ]
 
-all_in_order : {X : Type 0} (key : X → List ℕ) (Q : X → Type 0) (xs : List X) → AllByRecursion Q xs → AllByRecursion Q (in_order key xs)
+all_in_order : {X : Type 0} (key : X → List ℕ) (Q : X → Type 0) (xs : List X) → AllByRecursion Q xs
+    → AllByRecursion Q (in_order key xs)
 unfolding in_order
 all_in_order key Q [] a = tt
 all_in_order key Q (x ∷ xs) a = all_put key Q x (in_order key xs) a.0 (all_in_order key Q xs a.1)
 
 -- ---- functions, macros and calls
-all_function_names : (P : Token → Type 0) (ts : List Token) (k n : ℕ) → AllByRecursion P ts → AllByRecursion P (map (λ (f : Function). f.name) (flat_map (function_at ts) (range_with_len k n)))
+all_function_names : (P : Token → Type 0) (ts : List Token) (k n : ℕ) → AllByRecursion P ts
+    → AllByRecursion P (map (λ (f : Function). f.name) (flat_map (function_at ts) (range_with_len k n)))
 all_function_names P ts k zero a = tt
 all_function_names P ts k (suc n) a =
-    subst (AllByRecursion P) (sym (map-append (λ (f : Function). f.name) (function_at ts k) (flat_map (function_at ts) (range_with_len (k + 1) n))))
-    (all-append P _ _ (named_in_head P ts k (all-drop P (head_start ts k) (take k ts) (all-take P k ts a))) (all_function_names P ts (k + 1) n a))
+    subst (AllByRecursion P)
+    (sym (map-append (λ (f : Function). f.name) (function_at ts k)
+    (flat_map (function_at ts) (range_with_len (k + 1) n))))
+    (all-append P _ _ (named_in_head P ts k (all-drop P (head_start ts k) (take k ts) (all-take P k ts a)))
+    (all_function_names P ts (k + 1) n a))
 
 module _ (S : Span → Type 0) where
-  calls_from_body : (ts : List Token) (caller : Span) (k n : ℕ) → S no_token.span → S caller → AllByRecursion (λ (t : Token). S t.span) ts → AllByRecursion (λ (c : Call). S c.callee × S c.caller) (flat_map (call_at ts caller) (range_with_len k n))
+  calls_from_body : (ts : List Token) (caller : Span) (k n : ℕ) → S no_token.span → S caller
+      → AllByRecursion (λ (t : Token). S t.span) ts
+      → AllByRecursion (λ (c : Call). S c.callee × S c.caller) (flat_map (call_at ts caller) (range_with_len k n))
   calls_from_body ts caller k zero none s a = tt
   calls_from_body ts caller k (suc n) none s a =
       all-append (λ (c : Call). S c.callee × S c.caller) (call_at ts caller k) _
-      (elim (is_call (token_at ts k) (token_at ts (suc k))) as (λ b. AllByRecursion (λ (c : Call). S c.callee × S c.caller) (cond b (call_of caller (token_at ts k) ∷ []) [])) [ true ↦ ((at_any (λ t. S t.span) ts k (λ _. none) a, s), tt) | false ↦ tt ])
+      (elim (is_call (token_at ts k) (token_at ts (suc k))) as (λ b. AllByRecursion
+      (λ (c : Call). S c.callee × S c.caller) (cond b (call_of caller (token_at ts k) ∷ []) []))
+      [ true ↦ ((at_any (λ t. S t.span) ts k (λ _. none) a, s), tt) | false ↦ tt ])
       (calls_from_body ts caller (k + 1) n none s a)
 
-  calls_of_all : (ts : List Token) (fs : List Function) → S no_token.span → AllByRecursion (λ (t : Token). S t.span) (map (λ (f : Function). f.name) fs) → AllByRecursion (λ (t : Token). S t.span) ts → AllByRecursion (λ (c : Call). S c.callee × S c.caller) (flat_map (calls_of_function ts) fs)
+  calls_of_all : (ts : List Token) (fs : List Function) → S no_token.span
+      → AllByRecursion (λ (t : Token). S t.span) (map (λ (f : Function). f.name) fs)
+      → AllByRecursion (λ (t : Token). S t.span) ts
+      → AllByRecursion (λ (c : Call). S c.callee × S c.caller) (flat_map (calls_of_function ts) fs)
   calls_of_all ts [] none names a = tt
   calls_of_all ts (f ∷ fs) none names a =
-      all-append (λ (c : Call). S c.callee × S c.caller) _ _ (calls_from_body ts f.name.span f.body (f.end - f.body) none names.0 a) (calls_of_all ts fs none names.1 a)
+      all-append (λ (c : Call). S c.callee × S c.caller) _ _
+      (calls_from_body ts f.name.span f.body (f.end - f.body) none names.0 a) (calls_of_all ts fs none names.1 a)
 
-  among_calls : (caller : Span) (l : List Token) → S caller → AllByRecursion (λ (t : Token). S t.span) l → AllByRecursion (λ (c : Call). S c.callee × S c.caller) (calls_among caller l)
+  among_calls : (caller : Span) (l : List Token) → S caller → AllByRecursion (λ (t : Token). S t.span) l
+      → AllByRecursion (λ (c : Call). S c.callee × S c.caller) (calls_among caller l)
   unfolding calls_among
   among_calls caller [] s a = tt
   among_calls caller (t ∷ []) s a = tt
   among_calls caller (t ∷ u ∷ l) s a =
-      elim (is_call t u) as (λ b. AllByRecursion (λ (c : Call). S c.callee × S c.caller) (cond b (call_of caller t ∷ calls_among caller (u ∷ l)) (calls_among caller (u ∷ l)))) [
+      elim (is_call t u) as (λ b. AllByRecursion (λ (c : Call). S c.callee × S c.caller)
+      (cond b (call_of caller t ∷ calls_among caller (u ∷ l)) (calls_among caller (u ∷ l)))) [
         | true ↦ ((a.0, s), among_calls caller (u ∷ l) s a.1)
         | false ↦ among_calls caller (u ∷ l) s a.1
       ]
 
-  after_the_arguments : (l : List Token) → AllByRecursion (λ (t : Token). S t.span) l → AllByRecursion (λ (t : Token). S t.span) (after_arguments l)
+  after_the_arguments : (l : List Token) → AllByRecursion (λ (t : Token). S t.span) l
+      → AllByRecursion (λ (t : Token). S t.span) (after_arguments l)
   unfolding after_arguments
   after_the_arguments [] a = tt
-  after_the_arguments (t ∷ l) a = elim (is_mark 41 t.role) as (λ b. AllByRecursion (λ (t : Token). S t.span) (cond b l (after_arguments l))) [ true ↦ a.1 | false ↦ after_the_arguments l a.1 ]
+  after_the_arguments (t ∷ l) a =
+      elim (is_mark 41 t.role) as (λ b. AllByRecursion (λ (t : Token). S t.span) (cond b l (after_arguments l)))
+      [ true ↦ a.1 | false ↦ after_the_arguments l a.1 ]
 
-  calls_of_line : (l : List Token) → AllByRecursion (λ (t : Token). S t.span) l → AllByRecursion (λ (c : Call). S c.callee × S c.caller) (flat_map (λ (m : Macro). calls_among m.name.span m.body) (macro_of l))
+  calls_of_line : (l : List Token) → AllByRecursion (λ (t : Token). S t.span) l
+      → AllByRecursion (λ (c : Call). S c.callee × S c.caller)
+      (flat_map (λ (m : Macro). calls_among m.name.span m.body) (macro_of l))
   calls_of_line [] a = tt
   calls_of_line (h ∷ []) a = tt
   calls_of_line (h ∷ o ∷ []) a = tt
   calls_of_line (h ∷ o ∷ n ∷ []) a = tt
   calls_of_line (h ∷ o ∷ n ∷ p ∷ l) a =
-      elim (defines_macro o n p) as (λ b. AllByRecursion (λ (c : Call). S c.callee × S c.caller) (flat_map (λ (m : Macro). calls_among m.name.span m.body) (cond b (record { name = n; body = after_arguments l } ∷ []) []))) [
-        | true ↦ all-append (λ (c : Call). S c.callee × S c.caller) (calls_among n.span (after_arguments l)) [] (among_calls n.span (after_arguments l) a.1.1.0 (after_the_arguments l a.1.1.1.1)) tt
+      elim (defines_macro o n p) as (λ b. AllByRecursion (λ (c : Call). S c.callee × S c.caller)
+      (flat_map (λ (m : Macro). calls_among m.name.span m.body)
+      (cond b (record { name = n; body = after_arguments l } ∷ []) []))) [
+        | true ↦ all-append (λ (c : Call). S c.callee × S c.caller) (calls_among n.span (after_arguments l)) []
+            (among_calls n.span (after_arguments l) a.1.1.0 (after_the_arguments l a.1.1.1.1)) tt
         | false ↦ tt
       ]
 
-  calls_of_lines : (ls : List (List Token)) → AllByRecursion (λ (t : Token). S t.span) (flat_map (λ l. l) ls) → AllByRecursion (λ (c : Call). S c.callee × S c.caller) (flat_map (λ (m : Macro). calls_among m.name.span m.body) (flat_map macro_of ls))
+  calls_of_lines : (ls : List (List Token)) → AllByRecursion (λ (t : Token). S t.span) (flat_map (λ l. l) ls)
+      → AllByRecursion (λ (c : Call). S c.callee × S c.caller)
+      (flat_map (λ (m : Macro). calls_among m.name.span m.body) (flat_map macro_of ls))
   calls_of_lines [] a = tt
   calls_of_lines (l ∷ ls) a =
       let parts = all-prefix (λ (t : Token). S t.span) l (flat_map (λ l. l) ls) a in
-      subst (AllByRecursion (λ (c : Call). S c.callee × S c.caller)) (sym (flat_map-append (λ (m : Macro). calls_among m.name.span m.body) (macro_of l) (flat_map macro_of ls)))
+      subst (AllByRecursion (λ (c : Call). S c.callee × S c.caller))
+      (sym (flat_map-append (λ (m : Macro). calls_among m.name.span m.body) (macro_of l) (flat_map macro_of ls)))
       (all-append (λ (c : Call). S c.callee × S c.caller) _ _ (calls_of_line l parts.0) (calls_of_lines ls parts.1))
 
 -- ---- scopes
 module _ (text : List ℕ) where
-  named_ranges_of_functions : (fs : List Function) → AllByRecursion (SpanWithin text) (map (λ (f : Function). f.name) fs) → AllByRecursion (λ (r : Range). IsWithin text r.name) (map (function_range text (code text (pieces text))) fs)
+  named_ranges_of_functions : (fs : List Function)
+      → AllByRecursion (SpanWithin text) (map (λ (f : Function). f.name) fs)
+      → AllByRecursion (λ (r : Range). IsWithin text r.name) (map (function_range text (code text (pieces text))) fs)
   named_ranges_of_functions [] a = tt
   named_ranges_of_functions (f ∷ fs) a = (a.0, named_ranges_of_functions fs a.1)
 
-  named_ranges : (rs : List Range) → AllByRecursion (IsWithin text) (map (λ (r : Range). r.name) rs) → AllByRecursion (λ (r : Range). IsWithin text r.name) rs
+  named_ranges : (rs : List Range) → AllByRecursion (IsWithin text) (map (λ (r : Range). r.name) rs)
+      → AllByRecursion (λ (r : Range). IsWithin text r.name) rs
   named_ranges [] a = tt
   named_ranges (r ∷ rs) a = (a.0, named_ranges rs a.1)
 
-  spans_of_macros : (ms : List Macro) → AllByRecursion (SpanWithin text) (map (λ (m : Macro). m.name) ms) → AllByRecursion (IsWithin text) (map (λ (m : Macro). m.name.span) ms)
+  spans_of_macros : (ms : List Macro) → AllByRecursion (SpanWithin text) (map (λ (m : Macro). m.name) ms)
+      → AllByRecursion (IsWithin text) (map (λ (m : Macro). m.name.span) ms)
   spans_of_macros [] a = tt
   spans_of_macros (m ∷ ms) a = (a.0, spans_of_macros ms a.1)
 
-  around_within : (ranges : List Range) (place : ℕ) → AllByRecursion (λ (r : Range). IsWithin text r.name) ranges → IsScopeWithin text (name_around ranges place)
+  around_within : (ranges : List Range) (place : ℕ) → AllByRecursion (λ (r : Range). IsWithin text r.name) ranges
+      → IsScopeWithin text (name_around ranges place)
   around_within ranges place a =
-      elim (find (holds place) ranges) as (λ o. MatchOption o (Unit {0}) (λ r. IsWithin text r.name) → IsScopeWithin text (option_map (λ (r : Range). r.name) o)) [ None ↦ λ _. tt | Some r ↦ λ p. p ]
+      elim (find (holds place) ranges) as (λ o. MatchOption o (Unit {0}) (λ r. IsWithin text r.name)
+      → IsScopeWithin text (option_map (λ (r : Range). r.name) o)) [ None ↦ λ _. tt | Some r ↦ λ p. p ]
       (found_among (λ r. IsWithin text r.name) (holds place) ranges a)
 
   -- the scope of a place lies in the text
-  scope_within : AllByRecursion (λ (r : Range). IsWithin text r.name) (macro_ranges text (pieces text)) → AllByRecursion (λ (r : Range). IsWithin text r.name) (function_ranges text (pieces text)) → (place : ℕ) → IsScopeWithin text (scope text (pieces text) place)
+  scope_within : AllByRecursion (λ (r : Range). IsWithin text r.name) (macro_ranges text (pieces text))
+      → AllByRecursion (λ (r : Range). IsWithin text r.name) (function_ranges text (pieces text)) → (place : ℕ)
+      → IsScopeWithin text (scope text (pieces text) place)
   scope_within ms fs place =
-      elim (name_around (macro_ranges text (pieces text)) place) as (λ o. IsScopeWithin text o → IsScopeWithin text (option_map_or (λ name. Some name) o (name_around (function_ranges text (pieces text)) place))) [
+      elim (name_around (macro_ranges text (pieces text)) place) as (λ o. IsScopeWithin text o
+      → IsScopeWithin text (option_map_or (λ name. Some name) o
+      (name_around (function_ranges text (pieces text)) place))) [
         | None ↦ λ _. around_within (function_ranges text (pieces text)) place fs
         | Some s ↦ λ p. p
       ] (around_within (macro_ranges text (pieces text)) place ms)
 
-  uses_within : ((place : ℕ) → IsScopeWithin text (scope text (pieces text) place)) → (ts : List Token) → AllByRecursion (SpanWithin text) ts → AllByRecursion (λ (u : Use). IsWithin text u.name × IsScopeWithin text u.scope) (map (λ (t : Token). record { name = t.span; line = t.line; scope = scope text (pieces text) t.span.start }) ts)
+  uses_within : ((place : ℕ) → IsScopeWithin text (scope text (pieces text) place)) → (ts : List Token)
+      → AllByRecursion (SpanWithin text) ts
+      → AllByRecursion (λ (u : Use). IsWithin text u.name × IsScopeWithin text u.scope)
+      (map (λ (t : Token). record { name = t.span; line = t.line; scope = scope text (pieces text) t.span.start }) ts)
   uses_within scopes [] a = tt
   uses_within scopes (t ∷ ts) a = ((a.0, scopes t.span.start), uses_within scopes ts a.1)
 
   -- ---- includes
-  between_within : (start end line : ℕ) → end ≤ length text → AllByRecursion (λ (i : Include). IsWithin text i.header) (header_between start end line)
+  between_within : (start end line : ℕ) → end ≤ length text
+      → AllByRecursion (λ (i : Include). IsWithin text i.header) (header_between start end line)
   between_within start end line ends =
-      elim (nat_lt start end) as (λ b. nat_lt start end ≡ b → AllByRecursion (λ (i : Include). IsWithin text i.header) (cond b (record { header = record { start = start; end = end }; line = line; scope = None } ∷ []) [])) [
+      elim (nat_lt start end) as (λ b. nat_lt start end ≡ b
+      → AllByRecursion (λ (i : Include). IsWithin text i.header)
+      (cond b (record { header = record { start = start; end = end }; line = line; scope = None } ∷ []) [])) [
         | true ↦ λ is. let below : start < end = ltb-true start end is in ((omega (arith, below), ends), tt)
         | false ↦ λ _. tt
       ] refl
 
-  angle_within : (t : Token) (rest : List Token) → AllByRecursion (SpanWithin text) rest → AllByRecursion (λ (i : Include). IsWithin text i.header) (option_map_or (λ (g : Token). header_between t.span.end g.span.start t.line) (find (λ (u : Token). is_mark 62 u.role) rest) [])
+  angle_within : (t : Token) (rest : List Token) → AllByRecursion (SpanWithin text) rest
+      → AllByRecursion (λ (i : Include). IsWithin text i.header)
+      (option_map_or (λ (g : Token). header_between t.span.end g.span.start t.line)
+      (find (λ (u : Token). is_mark 62 u.role) rest) [])
   angle_within t rest a =
-      elim (find (λ (u : Token). is_mark 62 u.role) rest) as (λ o. MatchOption o (Unit {0}) (SpanWithin text) → AllByRecursion (λ (i : Include). IsWithin text i.header) (option_map_or (λ (g : Token). header_between t.span.end g.span.start t.line) o [])) [
+      elim (find (λ (u : Token). is_mark 62 u.role) rest) as (λ o. MatchOption o (Unit {0}) (SpanWithin text)
+      → AllByRecursion (λ (i : Include). IsWithin text i.header)
+      (option_map_or (λ (g : Token). header_between t.span.end g.span.start t.line) o [])) [
         | None ↦ λ _. tt
         | Some g ↦ λ w. between_within t.span.end g.span.start t.line (omega (arith, w.0, w.1))
       ] (found_among (SpanWithin text) (λ (u : Token). is_mark 62 u.role) rest a)
 
-  header_within : (t : Token) (rest : List Token) → SpanWithin text t → AllByRecursion (SpanWithin text) rest → AllByRecursion (λ (i : Include). IsWithin text i.header) (header_of text t rest)
+  header_within : (t : Token) (rest : List Token) → SpanWithin text t → AllByRecursion (SpanWithin text) rest
+      → AllByRecursion (λ (i : Include). IsWithin text i.header) (header_of text t rest)
   header_within t rest w a =
-      elim (is_str t.role) as (λ b. AllByRecursion (λ (i : Include). IsWithin text i.header) (cond b (cond (is_closed (bytes_of text t.span)) (header_between (t.span.start + 1) (t.span.end - 1) t.line) []) (cond (is_mark 60 t.role) (option_map_or (λ (g : Token). header_between t.span.end g.span.start t.line) (find (λ (u : Token). is_mark 62 u.role) rest) []) []))) [
-        | true ↦ elim (is_closed (bytes_of text t.span)) as (λ b. AllByRecursion (λ (i : Include). IsWithin text i.header) (cond b (header_between (t.span.start + 1) (t.span.end - 1) t.line) [])) [
-          | true ↦ between_within (t.span.start + 1) (t.span.end - 1) t.line (omega (arith, w.1))
-          | false ↦ tt
-        ]
-        | false ↦ elim (is_mark 60 t.role) as (λ b. AllByRecursion (λ (i : Include). IsWithin text i.header) (cond b (option_map_or (λ (g : Token). header_between t.span.end g.span.start t.line) (find (λ (u : Token). is_mark 62 u.role) rest) []) [])) [
-          | true ↦ angle_within t rest a
-          | false ↦ tt
-        ]
+      elim (is_str t.role) as (λ b. AllByRecursion (λ (i : Include). IsWithin text i.header)
+      (cond b (cond (is_closed (bytes_of text t.span)) (header_between (t.span.start + 1) (t.span.end - 1) t.line)
+      []) (cond (is_mark 60 t.role)
+      (option_map_or (λ (g : Token). header_between t.span.end g.span.start t.line)
+      (find (λ (u : Token). is_mark 62 u.role) rest) []) []))) [
+        | true ↦ elim (is_closed (bytes_of text t.span)) as (λ b. AllByRecursion
+            (λ (i : Include). IsWithin text i.header)
+            (cond b (header_between (t.span.start + 1) (t.span.end - 1) t.line) [])) [
+              | true ↦ between_within (t.span.start + 1) (t.span.end - 1) t.line (omega (arith, w.1))
+              | false ↦ tt
+            ]
+        | false ↦ elim (is_mark 60 t.role) as (λ b. AllByRecursion (λ (i : Include). IsWithin text i.header)
+            (cond b (option_map_or (λ (g : Token). header_between t.span.end g.span.start t.line)
+            (find (λ (u : Token). is_mark 62 u.role) rest) []) [])) [
+              | true ↦ angle_within t rest a
+              | false ↦ tt
+            ]
       ]
 
-  include_within : (l : List Token) → AllByRecursion (SpanWithin text) l → AllByRecursion (λ (i : Include). IsWithin text i.header) (include_of text l)
+  include_within : (l : List Token) → AllByRecursion (SpanWithin text) l
+      → AllByRecursion (λ (i : Include). IsWithin text i.header) (include_of text l)
   include_within [] a = tt
   include_within (h ∷ []) a = tt
   include_within (h ∷ o ∷ []) a = tt
   include_within (h ∷ o ∷ t ∷ rest) a =
-      elim (has_kind kind_is_include o.role) as (λ b. AllByRecursion (λ (i : Include). IsWithin text i.header) (cond b (header_of text t rest) [])) [ true ↦ header_within t rest a.1.1.0 a.1.1.1 | false ↦ tt ]
+      elim (has_kind kind_is_include o.role) as (λ b. AllByRecursion (λ (i : Include). IsWithin text i.header)
+      (cond b (header_of text t rest) [])) [ true ↦ header_within t rest a.1.1.0 a.1.1.1 | false ↦ tt ]
 
-  headers_within : (ls : List (List Token)) → AllByRecursion (SpanWithin text) (flat_map (λ l. l) ls) → AllByRecursion (λ (i : Include). IsWithin text i.header) (flat_map (include_of text) ls)
+  headers_within : (ls : List (List Token)) → AllByRecursion (SpanWithin text) (flat_map (λ l. l) ls)
+      → AllByRecursion (λ (i : Include). IsWithin text i.header) (flat_map (include_of text) ls)
   headers_within [] a = tt
   headers_within (l ∷ ls) a =
       let parts = all-prefix (SpanWithin text) l (flat_map (λ l. l) ls) a in
-      all-append (λ (i : Include). IsWithin text i.header) (include_of text l) _ (include_within l parts.0) (headers_within ls parts.1)
+      all-append (λ (i : Include). IsWithin text i.header) (include_of text l) _ (include_within l parts.0)
+      (headers_within ls parts.1)
 
-  includes_within : ((place : ℕ) → IsScopeWithin text (scope text (pieces text) place)) → (is : List Include) → AllByRecursion (λ (i : Include). IsWithin text i.header) is → AllByRecursion (λ (i : Include). IsWithin text i.header × IsScopeWithin text i.scope) (map (λ (i : Include). record i { scope = scope text (pieces text) i.header.start }) is)
+  includes_within : ((place : ℕ) → IsScopeWithin text (scope text (pieces text) place)) → (is : List Include)
+      → AllByRecursion (λ (i : Include). IsWithin text i.header) is
+      → AllByRecursion (λ (i : Include). IsWithin text i.header × IsScopeWithin text i.scope)
+      (map (λ (i : Include). record i { scope = scope text (pieces text) i.header.start }) is)
   includes_within scopes [] a = tt
   includes_within scopes (i ∷ is) a = ((a.0, scopes i.header.start), includes_within scopes is a.1)
 
@@ -270,17 +371,20 @@ module _ (text : List ℕ) where
   spans_of : (ts : List Token) → AllByRecursion (TokenWithin text) ts → AllByRecursion (SpanWithin text) ts
   spans_of = all_implied (TokenWithin text) (SpanWithin text) span_within
 
-  defs_of_macros : (ms : List Macro) → AllByRecursion (TokenWithin text) (map (λ (m : Macro). m.name) ms) → AllByRecursion (DefWithin text) (map macro_def ms)
+  defs_of_macros : (ms : List Macro) → AllByRecursion (TokenWithin text) (map (λ (m : Macro). m.name) ms)
+      → AllByRecursion (DefWithin text) (map macro_def ms)
   defs_of_macros [] a = tt
   defs_of_macros (m ∷ ms) a = ((span_within m.name a.0, a.0.2), defs_of_macros ms a.1)
 
-  defs_of_tokens : (ts : List Token) → AllByRecursion (TokenWithin text) ts → AllByRecursion (DefWithin text) (map typedef_def ts)
+  defs_of_tokens : (ts : List Token) → AllByRecursion (TokenWithin text) ts
+      → AllByRecursion (DefWithin text) (map typedef_def ts)
   defs_of_tokens [] a = tt
   defs_of_tokens (t ∷ ts) a = ((span_within t a.0, a.0.2), defs_of_tokens ts a.1)
 
   line_tokens : AllByRecursion (TokenWithin text) (flat_map (λ l. l) (logical_lines text (pieces text)))
   line_tokens =
-      all-joined (TokenWithin text) (logical_lines text (pieces text)) (lines-within text _ (all-split (LiesIn text) (λ p. is_newline p.class) (pieces text) (pieces-lie text)))
+      all-joined (TokenWithin text) (logical_lines text (pieces text))
+      (lines-within text _ (all-split (LiesIn text) (λ p. is_newline p.class) (pieces text) (pieces-lie text)))
 
   code_tokens : AllByRecursion (TokenWithin text) (code text (pieces text))
   code_tokens = code-within text (pieces text) (pieces-lie text)
@@ -288,19 +392,23 @@ module _ (text : List ℕ) where
   directive_tokens : AllByRecursion (TokenWithin text) (flat_map (λ l. l) (directives text (pieces text)))
   directive_tokens = only_directives (logical_lines text (pieces text)) (TokenWithin text) line_tokens
 
-  function_names : AllByRecursion (SpanWithin text) (map (λ (f : Function). f.name) (functions (code text (pieces text))))
-  function_names = all_function_names (SpanWithin text) (code text (pieces text)) 0 (length (code text (pieces text))) (spans_of (code text (pieces text)) code_tokens)
+  function_names : AllByRecursion (SpanWithin text)
+      (map (λ (f : Function). f.name) (functions (code text (pieces text))))
+  function_names = all_function_names (SpanWithin text) (code text (pieces text)) 0 (length (code text (pieces text)))
+      (spans_of (code text (pieces text)) code_tokens)
 
   macro_tokens : AllByRecursion (TokenWithin text) (map (λ (m : Macro). m.name) (macros text (pieces text)))
-  macro_tokens = subst (AllByRecursion (TokenWithin text)) (names_flat (directives text (pieces text))) (all-picked macro_names macro_picks (TokenWithin text) (directives text (pieces text)) directive_tokens)
+  macro_tokens = subst (AllByRecursion (TokenWithin text)) (names_flat (directives text (pieces text)))
+      (all-picked macro_names macro_picks (TokenWithin text) (directives text (pieces text)) directive_tokens)
 
   origin : IsWithin text no_token.span
   origin = (omega (arith), omega (arith))
 
   scopes_lie : (place : ℕ) → IsScopeWithin text (scope text (pieces text) place)
-  scopes_lie = scope_within 
+  scopes_lie = scope_within
       (named_ranges (macro_ranges text (pieces text))
-      (subst (AllByRecursion (IsWithin text)) (sym (range_names text (pieces text))) (spans_of_macros (macros text (pieces text)) (spans_of _ macro_tokens))))
+      (subst (AllByRecursion (IsWithin text)) (sym (range_names text (pieces text)))
+      (spans_of_macros (macros text (pieces text)) (spans_of _ macro_tokens))))
       (named_ranges_of_functions (functions (code text (pieces text))) function_names)
 
   definitions_lie : AllByRecursion (DefWithin text) (definitions text)
@@ -308,29 +416,38 @@ module _ (text : List ℕ) where
   definitions_lie =
       all_in_order def_key (DefWithin text) _
       (all-append (DefWithin text) _ _
-      (all-append (DefWithin text) _ _ (functions-lie text (pieces-lie text)) (defs_of_macros (macros text (pieces text)) macro_tokens))
-      (defs_of_tokens (typedefs (code text (pieces text))) (all_typedefs (TokenWithin text) (code text (pieces text)) code_tokens)))
+      (all-append (DefWithin text) _ _ (functions-lie text (pieces-lie text))
+      (defs_of_macros (macros text (pieces text)) macro_tokens))
+      (defs_of_tokens (typedefs (code text (pieces text)))
+      (all_typedefs (TokenWithin text) (code text (pieces text)) code_tokens)))
 
   uses_lie : AllByRecursion (λ (u : Use). IsWithin text u.name × IsScopeWithin text u.scope) (uses text (pieces text))
   unfolding uses
-  uses_lie = uses_within scopes_lie (flat_map used (logical_lines text (pieces text))) (all-picked used used_picks (SpanWithin text) (logical_lines text (pieces text)) (spans_of _ line_tokens))
+  uses_lie = uses_within scopes_lie (flat_map used (logical_lines text (pieces text)))
+      (all-picked used used_picks (SpanWithin text) (logical_lines text (pieces text)) (spans_of _ line_tokens))
 
   calls_lie : AllByRecursion (λ (c : Call). IsWithin text c.callee × IsWithin text c.caller) (calls text (pieces text))
   unfolding calls
   calls_lie =
       all_in_order call_key (λ (c : Call). IsWithin text c.callee × IsWithin text c.caller) _
-      (all-append (λ (c : Call). IsWithin text c.callee × IsWithin text c.caller) _ _ (calls_of_all (IsWithin text) (code text (pieces text)) (functions (code text (pieces text))) origin function_names (spans_of (code text (pieces text)) code_tokens))
+      (all-append (λ (c : Call). IsWithin text c.callee × IsWithin text c.caller) _ _
+      (calls_of_all (IsWithin text) (code text (pieces text))
+      (functions (code text (pieces text))) origin function_names (spans_of (code text (pieces text)) code_tokens))
       (calls_of_lines (IsWithin text) (directives text (pieces text)) (spans_of _ directive_tokens)))
 
-  includes_lie : AllByRecursion (λ (i : Include). IsWithin text i.header × IsScopeWithin text i.scope) (includes text (pieces text))
+  includes_lie : AllByRecursion (λ (i : Include). IsWithin text i.header × IsScopeWithin text i.scope)
+      (includes text (pieces text))
   unfolding includes
-  includes_lie = includes_within scopes_lie _ (headers_within (directives text (pieces text)) (spans_of _ directive_tokens))
+  includes_lie = includes_within scopes_lie _
+      (headers_within (directives text (pieces text)) (spans_of _ directive_tokens))
 
   -- what is found in a text lies in it, and its definitions are on lines of it
   pub facts_lie : AreWithin text (facts_of text)
   facts_lie = record {
-    defs = all_implied (DefWithin text) (λ (d : Def). IsWithin text d.name) (λ d w. w.0) (definitions text) definitions_lie;
-    lines = all_implied (DefWithin text) (λ (d : Def). IsLineOf text d.line) (λ d w. w.1) (definitions text) definitions_lie;
+    defs = all_implied (DefWithin text) (λ (d : Def). IsWithin text d.name) (λ d w. w.0)
+        (definitions text) definitions_lie;
+    lines = all_implied (DefWithin text) (λ (d : Def). IsLineOf text d.line) (λ d w. w.1)
+        (definitions text) definitions_lie;
     uses = uses_lie;
     calls = calls_lie;
     includes = includes_lie;

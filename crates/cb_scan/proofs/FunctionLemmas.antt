@@ -39,10 +39,13 @@ unfolding head_start
 head_start_le ts zero = omega arith
 head_start_le ts (suc k) =
     let before = head_start_le ts k in
-    elim (is_stop ts k) as (λ b. (if b then suc k else head_start ts k) ≤ suc k) [ true ↦ omega arith | false ↦ omega arith ]
+    elim (is_stop ts k) as (λ b. (if b then suc k else head_start ts k) ≤ suc k)
+    [ true ↦ omega arith | false ↦ omega arith ]
 
 -- what is directly before the next token
-linkage_after : (b : Before) (r : Role) → is_after_linkage (if is_extern r then Extern else (if is_str r && is_after_extern b then Linkage else Anything)) ≡ (is_after_extern b && is_str r)
+linkage_after : (b : Before) (r : Role)
+    → is_after_linkage (if is_extern r then Extern else (if is_str r && is_after_extern b then Linkage else Anything))
+    ≡ (is_after_extern b && is_str r)
 linkage_after b (Word Name) = sym (and-false (is_after_extern b))
 linkage_after b (Word Define) = sym (and-false (is_after_extern b))
 linkage_after b (Word Include) = sym (and-false (is_after_extern b))
@@ -52,9 +55,12 @@ linkage_after b (Word Static) = sym (and-false (is_after_extern b))
 linkage_after b (Word Reserved) = sym (and-false (is_after_extern b))
 linkage_after b (Mark x) = sym (and-false (is_after_extern b))
 linkage_after b Other = sym (and-false (is_after_extern b))
-linkage_after b Str = elim (is_after_extern b) as (λ x. is_after_linkage (if x then Linkage else Anything) ≡ (x && true)) [ true ↦ refl | false ↦ refl ]
+linkage_after b Str = elim (is_after_extern b) as (λ x. is_after_linkage (if x then Linkage else Anything)
+    ≡ (x && true)) [ true ↦ refl | false ↦ refl ]
 
-extern_after : (b : Before) (r : Role) → is_after_extern (if is_extern r then Extern else (if is_str r && is_after_extern b then Linkage else Anything)) ≡ is_extern r
+extern_after : (b : Before) (r : Role)
+    → is_after_extern (if is_extern r then Extern else (if is_str r && is_after_extern b then Linkage else Anything))
+    ≡ is_extern r
 extern_after b (Word Name) = refl
 extern_after b (Word Define) = refl
 extern_after b (Word Include) = refl
@@ -64,19 +70,24 @@ extern_after b (Word Static) = refl
 extern_after b (Word Reserved) = refl
 extern_after b (Mark x) = refl
 extern_after b Other = refl
-extern_after b Str = elim (is_after_extern b) as (λ x. is_after_extern (if x then Linkage else Anything) ≡ false) [ true ↦ refl | false ↦ refl ]
+extern_after b Str = elim (is_after_extern b) as (λ x. is_after_extern (if x then Linkage else Anything) ≡ false)
+    [ true ↦ refl | false ↦ refl ]
 
-follows_after : (ts : List Token) (k : ℕ) → (follows_extern ts k && is_str (token_at ts k).role) ≡ follows_linkage ts (suc k)
+follows_after : (ts : List Token) (k : ℕ)
+    → (follows_extern ts k && is_str (token_at ts k).role) ≡ follows_linkage ts (suc k)
 follows_after ts zero = refl
 follows_after ts (suc k) = refl
 
 -- the head goes on, or begins anew after a stop
-head_goes_on : (ts : List Token) (k : ℕ) (b : Bool) → k < length ts → (if b then empty_head else add (fold add empty_head (head ts k)) (token_at ts k)) ≡ fold add empty_head (drop (if b then suc k else head_start ts k) (take (suc k) ts))
+head_goes_on : (ts : List Token) (k : ℕ) (b : Bool) → k < length ts
+    → (if b then empty_head else add (fold add empty_head (head ts k)) (token_at ts k))
+    ≡ fold add empty_head (drop (if b then suc k else head_start ts k) (take (suc k) ts))
 head_goes_on ts k true within =
     let short : length (take (suc k) ts) ≤ suc k = omega (arith, length-take-le (suc k) ts within) in
     ap (fold add empty_head) (sym (drop_all (suc k) (take (suc k) ts) short))
 head_goes_on ts k false within =
-    let long : head_start ts k ≤ length (take k ts) = omega (arith, length-take-le k ts (omega arith), head_start_le ts k) in
+    let long : head_start ts k ≤ length (take k ts) =
+    omega (arith, length-take-le k ts (omega arith), head_start_le ts k) in
     sym (fold-append add empty_head (head ts k) (token_at ts k ∷ []))
     ∙ ap (fold add empty_head) (sym (drop-append-le (head_start ts k) (take k ts) (token_at ts k ∷ []) long))
     ∙ ap (λ l. fold add empty_head (drop (head_start ts k) l)) (sym (take-suc ts k no_token within))
@@ -84,49 +95,72 @@ head_goes_on ts k false within =
 module _ (ts : List Token) (k : ℕ) (m : Machine) (at : IsAt ts k m) where
   pub depth_next : next_depth m (token_at ts k) ≡ depth ts (suc k)
   unfolding depth
-  depth_next = λ i. depth_after (is_mark 123 (token_at ts k).role && not (at.linkage_is i)) (token_at ts k) (at.depth_is i)
+  depth_next = λ i. depth_after (is_mark 123 (token_at ts k).role && not (at.linkage_is i)) (token_at ts k)
+      (at.depth_is i)
 
   pub stops_is : stops m (token_at ts k) ≡ is_stop ts k
   stops_is =
-      λ i. (is_mark 59 (token_at ts k).role && at.depth_is i == 0) || (is_mark 125 (token_at ts k).role && depth_next i == 0) || (is_mark 123 (token_at ts k).role && at.linkage_is i)
+      λ i. (is_mark 59 (token_at ts k).role && at.depth_is i == 0)
+      || (is_mark 125 (token_at ts k).role && depth_next i == 0)
+      || (is_mark 123 (token_at ts k).role && at.linkage_is i)
 
   -- a token later
   pub step : k < length ts → IsAt ts (suc k) (next m (token_at ts k))
   unfolding next head_start
   step within = record {
     depth_is = depth_next;
-    linkage_is = linkage_after m.before (token_at ts k).role ∙ ap (λ b. b && is_str (token_at ts k).role) at.extern_is ∙ follows_after ts k;
+    linkage_is = linkage_after m.before (token_at ts k).role ∙ ap (λ b. b && is_str (token_at ts k).role) at.extern_is
+        ∙ follows_after ts k;
     extern_is = extern_after m.before (token_at ts k).role;
-    head_is = (λ i. if stops_is i then empty_head else add (at.head_is i) (token_at ts k)) ∙ head_goes_on ts k (is_stop ts k) within;
+    head_is = (λ i. if stops_is i then empty_head else add (at.head_is i) (token_at ts k))
+        ∙ head_goes_on ts k (is_stop ts k) within;
   }
 
   -- the definition of the function whose `{` is the token
   pub found_is : option_to_list (found m (token_at ts k)) ≡ map function_def (function_at ts k)
   found_is =
-      let inside : option_map (def_of m.head.has_static) (defined m.head) ≡ option_map (def_of (list_any (λ (t : Token). is_static t.role) (head ts k))) (defined_name (head ts k)) =
-      (λ i. option_map (def_of ((ap (λ h. h.has_static) at.head_is ∙ static_is (head ts k)) i)) ((ap defined at.head_is ∙ defined_of (head ts k)) i)) in
-      (λ i. option_to_list (if (is_mark 123 (token_at ts k).role && not (at.linkage_is i)) && at.depth_is i == 0 then inside i else None))
+      let inside : option_map (def_of m.head.has_static) (defined m.head)
+      ≡ option_map (def_of (list_any (λ (t : Token). is_static t.role) (head ts k))) (defined_name (head ts k)) =
+      (λ i. option_map (def_of ((ap (λ h. h.has_static) at.head_is ∙ static_is (head ts k)) i))
+      ((ap defined at.head_is ∙ defined_of (head ts k)) i)) in
+      (λ i. option_to_list (if (is_mark 123 (token_at ts k).role && not (at.linkage_is i)) && at.depth_is i == 0
+      then inside i else None))
       ∙ defs_at (is_counted ts k && depth ts k == 0) (defined_name (head ts k))
     where
-      defs_at : (b : Bool) (name : Option Token) → option_to_list (if b then option_map (def_of (list_any (λ (t : Token). is_static t.role) (head ts k))) name else None) ≡ map function_def (if b then option_map_or (λ name. record { name = name; local = list_any (λ (t : Token). is_static t.role) (head ts k); body = k; end = close_from ts (suc k) } ∷ []) name [] else [])
+      defs_at : (b : Bool) (name : Option Token)
+          → option_to_list (if b then option_map (def_of (list_any (λ (t : Token). is_static t.role) (head ts k))) name
+          else None) ≡ map function_def
+          (if b then option_map_or
+          (λ name. record {
+            name = name;
+            local = list_any (λ (t : Token). is_static t.role) (head ts k);
+            body = k;
+            end = close_from ts (suc k);
+          } ∷ []) name [] else [])
       defs_at true None = refl
       defs_at true (Some name) = refl
       defs_at false name = refl
 
 -- the pass from token k on finds the functions from there on
-from : (ts : List Token) (k : ℕ) (m : Machine) (rest : List Token) → drop k ts ≡ rest → IsAt ts k m → defs_from m rest ≡ map function_def (flat_map (function_at ts) (range_with_len k (length rest)))
+from : (ts : List Token) (k : ℕ) (m : Machine) (rest : List Token) → drop k ts ≡ rest → IsAt ts k m
+    → defs_from m rest ≡ map function_def (flat_map (function_at ts) (range_with_len k (length rest)))
 from ts k m [] left at = refl
 from ts k m (t ∷ rest) left at =
     let within : k < length ts = omega (arith, length-drop k ts, ap length left) in
     let split : token_at ts k ∷ drop (k + 1) ts ≡ t ∷ rest = sym (drop_more ts k no_token within) ∙ left in
     let t_is : token_at ts k ≡ t = cc in
     let rest_is : drop (k + 1) ts ≡ rest = cc in
-    let after : IsAt ts (k + 1) (next m t) = subst (λ j. IsAt ts j (next m t)) (sym (add-one k)) (subst (λ u. IsAt ts (suc k) (next m u)) t_is (step ts k m at within)) in
+    let after : IsAt ts (k + 1) (next m t) =
+    subst (λ j. IsAt ts j (next m t)) (sym (add-one k))
+    (subst (λ u. IsAt ts (suc k) (next m u)) t_is (step ts k m at within)) in
     (λ i. option_to_list (found m (sym t_is i)) ++ from ts (k + 1) (next m t) rest rest_is after i)
-    ∙ ap (λ l. l ++ map function_def (flat_map (function_at ts) (range_with_len (k + 1) (length rest)))) (found_is ts k m at)
-    ∙ sym (map-append function_def (function_at ts k) (flat_map (function_at ts) (range_with_len (k + 1) (length rest))))
+    ∙ ap (λ l. l ++ map function_def (flat_map (function_at ts) (range_with_len (k + 1) (length rest))))
+    (found_is ts k m at)
+    ∙ sym (map-append function_def (function_at ts k)
+    (flat_map (function_at ts) (range_with_len (k + 1) (length rest))))
 
 -- the pass over the code finds its functions
 pub defs_from_start : (ts : List Token) → defs_from start ts ≡ map function_def (functions ts)
 unfolding depth head_start
-defs_from_start ts = from ts 0 start ts refl (record { depth_is = refl; linkage_is = refl; extern_is = refl; head_is = refl })
+defs_from_start ts = from ts 0 start ts refl
+    (record { depth_is = refl; linkage_is = refl; extern_is = refl; head_is = refl })

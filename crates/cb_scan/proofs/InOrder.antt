@@ -23,7 +23,8 @@ use Rattle.cb_scan.proofs.OrderLemmas.{Sorted, in_order_sorted}
 use Rattle.cb_scan.proofs.ScopeLemmas.{Ordered, headers_in_order, names_in_order}
 
 -- the first number of a key decides, and at equal ones the rest
-first_decides : (a b : ℕ) (xs ys : List ℕ) → not (is_gt (slice_cmp nat_cmp (a ∷ xs) (b ∷ ys))) ≡ true → (a < b) ⊎ ((a ≡ b) × (not (is_gt (slice_cmp nat_cmp xs ys)) ≡ true))
+first_decides : (a b : ℕ) (xs ys : List ℕ) → not (is_gt (slice_cmp nat_cmp (a ∷ xs) (b ∷ ys))) ≡ true
+    → (a < b) ⊎ ((a ≡ b) × (not (is_gt (slice_cmp nat_cmp xs ys)) ≡ true))
 first_decides a b xs ys is =
     ⊎_elim
     (λ below. inl (ltb-true a b below))
@@ -31,24 +32,35 @@ first_decides a b xs ys is =
     let decided : not (is_gt (ordering_then (cond (a == b) Equal Greater) (slice_cmp nat_cmp xs ys))) ≡ true =
     sym (ap (λ o. not (is_gt (ordering_then o (slice_cmp nat_cmp xs ys)))) (cond-false _ _ _ not_below)) ∙ is in
     ⊎_elim
-    (λ same. inr (eqb-true a b same, sym (ap (λ o. not (is_gt (ordering_then o (slice_cmp nat_cmp xs ys)))) (cond-true _ _ _ same)) ∙ decided))
-    (λ other. absurd (false≢true (sym (ap (λ o. not (is_gt (ordering_then o (slice_cmp nat_cmp xs ys)))) (cond-false _ _ _ other)) ∙ decided)))
+    (λ same. inr (
+      eqb-true a b same,
+      sym (ap (λ o. not (is_gt (ordering_then o (slice_cmp nat_cmp xs ys)))) (cond-true _ _ _ same)) ∙ decided,
+    ))
+    (λ other. absurd (false≢true
+    (sym (ap (λ o. not (is_gt (ordering_then o (slice_cmp nat_cmp xs ys)))) (cond-false _ _ _ other)) ∙ decided)))
     (cases_Bool (a == b)))
     (cases_Bool (nat_lt a b))
 
 no_later : (a b : ℕ) (xs ys : List ℕ) → not (is_gt (slice_cmp nat_cmp (a ∷ xs) (b ∷ ys))) ≡ true → a ≤ b
-no_later a b xs ys is = ⊎_elim (λ below. omega (arith, below)) (λ same. omega (arith, same.0)) (first_decides a b xs ys is)
+no_later a b xs ys is = ⊎_elim (λ below. omega (arith, below)) (λ same. omega (arith, same.0))
+    (first_decides a b xs ys is)
 
 def_before : (d e : Def) → goes_first def_key d e ≡ true → IsDefBefore d e
 def_before d e is =
-    ⊎_elim (λ below. inl below) (λ same. inr (same.0, no_later (kind_rank d.kind) (kind_rank e.kind) (drop 2 (def_key d)) (drop 2 (def_key e)) same.1))
+    ⊎_elim (λ below. inl below)
+    (λ same. inr (
+      same.0,
+      no_later (kind_rank d.kind) (kind_rank e.kind) (drop 2 (def_key d))
+          (drop 2 (def_key e)) same.1,
+    ))
     (first_decides d.name.start e.name.start (drop 1 (def_key d)) (drop 1 (def_key e)) is)
 
 call_before : (c d : Call) → goes_first call_key c d ≡ true → c.callee.start ≤ d.callee.start
 call_before c d is = no_later c.callee.start d.callee.start (drop 1 (call_key c)) (drop 1 (call_key d)) is
 
 -- sorted by a key is ordered by what the key says
-module _ {X : Type 0} (key : X → List ℕ) (R : X → X → Type 0) (says : (x y : X) → goes_first key x y ≡ true → R x y) where
+module _ {X : Type 0} (key : X → List ℕ) (R : X → X → Type 0)
+    (says : (x y : X) → goes_first key x y ≡ true → R x y) where
   each : (x : X) (ys : List X) → AllByRecursion (λ y. goes_first key x y ≡ true) ys → AllByRecursion (R x) ys
   each x [] a = tt
   each x (y ∷ ys) a = (says x y a.0, each x ys a.1)
@@ -59,22 +71,30 @@ module _ {X : Type 0} (key : X → List ℕ) (R : X → X → Type 0) (says : (x
   sorted_ordered (x ∷ xs) s = (each x xs s.0, sorted_ordered xs s.1)
 
 -- places in order, also of what is made of each element
-module _ {A B : Type 0} (place : A → ℕ) (give : A → B) (place_of : B → ℕ) (kept : (a : A) → place_of (give a) ≡ place a) where
-  none_before : (p q : ℕ) (xs : List A) → p ≤ q → Ordered place q xs → AllByRecursion (λ b. p ≤ place_of b) (map give xs)
+module _ {A B : Type 0} (place : A → ℕ) (give : A → B) (place_of : B → ℕ)
+    (kept : (a : A) → place_of (give a) ≡ place a) where
+  none_before : (p q : ℕ) (xs : List A) → p ≤ q → Ordered place q xs
+      → AllByRecursion (λ b. p ≤ place_of b) (map give xs)
   none_before p q [] le o = tt
   none_before p q (x ∷ xs) le o = (omega (arith, kept x, o.0), none_before p (place x) xs (omega (arith, o.0)) o.1)
 
-  places_ordered : (p : ℕ) (xs : List A) → Ordered place p xs → AreOrdered (λ a b. place_of a ≤ place_of b) (map give xs)
+  places_ordered : (p : ℕ) (xs : List A) → Ordered place p xs
+      → AreOrdered (λ a b. place_of a ≤ place_of b) (map give xs)
   unfolding AreOrdered
   places_ordered p [] o = tt
-  places_ordered p (x ∷ xs) o = (none_before (place_of (give x)) (place x) xs (omega (arith, kept x)) o.1, places_ordered (place x) xs o.1)
+  places_ordered p (x ∷ xs) o =
+      (none_before (place_of (give x)) (place x) xs (omega (arith, kept x)) o.1, places_ordered (place x) xs o.1)
 
 -- the facts of a text are in order
 pub facts_in_order : (text : List ℕ) → AreInOrder (facts_of text)
 unfolding definitions_from calls uses includes
 facts_in_order text = record {
   defs = sorted_ordered def_key IsDefBefore def_before _ (in_order_sorted def_key _);
-  uses = places_ordered token_place (λ (t : Token). record { name = t.span; line = t.line; scope = scope text (pieces text) t.span.start }) (λ u. u.name.start) (λ t. refl) 0 _ (names_in_order text);
+  uses = places_ordered token_place
+      (λ (t : Token). record { name = t.span; line = t.line; scope = scope text (pieces text) t.span.start })
+      (λ u. u.name.start) (λ t. refl) 0 _ (names_in_order text);
   calls = sorted_ordered call_key (λ c d. c.callee.start ≤ d.callee.start) call_before _ (in_order_sorted call_key _);
-  includes = places_ordered include_place (λ (i : Include). record i { scope = scope text (pieces text) i.header.start }) (λ i. i.header.start) (λ i. refl) 0 _ (headers_in_order text);
+  includes = places_ordered include_place
+      (λ (i : Include). record i { scope = scope text (pieces text) i.header.start }) (λ i. i.header.start)
+      (λ i. refl) 0 _ (headers_in_order text);
 }

@@ -43,10 +43,13 @@ numbers-no_feed last (x ∷ xs) t =
     let inner = numbers-no_feed x xs parts.1 in
     grind (arith, nat_tests)
 
-no_feeds_in : (b : ℕ) (rest : List ℕ) (class : Class) → Prefix b rest class → holds_feeds class ≡ false → count_by is_feed (take (length_in class (b ∷ rest)) (b ∷ rest)) ≡ 0
+no_feeds_in : (b : ℕ) (rest : List ℕ) (class : Class) → Prefix b rest class → holds_feeds class ≡ false
+    → count_by is_feed (take (length_in class (b ∷ rest)) (b ∷ rest)) ≡ 0
 unfolding length_in
-no_feeds_in b rest Name (at_name t) bare = words-no_feed (take (prefix_len is_word (b ∷ rest)) (b ∷ rest)) (list_all-prefix is_word (b ∷ rest))
-no_feeds_in b rest Number (at_number t) bare = numbers-no_feed 46 (take (number_len 46 (b ∷ rest)) (b ∷ rest)) (all_go_on-counted 46 (b ∷ rest))
+no_feeds_in b rest Name (at_name t) bare =
+    words-no_feed (take (prefix_len is_word (b ∷ rest)) (b ∷ rest)) (list_all-prefix is_word (b ∷ rest))
+no_feeds_in b rest Number (at_number t) bare =
+    numbers-no_feed 46 (take (number_len 46 (b ∷ rest)) (b ∷ rest)) (all_go_on-counted 46 (b ∷ rest))
 no_feeds_in b rest Str (at_str t) bare = cc
 no_feeds_in b rest Chr (at_chr t) bare = cc
 no_feeds_in b rest LineNote (at_line_comment t) bare = cc
@@ -55,29 +58,37 @@ no_feeds_in b rest Blank (at_blank t) bare = cc
 no_feeds_in b rest Newline (at_newline t) bare = cc
 no_feeds_in b rest Byte (at_byte f) bare = grind (arith, nat_tests)
 
-no_feeds_first : (rest : List ℕ) → 0 < length rest → holds_feeds (class_at rest) ≡ false → count_by is_feed (take (piece_len rest) rest) ≡ 0
+no_feeds_first : (rest : List ℕ) → 0 < length rest → holds_feeds (class_at rest) ≡ false
+    → count_by is_feed (take (piece_len rest) rest) ≡ 0
 no_feeds_first [] some bare = absurd (let x : ⊥ = omega arith in x)
 no_feeds_first (b ∷ rest) some bare = no_feeds_in b rest (class_at (b ∷ rest)) (prefix_of b rest) bare
 
 -- a piece of a class that holds no line feeds has none
-pub no_feeds : (place : ℕ) (rest : List ℕ) (p : Piece) → 0 < length rest → p ≡ piece_at place rest → holds_feeds p.class ≡ false
+pub no_feeds : (place : ℕ) (rest : List ℕ) (p : Piece) → 0 < length rest → p ≡ piece_at place rest
+    → holds_feeds p.class ≡ false
     → count_by is_feed (take (p.span.end - place) rest) ≡ 0
 no_feeds place rest p some e bare =
     let class : p.class ≡ class_at rest = ap (λ (q : Piece). q.class) e in
     let end : p.span.end ≡ place + piece_len rest = ap (λ (q : Piece). q.span.end) e in
     let size : p.span.end - place ≡ piece_len rest = omega arith in
-    subst (λ n. count_by is_feed (take n rest) ≡ 0) (sym size) (no_feeds_first rest some (sym (ap holds_feeds class) ∙ bare))
+    subst (λ n. count_by is_feed (take n rest) ≡ 0) (sym size)
+    (no_feeds_first rest some (sym (ap holds_feeds class) ∙ bare))
 
 -- the line at a later place, by the line feeds between
 pub line-next : (text : List ℕ) (place end : ℕ) → place ≤ end
-    → line_of text place + count_by is_feed (take (end - place) (take (length text - place) (drop place text))) ≡ line_of text end
+    → line_of text place + count_by is_feed (take (end - place) (take (length text - place) (drop place text)))
+    ≡ line_of text end
 line-next text place end le =
     let rest = take_rest text place in
     let long : place + (end - place) ≡ end = omega arith in
-    let cut : take end text ≡ take place text ++ take (end - place) (drop place text) = ap (λ n. take n text) (sym long) ∙ take-add place (end - place) text in
-    let sum : count_by is_feed (take end text) ≡ count_by is_feed (take place text) + count_by is_feed (take (end - place) (drop place text)) =
-    ap (count_by is_feed) cut ∙ sum_by-append (λ b. cond (is_feed b) 1 0) (take place text) (take (end - place) (drop place text)) in
-    let same : count_by is_feed (take (end - place) (take (length text - place) (drop place text))) ≡ count_by is_feed (take (end - place) (drop place text)) =
+    let cut : take end text ≡ take place text ++ take (end - place) (drop place text) =
+    ap (λ n. take n text) (sym long) ∙ take-add place (end - place) text in
+    let sum : count_by is_feed (take end text)
+    ≡ count_by is_feed (take place text) + count_by is_feed (take (end - place) (drop place text)) =
+    ap (count_by is_feed) cut
+    ∙ sum_by-append (λ b. cond (is_feed b) 1 0) (take place text) (take (end - place) (drop place text)) in
+    let same : count_by is_feed (take (end - place) (take (length text - place) (drop place text)))
+    ≡ count_by is_feed (take (end - place) (drop place text)) =
     ap (λ l. count_by is_feed (take (end - place) l)) rest in
     omega arith
 
@@ -85,22 +96,29 @@ pub line-small : (text : List ℕ) (place : ℕ) → place ≤ length text → l
 line-small text place le = omega (arith, count_by-le-length is_feed (take place text), length-take-le place text le)
 
 -- the place and the line after a piece
-pub line_after : (text : List ℕ) (place end line fed : ℕ) → place ≤ length text → place ≤ end → end ≤ place + length (take (length text - place) (drop place text))
-    → line ≡ line_of text place → fed ≡ count_by is_feed (take (end - place) (take (length text - place) (drop place text)))
+pub line_after : (text : List ℕ) (place end line fed : ℕ) → place ≤ length text → place ≤ end
+    → end ≤ place + length (take (length text - place) (drop place text))
+    → line ≡ line_of text place
+    → fed ≡ count_by is_feed (take (end - place) (take (length text - place) (drop place text)))
     → (end ≤ length text) × (line + fed ≡ line_of text end)
 line_after text place end line fed start low high here between =
-    let size : length (take (length text - place) (drop place text)) ≡ length text - place = ap length (take_rest text place) ∙ length-drop place text in
+    let size : length (take (length text - place) (drop place text)) ≡ length text - place =
+    ap length (take_rest text place) ∙ length-drop place text in
     let step = line-next text place end low in
     (omega arith, omega arith)
 
 -- at the end nothing is left
-pub lined-empty : (text : List ℕ) (place : ℕ) → length (take (length text - place) (drop place text)) ≡ 0 → map (lined text) (pieces_at place (drop place text)) ≡ []
-lined-empty text place e = ap (map (lined text)) (pieces-empty place (drop place text) (sym (ap length (take_rest text place)) ∙ e))
+pub lined-empty : (text : List ℕ) (place : ℕ) → length (take (length text - place) (drop place text)) ≡ 0
+    → map (lined text) (pieces_at place (drop place text)) ≡ []
+lined-empty text place e =
+    ap (map (lined text)) (pieces-empty place (drop place text) (sym (ap length (take_rest text place)) ∙ e))
 
 -- what a step leaves
-pub lined-next : (text : List ℕ) (place line : ℕ) (p : Piece) → 0 < length (take (length text - place) (drop place text))
+pub lined-next : (text : List ℕ) (place line : ℕ) (p : Piece)
+    → 0 < length (take (length text - place) (drop place text))
     → p ≡ piece_at place (take (length text - place) (drop place text)) → line ≡ line_of text place
-    → map (lined text) (pieces_at place (drop place text)) ≡ record { piece = p; line = line } ∷ map (lined text) (pieces_at p.span.end (drop p.span.end text))
+    → map (lined text) (pieces_at place (drop place text))
+    ≡ record { piece = p; line = line } ∷ map (lined text) (pieces_at p.span.end (drop p.span.end text))
 unfolding lined
 lined-next text place line p some e here =
     let rest = drop place text in
@@ -111,10 +129,13 @@ lined-next text place line p some e here =
     let make : Piece → ℕ → Lined = λ q k. record { piece = q; line = k } in
     let more : 0 < length rest = subst (λ (l : List ℕ). 0 < length l) whole some in
     ap (map (lined text)) (pieces-step place rest more)
-    ∙ ap (λ l. lined text (piece_at place rest) ∷ map (lined text) l) (ap (λ l. pieces_at (place + n) l) (drop-drop n place text) ∙ ap (λ k. pieces_at k (drop k text)) (sym end))
-    ∙ ap (λ l. l ∷ map (lined text) (pieces_at p.span.end (drop p.span.end text))) (ap (λ q. make q (line_of text place)) (sym first) ∙ ap (λ k. make p k) (sym here))
+    ∙ ap (λ l. lined text (piece_at place rest) ∷ map (lined text) l)
+    (ap (λ l. pieces_at (place + n) l) (drop-drop n place text) ∙ ap (λ k. pieces_at k (drop k text)) (sym end))
+    ∙ ap (λ l. l ∷ map (lined text) (pieces_at p.span.end (drop p.span.end text)))
+    (ap (λ q. make q (line_of text place)) (sym first) ∙ ap (λ k. make p k) (sym here))
 
-lined_within : (text : List ℕ) (ps : List Piece) → AllByRecursion (LiesIn text) ps → AllByRecursion (Within text) (map (lined text) ps)
+lined_within : (text : List ℕ) (ps : List Piece) → AllByRecursion (LiesIn text) ps
+    → AllByRecursion (Within text) (map (lined text) ps)
 unfolding lined
 lined_within text [] h = tt
 lined_within text (p ∷ ps) h = (h.0, lined_within text ps h.1)

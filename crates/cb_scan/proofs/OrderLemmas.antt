@@ -61,13 +61,15 @@ module _ (a b c : List ℕ) where
   first_trans : not (is_gt (Keys a b)) ≡ true → not (is_gt (Keys b c)) ≡ true → not (is_gt (Keys a c)) ≡ true
   first_trans ab bc = by_cases (Keys a b) (Keys b c) refl refl ab bc
     where
-      by_cases : (o p : Ordering) → Keys a b ≡ o → Keys b c ≡ p → not (is_gt o) ≡ true → not (is_gt p) ≡ true → not (is_gt (Keys a c)) ≡ true
+      by_cases : (o p : Ordering) → Keys a b ≡ o → Keys b c ≡ p → not (is_gt o) ≡ true → not (is_gt p) ≡ true
+          → not (is_gt (Keys a c)) ≡ true
       by_cases Greater p e f x y = absurd (false≢true x)
       by_cases Equal Less e f x y = ap (λ o. not (is_gt o)) (total.congr a b c e ∙ f)
       by_cases Equal Equal e f x y = ap (λ o. not (is_gt o)) (total.congr a b c e ∙ f)
       by_cases Equal Greater e f x y = absurd (false≢true y)
       by_cases Less Less e f x y = ap (λ o. not (is_gt o)) (total.trans a b c e f)
-      by_cases Less Equal e f x y = ap (λ o. not (is_gt o)) (turned c a Less (total.congr c b a (turned b c Equal f) ∙ turned a b Greater e))
+      by_cases Less Equal e f x y =
+          ap (λ o. not (is_gt o)) (turned c a Less (total.congr c b a (turned b c Equal f) ∙ turned a b Greater e))
       by_cases Less Greater e f x y = absurd (false≢true y)
 
 module _ (a b c : List ℕ) where
@@ -89,23 +91,28 @@ Sorted key [] = Unit {0}
 Sorted key (x ∷ xs) = AllByRecursion (λ y. goes_first key x y ≡ true) xs × Sorted key xs
 
 module _ {X : Type 0} (key : X → List ℕ) where
-  all_first : (x y : X) (ys : List X) → goes_first key x y ≡ true → AllByRecursion (λ z. goes_first key y z ≡ true) ys → AllByRecursion (λ z. goes_first key x z ≡ true) ys
+  all_first : (x y : X) (ys : List X) → goes_first key x y ≡ true → AllByRecursion (λ z. goes_first key y z ≡ true) ys
+      → AllByRecursion (λ z. goes_first key x z ≡ true) ys
   all_first x y [] le a = tt
   all_first x y (z ∷ zs) le a = (first_trans (key x) (key y) (key z) le a.0, all_first x y zs le a.1)
 
-  put_all : (w x : X) (ys : List X) → goes_first key w x ≡ true → AllByRecursion (λ z. goes_first key w z ≡ true) ys → AllByRecursion (λ z. goes_first key w z ≡ true) (put key x ys)
+  put_all : (w x : X) (ys : List X) → goes_first key w x ≡ true → AllByRecursion (λ z. goes_first key w z ≡ true) ys
+      → AllByRecursion (λ z. goes_first key w z ≡ true) (put key x ys)
   unfolding put
   put_all w x [] le a = (le, tt)
   put_all w x (y ∷ ys) le a =
-      elim (goes_first key x y) as (λ b. AllByRecursion (λ z. goes_first key w z ≡ true) (cond b (x ∷ y ∷ ys) (y ∷ put key x ys))) [ true ↦ (le, a) | false ↦ (a.0, put_all w x ys le a.1) ]
+      elim (goes_first key x y) as (λ b. AllByRecursion (λ z. goes_first key w z ≡ true)
+      (cond b (x ∷ y ∷ ys) (y ∷ put key x ys))) [ true ↦ (le, a) | false ↦ (a.0, put_all w x ys le a.1) ]
 
   put_sorted : (x : X) (ys : List X) → Sorted key ys → Sorted key (put key x ys)
   unfolding put
   put_sorted x [] s = (tt, tt)
   put_sorted x (y ∷ ys) s =
       ⊎_elim
-      (λ first. subst (λ b. Sorted key (cond b (x ∷ y ∷ ys) (y ∷ put key x ys))) (sym first) ((first, all_first x y ys first s.0), s))
-      (λ later. subst (λ b. Sorted key (cond b (x ∷ y ∷ ys) (y ∷ put key x ys))) (sym later) (put_all y x ys (other_first (key x) (key y) (key x) later) s.0, put_sorted x ys s.1))
+      (λ first. subst (λ b. Sorted key (cond b (x ∷ y ∷ ys) (y ∷ put key x ys))) (sym first)
+      ((first, all_first x y ys first s.0), s))
+      (λ later. subst (λ b. Sorted key (cond b (x ∷ y ∷ ys) (y ∷ put key x ys))) (sym later)
+      (put_all y x ys (other_first (key x) (key y) (key x) later) s.0, put_sorted x ys s.1))
       (cases_Bool (goes_first key x y))
 
   pub in_order_sorted : (xs : List X) → Sorted key (in_order key xs)
@@ -127,7 +134,8 @@ module _ {X : Type 0} (key : X → List ℕ) where
   in_order_sum : (f : X → ℕ) (xs : List X) → sum_by f (in_order key xs) ≡ sum_by f xs
   unfolding in_order
   in_order_sum f [] = refl
-  in_order_sum f (x ∷ xs) = put_sum f x (in_order key xs) ∙ ap (λ n. f x + n) (in_order_sum f xs) ∙ sym (sum_by-cons f x xs)
+  in_order_sum f (x ∷ xs) =
+      put_sum f x (in_order key xs) ∙ ap (λ n. f x + n) (in_order_sum f xs) ∙ sym (sum_by-cons f x xs)
 
   -- one where the test passes
   one_if : (X → Bool) → X → ℕ
@@ -136,17 +144,21 @@ module _ {X : Type 0} (key : X → List ℕ) where
   none_passes : (p : X → Bool) (ys : List X) → AllByRecursion (λ z. p z ≡ false) ys → sum_by (one_if p) ys ≡ 0
   unfolding one_if
   none_passes p [] a = refl
-  none_passes p (y ∷ ys) a = sum_by-cons (λ x. cond (p x) 1 0) y ys ∙ (λ i. cond (a.0 i) 1 0 + sum_by (λ x. cond (p x) 1 0) ys) ∙ zero-add (sum_by (λ x. cond (p x) 1 0) ys) ∙ none_passes p ys a.1
+  none_passes p (y ∷ ys) a =
+      sum_by-cons (λ x. cond (p x) 1 0) y ys ∙ (λ i. cond (a.0 i) 1 0 + sum_by (λ x. cond (p x) 1 0) ys)
+      ∙ zero-add (sum_by (λ x. cond (p x) 1 0) ys) ∙ none_passes p ys a.1
 
   pub goes_itself : (x : X) → goes_first key x x ≡ true
   goes_itself x = ⊎_elim (λ is. is) (λ isnt. other_first (key x) (key x) (key x) isnt) (cases_Bool (goes_first key x x))
 
-  not_all : (y : X) (ys : List X) → AllByRecursion (λ z. goes_first key y z ≡ true) ys → AllByRecursion (λ z. not (goes_first key y z) ≡ false) ys
+  not_all : (y : X) (ys : List X) → AllByRecursion (λ z. goes_first key y z ≡ true) ys
+      → AllByRecursion (λ z. not (goes_first key y z) ≡ false) ys
   not_all y [] a = tt
   not_all y (z ∷ zs) a = (ap not a.0, not_all y zs a.1)
 
   -- the head of a sorted list goes before every element of a list with the same elements
-  heads : (x y : X) (xs ys : List X) → Sorted key (y ∷ ys) → ((f : X → ℕ) → sum_by f (x ∷ xs) ≡ sum_by f (y ∷ ys)) → goes_first key y x ≡ true
+  heads : (x y : X) (xs ys : List X) → Sorted key (y ∷ ys) → ((f : X → ℕ) → sum_by f (x ∷ xs) ≡ sum_by f (y ∷ ys))
+      → goes_first key y x ≡ true
   unfolding one_if
   heads x y xs ys s same =
       ⊎_elim (λ is. is)
@@ -167,19 +179,29 @@ module _ {X : Type 0} (key : X → List ℕ) where
     unique [] (y ∷ ys) s t same = absurd (omega (arith, same (λ _. 1), sum_by-cons (λ (_ : X). 1) y ys))
     unique (x ∷ xs) [] s t same = absurd (omega (arith, same (λ _. 1), sum_by-cons (λ (_ : X). 1) x xs))
     unique (x ∷ xs) (y ∷ ys) s t same =
-        let head : x ≡ y = exact x y (both_first (key x) (key y) (key x) (heads y x ys xs s (λ f. sym (same f))) (heads x y xs ys t same)) in
-        (λ i. head i ∷ unique xs ys s.1 t.1 (λ f. let heads_same : f x ≡ f y = ap f head in omega (arith, same f, heads_same, sum_by-cons f x xs, sum_by-cons f y ys)) i)
+        let head : x ≡ y = exact x y
+        (both_first (key x) (key y) (key x) (heads y x ys xs s (λ f. sym (same f))) (heads x y xs ys t same)) in
+        (λ i. head i ∷ unique xs ys s.1 t.1
+        (λ f. let heads_same : f x ≡ f y =
+        ap f head in omega (arith, same f, heads_same, sum_by-cons f x xs, sum_by-cons f y ys)) i)
 
     -- a sorted list with the same elements is the list in order
     pub sorted_is : (xs ys : List X) → IsPermutation xs ys → Sorted key ys → in_order key xs ≡ ys
-    sorted_is xs ys moved s = unique (in_order key xs) ys (in_order_sorted xs) s (λ f. in_order_sum f xs ∙ sym (sum_by-IsPermutation f xs ys moved))
+    sorted_is xs ys moved s =
+        unique (in_order key xs) ys (in_order_sorted xs) s
+        (λ f. in_order_sum f xs ∙ sym (sum_by-IsPermutation f xs ys moved))
 
   -- neighbours in order are a sorted list
-  pub neighbours : (xs : List X) → ((k : ℕ) (d : X) → 0 ≤ k → k + 1 < length xs → is_lt (Keys (key (get_or xs (k + 1) d)) (key (get_or xs k d))) ≡ false) → Sorted key xs
+  pub neighbours : (xs : List X)
+      → ((k : ℕ) (d : X) → 0 ≤ k → k + 1 < length xs
+      → is_lt (Keys (key (get_or xs (k + 1) d)) (key (get_or xs k d))) ≡ false) → Sorted key xs
   neighbours [] h = tt
   neighbours (x ∷ []) h = (tt, tt)
   neighbours (x ∷ y ∷ ys) h =
-      let later : Sorted key (y ∷ ys) = neighbours (y ∷ ys) (λ k d low within. let step : suc k + 1 ≡ suc (k + 1) = omega arith in subst (λ m. is_lt (Keys (key (get_or (x ∷ y ∷ ys) m d)) (key (get_or (y ∷ ys) k d))) ≡ false) step (h (suc k) d (omega arith) (omega arith))) in
+      let later : Sorted key (y ∷ ys) =
+      neighbours (y ∷ ys) (λ k d low within. let step : suc k + 1 ≡ suc (k + 1) =
+      omega arith in subst (λ m. is_lt (Keys (key (get_or (x ∷ y ∷ ys) m d)) (key (get_or (y ∷ ys) k d))) ≡ false)
+      step (h (suc k) d (omega arith) (omega arith))) in
       let first : goes_first key x y ≡ true = not_less (key x) (key y) (key x) (h 0 x (omega arith) (omega arith)) in
       ((first, all_first x y ys first later.0), later)
 
@@ -208,7 +230,12 @@ def_exact a b is =
     let rank : kind_rank a.kind ≡ kind_rank b.kind = cc in
     let line : a.line ≡ b.line = cc in
     let flag : number a.local ≡ number b.local = cc in
-    λ i. record { name = record { start = start i; end = end i }; kind = same_kind a.kind b.kind rank i; line = line i; local = same_flag a.local b.local flag i }
+    λ i. record {
+      name = record { start = start i; end = end i };
+      kind = same_kind a.kind b.kind rank i;
+      line = line i;
+      local = same_flag a.local b.local flag i;
+    }
 
 pub call_exact : (a b : Call) → call_key a ≡ call_key b → a ≡ b
 call_exact a b is =
@@ -217,4 +244,8 @@ call_exact a b is =
     let line : a.line ≡ b.line = cc in
     let from : a.caller.start ≡ b.caller.start = cc in
     let to : a.caller.end ≡ b.caller.end = cc in
-    λ i. record { callee = record { start = start i; end = end i }; line = line i; caller = record { start = from i; end = to i } }
+    λ i. record {
+      callee = record { start = start i; end = end i };
+      line = line i;
+      caller = record { start = from i; end = to i };
+    }

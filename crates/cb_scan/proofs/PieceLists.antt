@@ -21,7 +21,8 @@ unfolding pieces_from
 pieces_from-nil zero place = refl
 pieces_from-nil (suc f) place = refl
 
-pieces_from-same : (f g place : ℕ) (bs : List ℕ) → length bs ≤ f → length bs ≤ g → pieces_from f place bs ≡ pieces_from g place bs
+pieces_from-same : (f g place : ℕ) (bs : List ℕ) → length bs ≤ f → length bs ≤ g
+    → pieces_from f place bs ≡ pieces_from g place bs
 unfolding pieces_from
 pieces_from-same f g place [] a b = pieces_from-nil f place ∙ sym (pieces_from-nil g place)
 pieces_from-same zero g place (x ∷ xs) a b = absurd (let y : ⊥ = omega arith in y)
@@ -30,7 +31,8 @@ pieces_from-same (suc f) (suc g) place (x ∷ xs) a b =
     let n = piece_len (x ∷ xs) in
     let some = piece-some (x ∷ xs) (omega arith) in
     let left = length-drop n (x ∷ xs) in
-    ap (λ l. piece_at place (x ∷ xs) ∷ l) (pieces_from-same f g (place + n) (drop n (x ∷ xs)) (omega arith) (omega arith))
+    ap (λ l. piece_at place (x ∷ xs) ∷ l)
+    (pieces_from-same f g (place + n) (drop n (x ∷ xs)) (omega arith) (omega arith))
 
 pub pieces-nil : (place : ℕ) → pieces_at place [] ≡ []
 pieces-nil place = pieces_from-nil 0 place
@@ -47,7 +49,9 @@ pieces-step place (x ∷ xs) more =
     let n = piece_len (x ∷ xs) in
     let some = piece-some (x ∷ xs) (omega arith) in
     let left = length-drop n (x ∷ xs) in
-    ap (λ l. piece_at place (x ∷ xs) ∷ l) (pieces_from-same (length xs) (length (drop n (x ∷ xs))) (place + n) (drop n (x ∷ xs)) (omega arith) (omega arith))
+    ap (λ l. piece_at place (x ∷ xs) ∷ l)
+    (pieces_from-same (length xs) (length (drop n (x ∷ xs))) (place + n) (drop n (x ∷ xs)) (omega arith)
+    (omega arith))
 
 length-pieces_from : (f place : ℕ) (bs : List ℕ) → length (pieces_from f place bs) ≤ length bs
 unfolding pieces_from
@@ -69,7 +73,8 @@ pub record Left (text : List ℕ) (place : ℕ) (rest : List ℕ) : Type 0 where
   pub is : rest ≡ drop place text
   pub size : place + length rest ≡ length text
 
-pub left_next : (text : List ℕ) (place : ℕ) (rest : List ℕ) (n : ℕ) → n ≤ length rest → Left text place rest → Left text (place + n) (drop n rest)
+pub left_next : (text : List ℕ) (place : ℕ) (rest : List ℕ) (n : ℕ) → n ≤ length rest → Left text place rest
+    → Left text (place + n) (drop n rest)
 left_next text place rest n le h = record {
   is = ap (drop n) h.is ∙ drop-drop n place text;
   size = omega (arith, length-drop n rest, h.size);
@@ -78,7 +83,8 @@ left_next text place rest n le h = record {
 pub left_all : (text : List ℕ) → Left text 0 text
 left_all text = record { is = refl; size = omega arith }
 
-are_from : (f : ℕ) (text : List ℕ) (place : ℕ) (rest : List ℕ) → length rest ≤ f → Left text place rest → ArePiecesFrom text place (pieces_from f place rest)
+are_from : (f : ℕ) (text : List ℕ) (place : ℕ) (rest : List ℕ) → length rest ≤ f → Left text place rest
+    → ArePiecesFrom text place (pieces_from f place rest)
 unfolding ArePiecesFrom pieces_from
 are_from zero text place [] le h = omega (arith, h.size)
 are_from zero text place (b ∷ bs) le h = absurd (let y : ⊥ = omega arith in y)
@@ -91,10 +97,17 @@ are_from (suc f) text place (b ∷ bs) le h =
     let left = length-drop n rest in
     let long : n ≡ place + n - place = omega arith in
     let lexeme : Lexeme (class_at rest) text place (place + n) =
-    subst (λ l. IsLexeme (class_at rest) l (place + n - place)) h.is (subst (λ m. IsLexeme (class_at rest) rest m) long (piece-lexeme rest (omega arith))) in
+    subst (λ l. IsLexeme (class_at rest) l (place + n - place)) h.is
+    (subst (λ m. IsLexeme (class_at rest) rest m) long (piece-lexeme rest (omega arith))) in
     let longest : IsLongest text place (place + n) = λ class k l.
-    let bound = lexeme-longest class rest (k - place) (subst (λ xs. IsLexeme class xs (k - place)) (sym h.is) l) in omega arith in
-    (refl, lexeme, longest, are_from f text (place + n) (drop n rest) (omega arith) (left_next text place rest n within h))
+    let bound = lexeme-longest class rest (k - place)
+    (subst (λ xs. IsLexeme class xs (k - place)) (sym h.is) l) in omega arith in (
+      refl,
+      lexeme,
+      longest,
+      are_from f text (place + n) (drop n rest) (omega arith)
+          (left_next text place rest n within h),
+    )
 
 -- the computed pieces are the pieces
 pub pieces-are : (text : List ℕ) → IsPieces text (pieces text)
@@ -107,12 +120,15 @@ lexeme-some class [] n h =
     absurd (let y : ⊥ = omega (arith, lone.0) in y)
 lexeme-some class (b ∷ bs) n h = omega arith
 
-piece-same : (p : Piece) (place : ℕ) (rest : List ℕ) → p.class ≡ class_at rest → p.span.start ≡ place → p.span.end ≡ place + piece_len rest → p ≡ piece_at place rest
+piece-same : (p : Piece) (place : ℕ) (rest : List ℕ) → p.class ≡ class_at rest → p.span.start ≡ place
+    → p.span.end ≡ place + piece_len rest → p ≡ piece_at place rest
 piece-same p place rest x y z =
     let make : Class → ℕ → ℕ → Piece = λ c s e. record { class = c; span = record { start = s; end = e } } in
-    ap (λ c. make c p.span.start p.span.end) x ∙ ap (λ s. make (class_at rest) s p.span.end) y ∙ ap (λ e. make (class_at rest) place e) z
+    ap (λ c. make c p.span.start p.span.end) x ∙ ap (λ s. make (class_at rest) s p.span.end) y
+    ∙ ap (λ e. make (class_at rest) place e) z
 
-only_from : (f : ℕ) (text : List ℕ) (place : ℕ) (rest : List ℕ) (ps : List Piece) → length rest ≤ f → Left text place rest → ArePiecesFrom text place ps → ps ≡ pieces_from f place rest
+only_from : (f : ℕ) (text : List ℕ) (place : ℕ) (rest : List ℕ) (ps : List Piece) → length rest ≤ f
+    → Left text place rest → ArePiecesFrom text place ps → ps ≡ pieces_from f place rest
 unfolding ArePiecesFrom pieces_from
 only_from f text place rest [] le h are =
     let none = empty rest (omega (arith, h.size)) in
@@ -131,19 +147,22 @@ only_from (suc f) text place (b ∷ bs) (p ∷ ps) le h are =
     let low = lexeme-longest p.class rest (p.span.end - place) lexeme in
     let long : n ≡ place + n - place = omega arith in
     let mine : Lexeme (class_at rest) text place (place + n) =
-    subst (λ l. IsLexeme (class_at rest) l (place + n - place)) h.is (subst (λ m. IsLexeme (class_at rest) rest m) long (piece-lexeme rest (omega arith))) in
+    subst (λ l. IsLexeme (class_at rest) l (place + n - place)) h.is
+    (subst (λ m. IsLexeme (class_at rest) rest m) long (piece-lexeme rest (omega arith))) in
     let high = are.2 (class_at rest) (place + n) mine in
     let end : p.span.end ≡ place + n = omega arith in
     let first = piece-same p place rest (sym (lexeme-class p.class rest (p.span.end - place) lexeme)) are.0 end in
     let more = subst (λ i. ArePiecesFrom text i ps) end are.3 in
-    let inner = only_from f text (place + n) (drop n rest) ps (omega arith) (left_next text place rest n within h) more in
+    let inner = only_from f text (place + n) (drop n rest) ps (omega arith)
+    (left_next text place rest n within h) more in
     ap (λ q. q ∷ ps) first ∙ ap (λ l. piece_at place rest ∷ l) inner
 
 -- and no other list is
 pub pieces-only : (text : List ℕ) (ps : List Piece) → IsPieces text ps → ps ≡ pieces text
 pieces-only text ps are = only_from (length text) text 0 text ps (omega arith) (left_all text) are
 
-adjoin_from : (f : ℕ) (text : List ℕ) (place : ℕ) (rest : List ℕ) → length rest ≤ f → Left text place rest → Adjoin place (length text) (pieces_from f place rest)
+adjoin_from : (f : ℕ) (text : List ℕ) (place : ℕ) (rest : List ℕ) → length rest ≤ f → Left text place rest
+    → Adjoin place (length text) (pieces_from f place rest)
 unfolding Adjoin pieces_from
 adjoin_from zero text place [] le h = omega (arith, h.size)
 adjoin_from zero text place (b ∷ bs) le h = absurd (let y : ⊥ = omega arith in y)
@@ -153,14 +172,19 @@ adjoin_from (suc f) text place (b ∷ bs) le h =
     let n = piece_len rest in
     let some = piece-some rest (omega arith) in
     let within = piece-within rest (omega arith) in
-    let left = length-drop n rest in
-    (refl, omega arith, adjoin_from f text (place + n) (drop n rest) (omega arith) (left_next text place rest n within h))
+    let left = length-drop n rest in (
+      refl,
+      omega arith,
+      adjoin_from f text (place + n) (drop n rest) (omega arith)
+          (left_next text place rest n within h),
+    )
 
 -- each begins where the one before it ends
 pub pieces-adjoin : (text : List ℕ) → Adjoin 0 (length text) (pieces text)
 pieces-adjoin text = adjoin_from (length text) text 0 text (omega arith) (left_all text)
 
-lie_from : (f : ℕ) (text : List ℕ) (place : ℕ) (rest : List ℕ) → Left text place rest → AllByRecursion (LiesIn text) (pieces_from f place rest)
+lie_from : (f : ℕ) (text : List ℕ) (place : ℕ) (rest : List ℕ) → Left text place rest
+    → AllByRecursion (LiesIn text) (pieces_from f place rest)
 unfolding pieces_from
 lie_from zero text place rest h = tt
 lie_from (suc f) text place [] h = tt
@@ -177,7 +201,8 @@ pub pieces-lie : (text : List ℕ) → AllByRecursion (LiesIn text) (pieces text
 pieces-lie text = lie_from (length text) text 0 text (left_all text)
 
 -- a step that gave the first of a list
-pub gave_first : {A : Type 0} (can : List A → Type 0) → ((l : List A) → can l) → (s t : List A) (x : A) → s ≡ x ∷ t → MakesProgress can (item_count (λ rest. rest)) s (Some x) t
+pub gave_first : {A : Type 0} (can : List A → Type 0) → ((l : List A) → can l) → (s t : List A) (x : A) → s ≡ x ∷ t
+    → MakesProgress can (item_count (λ rest. rest)) s (Some x) t
 gave_first can always s t x e = record {
   on = λ _. (always t, tt, subst (λ l. length t < length l) (sym e) (omega arith));
   keeps = always t;
@@ -190,7 +215,8 @@ some_left n other = grind (arith, nat_tests)
 
 -- what a step leaves: the piece p is the first, and the rest is cut after it
 pub pieces-next : (place : ℕ) (rest : List ℕ) (p : Piece) → 0 < length rest → p ≡ piece_at place rest
-    → pieces_at place rest ≡ p ∷ pieces_at p.span.end (take (length rest - (p.span.end - place)) (drop (p.span.end - place) rest))
+    → pieces_at place rest ≡ p
+    ∷ pieces_at p.span.end (take (length rest - (p.span.end - place)) (drop (p.span.end - place) rest))
 pieces-next place rest p some e =
     let n = piece_len rest in
     let end : p.span.end ≡ place + n = ap (λ (q : Piece). q.span.end) e in
@@ -198,5 +224,8 @@ pieces-next place rest p some e =
     let cut : take (length rest - (p.span.end - place)) (drop (p.span.end - place) rest) ≡ drop n rest =
     take_rest rest (p.span.end - place) ∙ ap (λ k. drop k rest) size in
     pieces-step place rest some
-    ∙ ap (λ l. piece_at place rest ∷ l) (sym (ap (λ k. pieces_at k (take (length rest - (p.span.end - place)) (drop (p.span.end - place) rest))) end ∙ ap (λ l. pieces_at (place + n) l) cut))
-    ∙ ap (λ q. q ∷ pieces_at p.span.end (take (length rest - (p.span.end - place)) (drop (p.span.end - place) rest))) (sym e)
+    ∙ ap (λ l. piece_at place rest ∷ l)
+    (sym (ap (λ k. pieces_at k (take (length rest - (p.span.end - place)) (drop (p.span.end - place) rest))) end
+    ∙ ap (λ l. pieces_at (place + n) l) cut))
+    ∙ ap (λ q. q ∷ pieces_at p.span.end (take (length rest - (p.span.end - place)) (drop (p.span.end - place) rest)))
+    (sym e)

@@ -42,13 +42,15 @@ digit-no_letter b d = grind (arith, nat_tests)
 
 pub class-digit : (b : ℕ) (rest : List ℕ) → is_digit b ≡ true → class_at (b ∷ rest) ≡ Number
 unfolding class_at
-class-digit b rest d = cond-false _ _ _ (digit-no_letter b d) ∙ cond-true _ _ _ (or_left (is_digit b) (b == 46 && first_is is_digit rest) d)
+class-digit b rest d = cond-false _ _ _ (digit-no_letter b d)
+    ∙ cond-true _ _ _ (or_left (is_digit b) (b == 46 && first_is is_digit rest) d)
 
 pub class-dot : (rest : List ℕ) → first_is is_digit rest ≡ true → class_at (46 ∷ rest) ≡ Number
 unfolding class_at
 class-dot rest d = cond-true _ _ _ d
 
-pub class-number : (b : ℕ) (rest : List ℕ) → (is_digit b || (b == 46 && first_is is_digit rest)) ≡ true → class_at (b ∷ rest) ≡ Number
+pub class-number : (b : ℕ) (rest : List ℕ) → (is_digit b || (b == 46 && first_is is_digit rest)) ≡ true
+    → class_at (b ∷ rest) ≡ Number
 class-number b rest t = ⊎_elim
     (λ d. class-digit b rest d)
     (λ e.

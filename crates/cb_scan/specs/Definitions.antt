@@ -22,7 +22,12 @@ use Rattle.cb_scan.specs.rules.Uses.{function_calls, includes, macro_calls, uses
 
 -- a function, a macro and a name of a typedef as definitions
 abbrev pub function_def : Function → Def
-function_def f = record { name = f.name.span; kind = kind.Function; line = f.name.line; local = f.local }
+function_def f = record {
+  name = f.name.span;
+  kind = kind.Function;
+  line = f.name.line;
+  local = f.local;
+}
 
 abbrev pub macro_def : Macro → Def
 macro_def m = record { name = m.name.span; kind = kind.Macro; line = m.name.line; local = false }
@@ -34,7 +39,8 @@ typedef_def t = record { name = t.span; kind = kind.Typedef; line = t.line; loca
 unfoldable pub definitions_from : List ℕ → List Piece → List Def
 definitions_from text ps =
     in_order def_key
-    (map function_def (functions (code text ps)) ++ map macro_def (macros text ps) ++ map typedef_def (typedefs (code text ps)))
+    (map function_def (functions (code text ps)) ++ map macro_def (macros text ps)
+    ++ map typedef_def (typedefs (code text ps)))
 
 -- the calls of a text with these pieces, by place
 unfoldable pub calls : List ℕ → List Piece → List Call
@@ -43,7 +49,12 @@ calls text ps = in_order call_key (function_calls (code text ps) ++ macro_calls 
 -- what is found in a text with these pieces
 abbrev pub facts_from : List ℕ → List Piece → TextFacts
 facts_from text ps =
-    record { defs = definitions_from text ps; uses = uses text ps; calls = calls text ps; includes = includes text ps }
+    record {
+      defs = definitions_from text ps;
+      uses = uses text ps;
+      calls = calls text ps;
+      includes = includes text ps;
+    }
 
 -- ---- by the pieces as they are computed, which are the pieces (`IsPieces`) of the text
 
@@ -71,4 +82,5 @@ pub record AreWithin (text : List ℕ) (f : TextFacts) : Type 0 where
   pub lines : AllByRecursion (λ (d : Def). IsLineOf text d.line) f.defs
   pub uses : AllByRecursion (λ (u : Use). IsWithin text u.name × IsScopeWithin text u.scope) f.uses
   pub calls : AllByRecursion (λ (c : Call). IsWithin text c.callee × IsWithin text c.caller) f.calls
-  pub includes : AllByRecursion (λ (i : Include). IsWithin text i.header × IsScopeWithin text i.scope) f.includes
+  pub includes : AllByRecursion
+      (λ (i : Include). IsWithin text i.header × IsScopeWithin text i.scope) f.includes

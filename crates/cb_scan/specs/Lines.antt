@@ -4,7 +4,8 @@ use Rattle.std.specs.List.{slice_index_or}
 use Rattle.bstr.specs.Text.{lines_of, without_terminator}
 use Rattle.cb_scan.specs.Bytes.{line_feed}
 
--- the shown lines: the text cut after each line feed, each part without its line feed and one carriage return before that (POSIX text lines)
+-- the shown lines: the text cut after each line feed, each part without its line feed and one
+-- carriage return before that (POSIX text lines)
 abbrev pub lines : List ℕ → List (List ℕ)
 lines text = map without_terminator (lines_of text)
 

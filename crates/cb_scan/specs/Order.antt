@@ -31,7 +31,8 @@ kind_rank Function = 0
 kind_rank Macro = 1
 kind_rank Typedef = 2
 
--- definitions go by place, and at one place by kind; what is left of them makes no two equal in order
+-- definitions go by place, and at one place by kind; what is left of them makes no two equal in
+-- order
 abbrev pub def_key : Def → List ℕ
 def_key d = d.name.start ∷ kind_rank d.kind ∷ d.name.end ∷ d.line ∷ (if d.local then 1 else 0) ∷ []
 
@@ -46,9 +47,11 @@ unfoldable pub AreOrdered : {X : Type 0} → (X → X → Type 0) → List X →
 AreOrdered R [] = Unit {0}
 AreOrdered R (x ∷ xs) = AllByRecursion (R x) xs × AreOrdered R xs
 
--- a definition goes before another: its name begins before, or both at one place and its kind comes no later
+-- a definition goes before another: its name begins before, or both at one place and its kind comes
+-- no later
 abbrev pub IsDefBefore : Def → Def → Type 0
-IsDefBefore d e = (d.name.start < e.name.start) ⊎ ((d.name.start ≡ e.name.start) × (kind_rank d.kind ≤ kind_rank e.kind))
+IsDefBefore d e = (d.name.start < e.name.start)
+    ⊎ ((d.name.start ≡ e.name.start) × (kind_rank d.kind ≤ kind_rank e.kind))
 
 -- the facts are in order: definitions by place and then by kind; uses, calls and includes by place
 pub record AreInOrder (f : TextFacts) : Type 0 where

@@ -12,7 +12,8 @@ pub enum Kind {
     Typedef,
 }
 
-/// A definition: the bytes of its name, its kind, the line of its name (from 1), and whether it is `static`.
+/// A definition: the bytes of its name, its kind, the line of its name (from 1), and whether it is
+/// `static`.
 #[derive(Clone, Copy, Debug, PartialEq, Eq)]
 pub struct Def {
     pub name: Span,
@@ -37,8 +38,8 @@ pub struct Call {
     pub caller: Span,
 }
 
-/// An include: the header's bytes without its quotes or angle brackets, the line where they begin (from 1), and the name of
-/// the function around it.
+/// An include: the header's bytes without its quotes or angle brackets, the line where they begin
+/// (from 1), and the name of the function around it.
 #[derive(Clone, Copy, Debug, PartialEq, Eq)]
 pub struct Include {
     pub header: Span,
@@ -60,7 +61,12 @@ impl Model for Facts {
 
     ghost Value = { TextFacts };
 
-    ghost view = { λ f. record { defs = f.defs.items; uses = f.uses.items; calls = f.calls.items; includes = f.includes.items } };
+    ghost view = { λ f. record {
+      defs = f.defs.items;
+      uses = f.uses.items;
+      calls = f.calls.items;
+      includes = f.includes.items;
+    } };
 }
 
 impl Facts {
@@ -70,7 +76,12 @@ impl Facts {
         calls: Vec<Call>,
         includes: Vec<Include>,
     ) -> Facts
-        ensures { result ≡ record { defs = defs.items; uses = uses.items; calls = calls.items; includes = includes.items } }
+        ensures { result ≡ record {
+          defs = defs.items;
+          uses = uses.items;
+          calls = calls.items;
+          includes = includes.items;
+        } }
     {
         Facts {
             defs,

@@ -7,10 +7,10 @@ ghost use Rattle.cb_scan.specs.steps.Functions.{called, closed, found, left_open
 ghost use Rattle.cb_scan.specs.steps.Typedefs.{nesting_of, next_declaration, next_pending, typedefs_out};
 
 use crate::facts::{Call, Def, Include};
+use crate::lex::token::Token;
 use crate::rules::directives::Stage;
 use crate::rules::functions::Machine;
 use crate::rules::scope::Range;
-use crate::lex::token::Token;
 use crate::rules::typedefs::{Declaration, take_token};
 use std::alloc::{AllocError, Global};
 
@@ -21,8 +21,8 @@ pub(crate) struct CodeState {
     pub declared: Option<Declaration>,
 }
 
-/// What the code gives: its functions, their ranges and calls, and the names of its typedefs. The names of a typedef
-/// that is still open are held back.
+/// What the code gives: its functions, their ranges and calls, and the names of its typedefs. The
+/// names of a typedef that is still open are held back.
 #[derive(Drop)]
 pub(crate) struct CodeLists {
     pub functions: Vec<Def>,
@@ -32,7 +32,8 @@ pub(crate) struct CodeLists {
     pub pending: Vec<Token>,
 }
 
-/// What all lines give: the names that they use, and of directives the macros, their ranges and calls, and the includes.
+/// What all lines give: the names that they use, and of directives the macros, their ranges and
+/// calls, and the includes.
 #[derive(Drop)]
 pub(crate) struct LineLists {
     pub names: Vec<Token>,
@@ -73,14 +74,25 @@ impl CodeLists {
         requires deep { state.machine.depth + 1 < 2 ^ 32 }
         requires nested { nesting_of state.declared + 1 < 2 ^ 32 }
         ensures machine { IfOk result (λ s. s.machine ≡ next state.machine token) }
-        ensures declared { IfOk result (λ s. s.declared ≡ next_declaration state.machine state.declared token) }
+        ensures declared { IfOk result
+            (λ s. s.declared ≡ next_declaration state.machine state.declared token) }
         ensures deep { IfOk result (λ s. s.machine.depth ≤ state.machine.depth + 1) }
         ensures nested { IfOk result (λ s. nesting_of s.declared ≤ nesting_of state.declared + 1) }
-        ensures functions { IfOk result (λ _. self.new.functions.items ≡ self.old.functions.items ++ option_to_list (found state.machine token)) }
-        ensures ranges { IfOk result (λ _. self.new.ranges.items ≡ self.old.ranges.items ++ option_to_list (closed state.machine token)) }
-        ensures calls { IfOk result (λ _. self.new.calls.items ≡ self.old.calls.items ++ option_to_list (called state.machine token)) }
-        ensures pending { IfOk result (λ _. self.new.pending.items ≡ next_pending state.machine state.declared self.old.pending.items token) }
-        ensures typedefs { IfOk result (λ _. self.new.typedefs.items ≡ self.old.typedefs.items ++ typedefs_out state.machine state.declared self.old.pending.items token) }
+        ensures functions { IfOk result
+            (λ _. self.new.functions.items ≡ self.old.functions.items
+            ++ option_to_list (found state.machine token)) }
+        ensures ranges { IfOk result
+            (λ _. self.new.ranges.items ≡ self.old.ranges.items
+            ++ option_to_list (closed state.machine token)) }
+        ensures calls { IfOk result
+            (λ _. self.new.calls.items ≡ self.old.calls.items
+            ++ option_to_list (called state.machine token)) }
+        ensures pending { IfOk result
+            (λ _. self.new.pending.items
+            ≡ next_pending state.machine state.declared self.old.pending.items token) }
+        ensures typedefs { IfOk result
+            (λ _. self.new.typedefs.items ≡ self.old.typedefs.items
+            ++ typedefs_out state.machine state.declared self.old.pending.items token) }
     {
         let machine = state.machine;
         push_some(&mut self.functions, machine.found(token))?;
@@ -101,8 +113,11 @@ impl CodeLists {
 
     /// The end of the text, in the state of the pass there.
     pub(crate) fn end(&mut self, machine: Machine, end: u32) -> Result<(), AllocError>
-        ensures ranges { IfOk result (λ _. self.new.ranges.items ≡ self.old.ranges.items ++ option_to_list (left_open machine end)) }
-        ensures others { IfOk result (λ _. self.new ≡ record self.old { ranges = self.new.ranges }) }
+        ensures ranges { IfOk result
+            (λ _. self.new.ranges.items ≡ self.old.ranges.items
+            ++ option_to_list (left_open machine end)) }
+        ensures others { IfOk result
+            (λ _. self.new ≡ record self.old { ranges = self.new.ranges }) }
     {
         push_some(&mut self.ranges, machine.left_open(end))
     }
@@ -136,10 +151,15 @@ impl LineLists {
         requires within { token.span.end ≤ length text.now }
         requires few { length text.now ≤ MOST_BYTES }
         ensures line { IfOk result (λ s. s ≡ next_stage line token) }
-        ensures names { IfOk result (λ _. self.new.names.items ≡ self.old.names.items ++ use_out line token) }
-        ensures macros { IfOk result (λ _. self.new.macros.items ≡ self.old.macros.items ++ macro_out line token) }
-        ensures calls { IfOk result (λ _. self.new.calls.items ≡ self.old.calls.items ++ macro_call_out line token) }
-        ensures includes { IfOk result (λ _. self.new.includes.items ≡ self.old.includes.items ++ include_out text.now line token) }
+        ensures names { IfOk result
+            (λ _. self.new.names.items ≡ self.old.names.items ++ use_out line token) }
+        ensures macros { IfOk result
+            (λ _. self.new.macros.items ≡ self.old.macros.items ++ macro_out line token) }
+        ensures calls { IfOk result
+            (λ _. self.new.calls.items ≡ self.old.calls.items ++ macro_call_out line token) }
+        ensures includes { IfOk result
+            (λ _. self.new.includes.items ≡ self.old.includes.items
+            ++ include_out text.now line token) }
         ensures ranges { IfOk result (λ _. self.new.ranges.items ≡ self.old.ranges.items) }
     {
         if line.is_use(token) {
@@ -153,8 +173,10 @@ impl LineLists {
 
     /// The end of a line that came so far, and the place where it ends.
     pub(crate) fn end(&mut self, line: Stage, end: u32) -> Result<(), AllocError>
-        ensures ranges { IfOk result (λ _. self.new.ranges.items ≡ self.old.ranges.items ++ range_finish line end) }
-        ensures others { IfOk result (λ _. self.new ≡ record self.old { ranges = self.new.ranges }) }
+        ensures ranges { IfOk result
+            (λ _. self.new.ranges.items ≡ self.old.ranges.items ++ range_finish line end) }
+        ensures others { IfOk result
+            (λ _. self.new ≡ record self.old { ranges = self.new.ranges }) }
     {
         push_some(&mut self.ranges, line.macro_ended(end))
     }

@@ -27,7 +27,8 @@ pub fn pieces_in_order()
 
 /// The facts of a text follow from any list of its pieces, however it was found.
 pub fn facts_are()
-    ensures { (text : List ℕ) (ps : List Piece) → IsPieces text ps → facts_of text ≡ facts_from text ps }
+    ensures { (text : List ℕ) (ps : List Piece) → IsPieces text ps
+        → facts_of text ≡ facts_from text ps }
 {}
 
 /// A string is found closed exactly if it is a literal whatever follows it.
@@ -35,7 +36,8 @@ pub fn closed_strings()
     ensures { (bytes : List ℕ) → (is_closed bytes ≡ true) ↔ IsClosedLiteral 34 bytes }
 {}
 
-/// The facts of a text are in order: each of the four lists ascends by place, and definitions at one place go by kind.
+/// The facts of a text are in order: each of the four lists ascends by place, and definitions at
+/// one place go by kind.
 pub fn facts_in_order()
     ensures { (text : List ℕ) → AreInOrder (facts_of text) }
 {}

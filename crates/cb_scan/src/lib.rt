@@ -1,7 +1,9 @@
-//! The lexical layer: cuts a C text of at most 1,000,000 bytes into its pieces, and finds what it defines.
+//! The lexical layer: cuts a C text of at most 1,000,000 bytes into its pieces, and finds what it
+//! defines.
 //!
-//! It is built on `bstr` (lines), `memchr` (the end of a block comment) and `thiserror` (the error).
-//! The layer above uses the contract of [`scan`]: the facts are the definitions of the text.
+//! It is built on `bstr` (lines), `memchr` (the end of a block comment) and `thiserror` (the
+//! error). The layer above uses the contract of [`scan`]: the facts are the definitions of the
+//! text.
 #![tactic(auto)]
 
 mod facts;

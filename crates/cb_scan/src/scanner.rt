@@ -1,4 +1,5 @@
-//! The scanner: one pass over the pieces of a text, and then its facts in order and with their scopes.
+//! The scanner: one pass over the pieces of a text, and then its facts in order and with their
+//! scopes.
 ghost use Rattle.std.specs.Prelude.{◌≡◌, ◌+◌, ◌++◌, ◌^◌, ◌-◌, ◌<◌, ◌≤◌, min, List, length, map, IfOk, IfErr};
 ghost use Rattle.cb_scan.specs.declared.source.TheConstants.{MOST_BYTES};
 ghost use Rattle.std.specs.List.{AllByRecursion, flat_map};
@@ -16,15 +17,15 @@ ghost use Rattle.cb_scan.specs.rules.Uses.{function_calls, include_of, macro_cal
 
 use crate::facts::Facts;
 use crate::gather::{CodeLists, CodeState, LineLists};
-use crate::rules::directives::Stage;
 use crate::lex::lined::lined_pieces;
-use crate::rules::functions::Machine;
-use crate::meter::Meter;
-use crate::rules::order::{ordered_calls, ordered_defs};
 use crate::lex::piece::Class;
+use crate::lex::token::token_of;
+use crate::meter::Meter;
+use crate::rules::directives::Stage;
+use crate::rules::functions::Machine;
+use crate::rules::order::{ordered_calls, ordered_defs};
 use crate::rules::scope::{Around, scoped_includes, scoped_uses};
 use crate::source::{ScanError, Source};
-use crate::lex::token::token_of;
 use std::alloc::{AllocError, Global};
 
 /// What one pass gathers.
@@ -46,15 +47,26 @@ fn is_significant(class: Class) -> bool
 /// The one pass over a text: each piece is looked at once.
 fn gather(alloc: Global, text: &[u8]) -> Result<Gathered, AllocError>
     requires { length text.now ≤ MOST_BYTES }
-    ensures functions { IfOk result (λ g. g.code.functions.items ≡ map function_def (functions (code text.now (pieces text.now)))) }
-    ensures function_ranges { IfOk result (λ g. g.code.ranges.items ≡ function_ranges text.now (pieces text.now)) }
-    ensures function_calls { IfOk result (λ g. g.code.calls.items ≡ function_calls (code text.now (pieces text.now))) }
-    ensures typedefs { IfOk result (λ g. g.code.typedefs.items ≡ map typedef_def (typedefs (code text.now (pieces text.now)))) }
-    ensures names { IfOk result (λ g. g.lines.names.items ≡ flat_map used (logical_lines text.now (pieces text.now))) }
-    ensures macros { IfOk result (λ g. g.lines.macros.items ≡ map macro_def (macros text.now (pieces text.now))) }
-    ensures macro_ranges { IfOk result (λ g. g.lines.ranges.items ≡ macro_ranges text.now (pieces text.now)) }
-    ensures macro_calls { IfOk result (λ g. g.lines.calls.items ≡ macro_calls (macros text.now (pieces text.now))) }
-    ensures includes { IfOk result (λ g. g.lines.includes.items ≡ flat_map (include_of text.now) (directives text.now (pieces text.now))) }
+    ensures functions { IfOk result
+        (λ g. g.code.functions.items
+        ≡ map function_def (functions (code text.now (pieces text.now)))) }
+    ensures function_ranges { IfOk result
+        (λ g. g.code.ranges.items ≡ function_ranges text.now (pieces text.now)) }
+    ensures function_calls { IfOk result
+        (λ g. g.code.calls.items ≡ function_calls (code text.now (pieces text.now))) }
+    ensures typedefs { IfOk result
+        (λ g. g.code.typedefs.items ≡ map typedef_def (typedefs (code text.now (pieces text.now)))) }
+    ensures names { IfOk result
+        (λ g. g.lines.names.items ≡ flat_map used (logical_lines text.now (pieces text.now))) }
+    ensures macros { IfOk result
+        (λ g. g.lines.macros.items ≡ map macro_def (macros text.now (pieces text.now))) }
+    ensures macro_ranges { IfOk result
+        (λ g. g.lines.ranges.items ≡ macro_ranges text.now (pieces text.now)) }
+    ensures macro_calls { IfOk result
+        (λ g. g.lines.calls.items ≡ macro_calls (macros text.now (pieces text.now))) }
+    ensures includes { IfOk result
+        (λ g. g.lines.includes.items
+        ≡ flat_map (include_of text.now) (directives text.now (pieces text.now))) }
 {
     let mut code = CodeLists::new(alloc);
     let mut lines = LineLists::new(alloc);
@@ -104,12 +116,14 @@ fn facts_in(alloc: Global, text: &[u8]) -> Result<Facts, AllocError>
     Ok(Facts::new(defs, uses, calls, includes))
 }
 
-/// What is found in the text: the facts that follow from its pieces (`exact`), which lie in it (`within`) and are in order
-/// ([`crate::laws::facts_in_order`]). The meter counts the bytes of the source, also where memory was refused, which is
-/// the only error. One pass, and time in proportion to the text (ordering what is out of order aside).
+/// What is found in the text: the facts that follow from its pieces (`exact`), which lie in it
+/// (`within`) and are in order ([`crate::laws::facts_in_order`]). The meter counts the bytes of the
+/// source, also where memory was refused, which is the only error. One pass, and time in proportion
+/// to the text (ordering what is out of order aside).
 pub fn scan(alloc: Global, meter: &mut Meter, source: &Source) -> Result<Facts, ScanError>
     ensures facts { IfOk result (λ f. f ≡ facts_of source.now) }
-    ensures exact { IfOk result (λ f. (ps : List Piece) → IsPieces source.now ps → f ≡ facts_from source.now ps) }
+    ensures exact { IfOk result
+        (λ f. (ps : List Piece) → IsPieces source.now ps → f ≡ facts_from source.now ps) }
     ensures within { IfOk result (λ f. AreWithin source.now f) }
     ensures memory { IfErr result (λ e. e ≡ ScanError.OutOfMemory) }
     ensures counted { meter.new ≡ min (meter.old + length source.now) (2 ^ 64 - 1) }

@@ -25,7 +25,8 @@ pub enum ScanError {
     OutOfMemory,
 }
 
-/// A text of at most 1,000,000 bytes, with the places at which its lines begin and the last one ends.
+/// A text of at most 1,000,000 bytes, with the places at which its lines begin and the last one
+/// ends.
 #[derive(Debug, Drop)]
 pub struct Source {
     bytes: Vec<u8>,
@@ -41,7 +42,8 @@ impl Model for Source {
 
     ghost view = { λ s. s.bytes.items };
 
-    ghost invariant = { λ s. (length s.bytes.items ≤ MOST_BYTES) × (s.starts.items ≡ line_starts s.bytes.items) };
+    ghost invariant = { λ s. (length s.bytes.items ≤ MOST_BYTES)
+        × (s.starts.items ≡ line_starts s.bytes.items) };
 }
 
 /// Where the lines of a text begin, and where the last one ends.
@@ -85,8 +87,8 @@ fn shown(line: &[u8]) -> &[u8]
 }
 
 impl Source {
-    /// The bytes as a source: `TooLarge` over 1,000,000 of them, `OutOfMemory` where a growth was refused. On an error
-    /// the bytes are dropped.
+    /// The bytes as a source: `TooLarge` over 1,000,000 of them, `OutOfMemory` where a growth was
+    /// refused. On an error the bytes are dropped.
     pub fn new(alloc: Global, bytes: Vec<u8>) -> Result<Source, ScanError>
         ensures ok { IfOk result (λ s. s ≡ bytes.items) }
         ensures large { (result ≡ Err ScanError.TooLarge) ↔ (MOST_BYTES < vec_len bytes) }
@@ -109,7 +111,8 @@ impl Source {
         self.bytes.as_slice()
     }
 
-    /// How many lines there are; a last line without line feed counts if it is not empty (POSIX text lines).
+    /// How many lines there are; a last line without line feed counts if it is not empty (POSIX
+    /// text lines).
     pub fn line_count(&self) -> u32
         ensures { result ≡ length (lines self.now) }
     {

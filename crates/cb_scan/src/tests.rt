@@ -35,7 +35,8 @@ fn letter(class: Class) -> u8 {
     }
 }
 
-/// Whether `want` has, for each byte of the text, the letter of its piece's class, in upper case where a piece begins.
+/// Whether `want` has, for each byte of the text, the letter of its piece's class, in upper case
+/// where a piece begins.
 fn is_cut(source: &Source, want: &[u8]) -> bool {
     let mut cut = 0;
     for piece in pieces(source) {

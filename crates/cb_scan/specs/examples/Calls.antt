@@ -17,7 +17,8 @@ by caller callee = record { callee = callee; caller = caller }
 
 -- the calls of a text
 abbrev called : List ℕ → List Named
-called text = map (λ c. by (bytes_of text c.caller) (bytes_of text c.callee)) (calls text (pieces text))
+called text = map (λ c. by (bytes_of text c.caller) (bytes_of text c.callee))
+    (calls text (pieces text))
 
 -- `unfolding calling` opens how calls are found
 unfoldable pub calling : Unit {0}
@@ -25,7 +26,8 @@ unfolding expanding calls calls_among in_order put
 calling = tt
 
 -- a name directly followed by `(`, in the body of a function
-pub in_body : called (codes "f(a(b)) { g(h(1)); i; }") ≡ by (codes "f") (codes "g") ∷ by (codes "f") (codes "h") ∷ []
+pub in_body : called (codes "f(a(b)) { g(h(1)); i; }")
+    ≡ by (codes "f") (codes "g") ∷ by (codes "f") (codes "h") ∷ []
 unfolding calling
 in_body = refl
 
@@ -55,6 +57,7 @@ unfolding calling
 in_macro = refl
 
 -- by place, also where a macro is in a function
-pub by_place : called (codes "f() { a();\n#define G() b()\nc(); }") ≡ by (codes "f") (codes "a") ∷ by (codes "G") (codes "b") ∷ by (codes "f") (codes "c") ∷ []
+pub by_place : called (codes "f() { a();\n#define G() b()\nc(); }")
+    ≡ by (codes "f") (codes "a") ∷ by (codes "G") (codes "b") ∷ by (codes "f") (codes "c") ∷ []
 unfolding calling
 by_place = refl

@@ -52,6 +52,7 @@ pub no_include : headers (codes "#import <a>\ninclude <b>\n") ≡ []
 unfolding including
 no_include = refl
 
-pub in_function : scopes (codes "#include <a>\nf() {\n#include <b>\n}") ≡ None ∷ Some (codes "f") ∷ []
+pub in_function : scopes (codes "#include <a>\nf() {\n#include <b>\n}")
+    ≡ None ∷ Some (codes "f") ∷ []
 unfolding including
 in_function = refl

@@ -47,7 +47,8 @@ unfolding expanding
 reserved_name = refl
 
 -- the body is what follows the first `)`
-pub body_tokens : bodies (codes "#define F(x) (x)+1\ny") ≡ (codes "(" ∷ codes "x" ∷ codes ")" ∷ codes "+" ∷ codes "1" ∷ []) ∷ []
+pub body_tokens : bodies (codes "#define F(x) (x)+1\ny")
+    ≡ (codes "(" ∷ codes "x" ∷ codes ")" ∷ codes "+" ∷ codes "1" ∷ []) ∷ []
 unfolding expanding
 body_tokens = refl
 

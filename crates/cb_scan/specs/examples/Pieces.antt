@@ -13,11 +13,13 @@ piece class i j = record { class = class; span = record { start = i; end = j } }
 
 -- `unfolding cutting` opens how pieces are counted
 unfoldable pub cutting : Unit {0}
-unfolding first_is ends_join class_at number_len blank_len comment_escape ends_comment comment_len literal_escape ends_literal literal_len block_len length_in pieces_from
+unfolding first_is ends_join class_at number_len blank_len comment_escape ends_comment comment_len
+    literal_escape ends_literal literal_len block_len length_in pieces_from
 cutting = tt
 
 -- `"a` LF `b`: a literal that isn't closed ends before the line's end
-pub open_literal : pieces (34 ∷ 97 ∷ 10 ∷ 98 ∷ []) ≡ piece Str 0 2 ∷ piece Newline 2 3 ∷ piece Name 3 4 ∷ []
+pub open_literal : pieces (34 ∷ 97 ∷ 10 ∷ 98 ∷ [])
+    ≡ piece Str 0 2 ∷ piece Newline 2 3 ∷ piece Name 3 4 ∷ []
 unfolding cutting
 open_literal = refl
 
@@ -37,7 +39,8 @@ unfolding cutting
 joined_literal = refl
 
 -- `\` CR `A`: without an LF it is no join
-pub lone_return : pieces (92 ∷ 13 ∷ 65 ∷ []) ≡ piece Byte 0 1 ∷ piece Blank 1 2 ∷ piece Name 2 3 ∷ []
+pub lone_return : pieces (92 ∷ 13 ∷ 65 ∷ [])
+    ≡ piece Byte 0 1 ∷ piece Blank 1 2 ∷ piece Name 2 3 ∷ []
 unfolding cutting
 lone_return = refl
 
@@ -45,7 +48,8 @@ pub signed_exponent : pieces (codes "1e+5.x") ≡ piece Number 0 6 ∷ []
 unfolding cutting
 signed_exponent = refl
 
-pub sign_elsewhere : pieces (codes "1+5") ≡ piece Number 0 1 ∷ piece Byte 1 2 ∷ piece Number 2 3 ∷ []
+pub sign_elsewhere : pieces (codes "1+5")
+    ≡ piece Number 0 1 ∷ piece Byte 1 2 ∷ piece Number 2 3 ∷ []
 unfolding cutting
 sign_elsewhere = refl
 
@@ -71,10 +75,15 @@ unfolding cutting
 closed_comment = refl
 
 -- `//\` CR LF `b` LF: a line comment goes on after a join
-pub joined_comment : pieces (47 ∷ 47 ∷ 92 ∷ 13 ∷ 10 ∷ 98 ∷ 10 ∷ []) ≡ piece LineNote 0 6 ∷ piece Newline 6 7 ∷ []
+pub joined_comment : pieces (47 ∷ 47 ∷ 92 ∷ 13 ∷ 10 ∷ 98 ∷ 10 ∷ [])
+    ≡ piece LineNote 0 6 ∷ piece Newline 6 7 ∷ []
 unfolding cutting
 joined_comment = refl
 
 -- `"a` before an LF is a literal
 pub open_lexeme : IsLexeme Str (34 ∷ 97 ∷ 10 ∷ []) 2
-open_lexeme = (refl, lit≤ tt, quoted_byte (λ e. omega arith) (λ e. omega arith) (λ e. omega arith) (not_closed (inr refl)))
+open_lexeme = (
+  refl,
+  lit≤ tt,
+  quoted_byte (λ e. omega arith) (λ e. omega arith) (λ e. omega arith) (not_closed (inr refl)),
+)

@@ -30,7 +30,8 @@ unfolding naming
 pointer_to_function = refl
 
 -- the first name that directly follows such a `*`; a comma in parentheses parts nothing
-pub inner_pointer : names (codes "typedef int (*(*f)(void))(int, a), q;") ≡ codes "f" ∷ codes "q" ∷ []
+pub inner_pointer : names (codes "typedef int (*(*f)(void))(int, a), q;")
+    ≡ codes "f" ∷ codes "q" ∷ []
 unfolding naming
 inner_pointer = refl
 

@@ -36,7 +36,8 @@ unfolding using_names
 comment_and_literals = refl
 
 -- the own word of a directive is no use, and all names after it are
-pub directive_names : names (codes "#define F(a) G\n#if A\n# 3 b") ≡ codes "F" ∷ codes "a" ∷ codes "G" ∷ codes "A" ∷ codes "b" ∷ []
+pub directive_names : names (codes "#define F(a) G\n#if A\n# 3 b")
+    ≡ codes "F" ∷ codes "a" ∷ codes "G" ∷ codes "A" ∷ codes "b" ∷ []
 unfolding using_names
 directive_names = refl
 

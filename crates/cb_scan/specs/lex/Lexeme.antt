@@ -32,9 +32,10 @@ unfoldable pub is_identifier : List ℕ → Bool
 is_identifier [] = false
 is_identifier (b ∷ bs) = is_letter b && list_all is_word bs
 
--- b may follow `last` in a number: a letter, a digit, `_`, `.`, or a sign directly after e, E, p or P
+-- b may follow `last` in a number: a letter, a digit, `_`, `.`, or a sign after e, E, p or P
 abbrev pub goes_on : ℕ → ℕ → Bool
-goes_on last b = is_word b || b == dot || ((b == plus || b == minus) && (last == 101 || last == 69 || last == 112 || last == 80))
+goes_on last b = is_word b || b == dot
+    || ((b == plus || b == minus) && (last == 101 || last == 69 || last == 112 || last == 80))
 
 -- each byte may follow the one before it in a number, and the first one `last`
 unfoldable pub all_go_on : ℕ → List ℕ → Bool
@@ -49,9 +50,12 @@ is_number (b ∷ bs) = (is_digit b || (b == dot && first_is is_digit bs)) && all
 -- blanks and joins; a join is `\` LF or `\` CR LF (C11 5.1.1.2, phase 2)
 pub data Blanks : List ℕ → ℕ → Type 0 where
   no_blank : {rest : List ℕ} → Blanks rest 0
-  a_blank : {a n : ℕ} {rest : List ℕ} → is_blank a ≡ true → Blanks rest n → Blanks (a ∷ rest) (suc n)
-  a_join : {a b n : ℕ} {rest : List ℕ} → a ≡ backslash → b ≡ line_feed → Blanks rest n → Blanks (a ∷ b ∷ rest) (suc (suc n))
-  a_cr_join : {a b c n : ℕ} {rest : List ℕ} → a ≡ backslash → b ≡ carriage_return → c ≡ line_feed → Blanks rest n → Blanks (a ∷ b ∷ c ∷ rest) (suc (suc (suc n)))
+  a_blank : {a n : ℕ} {rest : List ℕ} → is_blank a ≡ true → Blanks rest n
+      → Blanks (a ∷ rest) (suc n)
+  a_join : {a b n : ℕ} {rest : List ℕ} → a ≡ backslash → b ≡ line_feed → Blanks rest n
+      → Blanks (a ∷ b ∷ rest) (suc (suc n))
+  a_cr_join : {a b c n : ℕ} {rest : List ℕ} → a ≡ backslash → b ≡ carriage_return → c ≡ line_feed
+      → Blanks rest n → Blanks (a ∷ b ∷ c ∷ rest) (suc (suc (suc n)))
 
 -- what follows is an LF or the end
 abbrev pub IsLineEnd : List ℕ → Type 0
@@ -60,19 +64,27 @@ IsLineEnd rest = (length rest ≡ 0) ⊎ (take 1 rest ≡ line_feed ∷ [])
 -- a line comment after its `//` (C11 6.4.9): joins and bytes other than LF, up to an LF or the end
 pub data Commented : List ℕ → ℕ → Type 0 where
   comment_ends : {rest : List ℕ} → IsLineEnd rest → Commented rest 0
-  commented_byte : {a n : ℕ} {rest : List ℕ} → a ≢ line_feed → Commented rest n → Commented (a ∷ rest) (suc n)
-  commented_join : {a b n : ℕ} {rest : List ℕ} → a ≡ backslash → b ≡ line_feed → Commented rest n → Commented (a ∷ b ∷ rest) (suc (suc n))
-  commented_cr_join : {a b c n : ℕ} {rest : List ℕ} → a ≡ backslash → b ≡ carriage_return → c ≡ line_feed → Commented rest n → Commented (a ∷ b ∷ c ∷ rest) (suc (suc (suc n)))
+  commented_byte : {a n : ℕ} {rest : List ℕ} → a ≢ line_feed → Commented rest n
+      → Commented (a ∷ rest) (suc n)
+  commented_join : {a b n : ℕ} {rest : List ℕ} → a ≡ backslash → b ≡ line_feed → Commented rest n
+      → Commented (a ∷ b ∷ rest) (suc (suc n))
+  commented_cr_join : {a b c n : ℕ} {rest : List ℕ} → a ≡ backslash → b ≡ carriage_return
+      → c ≡ line_feed → Commented rest n → Commented (a ∷ b ∷ c ∷ rest) (suc (suc (suc n)))
 
--- a literal after its quote q (C11 6.4.4.4 and 6.4.5; this project's profile where it isn't closed): it ends with q or before a line's end,
--- and its items are `\` CR LF; else `\` and any byte, also a `\` that ends the text; else any byte but q, `\` and LF
+-- a literal after its quote q (C11 6.4.4.4 and 6.4.5; this project's profile where it isn't
+-- closed): it ends with q or before a line's end, and its items are `\` CR LF; else `\` and any
+-- byte, also a `\` that ends the text; else any byte but q, `\` and LF
 pub data Quoted (q : ℕ) : List ℕ → ℕ → Type 0 where
   closed : {a : ℕ} {rest : List ℕ} → a ≡ q → Quoted q (a ∷ rest) 1
   not_closed : {rest : List ℕ} → IsLineEnd rest → Quoted q rest 0
-  joined : {a b c n : ℕ} {rest : List ℕ} → a ≡ backslash → b ≡ carriage_return → c ≡ line_feed → Quoted q rest n → Quoted q (a ∷ b ∷ c ∷ rest) (suc (suc (suc n)))
-  escaped : {a b n : ℕ} {rest : List ℕ} → a ≡ backslash → take 2 (b ∷ rest) ≢ carriage_return ∷ line_feed ∷ [] → Quoted q rest n → Quoted q (a ∷ b ∷ rest) (suc (suc n))
+  joined : {a b c n : ℕ} {rest : List ℕ} → a ≡ backslash → b ≡ carriage_return → c ≡ line_feed
+      → Quoted q rest n → Quoted q (a ∷ b ∷ c ∷ rest) (suc (suc (suc n)))
+  escaped : {a b n : ℕ} {rest : List ℕ} → a ≡ backslash
+      → take 2 (b ∷ rest) ≢ carriage_return ∷ line_feed ∷ [] → Quoted q rest n
+      → Quoted q (a ∷ b ∷ rest) (suc (suc n))
   last_escape : {a : ℕ} → a ≡ backslash → Quoted q (a ∷ []) 1
-  quoted_byte : {a n : ℕ} {rest : List ℕ} → a ≢ q → a ≢ backslash → a ≢ line_feed → Quoted q rest n → Quoted q (a ∷ rest) (suc n)
+  quoted_byte : {a n : ℕ} {rest : List ℕ} → a ≢ q → a ≢ backslash → a ≢ line_feed → Quoted q rest n
+      → Quoted q (a ∷ rest) (suc n)
 
 -- a literal: the quote q, and what follows it
 abbrev pub IsLiteral : ℕ → List ℕ → ℕ → Type 0
@@ -91,9 +103,12 @@ abbrev pub comment_end : ℕ → Option ℕ → ℕ
 comment_end len None = len
 comment_end len (Some k) = k + 4
 
--- a block comment (C11 6.4.9): `/*`, up to and with the first `*/` after these two bytes, else to the end
+-- a block comment (C11 6.4.9): `/*`, up to and with the first `*/` after these two bytes, else to
+-- the end
 abbrev pub IsBlockComment : List ℕ → ℕ → Type 0
-IsBlockComment rest n = (take 2 rest ≡ codes "/*") × ((found : Option ℕ) × FindsNeedle (drop 2 rest) (codes "*/") 0 found × (n ≡ comment_end (length rest) found))
+IsBlockComment rest n = (take 2 rest ≡ codes "/*")
+    × ((found : Option ℕ) × FindsNeedle (drop 2 rest) (codes "*/") 0 found
+    × (n ≡ comment_end (length rest) found))
 
 -- the first n bytes spell a lexeme of a class other than `Byte`
 abbrev pub Spells : Class → List ℕ → ℕ → Type 0

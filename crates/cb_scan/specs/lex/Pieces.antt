@@ -8,11 +8,13 @@ use Rattle.cb_scan.specs.lex.Lexeme.{Lexeme}
 abbrev pub IsLongest : List ℕ → ℕ → ℕ → Type 0
 IsLongest text i j = (class : Class) (k : ℕ) → Lexeme class text i k → k ≤ j
 
--- ps covers the text from place i on without gaps: each is a lexeme of its class, and no class has a longer one at its start
+-- ps covers the text from place i on without gaps: each is a lexeme of its class, and no class has
+-- a longer one at its start
 unfoldable pub ArePiecesFrom : List ℕ → ℕ → List Piece → Type 0
 ArePiecesFrom text i [] = i ≡ length text
 ArePiecesFrom text i (p ∷ ps) =
-    (p.span.start ≡ i) × Lexeme p.class text i p.span.end × IsLongest text i p.span.end × ArePiecesFrom text p.span.end ps
+    (p.span.start ≡ i) × Lexeme p.class text i p.span.end × IsLongest text i p.span.end
+    × ArePiecesFrom text p.span.end ps
 
 -- ps are the pieces of the text
 abbrev pub IsPieces : List ℕ → List Piece → Type 0

@@ -18,7 +18,8 @@ use Rattle.cb_scan.specs.Bytes.{line_feed}
 abbrev pub bytes_of : List ℕ → Span → List ℕ
 bytes_of text span = slice_range text span.start span.end
 
--- names, numbers, literals and lone bytes are tokens (ISO C 2011, 6.4); comments, blanks and newlines are none
+-- names, numbers, literals and lone bytes are tokens (ISO C 2011, 6.4); comments, blanks and
+-- newlines are none
 abbrev pub is_significant : Class → Bool
 is_significant class.Name = true
 is_significant class.Number = true
@@ -32,9 +33,11 @@ is_significant class.Byte = true
 
 -- a name, and the two that mean something as the own word of a directive
 abbrev pub name_kind : List ℕ → WordKind
-name_kind bytes = if bytes_eq bytes (codes "define") then Define else (if bytes_eq bytes (codes "include") then Include else Name)
+name_kind bytes = if bytes_eq bytes (codes "define") then Define
+    else (if bytes_eq bytes (codes "include") then Include else Name)
 
--- a name, two of which mean something as the own word of a directive; or a reserved word, three of which a rule asks for
+-- a name, two of which mean something as the own word of a directive; or a reserved word, three of
+-- which a rule asks for
 unfoldable pub word_of : List ℕ → WordKind
 word_of bytes =
     if not (is_reserved bytes) then name_kind bytes
@@ -59,7 +62,12 @@ starts_line text place = place == 0 || slice_index text (place - 1) == line_feed
 
 -- the token of a piece
 abbrev pub token_of : List ℕ → Piece → Token
-token_of text p = record { role = role_of text p; span = p.span; line = line_of text p.span.start; starts_line = starts_line text p.span.start }
+token_of text p = record {
+  role = role_of text p;
+  span = p.span;
+  line = line_of text p.span.start;
+  starts_line = starts_line text p.span.start;
+}
 
 -- the tokens among the pieces
 abbrev pub tokens : List ℕ → List Piece → List Token

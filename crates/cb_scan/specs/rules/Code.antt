@@ -13,13 +13,15 @@ abbrev pub is_newline : Class → Bool
 is_newline Newline = true
 is_newline _ = false
 
--- the tokens of each logical line: those of the pieces between newlines (ISO C 2011, 5.1.1.2 and 6.10)
+-- the tokens of each logical line: those of the pieces between newlines (ISO C 2011, 5.1.1.2 and
+-- 6.10)
 abbrev pub logical_lines : List ℕ → List Piece → List (List Token)
 logical_lines text ps = map (tokens text) (slice_split (λ p. is_newline p.class) ps)
 
 -- where the logical lines end: each where its newline begins, the last one at the end of the text
 abbrev pub line_ends : List ℕ → List Piece → List ℕ
-line_ends text ps = map (λ (p : Piece). p.span.start) (filter (λ p. is_newline p.class) ps) ++ length text ∷ []
+line_ends text ps = map (λ (p : Piece). p.span.start) (filter (λ p. is_newline p.class) ps)
+    ++ length text ∷ []
 
 -- a line whose first token is # (ISO C 2011, 6.10)
 abbrev pub is_directive : List Token → Bool

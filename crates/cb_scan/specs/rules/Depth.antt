@@ -1,4 +1,5 @@
--- How deep in braces a token of the code is, and where declarations part. This is the project's profile.
+-- How deep in braces a token of the code is, and where declarations part. This is the project's
+-- profile.
 use Rattle.std.specs.Prelude.{ℕ, zero, suc, ◌+◌, ◌-◌, Bool, false, ◌&&◌, ◌||◌, ◌==◌, not, List, if◌then◌else◌, slice_index_or}
 use Rattle.cb_scan.specs.declared.lex.token.Token.{Token}
 use Rattle.cb_scan.specs.declared.lex.token.Role.TheVariants.{Other}
@@ -7,7 +8,12 @@ use Rattle.cb_scan.specs.Bytes.{close_brace, open_brace, semicolon}
 
 -- the token where there is none
 abbrev pub no_token : Token
-no_token = record { role = Other; span = record { start = 0; end = 0 }; line = 0; starts_line = false }
+no_token = record {
+  role = Other;
+  span = record { start = 0; end = 0 };
+  line = 0;
+  starts_line = false;
+}
 
 -- token k of the code
 abbrev pub token_at : List Token → ℕ → Token
@@ -17,7 +23,8 @@ token_at ts k = slice_index_or ts k no_token
 abbrev pub follows_linkage : List Token → ℕ → Bool
 follows_linkage ts zero = false
 follows_linkage ts (suc zero) = false
-follows_linkage ts (suc (suc k)) = is_extern (token_at ts k).role && is_str (token_at ts (suc k)).role
+follows_linkage ts (suc (suc k)) =
+    is_extern (token_at ts k).role && is_str (token_at ts (suc k)).role
 
 -- token k is a `{`
 abbrev pub is_open : List Token → ℕ → Bool
@@ -31,9 +38,13 @@ is_counted ts k = is_open ts k && not (follows_linkage ts k)
 abbrev pub is_uncounted : List Token → ℕ → Bool
 is_uncounted ts k = is_open ts k && follows_linkage ts k
 
--- the depth after a token: a `{` that counts adds one, a `}` takes one, and one in the first column ends all
+-- the depth after a token: a `{` that counts adds one, a `}` takes one, and one in the first column
+-- ends all
 abbrev pub depth_after : Bool → Token → ℕ → ℕ
-depth_after counted t d = if counted then d + 1 else (if is_mark close_brace t.role then (if t.starts_line then 0 else d - 1) else d)
+depth_after counted t d =
+    if counted then d + 1
+    else (if is_mark close_brace t.role then (if t.starts_line then 0 else d - 1)
+    else d)
 
 -- the depth before token k
 unfoldable pub depth : List Token → ℕ → ℕ
@@ -46,7 +57,8 @@ closes ts k = is_mark close_brace (token_at ts k).role && depth ts (suc k) == 0
 
 -- token k is a stop: a `;` at depth 0, a `}` that leaves depth 0, or a `{` that does not count
 abbrev pub is_stop : List Token → ℕ → Bool
-is_stop ts k = (is_mark semicolon (token_at ts k).role && depth ts k == 0) || closes ts k || is_uncounted ts k
+is_stop ts k = (is_mark semicolon (token_at ts k).role && depth ts k == 0) || closes ts k
+    || is_uncounted ts k
 
 -- the place after the last stop before token k, or the beginning of the code
 unfoldable pub head_start : List Token → ℕ → ℕ

@@ -7,7 +7,8 @@ use Rattle.cb_scan.specs.lex.Tokens.{is_mark, is_name_token, is_typedef, is_stat
 use Rattle.cb_scan.specs.rules.Depth.{depth, head_start, is_counted, closes}
 use Rattle.cb_scan.specs.Bytes.{close_paren, equals, open_paren}
 
--- a function: the token of its name, whether it is static, the index of its `{`, and that of the `}` that ends it, or the end
+-- a function: the token of its name, whether it is static, the index of its `{`, and that of the
+-- `}` that ends it, or the end
 pub record Function : Type 0 where
   pub name : Token
   pub local : Bool
@@ -33,11 +34,14 @@ ends_in_declarator (t ∷ u ∷ ts) = ends_in_declarator (u ∷ ts)
 unfoldable pub called_name : List Token → Option Token
 called_name [] = None
 called_name (t ∷ []) = None
-called_name (t ∷ u ∷ ts) = if is_name_token t.role && is_mark open_paren u.role then Some t else called_name (u ∷ ts)
+called_name (t ∷ u ∷ ts) =
+    if is_name_token t.role && is_mark open_paren u.role then Some t else called_name (u ∷ ts)
 
--- the head is that of a function: it does not begin with `typedef`, has no `=`, and ends in `)` or a name
+-- the head is that of a function: it does not begin with `typedef`, has no `=`, and ends in `)` or
+-- a name
 abbrev pub may_define : List Token → Bool
-may_define h = not (begins_with_typedef h) && not (list_any (λ (t : Token). is_mark equals t.role) h) && ends_in_declarator h
+may_define h = not (begins_with_typedef h)
+    && not (list_any (λ (t : Token). is_mark equals t.role) h) && ends_in_declarator h
 
 -- the name that a head defines
 abbrev pub defined_name : List Token → Option Token
@@ -49,7 +53,10 @@ close_from ts k = unwrap_or (find (closes ts) (range_with_len k (length ts - k))
 
 -- the function whose `{` is token k, with the head h
 abbrev pub function_from : List Token → ℕ → List Token → List Function
-function_from ts k h = option_map_or (λ name. record { name = name; local = list_any (λ (t : Token). is_static t.role) h; body = k; end = close_from ts (suc k) } ∷ []) (defined_name h) []
+function_from ts k h =
+    let local = list_any (λ (t : Token). is_static t.role) h in
+    let end = close_from ts (suc k) in
+    option_map_or (λ name. record { name = name; local = local; body = k; end = end } ∷ []) (defined_name h) []
 
 -- the function whose `{` is token k, if one is
 abbrev pub function_at : List Token → ℕ → List Function

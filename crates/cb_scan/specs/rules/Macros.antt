@@ -17,10 +17,12 @@ unfoldable pub after_arguments : List Token → List Token
 after_arguments [] = []
 after_arguments (t ∷ ts) = if is_mark close_paren t.role then ts else after_arguments ts
 
--- the third token of `# define` names a macro with arguments: the fourth is a `(` that begins where the name ends
+-- the third token of `# define` names a macro with arguments: the fourth is a `(` that begins where
+-- the name ends
 abbrev pub defines_macro : Token → Token → Token → Bool
 defines_macro own name paren =
-    has_kind kind_is_define own.role && is_name_token name.role && is_mark open_paren paren.role && paren.span.start == name.span.end
+    has_kind kind_is_define own.role && is_name_token name.role && is_mark open_paren paren.role
+    && paren.span.start == name.span.end
 
 -- the macro that a directive defines, if it defines one
 abbrev pub macro_of : List Token → List Macro
@@ -29,7 +31,8 @@ macro_of (hash ∷ []) = []
 macro_of (hash ∷ own ∷ []) = []
 macro_of (hash ∷ own ∷ name ∷ []) = []
 macro_of (hash ∷ own ∷ name ∷ paren ∷ rest) =
-    if defines_macro own name paren then record { name = name; body = after_arguments rest } ∷ [] else []
+    if defines_macro own name paren then record { name = name; body = after_arguments rest } ∷ []
+    else []
 
 -- the macros with arguments, by place
 abbrev pub macros : List ℕ → List Piece → List Macro

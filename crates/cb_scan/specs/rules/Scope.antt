@@ -46,4 +46,5 @@ name_around ranges place = option_map (λ (r : Range). r.name) (find (holds plac
 -- the scope of a place: the macro whose range holds it, else the function
 abbrev pub scope : List ℕ → List Piece → ℕ → Option Span
 scope text ps place =
-    option_map_or (λ name. Some name) (name_around (macro_ranges text ps) place) (name_around (function_ranges text ps) place)
+    option_map_or (λ name. Some name) (name_around (macro_ranges text ps) place)
+    (name_around (function_ranges text ps) place)

@@ -17,13 +17,15 @@ ends_declaration ts k = is_mark semicolon (token_at ts k).role && depth ts k == 
 
 -- the first token from k on that ends a typedef or begins another
 abbrev pub typedef_stop : List Token → ℕ → Option ℕ
-typedef_stop ts k = find (λ j. ends_declaration ts j || begins_typedef ts j) (range_with_len k (length ts - k))
+typedef_stop ts k = find (λ j. ends_declaration ts j || begins_typedef ts j)
+    (range_with_len k (length ts - k))
 
 -- token k if it is taken: it is at depth 0 and is no brace
 abbrev pub taken_at : List Token → ℕ → List Token
 taken_at ts k =
     let t = token_at ts k in
-    if depth ts k == 0 && not (is_mark open_brace t.role || is_mark close_brace t.role) then t ∷ [] else []
+    if depth ts k == 0 && not (is_mark open_brace t.role || is_mark close_brace t.role) then t ∷ []
+    else []
 
 -- the tokens taken from k up to j
 abbrev pub taken : List Token → ℕ → ℕ → List Token
@@ -56,7 +58,9 @@ parts ts = slice_split parts_here (nested 0 ts)
 -- the list begins with `*`s, at least as many as asked, and then a name: that name
 unfoldable pub name_after_stars : List Nested → Option Token
 name_after_stars [] = None
-name_after_stars (x ∷ xs) = if is_mark star x.token.role then name_after_stars xs else (if is_name_token x.token.role then Some x.token else None)
+name_after_stars (x ∷ xs) =
+    if is_mark star x.token.role then name_after_stars xs
+    else (if is_name_token x.token.role then Some x.token else None)
 
 -- the list begins with a `*`
 abbrev pub begins_with_star : List Nested → Bool
@@ -67,16 +71,20 @@ begins_with_star (x ∷ xs) = is_mark star x.token.role
 unfoldable pub pointer_name : List Nested → Option Token
 pointer_name [] = None
 pointer_name (x ∷ xs) =
-    if is_mark open_paren x.token.role && begins_with_star xs then (option_map_or (λ name. Some name) (name_after_stars xs) (pointer_name xs)) else pointer_name xs
+    if is_mark open_paren x.token.role && begins_with_star xs
+    then (option_map_or (λ name. Some name) (name_after_stars xs) (pointer_name xs))
+    else pointer_name xs
 
 -- its last name outside parentheses and brackets
 unfoldable pub last_name : Option Token → List Nested → Option Token
 last_name found [] = found
-last_name found (x ∷ xs) = last_name (if is_name_token x.token.role && x.nesting == 0 then Some x.token else found) xs
+last_name found (x ∷ xs) =
+    last_name (if is_name_token x.token.role && x.nesting == 0 then Some x.token else found) xs
 
 -- the name that a part defines
 abbrev pub part_name : List Nested → List Token
-part_name part = option_map_or (λ name. name ∷ []) (pointer_name part) (option_to_list (last_name None part))
+part_name part = option_map_or (λ name. name ∷ []) (pointer_name part)
+    (option_to_list (last_name None part))
 
 -- the names that a typedef defines whose tokens these are
 abbrev pub typedef_names : List Token → List Token
@@ -86,7 +94,8 @@ typedef_names ts = flat_map part_name (parts ts)
 abbrev pub typedef_at : List Token → ℕ → List Token
 typedef_at ts k =
     if begins_typedef ts k then
-    option_map_or (λ j. if ends_declaration ts j then typedef_names (taken ts k j) else []) (typedef_stop ts (suc k)) []
+    option_map_or (λ j. if ends_declaration ts j then typedef_names (taken ts k j) else [])
+    (typedef_stop ts (suc k)) []
     else []
 
 -- the names that the typedefs of the code define, by place

@@ -33,7 +33,9 @@ after_own_word (hash ∷ own ∷ rest) = if is_any_word own.role then rest else 
 
 -- the tokens of a line among which names are uses: no token of an include, and no own word
 abbrev pub usable : List Token → List Token
-usable line = if is_directive line then (if is_include line then [] else after_own_word line) else line
+usable line =
+    if is_directive line then (if is_include line then [] else after_own_word line)
+    else line
 
 -- the names used on a line
 abbrev pub used : List Token → List Token
@@ -42,7 +44,8 @@ used line = filter (λ (t : Token). is_name_token t.role) (usable line)
 -- the uses of a text, by place
 unfoldable pub uses : List ℕ → List Piece → List Use
 uses text ps =
-    map (λ (t : Token). record { name = t.span; line = t.line; scope = scope text ps t.span.start }) (flat_map used (logical_lines text ps))
+    map (λ (t : Token). record { name = t.span; line = t.line; scope = scope text ps t.span.start })
+    (flat_map used (logical_lines text ps))
 
 -- ---- calls
 
@@ -56,7 +59,8 @@ call_of caller t = record { callee = t.span; line = t.line; caller = caller }
 
 -- the call that token k of the code is, in the body of a function
 abbrev pub call_at : List Token → Span → ℕ → List Call
-call_at ts caller k = if is_call (token_at ts k) (token_at ts (suc k)) then call_of caller (token_at ts k) ∷ [] else []
+call_at ts caller k =
+    if is_call (token_at ts k) (token_at ts (suc k)) then call_of caller (token_at ts k) ∷ [] else []
 
 -- the calls in the body of a function
 abbrev pub calls_of_function : List Token → Function → List Call
@@ -70,7 +74,9 @@ function_calls ts = flat_map (calls_of_function ts) (functions ts)
 unfoldable pub calls_among : Span → List Token → List Call
 calls_among caller [] = []
 calls_among caller (t ∷ []) = []
-calls_among caller (t ∷ u ∷ ts) = if is_call t u then call_of caller t ∷ calls_among caller (u ∷ ts) else calls_among caller (u ∷ ts)
+calls_among caller (t ∷ u ∷ ts) =
+    if is_call t u then call_of caller t ∷ calls_among caller (u ∷ ts)
+    else calls_among caller (u ∷ ts)
 
 -- the calls in the bodies of macros with arguments
 abbrev pub macro_calls : List Macro → List Call
@@ -80,23 +86,40 @@ macro_calls ms = flat_map (λ (m : Macro). calls_among m.name.span m.body) ms
 
 -- the header between two places, if it is not empty
 abbrev pub header_between : ℕ → ℕ → ℕ → List Include
-header_between start end line = if nat_lt start end then record { header = record { start = start; end = end }; line = line; scope = None } ∷ [] else []
+header_between start end line =
+    let include : Include =
+    record { header = record { start = start; end = end }; line = line; scope = None } in
+    if nat_lt start end then include ∷ [] else []
 
--- the header that the third token of an include begins: a closed string (`IsClosedLiteral`), or what is between `<` and the first `>` (ISO C
--- 2011, 6.4.7 and 6.10.2). Its first byte is on the token's line.
+-- the header that a string is: what is between its quotes, if it is closed (`IsClosedLiteral`)
+abbrev pub string_header : List ℕ → Token → List Include
+string_header text t =
+    if is_closed (bytes_of text t.span) then header_between (t.span.start + 1) (t.span.end - 1) t.line
+    else []
+
+-- the header that a `<` begins: what is between it and the first `>`
+abbrev pub angle_header : Token → List Token → List Include
+angle_header t rest =
+    option_map_or (λ (g : Token). header_between t.span.end g.span.start t.line)
+    (find (λ (u : Token). is_mark greater u.role) rest) []
+
+-- the header that the third token of an include begins (ISO C 2011, 6.4.7 and 6.10.2); its first
+-- byte is on the token's line
 abbrev pub header_of : List ℕ → Token → List Token → List Include
 header_of text t rest =
-    if is_str t.role then (if is_closed (bytes_of text t.span) then header_between (t.span.start + 1) (t.span.end - 1) t.line else [])
-    else (if is_mark less t.role then option_map_or (λ (g : Token). header_between t.span.end g.span.start t.line) (find (λ (u : Token). is_mark greater u.role) rest) [] else [])
+    if is_str t.role then string_header text t
+    else (if is_mark less t.role then angle_header t rest else [])
 
 -- the include that a directive is, if it is one; its scope is still to be found
 abbrev pub include_of : List ℕ → List Token → List Include
 include_of text [] = []
 include_of text (hash ∷ []) = []
 include_of text (hash ∷ own ∷ []) = []
-include_of text (hash ∷ own ∷ t ∷ rest) = if has_kind kind_is_include own.role then header_of text t rest else []
+include_of text (hash ∷ own ∷ t ∷ rest) =
+    if has_kind kind_is_include own.role then header_of text t rest else []
 
 -- the includes of a text, by place
 unfoldable pub includes : List ℕ → List Piece → List Include
 includes text ps =
-    map (λ (i : Include). record i { scope = scope text ps i.header.start }) (flat_map (include_of text) (directives text ps))
+    map (λ (i : Include). record i { scope = scope text ps i.header.start })
+    (flat_map (include_of text) (directives text ps))

@@ -1,4 +1,5 @@
--- The pieces of a text as they are computed: one byte after the other, the first byte decides the class.
+-- The pieces of a text as they are computed: one byte after the other, the first byte decides the
+-- class.
 use Rattle.std.specs.Prelude.{◌+◌, ℕ, zero, suc, Bool, false, ◌==◌, ◌||◌, ◌&&◌, not, if◌then◌else◌, List, [], ◌∷◌, length, drop}
 use Rattle.std.specs.List.{prefix_len}
 use Rattle.cb_scan.specs.declared.lex.lexeme.Escape.{Escape}
@@ -39,18 +40,21 @@ number_len last (b ∷ rest) = if goes_on last b then suc (number_len b rest) el
 
 -- b goes on a blank, in a join or out of one
 abbrev pub goes_on_blank : Bool → ℕ → List ℕ → Bool
-goes_on_blank joining b rest = is_blank b || (joining && b == line_feed) || (b == backslash && ends_join rest)
+goes_on_blank joining b rest =
+    is_blank b || (joining && b == line_feed) || (b == backslash && ends_join rest)
 
 -- how many bytes go on a blank; `joining` says that a join has begun whose LF is still to come
 unfoldable pub blank_len : Bool → List ℕ → ℕ
 blank_len joining [] = 0
 blank_len joining (b ∷ rest) =
-    if goes_on_blank joining b rest then suc (blank_len (b == backslash || (joining && not (b == line_feed))) rest) else 0
+    if goes_on_blank joining b rest
+    then suc (blank_len (b == backslash || (joining && not (b == line_feed))) rest) else 0
 
 -- what is after b in a line comment
 unfoldable pub comment_escape : Escape → ℕ → Escape
 comment_escape Plain b = if b == backslash then Backslash else Plain
-comment_escape Backslash b = if b == backslash then Backslash else if b == carriage_return then Return else Plain
+comment_escape Backslash b =
+    if b == backslash then Backslash else if b == carriage_return then Return else Plain
 comment_escape Return b = if b == backslash then Backslash else Plain
 
 -- b ends a line comment
@@ -62,7 +66,8 @@ ends_comment Return b = false
 -- how many bytes go on a line comment
 unfoldable pub comment_len : Escape → List ℕ → ℕ
 comment_len e [] = 0
-comment_len e (b ∷ rest) = if ends_comment e b then 0 else suc (comment_len (comment_escape e b) rest)
+comment_len e (b ∷ rest) =
+    if ends_comment e b then 0 else suc (comment_len (comment_escape e b) rest)
 
 -- what is after b in a literal
 unfoldable pub literal_escape : Escape → ℕ → Escape
@@ -80,7 +85,8 @@ ends_literal q Return b = b == q
 unfoldable pub literal_len : ℕ → Escape → List ℕ → ℕ
 literal_len q e [] = 0
 literal_len q e (b ∷ rest) =
-    if ends_literal q e b then (if b == q then 1 else 0) else suc (literal_len q (literal_escape e b) rest)
+    if ends_literal q e b then (if b == q then 1 else 0)
+    else suc (literal_len q (literal_escape e b) rest)
 
 -- how many bytes go on a block comment, with its `*/`; `starred` says that a `*` is directly before
 unfoldable pub block_len : Bool → List ℕ → ℕ
@@ -105,14 +111,18 @@ piece_len rest = length_in (class_at rest) rest
 
 -- the piece that begins at this place, where so much is left of the text
 abbrev pub piece_at : ℕ → List ℕ → Piece
-piece_at place rest = record { class = class_at rest; span = record { start = place; end = place + piece_len rest } }
+piece_at place rest = record {
+  class = class_at rest;
+  span = record { start = place; end = place + piece_len rest };
+}
 
 -- the pieces from a place on: fuel is at least the number of bytes left
 unfoldable pub pieces_from : ℕ → ℕ → List ℕ → List Piece
 pieces_from zero place rest = []
 pieces_from (suc fuel) place [] = []
 pieces_from (suc fuel) place (b ∷ rest) =
-    piece_at place (b ∷ rest) ∷ pieces_from fuel (place + piece_len (b ∷ rest)) (drop (piece_len (b ∷ rest)) (b ∷ rest))
+    piece_at place (b ∷ rest)
+    ∷ pieces_from fuel (place + piece_len (b ∷ rest)) (drop (piece_len (b ∷ rest)) (b ∷ rest))
 
 -- the pieces from a place on, where so much is left of the text
 abbrev pub pieces_at : ℕ → List ℕ → List Piece

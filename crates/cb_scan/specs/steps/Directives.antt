@@ -23,28 +23,41 @@ use Rattle.cb_scan.specs.Bytes.{close_paren, greater, hash, less, open_paren}
 
 -- the token of a piece whose line is known
 abbrev pub lined_token : List ℕ → Lined → Token
-lined_token text l = record { role = role_of text l.piece; span = l.piece.span; line = l.line; starts_line = starts_line text l.piece.span.start }
+lined_token text l = record {
+  role = role_of text l.piece;
+  span = l.piece.span;
+  line = l.line;
+  starts_line = starts_line text l.piece.span.start;
+}
+
+-- a `(` directly follows the name: then the macro has arguments
+abbrev pub opens_arguments : Token → Token → Bool
+opens_arguments name t = is_mark open_paren t.role && t.span.start == name.span.end
 
 -- how far a `# define` has come, after a token
 abbrev pub next_defining : Defining → Token → Defining
 next_defining defining.Begun t = if is_name_token t.role then defining.Name t else defining.Other
 next_defining (defining.Name name) t =
-    if is_mark open_paren t.role && t.span.start == name.span.end then defining.Arguments name.span else defining.Other
-next_defining (defining.Arguments name) t = if is_mark close_paren t.role then defining.Body name None else defining.Arguments name
+    if opens_arguments name t then defining.Arguments name.span
+    else defining.Other
+next_defining (defining.Arguments name) t =
+    if is_mark close_paren t.role then defining.Body name None else defining.Arguments name
 next_defining (defining.Body name last) t = defining.Body name (Some t)
 next_defining defining.Other t = defining.Other
 
 -- how far a `# include` has come, after a token
 abbrev pub next_including : Including → Token → Including
 next_including including.Begun t = if is_mark less t.role then including.Angle t else including.Done
-next_including (including.Angle open_) t = if is_mark greater t.role then including.Done else including.Angle open_
+next_including (including.Angle open_) t =
+    if is_mark greater t.role then including.Done else including.Angle open_
 next_including including.Done t = including.Done
 
 -- after the second token of a directive
 abbrev pub directive_of : Token → Directive
 directive_of own =
     if has_kind kind_is_define own.role then directive.Define defining.Begun
-    else (if has_kind kind_is_include own.role then directive.Include including.Begun else directive.Other)
+    else (if has_kind kind_is_include own.role then directive.Include including.Begun
+    else directive.Other)
 
 -- how far a directive has come, after a token
 abbrev pub next_directive : Directive → Token → Directive
@@ -62,16 +75,20 @@ next_stage (InDirective d) t = InDirective (next_directive d t)
 -- ---- what a token gives, and what the end of a line gives
 
 -- a line from a stage on, by what each token and the end give
-abbrev pub run : {A : Type 0} → (Stage → Token → List A) → (Stage → List A) → Stage → List Token → List A
+abbrev pub run : {A : Type 0} → (Stage → Token → List A) → (Stage → List A) → Stage → List Token
+    → List A
 run out finish s [] = finish s
 run out finish s (t ∷ ts) = out s t ++ run out finish (next_stage s t) ts
 
--- the pieces from a stage of the line on; the end of a line gives something by the stage and the place
-abbrev pub walk : {A : Type 0} → (Stage → Token → List A) → (Stage → ℕ → List A) → List ℕ → Stage → List Lined → List A
+-- the pieces from a stage of the line on; the end of a line gives something by the stage and the
+-- place
+abbrev pub walk : {A : Type 0} → (Stage → Token → List A) → (Stage → ℕ → List A) → List ℕ → Stage
+    → List Lined → List A
 walk out finish text s [] = finish s (length text)
 walk out finish text s (l ∷ ls) =
     if is_newline l.piece.class then finish s l.piece.span.start ++ walk out finish text Start ls
-    else (if is_significant l.piece.class then out s (lined_token text l) ++ walk out finish text (next_stage s (lined_token text l)) ls
+    else (if is_significant l.piece.class then out s (lined_token text l)
+    ++ walk out finish text (next_stage s (lined_token text l)) ls
     else walk out finish text s ls)
 
 -- the end of a line gives nothing
@@ -103,8 +120,9 @@ use_out s t = if is_name_token t.role && names_count s then t ∷ [] else []
 -- the macro of that name, if the token opens its arguments
 abbrev pub macro_opened : Defining → Token → Option Def
 macro_opened (defining.Name name) t =
-    if is_mark open_paren t.role && t.span.start == name.span.end
-    then Some (record { name = name.span; kind = kind.Macro; line = name.line; local = false }) else None
+    if opens_arguments name t
+    then Some (record { name = name.span; kind = kind.Macro; line = name.line; local = false })
+    else None
 macro_opened _ t = None
 
 abbrev pub macro_found : Stage → Token → Option Def
@@ -133,7 +151,8 @@ no_range s t = []
 
 -- the call of the last token of a macro's body
 abbrev pub body_call : Defining → Token → Option Call
-body_call (defining.Body name (Some last)) t = if is_call last t then Some (call_of name last) else None
+body_call (defining.Body name (Some last)) t =
+    if is_call last t then Some (call_of name last) else None
 body_call _ t = None
 
 abbrev pub macro_call : Stage → Token → Option Call
@@ -146,7 +165,8 @@ macro_call_out s t = option_to_list (macro_call s t)
 -- the include whose header a string is, or a `>` ends
 abbrev pub header_found : List ℕ → Including → Token → List Include
 header_found text including.Begun t = if is_str t.role then header_of text t [] else []
-header_found text (including.Angle a) t = if is_mark greater t.role then header_between a.span.end t.span.start a.line else []
+header_found text (including.Angle a) t =
+    if is_mark greater t.role then header_between a.span.end t.span.start a.line else []
 header_found text including.Done t = []
 
 abbrev pub include_out : List ℕ → Stage → Token → List Include

@@ -18,12 +18,19 @@ use Rattle.cb_scan.specs.Bytes.{close_brace, close_paren, equals, open_brace, op
 
 -- no token since the last stop
 abbrev pub empty_head : Head
-empty_head = record { last = None; begins_with_typedef = false; has_equals = false; has_static = false; called = None }
+empty_head = record {
+  last = None;
+  begins_with_typedef = false;
+  has_equals = false;
+  has_static = false;
+  called = None;
+}
 
 -- the first called name so far, after one more token
 abbrev pub called_after : Option Token → Option Token → Token → Option Token
 called_after (Some name) last t = Some name
-called_after None (Some name) t = if is_name_token name.role && is_mark open_paren t.role then Some name else None
+called_after None (Some name) t =
+    if is_name_token name.role && is_mark open_paren t.role then Some name else None
 called_after None None t = None
 
 -- one more token of the head
@@ -43,7 +50,8 @@ may_end (Some t) = is_mark close_paren t.role || is_name_token t.role
 
 -- the name that the head defines
 abbrev pub defined : Head → Option Token
-defined h = if not h.begins_with_typedef && not h.has_equals && may_end h.last then h.called else None
+defined h = if not h.begins_with_typedef && not h.has_equals && may_end h.last then h.called
+    else None
 
 -- `extern` is directly before
 abbrev pub is_after_extern : Before → Bool
@@ -57,7 +65,8 @@ is_after_linkage _ = false
 
 -- what is directly before the token after this one
 abbrev pub before_after : Before → Token → Before
-before_after b t = if is_extern t.role then Extern else (if is_str t.role && is_after_extern b then Linkage else Anything)
+before_after b t = if is_extern t.role then Extern
+    else (if is_str t.role && is_after_extern b then Linkage else Anything)
 
 -- the beginning of the code
 abbrev pub start : Machine
@@ -73,19 +82,28 @@ next_depth m t = depth_after (counts m t) t m.depth
 
 -- the token is a stop
 abbrev pub stops : Machine → Token → Bool
-stops m t = (is_mark semicolon t.role && m.depth == 0) || (is_mark close_brace t.role && next_depth m t == 0) || (is_mark open_brace t.role && is_after_linkage m.before)
+stops m t = (is_mark semicolon t.role && m.depth == 0)
+    || (is_mark close_brace t.role && next_depth m t == 0)
+    || (is_mark open_brace t.role && is_after_linkage m.before)
 
 -- the definition of a function of that name
 abbrev pub def_of : Bool → Token → Def
-def_of local name = record { name = name.span; kind = kind.Function; line = name.line; local = local }
+def_of local name = record {
+  name = name.span;
+  kind = kind.Function;
+  line = name.line;
+  local = local;
+}
 
 -- the function whose `{` is the token, if one is
 abbrev pub found : Machine → Token → Option Def
-found m t = if counts m t && m.depth == 0 then option_map (def_of m.head.has_static) (defined m.head) else None
+found m t = if counts m t && m.depth == 0
+    then option_map (def_of m.head.has_static) (defined m.head) else None
 
 -- the name of the function whose body the next token is in
 abbrev pub next_body : Machine → Token → Option Span
-next_body m t = if m.depth == 0 then option_map (λ (d : Def). d.name) (found m t) else (if next_depth m t == 0 then None else m.body)
+next_body m t = if m.depth == 0 then option_map (λ (d : Def). d.name) (found m t)
+    else (if next_depth m t == 0 then None else m.body)
 
 -- the state after the token
 unfoldable pub next : Machine → Token → Machine
@@ -114,7 +132,8 @@ left_open m end = option_map (range_to end) m.body
 
 -- the call of a name in a body, where the token follows it
 abbrev pub call_before : Option Span → Option Token → Token → Option Call
-call_before (Some caller) (Some name) t = if is_call name t then Some (call_of caller name) else None
+call_before (Some caller) (Some name) t =
+    if is_call name t then Some (call_of caller name) else None
 call_before (Some caller) None t = None
 call_before None last t = None
 

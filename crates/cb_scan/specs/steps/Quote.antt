@@ -8,7 +8,9 @@ use Rattle.cb_scan.specs.Bytes.{quote}
 -- the first byte that ends a string is a quote, and the last byte
 abbrev pub closes_from : Escape → List ℕ → Bool
 closes_from e [] = false
-closes_from e (b ∷ rest) = if ends_literal quote e b then b == quote && length rest == 0 else closes_from (literal_escape e b) rest
+closes_from e (b ∷ rest) =
+    if ends_literal quote e b then b == quote && length rest == 0
+    else closes_from (literal_escape e b) rest
 
 -- the bytes are a closed string: `proofs/ClosedStrings` shows that this is `IsClosedLiteral`
 unfoldable pub is_closed : List ℕ → Bool

@@ -19,13 +19,16 @@ first_around place (r ∷ rs) = if nat_le r.name.start place then Some r.name el
 
 -- the first macro around a place, else the first function
 abbrev pub around : List Range → List Range → ℕ → Option Span
-around functions macros place = option_map_or (λ name. Some name) (first_around place macros) (first_around place functions)
+around functions macros place =
+    option_map_or (λ name. Some name) (first_around place macros) (first_around place functions)
 
 -- elements with their scopes, by their places
-abbrev pub scoped : {A B : Type 0} → (A → ℕ) → (A → Option Span → B) → List Range → List Range → List A → List B
+abbrev pub scoped : {A B : Type 0} → (A → ℕ) → (A → Option Span → B) → List Range → List Range
+    → List A → List B
 scoped place give functions macros [] = []
 scoped place give functions macros (x ∷ xs) =
-    give x (around (reached (place x) functions) (reached (place x) macros) (place x)) ∷ scoped place give (reached (place x) functions) (reached (place x) macros) xs
+    give x (around (reached (place x) functions) (reached (place x) macros) (place x))
+    ∷ scoped place give (reached (place x) functions) (reached (place x) macros) xs
 
 -- where a token begins, and what it is as a use
 abbrev pub token_place : Token → ℕ

@@ -33,7 +33,8 @@ is_starred Stars = true
 
 -- how far `(`, `*`s and a name have come after a token
 abbrev pub reach_after : Reach → Token → Reach
-reach_after r t = if is_mark open_paren t.role then Paren else (if is_mark star t.role && is_reached r then Stars else Nothing)
+reach_after r t = if is_mark open_paren t.role then Paren
+    else (if is_mark star t.role && is_reached r then Stars else Nothing)
 
 -- the first name after `(` and `*`s
 abbrev pub pointer_after : Option Token → Reach → Token → Option Token
@@ -86,7 +87,9 @@ stays m t d = if takes m t then after d t else d
 
 -- the typedef that is open after a token
 abbrev pub next_declaration : Machine → Option Declaration → Token → Option Declaration
-next_declaration m s t = if ends m t then None else (if begins m t then Some declaration_start else option_map (stays m t) s)
+next_declaration m s t =
+    if ends m t then None else (if begins m t then Some declaration_start
+    else option_map (stays m t) s)
 
 -- the name of the part that a comma ends
 abbrev pub ended_name : Machine → Option Declaration → Token → Option Token
@@ -95,7 +98,8 @@ ended_name m (Some d) t = if takes m t && parts_at d.nesting t then name_of d el
 
 -- the names of the finished parts of the open typedef
 abbrev pub next_pending : Machine → Option Declaration → List Token → Token → List Token
-next_pending m s pending t = if ends m t || begins m t then [] else pending ++ option_to_list (ended_name m s t)
+next_pending m s pending t =
+    if ends m t || begins m t then [] else pending ++ option_to_list (ended_name m s t)
 
 -- the names of a typedef that ends, with that of its last part
 abbrev pub all_names : Option Declaration → List Token → List Token
@@ -109,7 +113,9 @@ names_out m s pending t = if ends m t then all_names s pending else []
 -- the names that the typedefs define from a state on
 abbrev pub typedefs_from : Machine → Option Declaration → List Token → List Token → List Token
 typedefs_from m s pending [] = []
-typedefs_from m s pending (t ∷ ts) = names_out m s pending t ++ typedefs_from (next m t) (next_declaration m s t) (next_pending m s pending t) ts
+typedefs_from m s pending (t ∷ ts) =
+    names_out m s pending t ++ typedefs_from (next m t) (next_declaration m s t)
+    (next_pending m s pending t) ts
 
 -- the same as definitions
 abbrev pub typedefs_out : Machine → Option Declaration → List Token → Token → List Def
@@ -117,7 +123,9 @@ typedefs_out m s pending t = map typedef_def (names_out m s pending t)
 
 abbrev pub typedef_defs_from : Machine → Option Declaration → List Token → List Token → List Def
 typedef_defs_from m s pending [] = []
-typedef_defs_from m s pending (t ∷ ts) = typedefs_out m s pending t ++ typedef_defs_from (next m t) (next_declaration m s t) (next_pending m s pending t) ts
+typedef_defs_from m s pending (t ∷ ts) =
+    typedefs_out m s pending t
+    ++ typedef_defs_from (next m t) (next_declaration m s t) (next_pending m s pending t) ts
 
 -- how many parentheses and brackets are open
 abbrev pub nesting_of : Option Declaration → ℕ

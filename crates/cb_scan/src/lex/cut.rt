@@ -7,8 +7,9 @@ ghost use Rattle.cb_scan.specs.steps.Cut.{pieces};
 use crate::lex::piece::Pieces;
 use crate::source::Source;
 
-/// The pieces of a source, first to last: they cover it without gaps, and each is the longest lexeme at its place
-/// (C11 6.4, with comments and white space as pieces of their own). It takes no memory.
+/// The pieces of a source, first to last: they cover it without gaps, and each is the longest
+/// lexeme at its place (C11 6.4, with comments and white space as pieces of their own). It takes no
+/// memory.
 pub fn pieces(source: &Source) -> Pieces<'_>
     ensures are { IsPieces source.now result }
     ensures same { result ≡ pieces source.now }

@@ -21,7 +21,8 @@ ghost use Rattle.cb_scan.specs.steps.Cut.{
 use crate::lex::piece::Class;
 use memchr::memmem;
 
-/// What is directly before a byte of a comment or literal: nothing special, a `\`, or a `\` and a carriage return.
+/// What is directly before a byte of a comment or literal: nothing special, a `\`, or a `\` and a
+/// carriage return.
 #[derive(Clone, Copy, Debug, PartialEq, Eq)]
 pub(crate) enum Escape {
     Plain,

@@ -36,10 +36,12 @@ impl<'a> Model for LinedPieces<'a> {
 
     ghost view = { λ s. map (lined s.text.now) (pieces_at s.at (drop s.at s.text.now)) };
 
-    ghost invariant = { λ s. (length s.text.now ≤ MOST_BYTES) × (s.at ≤ length s.text.now) × (s.line ≡ line_of s.text.now s.at) };
+    ghost invariant = { λ s. (length s.text.now ≤ MOST_BYTES) × (s.at ≤ length s.text.now)
+        × (s.line ≡ line_of s.text.now s.at) };
 }
 
-/// How many line feeds the bytes of a piece hold: pieces that can hold none are not looked at again.
+/// How many line feeds the bytes of a piece hold: pieces that can hold none are not looked at
+/// again.
 #[inline]
 fn feeds_in(class: Class, bytes: &[u8]) -> u32
     requires none { holds_feeds class ≡ false → count_by is_feed bytes.now ≡ 0 }

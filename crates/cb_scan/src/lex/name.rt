@@ -93,7 +93,8 @@ fn all_word_bytes(bytes: &[u8]) -> bool
     bytes.iter().all(|byte| is_word(*byte))
 }
 
-/// Whether the bytes are an identifier that is not reserved (ISO C 2011, 6.4.2.1 and 6.4.1; six words more are reserved).
+/// Whether the bytes are an identifier that is not reserved (ISO C 2011, 6.4.2.1 and 6.4.1; six
+/// words more are reserved).
 pub fn is_name(bytes: &[u8]) -> bool
     ensures { result ≡ is_name bytes.now }
 {

@@ -37,7 +37,8 @@ pub struct Piece {
     pub span: Span,
 }
 
-/// The piece that `rest` begins with, where `rest` is what is left of a text from the place `at` on.
+/// The piece that `rest` begins with, where `rest` is what is left of a text from the place `at`
+/// on.
 #[inline]
 pub(crate) fn first_piece(at: u32, rest: &[u8]) -> Piece
     requires some { 0 < length rest.now }

@@ -9,8 +9,8 @@ use crate::lex::lined::Lined;
 use crate::lex::name::is_reserved;
 use crate::lex::piece::{Class, Piece, Span};
 
-/// A `Name` piece: a name, two of which mean something as the own word of a directive; or a reserved word, three of which
-/// a rule asks for.
+/// A `Name` piece: a name, two of which mean something as the own word of a directive; or a
+/// reserved word, three of which a rule asks for.
 #[derive(Clone, Copy, Debug, PartialEq, Eq)]
 pub(crate) enum WordKind {
     Name,

@@ -3,13 +3,13 @@ ghost use Rattle.std.specs.Prelude.{◌≡◌, ◌≤◌, ◌<◌, ◌&&◌, len
 ghost use Rattle.cb_scan.specs.declared.source.TheConstants.{MOST_BYTES};
 ghost use Rattle.std.specs.Option.{option_to_list};
 ghost use Rattle.cb_scan.specs.lex.Tokens.{is_name_token};
-ghost use Rattle.cb_scan.specs.steps.Directives.{body_call, directive_of, header_found, include_out, is_code, macro_call, macro_ended, macro_found, macro_opened, names_count, next_defining, next_directive, next_including, next_stage, range_ended};
+ghost use Rattle.cb_scan.specs.steps.Directives.{body_call, directive_of, header_found, include_out, is_code, macro_call, macro_ended, macro_found, macro_opened, names_count, next_defining, next_directive, next_including, next_stage, opens_arguments, range_ended};
 
 use crate::facts::{Call, Def, Include, Kind};
-use crate::rules::header::{angle_header, string_header};
 use crate::lex::piece::Span;
-use crate::rules::scope::Range;
 use crate::lex::token::{Role, Token, WordKind};
+use crate::rules::header::{angle_header, string_header};
+use crate::rules::scope::Range;
 
 /// How far a `# define` has come.
 #[derive(Clone, Copy)]
@@ -61,15 +61,21 @@ pub(crate) enum Stage {
     Directive(Directive),
 }
 
+/// Whether a `(` directly follows the name: then the macro has arguments.
+fn opens_arguments(name: Token, token: Token) -> bool
+    ensures { result ≡ opens_arguments name token }
+{
+    token.is_mark(b'(') && token.span.start == name.span.end
+}
+
 impl Defining {
-    /// After a token. A macro has arguments where a `(` directly follows its name.
+    /// After a token.
     fn next(self, token: Token) -> Defining
         ensures { result ≡ next_defining self token }
     {
         match self {
             Defining::Begun if token.is_name() => Defining::Name(token),
-            Defining::Name(name) if token.is_mark(b'(') && token.span.start == name.span.end =>
-                Defining::Arguments(name.span),
+            Defining::Name(name) if opens_arguments(name, token) => Defining::Arguments(name.span),
             Defining::Arguments(name) if token.is_mark(b')') => Defining::Body(name, None),
             Defining::Arguments(_) => self,
             Defining::Body(name, _) => Defining::Body(name, Some(token)),
@@ -82,14 +88,12 @@ impl Defining {
         ensures { result ≡ macro_opened self token }
     {
         match self {
-            Defining::Name(name) if token.is_mark(b'(') && token.span.start == name.span.end => Some(
-                Def {
-                    name: name.span,
-                    kind: Kind::Macro,
-                    line: name.line,
-                    local: false,
-                },
-            ),
+            Defining::Name(name) if opens_arguments(name, token) => Some(Def {
+                name: name.span,
+                kind: Kind::Macro,
+                line: name.line,
+                local: false,
+            }),
             _ => None,
         }
     }

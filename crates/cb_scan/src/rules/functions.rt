@@ -4,8 +4,8 @@ ghost use Rattle.cb_scan.specs.steps.Functions.{add, before_after, called, calle
 
 use crate::facts::{Call, Def, Kind};
 use crate::lex::piece::Span;
-use crate::rules::scope::Range;
 use crate::lex::token::{Role, Token, WordKind};
+use crate::rules::scope::Range;
 
 /// The tokens since the last stop, as far as the rule on functions asks.
 #[derive(Clone, Copy)]
@@ -25,8 +25,8 @@ pub(crate) enum Before {
     Linkage,
 }
 
-/// The state of the pass: the depth in braces, what is directly before, the head so far, and the name of the function
-/// whose body it is in.
+/// The state of the pass: the depth in braces, what is directly before, the head so far, and the
+/// name of the function whose body it is in.
 #[derive(Clone, Copy)]
 pub(crate) struct Machine {
     pub(crate) depth: u32,

@@ -81,14 +81,16 @@ fn joined<T: Copy>(
     Ok(all)
 }
 
-/// Functions, macros and typedefs in the order of their places, a function before a typedef at one place.
+/// Functions, macros and typedefs in the order of their places, a function before a typedef at one
+/// place.
 pub(crate) fn ordered_defs(
     alloc: Global,
     functions: &[Def],
     macros: &[Def],
     typedefs: &[Def],
 ) -> Result<Vec<Def>, AllocError>
-    ensures { IfOk result (λ defs. defs.items ≡ in_order def_key (functions.now ++ macros.now ++ typedefs.now)) }
+    ensures { IfOk result (λ defs. defs.items
+        ≡ in_order def_key (functions.now ++ macros.now ++ typedefs.now)) }
 {
     let mut defs = joined(alloc, functions, macros, typedefs)?;
     order_defs(defs.as_mut_slice());

@@ -72,7 +72,8 @@ pub(crate) fn scoped_uses(
     names: &[Token],
     ranges: Around<'_>,
 ) -> Result<Vec<Use>, AllocError>
-    ensures { IfOk result (λ uses. uses.items ≡ scoped token_place use_of ranges.entry.functions.now ranges.entry.macros.now names.now) }
+    ensures { IfOk result (λ uses. uses.items
+        ≡ scoped token_place use_of ranges.entry.functions.now ranges.entry.macros.now names.now) }
 {
     let mut uses = Vec::with_capacity(alloc, names.len())?;
     let mut around = ranges;
@@ -93,7 +94,9 @@ pub(crate) fn scoped_includes(
     found: &[Include],
     ranges: Around<'_>,
 ) -> Result<Vec<Include>, AllocError>
-    ensures { IfOk result (λ includes. includes.items ≡ scoped include_place include_with ranges.entry.functions.now ranges.entry.macros.now found.now) }
+    ensures { IfOk result (λ includes. includes.items
+        ≡ scoped include_place include_with ranges.entry.functions.now ranges.entry.macros.now
+        found.now) }
 {
     let mut includes = Vec::with_capacity(alloc, found.len())?;
     let mut around = ranges;

@@ -1,4 +1,5 @@
-//! The names that typedefs define: a small state beside that of the functions, which every token of the code moves.
+//! The names that typedefs define: a small state beside that of the functions, which every token of
+//! the code moves.
 ghost use Rattle.std.specs.Prelude.{◌≡◌, ◌+◌, ◌<◌, ◌≤◌, ◌^◌, ◌++◌, map, IfOk};
 ghost use Rattle.std.specs.Option.{option_to_list};
 ghost use Rattle.cb_scan.specs.Definitions.{typedef_def};
@@ -6,8 +7,8 @@ ghost use Rattle.cb_scan.specs.rules.Typedefs.{nesting_after};
 ghost use Rattle.cb_scan.specs.steps.Typedefs.{after, all_names, begins, declaration_start, ended_name, ends, name_of, nesting_of, next_declaration, next_pending, parts_at, pointer_after, reach_after, takes, typedefs_out};
 
 use crate::facts::{Def, Kind};
-use crate::rules::functions::Machine;
 use crate::lex::token::{Role, Token};
+use crate::rules::functions::Machine;
 use std::alloc::AllocError;
 
 /// How far `(`, one or more `*` and a name have come.
@@ -18,8 +19,8 @@ pub(crate) enum Reach {
     Stars,
 }
 
-/// A part of an open typedef: how many parentheses and brackets are open, how far `(`, `*` and a name have come, the first
-/// name that did, and the last name outside parentheses and brackets.
+/// A part of an open typedef: how many parentheses and brackets are open, how far `(`, `*` and a
+/// name have come, the first name that did, and the last name outside parentheses and brackets.
 #[derive(Clone, Copy)]
 pub(crate) struct Declaration {
     nesting: u32,
@@ -194,7 +195,8 @@ fn define_all(
     pending: &mut Vec<Token>,
     out: &mut Vec<Def>,
 ) -> Result<(), AllocError>
-    ensures { IfOk result (λ _. out.new.items ≡ out.old.items ++ map typedef_def (all_names state pending.old.items)) }
+    ensures { IfOk result (λ _. out.new.items ≡ out.old.items
+        ++ map typedef_def (all_names state pending.old.items)) }
 {
     let Some(open) = state else {
         return Ok(());
@@ -215,7 +217,8 @@ fn hold(name: Option<Token>, pending: &mut Vec<Token>) -> Result<(), AllocError>
     Ok(())
 }
 
-/// One token of the code: what it defines, the names that are held back, and the typedef that is open after it.
+/// One token of the code: what it defines, the names that are held back, and the typedef that is
+/// open after it.
 pub(crate) fn take_token(
     machine: Machine,
     state: Option<Declaration>,
@@ -226,8 +229,10 @@ pub(crate) fn take_token(
     requires { nesting_of state + 1 < 2 ^ 32 }
     ensures state { IfOk result (λ s. s ≡ next_declaration machine state token) }
     ensures small { IfOk result (λ s. nesting_of s ≤ nesting_of state + 1) }
-    ensures held { IfOk result (λ _. pending.new.items ≡ next_pending machine state pending.old.items token) }
-    ensures made { IfOk result (λ _. out.new.items ≡ out.old.items ++ typedefs_out machine state pending.old.items token) }
+    ensures held { IfOk result
+        (λ _. pending.new.items ≡ next_pending machine state pending.old.items token) }
+    ensures made { IfOk result
+        (λ _. out.new.items ≡ out.old.items ++ typedefs_out machine state pending.old.items token) }
 {
     if ends(machine, token) {
         define_all(state, pending, out)?;

@@ -1,4 +1,5 @@
-//! Tests of the macros with arguments that `scan` finds, worked out by hand from the rules of PROFILE.md.
+//! Tests of the macros with arguments that `scan` finds, worked out by hand from the rules of
+//! PROFILE.md.
 use crate::tests::shown::show;
 use std::test::Fail;
 

@@ -1,4 +1,5 @@
-//! Tests of names, with the reserved words as C11 6.4.1 lists them and the six that the profile adds.
+//! Tests of names, with the reserved words as C11 6.4.1 lists them and the six that the profile
+//! adds.
 use crate::lex::name::is_name;
 
 const RESERVED: [&str; 50] = [

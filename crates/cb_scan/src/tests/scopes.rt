@@ -1,6 +1,6 @@
 //! Tests of the scopes that `scan` gives to uses, worked out by hand from the rules of PROFILE.md.
-use crate::meter::Meter;
 use crate::lex::piece::Span;
+use crate::meter::Meter;
 use crate::scanner::scan;
 use crate::source::Source;
 use crate::tests::shown::show;

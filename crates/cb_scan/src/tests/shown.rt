@@ -1,16 +1,16 @@
 //! The facts of a text in the short form that other tests compare.
 use crate::facts::Kind;
-use crate::meter::Meter;
 use crate::lex::piece::Span;
+use crate::meter::Meter;
 use crate::scanner::scan;
 use crate::source::Source;
 use std::alloc::Global;
 use std::fmt::Write;
 use std::test::Fail;
 
-/// The facts of a text, each with `;` after it: `f f 4 static;` is a definition, with the kind as tags(5) has it (`f` function,
-/// `d` macro, `t` typedef) and the line; `a 5 f;` a use or a call on line 5 with its scope or caller, `-` for none; `[a.h] 1 -;`
-/// an include.
+/// The facts of a text, each with `;` after it: `f f 4 static;` is a definition, with the kind as
+/// tags(5) has it (`f` function, `d` macro, `t` typedef) and the line; `a 5 f;` a use or a call on
+/// line 5 with its scope or caller, `-` for none; `[a.h] 1 -;` an include.
 #[derive(Debug, Drop)]
 pub(crate) struct Shown {
     pub defs: String,

@@ -1,9 +1,9 @@
 //! Tests of how much memory lists of facts take.
 use crate::facts::{Call, Def, Include, Kind};
-use crate::rules::order::{ordered_calls, ordered_defs};
 use crate::lex::piece::Span;
-use crate::rules::scope::{Around, scoped_includes, scoped_uses};
 use crate::lex::token::{Role, Token};
+use crate::rules::order::{ordered_calls, ordered_defs};
+use crate::rules::scope::{Around, scoped_includes, scoped_uses};
 use std::test::Fail;
 
 const SPAN: Span = Span { start: 1, end: 2 };

@@ -1,4 +1,5 @@
-//! Tests of the uses that `scan` finds outside functions and macros, worked out by hand from the rules of PROFILE.md.
+//! Tests of the uses that `scan` finds outside functions and macros, worked out by hand from the
+//! rules of PROFILE.md.
 use crate::tests::shown::show;
 use std::test::Fail;
 

@@ -22,17 +22,32 @@ loop-lined-init c =
     let lines = c.new-lines.ensures in
     let machine = c.start.ensures in
     record {
-      functions_found = (λ i. code.functions i ++ defs_from (machine i) (walk code_out nothing text Start (source i))) ∙ functions_found text;
-      ranges_found = (λ i. code.ranges i ++ ranges_from (length text) (machine i) (walk code_out nothing text Start (source i))) ∙ ranges_found text;
-      calls_found = (λ i. code.calls i ++ calls_from (machine i) (walk code_out nothing text Start (source i))) ∙ calls_found text;
-      typedefs_found = (λ i. code.typedefs i ++ typedef_defs_from (machine i) None (code.pending i) (walk code_out nothing text Start (source i))) ∙ typedefs_found text;
+      functions_found = (λ i. code.functions i ++ defs_from (machine i) (walk code_out nothing text Start (source i)))
+          ∙ functions_found text;
+      ranges_found = (λ i. code.ranges i
+          ++ ranges_from (length text) (machine i) (walk code_out nothing text Start (source i))) ∙ ranges_found text;
+      calls_found = (λ i. code.calls i ++ calls_from (machine i) (walk code_out nothing text Start (source i)))
+          ∙ calls_found text;
+      typedefs_found = (λ i. code.typedefs i
+          ++ typedef_defs_from (machine i) None (code.pending i) (walk code_out nothing text Start (source i)))
+          ∙ typedefs_found text;
       names_found = (λ i. lines.names i ++ walk use_out nothing text Start (source i)) ∙ uses_are text (pieces text);
-      macros_found = (λ i. lines.macros i ++ walk macro_out nothing text Start (source i)) ∙ macros_are text (pieces text);
-      macro_ranges_found = (λ i. lines.ranges i ++ walk no_range range_finish text Start (source i)) ∙ macro_ranges_are text (pieces text);
-      macro_calls_found = (λ i. lines.calls i ++ walk macro_call_out nothing text Start (source i)) ∙ macro_calls_are text (pieces text);
-      includes_found = (λ i. lines.includes i ++ walk (include_out text) nothing text Start (source i)) ∙ includes_are text (pieces text);
-      within = subst (AllByRecursion (Within text)) (sym c.into_iter-lined-iterator.ensures.into_iter_gives) bounds.within;
-      room = omega (arith, bounds.len, ap length c.into_iter-lined-iterator.ensures.into_iter_gives, ap (λ m. m.depth) machine);
+      macros_found = (λ i. lines.macros i ++ walk macro_out nothing text Start (source i))
+          ∙ macros_are text (pieces text);
+      macro_ranges_found = (λ i. lines.ranges i ++ walk no_range range_finish text Start (source i))
+          ∙ macro_ranges_are text (pieces text);
+      macro_calls_found = (λ i. lines.calls i ++ walk macro_call_out nothing text Start (source i))
+          ∙ macro_calls_are text (pieces text);
+      includes_found = (λ i. lines.includes i ++ walk (include_out text) nothing text Start (source i))
+          ∙ includes_are text (pieces text);
+      within = subst (AllByRecursion (Within text))
+          (sym c.into_iter-lined-iterator.ensures.into_iter_gives) bounds.within;
+      room = omega (
+        arith,
+        bounds.len,
+        ap length c.into_iter-lined-iterator.ensures.into_iter_gives,
+        ap (λ m. m.depth) machine,
+      );
       nested = omega (arith, bounds.len, ap length c.into_iter-lined-iterator.ensures.into_iter_gives);
     }
 
@@ -41,28 +56,45 @@ loop-lined-preserved-then-is_code c =
     let text = c.args.text.now in
     let so_far = c.loop-lined.invariant in
     let all_is = c.in-Some.ensures.steps in
-    let is : is_significant c.in-Some.lined.piece.class ≡ true = sym c.is_significant.ensures ∙ c.if-is_significant.true in
+    let is : is_significant c.in-Some.lined.piece.class ≡ true =
+    sym c.is_significant.ensures ∙ c.if-is_significant.true in
     let token_is = c.token_of-token.ensures in
     let line_is = c.in_ok-line.ensures.line in
     let code_is : is_code c.in_ok-line.line ≡ true = sym c.is_code.ensures ∙ c.if-is_code.true in
     let code = c.in_ok-state.ensures in
     let lines = c.in_ok-line.ensures in
-    let on = code_on text c.loop-lined.line c.in_ok-line.line c.token_of-token.result c.in-Some.lined c.loop-lined.lined-iterator c.next.new.self all_is is token_is line_is code_is in
+    let on = code_on text c.loop-lined.line c.in_ok-line.line c.token_of-token.result c.in-Some.lined
+    c.loop-lined.lined-iterator c.next.new.self all_is is token_is line_is code_is in
     let rest = walk code_out nothing text c.in_ok-line.line c.next.new.self in
     let m = c.loop-lined.state.machine in
     let t = c.token_of-token.result in
     record {
-      functions_found = appended _ _ _ _ _ _ code.functions (ap (defs_from m) on ∙ ap (λ k. option_to_list (found m t) ++ defs_from k rest) (sym code.machine)) so_far.functions_found;
-      ranges_found = appended _ _ _ _ _ _ code.ranges (ap (ranges_from (length text) m) on ∙ ap (λ k. option_to_list (closed m t) ++ ranges_from (length text) k rest) (sym code.machine)) so_far.ranges_found;
-      calls_found = appended _ _ _ _ _ _ code.calls (ap (calls_from m) on ∙ ap (λ k. option_to_list (called m t) ++ calls_from k rest) (sym code.machine)) so_far.calls_found;
+      functions_found = appended _ _ _ _ _ _ code.functions
+          (ap (defs_from m) on ∙ ap (λ k. option_to_list (found m t) ++ defs_from k rest) (sym code.machine))
+          so_far.functions_found;
+      ranges_found = appended _ _ _ _ _ _ code.ranges
+          (ap (ranges_from (length text) m) on
+          ∙ ap (λ k. option_to_list (closed m t) ++ ranges_from (length text) k rest) (sym code.machine))
+          so_far.ranges_found;
+      calls_found = appended _ _ _ _ _ _ code.calls
+          (ap (calls_from m) on ∙ ap (λ k. option_to_list (called m t) ++ calls_from k rest) (sym code.machine))
+          so_far.calls_found;
       typedefs_found = appended _ _ _ _ _ _ code.typedefs
           (ap (typedef_defs_from m c.loop-lined.state.declared c.loop-lined.code.pending.items) on
-          ∙ (λ i. typedefs_out m c.loop-lined.state.declared c.loop-lined.code.pending.items t ++ typedef_defs_from (sym code.machine i) (sym code.declared i) (sym code.pending i) rest)) so_far.typedefs_found;
-      names_found = appended _ _ _ _ _ _ lines.names (walk_on use_out nothing text _ _ _ _ _ _ all_is is token_is line_is) so_far.names_found;
-      macros_found = appended _ _ _ _ _ _ lines.macros (walk_on macro_out nothing text _ _ _ _ _ _ all_is is token_is line_is) so_far.macros_found;
-      macro_ranges_found = ap (λ l. l ++ walk no_range range_finish text c.in_ok-line.line c.next.new.self) lines.ranges ∙ ap (λ l. c.loop-lined.lines.ranges.items ++ l) (sym (walk_on no_range range_finish text _ _ _ _ _ _ all_is is token_is line_is)) ∙ so_far.macro_ranges_found;
-      macro_calls_found = appended _ _ _ _ _ _ lines.calls (walk_on macro_call_out nothing text _ _ _ _ _ _ all_is is token_is line_is) so_far.macro_calls_found;
-      includes_found = appended _ _ _ _ _ _ lines.includes (walk_on (include_out text) nothing text _ _ _ _ _ _ all_is is token_is line_is) so_far.includes_found;
+          ∙ (λ i. typedefs_out m c.loop-lined.state.declared c.loop-lined.code.pending.items t
+          ++ typedef_defs_from (sym code.machine i) (sym code.declared i) (sym code.pending i) rest))
+          so_far.typedefs_found;
+      names_found = appended _ _ _ _ _ _ lines.names
+          (walk_on use_out nothing text _ _ _ _ _ _ all_is is token_is line_is) so_far.names_found;
+      macros_found = appended _ _ _ _ _ _ lines.macros
+          (walk_on macro_out nothing text _ _ _ _ _ _ all_is is token_is line_is) so_far.macros_found;
+      macro_ranges_found = ap (λ l. l ++ walk no_range range_finish text c.in_ok-line.line c.next.new.self) lines.ranges
+          ∙ ap (λ l. c.loop-lined.lines.ranges.items ++ l)
+          (sym (walk_on no_range range_finish text _ _ _ _ _ _ all_is is token_is line_is)) ∙ so_far.macro_ranges_found;
+      macro_calls_found = appended _ _ _ _ _ _ lines.calls
+          (walk_on macro_call_out nothing text _ _ _ _ _ _ all_is is token_is line_is) so_far.macro_calls_found;
+      includes_found = appended _ _ _ _ _ _ lines.includes
+          (walk_on (include_out text) nothing text _ _ _ _ _ _ all_is is token_is line_is) so_far.includes_found;
       within = (subst (AllByRecursion (Within text)) all_is so_far.within).1;
       room = omega (arith, ap length all_is, code.deep, so_far.room);
       nested = omega (arith, ap length all_is, code.nested, so_far.nested);

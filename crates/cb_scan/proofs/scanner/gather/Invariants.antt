@@ -18,15 +18,27 @@ use Rattle.cb_scan.proofs.scanner.gather.Given as goal
 
 abbrev pub invariant-loop-lined : goal.invariant-loop-lined
 invariant-loop-lined l = record {
-  functions_found : l.code.functions.items ++ defs_from l.state.machine (walk code_out nothing l.text l.line l.lined-iterator) ≡ map function_def (functions (code l.text (pieces l.text)));
-  ranges_found : l.code.ranges.items ++ ranges_from (length l.text) l.state.machine (walk code_out nothing l.text l.line l.lined-iterator) ≡ function_ranges l.text (pieces l.text);
-  calls_found : l.code.calls.items ++ calls_from l.state.machine (walk code_out nothing l.text l.line l.lined-iterator) ≡ function_calls (code l.text (pieces l.text));
-  typedefs_found : l.code.typedefs.items ++ typedef_defs_from l.state.machine l.state.declared l.code.pending.items (walk code_out nothing l.text l.line l.lined-iterator) ≡ map typedef_def (typedefs (code l.text (pieces l.text)));
-  names_found : l.lines.names.items ++ walk use_out nothing l.text l.line l.lined-iterator ≡ flat_map used (logical_lines l.text (pieces l.text));
-  macros_found : l.lines.macros.items ++ walk macro_out nothing l.text l.line l.lined-iterator ≡ map macro_def (macros l.text (pieces l.text));
-  macro_ranges_found : l.lines.ranges.items ++ walk no_range range_finish l.text l.line l.lined-iterator ≡ macro_ranges l.text (pieces l.text);
-  macro_calls_found : l.lines.calls.items ++ walk macro_call_out nothing l.text l.line l.lined-iterator ≡ macro_calls (macros l.text (pieces l.text));
-  includes_found : l.lines.includes.items ++ walk (include_out l.text) nothing l.text l.line l.lined-iterator ≡ flat_map (include_of l.text) (directives l.text (pieces l.text));
+  functions_found : l.code.functions.items
+      ++ defs_from l.state.machine (walk code_out nothing l.text l.line l.lined-iterator)
+      ≡ map function_def (functions (code l.text (pieces l.text)));
+  ranges_found : l.code.ranges.items
+      ++ ranges_from (length l.text) l.state.machine (walk code_out nothing l.text l.line l.lined-iterator)
+      ≡ function_ranges l.text (pieces l.text);
+  calls_found : l.code.calls.items ++ calls_from l.state.machine (walk code_out nothing l.text l.line l.lined-iterator)
+      ≡ function_calls (code l.text (pieces l.text));
+  typedefs_found : l.code.typedefs.items
+      ++ typedef_defs_from l.state.machine l.state.declared l.code.pending.items
+      (walk code_out nothing l.text l.line l.lined-iterator) ≡ map typedef_def (typedefs (code l.text (pieces l.text)));
+  names_found : l.lines.names.items ++ walk use_out nothing l.text l.line l.lined-iterator
+      ≡ flat_map used (logical_lines l.text (pieces l.text));
+  macros_found : l.lines.macros.items ++ walk macro_out nothing l.text l.line l.lined-iterator
+      ≡ map macro_def (macros l.text (pieces l.text));
+  macro_ranges_found : l.lines.ranges.items ++ walk no_range range_finish l.text l.line l.lined-iterator
+      ≡ macro_ranges l.text (pieces l.text);
+  macro_calls_found : l.lines.calls.items ++ walk macro_call_out nothing l.text l.line l.lined-iterator
+      ≡ macro_calls (macros l.text (pieces l.text));
+  includes_found : l.lines.includes.items ++ walk (include_out l.text) nothing l.text l.line l.lined-iterator
+      ≡ flat_map (include_of l.text) (directives l.text (pieces l.text));
   within : AllByRecursion (Within l.text) l.lined-iterator;
   room : l.state.machine.depth + length l.lined-iterator ≤ MOST_BYTES;
   nested : nesting_of l.state.declared + length l.lined-iterator ≤ MOST_BYTES;

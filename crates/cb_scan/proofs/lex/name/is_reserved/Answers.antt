@@ -8,7 +8,8 @@ use Rattle.cb_scan.proofs.WordLemmas.{among_by_length}
 use Rattle.cb_scan.proofs.lex.name.is_reserved.Goals as goal
 
 -- the words of a length, looked up
-of_length : (n : ℕ) (word : List ℕ) → length word ≡ n → list_any (λ r. bytes_eq r word) (filter (λ r. nat_eq (length r) n) reserved_words) ≡ is_reserved word
+of_length : (n : ℕ) (word : List ℕ) → length word ≡ n
+    → list_any (λ r. bytes_eq r word) (filter (λ r. nat_eq (length r) n) reserved_words) ≡ is_reserved word
 unfolding is_reserved
 of_length n word long = among_by_length (λ k. nat_eq k n) reserved_words word (eq-eqb (length word) n long)
 
@@ -50,4 +51,6 @@ returns-in-1 c = of_length 1 c.args.word.now c.in-1.is
 
 pub returns-in_default : goal.returns-in_default
 unfolding reserved_words is_reserved
-returns-in_default c = let long : 8 < length c.args.word.now = omega arith in c.is_among-in_default.ensures ∙ among_by_length (λ k. nat_lt 8 k) reserved_words c.args.word.now (lt-ltb 8 (length c.args.word.now) long)
+returns-in_default c = let long : 8 < length c.args.word.now =
+    omega arith in c.is_among-in_default.ensures
+    ∙ among_by_length (λ k. nat_lt 8 k) reserved_words c.args.word.now (lt-ltb 8 (length c.args.word.now) long)

@@ -9,4 +9,5 @@ pub returns : goal.returns
 returns c =
     let moved = c.sort_unstable_by_key.ensures in
     sym (sorted_is call_key call_exact c.args.calls.now c.sort_unstable_by_key.new.self moved.permutation
-    (neighbours call_key c.sort_unstable_by_key.new.self (moved.sorted call_key (answers_always _ _ _ (λ f a r q k. search (rules, k))))))
+    (neighbours call_key c.sort_unstable_by_key.new.self
+    (moved.sorted call_key (answers_always _ _ _ (λ f a r q k. search (rules, k))))))

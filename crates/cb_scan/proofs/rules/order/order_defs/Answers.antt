@@ -9,4 +9,5 @@ pub returns : goal.returns
 returns c =
     let moved = c.sort_unstable_by_key.ensures in
     sym (sorted_is def_key def_exact c.args.defs.now c.sort_unstable_by_key.new.self moved.permutation
-    (neighbours def_key c.sort_unstable_by_key.new.self (moved.sorted def_key (answers_always _ _ _ (λ f a r q k. search rules)))))
+    (neighbours def_key c.sort_unstable_by_key.new.self
+    (moved.sorted def_key (answers_always _ _ _ (λ f a r q k. search rules)))))

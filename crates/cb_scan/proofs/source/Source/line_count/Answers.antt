@@ -17,7 +17,15 @@ pub overflow_sub-result : goal.overflow_sub-result
 overflow_sub-result c = omega (arith, entries c)
 
 pub overflow_cast-result : goal.overflow_cast-result
-overflow_cast-result c = omega (arith, entries c, lines-few c.args.self.now, length-map (lines_of c.args.self.now) without_terminator, c.self.invariant.0, ap length c.self.view_is)
+overflow_cast-result c =
+    omega (
+      arith,
+      entries c,
+      lines-few c.args.self.now,
+      length-map (lines_of c.args.self.now) without_terminator,
+      c.self.invariant.0,
+      ap length c.self.view_is,
+    )
 
 pub returns : goal.returns
 returns c = omega (arith, entries c)

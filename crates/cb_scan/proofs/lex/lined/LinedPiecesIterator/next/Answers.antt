@@ -6,7 +6,9 @@ use Rattle.cb_scan.proofs.lex.lined.LinedPiecesIterator.next.Goals as goal
 
 pub returns-then-is_empty-clause-steps : goal.returns-then-is_empty-clause-steps
 returns-then-is_empty-clause-steps c =
-    let none = sym c.self.view_is ∙ lined-empty c.self.inside.text.now c.self.inside.at (eqb-true _ _ (sym c.is_empty.ensures ∙ c.if-is_empty.true)) in
+    let none = sym c.self.view_is
+    ∙ lined-empty c.self.inside.text.now c.self.inside.at
+    (eqb-true _ _ (sym c.is_empty.ensures ∙ c.if-is_empty.true)) in
     (none, none)
 
 pub feeds_in-requires-clause-none : goal.feeds_in-requires-clause-none
@@ -14,7 +16,8 @@ feeds_in-requires-clause-none c =
     let text = c.self.inside.text.now in
     let place = c.self.inside.at in
     let rest = take (length text - place) (drop place text) in
-    no_feeds place rest c.first_piece-piece.result (some_left (length rest) (sym c.is_empty.ensures ∙ c.if-is_empty.false)) c.first_piece-piece.ensures.value
+    no_feeds place rest c.first_piece-piece.result
+    (some_left (length rest) (sym c.is_empty.ensures ∙ c.if-is_empty.false)) c.first_piece-piece.ensures.value
 
 pub overflow_add-self : goal.overflow_add-self
 overflow_add-self c =
@@ -22,7 +25,8 @@ overflow_add-self c =
     let inv = c.self.invariant in
     let piece = c.first_piece-piece.ensures in
     let end = c.first_piece-piece.result.span.end in
-    let after = line_after text c.self.inside.at end c.self.inside.line c.feeds_in.result inv.1 (omega arith) piece.within inv.2 c.feeds_in.ensures in
+    let after = line_after text c.self.inside.at end c.self.inside.line c.feeds_in.result inv.1
+    (omega arith) piece.within inv.2 c.feeds_in.ensures in
     let small = line-small text end after.0 in
     omega arith
 
@@ -32,7 +36,8 @@ invariant_of-self c =
     let inv = c.self.invariant in
     let piece = c.first_piece-piece.ensures in
     let end = c.first_piece-piece.result.span.end in
-    let after = line_after text c.self.inside.at end c.self.inside.line c.feeds_in.result inv.1 (omega arith) piece.within inv.2 c.feeds_in.ensures in
+    let after = line_after text c.self.inside.at end c.self.inside.line c.feeds_in.result inv.1
+    (omega arith) piece.within inv.2 c.feeds_in.ensures in
     (inv.0, after.0, after.1)
 
 pub returns-clause-steps : goal.returns-clause-steps
@@ -41,7 +46,8 @@ returns-clause-steps c =
     let place = c.self.inside.at in
     let rest = take (length text - place) (drop place text) in
     let some = some_left (length rest) (sym c.is_empty.ensures ∙ c.if-is_empty.false) in
-    sym c.self.view_is ∙ lined-next text place c.self.inside.line c.first_piece-piece.result some c.first_piece-piece.ensures.value c.self.invariant.2
+    sym c.self.view_is ∙ lined-next text place c.self.inside.line c.first_piece-piece.result some
+    c.first_piece-piece.ensures.value c.self.invariant.2
 
 pub returns-clause-goes : goal.returns-clause-goes
 returns-clause-goes c =
@@ -49,4 +55,6 @@ returns-clause-goes c =
     let place = c.self.inside.at in
     let rest = take (length text - place) (drop place text) in
     let some = some_left (length rest) (sym c.is_empty.ensures ∙ c.if-is_empty.false) in
-    gave_first _ (λ _. tt) _ _ _ (sym c.self.view_is ∙ lined-next text place c.self.inside.line c.first_piece-piece.result some c.first_piece-piece.ensures.value c.self.invariant.2)
+    gave_first _ (λ _. tt) _ _ _
+    (sym c.self.view_is ∙ lined-next text place c.self.inside.line c.first_piece-piece.result some
+    c.first_piece-piece.ensures.value c.self.invariant.2)

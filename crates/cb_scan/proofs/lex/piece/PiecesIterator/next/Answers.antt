@@ -5,17 +5,22 @@ use Rattle.cb_scan.proofs.lex.piece.PiecesIterator.next.Goals as goal
 
 pub returns-then-is_empty-clause-steps : goal.returns-then-is_empty-clause-steps
 returns-then-is_empty-clause-steps c =
-    let none = sym c.self.view_is ∙ pieces-empty c.self.inside.at c.self.inside.rest.now (eqb-true _ _ (sym c.is_empty.ensures ∙ c.if-is_empty.true)) in
+    let none = sym c.self.view_is
+    ∙ pieces-empty c.self.inside.at c.self.inside.rest.now
+    (eqb-true _ _ (sym c.is_empty.ensures ∙ c.if-is_empty.true)) in
     (none, none)
 
 pub returns-clause-steps : goal.returns-clause-steps
 returns-clause-steps c =
     let rest = c.self.inside.rest.now in
     let some = some_left (length rest) (sym c.is_empty.ensures ∙ c.if-is_empty.false) in
-    sym c.self.view_is ∙ pieces-next c.self.inside.at rest c.first_piece-piece.result some c.first_piece-piece.ensures.value
+    sym c.self.view_is ∙ pieces-next c.self.inside.at rest c.first_piece-piece.result some
+    c.first_piece-piece.ensures.value
 
 pub returns-clause-goes : goal.returns-clause-goes
 returns-clause-goes c =
     let rest = c.self.inside.rest.now in
     let some = some_left (length rest) (sym c.is_empty.ensures ∙ c.if-is_empty.false) in
-    gave_first _ (λ _. tt) _ _ _ (sym c.self.view_is ∙ pieces-next c.self.inside.at rest c.first_piece-piece.result some c.first_piece-piece.ensures.value)
+    gave_first _ (λ _. tt) _ _ _
+    (sym c.self.view_is ∙ pieces-next c.self.inside.at rest c.first_piece-piece.result some
+    c.first_piece-piece.ensures.value)
