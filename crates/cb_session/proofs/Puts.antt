@@ -1,12 +1,12 @@
 -- Texts that a writer has taken, and faults that were passed on.
-use Rattle.std.proofs.Common.{◌≡◌, List, [], ◌∷◌, ◌++◌, map, Result, Ok, Err, ℕ, refl, ap, ◌∙◌}
+use Rattle.std.proofs.Common.{◌≡◌, List, [], ◌∷◌, ◌++◌, Result, Ok, Err, ℕ, refl, sym, subst, append_assoc, append-nil, ap, ◌∙◌}
 use Rattle.std.specs.Prelude.{IsErrAnd}
 use Rattle.std.specs.List.{flat_map}
 use Rattle.cb_session.specs.declared.input.Fault.{Fault}
 use Rattle.cb_session.specs.declared.input.Fault.TheVariants.{Write}
 use Rattle.cb_tags.specs.Writers.{Writer}
 use Rattle.cb_tags.specs.Writing.{PutsAll, PutsPrefix}
-use Rattle.cb_tags.proofs.Prefixes.{PutsAll-after, PutsPrefix-after, PutsPrefix-more}
+use Rattle.cb_tags.proofs.Prefixes.{PutsAll-none, PutsAll-after, PutsPrefix-after, PutsPrefix-more}
 use Rattle.cb_session.specs.Writing.{Puts}
 
 -- the fault of a writer that was passed on
@@ -26,7 +26,36 @@ pub Puts-after : {A : Type 0} (old mid new : Writer) (r : Result A Fault) (text 
 Puts-after old mid new (Ok x) text more p q = (PutsAll-after old mid new text more p q.0, q.1)
 Puts-after old mid new (Err x) text more p q = (PutsPrefix-after old mid new text more p q.0, q.1)
 
--- the texts of a list of images
-pub flat_map-map : {X Y : Type 0} (g : X → Y) (f : Y → List ℕ) (xs : List X) → flat_map f (map g xs) ≡ flat_map (λ x. f (g x)) xs
-flat_map-map g f [] = refl
-flat_map-map g f (x ∷ xs) = ap (λ t. f (g x) ++ t) (flat_map-map g f xs)
+-- elements written one after another: those before the ones that are left
+pub record Written {X : Type 0} (f : X → List ℕ) (old out : Writer) (left all : List X) : Type 0 where
+  pub so_far : List ℕ
+  pub wrote : PutsAll old out so_far
+  pub rest : so_far ++ flat_map f left ≡ flat_map f all
+
+pub Written-start : {X : Type 0} (f : X → List ℕ) (old : Writer) (all : List X) → Written f old old all all
+Written-start f old all = record { so_far = []; wrote = PutsAll-none old; rest = refl }
+
+-- the next element
+pub Written-more : {X : Type 0} (f : X → List ℕ) (old out new : Writer) (left rest all : List X) (x : X) → Written f old out left all
+    → left ≡ x ∷ rest → PutsAll out new (f x) → Written f old new rest all
+Written-more f old out new left rest all x s is wrote = record {
+  so_far = s.so_far ++ f x;
+  wrote = PutsAll-after old out new s.so_far (f x) s.wrote wrote;
+  rest = append_assoc s.so_far (f x) (flat_map f rest) ∙ ap (λ l. s.so_far ++ flat_map f l) (sym is) ∙ s.rest;
+}
+
+-- an element that could not be written
+pub Written-fault : {X A : Type 0} (f : X → List ℕ) (old out new : Writer) (left rest all : List X) (x : X) (r : Result A Fault) (fault : Fault)
+    → Written f old out left all → left ≡ x ∷ rest → IsErrAnd r (λ e. e ≡ fault) → fault ≡ Write → PutsPrefix out new (f x)
+    → Puts old new r (flat_map f all)
+Written-fault f old out new left rest all x r fault s is e why p =
+    let whole : s.so_far ++ (f x ++ flat_map f rest) ≡ flat_map f all = ap (λ l. s.so_far ++ flat_map f l) (sym is) ∙ s.rest in
+    subst (λ l. Puts old new r l) whole
+    (Puts-fault old new r fault _ e why
+    (PutsPrefix-after old out new s.so_far (f x ++ flat_map f rest) s.wrote (PutsPrefix-more out new (f x) (flat_map f rest) p)))
+
+-- no element is left
+pub Written-all : {X : Type 0} (f : X → List ℕ) (old out : Writer) (left all : List X) → Written f old out left all → left ≡ []
+    → PutsAll old out (flat_map f all)
+Written-all f old out left all s none =
+    subst (λ l. PutsAll old out l) (sym (append-nil s.so_far) ∙ ap (λ l. s.so_far ++ flat_map f l) (sym none) ∙ s.rest) s.wrote

@@ -1,5 +1,5 @@
 //! The replies, and the texts that they are made of.
-ghost use Rattle.std.specs.Prelude.{◌≡◌, ◌∷◌, [], ◌++◌, map, codes, decimal};
+ghost use Rattle.std.specs.Prelude.{◌≡◌, ◌∷◌, [], ◌++◌, codes, decimal};
 ghost use Rattle.std.specs.List.{flat_map};
 ghost use Rattle.cb_session.specs.Writing.{Puts};
 ghost use Rattle.cb_session.specs.Output.{row_line, answer_lines, count_line, done_line, refused_line, prompt};
@@ -7,7 +7,7 @@ ghost use Rattle.cb_desk.specs.Models.{row_of};
 ghost use Rattle.cb_session.specs.steps.Rounds.{move_line};
 
 use crate::Fault;
-use cb_desk::{RefRow, Refusal};
+use cb_desk::{RefRow, Refusal, RowIter, RowList};
 use cb_tags::{Sink, put_text, put_texts};
 use itoa::Buffer;
 use std::io::Write;
@@ -86,11 +86,11 @@ pub fn put_row<W: Write>(out: &mut Sink<W>, row: &RefRow<'_>) -> Result<(), Faul
 }
 
 /// Writes rows, one after another.
-fn put_each<W: Write>(out: &mut Sink<W>, rows: &[RefRow<'_>]) -> Result<(), Fault>
-    ensures { Puts out.old out.new result (flat_map (λ row. row_line (row_of row)) rows.now) }
+fn put_each<W: Write>(out: &mut Sink<W>, rows: RowIter<'_, '_>) -> Result<(), Fault>
+    ensures { Puts out.old out.new result (flat_map row_line rows.entry) }
 {
     for row in rows {
-        put_row(out, row)?;
+        put_row(out, &row)?;
     }
     Ok(())
 }
@@ -105,9 +105,9 @@ pub fn put_count<W: Write>(out: &mut Sink<W>, count: u128) -> Result<(), Fault>
 }
 
 /// Writes the reply to a query: how many rows there are, and the rows.
-pub fn put_rows<W: Write>(out: &mut Sink<W>, rows: &[RefRow<'_>]) -> Result<(), Fault>
-    ensures { Puts out.old out.new result (answer_lines (map row_of rows.now)) }
+pub(crate) fn put_rows<W: Write>(out: &mut Sink<W>, list: &RowList<'_>) -> Result<(), Fault>
+    ensures { Puts out.old out.new result (answer_lines list.now) }
 {
-    put_count(out, rows.len() as u128)?;
-    put_each(out, rows)
+    put_count(out, list.len() as u128)?;
+    put_each(out, list.iter())
 }

@@ -131,7 +131,7 @@ impl Session {
         ensures { (out_of_memory : Bool) × Puts out.old out.new result (outcome out_of_memory self.now (query field pattern.now)).reply }
     {
         match self.desk.rows(alloc, field, pattern) {
-            Ok(list) => put_rows(out, list.rows()),
+            Ok(list) => put_rows(out, &list),
             Err(refusal) => put_refusal(out, refusal),
         }
     }
@@ -140,7 +140,7 @@ impl Session {
         ensures { (out_of_memory : Bool) × Puts out.old out.new result (outcome out_of_memory self.now (tags_file format)).reply }
     {
         match self.desk.tag_rows(alloc, format) {
-            Ok(list) => put_tags_reply(out, format, list.rows()),
+            Ok(list) => put_tags_reply(out, format, &list),
             Err(refusal) => put_refusal(out, refusal),
         }
     }
@@ -149,7 +149,7 @@ impl Session {
         ensures { (out_of_memory : Bool) × Puts out.old out.new result (outcome out_of_memory self.now listing).reply }
     {
         match self.desk.tag_rows(alloc, Format::Extended) {
-            Ok(list) => put_listing_reply(out, list.rows()),
+            Ok(list) => put_listing_reply(out, &list),
             Err(refusal) => put_refusal(out, refusal),
         }
     }

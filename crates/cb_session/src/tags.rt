@@ -1,5 +1,5 @@
 //! Tags files and listings, and the replies that show them.
-ghost use Rattle.std.specs.Prelude.{◌≡◌, map};
+ghost use Rattle.std.specs.Prelude.{◌≡◌};
 ghost use Rattle.std.specs.List.{flat_map};
 ghost use Rattle.cb_tags.specs.TagLines.{tag_of, listing_line};
 ghost use Rattle.cb_session.specs.Writing.{Puts};
@@ -8,7 +8,7 @@ ghost use Rattle.cb_desk.specs.Tags.{tag_line, heads, head_count, tags_text, lis
 
 use crate::Fault;
 use crate::reply::put_count;
-use cb_desk::Format;
+use cb_desk::{Format, TagRowIter, TagRowList};
 use cb_tags::{Sink, TagRow, put_extended, put_heads, put_listing, put_plain};
 use std::io::Write;
 
@@ -43,11 +43,15 @@ fn put_tag<W: Write>(out: &mut Sink<W>, format: Format, row: &TagRow<'_>) -> Res
 }
 
 /// Writes the lines of rows, one after another.
-fn put_tags<W: Write>(out: &mut Sink<W>, format: Format, rows: &[TagRow<'_>]) -> Result<(), Fault>
-    ensures { Puts out.old out.new result (flat_map (λ row. tag_line format (tag_of row)) rows.now) }
+fn put_tags<W: Write>(
+    out: &mut Sink<W>,
+    format: Format,
+    rows: TagRowIter<'_, '_>,
+) -> Result<(), Fault>
+    ensures { Puts out.old out.new result (flat_map (tag_line format) rows.entry) }
 {
     for row in rows {
-        put_tag(out, format, row)?;
+        put_tag(out, format, &row)?;
     }
     Ok(())
 }
@@ -56,9 +60,9 @@ fn put_tags<W: Write>(out: &mut Sink<W>, format: Format, rows: &[TagRow<'_>]) ->
 pub fn put_tags_file<W: Write>(
     out: &mut Sink<W>,
     format: Format,
-    rows: &[TagRow<'_>],
+    rows: TagRowIter<'_, '_>,
 ) -> Result<(), Fault>
-    ensures { Puts out.old out.new result (tags_text format (map tag_of rows.now)) }
+    ensures { Puts out.old out.new result (tags_text format rows.entry) }
 {
     put_heads_of(out, format)?;
     put_tags(out, format, rows)
@@ -71,39 +75,38 @@ fn put_listed<W: Write>(out: &mut Sink<W>, row: &TagRow<'_>) -> Result<(), Fault
     Ok(put_listing(out, row)?)
 }
 
-/// Writes the lines of rows in a listing, one after another.
-fn put_each_listed<W: Write>(out: &mut Sink<W>, rows: &[TagRow<'_>]) -> Result<(), Fault>
-    ensures { Puts out.old out.new result (flat_map (λ row. listing_line (tag_of row)) rows.now) }
+/// Writes a listing.
+pub fn put_listing_file<W: Write>(
+    out: &mut Sink<W>,
+    rows: TagRowIter<'_, '_>,
+) -> Result<(), Fault>
+    ensures { Puts out.old out.new result (listing_text rows.entry) }
 {
     for row in rows {
-        put_listed(out, row)?;
+        put_listed(out, &row)?;
     }
     Ok(())
 }
 
-/// Writes a listing.
-pub fn put_listing_file<W: Write>(out: &mut Sink<W>, rows: &[TagRow<'_>]) -> Result<(), Fault>
-    ensures { Puts out.old out.new result (listing_text (map tag_of rows.now)) }
-{
-    put_each_listed(out, rows)
-}
-
 /// Writes the reply that shows a tags file.
-pub fn put_tags_reply<W: Write>(
+pub(crate) fn put_tags_reply<W: Write>(
     out: &mut Sink<W>,
     format: Format,
-    rows: &[TagRow<'_>],
+    list: &TagRowList<'_>,
 ) -> Result<(), Fault>
-    ensures { Puts out.old out.new result (tags_reply format (map tag_of rows.now)) }
+    ensures { Puts out.old out.new result (tags_reply format list.now) }
 {
-    put_count(out, rows.len() as u128 + head_count(format))?;
-    put_tags_file(out, format, rows)
+    put_count(out, list.len() as u128 + head_count(format))?;
+    put_tags_file(out, format, list.iter())
 }
 
 /// Writes the reply that shows a listing.
-pub fn put_listing_reply<W: Write>(out: &mut Sink<W>, rows: &[TagRow<'_>]) -> Result<(), Fault>
-    ensures { Puts out.old out.new result (listing_reply (map tag_of rows.now)) }
+pub(crate) fn put_listing_reply<W: Write>(
+    out: &mut Sink<W>,
+    list: &TagRowList<'_>,
+) -> Result<(), Fault>
+    ensures { Puts out.old out.new result (listing_reply list.now) }
 {
-    put_count(out, rows.len() as u128)?;
-    put_listing_file(out, rows)
+    put_count(out, list.len() as u128)?;
+    put_listing_file(out, list.iter())
 }

@@ -5,7 +5,7 @@ use Rattle.cb_session.specs.declared.input.Ended.{Ended}
 use Rattle.cb_session.specs.declared.input.Ended.TheVariants.{Done, Cut, Fault, Operand as StoppedAt}
 use Rattle.cb_session.specs.declared.operands.Operand.{Operand}
 use Rattle.cb_session.specs.Devices.{Reader}
-use Rattle.cb_session.specs.Operands.{Loads, Prepares, Stop, file_of_operand}
+use Rattle.cb_session.specs.Operands.{Loads, Prepares, RefusedOperand, file_of_operand}
 use Rattle.cb_tags.specs.Writers.{Writer}
 use Rattle.cbrowse.specs.declared.execute.finish.Finish.{Finish}
 use Rattle.cbrowse.specs.declared.execute.finish.Finish.TheVariants.{Ran, Unreadable, Unwritable}
@@ -15,7 +15,7 @@ use Rattle.cbrowse.specs.Messages.{files_of}
 use Rattle.cbrowse.specs.Program.{DoesFrom, DoesJob, DoesLoaded, EndsIntoFile, Reaches, Works, most_line_bytes, most_lines, writes_file}
 
 -- operands under the names of a job's files are contents of those files
-pub reaches : (job : Job) (ops : List Operand) (end : Result Timeline Stop) → map (λ o. o.name.items) ops ≡ files_of job
+pub reaches : (job : Job) (ops : List Operand) (end : Result Timeline RefusedOperand) → map (λ o. o.name.items) ops ≡ files_of job
     → Loads 0 new_timeline (map file_of_operand ops) end → Reaches job end
 reaches job ops end named loads = (map file_of_operand ops, names ops ∙ named, loads)
   where
@@ -26,7 +26,7 @@ reaches job ops end named loads = (map file_of_operand ops, names ops ∙ named,
 -- an operand was refused
 pub stopped : (job : Job) (ops : List Operand) (feed : Reader) (out : Writer) (ended : Ended) → map (λ o. o.name.items) ops ≡ files_of job
     → Prepares (map file_of_operand ops) (Err ended)
-    → (end : Result Timeline Stop) × Reaches job end × DoesLoaded job end feed feed out out ended
+    → (end : Result Timeline RefusedOperand) × Reaches job end × DoesLoaded job end feed feed out out ended
 stopped job ops feed out (StoppedAt place why) named p =
     (Err (record { place = place; why = why }), reaches job ops (Err (record { place = place; why = why })) named p, (refl, (refl, refl)))
 stopped job ops feed out Done named p = absurd p

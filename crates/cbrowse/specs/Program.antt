@@ -11,7 +11,7 @@ use Rattle.cb_session.specs.declared.input.Ended.TheVariants.{Done, Fault, Opera
 use Rattle.cb_session.specs.declared.input.Fault.TheVariants.{Write, Memory}
 use Rattle.cb_session.specs.Devices.{Reader}
 use Rattle.cb_session.specs.Inputs.{inputs}
-use Rattle.cb_session.specs.Operands.{Loads, Stop}
+use Rattle.cb_session.specs.Operands.{Loads, RefusedOperand}
 use Rattle.cb_session.specs.Serving.{HasFailed, IfFault, LeavesRun, Tells, fault_of}
 use Rattle.cb_tags.specs.TagLines.{Tag}
 use Rattle.cb_tags.specs.Writers.{Writer}
@@ -93,7 +93,7 @@ StopsReading files (Unreadable place) = place < length files
 StopsReading files Unwritable = ⊥
 
 -- the files of a job under their names, in order, with some contents, and where their loads lead
-abbrev pub Reaches : Job → Result Timeline Stop → Type 0
+abbrev pub Reaches : Job → Result Timeline RefusedOperand → Type 0
 Reaches job end = (files : List File) × (map (λ f. f.name) files ≡ files_of job) × Loads 0 new_timeline files end
 
 -- the job is done from a timeline: into a tags file, which leaves standard output alone, or over the input and output
@@ -105,7 +105,7 @@ DoesFrom t (Tags true tagsfile format files) feed feed' out out' ended =
 DoesFrom t (Tags false tagsfile format files) feed feed' out out' ended = EndsFile ended × LeavesAlone feed feed' out out'
 
 -- the job is done from where the loads lead; where one is refused nothing is done
-abbrev pub DoesLoaded : Job → Result Timeline Stop → Reader → Reader → Writer → Writer → Ended → Type 0
+abbrev pub DoesLoaded : Job → Result Timeline RefusedOperand → Reader → Reader → Writer → Writer → Ended → Type 0
 DoesLoaded job (Err stop) feed feed' out out' ended = (ended ≡ Operand stop.place stop.why) × LeavesAlone feed feed' out out'
 DoesLoaded job (Ok t) feed feed' out out' ended = DoesFrom t job feed feed' out out' ended
 
@@ -114,7 +114,7 @@ DoesLoaded job (Ok t) feed feed' out out' ended = DoesFrom t job feed feed' out 
 abbrev pub Works : Job → Reader → Reader → Writer → Writer → Finish → Type 0
 Works job feed feed' out out' (Ran ended) =
     ((ended ≡ Fault Memory) × LeavesAlone feed feed' out out')
-    ⊎ ((end : Result Timeline Stop) × Reaches job end × DoesLoaded job end feed feed' out out' ended)
+    ⊎ ((end : Result Timeline RefusedOperand) × Reaches job end × DoesLoaded job end feed feed' out out' ended)
 Works job feed feed' out out' (Unreadable place) = (place < length (files_of job)) × LeavesAlone feed feed' out out'
 Works job feed feed' out out' Unwritable =
     IsTrue (writes_file job) × ((t : Timeline) × Reaches job (Ok t)) × LeavesAlone feed feed' out out'

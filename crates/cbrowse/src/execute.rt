@@ -1,7 +1,6 @@
 //! The program behind its entry: words in, a job done, an exit status out.
 ghost use Rattle.std.specs.Prelude.{◌≡◌, ◌⊎◌, true, false, map, string_bytes};
 ghost use Rattle.std.specs.Option.{MatchOption};
-ghost use Rattle.cb_tags.specs.TagLines.{tag_of};
 ghost use Rattle.cbrowse.specs.Endings.{EndsJob, EndsUsage};
 ghost use Rattle.cbrowse.specs.Messages.{tagsfile_of};
 ghost use Rattle.cbrowse.specs.Program.{output_format, output_text, tags_output, writes_file, WritesText, DoesJob, EndsIntoFile, Works};
@@ -15,9 +14,9 @@ mod tests;
 use crate::execute::files::{make_file, read_operands};
 use crate::execute::finish::{Finish, conclude, files_of};
 use crate::job::{Job, job_of};
-use cb_desk::{Desk, Format};
+use cb_desk::{Desk, Format, TagRowIter};
 use cb_session::{Ended, Fault, Feed, Limits, Session, prepare, put_listing_file, put_tags_file};
-use cb_tags::{Sink, TagRow};
+use cb_tags::Sink;
 pub(crate) use finish::refuse;
 use std::alloc::Global;
 use std::io::{BufRead, Write};
@@ -41,9 +40,9 @@ fn put_output<W: Write>(
     out: &mut Sink<W>,
     listing: bool,
     format: Format,
-    rows: &[TagRow<'_>],
+    rows: TagRowIter<'_, '_>,
 ) -> Result<(), Fault>
-    ensures { Puts out.old out.new result (output_text listing format (map tag_of rows.now)) }
+    ensures { Puts out.old out.new result (output_text listing format rows.entry) }
 {
     if listing {
         put_listing_file(out, rows)
@@ -66,7 +65,7 @@ fn write_tags<W: Write>(
         Ok(list) => list,
         Err(_) => return Ended::Fault(Fault::Memory),
     };
-    match put_output(out, listing, format, list.rows()) {
+    match put_output(out, listing, format, list.iter()) {
         Ok(()) => {}
         Err(fault) => return Ended::Fault(fault),
     }

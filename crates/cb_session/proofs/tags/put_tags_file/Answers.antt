@@ -1,14 +1,10 @@
-use Rattle.cb_desk.specs.Tags.{tag_line}
-use Rattle.cb_tags.specs.TagLines.{tag_of}
-use Rattle.cb_session.proofs.Puts.{Puts-unfinished, Puts-after, flat_map-map}
+use Rattle.cb_session.proofs.Puts.{Puts-after, Puts-unfinished}
 use Rattle.cb_session.proofs.tags.put_tags_file.Goals as goal
 
 pub returns-in_err-put_heads_of : goal.returns-in_err-put_heads_of
 returns-in_err-put_heads_of g c =
     let k = c.in_err-put_heads_of.ensures in
-    (Puts-unfinished _ _ _ _ _ _ c.from_residual.ensures.1 k.1 k.0)
+    Puts-unfinished _ _ _ _ _ _ c.from_residual.ensures.1 k.1 k.0
 
 pub returns : goal.returns
-returns g c =
-    rw (flat_map-map tag_of (tag_line c.args.format) c.args.rows.now)
-    (Puts-after _ _ _ _ _ _ c.in_ok-put_heads_of.ensures.0 c.put_tags.ensures)
+returns g c = Puts-after _ _ _ _ _ _ c.in_ok-put_heads_of.ensures.0 c.put_tags.ensures

@@ -8,7 +8,7 @@ use Rattle.cb_session.proofs.state.Session.listing.Goals as goal
 
 pub returns-in-Ok : goal.returns-in-Ok
 returns-in-Ok g c =
-    let text = ap listing_reply (c.rows.ensures.value ∙ c.in-Ok.ensures.rows)
+    let text = ap listing_reply c.in-Ok.ensures.rows
     ∙ ap (λ t. listing_reply (tags Extended t.present)) c.self.view_is ∙ sym (listing-shown c.args.self.now) in
     (false, subst (λ l. Puts c.args.out.now c.put_listing_reply.new.out c.put_listing_reply.result l) text c.put_listing_reply.ensures)
 

@@ -7,7 +7,7 @@ use Rattle.cb_session.proofs.state.Session.query.Goals as goal
 
 pub returns-in-Ok : goal.returns-in-Ok
 returns-in-Ok g c =
-    let text = ap answer_lines (c.rows-in-Ok.ensures.value ∙ c.in-Ok.ensures.rows)
+    let text = ap answer_lines c.in-Ok.ensures.rows
     ∙ ap (λ t. answer_lines (answer t.present c.args.field c.args.pattern.now)) c.self.view_is ∙ sym (query-answered c.args.self.now c.args.field c.args.pattern.now) in
     (false, subst (λ l. Puts c.args.out.now c.put_rows.new.out c.put_rows.result l) text c.put_rows.ensures)
 

@@ -7,7 +7,7 @@ use Rattle.cb_session.proofs.state.Session.tags.Goals as goal
 
 pub returns-in-Ok : goal.returns-in-Ok
 returns-in-Ok g c =
-    let text = ap (tags_reply c.args.format) (c.rows.ensures.value ∙ c.in-Ok.ensures.rows)
+    let text = ap (tags_reply c.args.format) c.in-Ok.ensures.rows
     ∙ ap (λ t. tags_reply c.args.format (tags c.args.format t.present)) c.self.view_is ∙ sym (tags-shown c.args.self.now c.args.format) in
     (false, subst (λ l. Puts c.args.out.now c.put_tags_reply.new.out c.put_tags_reply.result l) text c.put_tags_reply.ensures)
 
