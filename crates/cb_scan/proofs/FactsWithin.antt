@@ -26,7 +26,7 @@ use Rattle.cb_scan.specs.steps.Quote.{is_closed}
 use Rattle.cb_scan.specs.steps.Cut.{pieces}
 use Rattle.cb_scan.specs.rules.Typedefs.{Nested, begins_with_star, last_name, name_after_stars, nested, nesting_after, part_name, parts, parts_here, pointer_name, taken, taken_at, typedef_at, typedef_names, typedef_stop, begins_typedef, ends_declaration, typedefs}
 use Rattle.cb_scan.specs.rules.Uses.{call_at, call_of, calls_among, calls_of_function, header_between, header_of, include_of, includes, is_call, used, uses}
-use Rattle.cb_scan.proofs.DirectiveLemmas.{range_names}
+use Rattle.cb_scan.proofs.MacroLines.{range_names}
 use Rattle.cb_scan.proofs.Rising.{all-prefix, all-picked, all_implied, macro_picks, macro_names, names_flat, named_in_head, only_directives, used_picks}
 use Rattle.cb_scan.proofs.PieceLists.{pieces-lie}
 use Rattle.cb_scan.proofs.WithinLemmas.{DefWithin, TokenWithin, all-append, all-drop, all-joined, all-split, all-take, code-within, functions-lie, lines-within}
