@@ -8,7 +8,7 @@ use Rattle.cb_scan.specs.lex.Lexeme.{IsClosedLiteral, Quoted}
 use Rattle.cb_scan.specs.steps.Cut.{ends_literal, literal_escape, literal_len}
 use Rattle.cb_scan.specs.steps.Quote.{closes_from, is_closed}
 use Rattle.cb_scan.proofs.Cuts.{quote}
-use Rattle.cb_scan.proofs.Lengths.{literal_exact, literal_spelled}
+use Rattle.cb_scan.proofs.Literals.{literal_exact, literal_spelled}
 
 -- a string that closes has its length, whatever follows
 closed_len : (e : Escape) (bs more : List ℕ) → closes_from e bs ≡ true → literal_len 34 e (bs ++ more) ≡ length bs

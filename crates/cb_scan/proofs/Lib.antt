@@ -1,4 +1,5 @@
 pub mod Blocks
+pub mod Bodies
 pub mod BodyLemmas
 pub mod ClosedStrings
 pub mod CodeLines
@@ -6,6 +7,7 @@ pub mod Cuts
 pub mod DeclarationLemmas
 pub mod FactsWithin
 pub mod FunctionLemmas
+pub mod FunctionsRise
 pub mod GatherLemmas
 pub mod HeadLemmas
 pub mod InOrder
@@ -14,6 +16,7 @@ pub mod Lengths
 pub mod LineLemmas
 pub mod LineTable
 pub mod LinedPieces
+pub mod Literals
 pub mod MacroLines
 pub mod OrderLemmas
 pub mod PieceLists
@@ -22,5 +25,6 @@ pub mod Rising
 pub mod ScopeLemmas
 pub mod Stages
 pub mod TypedefLemmas
+pub mod TypedefsWithin
 pub mod WithinLemmas
 pub mod WordLemmas
