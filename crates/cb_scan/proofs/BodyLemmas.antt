@@ -1,171 +1,27 @@
 -- The one pass knows whose body it is in: it finds the ranges of the functions and the calls in
 -- their bodies.
-use Rattle.std.proofs.Common.{◌≡◌, ◌∙◌, ℕ, zero, suc, ◌+◌, ◌-◌, ◌<◌, ◌≤◌, Bool, true, false, List, [], ◌∷◌, ◌++◌, Option, Some, None, refl, sym, ap, subst, length, drop, map, arith, lt-ltb, length-drop, add-one, inl, inr, ⊎_elim, append_assoc}
-use Rattle.std.proofs.lemmas.Bool.{false≢true, true≢false, cases_Bool, eqb-true, eq-eqb, false_from_ne_true, ltb-true}
+use Rattle.std.proofs.Common.{◌≡◌, ◌∙◌, ℕ, zero, suc, ◌+◌, ◌-◌, ◌<◌, ◌≤◌, Bool, true, false, List, [], ◌∷◌, ◌++◌, Option, Some, None, refl, sym, ap, subst, length, drop, map, arith, lt-ltb, length-drop, add-one, ⊎_elim, append_assoc}
+use Rattle.std.proofs.lemmas.Bool.{true≢false, cases_Bool, eqb-true, false_from_ne_true, ltb-true}
 use Rattle.std.proofs.lemmas.List.{drop_more, append-nil, get_or_past, map-append}
 use Rattle.std.proofs.Math.Bool.{and-false}
 use Rattle.std.proofs.lemmas.List.Concat.{flat_map-append}
-use Rattle.std.specs.Prelude.{◌⊎◌, ◌||◌, ◌&&◌, ◌==◌, not, if◌then◌else◌, cond, find, nat_lt, unwrap_or}
-use Rattle.std.specs.List.{flat_map, list_any, range_with_len}
-use Rattle.std.specs.Option.{MatchOption, option_to_list, option_map, option_map_or}
-use Rattle.cb_scan.specs.declared.facts.Call.{Call}
+use Rattle.std.specs.Prelude.{◌&&◌, ◌==◌, not, if◌then◌else◌, cond, nat_lt}
+use Rattle.std.specs.List.{flat_map, range_with_len}
+use Rattle.std.specs.Option.{MatchOption, option_to_list, option_map}
 use Rattle.cb_scan.specs.declared.facts.Def.{Def}
 use Rattle.cb_scan.specs.declared.rules.functions.Machine.{Machine}
 use Rattle.cb_scan.specs.declared.lex.piece.Span.{Span}
 use Rattle.cb_scan.specs.declared.rules.scope.Range.{Range}
 use Rattle.cb_scan.specs.declared.lex.token.Token.{Token}
-use Rattle.cb_scan.specs.declared.lex.token.Role.{Role}
-use Rattle.cb_scan.specs.declared.lex.token.Role.TheVariants.{Word, Mark, Str, Other}
 use Rattle.cb_scan.specs.rules.Depth.{depth, depth_after, head_start, follows_linkage, is_counted, closes, is_stop, token_at, no_token}
 use Rattle.cb_scan.specs.Definitions.{function_def}
-use Rattle.cb_scan.specs.rules.Functions.{Function, close_from, defined_name, function_at, functions, head}
+use Rattle.cb_scan.specs.rules.Functions.{close_from, function_at, functions}
 use Rattle.cb_scan.specs.rules.Scope.{function_range}
-use Rattle.cb_scan.specs.lex.Tokens.{is_mark, is_name_token, is_static}
+use Rattle.cb_scan.specs.lex.Tokens.{is_mark, is_name_token}
 use Rattle.cb_scan.specs.rules.Uses.{call_at, call_of, calls_of_function, function_calls, is_call}
 use Rattle.cb_scan.specs.steps.Functions.{add, counts, empty_head, start, def_of, defined, found, is_after_linkage, next, next_body, next_depth, ends_all, closed, called, call_before, range_to, ranges_from, calls_from}
-use Rattle.cb_scan.proofs.FunctionLemmas.{IsAt, step, depth_next, stops_is, found_is}
-
--- the token directly before token k, unless it is a stop
-abbrev last_at : List Token → ℕ → Option Token
-last_at ts zero = None
-last_at ts (suc k) = if is_stop ts k then None else Some (token_at ts k)
-
--- what the state before token k knows besides
-record InBody (ts : List Token) (k : ℕ) (m : Machine) : Type 0 where
-  at : IsAt ts k m
-  last_is : m.head.last ≡ last_at ts k
-  deep : MatchOption m.body (Unit {0}) (λ _. 0 < depth ts k)
-
--- where a body ends that is open before token k
-close_step : (ts : List Token) (k : ℕ) → k < length ts
-    → close_from ts k ≡ (if closes ts k then k else close_from ts (suc k))
-close_step ts k within =
-    let more : length ts - k ≡ suc (length ts - suc k) = omega arith in
-    let one : k + 1 ≡ suc k = add-one k in
-    ap (λ n. unwrap_or (find (closes ts) (range_with_len k n)) (length ts)) more
-    ∙ ap (λ j. unwrap_or (cond (closes ts k) (Some k) (find (closes ts) (range_with_len j (length ts - suc k))))
-    (length ts)) one
-    ∙ elim (closes ts k) as (λ b. unwrap_or
-    (cond b (Some k) (find (closes ts) (range_with_len (suc k) (length ts - suc k)))) (length ts)
-    ≡ (if b then k else close_from ts (suc k))) [ true ↦ refl | false ↦ refl ]
-
-close_end : (ts : List Token) (k : ℕ) → length ts ≤ k → close_from ts k ≡ length ts
-close_end ts k past =
-    let none : length ts - k ≡ 0 = omega arith in
-    ap (λ n. unwrap_or (find (closes ts) (range_with_len k n)) (length ts)) none
-
-close_bound : (ts : List Token) (n k : ℕ) → n ≡ length ts - k → k ≤ length ts
-    → k ≤ unwrap_or (find (closes ts) (range_with_len k n)) (length ts)
-close_bound ts zero k is within = within
-close_bound ts (suc n) k is within =
-    elim (closes ts k) as (λ b. k ≤ unwrap_or (cond b (Some k) (find (closes ts) (range_with_len (k + 1) n)))
-    (length ts)) [
-      | true ↦ omega arith
-      | false ↦ let later : k + 1 ≤ unwrap_or (find (closes ts) (range_with_len (k + 1) n)) (length ts) =
-          close_bound ts n (k + 1) (omega arith) (omega arith) in omega arith
-    ]
-
--- a lone byte is one byte
-only_mark : (r : Role) (a b : ℕ) → (a == b) ≡ false → is_mark a r ≡ true → is_mark b r ≡ false
-only_mark (Word w) a b other is = refl
-only_mark Str a b other is = refl
-only_mark Other a b other is = refl
-only_mark (Mark x) a b other is = ap (λ y. y == b) (eqb-true x a is) ∙ other
-
--- a stop is no name
-no_name : (r : Role) (a b c : Bool) → ((is_mark 59 r && a) || (is_mark 125 r && b) || (is_mark 123 r && c)) ≡ true
-    → is_name_token r ≡ false
-no_name (Word w) a b c is = absurd (false≢true is)
-no_name Str a b c is = refl
-no_name Other a b c is = refl
-no_name (Mark x) a b c is = refl
-
-pub and_left : (a b : Bool) → (a && b) ≡ true → a ≡ true
-and_left true b is = refl
-and_left false b is = is
-
-and_right : (a b : Bool) → (a && b) ≡ true → b ≡ true
-and_right true b is = is
-and_right false b is = absurd (false≢true is)
-
--- the depth stays above 0 where nothing ends all
-pub stays_deep : (c b s : Bool) (d : ℕ) → 0 < d
-    → (b && (if c then d + 1 else (if b then (if s then 0 else d - 1) else d)) == 0) ≡ false
-    → 0 < (if c then d + 1 else (if b then (if s then 0 else d - 1) else d))
-stays_deep true b s d deep open_ = omega arith
-stays_deep false false s d deep open_ = deep
-stays_deep false true true d deep open_ = absurd (true≢false open_)
-stays_deep false true false d deep open_ =
-    ⊎_elim (λ e. absurd (true≢false (sym (eq-eqb (d - 1) 0 e) ∙ open_))) (λ e. omega arith) (zero_or_more (d - 1))
-  where
-    zero_or_more : (n : ℕ) → (n ≡ 0) ⊎ (0 < n)
-    zero_or_more zero = inl refl
-    zero_or_more (suc n) = inr (omega arith)
-
--- where a body ends whose `}` is token j, or that nothing ends
-abbrev place_of : List ℕ → List Token → ℕ → ℕ
-place_of text ts j = if nat_lt j (length ts) then (token_at ts j).span.end else length text
-
--- the calls of an open body from token k on, the last of which the next token tells
-abbrev open_calls : List Token → ℕ → Span → List Call
-open_calls ts k caller = flat_map (call_at ts caller) (range_with_len k (close_from ts (suc k) - k))
-
--- the calls that are still to come of the body that is open before token k
-abbrev pending : List Token → ℕ → Option Span → List Call
-pending ts zero body = []
-pending ts (suc k) body = flat_map (open_calls ts k) (option_to_list body)
-
--- the name of a definition
-abbrev def_name : Def → Span
-def_name d = d.name
-
--- the functions that a `{` opens where the head names one
-abbrev pub function_named : List Token → ℕ → Option Token → List Function
-function_named ts k o = option_map_or
-    (λ name. record {
-      name = name;
-      local = list_any (λ (t : Token). is_static t.role) (head ts k);
-      body = k;
-      end = close_from ts (suc k);
-    } ∷ []) o []
-
--- the range and the calls of the function whose `{` is token k, by its name alone
-module _ (text : List ℕ) (ts : List Token) (k : ℕ) where
-  ranges_here : map (function_range text ts) (function_at ts k)
-      ≡ map (range_to (place_of text ts (close_from ts (suc k)))) (map def_name (map function_def (function_at ts k)))
-  ranges_here = by_cases (is_counted ts k && depth ts k == 0) (defined_name (head ts k))
-    where
-      by_cases : (b : Bool) (o : Option Token)
-          → map (function_range text ts) (cond b (function_named ts k o) [])
-          ≡ map (range_to (place_of text ts (close_from ts (suc k))))
-          (map def_name (map function_def (cond b (function_named ts k o) [])))
-      by_cases true (Some name) = refl
-      by_cases true None = refl
-      by_cases false o = refl
-
-  calls_here : flat_map (calls_of_function ts) (function_at ts k)
-      ≡ flat_map (open_calls ts k) (map def_name (map function_def (function_at ts k)))
-  calls_here = by_cases (is_counted ts k && depth ts k == 0) (defined_name (head ts k))
-    where
-      by_cases : (b : Bool) (o : Option Token)
-          → flat_map (calls_of_function ts) (cond b (function_named ts k o) [])
-          ≡ flat_map (open_calls ts k) (map def_name (map function_def (cond b (function_named ts k o) [])))
-      by_cases true (Some name) = refl
-      by_cases true None = refl
-      by_cases false o = refl
-
-  pub none_here : (is_counted ts k && depth ts k == 0) ≡ false → function_at ts k ≡ []
-  none_here closed_ = ap (λ b. cond b (function_named ts k (defined_name (head ts k))) []) closed_
-
--- the names that are found
-found_names : (o : Option Def) → map def_name (option_to_list o) ≡ option_to_list (option_map def_name o)
-found_names None = refl
-found_names (Some d) = refl
-
--- the same on both ways
-either : (b : Bool) (o : Option Span) → (if b then o else o) ≡ o
-either true o = refl
-either false o = refl
+use Rattle.cb_scan.proofs.FunctionLemmas.{step, depth_next, stops_is, found_is}
+use Rattle.cb_scan.proofs.Bodies.{last_at, InBody, close_step, close_end, close_bound, only_mark, no_name, and_left, and_right, stays_deep, place_of, open_calls, pending, def_name, ranges_here, calls_here, none_here, found_names, either}
 
 -- ---- one token
 module _ (text : List ℕ) (ts : List Token) (k : ℕ) (m : Machine) (within : k < length ts) (here : InBody ts k m) where

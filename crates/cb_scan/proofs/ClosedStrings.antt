@@ -1,14 +1,14 @@
 -- What is found closed byte by byte is a literal whatever follows it, and the other way round.
-use Rattle.std.proofs.Common.{◌≡◌, ◌∙◌, ◌-◌, ◌≤◌, ℕ, suc, Bool, true, false, List, [], ◌∷◌, ◌++◌, length, take, drop, refl, sym, ap, subst, arith, ⊎_elim}
-use Rattle.std.specs.Prelude.{◌==◌, ◌&&◌, ◌↔◌, cond}
+use Rattle.std.proofs.Common.{◌≡◌, ◌∙◌, ◌-◌, ℕ, suc, true, false, List, [], ◌∷◌, ◌++◌, length, take, refl, sym, ap, subst, arith, ⊎_elim}
+use Rattle.std.specs.Prelude.{◌==◌, ◌↔◌}
 use Rattle.std.proofs.lemmas.Bool.{and_from, and_parts, cases_Bool, cond-false, cond-true, eq-eqb, eqb-true, false≢true}
 use Rattle.cb_scan.specs.declared.lex.lexeme.Escape.{Escape}
 use Rattle.cb_scan.specs.declared.lex.lexeme.Escape.TheVariants.{Plain, Backslash, Return}
-use Rattle.cb_scan.specs.lex.Lexeme.{IsClosedLiteral, IsLiteral, Quoted}
+use Rattle.cb_scan.specs.lex.Lexeme.{IsClosedLiteral, Quoted}
 use Rattle.cb_scan.specs.steps.Cut.{ends_literal, literal_escape, literal_len}
 use Rattle.cb_scan.specs.steps.Quote.{closes_from, is_closed}
 use Rattle.cb_scan.proofs.Cuts.{quote}
-use Rattle.cb_scan.proofs.Lengths.{literal_exact, literal_spelled}
+use Rattle.cb_scan.proofs.Literals.{literal_exact, literal_spelled}
 
 -- a string that closes has its length, whatever follows
 closed_len : (e : Escape) (bs more : List ℕ) → closes_from e bs ≡ true → literal_len 34 e (bs ++ more) ≡ length bs

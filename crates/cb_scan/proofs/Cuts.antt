@@ -10,7 +10,8 @@ use Rattle.cb_scan.specs.lex.Lexeme.{is_letter, is_digit, is_word, is_blank, is_
 use Rattle.cb_scan.specs.steps.Cut.{begins, ends_join, class_at, number_len, goes_on_blank, blank_len, comment_len, literal_len, block_len, length_in, piece_len}
 use Rattle.cb_scan.proofs.Blocks.{block_len-within, block_len-found, finds_close}
 use Rattle.cb_scan.proofs.Prefixes.{Prefix, prefix_of, at_name, at_number, at_str, at_chr, at_line_comment, at_block_comment, at_blank, at_newline, at_byte, class-letter, class-number, class-quote, class-apostrophe, class-line_comment, class-block_comment, class-blank, class-join, class-cr_join, class-feed}
-use Rattle.cb_scan.proofs.Lengths.{list_all-prefix, prefix-step, prefix_within, prefix_longest, all_go_on-counted, number-step, number_longest, number_len-within, blank-step, blank_counted, blank_longest, blank_len-within, comment_longest, comment_spelled, comment_len-within, IsQuote, literal_longest, literal_spelled, literal_len-within}
+use Rattle.cb_scan.proofs.Lengths.{list_all-prefix, prefix-step, prefix_within, prefix_longest, all_go_on-counted, number-step, number_longest, number_len-within, blank-step, blank_counted, blank_longest, blank_len-within, comment_longest, comment_spelled, comment_len-within}
+use Rattle.cb_scan.proofs.Literals.{IsQuote, literal_longest, literal_spelled, literal_len-within}
 
 pub quote : IsQuote 34
 quote = record { slash = refl; feed = refl }

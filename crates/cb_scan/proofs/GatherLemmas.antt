@@ -21,7 +21,7 @@ use Rattle.cb_scan.specs.steps.Lined.{lined}
 use Rattle.cb_scan.specs.steps.Functions.{calls_from, defs_from, ranges_from, start}
 use Rattle.cb_scan.specs.steps.Typedefs.{typedef_defs_from}
 use Rattle.cb_scan.proofs.BodyLemmas.{calls_from_start, ranges_from_start}
-use Rattle.cb_scan.proofs.DirectiveLemmas.{code_is}
+use Rattle.cb_scan.proofs.CodeLines.{code_is}
 use Rattle.cb_scan.proofs.FunctionLemmas.{defs_from_start}
 use Rattle.cb_scan.proofs.TypedefLemmas.{typedef_defs_from_start}
 

@@ -1,23 +1,20 @@
 -- The facts of a text are in order.
-use Rattle.std.proofs.Common.{◌≡◌, ◌∙◌, ◌⊎◌, ◌≤◌, ◌<◌, ℕ, Bool, true, false, List, [], ◌∷◌, drop, map, refl, sym, ap, inl, inr, arith, ⊎_elim}
+use Rattle.std.proofs.Common.{◌≡◌, ◌∙◌, ◌⊎◌, ◌≤◌, ◌<◌, ℕ, true, List, [], ◌∷◌, drop, map, refl, sym, ap, inl, inr, arith, ⊎_elim}
 use Rattle.std.proofs.lemmas.Bool.{cases_Bool, cond-false, cond-true, eqb-true, false≢true, ltb-true}
 use Rattle.std.specs.Prelude.{◌==◌, cond, nat_lt, not}
 use Rattle.std.specs.Cmp.Lexicographic.{slice_cmp}
-use Rattle.std.specs.List.{AllByRecursion, flat_map}
+use Rattle.std.specs.List.{AllByRecursion}
 use Rattle.std.specs.Ordering.{is_gt, nat_cmp, ordering_then}
-use Rattle.std.specs.declared.cmp.Ordering.{Ordering}
-use Rattle.std.specs.declared.cmp.Ordering.TheVariants.{Less, Equal, Greater}
+use Rattle.std.specs.declared.cmp.Ordering.TheVariants.{Equal, Greater}
 use Rattle.cb_scan.specs.steps.Cut.{pieces}
 use Rattle.cb_scan.specs.declared.facts.Call.{Call}
 use Rattle.cb_scan.specs.declared.facts.Def.{Def}
 use Rattle.cb_scan.specs.declared.facts.Include.{Include}
-use Rattle.cb_scan.specs.declared.facts.Use.{Use}
 use Rattle.cb_scan.specs.declared.lex.token.Token.{Token}
-use Rattle.cb_scan.specs.rules.Code.{directives, logical_lines}
-use Rattle.cb_scan.specs.Definitions.{calls, definitions_from, facts_of, function_def, macro_def, typedef_def}
-use Rattle.cb_scan.specs.Order.{AreInOrder, AreOrdered, IsDefBefore, call_key, def_key, goes_first, in_order, kind_rank}
+use Rattle.cb_scan.specs.Definitions.{calls, definitions_from, facts_of}
+use Rattle.cb_scan.specs.Order.{AreInOrder, AreOrdered, IsDefBefore, call_key, def_key, goes_first, kind_rank}
 use Rattle.cb_scan.specs.rules.Scope.{scope}
-use Rattle.cb_scan.specs.rules.Uses.{include_of, includes, used, uses}
+use Rattle.cb_scan.specs.rules.Uses.{includes, uses}
 use Rattle.cb_scan.specs.steps.Scopes.{include_place, token_place}
 use Rattle.cb_scan.proofs.OrderLemmas.{Sorted, in_order_sorted}
 use Rattle.cb_scan.proofs.ScopeLemmas.{Ordered, headers_in_order, names_in_order}

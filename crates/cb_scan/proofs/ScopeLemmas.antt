@@ -18,8 +18,9 @@ use Rattle.cb_scan.specs.rules.Uses.{header_between, header_of, include_of, incl
 use Rattle.cb_scan.specs.lex.Tokens.{bytes_of, has_kind, is_mark, is_str, kind_is_include}
 use Rattle.cb_scan.specs.steps.Quote.{is_closed}
 use Rattle.cb_scan.specs.steps.Scopes.{first_around, include_place, include_with, reached, scoped, token_place, use_of}
-use Rattle.cb_scan.proofs.DirectiveLemmas.{range_names}
-use Rattle.cb_scan.proofs.Rising.{From, Rising, all-prefix, directive_tokens_rise, functions_rise, rising-split, macros_rise, used_rise}
+use Rattle.cb_scan.proofs.MacroLines.{range_names}
+use Rattle.cb_scan.proofs.FunctionsRise.{functions_rise}
+use Rattle.cb_scan.proofs.Rising.{From, Rising, all-prefix, directive_tokens_rise, rising-split, macros_rise, used_rise}
 
 -- ranges begin in order
 abbrev pub Ascending : List Range → Type 0

@@ -1,4 +1,4 @@
-//! What a text defines.
+//! What is found in a text: definitions, uses of names, calls and includes.
 ghost use Rattle.std.specs.Prelude.{◌≡◌};
 
 use crate::lex::piece::Span;

@@ -1,9 +1,8 @@
-//! The lexical layer: cuts a C text of at most 1,000,000 bytes into its pieces, and finds what it
-//! defines.
+//! Finds what a C text of at most 1,000,000 bytes defines, uses, calls and includes.
 //!
-//! It is built on `bstr` (lines), `memchr` (the end of a block comment) and `thiserror` (the
-//! error). The layer above uses the contract of [`scan`]: the facts are the definitions of the
-//! text.
+//! [`pieces`] cuts a [`Source`] into its lexemes, and [`scan`] finds its [`Facts`]. The layers above
+//! cite the contract of [`scan`]; [`laws`] say what holds of the pieces and facts of every text.
+//! The crate is built on `bstr` (lines), `memchr` (the end of a block comment) and `thiserror`.
 #![tactic(auto)]
 
 mod facts;

@@ -1,11 +1,11 @@
 //! The scanner: one pass over the pieces of a text, and then its facts in order and with their
 //! scopes.
-ghost use Rattle.std.specs.Prelude.{◌≡◌, ◌+◌, ◌++◌, ◌^◌, ◌-◌, ◌<◌, ◌≤◌, min, List, length, map, IfOk, IfErr};
+ghost use Rattle.std.specs.Prelude.{◌≡◌, ◌+◌, ◌^◌, ◌-◌, ◌<◌, ◌≤◌, min, List, length, map, IfOk, IfErr};
 ghost use Rattle.cb_scan.specs.declared.source.TheConstants.{MOST_BYTES};
-ghost use Rattle.std.specs.List.{AllByRecursion, flat_map};
+ghost use Rattle.std.specs.List.{flat_map};
 ghost use Rattle.cb_scan.specs.declared.lex.piece.Piece.{Piece};
 ghost use Rattle.cb_scan.specs.rules.Code.{code, directives, logical_lines};
-ghost use Rattle.cb_scan.specs.Definitions.{definitions, calls, facts_from, facts_of, function_def, macro_def, typedef_def, AreWithin};
+ghost use Rattle.cb_scan.specs.Definitions.{facts_from, facts_of, function_def, macro_def, typedef_def, AreWithin};
 ghost use Rattle.cb_scan.specs.rules.Functions.{functions};
 ghost use Rattle.cb_scan.specs.rules.Macros.{macros};
 ghost use Rattle.cb_scan.specs.lex.Pieces.{IsPieces};

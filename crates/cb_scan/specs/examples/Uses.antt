@@ -1,7 +1,6 @@
 -- The uses of names in short texts, and the scopes of places, computed.
 use Rattle.std.specs.Prelude.{◌≡◌, ℕ, List, [], ◌∷◌, Option, Some, None, codes, map, refl}
 use Rattle.std.specs.Option.{option_map}
-use Rattle.cb_scan.specs.declared.lex.piece.Span.{Span}
 use Rattle.cb_scan.specs.examples.Macros.{expanding}
 use Rattle.cb_scan.specs.rules.Scope.{scope}
 use Rattle.cb_scan.specs.lex.Tokens.{bytes_of}

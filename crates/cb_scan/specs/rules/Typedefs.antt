@@ -55,7 +55,7 @@ parts_here x = is_mark comma x.token.role && x.nesting == 0
 abbrev pub parts : List Token → List (List Nested)
 parts ts = slice_split parts_here (nested 0 ts)
 
--- the list begins with `*`s, at least as many as asked, and then a name: that name
+-- the list begins with any number of `*`s, and then a name: that name
 unfoldable pub name_after_stars : List Nested → Option Token
 name_after_stars [] = None
 name_after_stars (x ∷ xs) =

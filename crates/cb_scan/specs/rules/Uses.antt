@@ -1,5 +1,5 @@
 -- Uses of names, calls and includes. This is the project's profile.
-use Rattle.std.specs.Prelude.{ℕ, suc, ◌+◌, ◌-◌, Bool, true, false, ◌&&◌, ◌||◌, ◌==◌, nat_lt, List, [], ◌∷◌, None, if◌then◌else◌, filter, map, find}
+use Rattle.std.specs.Prelude.{ℕ, suc, ◌+◌, ◌-◌, Bool, false, ◌&&◌, nat_lt, List, [], ◌∷◌, None, if◌then◌else◌, filter, map, find}
 use Rattle.std.specs.List.{flat_map, range_with_len}
 use Rattle.std.specs.Option.{option_map_or}
 use Rattle.cb_scan.specs.declared.lex.piece.Piece.{Piece}

@@ -1,5 +1,5 @@
 //! Where a lexeme ends. The first byte decides its class, and each byte is looked at once.
-ghost use Rattle.std.specs.Prelude.{◌≡◌, ◌<◌, ◌≤◌, ℕ, false, ◌==◌, length};
+ghost use Rattle.std.specs.Prelude.{◌≡◌, ◌<◌, ◌≤◌, false, ◌==◌, length};
 ghost use Rattle.std.specs.List.{prefix_len};
 ghost use Rattle.cb_scan.specs.lex.Lexeme.{is_digit, is_word, goes_on, first_is};
 ghost use Rattle.cb_scan.specs.steps.Cut.{

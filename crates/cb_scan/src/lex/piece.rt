@@ -2,7 +2,7 @@
 ghost use Rattle.std.specs.Prelude.{◌≡◌, ◌+◌, ◌<◌, ◌≤◌, ⊤, length};
 ghost use Rattle.cb_scan.specs.declared.source.TheConstants.{MOST_BYTES};
 ghost use Rattle.std.specs.Iterator.{YieldsFirst, item_count};
-ghost use Rattle.cb_scan.specs.steps.Cut.{piece_at, pieces_at, piece_len};
+ghost use Rattle.cb_scan.specs.steps.Cut.{piece_at, pieces_at};
 
 use crate::lex::lexeme::{class_at, length_in};
 use std::alloc::AllocError;

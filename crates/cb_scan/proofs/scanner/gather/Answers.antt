@@ -8,7 +8,9 @@ use Rattle.cb_scan.specs.steps.Directives.{code_out, include_out, is_code, macro
 use Rattle.cb_scan.specs.steps.Lined.{Within}
 use Rattle.cb_scan.specs.steps.Functions.{called, calls_from, closed, defs_from, found, ranges_from}
 use Rattle.cb_scan.specs.steps.Typedefs.{typedef_defs_from, typedefs_out}
-use Rattle.cb_scan.proofs.DirectiveLemmas.{includes_are, macro_calls_are, macro_ranges_are, macros_are, uses_are}
+use Rattle.cb_scan.proofs.CodeLines.{uses_are}
+use Rattle.cb_scan.proofs.IncludeLines.{includes_are}
+use Rattle.cb_scan.proofs.MacroLines.{macro_calls_are, macro_ranges_are, macros_are}
 use Rattle.cb_scan.proofs.GatherLemmas.{appended, calls_found, code_on, walk_on, functions_found, ranges_found, typedefs_found}
 use Rattle.cb_scan.proofs.scanner.gather.Goals as goal
 

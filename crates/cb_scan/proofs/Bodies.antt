@@ -1,0 +1,164 @@
+-- What the pass knows of the body that it is in.
+-- their bodies.
+use Rattle.std.proofs.Common.{◌≡◌, ◌∙◌, ℕ, zero, suc, ◌+◌, ◌-◌, ◌<◌, ◌≤◌, Bool, true, false, List, [], ◌∷◌, Option, Some, None, refl, sym, ap, length, map, arith, add-one, inl, inr, ⊎_elim}
+use Rattle.std.proofs.lemmas.Bool.{false≢true, true≢false, eqb-true, eq-eqb}
+use Rattle.std.specs.Prelude.{◌⊎◌, ◌||◌, ◌&&◌, ◌==◌, if◌then◌else◌, cond, find, nat_lt, unwrap_or}
+use Rattle.std.specs.List.{flat_map, list_any, range_with_len}
+use Rattle.std.specs.Option.{MatchOption, option_to_list, option_map, option_map_or}
+use Rattle.cb_scan.specs.declared.facts.Call.{Call}
+use Rattle.cb_scan.specs.declared.facts.Def.{Def}
+use Rattle.cb_scan.specs.declared.rules.functions.Machine.{Machine}
+use Rattle.cb_scan.specs.declared.lex.piece.Span.{Span}
+use Rattle.cb_scan.specs.declared.lex.token.Token.{Token}
+use Rattle.cb_scan.specs.declared.lex.token.Role.{Role}
+use Rattle.cb_scan.specs.declared.lex.token.Role.TheVariants.{Word, Mark, Str, Other}
+use Rattle.cb_scan.specs.rules.Depth.{depth, is_counted, closes, is_stop, token_at}
+use Rattle.cb_scan.specs.Definitions.{function_def}
+use Rattle.cb_scan.specs.rules.Functions.{Function, close_from, defined_name, function_at, head}
+use Rattle.cb_scan.specs.rules.Scope.{function_range}
+use Rattle.cb_scan.specs.lex.Tokens.{is_mark, is_name_token, is_static}
+use Rattle.cb_scan.specs.rules.Uses.{call_at, calls_of_function}
+use Rattle.cb_scan.specs.steps.Functions.{range_to}
+use Rattle.cb_scan.proofs.FunctionLemmas.{IsAt}
+
+-- the token directly before token k, unless it is a stop
+abbrev pub last_at : List Token → ℕ → Option Token
+last_at ts zero = None
+last_at ts (suc k) = if is_stop ts k then None else Some (token_at ts k)
+
+-- what the state before token k knows besides
+pub record InBody (ts : List Token) (k : ℕ) (m : Machine) : Type 0 where
+  pub at : IsAt ts k m
+  pub last_is : m.head.last ≡ last_at ts k
+  pub deep : MatchOption m.body (Unit {0}) (λ _. 0 < depth ts k)
+
+-- where a body ends that is open before token k
+pub close_step : (ts : List Token) (k : ℕ) → k < length ts
+    → close_from ts k ≡ (if closes ts k then k else close_from ts (suc k))
+close_step ts k within =
+    let more : length ts - k ≡ suc (length ts - suc k) = omega arith in
+    let one : k + 1 ≡ suc k = add-one k in
+    ap (λ n. unwrap_or (find (closes ts) (range_with_len k n)) (length ts)) more
+    ∙ ap (λ j. unwrap_or (cond (closes ts k) (Some k) (find (closes ts) (range_with_len j (length ts - suc k))))
+    (length ts)) one
+    ∙ elim (closes ts k) as (λ b. unwrap_or
+    (cond b (Some k) (find (closes ts) (range_with_len (suc k) (length ts - suc k)))) (length ts)
+    ≡ (if b then k else close_from ts (suc k))) [ true ↦ refl | false ↦ refl ]
+
+pub close_end : (ts : List Token) (k : ℕ) → length ts ≤ k → close_from ts k ≡ length ts
+close_end ts k past =
+    let none : length ts - k ≡ 0 = omega arith in
+    ap (λ n. unwrap_or (find (closes ts) (range_with_len k n)) (length ts)) none
+
+pub close_bound : (ts : List Token) (n k : ℕ) → n ≡ length ts - k → k ≤ length ts
+    → k ≤ unwrap_or (find (closes ts) (range_with_len k n)) (length ts)
+close_bound ts zero k is within = within
+close_bound ts (suc n) k is within =
+    elim (closes ts k) as (λ b. k ≤ unwrap_or (cond b (Some k) (find (closes ts) (range_with_len (k + 1) n)))
+    (length ts)) [
+      | true ↦ omega arith
+      | false ↦ let later : k + 1 ≤ unwrap_or (find (closes ts) (range_with_len (k + 1) n)) (length ts) =
+          close_bound ts n (k + 1) (omega arith) (omega arith) in omega arith
+    ]
+
+-- a lone byte is one byte
+pub only_mark : (r : Role) (a b : ℕ) → (a == b) ≡ false → is_mark a r ≡ true → is_mark b r ≡ false
+only_mark (Word w) a b other is = refl
+only_mark Str a b other is = refl
+only_mark Other a b other is = refl
+only_mark (Mark x) a b other is = ap (λ y. y == b) (eqb-true x a is) ∙ other
+
+-- a stop is no name
+pub no_name : (r : Role) (a b c : Bool) → ((is_mark 59 r && a) || (is_mark 125 r && b) || (is_mark 123 r && c)) ≡ true
+    → is_name_token r ≡ false
+no_name (Word w) a b c is = absurd (false≢true is)
+no_name Str a b c is = refl
+no_name Other a b c is = refl
+no_name (Mark x) a b c is = refl
+
+pub and_left : (a b : Bool) → (a && b) ≡ true → a ≡ true
+and_left true b is = refl
+and_left false b is = is
+
+pub and_right : (a b : Bool) → (a && b) ≡ true → b ≡ true
+and_right true b is = is
+and_right false b is = absurd (false≢true is)
+
+-- the depth stays above 0 where nothing ends all
+pub stays_deep : (c b s : Bool) (d : ℕ) → 0 < d
+    → (b && (if c then d + 1 else (if b then (if s then 0 else d - 1) else d)) == 0) ≡ false
+    → 0 < (if c then d + 1 else (if b then (if s then 0 else d - 1) else d))
+stays_deep true b s d deep open_ = omega arith
+stays_deep false false s d deep open_ = deep
+stays_deep false true true d deep open_ = absurd (true≢false open_)
+stays_deep false true false d deep open_ =
+    ⊎_elim (λ e. absurd (true≢false (sym (eq-eqb (d - 1) 0 e) ∙ open_))) (λ e. omega arith) (zero_or_more (d - 1))
+  where
+    zero_or_more : (n : ℕ) → (n ≡ 0) ⊎ (0 < n)
+    zero_or_more zero = inl refl
+    zero_or_more (suc n) = inr (omega arith)
+
+-- where a body ends whose `}` is token j, or that nothing ends
+abbrev pub place_of : List ℕ → List Token → ℕ → ℕ
+place_of text ts j = if nat_lt j (length ts) then (token_at ts j).span.end else length text
+
+-- the calls of an open body from token k on, the last of which the next token tells
+abbrev pub open_calls : List Token → ℕ → Span → List Call
+open_calls ts k caller = flat_map (call_at ts caller) (range_with_len k (close_from ts (suc k) - k))
+
+-- the calls that are still to come of the body that is open before token k
+abbrev pub pending : List Token → ℕ → Option Span → List Call
+pending ts zero body = []
+pending ts (suc k) body = flat_map (open_calls ts k) (option_to_list body)
+
+-- the name of a definition
+abbrev pub def_name : Def → Span
+def_name d = d.name
+
+-- the functions that a `{` opens where the head names one
+abbrev pub function_named : List Token → ℕ → Option Token → List Function
+function_named ts k o = option_map_or
+    (λ name. record {
+      name = name;
+      local = list_any (λ (t : Token). is_static t.role) (head ts k);
+      body = k;
+      end = close_from ts (suc k);
+    } ∷ []) o []
+
+-- the range and the calls of the function whose `{` is token k, by its name alone
+module _ (text : List ℕ) (ts : List Token) (k : ℕ) where
+  pub ranges_here : map (function_range text ts) (function_at ts k)
+      ≡ map (range_to (place_of text ts (close_from ts (suc k)))) (map def_name (map function_def (function_at ts k)))
+  ranges_here = by_cases (is_counted ts k && depth ts k == 0) (defined_name (head ts k))
+    where
+      by_cases : (b : Bool) (o : Option Token)
+          → map (function_range text ts) (cond b (function_named ts k o) [])
+          ≡ map (range_to (place_of text ts (close_from ts (suc k))))
+          (map def_name (map function_def (cond b (function_named ts k o) [])))
+      by_cases true (Some name) = refl
+      by_cases true None = refl
+      by_cases false o = refl
+
+  pub calls_here : flat_map (calls_of_function ts) (function_at ts k)
+      ≡ flat_map (open_calls ts k) (map def_name (map function_def (function_at ts k)))
+  calls_here = by_cases (is_counted ts k && depth ts k == 0) (defined_name (head ts k))
+    where
+      by_cases : (b : Bool) (o : Option Token)
+          → flat_map (calls_of_function ts) (cond b (function_named ts k o) [])
+          ≡ flat_map (open_calls ts k) (map def_name (map function_def (cond b (function_named ts k o) [])))
+      by_cases true (Some name) = refl
+      by_cases true None = refl
+      by_cases false o = refl
+
+  pub none_here : (is_counted ts k && depth ts k == 0) ≡ false → function_at ts k ≡ []
+  none_here closed_ = ap (λ b. cond b (function_named ts k (defined_name (head ts k))) []) closed_
+
+-- the names that are found
+pub found_names : (o : Option Def) → map def_name (option_to_list o) ≡ option_to_list (option_map def_name o)
+found_names None = refl
+found_names (Some d) = refl
+
+-- the same on both ways
+pub either : (b : Bool) (o : Option Span) → (if b then o else o) ≡ o
+either true o = refl
+either false o = refl
