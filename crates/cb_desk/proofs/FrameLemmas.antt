@@ -1,4 +1,4 @@
--- Which text a name has among files, before and after a change, and the frames that stay valid by it.
+-- Which text a name has among files, before and after a change, and the frames that stay valid.
 use Rattle.std.proofs.Common.{◌≡◌, ◌∙◌, sym, ap, refl, subst, ℕ, zero, suc, ◌≤◌, Bool, true, false, not, ◌||◌, cond, List, [], ◌∷◌, ◌++◌, filter, map, length, take, Some, slice_get, bytes_eq, nat_cmp, is_lt, Less, arith}
 use Rattle.std.specs.List.{AllByRecursion}
 use Rattle.std.specs.Cmp.Lexicographic.{slice_cmp}

@@ -1,4 +1,5 @@
--- A list that is sorted, and in which elements of one key stand as in another, is that other in order.
+-- A list that is sorted, and that keeps elements of one key in the order of another list, is that
+-- other list in order.
 use Rattle.std.proofs.Common.{◌≡◌, ◌∙◌, refl, sym, ap, ℕ, Bool, true, false, not, ◌&&◌, cond, List, [], ◌∷◌, filter, map, inl, inr}
 use Rattle.std.proofs.lemmas.Bool.{cond-true, cond-false, cases_Bool, and_parts, not-true, true≢false}
 use Rattle.std.proofs.lemmas.Cmp.{nat_list_cmp_total}

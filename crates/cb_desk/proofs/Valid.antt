@@ -74,7 +74,8 @@ pub all-both : {X : Type 0} (P Q R : X → Type 0) (xs : List X) → ((x : X) �
 all-both P Q R [] both all more = all
 all-both P Q R (x ∷ xs) both all more = (both x all.0 more.0, all-both P Q R xs both all.1 more.1)
 
--- valid files with one more of a good name that is not there, not too large, and below the greatest number of files
+-- valid files with one more of a good name that is new, not too large, and fewer files than the
+-- limit
 pub with_file-valid : (files : List File) (f : File) → AreValidFiles files → is_file_name f.name ≡ true → has_file files f.name ≡ false → length f.bytes ≤ MOST_BYTES → length files < MOST_FILES → AreValidFiles (with_file f files)
 with_file-valid files f valid good fresh small room =
     let after : File → Bool = λ g. not (is_before f g) in

@@ -1,8 +1,8 @@
 //! The files of a session, their past, and what is asked of them.
 //!
-//! A desk holds a timeline of worlds. A change moves it to the world that the step gives, undo moves
-//! it back, and every answer is read from the present world. It is built on `cb_scan` (texts and what
-//! they define) and `cb_tags` (tags, their order, and which names are names of files).
+//! A desk holds a timeline of worlds. A change moves it to the world that the step gives, undo
+//! moves it back, and every answer is read from the present world. It is built on `cb_scan` (texts
+//! and what they define) and `cb_tags` (tags, their order, and which names are names of files).
 //! The layer above uses the contracts of [`Desk`].
 #![tactic(auto)]
 

@@ -49,8 +49,8 @@ impl Desk {
         }
     }
 
-    /// Makes a change. After a refusal the files, their past and their future are as before, and the
-    /// bytes of the change are dropped.
+    /// Makes a change. After a refusal the files, their past and their future are as before, and
+    /// the bytes of the change are dropped.
     pub fn change(&mut self, alloc: Global, change: Change<'_>) -> Result<(), Refusal>
         ensures { Changes (step_of change.entry) self.old self.new result }
     {

@@ -1,5 +1,6 @@
-//! Tests in which memory may be refused, each growth in turn, one a run. For each call that takes memory,
-//! `refused_growth_of_CALL` passes in each run, and `no_refusal_of_CALL` only in a run that refuses nothing.
+//! Tests in which memory may be refused, each growth in turn, one a run. For each call that takes
+//! memory, `refused_growth_of_CALL` passes in each run, and `no_refusal_of_CALL` only in a run that
+//! refuses nothing.
 use super::moves::{has_frames, two_files};
 use super::{load_text_or_refused, shows};
 use crate::{Change, Desk, Field, Format, Refusal};
