@@ -76,10 +76,7 @@ fn put_listed<W: Write>(out: &mut Sink<W>, row: &TagRow<'_>) -> Result<(), Fault
 }
 
 /// Writes a listing.
-pub fn put_listing_file<W: Write>(
-    out: &mut Sink<W>,
-    rows: TagRowIter<'_, '_>,
-) -> Result<(), Fault>
+pub fn put_listing_file<W: Write>(out: &mut Sink<W>, rows: TagRowIter<'_, '_>) -> Result<(), Fault>
     ensures { Puts out.old out.new result (listing_text rows.entry) }
 {
     for row in rows {
