@@ -42,10 +42,9 @@ pub struct Intake {
 }
 
 impl Intake {
-    ghost use Rattle.cb_session.specs.Inputs.{first, with_block};
+    ghost use Rattle.cb_session.specs.Inputs.{first};
     ghost use Rattle.cb_session.specs.Models.{request_of, HasPattern};
     ghost use Rattle.cb_session.specs.Reading.{Reads, IsReadFault};
-    ghost use Rattle.cb_session.specs.Requests.{block};
     ghost use Rattle.cb_session.specs.steps.Lines.{ReadsLine};
     ghost use Rattle.cb_session.specs.Devices.{HoldsOut};
 

@@ -1,5 +1,4 @@
 //! Whole texts.
-ghost use Rattle.std.specs.Prelude.{◌≡◌};
 ghost use Rattle.std.specs.List.{flat_map};
 ghost use Rattle.cb_tags.specs.Writing.{Puts};
 
