@@ -7,13 +7,15 @@ use Rattle.cb_desk.specs.declared.rows.Field.{Field}
 use Rattle.cb_session.specs.declared.input.Fault.{Fault}
 use Rattle.cb_desk.specs.Timeline.{Timeline, Moves, Changes, judged, changed, undone, redone}
 use Rattle.cb_desk.specs.Step.{Step}
-use Rattle.cb_desk.specs.Answer.{answer}
+use Rattle.cb_desk.specs.Answer.{AnswerRow, answer}
+use Rattle.cb_tags.specs.TagLines.{Tag}
+use Rattle.std.specs.Prelude.{IfOk, IfErr}
 use Rattle.cb_tags.specs.Writers.{Writer}
 use Rattle.cb_desk.specs.declared.tags.Format.{Format}
 use Rattle.cb_desk.specs.declared.tags.Format.TheVariants.{Extended}
 use Rattle.cb_session.specs.Requests.{Request, query, change, undo, redo, tags_file, listing, stack, refused, nothing, quit}
 use Rattle.cb_session.specs.Serving.{Does}
-use Rattle.cb_session.specs.steps.Rounds.{move_line}
+use Rattle.cb_session.specs.steps.Rounds.{move_line, rows_line, tags_line, listing_lines}
 use Rattle.cb_session.specs.Output.{moved, done_line, outcome, refused_line, answer_lines, tags_reply, listing_reply}
 use Rattle.cb_desk.specs.Tags.{tags}
 use Rattle.cb_session.specs.Stack.{stack_rows}
@@ -63,23 +65,38 @@ Does-stack t desk e out out' result same h p =
     subst (λ x. (out_of_memory : Bool) × Does (outcome out_of_memory t x) t out out' result) (sym h)
     (false, (refl, subst (λ v. Puts out out' result (answer_lines (stack_rows v.present))) same p))
 
-pub Does-query : {A : Type 0} (t : Timeline) (e : Request) (field : Field) (pattern : List ℕ) (out out' : Writer) (result : Result A Fault)
-    → e ≡ query field pattern → (out_of_memory : Bool) × Puts out out' result (outcome out_of_memory t (query field pattern)).reply → (out_of_memory : Bool) × Does (outcome out_of_memory t e) t out out' result
+pub Does-query : {A : Type 0} (t desk : Timeline) (e : Request) (field : Field) (pattern : List ℕ) (r : Result (List AnswerRow) Refusal) (out out' : Writer) (result : Result A Fault)
+    → desk ≡ t → e ≡ query field pattern → IfOk r (λ rows. rows ≡ answer desk.present field pattern) → IfErr r (λ x. x ≡ OutOfMemory)
+    → Puts out out' result (rows_line r) → (out_of_memory : Bool) × Does (outcome out_of_memory t e) t out out' result
 unfolding outcome
-Does-query t e field pattern out out' result h p =
-    subst (λ x. (out_of_memory : Bool) × Does (outcome out_of_memory t x) t out out' result) (sym h) (p.0, (refl, p.1))
+Does-query t desk e field pattern (Ok rows) out out' result same h is memory p =
+    subst (λ x. (out_of_memory : Bool) × Does (outcome out_of_memory t x) t out out' result) (sym h)
+    (false, (refl, subst (λ l. Puts out out' result l) (ap answer_lines is ∙ ap (λ v. answer_lines (answer v.present field pattern)) same) p))
+Does-query t desk e field pattern (Err x) out out' result same h is memory p =
+    subst (λ y. (out_of_memory : Bool) × Does (outcome out_of_memory t y) t out out' result) (sym h)
+    (true, (refl, subst (λ l. Puts out out' result l) (ap refused_line memory) p))
 
-pub Does-tags : {A : Type 0} (t : Timeline) (e : Request) (format : Format) (out out' : Writer) (result : Result A Fault)
-    → e ≡ tags_file format → (out_of_memory : Bool) × Puts out out' result (outcome out_of_memory t (tags_file format)).reply → (out_of_memory : Bool) × Does (outcome out_of_memory t e) t out out' result
+pub Does-tags : {A : Type 0} (t desk : Timeline) (e : Request) (format : Format) (r : Result (List Tag) Refusal) (out out' : Writer) (result : Result A Fault)
+    → desk ≡ t → e ≡ tags_file format → IfOk r (λ ts. ts ≡ tags format desk.present) → IfErr r (λ x. x ≡ OutOfMemory)
+    → Puts out out' result (tags_line format r) → (out_of_memory : Bool) × Does (outcome out_of_memory t e) t out out' result
 unfolding outcome
-Does-tags t e format out out' result h p =
-    subst (λ x. (out_of_memory : Bool) × Does (outcome out_of_memory t x) t out out' result) (sym h) (p.0, (refl, p.1))
+Does-tags t desk e format (Ok ts) out out' result same h is memory p =
+    subst (λ x. (out_of_memory : Bool) × Does (outcome out_of_memory t x) t out out' result) (sym h)
+    (false, (refl, subst (λ l. Puts out out' result l) (ap (tags_reply format) is ∙ ap (λ v. tags_reply format (tags format v.present)) same) p))
+Does-tags t desk e format (Err x) out out' result same h is memory p =
+    subst (λ y. (out_of_memory : Bool) × Does (outcome out_of_memory t y) t out out' result) (sym h)
+    (true, (refl, subst (λ l. Puts out out' result l) (ap refused_line memory) p))
 
-pub Does-listing : {A : Type 0} (t : Timeline) (e : Request) (out out' : Writer) (result : Result A Fault)
-    → e ≡ listing → (out_of_memory : Bool) × Puts out out' result (outcome out_of_memory t listing).reply → (out_of_memory : Bool) × Does (outcome out_of_memory t e) t out out' result
+pub Does-listing : {A : Type 0} (t desk : Timeline) (e : Request) (r : Result (List Tag) Refusal) (out out' : Writer) (result : Result A Fault)
+    → desk ≡ t → e ≡ listing → IfOk r (λ ts. ts ≡ tags Extended desk.present) → IfErr r (λ x. x ≡ OutOfMemory)
+    → Puts out out' result (listing_lines r) → (out_of_memory : Bool) × Does (outcome out_of_memory t e) t out out' result
 unfolding outcome
-Does-listing t e out out' result h p =
-    subst (λ x. (out_of_memory : Bool) × Does (outcome out_of_memory t x) t out out' result) (sym h) (p.0, (refl, p.1))
+Does-listing t desk e (Ok ts) out out' result same h is memory p =
+    subst (λ x. (out_of_memory : Bool) × Does (outcome out_of_memory t x) t out out' result) (sym h)
+    (false, (refl, subst (λ l. Puts out out' result l) (ap listing_reply is ∙ ap (λ v. listing_reply (tags Extended v.present)) same) p))
+Does-listing t desk e (Err x) out out' result same h is memory p =
+    subst (λ y. (out_of_memory : Bool) × Does (outcome out_of_memory t y) t out out' result) (sym h)
+    (true, (refl, subst (λ l. Puts out out' result l) (ap refused_line memory) p))
 
 pub Does-refused : {A : Type 0} (t : Timeline) (e : Request) (r : Refusal) (out out' : Writer) (result : Result A Fault)
     → e ≡ refused r → Puts out out' result (refused_line r) → (out_of_memory : Bool) × Does (outcome out_of_memory t e) t out out' result
@@ -94,30 +111,3 @@ Does-nothing t e out x h = subst (λ y. (out_of_memory : Bool) × Does (outcome 
 pub Does-quit : {A : Type 0} (t : Timeline) (e : Request) (out : Writer) (x : A) → e ≡ quit → (out_of_memory : Bool) × Does (outcome out_of_memory t e) t out out (Ok x)
 unfolding outcome
 Does-quit t e out x h = subst (λ y. (out_of_memory : Bool) × Does (outcome out_of_memory t y) t out out (Ok x)) (sym h) (false, (refl, (PutsAll-none out, tt)))
-
--- a question is answered, or memory refused it
-pub query-answered : (t : Timeline) (field : Field) (pattern : List ℕ) → (outcome false t (query field pattern)).reply ≡ answer_lines (answer t.present field pattern)
-unfolding outcome
-query-answered t field pattern = refl
-
-pub query-refused : (t : Timeline) (field : Field) (pattern : List ℕ) → (outcome true t (query field pattern)).reply ≡ refused_line OutOfMemory
-unfolding outcome
-query-refused t field pattern = refl
-
--- a tags file is shown, or memory refused it
-pub tags-shown : (t : Timeline) (format : Format) → (outcome false t (tags_file format)).reply ≡ tags_reply format (tags format t.present)
-unfolding outcome
-tags-shown t format = refl
-
-pub tags-refused : (t : Timeline) (format : Format) → (outcome true t (tags_file format)).reply ≡ refused_line OutOfMemory
-unfolding outcome
-tags-refused t format = refl
-
--- a listing is shown, or memory refused it
-pub listing-shown : (t : Timeline) → (outcome false t listing).reply ≡ listing_reply (tags Extended t.present)
-unfolding outcome
-listing-shown t = refl
-
-pub listing-refused : (t : Timeline) → (outcome true t listing).reply ≡ refused_line OutOfMemory
-unfolding outcome
-listing-refused t = refl

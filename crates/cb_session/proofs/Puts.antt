@@ -59,3 +59,26 @@ pub Written-all : {X : Type 0} (f : X → List ℕ) (old out : Writer) (left all
     → PutsAll old out (flat_map f all)
 Written-all f old out left all s none =
     subst (λ l. PutsAll old out l) (sym (append-nil s.so_far) ∙ ap (λ l. s.so_far ++ flat_map f l) (sym none) ∙ s.rest) s.wrote
+
+-- a first text, and then elements one after another, of which these are left
+abbrev pub WrittenAfter : {X : Type 0} → List ℕ → (X → List ℕ) → Writer → Writer → List X → List X → Type 0
+WrittenAfter first f old out left all = (mid : Writer) × PutsAll old mid first × Written f mid out left all
+
+pub WrittenAfter-start : {X : Type 0} (first : List ℕ) (f : X → List ℕ) (old out : Writer) (left all : List X) → PutsAll old out first → left ≡ all
+    → WrittenAfter first f old out left all
+WrittenAfter-start first f old out left all p same = (out, p, subst (λ l. Written f out out l all) (sym same) (Written-start f out all))
+
+pub WrittenAfter-more : {X : Type 0} (first : List ℕ) (f : X → List ℕ) (old out new : Writer) (left rest all : List X) (x : X)
+    → WrittenAfter first f old out left all → left ≡ x ∷ rest → PutsAll out new (f x) → WrittenAfter first f old new rest all
+WrittenAfter-more first f old out new left rest all x s is wrote = (s.0, s.1, Written-more f s.0 out new left rest all x s.2 is wrote)
+
+pub WrittenAfter-fault : {X A : Type 0} (first : List ℕ) (f : X → List ℕ) (old out new : Writer) (left rest all : List X) (x : X) (r : Result A Fault) (fault : Fault)
+    → WrittenAfter first f old out left all → left ≡ x ∷ rest → IsErrAnd r (λ e. e ≡ fault) → fault ≡ Write → PutsPrefix out new (f x)
+    → Puts old new r (first ++ flat_map f all)
+WrittenAfter-fault first f old out new left rest all x r fault s is e why p =
+    Puts-after old s.0 new r first (flat_map f all) s.1 (Written-fault f s.0 out new left rest all x r fault s.2 is e why p)
+
+pub WrittenAfter-all : {X : Type 0} (first : List ℕ) (f : X → List ℕ) (old out : Writer) (left all : List X) → WrittenAfter first f old out left all
+    → left ≡ [] → PutsAll old out (first ++ flat_map f all)
+WrittenAfter-all first f old out left all s none =
+    PutsAll-after old s.0 out first (flat_map f all) s.1 (Written-all f s.0 out left all s.2 none)

@@ -12,6 +12,8 @@ use Rattle.cb_tags.specs.Writers.{Writer}
 use Rattle.cb_tags.specs.Writing.{PutsAll, PutsPrefix}
 use Rattle.cb_tags.proofs.Prefixes.{PutsAll-after, PutsPrefix-more, PutsPrefix-after}
 use Rattle.cb_desk.specs.Answer.{AnswerRow, line_row, unindented}
+use Rattle.cb_desk.specs.declared.refusal.Refusal.{Refusal}
+use Rattle.std.specs.Prelude.{Ok, Err}
 use Rattle.cb_session.specs.Output.{row_line}
 use Rattle.cb_session.specs.Stack.{frame_row, stack_rows}
 use Rattle.cb_session.specs.Writing.{Puts}
@@ -72,3 +74,8 @@ line_row-empty file zero = refl
 line_row-empty file (suc n) =
     let row : List (List ℕ) → AnswerRow = λ ls. record { file = file; function = codes "<unknown>"; line = suc n; text = unindented (slice_index_or ls n []) } in
     ap row no_lines
+
+-- the rows of an answer; none where it was refused
+abbrev pub rows_in : Result (List AnswerRow) Refusal → List AnswerRow
+rows_in (Ok rows) = rows
+rows_in (Err r) = []

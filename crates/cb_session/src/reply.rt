@@ -1,12 +1,12 @@
 //! The replies, and the texts that they are made of.
 ghost use Rattle.std.specs.List.{flat_map};
 ghost use Rattle.cb_session.specs.Writing.{Puts};
-ghost use Rattle.cb_session.specs.Output.{row_line, answer_lines, count_line, done_line, refused_line, prompt};
+ghost use Rattle.cb_session.specs.Output.{row_line, count_line, done_line, refused_line, prompt};
 ghost use Rattle.cb_desk.specs.Models.{row_of};
-ghost use Rattle.cb_session.specs.steps.Rounds.{move_line};
+ghost use Rattle.cb_session.specs.steps.Rounds.{move_line, rows_line};
 
 use crate::Fault;
-use cb_desk::{RefRow, Refusal, RowIter, RowList};
+use cb_desk::{RefRow, Refusal, RowList};
 use cb_tags::{Sink, put_text, put_texts};
 use itoa::Buffer;
 use std::io::Write;
@@ -84,16 +84,6 @@ pub fn put_row<W: Write>(out: &mut Sink<W>, row: &RefRow<'_>) -> Result<(), Faul
     )
 }
 
-/// Writes rows, one after another.
-fn put_each<W: Write>(out: &mut Sink<W>, rows: RowIter<'_, '_>) -> Result<(), Fault>
-    ensures { Puts out.old out.new result (flat_map row_line rows.entry) }
-{
-    for row in rows {
-        put_row(out, &row)?;
-    }
-    Ok(())
-}
-
 /// Writes how many lines there are.
 pub fn put_count<W: Write>(out: &mut Sink<W>, count: u128) -> Result<(), Fault>
     ensures { Puts out.old out.new result (count_line count) }
@@ -104,9 +94,19 @@ pub fn put_count<W: Write>(out: &mut Sink<W>, count: u128) -> Result<(), Fault>
 }
 
 /// Writes the reply to a query: how many rows there are, and the rows.
-pub(crate) fn put_rows<W: Write>(out: &mut Sink<W>, list: &RowList<'_>) -> Result<(), Fault>
-    ensures { Puts out.old out.new result (answer_lines list.now) }
+pub(crate) fn put_rows<W: Write>(
+    out: &mut Sink<W>,
+    rows: Result<RowList<'_>, Refusal>,
+) -> Result<(), Fault>
+    ensures { Puts out.old out.new result (rows_line rows.entry) }
 {
+    let list = match rows {
+        Ok(list) => list,
+        Err(refusal) => return put_refusal(out, refusal),
+    };
     put_count(out, list.len() as u128)?;
-    put_each(out, list.iter())
+    for row in list.iter() {
+        put_row(out, &row)?;
+    }
+    Ok(())
 }

@@ -1,19 +1,17 @@
 //! A session, and its runs.
-ghost use Rattle.std.specs.Prelude.{◌≡◌, ◌≢◌, Bool, List, ℕ, [], Some, IfOk, IfSome, MatchResult};
+ghost use Rattle.std.specs.Prelude.{◌≡◌, Bool, List, ℕ, Some, IfOk, IfSome, MatchResult};
 ghost use Rattle.cb_desk.specs.Timeline.{new_timeline};
 ghost use Rattle.cb_session.specs.Inputs.{first, inputs, ending_of};
-ghost use Rattle.cb_session.specs.Models.{request_of, command_of, going_of, HasPattern};
-ghost use Rattle.cb_session.specs.Requests.{query, tags_file, listing};
+ghost use Rattle.cb_session.specs.Models.{request_of, going_of, HasPattern};
 ghost use Rattle.cb_session.specs.Serving.{Does, LeavesRun, HasFailed, IfFault, Tells, fault_of};
 ghost use Rattle.cb_session.specs.steps.Rounds.{LeavesRound, fault_in};
 ghost use Rattle.cb_session.specs.Output.{outcome};
-ghost use Rattle.cb_session.specs.Writing.{Puts};
 
 use crate::reply::{put_move, put_prompt, put_refusal, put_rows};
 use crate::stack::put_stack;
 use crate::tags::{put_listing_reply, put_tags_reply};
 use crate::{Command, Ended, Fault, Feed, Going, Input, Intake, Limits};
-use cb_desk::{Desk, Field, Format};
+use cb_desk::{Desk, Format};
 use cb_tags::Sink;
 use std::alloc::Global;
 use std::io::{BufRead, Write};
@@ -74,6 +72,7 @@ impl Session {
         Ok(going)
     }
 
+    /// Does what was read at a prompt, and writes the reply: each input has its line here.
     fn answer<W: Write>(
         &mut self,
         alloc: Global,
@@ -83,74 +82,20 @@ impl Session {
         requires { HasPattern (request_of input) }
         ensures { (out_of_memory : Bool) × Does (outcome out_of_memory self.old (request_of input.entry)) self.new out.old out.new result }
     {
-        match input {
-            Input::Nothing => Ok(()),
-            Input::End => Ok(()),
-            Input::Refused(refusal) => put_refusal(out, refusal),
-            Input::Command(command) => self.command(alloc, command, out),
-        }
-    }
-
-    fn command<W: Write>(
-        &mut self,
-        alloc: Global,
-        command: Command<'_>,
-        out: &mut Sink<W>,
-    ) -> Result<(), Fault>
-        requires { HasPattern (command_of command) }
-        ensures { (out_of_memory : Bool) × Does (outcome out_of_memory self.old (command_of command.entry)) self.new out.old out.new result }
-    {
+        let command = match input {
+            Input::Nothing => return Ok(()),
+            Input::End => return Ok(()),
+            Input::Refused(refusal) => return put_refusal(out, refusal),
+            Input::Command(command) => command,
+        };
         match command {
-            Command::Query(field, pattern) => self.query(alloc, field, pattern, out),
-            Command::Change(change) => {
-                let done = self.desk.change(alloc, change);
-                put_move(out, done)
-            }
-            Command::Undo => {
-                let done = self.desk.undo();
-                put_move(out, done)
-            }
-            Command::Redo => {
-                let done = self.desk.redo();
-                put_move(out, done)
-            }
-            Command::Tags(format) => self.tags(alloc, format, out),
-            Command::Listing => self.listing(alloc, out),
+            Command::Query(field, pattern) => put_rows(out, self.desk.rows(alloc, field, pattern)),
+            Command::Change(change) => put_move(out, self.desk.change(alloc, change)),
+            Command::Undo => put_move(out, self.desk.undo()),
+            Command::Redo => put_move(out, self.desk.redo()),
+            Command::Tags(format) => put_tags_reply(out, format, self.desk.tag_rows(alloc, format)),
+            Command::Listing => put_listing_reply(out, self.desk.tag_rows(alloc, Format::Extended)),
             Command::Stack => put_stack(out, &self.desk),
-        }
-    }
-
-    fn query<W: Write>(
-        &self,
-        alloc: Global,
-        field: Field,
-        pattern: &[u8],
-        out: &mut Sink<W>,
-    ) -> Result<(), Fault>
-        requires { pattern.now ≢ [] }
-        ensures { (out_of_memory : Bool) × Puts out.old out.new result (outcome out_of_memory self.now (query field pattern.now)).reply }
-    {
-        match self.desk.rows(alloc, field, pattern) {
-            Ok(list) => put_rows(out, &list),
-            Err(refusal) => put_refusal(out, refusal),
-        }
-    }
-
-    fn tags<W: Write>(&self, alloc: Global, format: Format, out: &mut Sink<W>) -> Result<(), Fault>
-        ensures { (out_of_memory : Bool) × Puts out.old out.new result (outcome out_of_memory self.now (tags_file format)).reply }
-    {
-        match self.desk.tag_rows(alloc, format) {
-            Ok(list) => put_tags_reply(out, format, &list),
-            Err(refusal) => put_refusal(out, refusal),
-        }
-    }
-
-    fn listing<W: Write>(&self, alloc: Global, out: &mut Sink<W>) -> Result<(), Fault>
-        ensures { (out_of_memory : Bool) × Puts out.old out.new result (outcome out_of_memory self.now listing).reply }
-    {
-        match self.desk.tag_rows(alloc, Format::Extended) {
-            Ok(list) => put_listing_reply(out, &list),
-            Err(refusal) => put_refusal(out, refusal),
         }
     }
 
@@ -217,7 +162,7 @@ impl Session {
         put_prompt(out)?;
         let input = intake.read(alloc, limits, feed)?;
         let ending = input.ending();
-        self.one(alloc, input, out)?;
+        self.answer(alloc, input, out)?;
         Ok(ending)
     }
 }

@@ -3,12 +3,12 @@ ghost use Rattle.std.specs.Prelude.{◌≡◌};
 ghost use Rattle.std.specs.List.{flat_map};
 ghost use Rattle.cb_tags.specs.TagLines.{tag_of, listing_line};
 ghost use Rattle.cb_session.specs.Writing.{Puts};
-ghost use Rattle.cb_session.specs.Output.{tags_reply, listing_reply};
+ghost use Rattle.cb_session.specs.steps.Rounds.{tags_line, listing_lines};
 ghost use Rattle.cb_desk.specs.Tags.{tag_line, heads, head_count, tags_text, listing_text};
 
 use crate::Fault;
-use crate::reply::put_count;
-use cb_desk::{Format, TagRowIter, TagRowList};
+use crate::reply::{put_count, put_refusal};
+use cb_desk::{Format, Refusal, TagRowIter, TagRowList};
 use cb_tags::{Sink, TagRow, put_extended, put_heads, put_listing, put_plain};
 use std::io::Write;
 
@@ -89,10 +89,14 @@ pub fn put_listing_file<W: Write>(out: &mut Sink<W>, rows: TagRowIter<'_, '_>) -
 pub(crate) fn put_tags_reply<W: Write>(
     out: &mut Sink<W>,
     format: Format,
-    list: &TagRowList<'_>,
+    tags: Result<TagRowList<'_>, Refusal>,
 ) -> Result<(), Fault>
-    ensures { Puts out.old out.new result (tags_reply format list.now) }
+    ensures { Puts out.old out.new result (tags_line format tags.entry) }
 {
+    let list = match tags {
+        Ok(list) => list,
+        Err(refusal) => return put_refusal(out, refusal),
+    };
     put_count(out, list.len() as u128 + head_count(format))?;
     put_tags_file(out, format, list.iter())
 }
@@ -100,10 +104,14 @@ pub(crate) fn put_tags_reply<W: Write>(
 /// Writes the reply that shows a listing.
 pub(crate) fn put_listing_reply<W: Write>(
     out: &mut Sink<W>,
-    list: &TagRowList<'_>,
+    tags: Result<TagRowList<'_>, Refusal>,
 ) -> Result<(), Fault>
-    ensures { Puts out.old out.new result (listing_reply list.now) }
+    ensures { Puts out.old out.new result (listing_lines tags.entry) }
 {
+    let list = match tags {
+        Ok(list) => list,
+        Err(refusal) => return put_refusal(out, refusal),
+    };
     put_count(out, list.len() as u128)?;
     put_listing_file(out, list.iter())
 }

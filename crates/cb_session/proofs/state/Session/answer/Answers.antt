@@ -1,6 +1,6 @@
-use Rattle.std.proofs.Common.{ap}
-use Rattle.cb_session.specs.Models.{request_of}
-use Rattle.cb_session.proofs.Outcomes.{Does-refused, Does-nothing, Does-quit}
+use Rattle.std.proofs.Common.{◌∙◌, ap}
+use Rattle.cb_session.specs.Models.{command_of, request_of}
+use Rattle.cb_session.proofs.Outcomes.{Does-change, Does-listing, Does-nothing, Does-query, Does-quit, Does-redo, Does-refused, Does-stack, Does-tags, Does-undo}
 use Rattle.cb_session.proofs.state.Session.answer.Goals as goal
 
 pub returns-in-Nothing : goal.returns-in-Nothing
@@ -11,3 +11,31 @@ returns-in-End g c = Does-quit {A = Unit {0}} _ _ _ tt (ap request_of c.in-End.i
 
 pub returns-in-Refused : goal.returns-in-Refused
 returns-in-Refused g c = Does-refused _ _ _ _ _ _ (ap request_of c.in-Refused.is) c.put_refusal.ensures
+
+pub returns-in-Query : goal.returns-in-Query
+returns-in-Query g c =
+    Does-query _ _ _ _ _ _ _ _ _ c.self.view_is (ap request_of c.in-Command.is ∙ ap command_of c.in-Query.is) c.rows.ensures.rows c.rows.ensures.memory c.put_rows.ensures
+
+pub returns-in-Change : goal.returns-in-Change
+returns-in-Change g c =
+    Does-change _ _ _ _ _ _ _ _ _ c.self.view_is (ap request_of c.in-Command.is ∙ ap command_of c.in-Change.is) c.change.ensures c.put_move.ensures
+
+pub returns-in-Undo : goal.returns-in-Undo
+returns-in-Undo g c =
+    Does-undo _ _ _ _ _ _ _ _ c.self.view_is (ap request_of c.in-Command.is ∙ ap command_of c.in-Undo.is) c.undo.ensures c.put_move-in-Undo.ensures
+
+pub returns-in-Redo : goal.returns-in-Redo
+returns-in-Redo g c =
+    Does-redo _ _ _ _ _ _ _ _ c.self.view_is (ap request_of c.in-Command.is ∙ ap command_of c.in-Redo.is) c.redo.ensures c.put_move-in-Redo.ensures
+
+pub returns-in-Tags : goal.returns-in-Tags
+returns-in-Tags g c =
+    Does-tags _ _ _ _ _ _ _ _ c.self.view_is (ap request_of c.in-Command.is ∙ ap command_of c.in-Tags.is) c.tag_rows.ensures.rows c.tag_rows.ensures.memory c.put_tags_reply.ensures
+
+pub returns-in-Listing : goal.returns-in-Listing
+returns-in-Listing g c =
+    Does-listing _ _ _ _ _ _ _ c.self.view_is (ap request_of c.in-Command.is ∙ ap command_of c.in-Listing.is) c.tag_rows-in-Listing.ensures.rows c.tag_rows-in-Listing.ensures.memory c.put_listing_reply.ensures
+
+pub returns-in-Stack : goal.returns-in-Stack
+returns-in-Stack g c =
+    Does-stack _ _ _ _ _ _ c.self.view_is (ap request_of c.in-Command.is ∙ ap command_of c.in-Stack.is) c.put_stack.ensures

@@ -1,4 +1,3 @@
-use Rattle.cb_session.specs.declared.input.Going.{Going}
 use Rattle.cb_session.specs.Inputs.{first}
 use Rattle.cb_session.specs.Models.{request_of}
 use Rattle.cb_session.proofs.Round.{Round-unprompted, Round-unread, Round-unanswered, Round-answered}
@@ -14,14 +13,14 @@ returns-in_err-input-clause-round g c = λ bytes e.
     Round-unread (first c.args.limits.now.line bytes) c.args.self.now _ c.read.new.feed c.args.out.now c.put_prompt.new.out _ _ c.from_residual-in_err-input.ensures.1
     (c.in_err-input.ensures.first bytes e) c.in_ok-put_prompt.ensures.0.2
 
-pub returns-in_err-one-clause-round : goal.returns-in_err-one-clause-round
-returns-in_err-one-clause-round g c = λ bytes e.
+pub returns-in_err-answer-clause-round : goal.returns-in_err-answer-clause-round
+returns-in_err-answer-clause-round g c = λ bytes e.
     let r = c.in_ok-input.ensures.first bytes e in
-    Round-unanswered Going (first c.args.limits.now.line bytes) c.args.self.now c.one.new.self c.read.new.feed c.args.out.now c.put_prompt.new.out c.one.new.out _ _
-    (request_of c.in_ok-input.input) c.from_residual-in_err-one.ensures.1 r.0 c.in_ok-put_prompt.ensures.0.2 c.in_err-one.ensures.does
+    Round-unanswered (Unit {0}) (first c.args.limits.now.line bytes) c.args.self.now c.answer.new.self c.read.new.feed c.args.out.now c.put_prompt.new.out c.answer.new.out _ _
+    (request_of c.in_ok-input.input) c.from_residual-in_err-answer.ensures.1 r.0 c.in_ok-put_prompt.ensures.0.2 c.in_err-answer.ensures
 
 pub returns-clause-round : goal.returns-clause-round
 returns-clause-round g c = λ bytes e.
     let r = c.in_ok-input.ensures.first bytes e in
-    Round-answered Going (first c.args.limits.now.line bytes) c.args.self.now c.one.new.self c.read.new.feed c.args.out.now c.put_prompt.new.out c.one.new.out c.ending-ending.result c.in_ok-one.field-0
-    (request_of c.in_ok-input.input) r.0 r.1 c.ending-ending.ensures c.in_ok-put_prompt.ensures.0.2 c.in_ok-one.ensures.does
+    Round-answered (Unit {0}) (first c.args.limits.now.line bytes) c.args.self.now c.answer.new.self c.read.new.feed c.args.out.now c.put_prompt.new.out c.answer.new.out c.ending-ending.result c.in_ok-answer.field-0
+    (request_of c.in_ok-input.input) r.0 r.1 c.ending-ending.ensures c.in_ok-put_prompt.ensures.0.2 c.in_ok-answer.ensures
