@@ -7,7 +7,7 @@ use Rattle.std.proofs.lemmas.Option.{slice_get-map, slice_get-get_or, slice_get_
 use Rattle.cb_scan.specs.declared.facts.Def.{Def}
 use Rattle.cb_scan.specs.Definitions.{definitions}
 use Rattle.cb_desk.specs.Answer.{defines}
-use Rattle.cb_desk.specs.World.{File, Frame}
+use Rattle.cb_desk.specs.World.{File, Place}
 use Rattle.cb_desk.specs.Stack.{places, places_in}
 use Rattle.cb_desk.proofs.Texts.{next_file}
 
@@ -21,7 +21,7 @@ slice_get-after [] ys i e = simp unary_clauses refl
 slice_get-after (y ∷ xs) ys zero e = cc
 slice_get-after (y ∷ xs) ys (suc i) e = simp unary_clauses (slice_get-after xs ys i e)
 
-abbrev framed : List ℕ → Def → Frame
+abbrev framed : List ℕ → Def → Place
 framed name d = record { file = name; line = d.line }
 
 same-line : (name : List ℕ) (line : ℕ) (found : Option Def) → option_map (λ (d : Def). d.line) found ≡ Some line

@@ -14,7 +14,7 @@ use Rattle.cb_scan.proofs.FactsWithin.{facts_lie}
 use Rattle.cb_scan.proofs.LineTable.{lines-few}
 use Rattle.cb_desk.specs.Answer.{defines}
 use Rattle.cb_desk.specs.declared.limits.TheConstants.{MOST_BYTES}
-use Rattle.cb_desk.specs.World.{File, Frame, is_named, has_file, text_of_file, IsAscending, IsFrameOf}
+use Rattle.cb_desk.specs.World.{File, Place, is_named, has_file, text_of_file, IsAscending, IsPlaceOf}
 use Rattle.cb_desk.specs.Files.{is_before, with_file, without_file}
 use Rattle.cb_desk.specs.Stack.{renamed_frame, places_in, places, nth}
 use Rattle.cb_desk.proofs.Placed.{by_name}
@@ -124,7 +124,7 @@ text-small (f ∷ files) name all =
 
 -- ---- frames
 -- a frame's file is there
-pub frame-there : (files : List File) (f : Frame) → IsFrameOf files f → has_file files f.file ≡ true
+pub frame-there : (files : List File) (f : Place) → IsPlaceOf files f → has_file files f.file ≡ true
 frame-there files f is =
     (elim (has_file files f.file) as (λ b. has_file files f.file ≡ b → b ≡ true) [
       | true ↦ λ e. refl
@@ -140,9 +140,9 @@ other-name files there gone e k =
     ]) refl
 
 -- one file more leaves frames as they are
-pub frames-with : (files : List File) (f : File) (frames : List Frame) → has_file files f.name ≡ false → AllByRecursion (IsFrameOf files) frames → AllByRecursion (IsFrameOf (with_file f files)) frames
+pub frames-with : (files : List File) (f : File) (frames : List Place) → has_file files f.name ≡ false → AllByRecursion (IsPlaceOf files) frames → AllByRecursion (IsPlaceOf (with_file f files)) frames
 frames-with files f frames fresh all =
-    all-along (IsFrameOf files) (IsFrameOf (with_file f files)) frames
+    all-along (IsPlaceOf files) (IsPlaceOf (with_file f files)) frames
     (λ place is. subst (λ text. IsLineOf text place.line) (sym (text-with f files place.file (other-name files place.file f.name (frame-there files place is) fresh))) is)
     all
 
@@ -151,12 +151,12 @@ not-true true e = cc
 not-true false e = refl
 
 -- one file less leaves the frames of the others as they are
-pub frames-without : (files : List File) (name : List ℕ) (frames : List Frame) → AllByRecursion (IsFrameOf files) frames → AllByRecursion (IsFrameOf (without_file name files)) (filter (λ (f : Frame). not (bytes_eq f.file name)) frames)
+pub frames-without : (files : List File) (name : List ℕ) (frames : List Place) → AllByRecursion (IsPlaceOf files) frames → AllByRecursion (IsPlaceOf (without_file name files)) (filter (λ (f : Place). not (bytes_eq f.file name)) frames)
 frames-without files name frames all =
-    all-both (λ (f : Frame). not (bytes_eq f.file name) ≡ true) (IsFrameOf files) (IsFrameOf (without_file name files)) (filter (λ (f : Frame). not (bytes_eq f.file name)) frames)
+    all-both (λ (f : Place). not (bytes_eq f.file name) ≡ true) (IsPlaceOf files) (IsPlaceOf (without_file name files)) (filter (λ (f : Place). not (bytes_eq f.file name)) frames)
     (λ place kept is. subst (λ text. IsLineOf text place.line) (sym (text-without files name place.file (not-true _ kept))) is)
-    (all-passed (λ (f : Frame). not (bytes_eq f.file name)) frames)
-    (all-filter (IsFrameOf files) (λ (f : Frame). not (bytes_eq f.file name)) frames all)
+    (all-passed (λ (f : Place). not (bytes_eq f.file name)) frames)
+    (all-filter (IsPlaceOf files) (λ (f : Place). not (bytes_eq f.file name)) frames all)
 
 -- a file that is not there is not there without another one
 pub still-gone : (files : List File) (gone name : List ℕ) → has_file files name ≡ false → has_file (without_file gone files) name ≡ false
@@ -168,9 +168,9 @@ module _ (files : List File) (old new : List ℕ) (fresh : has_file files new �
   abbrev moved : List File
   moved = with_file (record { name = new; bytes = text_of_file files old }) (without_file old files)
 
-  frame-renamed : (f : Frame) → IsFrameOf files f → IsFrameOf moved (renamed_frame old new f)
+  frame-renamed : (f : Place) → IsPlaceOf files f → IsPlaceOf moved (renamed_frame old new f)
   frame-renamed f is =
-      (elim (bytes_eq f.file old) as (λ b. bytes_eq f.file old ≡ b → IsFrameOf moved (cond b (record f { file = new }) f)) [
+      (elim (bytes_eq f.file old) as (λ b. bytes_eq f.file old ≡ b → IsPlaceOf moved (cond b (record f { file = new }) f)) [
         | true ↦ λ e.
             subst (λ text. IsLineOf text f.line) (ap (text_of_file files) (same-name f.file old e) ∙ sym (text-with-here (record { name = new; bytes = text_of_file files old }) (without_file old files) (still-gone files old new fresh))) is
         | false ↦ λ e.
@@ -179,7 +179,7 @@ module _ (files : List File) (old new : List ℕ) (fresh : has_file files new �
       ]) refl
 
   -- the frames of a file go with its name, and the others stay
-  pub frames-renamed : (frames : List Frame) → AllByRecursion (IsFrameOf files) frames → AllByRecursion (IsFrameOf moved) (map (renamed_frame old new) frames)
+  pub frames-renamed : (frames : List Place) → AllByRecursion (IsPlaceOf files) frames → AllByRecursion (IsPlaceOf moved) (map (renamed_frame old new) frames)
   frames-renamed [] all = tt
   frames-renamed (f ∷ frames) all = (frame-renamed f all.0, frames-renamed frames all.1)
 
@@ -198,14 +198,14 @@ own-texts (f ∷ files) up = (
 )
 
 module _ (files : List File) (name : List ℕ) where
-  frames-of : (f : File) → text_of_file files f.name ≡ f.bytes → (ds : List Def) → AllByRecursion (λ (d : Def). IsLineOf f.bytes d.line) ds → AllByRecursion (IsFrameOf files) (map (λ (d : Def). record { file = f.name; line = d.line }) ds)
+  frames-of : (f : File) → text_of_file files f.name ≡ f.bytes → (ds : List Def) → AllByRecursion (λ (d : Def). IsLineOf f.bytes d.line) ds → AllByRecursion (IsPlaceOf files) (map (λ (d : Def). record { file = f.name; line = d.line }) ds)
   frames-of f own [] all = tt
   frames-of f own (d ∷ ds) all = (subst (λ text. IsLineOf text d.line) (sym own) all.0, frames-of f own ds all.1)
 
-  places-of : (some : List File) → AllByRecursion (λ (f : File). text_of_file files f.name ≡ f.bytes) some → AllByRecursion (IsFrameOf files) (places some name)
+  places-of : (some : List File) → AllByRecursion (λ (f : File). text_of_file files f.name ≡ f.bytes) some → AllByRecursion (IsPlaceOf files) (places some name)
   places-of [] own = tt
   places-of (f ∷ some) own =
-      all-join (IsFrameOf files) (places_in name f) (places some name)
+      all-join (IsPlaceOf files) (places_in name f) (places some name)
       (frames-of f own.0 (filter (defines f.bytes name) (definitions f.bytes)) (all-filter (λ (d : Def). IsLineOf f.bytes d.line) (defines f.bytes name) (definitions f.bytes) (facts_lie f.bytes).lines))
       (places-of some own.1)
 
@@ -215,9 +215,9 @@ at-place P (y ∷ xs) zero x all e = let same : y ≡ x = cc in subst P same all
 at-place P (y ∷ xs) (suc i) x all e = at-place P xs i x all.1 e
 
 -- the nth place of a name is a frame
-pub nth-place : (files : List File) (name : List ℕ) (n : ℕ) (f : Frame) → IsAscending files → nth n (places files name) ≡ Some f → IsFrameOf files f
+pub nth-place : (files : List File) (name : List ℕ) (n : ℕ) (f : Place) → IsAscending files → nth n (places files name) ≡ Some f → IsPlaceOf files f
 nth-place files name zero f up e = cc
-nth-place files name (suc n) f up e = at-place (IsFrameOf files) (places files name) n f (places-of files name files (own-texts files up)) e
+nth-place files name (suc n) f up e = at-place (IsPlaceOf files) (places files name) n f (places-of files name files (own-texts files up)) e
 
 pub all-take : {X : Type 0} (P : X → Type 0) (n : ℕ) (xs : List X) → AllByRecursion P xs → AllByRecursion P (take n xs)
 all-take P zero xs all = tt

@@ -4,7 +4,7 @@ use Rattle.cb_desk.specs.declared.limits.TheConstants.{MOST_BYTES, MOST_FILES}
 use Rattle.cb_desk.specs.declared.refusal.Refusal.{Refusal}
 use Rattle.cb_desk.specs.declared.refusal.Refusal.TheVariants.{BadName, NoSuchFile, FileExists, TooLarge, TooManyFiles}
 use Rattle.cb_tags.specs.Names.{is_file_name}
-use Rattle.cb_desk.specs.World.{World, File, Frame, has_file, text_of_file, IsFrameOf, IsValidWorld}
+use Rattle.cb_desk.specs.World.{World, File, Place, has_file, text_of_file, IsPlaceOf, IsValidWorld}
 use Rattle.cb_desk.specs.Files.{load_refusal, loaded, unloaded, rename_refusal, renamed, without_file}
 use Rattle.cb_desk.specs.Stack.{pushed, nth, places}
 use Rattle.cb_desk.specs.Step.{Step, load, unload, rename, tag, pop, refusal_of, after, step, unless_refused}
@@ -78,16 +78,16 @@ rename-valid w old new valid may =
     }
 
 -- the frame that is pushed is one of the world
-push-valid : (w : World) (o : Option Frame) → IsValidWorld w → ((f : Frame) → o ≡ Some f → IsFrameOf w.files f) → IsValidWorld (pushed w o)
+push-valid : (w : World) (o : Option Place) → IsValidWorld w → ((f : Place) → o ≡ Some f → IsPlaceOf w.files f) → IsValidWorld (pushed w o)
 push-valid w None valid is = valid
-push-valid w (Some f) valid is = record { files = valid.files; frames = all-join (IsFrameOf w.files) w.frames (f ∷ []) valid.frames (is f refl, tt) }
+push-valid w (Some f) valid is = record { files = valid.files; frames = all-join (IsPlaceOf w.files) w.frames (f ∷ []) valid.frames (is f refl, tt) }
 
 after-valid : (w : World) (s : Step) → IsValidWorld w → refusal_of w s ≡ None → IsValidWorld (after w s)
 after-valid w (load name bytes) valid due = load-valid w name bytes valid (loadable w name bytes due)
 after-valid w (unload name) valid due = unload-valid w name valid
 after-valid w (rename old new) valid due = rename-valid w old new valid (renamable w old new due)
 after-valid w (tag name n) valid due = push-valid w (nth n (places w.files name)) valid (λ f e. nth-place w.files name n f valid.files.ascending e)
-after-valid w pop valid due = record { files = valid.files; frames = all-take (IsFrameOf w.files) _ w.frames valid.frames }
+after-valid w pop valid due = record { files = valid.files; frames = all-take (IsPlaceOf w.files) _ w.frames valid.frames }
 
 pub step_keeps_valid : StepKeepsValid
 unfolding step

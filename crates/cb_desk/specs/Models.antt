@@ -4,7 +4,7 @@ use Rattle.std.specs.Borrow.{Bor}
 use Rattle.cb_desk.specs.declared.change.Change.{Change}
 use Rattle.cb_desk.specs.declared.change.Change.TheVariants.{Load, Unload, Rename, Tag, Pop}
 use Rattle.cb_desk.specs.declared.rows.RefRow.{RefRow}
-use Rattle.cb_desk.specs.World.{File, Frame}
+use Rattle.cb_desk.specs.World.{File, Place}
 use Rattle.cb_desk.specs.Step.{Step, load, unload, rename, tag, pop}
 use Rattle.cb_desk.specs.Answer.{AnswerRow}
 
@@ -25,5 +25,5 @@ abbrev pub file_of : Bor (List ℕ) × Bor (List ℕ) → File
 file_of p = record { name = p.0.now; bytes = p.1.now }
 
 -- the frame that a name and a line stand for
-abbrev pub frame_of : Bor (List ℕ) × ℕ → Frame
-frame_of p = record { file = p.0.now; line = p.1 }
+abbrev pub place_at : Bor (List ℕ) × ℕ → Place
+place_at p = record { file = p.0.now; line = p.1 }

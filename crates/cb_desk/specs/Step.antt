@@ -1,7 +1,7 @@
 -- What a change does to a world, and why it is refused.
 use Rattle.std.specs.Prelude.{ℕ, List, Option, None, Some, Result, Ok, Err}
 use Rattle.cb_desk.specs.declared.refusal.Refusal.{Refusal}
-use Rattle.cb_desk.specs.World.{World, Frame}
+use Rattle.cb_desk.specs.World.{World, Place}
 use Rattle.cb_desk.specs.Files.{load_refusal, loaded, unload_refusal, unloaded, rename_refusal, renamed}
 use Rattle.cb_desk.specs.Stack.{places, nth, push_refusal, pushed, pop_refusal, popped}
 
@@ -19,7 +19,7 @@ pub data Step : Type 0 where
   pop : Step
 
 -- the place that a step asks for: a tag the nth definition of its name
-abbrev pub place_of : World → Step → Option Frame
+abbrev pub place_of : World → Step → Option Place
 place_of w (load name bytes) = None
 place_of w (unload name) = None
 place_of w (rename old new) = None

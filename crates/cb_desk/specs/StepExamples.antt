@@ -4,7 +4,7 @@ use Rattle.cb_scan.specs.Definitions.{definitions_from}
 use Rattle.cb_scan.specs.examples.Functions.{finding}
 use Rattle.cb_scan.specs.Order.{put, in_order}
 use Rattle.cb_desk.specs.declared.refusal.Refusal.TheVariants.{BadName, NoSuchFile, FileExists, NoSuchDefinition, StackEmpty}
-use Rattle.cb_desk.specs.World.{World, File, Frame, empty_world, text_of_file}
+use Rattle.cb_desk.specs.World.{World, File, Place, empty_world, text_of_file}
 use Rattle.cb_desk.specs.Step.{step, load, unload, rename, tag, pop}
 
 -- a file, from two literals
@@ -12,7 +12,7 @@ abbrev file : (name text : List ℕ) → File
 file name text = record { name = name; bytes = text }
 
 -- a frame, from a literal and a line
-abbrev frame : (name : List ℕ) (line : ℕ) → Frame
+abbrev frame : (name : List ℕ) (line : ℕ) → Place
 frame name line = record { file = name; line = line }
 
 -- three files, and four frames of two of them
@@ -25,10 +25,10 @@ b = file (codes "b.h") (codes "z;")
 abbrev d : File
 d = file (codes "d.c") []
 
-abbrev at_a : ℕ → Frame
+abbrev at_a : ℕ → Place
 at_a line = frame (codes "a.c") line
 
-abbrev at_b : Frame
+abbrev at_b : Place
 at_b = frame (codes "b.h") 1
 
 abbrev three_files : World

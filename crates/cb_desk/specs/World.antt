@@ -15,14 +15,14 @@ pub record File : Type 0 where
   pub bytes : List ℕ
 
 -- a frame of the tag stack: a file, and a line of it, from 1
-pub record Frame : Type 0 where
+pub record Place : Type 0 where
   pub file : List ℕ
   pub line : ℕ
 
 -- the files, ascending by the bytes of their names, and the frames, bottom first
 pub record World : Type 0 where
   pub files : List File
-  pub frames : List Frame
+  pub frames : List Place
 
 -- the world without a file
 abbrev pub empty_world : World
@@ -53,10 +53,10 @@ pub record AreValidFiles (files : List File) : Type 0 where
   pub ascending : IsAscending files
 
 -- a frame names a line that is there
-abbrev pub IsFrameOf : List File → Frame → Type 0
-IsFrameOf files f = IsLineOf (text_of_file files f.file) f.line
+abbrev pub IsPlaceOf : List File → Place → Type 0
+IsPlaceOf files f = IsLineOf (text_of_file files f.file) f.line
 
 -- the files are valid, and so is each frame
 pub record IsValidWorld (w : World) : Type 0 where
   pub files : AreValidFiles w.files
-  pub frames : AllByRecursion (IsFrameOf w.files) w.frames
+  pub frames : AllByRecursion (IsPlaceOf w.files) w.frames

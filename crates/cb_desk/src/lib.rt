@@ -24,6 +24,6 @@ pub use change::Change;
 pub use files::Files;
 pub use refusal::Refusal;
 pub use rows::{Field, RefRow, RowIter, RowList, line_row};
-pub use stack::Frames;
+pub use stack::Places;
 pub use state::Desk;
 pub use tags::{Format, TagRowIter, TagRowList};

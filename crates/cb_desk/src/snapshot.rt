@@ -11,7 +11,7 @@ mod stack;
 
 use crate::files::{Files, StoredFile};
 use crate::snapshot::stack::push_refusal;
-use crate::stack::{Frame, Frames};
+use crate::stack::{Place, Places};
 use crate::{Change, Refusal};
 use std::alloc::{AllocError, Global};
 use std::marker::Model;
@@ -21,7 +21,7 @@ use std::rc::Rc;
 #[derive(Drop)]
 pub(crate) struct Snapshot {
     files: Vec<Rc<StoredFile>>,
-    frames: Vec<Frame>,
+    frames: Vec<Place>,
 }
 
 impl Model for Snapshot {
@@ -52,10 +52,10 @@ impl Snapshot {
     }
 
     /// The frames, bottom first.
-    pub(crate) fn frames(&self) -> Frames<'_>
+    pub(crate) fn frames(&self) -> Places<'_>
         ensures { result ≡ self.now.frames }
     {
-        Frames::new(self.frames.as_slice())
+        Places::new(self.frames.as_slice())
     }
 
     /// The same world once more. Its files are shared, and their bytes are not copied.
@@ -74,7 +74,7 @@ impl Snapshot {
         &self,
         alloc: Global,
         change: &Change<'_>,
-    ) -> Result<Option<Frame>, AllocError>
+    ) -> Result<Option<Place>, AllocError>
         ensures ok { IfOk result (λ place. place ≡ place_of self.now (step_of change.now)) }
         ensures err { IfErr result (λ _. IsScannedFirst (step_of change.now)) }
     {
@@ -85,7 +85,7 @@ impl Snapshot {
     }
 
     /// Why a change is refused, if it is. `place` is the place that it asks for.
-    pub(crate) fn refusal_of(&self, change: &Change<'_>, place: &Option<Frame>) -> Option<Refusal>
+    pub(crate) fn refusal_of(&self, change: &Change<'_>, place: &Option<Place>) -> Option<Refusal>
         requires { place.now ≡ place_of self.now (step_of change.now) }
         ensures { result ≡ refusal_of self.now (step_of change.now) }
     {
@@ -103,7 +103,7 @@ impl Snapshot {
         &self,
         alloc: Global,
         change: Change<'_>,
-        place: Option<Frame>,
+        place: Option<Place>,
     ) -> Result<Snapshot, AllocError>
         requires valid { IsValidWorld self.now }
         requires place { place ≡ place_of self.now (step_of change) }

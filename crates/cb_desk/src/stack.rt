@@ -2,7 +2,7 @@
 ghost use Rattle.std.specs.Prelude.{◌≡◌, ◌==◌, if◌then◌else◌, IfOk, length};
 ghost use Rattle.std.specs.Str.{bytes_eq};
 ghost use Rattle.std.specs.Iterator.{YieldsFirstBy, YieldsLastBy, item_count};
-ghost use Rattle.cb_desk.specs.Models.{frame_of};
+ghost use Rattle.cb_desk.specs.Models.{place_at};
 ghost use Rattle.cb_desk.specs.Stack.{renamed_frame};
 
 mod list;
@@ -17,36 +17,36 @@ use std::rc::Rc;
 
 /// A frame of the tag stack: a file, and a line of it, from 1.
 #[derive(Drop)]
-pub(crate) struct Frame {
+pub(crate) struct Place {
     file: Rc<StoredFile>,
     line: u32,
 }
 
-impl Model for Frame {
-    ghost use Rattle.cb_desk.specs.World.{Frame as Place};
+impl Model for Place {
+    ghost use Rattle.cb_desk.specs.World.{Place};
 
     ghost Value = { Place };
 
     ghost view = { λ f. record { file = f.file.value.name; line = f.line } };
 }
 
-impl Clone for Frame {
+impl Clone for Place {
     ghost is_clone = { λ frame copy. copy ≡ frame };
 
-    fn clone(&self) -> Result<Frame, AllocError> {
-        Ok(Frame {
+    fn clone(&self) -> Result<Place, AllocError> {
+        Ok(Place {
             file: self.file.clone()?,
             line: self.line,
         })
     }
 }
 
-impl Frame {
+impl Place {
     /// The frame of a line of a file.
-    pub(crate) fn new(file: Rc<StoredFile>, line: u32) -> Frame
+    pub(crate) fn new(file: Rc<StoredFile>, line: u32) -> Place
         ensures { result ≡ record { file = file.value.name; line = line } }
     {
-        Frame { file, line }
+        Place { file, line }
     }
 
     /// Whether it names the file of that name.
@@ -57,11 +57,11 @@ impl Frame {
     }
 
     /// The same line of another file, where it names the file of that name.
-    pub(crate) fn renamed(&self, old: &[u8], file: &Rc<StoredFile>) -> Result<Frame, AllocError>
+    pub(crate) fn renamed(&self, old: &[u8], file: &Rc<StoredFile>) -> Result<Place, AllocError>
         ensures { IfOk result (λ f. f ≡ renamed_frame old.now file.now.value.name self.now) }
     {
         if self.is_in(old) {
-            Ok(Frame::new(file.clone()?, self.line))
+            Ok(Place::new(file.clone()?, self.line))
         } else {
             self.clone()
         }
@@ -70,24 +70,24 @@ impl Frame {
 
 /// The frames of a world, each a file's name and a line, bottom first.
 #[derive(Drop)]
-pub struct Frames<'a> {
-    rest: &'a [Frame],
+pub struct Places<'a> {
+    rest: &'a [Place],
 }
 
-impl<'a> Model for Frames<'a> {
+impl<'a> Model for Places<'a> {
     ghost use Rattle.std.specs.Prelude.{List};
-    ghost use Rattle.cb_desk.specs.World.{Frame as Place};
+    ghost use Rattle.cb_desk.specs.World.{Place};
 
     ghost Value = { List Place };
 
     ghost view = { λ f. f.rest.now };
 }
 
-impl<'a> Frames<'a> {
-    pub(crate) fn new(frames: &'a [Frame]) -> Frames<'a>
+impl<'a> Places<'a> {
+    pub(crate) fn new(frames: &'a [Place]) -> Places<'a>
         ensures { result ≡ frames.now }
     {
-        Frames { rest: frames }
+        Places { rest: frames }
     }
 
     /// How many there are.
@@ -98,10 +98,10 @@ impl<'a> Frames<'a> {
     }
 }
 
-impl<'a> Iterator for Frames<'a> {
+impl<'a> Iterator for Places<'a> {
     type Item = (&'a [u8], u32);
 
-    ghost next_gives = { YieldsFirstBy frame_of (λ frames. frames) };
+    ghost next_gives = { YieldsFirstBy place_at (λ frames. frames) };
 
     ghost remaining = { item_count (λ frames. frames) };
 
@@ -112,8 +112,8 @@ impl<'a> Iterator for Frames<'a> {
     }
 }
 
-impl<'a> DoubleEndedIterator for Frames<'a> {
-    ghost next_back_gives = { YieldsLastBy frame_of (λ frames. frames) };
+impl<'a> DoubleEndedIterator for Places<'a> {
+    ghost next_back_gives = { YieldsLastBy place_at (λ frames. frames) };
 
     fn next_back(&mut self) -> Option<(&'a [u8], u32)> {
         let (last, rest) = self.rest.split_last()?;

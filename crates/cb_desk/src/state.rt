@@ -9,7 +9,7 @@ ghost use Rattle.cb_desk.specs.Models.{step_of};
 
 use crate::limits::MOST_CHANGES;
 use crate::snapshot::Snapshot;
-use crate::{Change, Field, Files, Format, Frames, Refusal, RowList, TagRowList};
+use crate::{Change, Field, Files, Format, Places, Refusal, RowList, TagRowList};
 use std::alloc::{AllocError, Global};
 use std::marker::Model;
 use std::mem;
@@ -124,7 +124,7 @@ impl Desk {
     }
 
     /// The present frames, each a file's name and a line, bottom first.
-    pub fn frames(&self) -> Frames<'_>
+    pub fn frames(&self) -> Places<'_>
         ensures { result ≡ self.now.present.frames }
     {
         self.present.frames()

@@ -6,7 +6,7 @@ use Rattle.std.specs.List.{flat_map}
 use Rattle.cb_scan.specs.Lines.{lines}
 use Rattle.cb_scan.proofs.LineTable.{lines-few}
 use Rattle.cb_session.specs.declared.input.Fault.{Fault}
-use Rattle.cb_desk.specs.World.{World, File, Frame}
+use Rattle.cb_desk.specs.World.{World, File, Place}
 use Rattle.cb_session.specs.declared.input.Fault.TheVariants.{Write}
 use Rattle.cb_tags.specs.Writers.{Writer}
 use Rattle.cb_tags.specs.Writing.{PutsAll, PutsPrefix}
@@ -15,41 +15,41 @@ use Rattle.cb_desk.specs.Answer.{AnswerRow, line_row, unindented}
 use Rattle.cb_desk.specs.declared.refusal.Refusal.{Refusal}
 use Rattle.std.specs.Prelude.{Ok, Err}
 use Rattle.cb_session.specs.Output.{row_line}
-use Rattle.cb_session.specs.Stack.{frame_row, stack_rows}
+use Rattle.cb_session.specs.Stack.{place_row, stack_rows}
 use Rattle.cb_session.specs.Writing.{Puts}
 use Rattle.cb_session.proofs.Puts.{Puts-fault}
 
 -- the rows of frames, from the last back
-abbrev rows_back : List File → List Frame → List ℕ
-rows_back files frames = flat_map row_line (map (frame_row files) (reverse frames))
+abbrev rows_back : List File → List Place → List ℕ
+rows_back files frames = flat_map row_line (map (place_row files) (reverse frames))
 
 -- the row of the last frame comes first
-rows_back-last : (files : List File) (rest : List Frame) (f : Frame) → rows_back files (rest ++ f ∷ []) ≡ row_line (frame_row files f) ++ rows_back files rest
-rows_back-last files rest f = ap (λ frames. flat_map row_line (map (frame_row files) frames)) (reverse-append rest (f ∷ []))
+rows_back-last : (files : List File) (rest : List Place) (f : Place) → rows_back files (rest ++ f ∷ []) ≡ row_line (place_row files f) ++ rows_back files rest
+rows_back-last files rest f = ap (λ frames. flat_map row_line (map (place_row files) frames)) (reverse-append rest (f ∷ []))
 
 -- a stack of which so many frames are left: the rows of the others were written
-pub record Shown (w : World) (old : Writer) (left : List Frame) (out : Writer) : Type 0 where
+pub record Shown (w : World) (old : Writer) (left : List Place) (out : Writer) : Type 0 where
   pub so_far : List ℕ
   pub wrote : PutsAll old out so_far
   pub rest : so_far ++ rows_back w.files left ≡ flat_map row_line (stack_rows w)
 
-pub Shown-more : (w : World) (old out new : Writer) (left rest : List Frame) (f : Frame) → Shown w old left out → left ≡ rest ++ f ∷ []
-    → PutsAll out new (row_line (frame_row w.files f)) → Shown w old rest new
+pub Shown-more : (w : World) (old out new : Writer) (left rest : List Place) (f : Place) → Shown w old left out → left ≡ rest ++ f ∷ []
+    → PutsAll out new (row_line (place_row w.files f)) → Shown w old rest new
 Shown-more w old out new left rest f s is wrote = record {
-  so_far = s.so_far ++ row_line (frame_row w.files f);
-  wrote = PutsAll-after old out new s.so_far (row_line (frame_row w.files f)) s.wrote wrote;
-  rest = append_assoc s.so_far (row_line (frame_row w.files f)) (rows_back w.files rest)
+  so_far = s.so_far ++ row_line (place_row w.files f);
+  wrote = PutsAll-after old out new s.so_far (row_line (place_row w.files f)) s.wrote wrote;
+  rest = append_assoc s.so_far (row_line (place_row w.files f)) (rows_back w.files rest)
       ∙ ap (λ l. s.so_far ++ l) (sym (rows_back-last w.files rest f))
       ∙ ap (λ l. s.so_far ++ rows_back w.files l) (sym is)
       ∙ s.rest;
 }
 
 -- a row that could not be written
-pub Shown-fault : {A : Type 0} (w : World) (old out new : Writer) (left rest : List Frame) (f : Frame) (r : Result A Fault) (fault : Fault)
+pub Shown-fault : {A : Type 0} (w : World) (old out new : Writer) (left rest : List Place) (f : Place) (r : Result A Fault) (fault : Fault)
     → Shown w old left out → left ≡ rest ++ f ∷ [] → IsErrAnd r (λ e. e ≡ fault)
-    → fault ≡ Write → PutsPrefix out new (row_line (frame_row w.files f)) → Puts old new r (flat_map row_line (stack_rows w))
+    → fault ≡ Write → PutsPrefix out new (row_line (place_row w.files f)) → Puts old new r (flat_map row_line (stack_rows w))
 Shown-fault w old out new left rest f r fault s is e why p =
-    let row = row_line (frame_row w.files f) in
+    let row = row_line (place_row w.files f) in
     let whole : s.so_far ++ (row ++ rows_back w.files rest) ≡ flat_map row_line (stack_rows w) =
     ap (λ l. s.so_far ++ l) (sym (rows_back-last w.files rest f)) ∙ ap (λ l. s.so_far ++ rows_back w.files l) (sym is) ∙ s.rest in
     subst (λ l. Puts old new r l) whole
@@ -59,7 +59,7 @@ Shown-fault w old out new left rest f r fault s is e why p =
 
 -- there are as many rows as frames
 pub stack_rows-length : (w : World) → length (stack_rows w) ≡ length w.frames
-stack_rows-length w = length-map (reverse w.frames) (frame_row w.files) ∙ length-reverse w.frames
+stack_rows-length w = length-map (reverse w.frames) (place_row w.files) ∙ length-reverse w.frames
 
 -- an empty text has no line
 no_lines : lines [] ≡ []

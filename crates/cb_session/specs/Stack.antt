@@ -1,12 +1,12 @@
 -- What a reply shows of the tag stack.
 use Rattle.std.specs.Prelude.{List, map, reverse}
-use Rattle.cb_desk.specs.World.{World, File, Frame, text_of_file}
+use Rattle.cb_desk.specs.World.{World, File, Place, text_of_file}
 use Rattle.cb_desk.specs.Answer.{AnswerRow, line_row}
 
 -- the row of a frame: its line in the file that it names
-abbrev pub frame_row : List File → Frame → AnswerRow
-frame_row files f = line_row f.file (text_of_file files f.file) f.line
+abbrev pub place_row : List File → Place → AnswerRow
+place_row files f = line_row f.file (text_of_file files f.file) f.line
 
 -- a row for each frame, from the top of the stack down
 abbrev pub stack_rows : World → List AnswerRow
-stack_rows w = map (frame_row w.files) (reverse w.frames)
+stack_rows w = map (place_row w.files) (reverse w.frames)

@@ -1,11 +1,11 @@
 //! The tag stack, as a reply shows it.
 ghost use Rattle.std.specs.Prelude.{◌≡◌};
 ghost use Rattle.std.specs.List.{flat_map};
-ghost use Rattle.cb_desk.specs.Models.{row_of, frame_of};
+ghost use Rattle.cb_desk.specs.Models.{row_of, place_at};
 ghost use Rattle.cb_desk.specs.World.{text_of_file};
 ghost use Rattle.cb_session.specs.Output.{answer_lines, row_line};
 ghost use Rattle.cb_session.specs.steps.Words.{text_found};
-ghost use Rattle.cb_session.specs.Stack.{frame_row, stack_rows};
+ghost use Rattle.cb_session.specs.Stack.{place_row, stack_rows};
 ghost use Rattle.cb_session.specs.Writing.{Puts};
 
 use crate::Fault;
@@ -29,8 +29,8 @@ fn text_of<'a>(desk: &'a Desk, name: &[u8]) -> Option<&'a Source>
 }
 
 /// The row of a frame.
-fn frame_row<'a>(desk: &'a Desk, file: &'a [u8], line: u32) -> RefRow<'a>
-    ensures { row_of result ≡ frame_row desk.now.present.files (frame_of (file.entry, line)) }
+fn place_row<'a>(desk: &'a Desk, file: &'a [u8], line: u32) -> RefRow<'a>
+    ensures { row_of result ≡ place_row desk.now.present.files (place_at (file.entry, line)) }
 {
     match text_of(desk, file) {
         Some(source) => line_row(file, source, line),
@@ -49,7 +49,7 @@ fn put_frames<W: Write>(out: &mut Sink<W>, desk: &Desk) -> Result<(), Fault>
 {
     let mut frames = desk.frames();
     while let Some((file, line)) = frames.next_back() {
-        put_row(out, &frame_row(desk, file, line))?;
+        put_row(out, &place_row(desk, file, line))?;
     }
     Ok(())
 }

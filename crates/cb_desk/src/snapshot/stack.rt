@@ -4,11 +4,11 @@ ghost use Rattle.cb_desk.specs.Stack.{nth, places, push_refusal, pushed, pop_ref
 
 use crate::Refusal;
 use crate::snapshot::Snapshot;
-use crate::stack::{Frame, nth_place};
+use crate::stack::{Place, nth_place};
 use std::alloc::{AllocError, Global};
 
 /// Why nothing is pushed, if there is no place.
-pub(crate) fn push_refusal(place: &Option<Frame>) -> Option<Refusal>
+pub(crate) fn push_refusal(place: &Option<Place>) -> Option<Refusal>
     ensures { result ≡ push_refusal place.now }
 {
     match place {
@@ -25,14 +25,14 @@ impl Snapshot {
         alloc: Global,
         name: &[u8],
         n: u64,
-    ) -> Result<Option<Frame>, AllocError>
+    ) -> Result<Option<Place>, AllocError>
         ensures { IfOk result (λ place. place ≡ nth n (places self.now.files name.now)) }
     {
         nth_place(alloc, self.files.as_slice(), name, n)
     }
 
     /// The world with one more frame on top, if there is a place.
-    pub(crate) fn pushed(&self, place: Option<Frame>) -> Result<Snapshot, AllocError>
+    pub(crate) fn pushed(&self, place: Option<Place>) -> Result<Snapshot, AllocError>
         ensures { IfOk result (λ w. w ≡ pushed self.now place) }
     {
         let mut next = self.copied()?;

@@ -7,7 +7,7 @@ ghost use Rattle.cb_desk.specs.steps.SharedFiles.{files_of};
 
 use crate::files::StoredFile;
 use crate::found::defined_name;
-use crate::stack::Frame;
+use crate::stack::Place;
 use cb_scan::{Meter, Source, scan};
 use std::alloc::{AllocError, Global};
 use std::rc::Rc;
@@ -36,7 +36,7 @@ pub(crate) fn nth_place(
     files: &[Rc<StoredFile>],
     name: &[u8],
     n: u64,
-) -> Result<Option<Frame>, AllocError>
+) -> Result<Option<Place>, AllocError>
     ensures { IfOk result (λ place. place ≡ nth n (places (files_of files.now) name.now)) }
 {
     if n == 0 {
@@ -46,7 +46,7 @@ pub(crate) fn nth_place(
     for file in files {
         let lines = lines_defining(alloc, file.source(), name)?;
         match lines.get(passed as usize) {
-            Some(line) => return Ok(Some(Frame::new(file.clone()?, *line))),
+            Some(line) => return Ok(Some(Place::new(file.clone()?, *line))),
             None => passed -= lines.len() as u64,
         }
     }

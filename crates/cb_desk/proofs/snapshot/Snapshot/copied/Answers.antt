@@ -1,9 +1,9 @@
 use Rattle.std.proofs.Common.{◌∙◌, ap, List}
-use Rattle.cb_desk.specs.World.{World, File, Frame}
+use Rattle.cb_desk.specs.World.{World, File, Place}
 use Rattle.cb_desk.proofs.Placed.{list-same, map-same}
 use Rattle.cb_desk.proofs.snapshot.Snapshot.copied.Goals as goal
 
-abbrev made : List File → List Frame → World
+abbrev made : List File → List Place → World
 made files frames = record { files = files; frames = frames }
 
 pub returns : goal.returns

@@ -1,7 +1,7 @@
 use Rattle.std.proofs.Common.{◌∙◌, sym, ap}
 use Rattle.cb_desk.specs.Answer.{line_row}
 use Rattle.cb_session.proofs.Shown.{line_row-empty}
-use Rattle.cb_session.proofs.stack.frame_row.Goals as goal
+use Rattle.cb_session.proofs.stack.place_row.Goals as goal
 
 pub returns-in-None : goal.returns-in-None
 returns-in-None c =
