@@ -1,8 +1,10 @@
 pub mod Counting
 pub mod Distinct
 pub mod FoundRows
-pub mod FrameLemmas
 pub mod Moves
+pub mod MarkLemmas
+pub mod PlaceLemmas
+pub mod PlaceOrder
 pub mod Placed
 pub mod StepsValid
 pub mod Swaps

@@ -1,4 +1,5 @@
 pub mod Collects
+pub mod Held
 pub mod Scans
-pub mod SharedFiles
+pub mod Shared
 pub mod Worlds

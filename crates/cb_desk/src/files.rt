@@ -2,13 +2,13 @@
 ghost use Rattle.std.specs.Prelude.{◌≡◌};
 ghost use Rattle.std.specs.Iterator.{YieldsFirstBy, item_count};
 ghost use Rattle.cb_desk.specs.Models.{file_of};
-ghost use Rattle.cb_desk.specs.steps.SharedFiles.{files_of};
+ghost use Rattle.cb_desk.specs.steps.Shared.{files_of};
 
 mod list;
 mod stored;
 
 use cb_scan::Source;
-pub(crate) use list::{add_file, has_name, remove_file, with_name};
+pub(crate) use list::{add_file, find_file, has_name, remove_file, with_name};
 use std::marker::Model;
 use std::rc::Rc;
 pub(crate) use stored::StoredFile;
@@ -22,7 +22,7 @@ pub struct Files<'a> {
 impl<'a> Model for Files<'a> {
     ghost use Rattle.std.specs.Prelude.{List};
     ghost use Rattle.cb_desk.specs.World.{File};
-    ghost use Rattle.cb_desk.specs.steps.SharedFiles.{files_of};
+    ghost use Rattle.cb_desk.specs.steps.Shared.{files_of};
 
     ghost Value = { List File };
 

@@ -1,12 +1,12 @@
 //! The files of a world as a list, ascending by the bytes of their names.
-ghost use Rattle.std.specs.Prelude.{◌≡◌, ◌≤◌, IsTrue, length, count_by, IfOk};
+ghost use Rattle.std.specs.Prelude.{◌≡◌, ◌≤◌, IsTrue, true, false, length, count_by, IfOk, MatchOption};
 ghost use Rattle.std.specs.List.{list_any};
 ghost use Rattle.std.specs.Str.{bytes_eq};
 ghost use Rattle.std.specs.Ordering.{nat_cmp, is_lt};
 ghost use Rattle.std.specs.Cmp.Lexicographic.{slice_cmp};
 ghost use Rattle.cb_desk.specs.Files.{with_file, without_file};
 ghost use Rattle.cb_desk.specs.World.{has_file, text_of_file, IsAscending};
-ghost use Rattle.cb_desk.specs.steps.SharedFiles.{files_of};
+ghost use Rattle.cb_desk.specs.steps.Shared.{files_of};
 
 use crate::files::StoredFile;
 use std::alloc::AllocError;
@@ -30,6 +30,14 @@ pub(crate) fn with_name<'a>(files: &'a [Rc<StoredFile>], name: &[u8]) -> &'a Sto
         }
     }
     unreachable!()
+}
+
+/// The file of that name, if there is one.
+pub(crate) fn find_file<'a>(files: &'a [Rc<StoredFile>], name: &[u8]) -> Option<&'a Rc<StoredFile>>
+    requires { IsAscending (files_of files.now) }
+    ensures { MatchOption result (has_file (files_of files.now) name.now ≡ false) (λ f. (f.now.value.name ≡ name.now) × (has_file (files_of files.now) name.now ≡ true) × (f.now.value.bytes ≡ text_of_file (files_of files.now) name.now)) }
+{
+    None
 }
 
 /// How many of the files have a lower name: the index at which a new file of that name is put.

@@ -1,6 +1,6 @@
 use Rattle.std.proofs.Common.{◌≡◌, ◌∙◌, refl, rules}
 use Rattle.cb_desk.proofs.Counting.{lines_named, placed-here, placed-later}
-use Rattle.cb_desk.proofs.stack.places.nth_place.Goals as goal
+use Rattle.cb_desk.proofs.stack.nth_place.Goals as goal
 
 pub returns-in-Some : goal.returns-in-Some
 returns-in-Some c =
