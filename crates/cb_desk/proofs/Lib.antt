@@ -3,6 +3,7 @@ pub mod Distinct
 pub mod FoundRows
 pub mod FrameLemmas
 pub mod Moves
+pub mod NamedFile
 pub mod Placed
 pub mod StepsValid
 pub mod Swaps

@@ -3,6 +3,8 @@ pub mod Files
 pub mod Laws
 pub mod Models
 pub mod Refusals
+pub mod Replacement
+pub mod Search
 pub mod Stack
 pub mod Step
 pub mod StepExamples

@@ -1,5 +1,5 @@
 -- A text with every match of a pattern replaced, on some of its lines.
-use Rattle.std.specs.Prelude.{◌≡◌, ℕ, ◌==◌, Bool, List, [], ◌∷◌, ◌++◌, length, drop, Some, None, if◌then◌else◌}
+use Rattle.std.specs.Prelude.{◌≡◌, ℕ, ◌==◌, ◌+◌, Bool, List, [], ◌∷◌, ◌++◌, length, drop, Some, None, if◌then◌else◌}
 use Rattle.std.specs.List.{flat_map, list_any, range_with_len, slice_index_or}
 use Rattle.bstr.specs.Text.{lines_of, without_terminator, split_at}
 use Rattle.memchr.specs.Find.{FindsNeedle, matches}

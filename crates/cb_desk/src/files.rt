@@ -8,7 +8,7 @@ mod list;
 mod stored;
 
 use cb_scan::Source;
-pub(crate) use list::{add_file, has_name, remove_file, with_name};
+pub(crate) use list::{add_file, find_file, has_name, remove_file, with_name};
 use std::marker::Model;
 use std::rc::Rc;
 pub(crate) use stored::StoredFile;
