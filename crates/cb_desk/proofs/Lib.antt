@@ -1,10 +1,12 @@
 pub mod Counting
 pub mod Distinct
 pub mod FoundRows
+pub mod HeldRows
 pub mod Moves
-pub mod MarkLemmas
+pub mod MarksValid
 pub mod PlaceLemmas
 pub mod PlaceOrder
+pub mod NamedFile
 pub mod Placed
 pub mod StepsValid
 pub mod Swaps

@@ -150,6 +150,10 @@ still-gone files gone name e =
     has-kept (λ f. not (is_named gone f)) (not (bytes_eq name gone)) name (λ f h. ap (λ n. not (bytes_eq n gone)) (same-name f.name name h)) files
     ∙ rw e (elim (not (bytes_eq name gone)) as (λ b. cond b false false ≡ false) [ true ↦ refl | false ↦ refl ])
 
+-- the files in which that of the old name has the new one
+abbrev pub moved : List File → List ℕ → List ℕ → List File
+moved files old new = with_file (record { name = new; bytes = text_of_file files old }) (without_file old files)
+
 -- a relation of a text and a line
 abbrev pub IsAt : (List ℕ → ℕ → Type 0) → List File → Place → Type 0
 IsAt R files p = R (text_of_file files p.file) p.line
@@ -175,12 +179,9 @@ module _ (R : List ℕ → ℕ → Type 0) (lies : (text : List ℕ) (n : ℕ) �
       (all-filter (IsAt R files) (λ (p : Place). not (is_in name p)) places all)
 
   module _ (files : List File) (old new : List ℕ) (fresh : has_file files new ≡ false) where
-    abbrev moved : List File
-    moved = with_file (record { name = new; bytes = text_of_file files old }) (without_file old files)
-
-    place-renamed : (p : Place) → IsAt R files p → IsAt R moved (renamed_place old new p)
+    place-renamed : (p : Place) → IsAt R files p → IsAt R (moved files old new) (renamed_place old new p)
     place-renamed p is =
-        (elim (bytes_eq p.file old) as (λ b. bytes_eq p.file old ≡ b → IsAt R moved (cond b (record p { file = new }) p)) [
+        (elim (bytes_eq p.file old) as (λ b. bytes_eq p.file old ≡ b → IsAt R (moved files old new) (cond b (record p { file = new }) p)) [
           | true ↦ λ e.
               subst (λ text. R text p.line) (ap (text_of_file files) (same-name p.file old e) ∙ sym (text-with-here (record { name = new; bytes = text_of_file files old }) (without_file old files) (still-gone files old new fresh))) is
           | false ↦ λ e.
@@ -189,7 +190,7 @@ module _ (R : List ℕ → ℕ → Type 0) (lies : (text : List ℕ) (n : ℕ) �
         ]) refl
 
     -- the places of a file go with its name, and the others stay
-    pub places-renamed : (places : List Place) → AllByRecursion (IsAt R files) places → AllByRecursion (IsAt R moved) (renamed_places old new places)
+    pub places-renamed : (places : List Place) → AllByRecursion (IsAt R files) places → AllByRecursion (IsAt R (moved files old new)) (renamed_places old new places)
     places-renamed [] all = tt
     places-renamed (p ∷ places) all = (place-renamed p all.0, places-renamed places all.1)
 

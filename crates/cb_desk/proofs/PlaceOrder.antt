@@ -1,5 +1,5 @@
 -- Places in the order of their keys: no two are equal, and what is put among them keeps the order.
-use Rattle.std.proofs.Common.{◌≡◌, ◌≢◌, ◌∙◌, sym, ap, refl, subst, ℕ, suc, zero, Bool, true, false, not, cond, List, [], ◌∷◌, ◌++◌, map, nat_cmp, Ordering, Less, Equal, Greater}
+use Rattle.std.proofs.Common.{◌≡◌, ◌≢◌, ◌∙◌, sym, ap, refl, subst, ℕ, suc, zero, Bool, true, false, not, cond, List, [], ◌∷◌, ◌++◌, map, bytes_eq, ◌<◌, arith, nat_cmp, Ordering, Less, Equal, Greater}
 use Rattle.std.specs.List.{AllByRecursion}
 use Rattle.std.specs.List.Sorted.{IsStrictlySortedBy}
 use Rattle.std.specs.Cmp.Lexicographic.{slice_cmp}
@@ -104,6 +104,23 @@ module _ {X : Type 0} (key : X → List ℕ) where
       subst (λ l. Strict (put key x l)) (in_order-same ys strict) (in_order-strict (x ∷ ys) (new, apart-from ys strict))
 
 -- ---- keys of places
+pub nat-less : (n m : ℕ) → n < m → nat_cmp n m ≡ Less
+nat-less n m is = grind (arith, is)
+
+nat-greater : (n m : ℕ) → m < n → nat_cmp n m ≡ Greater
+nat-greater n m is = grind (arith, is)
+
+nat-raised : (n m : ℕ) → nat_cmp (suc n) (suc m) ≡ nat_cmp n m
+nat-raised n m = grind arith
+
+pub name-equal : (a : List ℕ) → slice_cmp nat_cmp a a ≡ Equal
+name-equal a = equal-from (slice_cmp nat_cmp a a) (is_eq-slice_cmp a a ∙ (bytes_eq-Decides a a).1 refl)
+  where
+    equal-from : (o : Ordering) → is_eq o ≡ true → o ≡ Equal
+    equal-from Less e = cc
+    equal-from Equal e = refl
+    equal-from Greater e = cc
+
 -- places go by the bytes of the files' names, and then by line
 pub cmp-places : (a b : List ℕ) (l m : ℕ) → slice_cmp nat_cmp (map suc a ++ 0 ∷ l ∷ []) (map suc b ++ 0 ∷ m ∷ []) ≡ ordering_then (slice_cmp nat_cmp a b) (nat_cmp l m)
 cmp-places [] [] l m = then-equal (nat_cmp l m)
@@ -112,10 +129,10 @@ cmp-places [] [] l m = then-equal (nat_cmp l m)
     then-equal Less = refl
     then-equal Equal = refl
     then-equal Greater = refl
-cmp-places [] (y ∷ b) l m = refl
-cmp-places (x ∷ a) [] l m = refl
+cmp-places [] (y ∷ b) l m = rw (nat-less 0 (suc y) (omega arith)) refl
+cmp-places (x ∷ a) [] l m = rw (nat-greater (suc x) 0 (omega arith)) refl
 cmp-places (x ∷ a) (y ∷ b) l m =
-    ap (ordering_then (nat_cmp (suc x) (suc y))) (cmp-places a b l m) ∙ assoc (nat_cmp x y) (slice_cmp nat_cmp a b) (nat_cmp l m)
+    ap (ordering_then (nat_cmp (suc x) (suc y))) (cmp-places a b l m) ∙ rw (nat-raised x y) (assoc (nat_cmp x y) (slice_cmp nat_cmp a b) (nat_cmp l m))
   where
     assoc : (o p q : Ordering) → ordering_then o (ordering_then p q) ≡ ordering_then (ordering_then o p) q
     assoc Less p q = refl

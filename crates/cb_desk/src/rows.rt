@@ -113,7 +113,7 @@ impl<'a> RowList<'a> {
 
     /// All rows of lines that hold a text. No two of them are equal.
     pub(crate) fn collected(alloc: Global, rows: TextRows<'a, '_>) -> Result<RowList<'a>, AllocError>
-        ensures { IfOk result (λ list. list ≡ rows) }
+        ensures { IfOk result (λ list. list ≡ rows.entry) }
     {
         let mut list = Vec::new(alloc);
         for row in rows {
@@ -256,7 +256,7 @@ impl<'a, 'p> Model for TextRows<'a, 'p> {
 impl<'a, 'p> TextRows<'a, 'p> {
     pub(crate) fn new(files: Files<'a>, pattern: &'p [u8]) -> TextRows<'a, 'p>
         requires { pattern.now ≢ [] }
-        ensures { result ≡ flat_map (text_rows_in pattern.now) files }
+        ensures { result ≡ flat_map (text_rows_in pattern.now) files.entry }
     {
         TextRows { files, finder: Finder::new(pattern) }
     }

@@ -6,7 +6,8 @@ ghost use Rattle.std.specs.Ordering.{nat_cmp, is_lt};
 ghost use Rattle.std.specs.Cmp.Lexicographic.{slice_cmp};
 ghost use Rattle.cb_desk.specs.Files.{with_file, without_file};
 ghost use Rattle.cb_desk.specs.World.{has_file, text_of_file, IsAscending};
-ghost use Rattle.cb_desk.specs.steps.Shared.{files_of};
+ghost use Rattle.std.specs.Option.{option_map};
+ghost use Rattle.cb_desk.specs.steps.Shared.{files_of, file_named};
 
 use crate::files::StoredFile;
 use std::alloc::AllocError;
@@ -32,12 +33,25 @@ pub(crate) fn with_name<'a>(files: &'a [Rc<StoredFile>], name: &[u8]) -> &'a Sto
     unreachable!()
 }
 
-/// The file of that name, if there is one.
-pub(crate) fn find_file<'a>(files: &'a [Rc<StoredFile>], name: &[u8]) -> Option<&'a Rc<StoredFile>>
+/// The file of that name, if there is one, by binary search.
+#[tactic(auto, unfolding(crate::specs::steps::Shared::is_below))]
+pub(crate) fn find_file<'a>(
+    files: &'a [Rc<StoredFile>],
+    name: &[u8],
+) -> Option<&'a Rc<StoredFile>>
     requires { IsAscending (files_of files.now) }
-    ensures { MatchOption result (has_file (files_of files.now) name.now ≡ false) (λ f. (f.now.value.name ≡ name.now) × (has_file (files_of files.now) name.now ≡ true) × (f.now.value.bytes ≡ text_of_file (files_of files.now) name.now)) }
+    ensures { option_map (λ shared. shared.now.value) result ≡ file_named (files_of files.now) name.now }
 {
-    None
+    let index = files.partition_point(|file| file.name().cmp(name).is_lt());
+    if index >= files.len() {
+        return None;
+    }
+    let file = &files[index];
+    if file.name() == name {
+        Some(file)
+    } else {
+        None
+    }
 }
 
 /// How many of the files have a lower name: the index at which a new file of that name is put.

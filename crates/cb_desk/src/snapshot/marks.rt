@@ -72,7 +72,7 @@ impl Snapshot {
 
     /// The world in which a place is marked, or no longer marked.
     pub(crate) fn toggled_at(&self, place: Option<Spot<'_>>) -> Result<Snapshot, AllocError>
-        ensures { IfOk result (λ w. w ≡ toggled_at self.now place) }
+        ensures { IfOk result (λ w. w ≡ toggled_at self.now place.entry) }
     {
         let mut next = self.copied()?;
         if let Some(spot) = place {

@@ -35,7 +35,7 @@ impl Snapshot {
 
     /// The world with one more frame on top, if there is a place.
     pub(crate) fn pushed(&self, place: Option<Spot<'_>>) -> Result<Snapshot, AllocError>
-        ensures { IfOk result (λ w. w ≡ pushed self.now place) }
+        ensures { IfOk result (λ w. w ≡ pushed self.now place.entry) }
     {
         let mut next = self.copied()?;
         if let Some(spot) = place {
