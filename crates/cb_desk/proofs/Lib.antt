@@ -2,6 +2,7 @@ pub mod Counting
 pub mod Distinct
 pub mod FoundRows
 pub mod FrameLemmas
+pub mod Gaps
 pub mod Moves
 pub mod NamedFile
 pub mod Placed
