@@ -113,7 +113,7 @@ module _ (t p : List ℕ) (some : 0 < length p) where
       }
 
   -- a cut has a first gap
-  first-gap : (last : ℕ) (ks : List ℕ) (P : List (List ℕ) → Type 0) → ((h : List ℕ) (gs : List (List ℕ)) → split_at t (length p) last ks ≡ h ∷ gs → P (h ∷ gs)) → P (split_at t (length p) last ks)
+  pub first-gap : (last : ℕ) (ks : List ℕ) (P : List (List ℕ) → Type 0) → ((h : List ℕ) (gs : List (List ℕ)) → split_at t (length p) last ks ≡ h ∷ gs → P (h ∷ gs)) → P (split_at t (length p) last ks)
   unfolding split_at
   first-gap last [] P given = given (drop last t) [] refl
   first-gap last (k ∷ ks) P given = given (part last k t) (split_at t (length p) (k + length p) ks) refl
@@ -147,7 +147,7 @@ module _ (t p : List ℕ) (some : 0 < length p) where
       (λ k a b occurs. ⊎_elim (λ here. other (subst (OccursAt t p) here occurs)) (λ before. none k a (omega arith) occurs) (cases_eq k i))))
       (cases_Bool (occurs_at t p i))
 
-some-length : (p : List ℕ) → p ≢ [] → 0 < length p
+pub some-length : (p : List ℕ) → p ≢ [] → 0 < length p
 some-length [] other = absurd (other refl)
 some-length (b ∷ bs) other = omega arith
 

@@ -3,9 +3,11 @@ pub mod Distinct
 pub mod FoundRows
 pub mod FrameLemmas
 pub mod Gaps
+pub mod MarkedLines
 pub mod Moves
 pub mod NamedFile
 pub mod Placed
+pub mod ReplacedLines
 pub mod StepsValid
 pub mod Swaps
 pub mod TagOrder

@@ -1,4 +1,5 @@
 pub mod Collects
+pub mod MarkedLines
 pub mod Scans
 pub mod SharedFiles
 pub mod Worlds
