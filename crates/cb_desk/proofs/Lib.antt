@@ -1,10 +1,13 @@
 pub mod Counting
 pub mod Distinct
 pub mod FoundRows
-pub mod FrameLemmas
 pub mod Gaps
+pub mod HeldRows
 pub mod MarkedLines
 pub mod Moves
+pub mod MarksValid
+pub mod PlaceLemmas
+pub mod PlaceOrder
 pub mod NamedFile
 pub mod Placed
 pub mod ReplacedLines

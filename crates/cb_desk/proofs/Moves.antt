@@ -5,7 +5,7 @@ use Rattle.cb_desk.specs.declared.limits.TheConstants.{MOST_CHANGES}
 use Rattle.cb_desk.specs.declared.refusal.Refusal.{Refusal}
 use Rattle.cb_desk.specs.declared.refusal.Refusal.TheVariants.{HistoryFull, OutOfMemory}
 use Rattle.cb_desk.specs.World.{World, IsValidWorld}
-use Rattle.cb_desk.specs.Step.{Step, load, unload, rename, tag, pop, refusal_of, after, step}
+use Rattle.cb_desk.specs.Step.{Step, load, unload, rename, want, mark, mark_all, replace, tag, pop, refusal_of, after, step}
 use Rattle.cb_desk.specs.Timeline.{Timeline, IsValidTimeline, moved_on, advanced, changed, back_to, undone, on_to, redone, judged, Changes}
 use Rattle.cb_desk.specs.Laws.{UndoTakesBack, RedoTakesBack}
 use Rattle.cb_desk.proofs.StepsValid.{step_keeps_valid}
@@ -101,6 +101,10 @@ no-memory-when-done : (s : Step) (t : Timeline) → judged true s (Ok t) ≡ Err
 no-memory-when-done (load name bytes) t = refl
 no-memory-when-done (unload name) t = refl
 no-memory-when-done (rename old new) t = refl
+no-memory-when-done (want text) t = refl
+no-memory-when-done (mark n) t = refl
+no-memory-when-done mark_all t = refl
+no-memory-when-done (replace text) t = refl
 no-memory-when-done (tag name n) t = refl
 no-memory-when-done pop t = refl
 

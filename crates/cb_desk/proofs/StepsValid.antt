@@ -1,16 +1,24 @@
 -- Steps keep a world valid.
-use Rattle.std.proofs.Common.{◌≡◌, refl, ℕ, ◌≤◌, ◌<◌, Bool, true, false, not, cond, List, [], ◌∷◌, length, arith, Ok, Option, Some, None, nat_le, nat_lt}
+use Rattle.std.proofs.Common.{◌≡◌, ◌∙◌, sym, ap, refl, subst, ℕ, zero, suc, ◌≤◌, ◌<◌, Bool, true, false, not, cond, List, [], ◌∷◌, length, slice_get, arith, Ok, Option, Some, None, nat_le, nat_lt}
+use Rattle.std.specs.List.{list_any}
+use Rattle.std.specs.List.Sorted.{IsStrictlySortedBy}
+use Rattle.cb_scan.specs.Lines.{IsLineOf}
 use Rattle.cb_desk.specs.declared.limits.TheConstants.{MOST_BYTES, MOST_FILES}
 use Rattle.cb_desk.specs.declared.refusal.Refusal.{Refusal}
-use Rattle.cb_desk.specs.declared.refusal.Refusal.TheVariants.{BadName, NoSuchFile, FileExists, TooLarge, TooManyFiles}
+use Rattle.cb_desk.specs.declared.refusal.Refusal.TheVariants.{BadName, NoSuchFile, FileExists, BadText, TooLarge, TooManyFiles}
 use Rattle.cb_tags.specs.Names.{is_file_name}
-use Rattle.cb_desk.specs.World.{World, File, Place, has_file, text_of_file, IsPlaceOf, IsValidWorld}
+use Rattle.cb_desk.specs.World.{World, File, Place, has_file, text_of_file, is_short, IsAscending, IsPlaceOf, IsMarkIn, AreMarksFor, AreValidMarks, IsValidWorld}
 use Rattle.cb_desk.specs.Files.{load_refusal, loaded, unloaded, rename_refusal, renamed, without_file}
-use Rattle.cb_desk.specs.Stack.{pushed, nth, places}
-use Rattle.cb_desk.specs.Step.{Step, load, unload, rename, tag, pop, refusal_of, after, step, unless_refused}
+use Rattle.cb_desk.specs.Marks.{toggled, want_refusal, wanting, wanted_places, mark_refusal, toggled_at, mark_all_refusal, all_marked, marked_refusal, replace_refusal, replaced_on_marks, replaced_files, is_too_large}
+use Rattle.cb_desk.specs.Places.{nth}
+use Rattle.cb_desk.specs.Stack.{pushed, places}
+use Rattle.cb_desk.specs.steps.Held.{held_places}
+use Rattle.cb_desk.specs.Step.{Step, load, unload, rename, want, mark, mark_all, replace, tag, pop, refusal_of, after, step, unless_refused}
 use Rattle.cb_desk.specs.Laws.{StepKeepsValid}
 use Rattle.cb_desk.proofs.Valid.{with_file-valid, without_file-valid, without_file-fewer, all-join}
-use Rattle.cb_desk.proofs.FrameLemmas.{text-small, frames-with, frames-without, frames-renamed, still-gone, nth-place, all-take}
+use Rattle.cb_desk.proofs.HeldRows.{wanted-held}
+use Rattle.cb_desk.proofs.MarksValid.{marks-with, marks-without, marks-renamed, marks-toggled, held-ascend, held-marks, replaced-valid, frames-kept}
+use Rattle.cb_desk.proofs.PlaceLemmas.{IsAt, at-place, text-small, places-with, places-without, places-renamed, still-gone, nth-place, all-take}
 
 not-refused : (o : Option Refusal) (w v : World) → unless_refused o w ≡ Ok v → (o ≡ None) × (v ≡ w)
 not-refused None w v e = (refl, cc)
@@ -59,14 +67,22 @@ renamable w old new none =
 abbrev file_of_new : World → List ℕ → List ℕ → File
 file_of_new w old new = record { name = new; bytes = text_of_file w.files old }
 
+line-lies : (text : List ℕ) (n : ℕ) → IsLineOf text n → IsLineOf text n
+line-lies text n is = is
+
 load-valid : (w : World) (name bytes : List ℕ) → IsValidWorld w → Loadable w name bytes → IsValidWorld (loaded w name bytes)
 load-valid w name bytes valid may = record {
   files = with_file-valid w.files (record { name = name; bytes = bytes }) valid.files may.good may.fresh may.small may.room;
-  frames = frames-with w.files (record { name = name; bytes = bytes }) w.frames may.fresh valid.frames;
+  marks = marks-with w.files (record { name = name; bytes = bytes }) w.wanted w.marks may.fresh valid.marks;
+  frames = places-with IsLineOf line-lies w.files (record { name = name; bytes = bytes }) w.frames may.fresh valid.frames;
 }
 
 unload-valid : (w : World) (name : List ℕ) → IsValidWorld w → IsValidWorld (unloaded w name)
-unload-valid w name valid = record { files = without_file-valid w.files name valid.files; frames = frames-without w.files name w.frames valid.frames }
+unload-valid w name valid = record {
+  files = without_file-valid w.files name valid.files;
+  marks = marks-without w.files name w.wanted w.marks valid.marks;
+  frames = places-without IsLineOf line-lies w.files name w.frames valid.frames;
+}
 
 rename-valid : (w : World) (old new : List ℕ) → IsValidWorld w → Renamable w old new → IsValidWorld (renamed w old new)
 rename-valid w old new valid may =
@@ -74,20 +90,89 @@ rename-valid w old new valid may =
     let count = valid.files.count in
     record {
       files = with_file-valid (without_file old w.files) (file_of_new w old new) (without_file-valid w.files old valid.files) may.good (still-gone w.files old new may.fresh) (text-small w.files old valid.files.sizes) (omega (arith, fewer, count));
-      frames = frames-renamed w.files old new may.fresh w.frames valid.frames;
+      marks = marks-renamed w.files old new may.fresh w.wanted w.marks valid.marks;
+      frames = places-renamed IsLineOf line-lies w.files old new may.fresh w.frames valid.frames;
     }
 
--- the frame that is pushed is one of the world
+-- the place that is pushed is one of the world
 push-valid : (w : World) (o : Option Place) → IsValidWorld w → ((f : Place) → o ≡ Some f → IsPlaceOf w.files f) → IsValidWorld (pushed w o)
 push-valid w None valid is = valid
-push-valid w (Some f) valid is = record { files = valid.files; frames = all-join (IsPlaceOf w.files) w.frames (f ∷ []) valid.frames (is f refl, tt) }
+push-valid w (Some f) valid is = record { files = valid.files; marks = valid.marks; frames = all-join (IsPlaceOf w.files) w.frames (f ∷ []) valid.frames (is f refl, tt) }
+
+-- ---- marks
+-- what an accepted want says of the text
+wantable : (text : List ℕ) → want_refusal text ≡ None → (is_short text ≡ true) × (1 ≤ length text)
+wantable [] none = cc
+wantable (b ∷ bs) none =
+    (elim (is_short (b ∷ bs)) as (λ s. is_short (b ∷ bs) ≡ s → cond s None (Some BadText) ≡ None → (is_short (b ∷ bs) ≡ true) × (1 ≤ length (b ∷ bs))) [
+      | true ↦ λ h k. (h, omega arith)
+      | false ↦ λ h k. cc
+    ]) refl none
+
+want-valid : (w : World) (text : List ℕ) → IsValidWorld w → want_refusal text ≡ None → IsValidWorld (wanting w text)
+unfolding IsStrictlySortedBy
+want-valid w text valid none =
+    let may = wantable text none in
+    record { files = valid.files; marks = record { short = may.0; some = may.1; held = tt; ascending = tt }; frames = valid.frames }
+
+-- the nth place of those that can be marked
+mark-valid : (w : World) (wanted : Option (List ℕ)) (n : ℕ) (place : Option Place) → w.wanted ≡ wanted → place ≡ nth n (wanted_places w) → IsValidWorld w → mark_refusal wanted place ≡ None → IsValidWorld (toggled_at w place)
+mark-valid w None n place is at valid none = cc
+mark-valid w (Some text) n None is at valid none = cc
+mark-valid w (Some text) zero (Some p) is at valid none = cc
+mark-valid w (Some text) (suc n) (Some p) is at valid none =
+    let held = wanted-held w text is valid.files.ascending in
+    let there = at-place (IsAt (IsMarkIn text) w.files) (held_places text w.files) n p (held-marks text w.files valid.files.ascending) (ap (λ ps. slice_get ps n) (sym held) ∙ sym at) in
+    let marks = subst (λ o. AreValidMarks w.files o w.marks) is valid.marks in
+    record {
+      files = valid.files;
+      marks = subst (λ o. AreValidMarks w.files o (toggled p w.marks)) (sym is) (marks-toggled w.files text w.marks p there marks);
+      frames = valid.frames;
+    }
+
+mark_all-valid : (w : World) (wanted : Option (List ℕ)) → w.wanted ≡ wanted → IsValidWorld w → mark_all_refusal wanted ≡ None → IsValidWorld (all_marked w)
+mark_all-valid w None is valid none = cc
+mark_all-valid w (Some text) is valid none =
+    let held = wanted-held w text is valid.files.ascending in
+    let marks = subst (λ o. AreValidMarks w.files o w.marks) is valid.marks in
+    record {
+      files = valid.files;
+      marks = subst (λ o. AreValidMarks w.files o (wanted_places w)) (sym is) (subst (AreMarksFor w.files text) (sym held) (record {
+        short = marks.short;
+        some = marks.some;
+        held = held-marks text w.files valid.files.ascending;
+        ascending = held-ascend text w.files valid.files.ascending;
+      }));
+      frames = valid.frames;
+    }
+
+-- what an accepted change of a text says of the files after it
+not-large : (w : World) (old new : List ℕ) (marks : List Place) → marked_refusal w (Some old) marks new ≡ None → list_any is_too_large (replaced_files old new w) ≡ false
+not-large w old new [] none = cc
+not-large w old new (p ∷ ps) none = (passed (list_any is_too_large (replaced_files old new w)) TooLarge None none).0
+
+replaced-world : (w : World) (wanted : Option (List ℕ)) (new : List ℕ) → IsValidWorld w → marked_refusal w wanted w.marks new ≡ None → IsValidWorld (replaced_on_marks w wanted new)
+replaced-world w None new valid none = cc
+replaced-world w (Some old) new valid none = record {
+  files = replaced-valid old new w.marks w.files valid.files (not-large w old new w.marks none);
+  marks = refl;
+  frames = frames-kept (replaced_files old new w) w.frames;
+}
+
+pub short-first : (b : Bool) (rest : Option Refusal) → cond b rest (Some BadText) ≡ None → rest ≡ None
+short-first true rest e = e
+short-first false rest e = cc
 
 after-valid : (w : World) (s : Step) → IsValidWorld w → refusal_of w s ≡ None → IsValidWorld (after w s)
 after-valid w (load name bytes) valid due = load-valid w name bytes valid (loadable w name bytes due)
 after-valid w (unload name) valid due = unload-valid w name valid
 after-valid w (rename old new) valid due = rename-valid w old new valid (renamable w old new due)
+after-valid w (want text) valid due = want-valid w text valid due
+after-valid w (mark n) valid due = mark-valid w w.wanted n (nth n (wanted_places w)) refl refl valid due
+after-valid w mark_all valid due = mark_all-valid w w.wanted refl valid due
+after-valid w (replace text) valid due = replaced-world w w.wanted text valid (short-first (is_short text) (marked_refusal w w.wanted w.marks text) due)
 after-valid w (tag name n) valid due = push-valid w (nth n (places w.files name)) valid (λ f e. nth-place w.files name n f valid.files.ascending e)
-after-valid w pop valid due = record { files = valid.files; frames = all-take (IsPlaceOf w.files) _ w.frames valid.frames }
+after-valid w pop valid due = record { files = valid.files; marks = valid.marks; frames = all-take (IsPlaceOf w.files) _ w.frames valid.frames }
 
 pub step_keeps_valid : StepKeepsValid
 unfolding step

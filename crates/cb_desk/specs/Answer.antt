@@ -6,16 +6,21 @@ use Rattle.cb_scan.specs.declared.facts.Def.{Def}
 use Rattle.cb_scan.specs.Definitions.{definitions}
 use Rattle.cb_scan.specs.Lines.{line_text}
 use Rattle.cb_desk.specs.declared.rows.Field.{Field}
-use Rattle.cb_desk.specs.declared.rows.Field.TheVariants.{Definition}
+use Rattle.cb_desk.specs.declared.rows.Field.TheVariants.{Definition, Text}
+use Rattle.cb_desk.specs.Search.{lines_with}
 use Rattle.cb_desk.specs.World.{World, File}
 
 -- the byte of the digit that names a field
 abbrev pub digit_of : Field → ℕ
 digit_of Definition = 0x31
+digit_of Text = 0x34
 
 -- the field that a digit names, if there is one
 abbrev pub field_of_digit : ℕ → Option Field
-field_of_digit digit = if digit == digit_of Definition then Some Definition else None
+field_of_digit digit =
+    if digit == digit_of Definition then Some Definition
+    else (if digit == digit_of Text then Some Text
+    else None)
 
 -- a row of an answer: file, function, line from 1, and text
 pub record AnswerRow : Type 0 where
@@ -75,9 +80,14 @@ definition_row f d = record {
 abbrev pub definition_rows : List ℕ → File → List AnswerRow
 definition_rows pattern f = map (definition_row f) (filter (defines f.bytes pattern) (definitions f.bytes))
 
+-- the rows of the lines that hold a pattern in a file
+abbrev pub text_rows_in : List ℕ → File → List AnswerRow
+text_rows_in pattern f = map (line_row f.name f.bytes) (lines_with pattern f.bytes)
+
 -- the rows of a field in a file
 abbrev pub field_rows : Field → List ℕ → File → List AnswerRow
 field_rows Definition pattern f = definition_rows pattern f
+field_rows Text pattern f = text_rows_in pattern f
 
 -- all rows of a field, by file and place, equal ones included
 abbrev pub all_rows : World → Field → List ℕ → List AnswerRow

@@ -6,8 +6,9 @@ use Rattle.cb_tags.specs.Names.{is_file_name}
 use Rattle.cb_desk.specs.declared.limits.TheConstants.{MOST_BYTES, MOST_FILES}
 use Rattle.cb_desk.specs.declared.refusal.Refusal.{Refusal}
 use Rattle.cb_desk.specs.declared.refusal.Refusal.TheVariants.{BadName, NoSuchFile, FileExists, TooLarge, TooManyFiles}
-use Rattle.cb_desk.specs.Stack.{without_frames, renamed_frames}
-use Rattle.cb_desk.specs.World.{World, File, is_named, has_file, text_of_file}
+use Rattle.cb_scan.specs.Order.{in_order}
+use Rattle.cb_desk.specs.Places.{without_places, renamed_places}
+use Rattle.cb_desk.specs.World.{World, File, is_named, has_file, text_of_file, place_key}
 
 -- the second file comes before the first by the bytes of their names
 abbrev pub is_before : File → File → Bool
@@ -42,9 +43,13 @@ loaded w name bytes = record w { files = with_file (record { name = name; bytes 
 abbrev pub unload_refusal : World → List ℕ → Option Refusal
 unload_refusal w name = if has_file w.files name then None else Some NoSuchFile
 
--- the world without that file and its frames
+-- the world without that file, its marks and its frames
 abbrev pub unloaded : World → List ℕ → World
-unloaded w name = record w { files = without_file name w.files; frames = without_frames name w.frames }
+unloaded w name = record w {
+  files = without_file name w.files;
+  marks = without_places name w.marks;
+  frames = without_places name w.frames;
+}
 
 -- ---- rename
 
@@ -56,9 +61,11 @@ rename_refusal w old new =
     else (if has_file w.files new then Some FileExists
     else None))
 
--- the world in which the file and its frames have the new name
+-- the world in which the file, its marks and its frames have the new name; the marks are sorted
+-- anew, and the frames keep their places in the stack
 abbrev pub renamed : World → List ℕ → List ℕ → World
 renamed w old new = record w {
   files = with_file (record { name = new; bytes = text_of_file w.files old }) (without_file old w.files);
-  frames = renamed_frames old new w.frames;
+  marks = in_order place_key (renamed_places old new w.marks);
+  frames = renamed_places old new w.frames;
 }

@@ -1,7 +1,9 @@
 pub mod Answer
 pub mod Files
 pub mod Laws
+pub mod Marks
 pub mod Models
+pub mod Places
 pub mod Refusals
 pub mod Replacement
 pub mod Search

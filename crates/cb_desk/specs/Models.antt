@@ -2,10 +2,10 @@
 use Rattle.std.specs.Prelude.{ℕ, List}
 use Rattle.std.specs.Borrow.{Bor}
 use Rattle.cb_desk.specs.declared.change.Change.{Change}
-use Rattle.cb_desk.specs.declared.change.Change.TheVariants.{Load, Unload, Rename, Tag, Pop}
+use Rattle.cb_desk.specs.declared.change.Change.TheVariants.{Load, Unload, Rename, Want, Mark, MarkAll, Replace, Tag, Pop}
 use Rattle.cb_desk.specs.declared.rows.RefRow.{RefRow}
 use Rattle.cb_desk.specs.World.{File, Place}
-use Rattle.cb_desk.specs.Step.{Step, load, unload, rename, tag, pop}
+use Rattle.cb_desk.specs.Step.{Step, load, unload, rename, want, mark, mark_all, replace, tag, pop}
 use Rattle.cb_desk.specs.Answer.{AnswerRow}
 
 -- the step that a change asks for
@@ -13,6 +13,10 @@ abbrev pub step_of : Change → Step
 step_of (Load name bytes) = load name.now bytes.items
 step_of (Unload name) = unload name.now
 step_of (Rename old new) = rename old.now new.now
+step_of (Want text) = want text.now
+step_of (Mark n) = mark n
+step_of MarkAll = mark_all
+step_of (Replace text) = replace text.now
 step_of (Tag name n) = tag name.now n
 step_of Pop = pop
 
@@ -24,6 +28,6 @@ row_of r = record { file = r.file.now; function = r.function.now; line = r.line;
 abbrev pub file_of : Bor (List ℕ) × Bor (List ℕ) → File
 file_of p = record { name = p.0.now; bytes = p.1.now }
 
--- the frame that a name and a line stand for
+-- the place that a name and a line stand for
 abbrev pub place_at : Bor (List ℕ) × ℕ → Place
 place_at p = record { file = p.0.now; line = p.1 }

@@ -1,27 +1,12 @@
--- Changes of the tag stack, and what becomes of it when a file goes away or gets another name.
-use Rattle.std.specs.Prelude.{ℕ, zero, suc, ◌-◌, List, [], ◌∷◌, ◌++◌, length, take, slice_get, Option, None, Some, if◌then◌else◌, filter, map, not}
+-- Changes of the tag stack.
+use Rattle.std.specs.Prelude.{ℕ, ◌-◌, List, [], ◌∷◌, ◌++◌, length, take, Option, None, Some, filter, map}
 use Rattle.std.specs.List.{flat_map}
-use Rattle.std.specs.Str.{bytes_eq}
 use Rattle.cb_scan.specs.declared.facts.Def.{Def}
 use Rattle.cb_scan.specs.Definitions.{definitions}
 use Rattle.cb_desk.specs.declared.refusal.Refusal.{Refusal}
 use Rattle.cb_desk.specs.declared.refusal.Refusal.TheVariants.{NoSuchDefinition, StackEmpty}
 use Rattle.cb_desk.specs.Answer.{defines}
 use Rattle.cb_desk.specs.World.{World, File, Place}
-
--- ---- frames of a file
-
--- the frames without those of a file, in the order that they have
-abbrev pub without_frames : List ℕ → List Place → List Place
-without_frames name frames = filter (λ f. not (bytes_eq f.file name)) frames
-
--- a frame of the file of the old name gets the new one
-abbrev pub renamed_frame : List ℕ → List ℕ → Place → Place
-renamed_frame old new f = if bytes_eq f.file old then record f { file = new } else f
-
--- the frames with the new name, each at its place in the stack
-abbrev pub renamed_frames : List ℕ → List ℕ → List Place → List Place
-renamed_frames old new frames = map (renamed_frame old new) frames
 
 -- ---- the place of a definition
 
@@ -33,11 +18,6 @@ places_in name f =
 -- those of all files, by file and place; equal ones all count
 abbrev pub places : List File → List ℕ → List Place
 places files name = flat_map (places_in name) files
-
--- the nth of a list, counted from 1
-abbrev pub nth : {A : Type 0} → ℕ → List A → Option A
-nth zero xs = None
-nth (suc n) xs = slice_get xs n
 
 -- ---- push
 

@@ -3,7 +3,9 @@ use Rattle.std.specs.Prelude.{ℕ, List, Option, None, Some, Result, Ok, Err}
 use Rattle.cb_desk.specs.declared.refusal.Refusal.{Refusal}
 use Rattle.cb_desk.specs.World.{World, Place}
 use Rattle.cb_desk.specs.Files.{load_refusal, loaded, unload_refusal, unloaded, rename_refusal, renamed}
-use Rattle.cb_desk.specs.Stack.{places, nth, push_refusal, pushed, pop_refusal, popped}
+use Rattle.cb_desk.specs.Marks.{want_refusal, wanting, wanted_places, mark_refusal, toggled_at, mark_all_refusal, all_marked, replace_refusal, replaced_on_marks}
+use Rattle.cb_desk.specs.Places.{nth}
+use Rattle.cb_desk.specs.Stack.{places, push_refusal, pushed, pop_refusal, popped}
 
 -- a change of the world
 pub data Step : Type 0 where
@@ -13,16 +15,29 @@ pub data Step : Type 0 where
   unload : (name : List ℕ) → Step
   -- give a file another name
   rename : (old new : List ℕ) → Step
+  -- want a text
+  want : (text : List ℕ) → Step
+  -- mark the nth line that holds the wanted text, counted from 1, or take its mark away
+  mark : (n : ℕ) → Step
+  -- mark every line that holds the wanted text
+  mark_all : Step
+  -- put another text in place of the wanted one on the marked lines
+  replace : (text : List ℕ) → Step
   -- push the place of the nth definition of a name, counted from 1
   tag : (name : List ℕ) (n : ℕ) → Step
   -- take the top frame away
   pop : Step
 
--- the place that a step asks for: a tag the nth definition of its name
+-- the place that a step asks for: a mark the nth line that holds the wanted text, a tag the nth
+-- definition of its name
 abbrev pub place_of : World → Step → Option Place
 place_of w (load name bytes) = None
 place_of w (unload name) = None
 place_of w (rename old new) = None
+place_of w (want text) = None
+place_of w (mark n) = nth n (wanted_places w)
+place_of w mark_all = None
+place_of w (replace text) = None
 place_of w (tag name n) = nth n (places w.files name)
 place_of w pop = None
 
@@ -31,6 +46,10 @@ abbrev pub refusal_of : World → Step → Option Refusal
 refusal_of w (load name bytes) = load_refusal w name bytes
 refusal_of w (unload name) = unload_refusal w name
 refusal_of w (rename old new) = rename_refusal w old new
+refusal_of w (want text) = want_refusal text
+refusal_of w (mark n) = mark_refusal w.wanted (place_of w (mark n))
+refusal_of w mark_all = mark_all_refusal w.wanted
+refusal_of w (replace text) = replace_refusal w text
 refusal_of w (tag name n) = push_refusal (place_of w (tag name n))
 refusal_of w pop = pop_refusal w.frames
 
@@ -39,6 +58,10 @@ abbrev pub after : World → Step → World
 after w (load name bytes) = loaded w name bytes
 after w (unload name) = unloaded w name
 after w (rename old new) = renamed w old new
+after w (want text) = wanting w text
+after w (mark n) = toggled_at w (place_of w (mark n))
+after w mark_all = all_marked w
+after w (replace text) = replaced_on_marks w w.wanted text
 after w (tag name n) = pushed w (place_of w (tag name n))
 after w pop = popped w
 

@@ -32,7 +32,7 @@ abbrev at_b : Place
 at_b = frame (codes "b.h") 1
 
 abbrev three_files : World
-three_files = record { files = a ∷ b ∷ d ∷ []; frames = at_a 2 ∷ at_b ∷ at_a 1 ∷ at_b ∷ [] }
+three_files = record empty_world { files = a ∷ b ∷ d ∷ []; frames = at_a 2 ∷ at_b ∷ at_a 1 ∷ at_b ∷ [] }
 
 -- a file is put between those of a lower and a higher name, and the frames stay
 pub loaded_in_order : step three_files (load (codes "c.c") (codes "new"))
@@ -42,13 +42,13 @@ loaded_in_order = refl
 
 -- capital letters come first
 pub loaded_first : step (record three_files { frames = [] }) (load (codes "Z.c") [])
-    ≡ Ok (record { files = file (codes "Z.c") [] ∷ a ∷ b ∷ d ∷ []; frames = [] })
+    ≡ Ok (record empty_world { files = file (codes "Z.c") [] ∷ a ∷ b ∷ d ∷ []; frames = [] })
 unfolding step
 loaded_first = refl
 
 -- a file is taken away with its frames, and the others keep their order
 pub unloaded_with_frames : step three_files (unload (codes "a.c"))
-    ≡ Ok (record { files = b ∷ d ∷ []; frames = at_b ∷ at_b ∷ [] })
+    ≡ Ok (record empty_world { files = b ∷ d ∷ []; frames = at_b ∷ at_b ∷ [] })
 unfolding step
 unloaded_with_frames = refl
 
@@ -57,11 +57,11 @@ abbrev c : File
 c = file (codes "c.h") (codes "x;\ny;")
 
 -- a renamed file goes to its new place, and its frames keep theirs
-pub renamed_in_place : step three_files (rename (codes "a.c") (codes "c.h")) ≡ Ok (record {
+pub renamed_in_place : step three_files (rename (codes "a.c") (codes "c.h")) ≡ Ok (record empty_world {
   files = b ∷ c ∷ d ∷ [];
   frames = frame (codes "c.h") 2 ∷ at_b ∷ frame (codes "c.h") 1 ∷ at_b ∷ [];
 })
-unfolding step text_of_file
+unfolding step text_of_file in_order
 renamed_in_place = refl
 
 -- the top frame is the last one
@@ -72,7 +72,7 @@ popped_top = refl
 
 -- two functions `f` on one line, and a third one in another file
 abbrev functions_f : World
-functions_f = record {
+functions_f = record empty_world {
   files = file (codes "a.c") (codes "\nf(){}f(){}") ∷ file (codes "b.c") (codes "f(){}") ∷ [];
   frames = frame (codes "b.c") 1 ∷ [];
 }

@@ -1,32 +1,38 @@
--- The files of a session at one moment, and the tag stack.
-use Rattle.std.specs.Prelude.{ℕ, ◌≤◌, Bool, List, [], ◌∷◌, length, IsTrue, if◌then◌else◌}
+-- The files of a session at one moment, the text that is wanted with the lines that are marked for
+-- a change, and the tag stack.
+use Rattle.std.specs.Prelude.{◌≡◌, ℕ, suc, ◌≤◌, ◌==◌, Bool, ◌&&◌, not, nat_le, List, [], ◌∷◌, ◌++◌, length, map, IsTrue, Option, None, Some, if◌then◌else◌}
 use Rattle.std.specs.List.{list_any, AllByRecursion}
 use Rattle.std.specs.List.Sorted.{IsStrictlySortedBy}
 use Rattle.std.specs.Str.{bytes_eq}
 use Rattle.std.specs.Ordering.{nat_cmp}
 use Rattle.std.specs.Cmp.Lexicographic.{slice_cmp}
-use Rattle.cb_scan.specs.Lines.{IsLineOf}
+use Rattle.cb_scan.specs.Bytes.{line_feed}
+use Rattle.cb_scan.specs.Lines.{IsLineOf, line_text}
 use Rattle.cb_tags.specs.Names.{is_file_name}
-use Rattle.cb_desk.specs.declared.limits.TheConstants.{MOST_BYTES, MOST_FILES}
+use Rattle.cb_desk.specs.declared.limits.TheConstants.{MOST_BYTES, MOST_FILES, MOST_TEXT}
+use Rattle.cb_desk.specs.Search.{holds}
 
 -- a file: its name and its text
 pub record File : Type 0 where
   pub name : List ℕ
   pub bytes : List ℕ
 
--- a frame of the tag stack: a file, and a line of it, from 1
+-- a line of a file, from 1: a mark, or a frame of the tag stack
 pub record Place : Type 0 where
   pub file : List ℕ
   pub line : ℕ
 
--- the files, ascending by the bytes of their names, and the frames, bottom first
+-- the files, ascending by the bytes of their names; the wanted text, and the marks, ascending by
+-- file and line; the frames of the tag stack, bottom first
 pub record World : Type 0 where
   pub files : List File
+  pub wanted : Option (List ℕ)
+  pub marks : List Place
   pub frames : List Place
 
 -- the world without a file
 abbrev pub empty_world : World
-empty_world = record { files = []; frames = [] }
+empty_world = record { files = []; wanted = None; marks = []; frames = [] }
 
 -- a file has that name
 abbrev pub is_named : List ℕ → File → Bool
@@ -52,11 +58,41 @@ pub record AreValidFiles (files : List File) : Type 0 where
   pub count : length files ≤ MOST_FILES
   pub ascending : IsAscending files
 
--- a frame names a line that is there
+-- a place is a line that is there
 abbrev pub IsPlaceOf : List File → Place → Type 0
-IsPlaceOf files f = IsLineOf (text_of_file files f.file) f.line
+IsPlaceOf files p = IsLineOf (text_of_file files p.file) p.line
 
--- the files are valid, and so is each frame
+-- what places are ordered by: the bytes of the file's name, and then the line; each byte is raised
+-- by one, so that the 0 after a name is below all of them
+abbrev pub place_key : Place → List ℕ
+place_key p = map suc p.file ++ 0 ∷ p.line ∷ []
+
+-- places ascend by file and line, each place once
+abbrev pub AreAscending : List Place → Type 0
+AreAscending = IsStrictlySortedBy (λ (p q : Place). slice_cmp nat_cmp (place_key p) (place_key q))
+
+-- a text keeps the limit and lies in one line
+abbrev pub is_short : List ℕ → Bool
+is_short text = nat_le (length text) MOST_TEXT && not (list_any (λ b. b == line_feed) text)
+
+-- a mark for a text is on a line that is there and that holds it
+abbrev pub IsMarkIn : (wanted text : List ℕ) → ℕ → Type 0
+IsMarkIn wanted text line = IsLineOf text line × IsTrue (holds wanted (line_text text line))
+
+-- the marks for a wanted text
+pub record AreMarksFor (files : List File) (wanted : List ℕ) (marks : List Place) : Type 0 where
+  pub short : IsTrue (is_short wanted)
+  pub some : 1 ≤ length wanted
+  pub held : AllByRecursion (λ (p : Place). IsMarkIn wanted (text_of_file files p.file) p.line) marks
+  pub ascending : AreAscending marks
+
+-- the marks are those for the wanted text; where none is wanted there is no mark
+abbrev pub AreValidMarks : List File → Option (List ℕ) → List Place → Type 0
+AreValidMarks files None marks = marks ≡ []
+AreValidMarks files (Some wanted) marks = AreMarksFor files wanted marks
+
+-- the files are valid, and so are the marks and each frame
 pub record IsValidWorld (w : World) : Type 0 where
   pub files : AreValidFiles w.files
+  pub marks : AreValidMarks w.files w.wanted w.marks
   pub frames : AllByRecursion (IsPlaceOf w.files) w.frames

@@ -2,7 +2,7 @@
 ghost use Rattle.std.specs.Prelude.{◌≡◌};
 ghost use Rattle.std.specs.Iterator.{YieldsFirstBy, item_count};
 ghost use Rattle.cb_desk.specs.Models.{file_of};
-ghost use Rattle.cb_desk.specs.steps.SharedFiles.{files_of};
+ghost use Rattle.cb_desk.specs.steps.Shared.{files_of};
 
 mod list;
 mod stored;
@@ -22,7 +22,7 @@ pub struct Files<'a> {
 impl<'a> Model for Files<'a> {
     ghost use Rattle.std.specs.Prelude.{List};
     ghost use Rattle.cb_desk.specs.World.{File};
-    ghost use Rattle.cb_desk.specs.steps.SharedFiles.{files_of};
+    ghost use Rattle.cb_desk.specs.steps.Shared.{files_of};
 
     ghost Value = { List File };
 

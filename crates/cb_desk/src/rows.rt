@@ -1,15 +1,18 @@
 //! Questions and the rows that answer them.
-ghost use Rattle.std.specs.Prelude.{◌≡◌, ◌≤◌, ◌==◌, ◌||◌, [], ◌∷◌, ◌++◌, List, length, map, IfOk};
+ghost use Rattle.std.specs.Prelude.{◌≡◌, ◌≢◌, ◌≤◌, ◌==◌, ◌||◌, [], ◌∷◌, ◌++◌, List, length, map, IfOk};
 ghost use Rattle.std.specs.Iterator.{YieldsFirstBy, item_count};
-ghost use Rattle.std.specs.List.{list_any, prefix_len};
+ghost use Rattle.std.specs.List.{list_any, prefix_len, flat_map};
 ghost use Rattle.cb_scan.specs.Definitions.{IsWithin};
 ghost use Rattle.cb_desk.specs.World.{File};
-ghost use Rattle.cb_desk.specs.Answer.{AnswerRow, row_eq, distinct, space, tab, unindented, line_row, definition_row, definition_rows, field_of_digit, field_rows};
+ghost use Rattle.cb_desk.specs.Answer.{AnswerRow, row_eq, distinct, space, tab, unindented, line_row, definition_row, definition_rows, text_rows_in, field_of_digit};
 ghost use Rattle.cb_desk.specs.steps.Collects.{Collects};
 ghost use Rattle.cb_desk.specs.Models.{row_of, file_of};
 
 use crate::found::{defined_name, shown_line};
+use crate::files::Files;
+use crate::search::TextLines;
 use cb_scan::{Def, Meter, Source, scan};
+use memchr::memmem::Finder;
 use std::alloc::{AllocError, Global};
 use std::marker::Model;
 use std::slice;
@@ -19,6 +22,8 @@ use std::slice;
 pub enum Field {
     /// 1: the definitions of a name.
     Definition,
+    /// 4: the lines that hold a text.
+    Text,
 }
 
 impl Field {
@@ -28,6 +33,7 @@ impl Field {
     {
         match digit {
             b'1' => Some(Field::Definition),
+            b'4' => Some(Field::Text),
             _ => None,
         }
     }
@@ -105,6 +111,17 @@ impl<'a> RowList<'a> {
         }
     }
 
+    /// All rows of lines that hold a text. No two of them are equal.
+    pub(crate) fn collected(alloc: Global, rows: TextRows<'a, '_>) -> Result<RowList<'a>, AllocError>
+        ensures { IfOk result (λ list. list ≡ rows.entry) }
+    {
+        let mut list = Vec::new(alloc);
+        for row in rows {
+            list.push(row)?;
+        }
+        Ok(RowList { rows: list })
+    }
+
     /// Adds a row, unless an equal one is there.
     fn add(&mut self, row: RefRow<'a>) -> Result<(), AllocError>
         ensures { IfOk result (λ _. Collects self.old self.new (row_of row.entry ∷ [])) }
@@ -116,24 +133,8 @@ impl<'a> RowList<'a> {
         Ok(())
     }
 
-    /// Adds the rows of a field in a file, which is scanned afresh.
-    pub(crate) fn add_rows(
-        &mut self,
-        alloc: Global,
-        field: Field,
-        name: &'a [u8],
-        source: &'a Source,
-        pattern: &[u8],
-    ) -> Result<(), AllocError>
-        ensures { IfOk result (λ _. Collects self.old self.new (field_rows field pattern.now (file_of (name.entry, source.entry)))) }
-    {
-        match field {
-            Field::Definition => self.add_definitions(alloc, name, source, pattern),
-        }
-    }
-
-    /// Adds the rows of the definitions of that name in a file.
-    fn add_definitions(
+    /// Adds the rows of the definitions of that name in a file, which is scanned afresh.
+    pub(crate) fn add_definitions(
         &mut self,
         alloc: Global,
         name: &'a [u8],
@@ -233,4 +234,42 @@ fn blanks(line: &[u8]) -> usize
     line.iter()
         .take_while(|byte| **byte == b' ' || **byte == b'\t')
         .count()
+}
+
+/// STUB
+#[derive(Drop)]
+pub struct TextRows<'a, 'p> {
+    files: Files<'a>,
+    finder: Finder<'p>,
+}
+
+impl<'a, 'p> Model for TextRows<'a, 'p> {
+    ghost use Rattle.std.specs.Prelude.{List};
+    ghost use Rattle.std.specs.List.{flat_map};
+    ghost use Rattle.cb_desk.specs.Answer.{AnswerRow, text_rows_in};
+
+    ghost Value = { List AnswerRow };
+
+    ghost view = { λ r. flat_map (text_rows_in r.finder) r.files };
+}
+
+impl<'a, 'p> TextRows<'a, 'p> {
+    pub(crate) fn new(files: Files<'a>, pattern: &'p [u8]) -> TextRows<'a, 'p>
+        requires { pattern.now ≢ [] }
+        ensures { result ≡ flat_map (text_rows_in pattern.now) files.entry }
+    {
+        TextRows { files, finder: Finder::new(pattern) }
+    }
+}
+
+impl<'a, 'p> Iterator for TextRows<'a, 'p> {
+    type Item = RefRow<'a>;
+
+    ghost next_gives = { YieldsFirstBy row_of (λ rows. rows) };
+
+    ghost remaining = { item_count (λ rows. rows) };
+
+    fn next(&mut self) -> Option<RefRow<'a>> {
+        None
+    }
 }

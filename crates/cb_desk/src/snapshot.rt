@@ -1,36 +1,43 @@
-//! A world in memory. Worlds share their files, so that a new world costs the lists of files and
-//! frames and not their bytes.
+//! A world in memory. Worlds share their files, so that a new world costs the lists of files,
+//! marks and frames and not their bytes.
 ghost use Rattle.std.specs.Prelude.{◌≡◌, None, IfOk, IfErr};
+ghost use Rattle.std.specs.Option.{option_copied};
 ghost use Rattle.cb_desk.specs.Models.{step_of};
 ghost use Rattle.cb_desk.specs.Step.{place_of, refusal_of, after};
 ghost use Rattle.cb_desk.specs.World.{empty_world, IsValidWorld};
 ghost use Rattle.cb_desk.specs.steps.Scans.{IsScannedFirst};
 
 mod files;
+mod marks;
 mod stack;
 
 use crate::files::{Files, StoredFile};
+use crate::marks::WantedText;
+use crate::snapshot::marks::want_refusal;
 use crate::snapshot::stack::push_refusal;
-use crate::stack::{Place, Places};
+use crate::place::{Place, Places, Spot};
 use crate::{Change, Refusal};
 use std::alloc::{AllocError, Global};
 use std::marker::Model;
 use std::rc::Rc;
 
-/// A world: its files ascending by the bytes of their names, its frames bottom first.
+/// A world: its files ascending by the bytes of their names, the wanted text, the marks ascending
+/// by file and line, and the frames, bottom first.
 #[derive(Drop)]
 pub(crate) struct Snapshot {
     files: Vec<Rc<StoredFile>>,
+    wanted: Option<Rc<WantedText>>,
+    marks: Vec<Place>,
     frames: Vec<Place>,
 }
 
 impl Model for Snapshot {
     ghost use Rattle.cb_desk.specs.World.{World};
-    ghost use Rattle.cb_desk.specs.steps.SharedFiles.{files_of};
+    ghost use Rattle.cb_desk.specs.steps.Shared.{files_of, text_of};
 
     ghost Value = { World };
 
-    ghost view = { λ s. record { files = files_of s.files.items; frames = s.frames.items } };
+    ghost view = { λ s. record { files = files_of s.files.items; wanted = text_of s.wanted; marks = s.marks.items; frames = s.frames.items } };
 }
 
 impl Snapshot {
@@ -40,6 +47,8 @@ impl Snapshot {
     {
         Snapshot {
             files: Vec::new(alloc),
+            wanted: None,
+            marks: Vec::new(alloc),
             frames: Vec::new(alloc),
         }
     }
@@ -49,6 +58,23 @@ impl Snapshot {
         ensures { result ≡ self.now.files }
     {
         Files::new(self.files.as_slice())
+    }
+
+    /// The wanted text.
+    pub(crate) fn wanted(&self) -> Option<&[u8]>
+        ensures { option_copied result ≡ self.now.wanted }
+    {
+        match &self.wanted {
+            Some(text) => Some(text.as_ref().bytes()),
+            None => None,
+        }
+    }
+
+    /// The marks, ascending by file and line.
+    pub(crate) fn marks(&self) -> Places<'_>
+        ensures { result ≡ self.now.marks }
+    {
+        Places::new(self.marks.as_slice())
     }
 
     /// The frames, bottom first.
@@ -64,35 +90,44 @@ impl Snapshot {
     {
         Ok(Snapshot {
             files: self.files.clone()?,
+            wanted: self.wanted.clone()?,
+            marks: self.marks.clone()?,
             frames: self.frames.clone()?,
         })
     }
 
-    /// The place that a change asks for. Only a tag asks for one, and it takes memory for a scan of
-    /// the files.
+    /// The place that a change asks for. Only a mark and a tag ask for one, and a tag takes memory
+    /// for a scan of the files.
     pub(crate) fn place_of(
         &self,
         alloc: Global,
         change: &Change<'_>,
-    ) -> Result<Option<Place>, AllocError>
+    ) -> Result<Option<Spot<'_>>, AllocError>
+        requires { IsValidWorld self.now }
         ensures ok { IfOk result (λ place. place ≡ place_of self.now (step_of change.now)) }
         ensures err { IfErr result (λ _. IsScannedFirst (step_of change.now)) }
     {
         match change {
+            Change::Mark(n) => Ok(self.nth_held(*n)),
             Change::Tag(name, n) => self.nth_place(alloc, name, *n),
             _ => Ok(None),
         }
     }
 
     /// Why a change is refused, if it is. `place` is the place that it asks for.
-    pub(crate) fn refusal_of(&self, change: &Change<'_>, place: &Option<Place>) -> Option<Refusal>
-        requires { place.now ≡ place_of self.now (step_of change.now) }
+    pub(crate) fn refusal_of(&self, change: &Change<'_>, place: &Option<Spot<'_>>) -> Option<Refusal>
+        requires valid { IsValidWorld self.now }
+        requires place { place.now ≡ place_of self.now (step_of change.now) }
         ensures { result ≡ refusal_of self.now (step_of change.now) }
     {
         match change {
             Change::Load(name, bytes) => self.load_refusal(name, bytes.as_slice()),
             Change::Unload(name) => self.unload_refusal(name),
             Change::Rename(old, new) => self.rename_refusal(old, new),
+            Change::Want(text) => want_refusal(text),
+            Change::Mark(_) => self.mark_refusal(place),
+            Change::MarkAll => self.mark_all_refusal(),
+            Change::Replace(text) => self.replace_refusal(text),
             Change::Tag(_, _) => push_refusal(place),
             Change::Pop => self.pop_refusal(),
         }
@@ -103,7 +138,7 @@ impl Snapshot {
         &self,
         alloc: Global,
         change: Change<'_>,
-        place: Option<Place>,
+        place: Option<Spot<'_>>,
     ) -> Result<Snapshot, AllocError>
         requires valid { IsValidWorld self.now }
         requires place { place ≡ place_of self.now (step_of change) }
@@ -114,6 +149,10 @@ impl Snapshot {
             Change::Load(name, bytes) => self.loaded(alloc, name, bytes),
             Change::Unload(name) => self.unloaded(name),
             Change::Rename(old, new) => self.renamed(alloc, old, new),
+            Change::Want(text) => self.wanting(alloc, text),
+            Change::Mark(_) => self.toggled_at(place),
+            Change::MarkAll => self.all_marked(alloc),
+            Change::Replace(text) => self.replaced_on_marks(alloc, text),
             Change::Tag(_, _) => self.pushed(place),
             Change::Pop => self.popped(),
         }

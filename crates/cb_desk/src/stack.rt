@@ -1,123 +1,55 @@
-//! The tag stack.
-ghost use Rattle.std.specs.Prelude.{◌≡◌, ◌==◌, if◌then◌else◌, IfOk, length};
-ghost use Rattle.std.specs.Str.{bytes_eq};
-ghost use Rattle.std.specs.Iterator.{YieldsFirstBy, YieldsLastBy, item_count};
-ghost use Rattle.cb_desk.specs.Models.{place_at};
-ghost use Rattle.cb_desk.specs.Stack.{renamed_frame};
-
-mod list;
-mod places;
+//! Where the definitions of a name are.
+ghost use Rattle.std.specs.Prelude.{◌≡◌, map, filter, IfOk};
+ghost use Rattle.cb_scan.specs.Definitions.{definitions};
+ghost use Rattle.cb_desk.specs.Answer.{defines};
+ghost use Rattle.cb_desk.specs.Places.{nth};
+ghost use Rattle.cb_desk.specs.Stack.{places};
+ghost use Rattle.cb_desk.specs.steps.Shared.{files_of};
 
 use crate::files::StoredFile;
-pub(crate) use list::{remove_frames, renamed_frames};
-pub(crate) use places::nth_place;
-use std::alloc::AllocError;
-use std::marker::Model;
+use crate::found::defined_name;
+use crate::place::Spot;
+use cb_scan::{Meter, Source, scan};
+use std::alloc::{AllocError, Global};
 use std::rc::Rc;
 
-/// A frame of the tag stack: a file, and a line of it, from 1.
-#[derive(Drop)]
-pub(crate) struct Place {
-    file: Rc<StoredFile>,
-    line: u32,
-}
-
-impl Model for Place {
-    ghost use Rattle.cb_desk.specs.World.{Place};
-
-    ghost Value = { Place };
-
-    ghost view = { λ f. record { file = f.file.value.name; line = f.line } };
-}
-
-impl Clone for Place {
-    ghost is_clone = { λ frame copy. copy ≡ frame };
-
-    fn clone(&self) -> Result<Place, AllocError> {
-        Ok(Place {
-            file: self.file.clone()?,
-            line: self.line,
-        })
-    }
-}
-
-impl Place {
-    /// The frame of a line of a file.
-    pub(crate) fn new(file: Rc<StoredFile>, line: u32) -> Place
-        ensures { result ≡ record { file = file.value.name; line = line } }
-    {
-        Place { file, line }
-    }
-
-    /// Whether it names the file of that name.
-    pub(crate) fn is_in(&self, name: &[u8]) -> bool
-        ensures { result ≡ bytes_eq self.now.file name.now }
-    {
-        self.file.name() == name
-    }
-
-    /// The same line of another file, where it names the file of that name.
-    pub(crate) fn renamed(&self, old: &[u8], file: &Rc<StoredFile>) -> Result<Place, AllocError>
-        ensures { IfOk result (λ f. f ≡ renamed_frame old.now file.now.value.name self.now) }
-    {
-        if self.is_in(old) {
-            Ok(Place::new(file.clone()?, self.line))
-        } else {
-            self.clone()
+/// The lines of the definitions of a name in a text, which is scanned afresh, by place.
+fn lines_defining(alloc: Global, source: &Source, name: &[u8]) -> Result<Vec<u32>, AllocError>
+    ensures { IfOk result (λ lines. lines.items ≡ map (λ d. d.line) (filter (defines source.now name.now) (definitions source.now))) }
+{
+    let mut meter = Meter::new();
+    let facts = match scan(alloc, &mut meter, source) {
+        Ok(facts) => facts,
+        Err(_) => return Err(AllocError),
+    };
+    let mut lines = Vec::new(alloc);
+    for def in facts.defs() {
+        if defined_name(source, def) == name {
+            lines.push(def.line)?;
         }
     }
+    Ok(lines)
 }
 
-/// The frames of a world, each a file's name and a line, bottom first.
-#[derive(Drop)]
-pub struct Places<'a> {
-    rest: &'a [Place],
-}
-
-impl<'a> Model for Places<'a> {
-    ghost use Rattle.std.specs.Prelude.{List};
-    ghost use Rattle.cb_desk.specs.World.{Place};
-
-    ghost Value = { List Place };
-
-    ghost view = { λ f. f.rest.now };
-}
-
-impl<'a> Places<'a> {
-    pub(crate) fn new(frames: &'a [Place]) -> Places<'a>
-        ensures { result ≡ frames.now }
-    {
-        Places { rest: frames }
+/// The place of the nth definition of a name, by file and place, counted from 1.
+pub(crate) fn nth_place<'a>(
+    alloc: Global,
+    files: &'a [Rc<StoredFile>],
+    name: &[u8],
+    n: u64,
+) -> Result<Option<Spot<'a>>, AllocError>
+    ensures { IfOk result (λ place. place ≡ nth n (places (files_of files.now) name.now)) }
+{
+    if n == 0 {
+        return Ok(None);
     }
-
-    /// How many there are.
-    pub fn len(&self) -> usize
-        ensures { result ≡ length self.now }
-    {
-        self.rest.len()
+    let mut passed = n - 1;
+    for file in files {
+        let lines = lines_defining(alloc, file.source(), name)?;
+        match lines.get(passed as usize) {
+            Some(line) => return Ok(Some(Spot::new(file, *line))),
+            None => passed -= lines.len() as u64,
+        }
     }
-}
-
-impl<'a> Iterator for Places<'a> {
-    type Item = (&'a [u8], u32);
-
-    ghost next_gives = { YieldsFirstBy place_at (λ frames. frames) };
-
-    ghost remaining = { item_count (λ frames. frames) };
-
-    fn next(&mut self) -> Option<(&'a [u8], u32)> {
-        let (first, rest) = self.rest.split_first()?;
-        self.rest = rest;
-        Some((first.file.name(), first.line))
-    }
-}
-
-impl<'a> DoubleEndedIterator for Places<'a> {
-    ghost next_back_gives = { YieldsLastBy place_at (λ frames. frames) };
-
-    fn next_back(&mut self) -> Option<(&'a [u8], u32)> {
-        let (last, rest) = self.rest.split_last()?;
-        self.rest = rest;
-        Some((last.file.name(), last.line))
-    }
+    Ok(None)
 }

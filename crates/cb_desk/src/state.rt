@@ -1,5 +1,7 @@
 //! The state of a session.
 ghost use Rattle.std.specs.Prelude.{◌≡◌, ◌≢◌, ◌<◌, [], length, IfOk, IfErr, MatchResult, nat_le};
+ghost use Rattle.std.specs.Option.{option_copied};
+ghost use Rattle.cb_desk.specs.declared.rows.Field.{Field};
 ghost use Rattle.cb_desk.specs.declared.limits.TheConstants.{MOST_CHANGES};
 ghost use Rattle.cb_desk.specs.World.{IsValidWorld};
 ghost use Rattle.cb_desk.specs.Timeline.{new_timeline, moved_on, undone, redone, Moves, Changes};
@@ -9,7 +11,7 @@ ghost use Rattle.cb_desk.specs.Models.{step_of};
 
 use crate::limits::MOST_CHANGES;
 use crate::snapshot::Snapshot;
-use crate::{Change, Field, Files, Format, Places, Refusal, RowList, TagRowList};
+use crate::{Change, Field, Files, Format, Places, Refusal, RowList, TagRowList, TextRows};
 use std::alloc::{AllocError, Global};
 use std::marker::Model;
 use std::mem;
@@ -123,6 +125,20 @@ impl Desk {
         self.present.files()
     }
 
+    /// The text that is wanted, if one is.
+    pub fn wanted(&self) -> Option<&[u8]>
+        ensures { option_copied result ≡ self.now.present.wanted }
+    {
+        self.present.wanted()
+    }
+
+    /// The present marks, each a file's name and a line, by file and line.
+    pub fn marks(&self) -> Places<'_>
+        ensures { result ≡ self.now.present.marks }
+    {
+        self.present.marks()
+    }
+
     /// The present frames, each a file's name and a line, bottom first.
     pub fn frames(&self) -> Places<'_>
         ensures { result ≡ self.now.present.frames }
@@ -131,17 +147,36 @@ impl Desk {
     }
 
     /// The rows that answer a question; equal ones once.
-    #[tactic(auto, unfolding(crate::specs::Answer::distinct))]
     pub fn rows(&self, alloc: Global, field: Field, pattern: &[u8]) -> Result<RowList<'_>, Refusal>
         requires { pattern.now ≢ [] }
         ensures rows { IfOk result (λ rows. rows ≡ answer self.now.present field pattern.now) }
         ensures memory { IfErr result (λ r. r ≡ Refusal.OutOfMemory) }
     {
+        match field {
+            Field::Definition => self.definition_rows(alloc, pattern),
+            Field::Text => Ok(RowList::collected(alloc, self.text_rows(pattern))?),
+        }
+    }
+
+    /// The rows of the definitions of a name; equal ones once.
+    #[tactic(auto, unfolding(crate::specs::Answer::distinct))]
+    fn definition_rows(&self, alloc: Global, pattern: &[u8]) -> Result<RowList<'_>, Refusal>
+        ensures rows { IfOk result (λ rows. rows ≡ answer self.now.present Field.Definition pattern.now) }
+        ensures memory { IfErr result (λ r. r ≡ Refusal.OutOfMemory) }
+    {
         let mut rows = RowList::new(alloc);
         for (name, source) in self.present.files() {
-            rows.add_rows(alloc, field, name, source, pattern)?;
+            rows.add_definitions(alloc, name, source, pattern)?;
         }
         Ok(rows)
+    }
+
+    /// The rows of the lines that hold a text, by file and line. It takes no memory.
+    pub fn text_rows<'a, 'p>(&'a self, pattern: &'p [u8]) -> TextRows<'a, 'p>
+        requires { pattern.now ≢ [] }
+        ensures { result ≡ answer self.now.present Field.Text pattern.now }
+    {
+        TextRows::new(self.present.files(), pattern)
     }
 
     /// All definitions of the present world as tags, in the order of a format.

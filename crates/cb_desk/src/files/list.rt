@@ -1,5 +1,5 @@
 //! The files of a world as a list, ascending by the bytes of their names.
-ghost use Rattle.std.specs.Prelude.{◌≡◌, ◌≤◌, IsTrue, length, count_by, IfOk};
+ghost use Rattle.std.specs.Prelude.{◌≡◌, ◌≤◌, IsTrue, true, false, length, count_by, IfOk, MatchOption};
 ghost use Rattle.std.specs.List.{list_any};
 ghost use Rattle.std.specs.Str.{bytes_eq};
 ghost use Rattle.std.specs.Ordering.{nat_cmp, is_lt};
@@ -7,7 +7,7 @@ ghost use Rattle.std.specs.Cmp.Lexicographic.{slice_cmp};
 ghost use Rattle.cb_desk.specs.Files.{with_file, without_file};
 ghost use Rattle.cb_desk.specs.World.{has_file, text_of_file, IsAscending};
 ghost use Rattle.std.specs.Option.{option_map};
-ghost use Rattle.cb_desk.specs.steps.SharedFiles.{files_of, file_named};
+ghost use Rattle.cb_desk.specs.steps.Shared.{files_of, file_named};
 
 use crate::files::StoredFile;
 use std::alloc::AllocError;
@@ -34,7 +34,7 @@ pub(crate) fn with_name<'a>(files: &'a [Rc<StoredFile>], name: &[u8]) -> &'a Sto
 }
 
 /// The file of that name, if there is one, by binary search.
-#[tactic(auto, unfolding(crate::specs::steps::SharedFiles::is_below))]
+#[tactic(auto, unfolding(crate::specs::steps::Shared::is_below))]
 pub(crate) fn find_file<'a>(
     files: &'a [Rc<StoredFile>],
     name: &[u8],

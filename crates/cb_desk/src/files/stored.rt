@@ -1,7 +1,12 @@
 //! A file in memory.
-ghost use Rattle.std.specs.Prelude.{◌≡◌, ◌≤◌, length, IfOk};
+ghost use Rattle.std.specs.Prelude.{◌≡◌, ◌≢◌, ◌≤◌, [], length, map, IfOk};
+ghost use Rattle.std.specs.List.Sorted.{IsStrictlySortedBy};
+ghost use Rattle.std.specs.Ordering.{nat_cmp};
+ghost use Rattle.cb_desk.specs.Replacement.{replaced_text as meant};
 ghost use Rattle.cb_desk.specs.declared.limits.TheConstants.{MOST_BYTES};
 
+use crate::place::Place;
+use crate::replacement::replaced_text;
 use cb_scan::Source;
 use std::alloc::{AllocError, Global};
 use std::marker::Model;
@@ -46,6 +51,23 @@ impl StoredFile {
             name: Vec::from_slice(alloc, name)?,
             source: self.source.clone()?,
         })
+    }
+
+    /// The file with the old text replaced on the lines of its marks.
+    pub(crate) fn replaced(
+        &self,
+        alloc: Global,
+        old: &[u8],
+        new: &[u8],
+        marks: &[Place],
+    ) -> Result<StoredFile, AllocError>
+        requires some { old.now ≢ [] }
+        requires ascending { IsStrictlySortedBy nat_cmp (map (λ p. p.line) marks.now) }
+        requires small { length (meant old.now new.now (map (λ p. p.line) marks.now) self.now.bytes) ≤ MOST_BYTES }
+        ensures { IfOk result (λ f. f ≡ record { name = self.now.name; bytes = meant old.now new.now (map (λ p. p.line) marks.now) self.now.bytes }) }
+    {
+        let bytes = replaced_text(alloc, self.source(), old, new, marks)?;
+        StoredFile::new(alloc, self.name(), bytes)
     }
 
     /// Its name.

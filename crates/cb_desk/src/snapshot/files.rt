@@ -6,8 +6,9 @@ ghost use Rattle.cb_desk.specs.World.{has_file, IsValidWorld};
 use crate::Refusal;
 use crate::files::{StoredFile, add_file, has_name, remove_file, with_name};
 use crate::limits::{MOST_BYTES, MOST_FILES};
+use crate::marks::sort_marks;
+use crate::place::{remove_places, renamed_places};
 use crate::snapshot::Snapshot;
-use crate::stack::{remove_frames, renamed_frames};
 use cb_tags::is_file_name;
 use std::alloc::{AllocError, Global};
 use std::rc::Rc;
@@ -65,13 +66,14 @@ impl Snapshot {
         }
     }
 
-    /// The world without that file and its frames.
+    /// The world without that file, its marks and its frames.
     pub(crate) fn unloaded(&self, name: &[u8]) -> Result<Snapshot, AllocError>
         ensures { IfOk result (λ w. w ≡ unloaded self.now name.now) }
     {
         let mut next = self.copied()?;
         remove_file(&mut next.files, name);
-        remove_frames(&mut next.frames, name);
+        remove_places(&mut next.marks, name);
+        remove_places(&mut next.frames, name);
         Ok(next)
     }
 
@@ -90,7 +92,7 @@ impl Snapshot {
         }
     }
 
-    /// The world in which that file and its frames have the new name.
+    /// The world in which that file, its marks and its frames have the new name.
     pub(crate) fn renamed(
         &self,
         alloc: Global,
@@ -104,7 +106,9 @@ impl Snapshot {
         let file = with_name(self.files.as_slice(), old).renamed(alloc, new)?;
         let file = Rc::new(alloc, file)?;
         let mut next = self.copied()?;
-        next.frames = renamed_frames(alloc, self.frames.as_slice(), old, &file)?;
+        next.marks = renamed_places(alloc, self.marks.as_slice(), old, &file)?;
+        sort_marks(&mut next.marks)?;
+        next.frames = renamed_places(alloc, self.frames.as_slice(), old, &file)?;
         remove_file(&mut next.files, old);
         add_file(&mut next.files, file)?;
         Ok(next)

@@ -1,14 +1,16 @@
 //! The tag stack: push and pop.
 ghost use Rattle.std.specs.Prelude.{◌≡◌, map, IfOk};
-ghost use Rattle.cb_desk.specs.Stack.{nth, places, push_refusal, pushed, pop_refusal, popped};
+ghost use Rattle.cb_desk.specs.Places.{nth};
+ghost use Rattle.cb_desk.specs.Stack.{places, push_refusal, pushed, pop_refusal, popped};
 
 use crate::Refusal;
+use crate::place::Spot;
 use crate::snapshot::Snapshot;
-use crate::stack::{Place, nth_place};
+use crate::stack::nth_place;
 use std::alloc::{AllocError, Global};
 
 /// Why nothing is pushed, if there is no place.
-pub(crate) fn push_refusal(place: &Option<Place>) -> Option<Refusal>
+pub(crate) fn push_refusal(place: &Option<Spot<'_>>) -> Option<Refusal>
     ensures { result ≡ push_refusal place.now }
 {
     match place {
@@ -25,19 +27,19 @@ impl Snapshot {
         alloc: Global,
         name: &[u8],
         n: u64,
-    ) -> Result<Option<Place>, AllocError>
+    ) -> Result<Option<Spot<'_>>, AllocError>
         ensures { IfOk result (λ place. place ≡ nth n (places self.now.files name.now)) }
     {
         nth_place(alloc, self.files.as_slice(), name, n)
     }
 
     /// The world with one more frame on top, if there is a place.
-    pub(crate) fn pushed(&self, place: Option<Place>) -> Result<Snapshot, AllocError>
-        ensures { IfOk result (λ w. w ≡ pushed self.now place) }
+    pub(crate) fn pushed(&self, place: Option<Spot<'_>>) -> Result<Snapshot, AllocError>
+        ensures { IfOk result (λ w. w ≡ pushed self.now place.entry) }
     {
         let mut next = self.copied()?;
-        if let Some(frame) = place {
-            next.frames.push(frame)?;
+        if let Some(spot) = place {
+            next.frames.push(spot.place()?)?;
         }
         Ok(next)
     }

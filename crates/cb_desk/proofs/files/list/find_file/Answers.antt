@@ -1,7 +1,7 @@
 use Rattle.std.proofs.Common.{rules, arith, ◌≡◌, true, false}
 use Rattle.std.proofs.lemmas.List.Sorted.{IsPartitionPoint-from_clause}
 use Rattle.cb_desk.specs.World.{is_named}
-use Rattle.cb_desk.specs.steps.SharedFiles.{is_below}
+use Rattle.cb_desk.specs.steps.Shared.{is_below}
 use Rattle.cb_desk.proofs.NamedFile.{parted, named-there, other-there, none-there}
 use Rattle.cb_desk.proofs.files.list.find_file.Goals as goal
 

@@ -1,4 +1,4 @@
--- Which text a name has among files, before and after a change, and the frames that stay valid.
+-- Which text a name has among files, before and after a change, and the places that stay valid.
 use Rattle.std.proofs.Common.{◌≡◌, ◌∙◌, sym, ap, refl, subst, ℕ, zero, suc, ◌≤◌, Bool, true, false, not, ◌||◌, cond, List, [], ◌∷◌, ◌++◌, filter, map, length, take, Some, slice_get, bytes_eq, nat_cmp, is_lt, Less, arith}
 use Rattle.std.specs.List.{AllByRecursion}
 use Rattle.std.specs.Cmp.Lexicographic.{slice_cmp}
@@ -16,14 +16,15 @@ use Rattle.cb_desk.specs.Answer.{defines}
 use Rattle.cb_desk.specs.declared.limits.TheConstants.{MOST_BYTES}
 use Rattle.cb_desk.specs.World.{File, Place, is_named, has_file, text_of_file, IsAscending, IsPlaceOf}
 use Rattle.cb_desk.specs.Files.{is_before, with_file, without_file}
-use Rattle.cb_desk.specs.Stack.{renamed_frame, places_in, places, nth}
+use Rattle.cb_desk.specs.Places.{is_in, without_places, renamed_place, renamed_places, nth}
+use Rattle.cb_desk.specs.Stack.{places_in, places}
 use Rattle.cb_desk.proofs.Placed.{by_name}
 use Rattle.cb_desk.proofs.Valid.{all-along, all-both, all-filter, all-join, all-passed}
 
-same-name : (a b : List ℕ) → bytes_eq a b ≡ true → a ≡ b
+pub same-name : (a b : List ℕ) → bytes_eq a b ≡ true → a ≡ b
 same-name a b e = (bytes_eq-Decides a b).0 e
 
-name-same : (a : List ℕ) → bytes_eq a a ≡ true
+pub name-same : (a : List ℕ) → bytes_eq a a ≡ true
 name-same a = (bytes_eq-Decides a a).1 refl
 
 -- a name that is not there has no text
@@ -122,41 +123,26 @@ text-small [] name all = omega arith
 text-small (f ∷ files) name all =
     elim (is_named name f) as (λ b. length (cond b f.bytes (text_of_file files name)) ≤ MOST_BYTES) [ true ↦ all.0 | false ↦ text-small files name all.1 ]
 
--- ---- frames
--- a frame's file is there
-pub frame-there : (files : List File) (f : Place) → IsPlaceOf files f → has_file files f.file ≡ true
-frame-there files f is =
-    (elim (has_file files f.file) as (λ b. has_file files f.file ≡ b → b ≡ true) [
+-- ---- places
+-- a place's file is there
+pub place-there : (files : List File) (p : Place) → IsPlaceOf files p → has_file files p.file ≡ true
+place-there files p is =
+    (elim (has_file files p.file) as (λ b. has_file files p.file ≡ b → b ≡ true) [
       | true ↦ λ e. refl
-      | false ↦ λ e. let none : IsLineOf [] f.line = subst (λ text. IsLineOf text f.line) (no-text files f.file e) is in let few = lines-few [] in let same = length-map (lines_of []) without_terminator in absurd (omega (arith, none.0, none.1, few, same))
+      | false ↦ λ e. let none : IsLineOf [] p.line = subst (λ text. IsLineOf text p.line) (no-text files p.file e) is in let few = lines-few [] in let same = length-map (lines_of []) without_terminator in absurd (omega (arith, none.0, none.1, few, same))
     ]) refl
 
 -- a name that is there is none that is not
-other-name : (files : List File) (there gone : List ℕ) → has_file files there ≡ true → has_file files gone ≡ false → bytes_eq gone there ≡ false
+pub other-name : (files : List File) (there gone : List ℕ) → has_file files there ≡ true → has_file files gone ≡ false → bytes_eq gone there ≡ false
 other-name files there gone e k =
     (elim (bytes_eq gone there) as (λ b. bytes_eq gone there ≡ b → b ≡ false) [
       | true ↦ λ h. let same = same-name gone there h in let has : has_file files gone ≡ true = rw same e in cc
       | false ↦ λ h. refl
     ]) refl
 
--- one file more leaves frames as they are
-pub frames-with : (files : List File) (f : File) (frames : List Place) → has_file files f.name ≡ false → AllByRecursion (IsPlaceOf files) frames → AllByRecursion (IsPlaceOf (with_file f files)) frames
-frames-with files f frames fresh all =
-    all-along (IsPlaceOf files) (IsPlaceOf (with_file f files)) frames
-    (λ place is. subst (λ text. IsLineOf text place.line) (sym (text-with f files place.file (other-name files place.file f.name (frame-there files place is) fresh))) is)
-    all
-
 not-true : (b : Bool) → not b ≡ true → b ≡ false
 not-true true e = cc
 not-true false e = refl
-
--- one file less leaves the frames of the others as they are
-pub frames-without : (files : List File) (name : List ℕ) (frames : List Place) → AllByRecursion (IsPlaceOf files) frames → AllByRecursion (IsPlaceOf (without_file name files)) (filter (λ (f : Place). not (bytes_eq f.file name)) frames)
-frames-without files name frames all =
-    all-both (λ (f : Place). not (bytes_eq f.file name) ≡ true) (IsPlaceOf files) (IsPlaceOf (without_file name files)) (filter (λ (f : Place). not (bytes_eq f.file name)) frames)
-    (λ place kept is. subst (λ text. IsLineOf text place.line) (sym (text-without files name place.file (not-true _ kept))) is)
-    (all-passed (λ (f : Place). not (bytes_eq f.file name)) frames)
-    (all-filter (IsPlaceOf files) (λ (f : Place). not (bytes_eq f.file name)) frames all)
 
 -- a file that is not there is not there without another one
 pub still-gone : (files : List File) (gone name : List ℕ) → has_file files name ≡ false → has_file (without_file gone files) name ≡ false
@@ -164,31 +150,56 @@ still-gone files gone name e =
     has-kept (λ f. not (is_named gone f)) (not (bytes_eq name gone)) name (λ f h. ap (λ n. not (bytes_eq n gone)) (same-name f.name name h)) files
     ∙ rw e (elim (not (bytes_eq name gone)) as (λ b. cond b false false ≡ false) [ true ↦ refl | false ↦ refl ])
 
-module _ (files : List File) (old new : List ℕ) (fresh : has_file files new ≡ false) where
-  abbrev moved : List File
-  moved = with_file (record { name = new; bytes = text_of_file files old }) (without_file old files)
+-- the files in which that of the old name has the new one
+abbrev pub moved : List File → List ℕ → List ℕ → List File
+moved files old new = with_file (record { name = new; bytes = text_of_file files old }) (without_file old files)
 
-  frame-renamed : (f : Place) → IsPlaceOf files f → IsPlaceOf moved (renamed_frame old new f)
-  frame-renamed f is =
-      (elim (bytes_eq f.file old) as (λ b. bytes_eq f.file old ≡ b → IsPlaceOf moved (cond b (record f { file = new }) f)) [
-        | true ↦ λ e.
-            subst (λ text. IsLineOf text f.line) (ap (text_of_file files) (same-name f.file old e) ∙ sym (text-with-here (record { name = new; bytes = text_of_file files old }) (without_file old files) (still-gone files old new fresh))) is
-        | false ↦ λ e.
-            subst (λ text. IsLineOf text f.line)
-            (sym (text-with (record { name = new; bytes = text_of_file files old }) (without_file old files) f.file (other-name files f.file new (frame-there files f is) fresh) ∙ text-without files old f.file e)) is
-      ]) refl
+-- a relation of a text and a line
+abbrev pub IsAt : (List ℕ → ℕ → Type 0) → List File → Place → Type 0
+IsAt R files p = R (text_of_file files p.file) p.line
 
-  -- the frames of a file go with its name, and the others stay
-  pub frames-renamed : (frames : List Place) → AllByRecursion (IsPlaceOf files) frames → AllByRecursion (IsPlaceOf moved) (map (renamed_frame old new) frames)
-  frames-renamed [] all = tt
-  frames-renamed (f ∷ frames) all = (frame-renamed f all.0, frames-renamed frames all.1)
+-- places whose lines are so and so, which only lines that are there can be
+module _ (R : List ℕ → ℕ → Type 0) (lies : (text : List ℕ) (n : ℕ) → R text n → IsLineOf text n) where
+  there : (files : List File) (p : Place) → IsAt R files p → has_file files p.file ≡ true
+  there files p is = place-there files p (lies (text_of_file files p.file) p.line is)
+
+  -- one file more leaves places as they are
+  pub places-with : (files : List File) (f : File) (places : List Place) → has_file files f.name ≡ false → AllByRecursion (IsAt R files) places → AllByRecursion (IsAt R (with_file f files)) places
+  places-with files f places fresh all =
+      all-along (IsAt R files) (IsAt R (with_file f files)) places
+      (λ p is. subst (λ text. R text p.line) (sym (text-with f files p.file (other-name files p.file f.name (there files p is) fresh))) is)
+      all
+
+  -- one file less leaves the places of the others as they are
+  pub places-without : (files : List File) (name : List ℕ) (places : List Place) → AllByRecursion (IsAt R files) places → AllByRecursion (IsAt R (without_file name files)) (without_places name places)
+  places-without files name places all =
+      all-both (λ (p : Place). not (is_in name p) ≡ true) (IsAt R files) (IsAt R (without_file name files)) (without_places name places)
+      (λ p kept is. subst (λ text. R text p.line) (sym (text-without files name p.file (not-true _ kept))) is)
+      (all-passed (λ (p : Place). not (is_in name p)) places)
+      (all-filter (IsAt R files) (λ (p : Place). not (is_in name p)) places all)
+
+  module _ (files : List File) (old new : List ℕ) (fresh : has_file files new ≡ false) where
+    place-renamed : (p : Place) → IsAt R files p → IsAt R (moved files old new) (renamed_place old new p)
+    place-renamed p is =
+        (elim (bytes_eq p.file old) as (λ b. bytes_eq p.file old ≡ b → IsAt R (moved files old new) (cond b (record p { file = new }) p)) [
+          | true ↦ λ e.
+              subst (λ text. R text p.line) (ap (text_of_file files) (same-name p.file old e) ∙ sym (text-with-here (record { name = new; bytes = text_of_file files old }) (without_file old files) (still-gone files old new fresh))) is
+          | false ↦ λ e.
+              subst (λ text. R text p.line)
+              (sym (text-with (record { name = new; bytes = text_of_file files old }) (without_file old files) p.file (other-name files p.file new (there files p is) fresh) ∙ text-without files old p.file e)) is
+        ]) refl
+
+    -- the places of a file go with its name, and the others stay
+    pub places-renamed : (places : List Place) → AllByRecursion (IsAt R files) places → AllByRecursion (IsAt R (moved files old new)) (renamed_places old new places)
+    places-renamed [] all = tt
+    places-renamed (p ∷ places) all = (place-renamed p all.0, places-renamed places all.1)
 
 -- ---- places of definitions
 less-differs : (f g : File) → by_name f g ≡ Less → is_named g.name f ≡ false
 less-differs f g e = sym (is_eq-slice_cmp f.name g.name) ∙ rw e refl
 
 -- each of files that ascend is the one of its name
-own-texts : (files : List File) → IsAscending files → AllByRecursion (λ (f : File). text_of_file files f.name ≡ f.bytes) files
+pub own-texts : (files : List File) → IsAscending files → AllByRecursion (λ (f : File). text_of_file files f.name ≡ f.bytes) files
 unfolding IsStrictlySortedBy text_of_file
 own-texts [] up = tt
 own-texts (f ∷ files) up = (
@@ -209,12 +220,12 @@ module _ (files : List File) (name : List ℕ) where
       (frames-of f own.0 (filter (defines f.bytes name) (definitions f.bytes)) (all-filter (λ (d : Def). IsLineOf f.bytes d.line) (defines f.bytes name) (definitions f.bytes) (facts_lie f.bytes).lines))
       (places-of some own.1)
 
-at-place : {X : Type 0} (P : X → Type 0) (xs : List X) (i : ℕ) (x : X) → AllByRecursion P xs → slice_get xs i ≡ Some x → P x
+pub at-place : {X : Type 0} (P : X → Type 0) (xs : List X) (i : ℕ) (x : X) → AllByRecursion P xs → slice_get xs i ≡ Some x → P x
 at-place P [] i x all e = cc
 at-place P (y ∷ xs) zero x all e = let same : y ≡ x = cc in subst P same all.0
 at-place P (y ∷ xs) (suc i) x all e = at-place P xs i x all.1 e
 
--- the nth place of a name is a frame
+-- the nth place of a name is a line that is there
 pub nth-place : (files : List File) (name : List ℕ) (n : ℕ) (f : Place) → IsAscending files → nth n (places files name) ≡ Some f → IsPlaceOf files f
 nth-place files name zero f up e = cc
 nth-place files name (suc n) f up e = at-place (IsPlaceOf files) (places files name) n f (places-of files name files (own-texts files up)) e

@@ -1,6 +1,7 @@
 use Rattle.std.proofs.Common.{◌≡◌, map, drop, slice_get}
-use Rattle.cb_desk.specs.Stack.{nth, places}
-use Rattle.cb_desk.proofs.stack.places.nth_place.Given as goal
+use Rattle.cb_desk.specs.Places.{nth}
+use Rattle.cb_desk.specs.Stack.{places}
+use Rattle.cb_desk.proofs.stack.nth_place.Given as goal
 
 abbrev pub invariant-loop-file : goal.invariant-loop-file
 invariant-loop-file l =
