@@ -1,13 +1,16 @@
 pub mod Counting
 pub mod Distinct
 pub mod FoundRows
+pub mod Gaps
 pub mod HeldRows
+pub mod MarkedLines
 pub mod Moves
 pub mod MarksValid
 pub mod PlaceLemmas
 pub mod PlaceOrder
 pub mod NamedFile
 pub mod Placed
+pub mod ReplacedLines
 pub mod StepsValid
 pub mod Swaps
 pub mod TagOrder

@@ -1,5 +1,6 @@
 pub mod Collects
 pub mod Held
+pub mod MarkedLines
 pub mod Scans
 pub mod Shared
 pub mod Worlds

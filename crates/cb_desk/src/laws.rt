@@ -1,5 +1,6 @@
 //! What follows from the definitions alone: no code runs here.
 ghost use Rattle.cb_desk.specs.Laws.{UndoTakesBack, RedoTakesBack, StepKeepsValid, TimelineStaysValid};
+ghost use Rattle.cb_desk.specs.Replacement.{HasOneCut};
 
 /// An accepted change followed by undo gives back the past and the present; the new world is then
 /// the future.
@@ -20,4 +21,9 @@ pub fn step_keeps_valid()
 /// A valid timeline stays valid by change, undo and redo.
 pub fn timeline_stays_valid()
     ensures { TimelineStaysValid }
+{}
+
+/// A text is cut at the matches of a pattern that is not empty, and in no other way.
+pub fn text_has_one_cut()
+    ensures { HasOneCut }
 {}

@@ -11,6 +11,7 @@ mod files;
 mod found;
 pub mod laws;
 mod limits;
+mod line;
 mod marks;
 mod place;
 mod refusal;
