@@ -5,6 +5,7 @@ pub mod Gaps
 pub mod HeldRows
 pub mod MarkedLines
 pub mod Moves
+pub mod MarksAlong
 pub mod MarksValid
 pub mod PlaceLemmas
 pub mod PlaceOrder

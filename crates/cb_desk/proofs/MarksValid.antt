@@ -247,6 +247,6 @@ frames-kept files frames =
 pub no-place : (files : List File) (p : Place) → None ≡ file_named files p.file → is_place_of files p ≡ false
 no-place files p none =
     (elim (is_place_of files p) as (λ b. is_place_of files p ≡ b → b ≡ false) [
-      | true ↦ λ h. let there = place-there files p (place-from files p h) in let some = ap (λ b. cond b (Some (record { name = p.file; bytes = text_of_file files p.file })) None) there in cc
+      | true ↦ λ h. let there = place-there files p (place-from files p h) in let some = ap (λ b. cond {A = Option File} b (Some (record { name = p.file; bytes = text_of_file files p.file })) None) there in cc
       | false ↦ λ h. refl
     ]) refl

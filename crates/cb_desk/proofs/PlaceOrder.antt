@@ -1,5 +1,5 @@
 -- Places in the order of their keys: no two are equal, and what is put among them keeps the order.
-use Rattle.std.proofs.Common.{◌≡◌, ◌≢◌, ◌∙◌, sym, ap, refl, subst, ℕ, suc, zero, Bool, true, false, not, cond, List, [], ◌∷◌, ◌++◌, map, bytes_eq, ◌<◌, arith, insert, nat_cmp, Ordering, Less, Equal, Greater}
+use Rattle.std.proofs.Common.{◌≡◌, ◌≢◌, ◌∙◌, sym, ap, refl, subst, ℕ, suc, zero, Bool, true, false, not, cond, List, [], ◌∷◌, ◌++◌, map, bytes_eq, ◌+◌, ◌<◌, arith, insert, nat_cmp, Ordering, Less, Equal, Greater}
 use Rattle.std.specs.List.{AllByRecursion, prefix_len}
 use Rattle.std.specs.List.Sorted.{IsStrictlySortedBy}
 use Rattle.std.specs.Cmp.Lexicographic.{slice_cmp}
@@ -103,14 +103,17 @@ module _ {X : Type 0} (key : X → List ℕ) where
   put-strict x ys strict new =
       subst (λ l. Strict (put key x l)) (in_order-same ys strict) (in_order-strict (x ∷ ys) (new, apart-from ys strict))
 
+  one-more : (n : ℕ) → 1 + n ≡ suc n
+  one-more n = omega arith
+
   -- an element put after those that it does not go before
   pub insert-put : (x : X) (ys : List X) → insert ys (prefix_len (λ y. not (goes_first key x y)) ys) x ≡ put key x ys
   unfolding put
   insert-put x [] = refl
   insert-put x (y ∷ ys) =
-      elim (goes_first key x y) as (λ b. insert (y ∷ ys) (cond (not b) (suc (prefix_len (λ y. not (goes_first key x y)) ys)) 0) x ≡ cond b (x ∷ y ∷ ys) (y ∷ put key x ys)) [
+      elim (goes_first key x y) as (λ b. insert (y ∷ ys) (cond (not b) (1 + prefix_len (λ y. not (goes_first key x y)) ys) 0) x ≡ cond b (x ∷ y ∷ ys) (y ∷ put key x ys)) [
         | true ↦ refl
-        | false ↦ ap (λ l. y ∷ l) (insert-put x ys)
+        | false ↦ ap (λ n. insert (y ∷ ys) n x) (one-more (prefix_len (λ y. not (goes_first key x y)) ys)) ∙ ap (λ l. y ∷ l) (insert-put x ys)
       ]
 
 -- ---- keys of places

@@ -8,7 +8,7 @@ ghost use Rattle.cb_desk.specs.Marks.{toggled};
 ghost use Rattle.cb_desk.specs.Places.{same_place, nth, is_place_of};
 ghost use Rattle.cb_desk.specs.Search.{lines_with};
 ghost use Rattle.cb_desk.specs.World.{place_key, IsAscending};
-ghost use Rattle.cb_desk.specs.steps.Shared.{files_of};
+ghost use Rattle.cb_desk.specs.steps.Shared.{files_of, text_of};
 ghost use Rattle.cb_desk.specs.steps.Held.{held_in, held_places};
 
 use crate::files::{StoredFile, find_file};
@@ -50,6 +50,18 @@ impl WantedText {
         ensures { result.now ≡ self.now }
     {
         self.bytes.as_slice()
+    }
+}
+
+/// A wanted text once more. Its bytes are shared.
+pub(crate) fn shared_text(
+    text: &Option<Rc<WantedText>>,
+) -> Result<Option<Rc<WantedText>>, AllocError>
+    ensures { IfOk result (λ copy. text_of copy ≡ text_of text.now) }
+{
+    match text {
+        Some(text) => Ok(Some(text.clone()?)),
+        None => Ok(None),
     }
 }
 

@@ -1,5 +1,5 @@
 //! The files of a world with a text replaced on the marked lines.
-ghost use Rattle.std.specs.Prelude.{◌≡◌, ◌≢◌, ◌≤◌, false, [], length, map, IfOk};
+ghost use Rattle.std.specs.Prelude.{◌≡◌, ◌≢◌, ◌≤◌, nat_lt, false, [], length, map, IfOk};
 ghost use Rattle.std.specs.List.{list_any, prefix_len};
 ghost use Rattle.cb_desk.specs.Marks.{replaced_file, is_too_large};
 ghost use Rattle.std.specs.List.Sorted.{IsStrictlySortedBy};
@@ -26,7 +26,18 @@ fn marks_in(marks: &[Place], name: &[u8]) -> usize
     marks.iter().take_while(|mark| mark.is_in(name)).count()
 }
 
-/// Whether a file would have too many bytes with the old text replaced on the marked lines.
+/// Whether a file would have too many bytes with the old text replaced on the lines of its marks.
+fn is_large(file: &StoredFile, old: &[u8], new: &[u8], marks: &[Place]) -> bool
+    requires some { old.now ≢ [] }
+    requires short { length new.now ≤ MOST_BYTES }
+    requires valid { length file.now.bytes ≤ MOST_BYTES }
+    requires ascending { IsStrictlySortedBy nat_cmp (map (λ p. p.line) marks.now) }
+    ensures { result ≡ nat_lt MOST_BYTES (length (replaced_text old.now new.now (map (λ p. p.line) marks.now) file.now.bytes)) }
+{
+    !marks.is_empty() && replaced_len(file.source(), old, new, marks) > MOST_BYTES as u64
+}
+
+/// Whether a file of several would have too many bytes with the old text replaced on the marked lines.
 pub(crate) fn has_large_file(
     files: &[Rc<StoredFile>],
     marks: &[Place],
@@ -34,6 +45,7 @@ pub(crate) fn has_large_file(
     new: &[u8],
 ) -> bool
     requires some { old.now ≢ [] }
+    requires short { length new.now ≤ MOST_BYTES }
     requires valid { AreValidFiles (files_of files.now) }
     requires ascending { AreAscending marks.now }
     requires along { GoAlong (files_of files.now) marks.now }
@@ -42,7 +54,7 @@ pub(crate) fn has_large_file(
     let mut rest = marks;
     for file in files {
         let (mine, others) = rest.split_at(marks_in(rest, file.name()));
-        if !mine.is_empty() && replaced_len(file.source(), old, new, mine) > MOST_BYTES as u64 {
+        if is_large(file.as_ref(), old, new, mine) {
             return true;
         }
         rest = others;
@@ -59,6 +71,7 @@ pub(crate) fn replaced_files(
     new: &[u8],
 ) -> Result<Vec<Rc<StoredFile>>, AllocError>
     requires some { old.now ≢ [] }
+    requires short { length new.now ≤ MOST_BYTES }
     requires ascending { AreAscending marks.now }
     requires along { GoAlong (files_of files.now) marks.now }
     requires small { list_any is_too_large (map (replaced_file old.now new.now marks.now) (files_of files.now)) ≡ false }
@@ -83,6 +96,7 @@ fn replaced_file(
     marks: &[Place],
 ) -> Result<Rc<StoredFile>, AllocError>
     requires some { old.now ≢ [] }
+    requires short { length new.now ≤ MOST_BYTES }
     requires ascending { IsStrictlySortedBy nat_cmp (map (λ p. p.line) marks.now) }
     requires small { length (replaced_text old.now new.now (map (λ p. p.line) marks.now) file.now.value.bytes) ≤ MOST_BYTES }
     ensures { IfOk result (λ f. f.value ≡ record { name = file.now.value.name; bytes = replaced_text old.now new.now (map (λ p. p.line) marks.now) file.now.value.bytes }) }

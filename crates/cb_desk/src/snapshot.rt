@@ -12,7 +12,7 @@ mod marks;
 mod stack;
 
 use crate::files::{Files, StoredFile};
-use crate::marks::WantedText;
+use crate::marks::{WantedText, shared_text};
 use crate::snapshot::marks::want_refusal;
 use crate::snapshot::stack::push_refusal;
 use crate::place::{Place, Places, Spot};
@@ -90,7 +90,7 @@ impl Snapshot {
     {
         Ok(Snapshot {
             files: self.files.clone()?,
-            wanted: self.wanted.clone()?,
+            wanted: shared_text(&self.wanted)?,
             marks: self.marks.clone()?,
             frames: self.frames.clone()?,
         })

@@ -62,6 +62,7 @@ impl StoredFile {
         marks: &[Place],
     ) -> Result<StoredFile, AllocError>
         requires some { old.now ≢ [] }
+        requires short { length new.now ≤ MOST_BYTES }
         requires ascending { IsStrictlySortedBy nat_cmp (map (λ p. p.line) marks.now) }
         requires small { length (meant old.now new.now (map (λ p. p.line) marks.now) self.now.bytes) ≤ MOST_BYTES }
         ensures { IfOk result (λ f. f ≡ record { name = self.now.name; bytes = meant old.now new.now (map (λ p. p.line) marks.now) self.now.bytes }) }

@@ -23,5 +23,5 @@ returns-in_default c =
     let file = c.args.file.now in
     let other = c.args.other.now in
     let is : slice_cmp nat_cmp file other.file ≡ c.in_default.unlike = ap (slice_cmp nat_cmp file) (sym c.file.ensures) ∙ sym c.cmp.ensures ∙ c.in_default.unlike-is in
-    sym (cmp-places file other.file c.args.line other.line ∙ ap (λ o. ordering_then o (nat_cmp c.args.line other.line)) is
+    c.in_default.unlike-is ∙ sym (cmp-places file other.file c.args.line other.line ∙ ap (λ o. ordering_then o (nat_cmp c.args.line other.line)) is
     ∙ first-decides c.in_default.unlike _ (λ e. c.in_default.not-Equal (c.in_default.unlike-is ∙ e)))

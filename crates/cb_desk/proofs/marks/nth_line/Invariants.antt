@@ -4,7 +4,7 @@ use Rattle.cb_desk.proofs.marks.nth_line.Given as goal
 
 abbrev pub invariant-loop-line : goal.invariant-loop-line
 invariant-loop-line l = record {
-  left : l.yielded ++ l.line-iterator ≡ lines_with l.finder l.source;
+  left : l.yielded ++ l.line-iterator ≡ lines_with l.fn.finder l.fn.source;
   count : l.passed ≡ length l.yielded;
   short : l.passed ≤ l.n;
 }

@@ -14,4 +14,4 @@ returns-then-has_mark c =
 pub returns : goal.returns
 returns c =
     let unmarked : list_any (same_place c.args.spot.now) c.args.marks.now.items ≡ false = search rules in
-    rw unmarked (?)
+    rw unmarked (c.in_ok-insert.ensures.items ∙ rw (c.in_ok-place.ensures, c.index_for-index.ensures.value, c.as_slice-2.ensures.value) (insert-put place_key c.args.spot.now c.args.marks.now.items))
