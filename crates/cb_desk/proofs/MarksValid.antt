@@ -18,6 +18,7 @@ use Rattle.cb_desk.specs.Places.{is_in, same_place, is_place_of, without_places,
 use Rattle.cb_desk.specs.Search.{holds, lines_with}
 use Rattle.cb_desk.specs.World.{File, Place, has_file, text_of_file, place_key, IsAscending, AreAscending, IsPlaceOf, IsMarkIn, AreMarksFor, AreValidMarks, AreValidFiles}
 use Rattle.cb_desk.specs.steps.Held.{held_in, held_places}
+use Rattle.cb_desk.specs.steps.Shared.{file_named}
 use Rattle.cb_desk.proofs.Placed.{by_name}
 use Rattle.cb_desk.proofs.PlaceLemmas.{IsAt, place-there, places-with, places-without, places-renamed, moved, same-name, own-texts}
 use Rattle.cb_desk.proofs.PlaceOrder.{Apart, Strict, all-put, all-in_order, in_order-strict, put-strict, apart-from, cmp-places, one-place, nat-less, name-equal}
@@ -241,3 +242,11 @@ place-from files p is = grind (arith, is)
 pub frames-kept : (files : List File) (frames : List Place) → AllByRecursion (IsPlaceOf files) (filter (is_place_of files) frames)
 frames-kept files frames =
     all-along (λ p. is_place_of files p ≡ true) (IsPlaceOf files) (filter (is_place_of files) frames) (place-from files) (all-passed (is_place_of files) frames)
+
+-- no line of a file that is not there is there
+pub no-place : (files : List File) (p : Place) → None ≡ file_named files p.file → is_place_of files p ≡ false
+no-place files p none =
+    (elim (is_place_of files p) as (λ b. is_place_of files p ≡ b → b ≡ false) [
+      | true ↦ λ h. let there = place-there files p (place-from files p h) in let some = ap (λ b. cond b (Some (record { name = p.file; bytes = text_of_file files p.file })) None) there in cc
+      | false ↦ λ h. refl
+    ]) refl

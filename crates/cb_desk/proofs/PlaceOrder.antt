@@ -1,6 +1,6 @@
 -- Places in the order of their keys: no two are equal, and what is put among them keeps the order.
-use Rattle.std.proofs.Common.{◌≡◌, ◌≢◌, ◌∙◌, sym, ap, refl, subst, ℕ, suc, zero, Bool, true, false, not, cond, List, [], ◌∷◌, ◌++◌, map, bytes_eq, ◌<◌, arith, nat_cmp, Ordering, Less, Equal, Greater}
-use Rattle.std.specs.List.{AllByRecursion}
+use Rattle.std.proofs.Common.{◌≡◌, ◌≢◌, ◌∙◌, sym, ap, refl, subst, ℕ, suc, zero, Bool, true, false, not, cond, List, [], ◌∷◌, ◌++◌, map, bytes_eq, ◌<◌, arith, insert, nat_cmp, Ordering, Less, Equal, Greater}
+use Rattle.std.specs.List.{AllByRecursion, prefix_len}
 use Rattle.std.specs.List.Sorted.{IsStrictlySortedBy}
 use Rattle.std.specs.Cmp.Lexicographic.{slice_cmp}
 use Rattle.std.specs.Ordering.{ordering_then, is_gt, is_eq}
@@ -102,6 +102,16 @@ module _ {X : Type 0} (key : X → List ℕ) where
   unfolding in_order
   put-strict x ys strict new =
       subst (λ l. Strict (put key x l)) (in_order-same ys strict) (in_order-strict (x ∷ ys) (new, apart-from ys strict))
+
+  -- an element put after those that it does not go before
+  pub insert-put : (x : X) (ys : List X) → insert ys (prefix_len (λ y. not (goes_first key x y)) ys) x ≡ put key x ys
+  unfolding put
+  insert-put x [] = refl
+  insert-put x (y ∷ ys) =
+      elim (goes_first key x y) as (λ b. insert (y ∷ ys) (cond (not b) (suc (prefix_len (λ y. not (goes_first key x y)) ys)) 0) x ≡ cond b (x ∷ y ∷ ys) (y ∷ put key x ys)) [
+        | true ↦ refl
+        | false ↦ ap (λ l. y ∷ l) (insert-put x ys)
+      ]
 
 -- ---- keys of places
 pub nat-less : (n m : ℕ) → n < m → nat_cmp n m ≡ Less

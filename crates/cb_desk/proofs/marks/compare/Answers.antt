@@ -1,20 +1,27 @@
-use Rattle.std.proofs.Common.{rules, ◌≡◌, ◌≢◌, ◌≤◌, [], ◌++◌, length, filter, not, slice_get, Some, IfOk, MatchResult, ℕ, ◌+◌, ◌-◌, ◌*◌, ◌<◌, ◌/◌, ◌%◌, Bool, true, false, nat_eq, nat_lt, List, ◌∷◌, slice_index_or, slice_set, bit_and, bit_or, Fits, w8, w32, w64, Bor, MutBor}
-use Rattle.std.specs.List.{list_any, prefix_len}
-use Rattle.std.specs.Ordering.{nat_cmp}
+use Rattle.std.proofs.Common.{◌≡◌, ◌≢◌, ◌∙◌, sym, ap, refl, nat_cmp, Ordering, Less, Equal, Greater}
 use Rattle.std.specs.Cmp.Lexicographic.{slice_cmp}
-use Rattle.cb_scan.specs.Order.{goes_first, in_order}
-use Rattle.cb_desk.specs.Marks.{toggled}
-use Rattle.cb_desk.specs.Places.{same_place, nth, is_place_of}
-use Rattle.cb_desk.specs.Search.{lines_with}
-use Rattle.cb_desk.specs.World.{place_key, IsAscending}
-use Rattle.cb_desk.specs.steps.Shared.{files_of}
-use Rattle.cb_desk.specs.steps.Held.{held_in, held_places}
+use Rattle.std.specs.Ordering.{ordering_then}
+use Rattle.cb_desk.proofs.PlaceOrder.{cmp-places}
 use Rattle.cb_desk.proofs.marks.compare.Goals as goal
 
--- src/marks.rt:57:1
-pub returns-in-Equal : goal.returns-in-Equal
-returns-in-Equal c = ?
+-- an order that is not equal decides
+first-decides : (o p : Ordering) → o ≢ Equal → ordering_then o p ≡ o
+first-decides Less p other = refl
+first-decides Equal p other = absurd (other refl)
+first-decides Greater p other = refl
 
--- src/marks.rt:57:1
+pub returns-in-Equal : goal.returns-in-Equal
+returns-in-Equal c =
+    let file = c.args.file.now in
+    let other = c.args.other.now in
+    let same : slice_cmp nat_cmp file other.file ≡ Equal = ap (slice_cmp nat_cmp file) (sym c.file.ensures) ∙ sym c.cmp.ensures ∙ c.in-Equal.is in
+    c.cmp-in-Equal.ensures ∙ ap (nat_cmp c.args.line) c.line.ensures
+    ∙ sym (cmp-places file other.file c.args.line other.line ∙ ap (λ o. ordering_then o (nat_cmp c.args.line other.line)) same)
+
 pub returns-in_default : goal.returns-in_default
-returns-in_default c = ?
+returns-in_default c =
+    let file = c.args.file.now in
+    let other = c.args.other.now in
+    let is : slice_cmp nat_cmp file other.file ≡ c.in_default.unlike = ap (slice_cmp nat_cmp file) (sym c.file.ensures) ∙ sym c.cmp.ensures ∙ c.in_default.unlike-is in
+    sym (cmp-places file other.file c.args.line other.line ∙ ap (λ o. ordering_then o (nat_cmp c.args.line other.line)) is
+    ∙ first-decides c.in_default.unlike _ (λ e. c.in_default.not-Equal (c.in_default.unlike-is ∙ e)))

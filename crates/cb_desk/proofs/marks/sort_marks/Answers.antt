@@ -1,16 +1,10 @@
-use Rattle.std.proofs.Common.{rules, ◌≡◌, ◌≢◌, ◌≤◌, [], ◌++◌, length, filter, not, slice_get, Some, IfOk, MatchResult, ℕ, ◌+◌, ◌-◌, ◌*◌, ◌<◌, ◌/◌, ◌%◌, Bool, true, false, nat_eq, nat_lt, List, ◌∷◌, slice_index_or, slice_set, bit_and, bit_or, Fits, w8, w32, w64, Bor, MutBor}
-use Rattle.std.specs.List.{list_any, prefix_len}
-use Rattle.std.specs.Ordering.{nat_cmp}
-use Rattle.std.specs.Cmp.Lexicographic.{slice_cmp}
-use Rattle.cb_scan.specs.Order.{goes_first, in_order}
-use Rattle.cb_desk.specs.Marks.{toggled}
-use Rattle.cb_desk.specs.Places.{same_place, nth, is_place_of}
-use Rattle.cb_desk.specs.Search.{lines_with}
-use Rattle.cb_desk.specs.World.{place_key, IsAscending}
-use Rattle.cb_desk.specs.steps.Shared.{files_of}
-use Rattle.cb_desk.specs.steps.Held.{held_in, held_places}
+-- A stable sort by the keys of marks puts them in order.
+use Rattle.std.proofs.Common.{rules}
+use Rattle.cb_desk.specs.World.{place_key}
+use Rattle.cb_desk.proofs.TagOrder.{in_order-from_sort_by}
 use Rattle.cb_desk.proofs.marks.sort_marks.Goals as goal
 
--- src/marks.rt:67:1
 pub returns : goal.returns
-returns c = ?
+returns c =
+    let sort = c.in_ok-sort_by.ensures in
+    in_order-from_sort_by place_key c.args.marks.now.items c.sort_by.new.self.items sort.sorted sort.stable (λ a r f k. search rules)

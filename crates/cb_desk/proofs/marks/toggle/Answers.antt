@@ -1,20 +1,17 @@
-use Rattle.std.proofs.Common.{rules, ◌≡◌, ◌≢◌, ◌≤◌, [], ◌++◌, length, filter, not, slice_get, Some, IfOk, MatchResult, ℕ, ◌+◌, ◌-◌, ◌*◌, ◌<◌, ◌/◌, ◌%◌, Bool, true, false, nat_eq, nat_lt, List, ◌∷◌, slice_index_or, slice_set, bit_and, bit_or, Fits, w8, w32, w64, Bor, MutBor}
-use Rattle.std.specs.List.{list_any, prefix_len}
-use Rattle.std.specs.Ordering.{nat_cmp}
-use Rattle.std.specs.Cmp.Lexicographic.{slice_cmp}
-use Rattle.cb_scan.specs.Order.{goes_first, in_order}
-use Rattle.cb_desk.specs.Marks.{toggled}
-use Rattle.cb_desk.specs.Places.{same_place, nth, is_place_of}
-use Rattle.cb_desk.specs.Search.{lines_with}
-use Rattle.cb_desk.specs.World.{place_key, IsAscending}
-use Rattle.cb_desk.specs.steps.Shared.{files_of}
-use Rattle.cb_desk.specs.steps.Held.{held_in, held_places}
+use Rattle.std.proofs.Common.{rules, ◌≡◌, ◌∙◌, sym, ap, true, false}
+use Rattle.std.specs.List.{list_any}
+use Rattle.std.proofs.lemmas.Fn.{filter_same}
+use Rattle.cb_desk.specs.Places.{same_place}
+use Rattle.cb_desk.specs.World.{place_key}
+use Rattle.cb_desk.proofs.PlaceOrder.{insert-put}
 use Rattle.cb_desk.proofs.marks.toggle.Goals as goal
 
--- src/marks.rt:102:9
 pub returns-then-has_mark : goal.returns-then-has_mark
-returns-then-has_mark c = ?
+returns-then-has_mark c =
+    let marked : list_any (same_place c.args.spot.now) c.args.marks.now.items ≡ true = search rules in
+    rw marked (filter_same _ _ _ (λ x b f' k. search rules) _ _ c.retain.ensures.filtered)
 
--- src/marks.rt:97:1
 pub returns : goal.returns
-returns c = ?
+returns c =
+    let unmarked : list_any (same_place c.args.spot.now) c.args.marks.now.items ≡ false = search rules in
+    rw unmarked (?)
