@@ -1,0 +1,107 @@
+use Rattle.std.proofs.Common.{◌∙◌, ◌≡◌, ◌∷◌, ◌+◌, sym, ap, length, arith, Some, None}
+use Rattle.cb_scan.specs.Lines.{lines}
+use Rattle.cb_desk.specs.steps.Search.{found_from}
+use Rattle.cb_desk.proofs.TextLines.{passes, passes-held, passes-bare, passes-many, holds-found, found-none}
+use Rattle.cb_desk.proofs.Gaps.{some-length}
+use Rattle.cb_desk.proofs.search.next_line.Goals as goal
+
+pub overflow_cast-number : goal.overflow_cast-number
+overflow_cast-number c =
+    let p = c.args.finder.now in
+    let rest = c.loop-place.left.rest.now in
+    let n = c.loop-place.left.line in
+    let start = c.line_start-start.result in
+    let pass = passes p rest n start c.in-Some.place c.feeds_in.result c.requires.some c.in-Some.ensures c.line_start-start.ensures.within c.line_start-start.ensures.start c.feeds_in.ensures in
+    let many = pass.many in
+    let room = c.loop-place.invariant.small in
+    omega arith
+
+pub overflow_add-number : goal.overflow_add-number
+overflow_add-number c =
+    let p = c.args.finder.now in
+    let rest = c.loop-place.left.rest.now in
+    let n = c.loop-place.left.line in
+    let start = c.line_start-start.result in
+    let pass = passes p rest n start c.in-Some.place c.feeds_in.result c.requires.some c.in-Some.ensures c.line_start-start.ensures.within c.line_start-start.ensures.start c.feeds_in.ensures in
+    let many = pass.many in
+    let room = c.loop-place.invariant.small in
+    omega arith
+
+pub returns-in_err-line-clause-found : goal.returns-in_err-line-clause-found
+returns-in_err-line-clause-found c =
+    let p = c.args.finder.now in
+    let rest = c.loop-place.left.rest.now in
+    let n = c.loop-place.left.line in
+    let start = c.line_start-start.result in
+    let pass = passes p rest n start c.in-Some.place c.feeds_in.result c.requires.some c.in-Some.ensures c.line_start-start.ensures.within c.line_start-start.ensures.start c.feeds_in.ensures in
+    let gone = sym c.lines-lines.ensures.value ∙ c.in_err-line.ensures.steps.0 in
+    rw c.from_residual.ensures (sym c.loop-place.invariant.found ∙ pass.found ∙ ap (found_from p (n + c.feeds_in.result)) gone)
+
+pub overflow_add-left : goal.overflow_add-left
+overflow_add-left c =
+    let p = c.args.finder.now in
+    let rest = c.loop-place.left.rest.now in
+    let n = c.loop-place.left.line in
+    let start = c.line_start-start.result in
+    let pass = passes p rest n start c.in-Some.place c.feeds_in.result c.requires.some c.in-Some.ensures c.line_start-start.ensures.within c.line_start-start.ensures.start c.feeds_in.ensures in
+    let next = sym c.lines-lines.ensures.value ∙ c.in_ok-line.ensures.steps ∙ ap (λ ls. c.in_ok-line.line.now ∷ ls) (sym c.as_bytes.ensures) in
+    let room = c.loop-place.invariant.small in
+    let many = passes-many p n rest start c.feeds_in.result pass c.in_ok-line.line.now c.as_bytes.result.now next in
+    omega arith
+
+pub returns-then-is_some-clause-found : goal.returns-then-is_some-clause-found
+returns-then-is_some-clause-found c =
+    let p = c.args.finder.now in
+    let rest = c.loop-place.left.rest.now in
+    let n = c.loop-place.left.line in
+    let start = c.line_start-start.result in
+    let pass = passes p rest n start c.in-Some.place c.feeds_in.result c.requires.some c.in-Some.ensures c.line_start-start.ensures.within c.line_start-start.ensures.start c.feeds_in.ensures in
+    let next = sym c.lines-lines.ensures.value ∙ c.in_ok-line.ensures.steps ∙ ap (λ ls. c.in_ok-line.line.now ∷ ls) (sym c.as_bytes.ensures) in
+    let room = c.loop-place.invariant.small in
+    let many = passes-many p n rest start c.feeds_in.result pass c.in_ok-line.line.now c.as_bytes.result.now next in
+    let held = sym (holds-found p c.in_ok-line.line.now c.find-in-Some.result c.find-in-Some.ensures) ∙ sym c.is_some.ensures ∙ c.if-is_some.true in
+    sym c.loop-place.invariant.found ∙ passes-held p n rest start c.feeds_in.result pass c.in_ok-line.line.now c.as_bytes.result.now next held
+
+pub returns-then-is_some-clause-small : goal.returns-then-is_some-clause-small
+returns-then-is_some-clause-small c =
+    let p = c.args.finder.now in
+    let rest = c.loop-place.left.rest.now in
+    let n = c.loop-place.left.line in
+    let start = c.line_start-start.result in
+    let pass = passes p rest n start c.in-Some.place c.feeds_in.result c.requires.some c.in-Some.ensures c.line_start-start.ensures.within c.line_start-start.ensures.start c.feeds_in.ensures in
+    let next = sym c.lines-lines.ensures.value ∙ c.in_ok-line.ensures.steps ∙ ap (λ ls. c.in_ok-line.line.now ∷ ls) (sym c.as_bytes.ensures) in
+    let room = c.loop-place.invariant.small in
+    let many = passes-many p n rest start c.feeds_in.result pass c.in_ok-line.line.now c.as_bytes.result.now next in
+    omega arith
+
+pub loop-place-smaller : goal.loop-place-smaller
+loop-place-smaller c =
+    let p = c.args.finder.now in
+    let rest = c.loop-place.left.rest.now in
+    let n = c.loop-place.left.line in
+    let start = c.line_start-start.result in
+    let pass = passes p rest n start c.in-Some.place c.feeds_in.result c.requires.some c.in-Some.ensures c.line_start-start.ensures.within c.line_start-start.ensures.start c.feeds_in.ensures in
+    let next = sym c.lines-lines.ensures.value ∙ c.in_ok-line.ensures.steps ∙ ap (λ ls. c.in_ok-line.line.now ∷ ls) (sym c.as_bytes.ensures) in
+    let room = c.loop-place.invariant.small in
+    let many = passes-many p n rest start c.feeds_in.result pass c.in_ok-line.line.now c.as_bytes.result.now next in
+    omega arith
+
+pub loop-place-preserved : goal.loop-place-preserved
+loop-place-preserved c =
+    let p = c.args.finder.now in
+    let rest = c.loop-place.left.rest.now in
+    let n = c.loop-place.left.line in
+    let start = c.line_start-start.result in
+    let pass = passes p rest n start c.in-Some.place c.feeds_in.result c.requires.some c.in-Some.ensures c.line_start-start.ensures.within c.line_start-start.ensures.start c.feeds_in.ensures in
+    let next = sym c.lines-lines.ensures.value ∙ c.in_ok-line.ensures.steps ∙ ap (λ ls. c.in_ok-line.line.now ∷ ls) (sym c.as_bytes.ensures) in
+    let room = c.loop-place.invariant.small in
+    let many = passes-many p n rest start c.feeds_in.result pass c.in_ok-line.line.now c.as_bytes.result.now next in
+    let held = sym (holds-found p c.in_ok-line.line.now c.find-in-Some.result c.find-in-Some.ensures) ∙ sym c.is_some.ensures ∙ c.if-is_some.false in
+    record {
+      found = sym (passes-bare p n rest start c.feeds_in.result pass c.in_ok-line.line.now c.as_bytes.result.now next held) ∙ c.loop-place.invariant.found;
+      small = omega arith;
+    }
+
+pub returns-clause-found : goal.returns-clause-found
+returns-clause-found c =
+    sym c.loop-place.invariant.found ∙ found-none c.args.finder.now (some-length c.args.finder.now c.requires.some) c.loop-place.left.line c.loop-place.left.rest.now c.in_default.ensures
