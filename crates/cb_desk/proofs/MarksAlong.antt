@@ -1,5 +1,5 @@
 -- Marks that ascend are those of the first file, then those of the second, and so on.
-use Rattle.std.proofs.Common.{◌≡◌, ◌≢◌, ◌∙◌, sym, ap, refl, subst, ℕ, zero, suc, ◌+◌, ◌<◌, get_or, arith, Bool, true, false, not, ◌||◌, cond, List, [], ◌∷◌, ◌++◌, filter, map, take, drop, length, bytes_eq, nat_cmp, is_eq, Ordering, Less, Equal, Greater}
+use Rattle.std.proofs.Common.{◌≡◌, ◌≢◌, ◌∙◌, sym, ap, refl, subst, ℕ, zero, suc, ◌+◌, ◌<◌, get_or, arith, Bool, true, false, not, ◌||◌, cond, List, [], ◌∷◌, ◌++◌, filter, map, take, drop, length, bytes_eq, Some, nat_cmp, is_eq, Ordering, Less, Equal, Greater}
 use Rattle.std.specs.List.{AllByRecursion, prefix_len, list_any, flat_map}
 use Rattle.std.specs.List.Sorted.{IsStrictlySortedBy}
 use Rattle.std.specs.Cmp.Lexicographic.{slice_cmp}
@@ -11,11 +11,11 @@ use Rattle.bstr.specs.Text.{lines_of}
 use Rattle.cb_desk.specs.Marks.{marked_lines, replaced_file}
 use Rattle.cb_desk.specs.Replacement.{replaced_text, replaced_if_marked, marked_from}
 use Rattle.cb_desk.specs.Places.{is_in}
-use Rattle.cb_desk.specs.World.{File, Place, is_named, has_file, place_key, IsAscending, AreAscending}
+use Rattle.cb_desk.specs.World.{World, File, Place, is_named, has_file, text_of_file, place_key, IsAscending, AreAscending, IsMarkIn, AreValidMarks, IsValidWorld}
 use Rattle.cb_desk.specs.steps.Held.{GoAlong}
 use Rattle.cb_desk.proofs.MarkedLines.{first-part, bytes-of}
 use Rattle.cb_desk.proofs.Placed.{by_name}
-use Rattle.cb_desk.proofs.PlaceLemmas.{same-name, name-same}
+use Rattle.cb_desk.proofs.PlaceLemmas.{place-there, same-name, name-same}
 use Rattle.cb_desk.proofs.PlaceOrder.{cmp-places, name-equal}
 use Rattle.cb_desk.proofs.Texts.{next_file}
 use Rattle.cb_desk.proofs.Valid.{all-filter, all-along, all-both, all-passed}
@@ -254,3 +254,10 @@ module _ {X : Type 0} (v : X → File) (xs : List X) (i : ℕ) (x : X) (old new 
       ap (map (replaced_file old new rest)) (next_file v xs i x within is)
       ∙ ap (λ f. f ∷ map (replaced_file old new rest) (map v (drop (i + 1) xs))) file
       ∙ ap (λ fs. record { name = (v x).name; bytes = replaced_text old new (map (λ p. p.line) mine) (v x).bytes } ∷ fs) (here.others ∙ ap (λ ms. map (replaced_file old new ms) (map v (drop (i + 1) xs))) (sym back))
+
+-- ---- the marks of a valid world
+pub valid-along : (w : World) (text : List ℕ) → w.wanted ≡ Some text → IsValidWorld w → GoAlong w.files w.marks
+valid-along w text is valid =
+    let marks = subst (λ o. AreValidMarks w.files o w.marks) is valid.marks in
+    goes-along w.files w.marks valid.files.ascending marks.ascending
+    (all-along (λ (p : Place). IsMarkIn text (text_of_file w.files p.file) p.line) (λ (p : Place). has_file w.files p.file ≡ true) w.marks (λ p h. place-there w.files p h.0) marks.held)

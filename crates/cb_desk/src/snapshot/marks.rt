@@ -10,7 +10,7 @@ ghost use Rattle.cb_desk.specs.steps.Shared.{files_of};
 use crate::Refusal;
 use crate::limits::MOST_TEXT;
 use crate::marks::{WantedText, held_places, kept_places, nth_held, toggle};
-use crate::place::Spot;
+use crate::place::{Place, Spot};
 use crate::replaced_files::{has_large_file, replaced_files};
 use crate::snapshot::Snapshot;
 use std::alloc::{AllocError, Global};
@@ -91,16 +91,25 @@ impl Snapshot {
         }
     }
 
+    /// The places of the lines that hold the wanted text, by file and line.
+    fn wanted_places(&self, alloc: Global) -> Result<Vec<Place>, AllocError>
+        requires { IsValidWorld self.now }
+        ensures { IfOk result (λ places. places.items ≡ wanted_places self.now) }
+    {
+        match self.wanted() {
+            Some(text) => held_places(alloc, self.files.as_slice(), text),
+            None => Ok(Vec::new(alloc)),
+        }
+    }
+
     /// The world in which each line that holds the wanted text is marked.
     pub(crate) fn all_marked(&self, alloc: Global) -> Result<Snapshot, AllocError>
         requires { IsValidWorld self.now }
         ensures { IfOk result (λ w. w ≡ all_marked self.now) }
     {
+        let marks = self.wanted_places(alloc)?;
         let mut next = self.copied()?;
-        next.marks.clear();
-        if let Some(text) = self.wanted() {
-            next.marks = held_places(alloc, self.files.as_slice(), text)?;
-        }
+        next.marks = marks;
         Ok(next)
     }
 

@@ -9,8 +9,11 @@ use Rattle.cb_desk.proofs.Counting.{counted-here, counted-later}
 use Rattle.cb_desk.proofs.marks.nth_held.Goals as goal
 
 -- the nth line that holds a text, as a place
-line-place : (name ns : List ℕ) (n line : ℕ) → slice_get ns n ≡ Some line → slice_get (map (λ m. record { file = name; line = m }) ns) n ≡ Some (record { file = name; line = line })
-line-place name ns n line e = slice_get-map (λ m. record { file = name; line = m }) ns n ∙ ap (option_map (λ m. record { file = name; line = m })) e
+abbrev at-line : List ℕ → ℕ → Place
+at-line name m = record { file = name; line = m }
+
+line-place : (name ns : List ℕ) (n line : ℕ) → slice_get ns n ≡ Some line → slice_get {X = Place} (map (λ m. record { file = name; line = m }) ns) n ≡ Some (record { file = name; line = line })
+line-place name ns n line e = slice_get-map (at-line name) ns n ∙ ap (option_map (at-line name)) e
 
 pub returns-in-Ok : goal.returns-in-Ok
 returns-in-Ok c =

@@ -6,6 +6,7 @@ use Rattle.cb_desk.specs.declared.files.stored.StoredFile.{StoredFile}
 use Rattle.cb_desk.specs.declared.limits.TheConstants.{MOST_BYTES}
 use Rattle.cb_desk.specs.Marks.{replaced_file, is_too_large}
 use Rattle.cb_desk.specs.Places.{is_in}
+use Rattle.cb_desk.specs.Replacement.{replaced_text}
 use Rattle.cb_desk.specs.World.{File}
 use Rattle.cb_desk.proofs.MarksAlong.{mine-ascend, others-along, others-ascend, next-made}
 use Rattle.cb_desk.proofs.Texts.{next_file}
@@ -15,7 +16,7 @@ pub is_large-requires-clause-valid : goal.is_large-requires-clause-valid
 is_large-requires-clause-valid c =
     let v = λ (shared : Rc StoredFile Global). shared.value in
     let sizes = subst (AllByRecursion (λ (f : File). length f.bytes ≤ MOST_BYTES)) (next_file v c.args.files.now c.loop-file.file-index c.file-item.result c.loop-file-test.true c.file-item.is) c.loop-file.invariant.sizes in
-    rw c.deref-in-loop-file.ensures sizes.0
+    rw c.as_ref.ensures sizes.0
 
 pub is_large-requires-clause-ascending : goal.is_large-requires-clause-ascending
 is_large-requires-clause-ascending c =
@@ -33,7 +34,9 @@ returns-then-is_large c =
     let rest = c.loop-file.rest.now in
     let counted : c.marks_in.result ≡ prefix_len (is_in file.value.name) rest = c.marks_in.ensures.value ∙ ap (λ n. prefix_len (is_in n) rest) (c.name.ensures ∙ ap (λ f. f.name) c.deref.ensures) in
     let split = c.split_at.ensures in
-    ?
+    let large : nat_lt MOST_BYTES (length (replaced_text c.args.old.now c.args.new.now (map (λ p. p.line) c.split_at.result.0.now) file.value.bytes)) ≡ true =
+        ap (λ (f : File). nat_lt MOST_BYTES (length (replaced_text c.args.old.now c.args.new.now (map (λ p. p.line) c.split_at.result.0.now) f.bytes))) (sym c.as_ref.ensures) ∙ sym c.is_large.ensures ∙ c.if-is_large.true in
+    sym (c.loop-file.invariant.same ∙ ap (list_any is_too_large) (next-made v c.args.files.now c.loop-file.file-index file c.args.old.now c.args.new.now rest _ _ c.marks_in.result c.loop-file-test.true c.file-item.is counted split.front split.back c.loop-file.invariant.along c.loop-file.invariant.ascending) ∙ rw large refl)
 
 pub loop-file-preserved : goal.loop-file-preserved
 loop-file-preserved c =
@@ -42,4 +45,12 @@ loop-file-preserved c =
     let rest = c.loop-file.rest.now in
     let counted : c.marks_in.result ≡ prefix_len (is_in file.value.name) rest = c.marks_in.ensures.value ∙ ap (λ n. prefix_len (is_in n) rest) (c.name.ensures ∙ ap (λ f. f.name) c.deref.ensures) in
     let split = c.split_at.ensures in
-    ?
+    let small : nat_lt MOST_BYTES (length (replaced_text c.args.old.now c.args.new.now (map (λ p. p.line) c.split_at.result.0.now) file.value.bytes)) ≡ false =
+        ap (λ (f : File). nat_lt MOST_BYTES (length (replaced_text c.args.old.now c.args.new.now (map (λ p. p.line) c.split_at.result.0.now) f.bytes))) (sym c.as_ref.ensures) ∙ sym c.is_large.ensures ∙ c.if-is_large.false in
+    let sizes = subst (AllByRecursion (λ (f : File). length f.bytes ≤ MOST_BYTES)) (next_file v c.args.files.now c.loop-file.file-index file c.loop-file-test.true c.file-item.is) c.loop-file.invariant.sizes in
+    record {
+      same = c.loop-file.invariant.same ∙ ap (list_any is_too_large) (next-made v c.args.files.now c.loop-file.file-index file c.args.old.now c.args.new.now rest _ _ c.marks_in.result c.loop-file-test.true c.file-item.is counted split.front split.back c.loop-file.invariant.along c.loop-file.invariant.ascending) ∙ rw small refl;
+      sizes = sizes.1;
+      along = others-along v c.args.files.now c.loop-file.file-index file c.args.old.now c.args.new.now rest _ _ c.marks_in.result c.loop-file-test.true c.file-item.is counted split.front split.back c.loop-file.invariant.along c.loop-file.invariant.ascending;
+      ascending = others-ascend v c.args.files.now c.loop-file.file-index file c.args.old.now c.args.new.now rest _ _ c.marks_in.result c.loop-file-test.true c.file-item.is counted split.front split.back c.loop-file.invariant.along c.loop-file.invariant.ascending;
+    }

@@ -1,12 +1,13 @@
-use Rattle.std.proofs.Common.{rules, ◌≡◌, None, Some, IfOk, ℕ, ◌+◌, ◌-◌, ◌*◌, ◌<◌, ◌≤◌, length, ◌/◌, ◌%◌, Bool, true, false, nat_eq, nat_lt, List, [], ◌∷◌, ◌++◌, slice_index_or, slice_set, bit_and, bit_or, Fits, w8, w32, w64, Bor, MutBor}
-use Rattle.std.specs.List.{list_any}
-use Rattle.cb_scan.specs.Bytes.{line_feed}
-use Rattle.cb_desk.specs.Marks.{want_refusal, wanting, wanted_places, mark_refusal, toggled_at, mark_all_refusal, all_marked, replace_refusal, marked_refusal, replaced_files, replaced_on_marks, is_too_large}
+use Rattle.std.proofs.Common.{◌≡◌, ◌∙◌, sym, ap}
 use Rattle.cb_desk.specs.Places.{nth}
-use Rattle.cb_desk.specs.World.{is_short, IsValidWorld}
+use Rattle.cb_desk.specs.steps.Held.{held_places}
 use Rattle.cb_desk.specs.steps.Shared.{files_of}
+use Rattle.cb_desk.proofs.HeldRows.{wanted-held}
 use Rattle.cb_desk.proofs.snapshot.Snapshot.nth_held.Goals as goal
 
--- src/snapshot/marks.rt:52:5
 pub returns : goal.returns
-returns c = ?
+returns c =
+    let w = c.args.self.now in
+    let text = c.in_ok-text.text.now in
+    let files : files_of c.as_slice.result.now ≡ w.files = ap files_of c.as_slice.ensures.value ∙ ap (λ w. w.files) c.self.view_is in
+    c.nth_held.ensures ∙ ap (λ fs. nth c.args.n (held_places text fs)) files ∙ ap (nth c.args.n) (sym (wanted-held w text (sym c.in_ok-text.ensures) c.requires.files.ascending))

@@ -1,12 +1,11 @@
-use Rattle.std.proofs.Common.{rules, ◌≡◌, None, Some, IfOk, ℕ, ◌+◌, ◌-◌, ◌*◌, ◌<◌, ◌≤◌, length, ◌/◌, ◌%◌, Bool, true, false, nat_eq, nat_lt, List, [], ◌∷◌, ◌++◌, slice_index_or, slice_set, bit_and, bit_or, Fits, w8, w32, w64, Bor, MutBor}
-use Rattle.std.specs.List.{list_any}
-use Rattle.cb_scan.specs.Bytes.{line_feed}
-use Rattle.cb_desk.specs.Marks.{want_refusal, wanting, wanted_places, mark_refusal, toggled_at, mark_all_refusal, all_marked, replace_refusal, marked_refusal, replaced_files, replaced_on_marks, is_too_large}
-use Rattle.cb_desk.specs.Places.{nth}
-use Rattle.cb_desk.specs.World.{is_short, IsValidWorld}
+use Rattle.std.proofs.Common.{◌≡◌, ◌∙◌, sym, ap}
 use Rattle.cb_desk.specs.steps.Shared.{files_of}
+use Rattle.cb_desk.proofs.MarksAlong.{valid-along}
 use Rattle.cb_desk.proofs.snapshot.Snapshot.replace_refusal.Goals as goal
 
--- src/snapshot/marks.rt:120:19
 pub has_large_file-requires-clause-along : goal.has_large_file-requires-clause-along
-has_large_file-requires-clause-along c = ?
+has_large_file-requires-clause-along c =
+    let w = c.args.self.now in
+    let files : files_of c.as_slice.result.now ≡ w.files = ap files_of c.as_slice.ensures.value ∙ ap (λ w. w.files) c.self.view_is in
+    let marks : c.as_slice-else-is_empty.result.now ≡ w.marks = c.as_slice-else-is_empty.ensures.value ∙ ap (λ w. w.marks) c.self.view_is in
+    rw (files, marks) (valid-along w c.in-Some.wanted.now (sym c.in-Some.ensures) c.requires)

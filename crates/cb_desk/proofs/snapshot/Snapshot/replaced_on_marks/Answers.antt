@@ -1,16 +1,19 @@
-use Rattle.std.proofs.Common.{rules, ◌≡◌, None, Some, IfOk, ℕ, ◌+◌, ◌-◌, ◌*◌, ◌<◌, ◌≤◌, length, ◌/◌, ◌%◌, Bool, true, false, nat_eq, nat_lt, List, [], ◌∷◌, ◌++◌, slice_index_or, slice_set, bit_and, bit_or, Fits, w8, w32, w64, Bor, MutBor}
-use Rattle.std.specs.List.{list_any}
-use Rattle.cb_scan.specs.Bytes.{line_feed}
-use Rattle.cb_desk.specs.Marks.{want_refusal, wanting, wanted_places, mark_refusal, toggled_at, mark_all_refusal, all_marked, replace_refusal, marked_refusal, replaced_files, replaced_on_marks, is_too_large}
-use Rattle.cb_desk.specs.Places.{nth}
-use Rattle.cb_desk.specs.World.{is_short, IsValidWorld}
+use Rattle.std.proofs.Common.{◌≡◌, ◌∙◌, sym, ap}
 use Rattle.cb_desk.specs.steps.Shared.{files_of}
+use Rattle.cb_desk.proofs.MarksAlong.{valid-along}
+use Rattle.cb_desk.proofs.MarksValid.{ascending-kept}
 use Rattle.cb_desk.proofs.snapshot.Snapshot.replaced_on_marks.Goals as goal
 
--- src/snapshot/marks.rt:137:21
 pub replaced_files-requires-clause-along : goal.replaced_files-requires-clause-along
-replaced_files-requires-clause-along c = ?
+replaced_files-requires-clause-along c =
+    let w = c.args.self.now in
+    let files : files_of c.as_slice.result.now ≡ w.files = ap files_of c.as_slice.ensures.value ∙ ap (λ w. w.files) c.self.view_is in
+    let marks : c.as_slice-marks.result.now ≡ w.marks = c.as_slice-marks.ensures.value ∙ ap (λ w. w.marks) c.self.view_is in
+    rw (files, marks) (valid-along w c.in-Some.wanted.now (sym c.in-Some.ensures) c.requires.valid)
 
--- src/snapshot/marks.rt:138:22
 pub kept_places-requires : goal.kept_places-requires
-kept_places-requires c = ?
+kept_places-requires c =
+    let w = c.args.self.now in
+    let files : files_of c.as_slice.result.now ≡ w.files = ap files_of c.as_slice.ensures.value ∙ ap (λ w. w.files) c.self.view_is in
+    rw (c.as_slice-2.ensures.value, c.in_ok-files.ensures, files)
+    (ascending-kept c.in-Some.wanted.now c.args.text.now c.as_slice-marks.result.now w.files c.requires.valid.files.ascending)
