@@ -16,6 +16,7 @@ pub mod StepsValid
 pub mod Swaps
 pub mod TagOrder
 pub mod TextLines
+pub mod TextRowsApart
 pub mod Texts
 pub mod Unindented
 pub mod Valid

@@ -4,4 +4,5 @@ pub mod MarkedLines
 pub mod Scans
 pub mod Search
 pub mod Shared
+pub mod TextRows
 pub mod Worlds

@@ -23,6 +23,7 @@ mod snapshot;
 mod stack;
 mod state;
 mod tags;
+mod text_rows;
 #[cfg(test)]
 mod tests;
 
@@ -30,6 +31,7 @@ pub use change::Change;
 pub use files::Files;
 pub use place::Places;
 pub use refusal::Refusal;
-pub use rows::{Field, RefRow, RowIter, RowList, TextRows, line_row};
+pub use rows::{Field, RefRow, RowIter, RowList, line_row};
 pub use state::Desk;
 pub use tags::{Format, TagRowIter, TagRowList};
+pub use text_rows::TextRows;

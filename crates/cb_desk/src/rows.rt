@@ -9,10 +9,8 @@ ghost use Rattle.cb_desk.specs.steps.Collects.{Collects};
 ghost use Rattle.cb_desk.specs.Models.{row_of, file_of};
 
 use crate::found::{defined_name, shown_line};
-use crate::files::Files;
-use crate::search::TextLines;
+use crate::text_rows::TextRows;
 use cb_scan::{Def, Meter, Source, scan};
-use memchr::memmem::Finder;
 use std::alloc::{AllocError, Global};
 use std::marker::Model;
 use std::slice;
@@ -234,42 +232,4 @@ fn blanks(line: &[u8]) -> usize
     line.iter()
         .take_while(|byte| **byte == b' ' || **byte == b'\t')
         .count()
-}
-
-/// STUB
-#[derive(Drop)]
-pub struct TextRows<'a, 'p> {
-    files: Files<'a>,
-    finder: Finder<'p>,
-}
-
-impl<'a, 'p> Model for TextRows<'a, 'p> {
-    ghost use Rattle.std.specs.Prelude.{List};
-    ghost use Rattle.std.specs.List.{flat_map};
-    ghost use Rattle.cb_desk.specs.Answer.{AnswerRow, text_rows_in};
-
-    ghost Value = { List AnswerRow };
-
-    ghost view = { λ r. flat_map (text_rows_in r.finder) r.files };
-}
-
-impl<'a, 'p> TextRows<'a, 'p> {
-    pub(crate) fn new(files: Files<'a>, pattern: &'p [u8]) -> TextRows<'a, 'p>
-        requires { pattern.now ≢ [] }
-        ensures { result ≡ flat_map (text_rows_in pattern.now) files.entry }
-    {
-        TextRows { files, finder: Finder::new(pattern) }
-    }
-}
-
-impl<'a, 'p> Iterator for TextRows<'a, 'p> {
-    type Item = RefRow<'a>;
-
-    ghost next_gives = { YieldsFirstBy row_of (λ rows. rows) };
-
-    ghost remaining = { item_count (λ rows. rows) };
-
-    fn next(&mut self) -> Option<RefRow<'a>> {
-        None
-    }
 }
