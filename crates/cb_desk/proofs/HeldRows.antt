@@ -7,6 +7,7 @@ use Rattle.cb_desk.specs.Marks.{place_of_row, places_of_text, wanted_places}
 use Rattle.cb_desk.specs.Search.{lines_with}
 use Rattle.cb_desk.specs.World.{World, File, Place, IsAscending}
 use Rattle.cb_desk.specs.steps.Held.{held_in, held_places}
+use Rattle.cb_desk.proofs.TextRowsApart.{text_rows-distinct}
 
 map-join : {X Y : Type 0} (h : X → Y) (xs ys : List X) → map h (xs ++ ys) ≡ map h xs ++ map h ys
 map-join h [] ys = refl
@@ -24,12 +25,9 @@ places-of-rows text (f ∷ files) =
     ∙ ap (λ l. l ++ map place_of_row (flat_map (text_rows_in text) files)) (rows-in f (lines_with text f.bytes))
     ∙ ap (λ l. held_in text f ++ l) (places-of-rows text files)
 
-all-distinct : (text : List ℕ) (files : List File) → IsAscending files → distinct (flat_map (text_rows_in text) files) ≡ flat_map (text_rows_in text) files
-all-distinct text files up = {! !}
-
 -- the answer's places
 pub answer-held : (w : World) (text : List ℕ) → IsAscending w.files → map place_of_row (answer w Text text) ≡ held_places text w.files
-answer-held w text up = ap (map place_of_row) (all-distinct text w.files up) ∙ places-of-rows text w.files
+answer-held w text up = ap (map place_of_row) (text_rows-distinct text w.files up) ∙ places-of-rows text w.files
 
 -- those of the wanted text
 pub wanted-held : (w : World) (text : List ℕ) → w.wanted ≡ Some text → IsAscending w.files → wanted_places w ≡ held_places text w.files
