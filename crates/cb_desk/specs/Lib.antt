@@ -6,6 +6,7 @@ pub mod Models
 pub mod Places
 pub mod Refusals
 pub mod Replacement
+pub mod ReplacementExamples
 pub mod Search
 pub mod Stack
 pub mod Step

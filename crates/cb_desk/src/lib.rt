@@ -23,9 +23,9 @@ mod snapshot;
 mod stack;
 mod state;
 mod tags;
-mod text_rows;
 #[cfg(test)]
 mod tests;
+mod text_rows;
 
 pub use change::Change;
 pub use files::Files;

@@ -10,8 +10,8 @@ mod marked;
 
 use crate::limits::MOST_BYTES;
 use crate::line::shown;
-use crate::replacement::marked::MarkedLines;
 use crate::place::Place;
+use crate::replacement::marked::MarkedLines;
 use bstr::ByteSlice;
 use cb_scan::Source;
 use memchr::memmem::find_iter;

@@ -4,7 +4,7 @@ ghost use Rattle.std.specs.Iterator.{YieldsFirst, item_count};
 ghost use Rattle.cb_scan.specs.Lines.{lines};
 ghost use Rattle.cb_desk.specs.declared.limits.TheConstants.{MOST_BYTES};
 ghost use Rattle.cb_desk.specs.Search.{lines_with};
-ghost use Rattle.cb_desk.specs.steps.Search.{found_from, IsLineStart};
+ghost use Rattle.cb_desk.specs.steps.Search.{found_in, IsLineStart};
 
 use bstr::ByteSlice;
 use cb_scan::Source;
@@ -61,7 +61,7 @@ pub(crate) fn next_line<'t>(
 ) -> Option<(u32, LinesLeft<'t>)>
     requires some { finder.now ≢ [] }
     requires small { left.line + length (lines left.rest.now) ≤ MOST_BYTES + 1 }
-    ensures found { MatchOption result (found_from finder.now left.entry.line (lines left.entry.rest.now) ≡ []) (λ r. found_from finder.now left.entry.line (lines left.entry.rest.now) ≡ r.0 ∷ found_from finder.now r.1.line (lines r.1.rest.now)) }
+    ensures found { MatchOption result (found_in finder.now left.entry ≡ []) (λ r. found_in finder.now left.entry ≡ r.0 ∷ found_in finder.now r.1) }
     ensures small { MatchOption result ⊤ (λ r. r.1.line + length (lines r.1.rest.now) ≤ MOST_BYTES + 1) }
 {
     let mut left = left;
@@ -93,11 +93,11 @@ impl<'t, 'p> Model for TextLines<'t, 'p> {
     ghost use Rattle.std.specs.Prelude.{List, ℕ, ◌≢◌, ◌≤◌, ◌+◌, [], length};
     ghost use Rattle.cb_scan.specs.Lines.{lines};
     ghost use Rattle.cb_desk.specs.declared.limits.TheConstants.{MOST_BYTES};
-    ghost use Rattle.cb_desk.specs.steps.Search.{found_from};
+    ghost use Rattle.cb_desk.specs.steps.Search.{found_in};
 
     ghost Value = { List ℕ };
 
-    ghost view = { λ t. found_from t.finder.now t.left.line (lines t.left.rest.now) };
+    ghost view = { λ t. found_in t.finder.now t.left };
 
     ghost invariant = { λ t. (t.finder.now ≢ [])
         × (t.left.line + length (lines t.left.rest.now) ≤ MOST_BYTES + 1) };

@@ -1,6 +1,8 @@
 mod calls;
 mod memory;
 mod moves;
+mod replacement;
+mod search;
 
 use super::*;
 use cb_scan::Kind;

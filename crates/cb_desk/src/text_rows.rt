@@ -4,7 +4,7 @@ ghost use Rattle.std.specs.Iterator.{YieldsFirstBy, item_count};
 ghost use Rattle.std.specs.List.{flat_map};
 ghost use Rattle.cb_desk.specs.Answer.{text_rows_in};
 ghost use Rattle.cb_desk.specs.Models.{row_of, file_of};
-ghost use Rattle.cb_desk.specs.steps.TextRows.{rows_left, IsSmall};
+ghost use Rattle.cb_desk.specs.steps.TextRows.{rows_in, rows_left, IsSmall};
 
 use crate::files::Files;
 use crate::rows::{RefRow, line_row};
@@ -55,12 +55,9 @@ impl<'a> Searched<'a> {
 }
 
 /// The first row of some files, and what is left of its file. The files up to it are passed.
-fn first_row<'a>(
-    files: &mut Files<'a>,
-    finder: &Finder<'_>,
-) -> Option<(RefRow<'a>, Searched<'a>)>
+fn first_row<'a>(files: &mut Files<'a>, finder: &Finder<'_>) -> Option<(RefRow<'a>, Searched<'a>)>
     requires { finder.now ≢ [] }
-    ensures rows { MatchOption result ((flat_map (text_rows_in finder.now) files.old ≡ []) × (flat_map (text_rows_in finder.now) files.new ≡ [])) (λ r. flat_map (text_rows_in finder.now) files.old ≡ row_of r.0 ∷ (rows_left finder.now r.1 ++ flat_map (text_rows_in finder.now) files.new)) }
+    ensures rows { MatchOption result ((rows_in finder.now files.old ≡ []) × (rows_in finder.now files.new ≡ [])) (λ r. rows_in finder.now files.old ≡ row_of r.0 ∷ (rows_left finder.now r.1 ++ rows_in finder.now files.new)) }
     ensures small { MatchOption result ⊤ (λ r. IsSmall r.1) }
 {
     while let Some((name, source)) = files.next() {
@@ -82,13 +79,12 @@ pub struct TextRows<'a, 'p> {
 
 impl<'a, 'p> Model for TextRows<'a, 'p> {
     ghost use Rattle.std.specs.Prelude.{List, ◌++◌, ◌≢◌, []};
-    ghost use Rattle.std.specs.List.{flat_map};
-    ghost use Rattle.cb_desk.specs.Answer.{AnswerRow, text_rows_in};
-    ghost use Rattle.cb_desk.specs.steps.TextRows.{rows_of, IsSmallIfAny};
+    ghost use Rattle.cb_desk.specs.Answer.{AnswerRow};
+    ghost use Rattle.cb_desk.specs.steps.TextRows.{rows_in, rows_of, IsSmallIfAny};
 
     ghost Value = { List AnswerRow };
 
-    ghost view = { λ r. rows_of r.finder r.searched ++ flat_map (text_rows_in r.finder) r.files };
+    ghost view = { λ r. rows_of r.finder r.searched ++ rows_in r.finder r.files };
 
     ghost invariant = { λ r. (r.finder ≢ []) × IsSmallIfAny r.searched };
 }

@@ -35,10 +35,7 @@ pub(crate) fn with_name<'a>(files: &'a [Rc<StoredFile>], name: &[u8]) -> &'a Sto
 
 /// The file of that name, if there is one, by binary search.
 #[tactic(auto, unfolding(crate::specs::steps::Shared::is_below))]
-pub(crate) fn find_file<'a>(
-    files: &'a [Rc<StoredFile>],
-    name: &[u8],
-) -> Option<&'a Rc<StoredFile>>
+pub(crate) fn find_file<'a>(files: &'a [Rc<StoredFile>], name: &[u8]) -> Option<&'a Rc<StoredFile>>
     requires { IsAscending (files_of files.now) }
     ensures { option_map (λ shared. shared.now.value) result ≡ file_named (files_of files.now) name.now }
 {
