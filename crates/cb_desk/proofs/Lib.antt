@@ -17,6 +17,7 @@ pub mod Swaps
 pub mod TagOrder
 pub mod TextLines
 pub mod TextRowsApart
+pub mod TextRowsFew
 pub mod Texts
 pub mod Unindented
 pub mod Valid

@@ -90,7 +90,7 @@ with_file-valid files f valid good fresh small room =
           (all-both (λ (y : File). after y ≡ true) (λ y. bytes_eq y.name f.name ≡ false) (λ y. by_name f y ≡ Less) (filter after files) (λ y h k. above-f f y h k) (all-passed after files) (all-filter (λ (y : File). bytes_eq y.name f.name ≡ false) after files fresh-all));
     }
 
-length-kept : {X : Type 0} (p : X → Bool) (xs : List X) → length (filter p xs) ≤ length xs
+pub length-kept : {X : Type 0} (p : X → Bool) (xs : List X) → length (filter p xs) ≤ length xs
 length-kept p xs = let split = length-filter_both p (λ x. not (p x)) (λ x. refl) xs in omega (arith, split)
 
 -- valid files without that of a name

@@ -47,6 +47,10 @@ unfoldable pub text_of_file : List File → List ℕ → List ℕ
 text_of_file [] name = []
 text_of_file (f ∷ files) name = if is_named name f then f.bytes else text_of_file files name
 
+-- the text of the file of that name, if there is one
+abbrev pub text_named : List File → List ℕ → Option (List ℕ)
+text_named files name = if has_file files name then Some (text_of_file files name) else None
+
 -- files ascend by the bytes of their names, each name once
 abbrev pub IsAscending : List File → Type 0
 IsAscending = IsStrictlySortedBy (λ (f g : File). slice_cmp nat_cmp f.name g.name)

@@ -4,19 +4,20 @@ ghost use Rattle.std.specs.Prelude.{◌≡◌, None, IfOk, IfErr};
 ghost use Rattle.std.specs.Option.{option_copied};
 ghost use Rattle.cb_desk.specs.Models.{step_of};
 ghost use Rattle.cb_desk.specs.Step.{place_of, refusal_of, after};
-ghost use Rattle.cb_desk.specs.World.{empty_world, IsValidWorld};
+ghost use Rattle.cb_desk.specs.World.{empty_world, text_named, IsValidWorld};
 ghost use Rattle.cb_desk.specs.steps.Scans.{IsScannedFirst};
 
 mod files;
 mod marks;
 mod stack;
 
-use crate::files::{Files, StoredFile};
+use crate::files::{Files, StoredFile, find_file};
 use crate::marks::{WantedText, shared_text};
 use crate::snapshot::marks::want_refusal;
 use crate::snapshot::stack::push_refusal;
 use crate::place::{Place, Places, Spot};
 use crate::{Change, Refusal};
+use cb_scan::Source;
 use std::alloc::{AllocError, Global};
 use std::marker::Model;
 use std::rc::Rc;
@@ -58,6 +59,15 @@ impl Snapshot {
         ensures { result ≡ self.now.files }
     {
         Files::new(self.files.as_slice())
+    }
+
+    /// The text of the file of that name, if there is one.
+    pub(crate) fn source(&self, name: &[u8]) -> Option<&Source>
+        requires { IsValidWorld self.now }
+        ensures { option_copied result ≡ text_named self.now.files name.now }
+    {
+        let file = find_file(self.files.as_slice(), name)?;
+        Some(file.source())
     }
 
     /// The wanted text.

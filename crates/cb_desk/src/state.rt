@@ -1,9 +1,9 @@
 //! The state of a session.
-ghost use Rattle.std.specs.Prelude.{◌≡◌, ◌≢◌, ◌<◌, [], length, IfOk, IfErr, MatchResult, nat_le};
+ghost use Rattle.std.specs.Prelude.{◌≡◌, ◌≢◌, ◌<◌, ◌≤◌, ◌*◌, [], length, IfOk, IfErr, MatchResult, nat_le};
 ghost use Rattle.std.specs.Option.{option_copied};
 ghost use Rattle.cb_desk.specs.declared.rows.Field.{Field};
-ghost use Rattle.cb_desk.specs.declared.limits.TheConstants.{MOST_CHANGES};
-ghost use Rattle.cb_desk.specs.World.{IsValidWorld};
+ghost use Rattle.cb_desk.specs.declared.limits.TheConstants.{MOST_BYTES, MOST_FILES, MOST_CHANGES};
+ghost use Rattle.cb_desk.specs.World.{text_named, IsValidWorld};
 ghost use Rattle.cb_desk.specs.Timeline.{new_timeline, moved_on, undone, redone, Moves, Changes};
 ghost use Rattle.cb_desk.specs.Answer.{answer};
 ghost use Rattle.cb_desk.specs.Tags.{tags};
@@ -12,6 +12,7 @@ ghost use Rattle.cb_desk.specs.Models.{step_of};
 use crate::limits::MOST_CHANGES;
 use crate::snapshot::Snapshot;
 use crate::{Change, Field, Files, Format, Places, Refusal, RowList, TagRowList, TextRows};
+use cb_scan::Source;
 use std::alloc::{AllocError, Global};
 use std::marker::Model;
 use std::mem;
@@ -125,6 +126,13 @@ impl Desk {
         self.present.files()
     }
 
+    /// The text of the file of that name, if there is one.
+    pub fn source(&self, name: &[u8]) -> Option<&Source>
+        ensures { option_copied result ≡ text_named self.now.present.files name.now }
+    {
+        self.present.source(name)
+    }
+
     /// The text that is wanted, if one is.
     pub fn wanted(&self) -> Option<&[u8]>
         ensures { option_copied result ≡ self.now.present.wanted }
@@ -174,7 +182,8 @@ impl Desk {
     /// The rows of the lines that hold a text, by file and line. It takes no memory.
     pub fn text_rows<'a, 'p>(&'a self, pattern: &'p [u8]) -> TextRows<'a, 'p>
         requires { pattern.now ≢ [] }
-        ensures { result ≡ answer self.now.present Field.Text pattern.now }
+        ensures value { result ≡ answer self.now.present Field.Text pattern.now }
+        ensures len { length result ≤ MOST_FILES * MOST_BYTES }
     {
         TextRows::new(self.present.files(), pattern)
     }

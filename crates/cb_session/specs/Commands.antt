@@ -9,9 +9,9 @@ use Rattle.cb_desk.specs.declared.refusal.Refusal.TheVariants.{UnknownCommand, B
 use Rattle.cb_desk.specs.declared.rows.Field.{Field}
 use Rattle.cb_desk.specs.declared.tags.Format.TheVariants.{Plain, Extended}
 use Rattle.cb_desk.specs.Answer.{field_of_digit}
-use Rattle.cb_desk.specs.Step.{unload, rename, tag, pop}
+use Rattle.cb_desk.specs.Step.{unload, rename, want, mark, mark_all, replace, tag, pop}
 use Rattle.cb_session.specs.declared.limits.TheConstants.{MOST_DIGITS, MOST_BYTES}
-use Rattle.cb_session.specs.Requests.{Request, query, change, undo, redo, tags_file, listing, stack, refused, nothing, quit, LineRequest, whole, block}
+use Rattle.cb_session.specs.Requests.{Request, query, change, undo, redo, tags_file, listing, marks, stack, refused, nothing, quit, LineRequest, whole, block}
 
 -- the letter that ends the session
 abbrev pub letter_q : ℕ
@@ -78,6 +78,22 @@ rename_words (old ∷ []) = change (rename old [])
 rename_words (old ∷ new ∷ []) = change (rename old new)
 rename_words (old ∷ new ∷ more ∷ others) = refused UnknownCommand
 
+-- a mark by its number
+abbrev pub mark_numbered : Option ℕ → Request
+mark_numbered None = refused BadCount
+mark_numbered (Some n) = change (mark n)
+
+-- `:mark`: a missing number is none, and a second word is too many
+abbrev pub mark_words : List (List ℕ) → Request
+mark_words [] = refused BadCount
+mark_words (number ∷ []) = mark_numbered (number_in number)
+mark_words (number ∷ more ∷ others) = refused UnknownCommand
+
+-- `:to`: the whole rest of the line is the text, and without a rest it is empty
+abbrev pub to_text : Option (List ℕ) → Request
+to_text None = change (replace [])
+to_text (Some text) = change (replace text)
+
 -- a push by its name and its number
 abbrev pub tag_numbered : List ℕ → Option ℕ → Request
 tag_numbered name None = refused BadCount
@@ -101,14 +117,18 @@ command word rest =
     if bytes_eq word (codes ":load") then load_words (words_in rest)
     else (if bytes_eq word (codes ":drop") then whole (drop_words (words_in rest))
     else (if bytes_eq word (codes ":rename") then whole (rename_words (words_in rest))
+    else (if bytes_eq word (codes ":mark") then whole (mark_words (words_in rest))
+    else (if bytes_eq word (codes ":markall") then alone (change mark_all) (words_in rest)
+    else (if bytes_eq word (codes ":to") then whole (to_text rest)
     else (if bytes_eq word (codes ":tag") then whole (tag_words (words_in rest))
     else (if bytes_eq word (codes ":pop") then alone (change pop) (words_in rest)
     else (if bytes_eq word (codes ":undo") then alone undo (words_in rest)
     else (if bytes_eq word (codes ":redo") then alone redo (words_in rest)
     else (if bytes_eq word (codes ":tags") then whole (tags_words (words_in rest))
     else (if bytes_eq word (codes ":listing") then alone listing (words_in rest)
+    else (if bytes_eq word (codes ":marks") then alone marks (words_in rest)
     else (if bytes_eq word (codes ":stack") then alone stack (words_in rest)
-    else whole (refused UnknownCommand))))))))))
+    else whole (refused UnknownCommand))))))))))))))
 
 -- a text in two at its first space: what comes before it, and what comes after it, if there is a
 -- space
@@ -126,11 +146,24 @@ query_of None pattern = refused NoSuchField
 query_of (Some field) [] = refused NoPattern
 query_of (Some field) (b ∷ bs) = query field (b ∷ bs)
 
+-- the digit of field 5
+abbrev pub digit_5 : ℕ
+digit_5 = 53
+
+-- a text that is wanted, which has a byte
+abbrev pub want_of : List ℕ → Request
+want_of [] = refused NoPattern
+want_of (b ∷ bs) = change (want (b ∷ bs))
+
+-- a field by its digit and what follows: field 5 wants a text, each other is a query
+abbrev pub field_line : ℕ → List ℕ → Request
+field_line b bs = if b == digit_5 then want_of bs else query_of (field_of_digit b) bs
+
 -- what a line of at most 4,096 bytes asks for: nothing, the end, the field of its first digit, or a
 -- command
 abbrev pub short_line : List ℕ → LineRequest
 short_line [] = whole nothing
 short_line (b ∷ bs) =
     if b == letter_q || b == end_of_transmission then whole quit
-    else (if is_digit b then whole (query_of (field_of_digit b) bs)
+    else (if is_digit b then whole (field_line b bs)
     else command_line (b ∷ bs))

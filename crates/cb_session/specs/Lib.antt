@@ -4,10 +4,10 @@ pub mod Inputs
 pub mod Models
 pub mod Operands
 pub mod Output
+pub mod Places
 pub mod Reading
 pub mod Requests
 pub mod RunExamples
 pub mod Serving
-pub mod Stack
 pub mod Writing
 pub mod steps

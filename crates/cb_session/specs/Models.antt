@@ -6,11 +6,11 @@ use Rattle.cb_session.specs.declared.input.Ended.{Ended}
 use Rattle.cb_session.specs.declared.input.Going.{Going}
 use Rattle.cb_session.specs.declared.input.Going.TheVariants.{On, Stop}
 use Rattle.cb_session.specs.declared.input.Command.{Command as Asks}
-use Rattle.cb_session.specs.declared.input.Command.TheVariants.{Query, Change, Undo, Redo, Tags, Listing, Stack}
+use Rattle.cb_session.specs.declared.input.Command.TheVariants.{Query, Change, Undo, Redo, Tags, Listing, Marks, Stack}
 use Rattle.cb_session.specs.declared.line.Asked.{Asked}
 use Rattle.cb_session.specs.declared.line.Asked.TheVariants.{Whole, Block}
 use Rattle.cb_desk.specs.Models.{step_of}
-use Rattle.cb_session.specs.Requests.{Request, query, change, undo, redo, tags_file, listing, stack, refused, nothing, quit, LineRequest, whole, block}
+use Rattle.cb_session.specs.Requests.{Request, query, change, undo, redo, tags_file, listing, marks, stack, refused, nothing, quit, LineRequest, whole, block}
 
 -- the request that a command is
 abbrev pub command_of : Asks → Request
@@ -20,6 +20,7 @@ command_of Undo = undo
 command_of Redo = redo
 command_of (Tags format) = tags_file format
 command_of Listing = listing
+command_of Marks = marks
 command_of Stack = stack
 
 -- the request that an input is

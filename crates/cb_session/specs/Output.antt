@@ -5,13 +5,17 @@ use Rattle.cb_desk.specs.declared.refusal.Refusal.{Refusal}
 use Rattle.cb_desk.specs.declared.refusal.Refusal.TheVariants.{OutOfMemory}
 use Rattle.cb_desk.specs.Refusals.{text_of}
 use Rattle.cb_desk.specs.Timeline.{Timeline, changed, undone, redone, judged}
+use Rattle.cb_desk.specs.declared.rows.Field.{Field}
+use Rattle.cb_desk.specs.declared.rows.Field.TheVariants.{Text}
 use Rattle.cb_desk.specs.Answer.{AnswerRow, answer}
+use Rattle.cb_desk.specs.Step.{Step, want}
+use Rattle.cb_desk.specs.World.{World}
 use Rattle.cb_desk.specs.Tags.{tags, tags_text, head_count, listing_text}
 use Rattle.cb_tags.specs.TagLines.{Tag}
 use Rattle.cb_desk.specs.declared.tags.Format.{Format}
 use Rattle.cb_desk.specs.declared.tags.Format.TheVariants.{Extended}
-use Rattle.cb_session.specs.Stack.{stack_rows}
-use Rattle.cb_session.specs.Requests.{Request, query, change, undo, redo, tags_file, listing, stack, refused, nothing, quit, overlong}
+use Rattle.cb_session.specs.Places.{mark_rows, stack_rows}
+use Rattle.cb_session.specs.Requests.{Request, query, change, undo, redo, tags_file, listing, marks, stack, refused, nothing, quit, overlong}
 
 -- the prompt
 abbrev pub prompt : List ℕ
@@ -45,30 +49,43 @@ done_line = codes "cscope: done\n"
 abbrev pub refused_line : Refusal → List ℕ
 refused_line r = codes "cscope: refused: " ++ text_of r ++ codes "\n"
 
+-- the reply to an accepted change, by the world that it leads to: a text that is wanted has the rows
+-- of the lines that hold it
+abbrev pub change_reply : Step → World → List ℕ
+change_reply (want text) w = answer_lines (answer w Text text)
+change_reply _ w = done_line
+
 -- what is read is shown, unless memory refused it
 abbrev pub shown : Bool → List ℕ → List ℕ
 shown true text = refused_line OutOfMemory
 shown false text = text
+
+-- the reply to a query; field 4 takes no memory
+abbrev pub query_reply : Bool → Field → List AnswerRow → List ℕ
+query_reply out_of_memory Text rows = answer_lines rows
+query_reply out_of_memory _ rows = shown out_of_memory (answer_lines rows)
 
 -- the timeline after an input, and the reply to it
 pub record Outcome : Type 0 where
   pub timeline : Timeline
   pub reply : List ℕ
 
--- a move of the timeline is done and has its reply, or is refused and nothing moves
-abbrev pub moved : Timeline → List ℕ → Result Timeline Refusal → Outcome
-moved t done (Err r) = record { timeline = t; reply = refused_line r }
-moved t done (Ok next) = record { timeline = next; reply = done }
+-- a move of the timeline is done and has a reply by the world that it leads to, or is refused and
+-- nothing moves
+abbrev pub moved : Timeline → (World → List ℕ) → Result Timeline Refusal → Outcome
+moved t reply (Err r) = record { timeline = t; reply = refused_line r }
+moved t reply (Ok next) = record { timeline = next; reply = reply next.present }
 
 -- the outcome of an input; `out_of_memory` says that memory was refused to it, where it takes any
 unfoldable pub outcome : Bool → Timeline → Request → Outcome
-outcome out_of_memory t (query field pattern) = record { timeline = t; reply = shown out_of_memory (answer_lines (answer t.present field pattern)) }
+outcome out_of_memory t (query field pattern) = record { timeline = t; reply = query_reply out_of_memory field (answer t.present field pattern) }
 outcome out_of_memory t (tags_file format) = record { timeline = t; reply = shown out_of_memory (tags_reply format (tags format t.present)) }
 outcome out_of_memory t listing = record { timeline = t; reply = shown out_of_memory (listing_reply (tags Extended t.present)) }
+outcome out_of_memory t marks = record { timeline = t; reply = answer_lines (mark_rows t.present) }
 outcome out_of_memory t stack = record { timeline = t; reply = answer_lines (stack_rows t.present) }
-outcome out_of_memory t (change s) = moved t done_line (judged out_of_memory s (changed t s))
-outcome out_of_memory t undo = moved t done_line (undone t)
-outcome out_of_memory t redo = moved t done_line (redone t)
+outcome out_of_memory t (change s) = moved t (change_reply s) (judged out_of_memory s (changed t s))
+outcome out_of_memory t undo = moved t (λ _. done_line) (undone t)
+outcome out_of_memory t redo = moved t (λ _. done_line) (redone t)
 outcome out_of_memory t (refused r) = record { timeline = t; reply = refused_line r }
 outcome out_of_memory t nothing = record { timeline = t; reply = [] }
 outcome out_of_memory t quit = record { timeline = t; reply = [] }

@@ -9,7 +9,7 @@ use Rattle.cb_desk.specs.Step.{Step}
 pub data Request : Type 0 where
   -- a query
   query : (field : Field) (pattern : List ℕ) → Request
-  -- a change of the files or of the tag stack
+  -- a change of the files, of the marks or of the tag stack
   change : Step → Request
   -- take the last change back
   undo : Request
@@ -19,6 +19,8 @@ pub data Request : Type 0 where
   tags_file : Format → Request
   -- the listing
   listing : Request
+  -- the marks
+  marks : Request
   -- the tag stack
   stack : Request
   -- what is refused as it is read

@@ -25,7 +25,7 @@ pub enum Input<'a> {
 pub enum Command<'a> {
     /// A query, whose pattern is not empty.
     Query(Field, &'a [u8]),
-    /// A change of the files or of the tag stack.
+    /// A change of the files, of the marks or of the tag stack.
     Change(Change<'a>),
     /// Takes the last change back.
     Undo,
@@ -35,6 +35,8 @@ pub enum Command<'a> {
     Tags(Format),
     /// Shows the listing.
     Listing,
+    /// Shows the marks.
+    Marks,
     /// Shows the tag stack.
     Stack,
 }

@@ -15,7 +15,7 @@ mod limits;
 mod line;
 mod operands;
 mod reply;
-mod stack;
+mod places;
 mod state;
 mod tags;
 

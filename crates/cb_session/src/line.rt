@@ -4,7 +4,7 @@ ghost use Rattle.std.specs.List.{list_all, slice_split, position};
 ghost use Rattle.std.specs.Str.Parse.{digits_value};
 ghost use Rattle.cb_desk.specs.Answer.{field_of_digit};
 ghost use Rattle.cb_session.specs.declared.limits.TheConstants.{MOST_DIGITS};
-ghost use Rattle.cb_session.specs.Commands.{cut_at, is_digit, is_space, is_number, number_in, load_sized, load_words, tags_numbered, tags_words, drop_words, rename_words, tag_numbered, tag_words, alone, query_of, command, command_line, short_line};
+ghost use Rattle.cb_session.specs.Commands.{cut_at, is_digit, is_space, is_number, number_in, load_sized, load_words, tags_numbered, tags_words, drop_words, rename_words, mark_numbered, mark_words, to_text, tag_numbered, tag_words, alone, want_of, query_of, field_line, command, command_line, short_line};
 ghost use Rattle.cb_session.specs.Models.{request_of, command_of, line_request_of};
 ghost use Rattle.cb_session.specs.steps.Words.{rest_of, words_after, parts_of};
 
@@ -162,6 +162,39 @@ fn rename_words(rest: Option<&[u8]>) -> Input<'_>
     }
 }
 
+/// A mark by its number.
+fn mark_numbered(number: Option<u32>) -> Input<'static>
+    ensures { request_of result ≡ mark_numbered number }
+{
+    match number {
+        Some(n) => Input::Command(Command::Change(Change::Mark(n as u64))),
+        None => Input::Refused(Refusal::BadCount),
+    }
+}
+
+/// A mark by the words after it.
+fn mark_words(rest: Option<&[u8]>) -> Input<'static>
+    ensures { request_of result ≡ mark_words (words_after rest.entry) }
+{
+    let Some(words) = rest else {
+        return Input::Refused(Refusal::BadCount);
+    };
+    match cut_word(words) {
+        (number, None) => mark_numbered(number_in(number)),
+        (_, Some(_)) => Input::Refused(Refusal::UnknownCommand),
+    }
+}
+
+/// A change of the wanted text to the rest of the line.
+fn to_text(rest: Option<&[u8]>) -> Input<'_>
+    ensures { request_of result ≡ to_text (rest_of rest.entry) }
+{
+    match rest {
+        Some(text) => Input::Command(Command::Change(Change::Replace(text))),
+        None => Input::Command(Command::Change(Change::Replace(b""))),
+    }
+}
+
 /// A push by its name and its number.
 fn tag_numbered(name: &[u8], number: Option<u32>) -> Input<'_>
     ensures { request_of result ≡ tag_numbered name.now number }
@@ -212,6 +245,27 @@ fn field_query(digit: u8, pattern: &[u8]) -> Input<'_>
     Input::Command(Command::Query(field, pattern))
 }
 
+/// A text that is wanted.
+fn want_of(text: &[u8]) -> Input<'_>
+    ensures { request_of result ≡ want_of text.now }
+{
+    if text.is_empty() {
+        return Input::Refused(Refusal::NoPattern);
+    }
+    Input::Command(Command::Change(Change::Want(text)))
+}
+
+/// A field by its digit and what follows it: field 5 wants a text, each other is a query.
+fn field_line(digit: u8, rest: &[u8]) -> Input<'_>
+    ensures { request_of result ≡ field_line digit rest.now }
+{
+    if digit == b'5' {
+        want_of(rest)
+    } else {
+        field_query(digit, rest)
+    }
+}
+
 /// A command by its word and the rest of its line.
 #[tactic(auto, unfolding(crate::specs::Commands::command))]
 fn command<'a>(word: &[u8], rest: Option<&'a [u8]>) -> Asked<'a>
@@ -223,6 +277,12 @@ fn command<'a>(word: &[u8], rest: Option<&'a [u8]>) -> Asked<'a>
         Asked::Whole(drop_words(rest))
     } else if word == b":rename".as_slice() {
         Asked::Whole(rename_words(rest))
+    } else if word == b":mark".as_slice() {
+        Asked::Whole(mark_words(rest))
+    } else if word == b":markall".as_slice() {
+        alone(Command::Change(Change::MarkAll), rest)
+    } else if word == b":to".as_slice() {
+        Asked::Whole(to_text(rest))
     } else if word == b":tag".as_slice() {
         Asked::Whole(tag_words(rest))
     } else if word == b":pop".as_slice() {
@@ -235,6 +295,8 @@ fn command<'a>(word: &[u8], rest: Option<&'a [u8]>) -> Asked<'a>
         Asked::Whole(tags_words(rest))
     } else if word == b":listing".as_slice() {
         alone(Command::Listing, rest)
+    } else if word == b":marks".as_slice() {
+        alone(Command::Marks, rest)
     } else if word == b":stack".as_slice() {
         alone(Command::Stack, rest)
     } else {
@@ -257,7 +319,7 @@ pub fn line_asks(line: &[u8]) -> Asked<'_>
     match line {
         [] => Asked::Whole(Input::Nothing),
         [b'q' | 4, ..] => Asked::Whole(Input::End),
-        [digit, pattern @ ..] if is_digit(*digit) => Asked::Whole(field_query(*digit, pattern)),
+        [digit, pattern @ ..] if is_digit(*digit) => Asked::Whole(field_line(*digit, pattern)),
         _ => command_line(line),
     }
 }

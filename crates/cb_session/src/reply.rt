@@ -1,12 +1,15 @@
 //! The replies, and the texts that they are made of.
+ghost use Rattle.std.specs.Prelude.{◌≢◌, []};
 ghost use Rattle.std.specs.List.{flat_map};
+ghost use Rattle.cb_desk.specs.declared.rows.Field.{Field};
+ghost use Rattle.cb_desk.specs.Answer.{answer};
 ghost use Rattle.cb_session.specs.Writing.{Puts};
-ghost use Rattle.cb_session.specs.Output.{row_line, count_line, done_line, refused_line, prompt};
+ghost use Rattle.cb_session.specs.Output.{row_line, answer_lines, count_line, done_line, refused_line, prompt};
 ghost use Rattle.cb_desk.specs.Models.{row_of};
 ghost use Rattle.cb_session.specs.steps.Rounds.{move_line, rows_line};
 
 use crate::Fault;
-use cb_desk::{RefRow, Refusal, RowList};
+use cb_desk::{Desk, Field, RefRow, Refusal, RowList};
 use cb_tags::{Sink, put_text, put_texts};
 use itoa::Buffer;
 use std::io::Write;
@@ -91,6 +94,23 @@ pub fn put_count<W: Write>(out: &mut Sink<W>, count: u128) -> Result<(), Fault>
     let mut digits = Buffer::new();
     let count = digits.format(count).as_bytes();
     put_all(out, &[b"cscope: ", count, b" lines\n"])
+}
+
+/// Writes the reply that shows the lines that hold a text: how many there are, and their rows. It
+/// takes no memory.
+pub(crate) fn put_text_rows<W: Write>(
+    out: &mut Sink<W>,
+    desk: &Desk,
+    text: &[u8],
+) -> Result<(), Fault>
+    requires { text.now ≢ [] }
+    ensures { Puts out.old out.new result (answer_lines (answer desk.now.present Field.Text text.now)) }
+{
+    put_count(out, desk.text_rows(text).count() as u128)?;
+    for row in desk.text_rows(text) {
+        put_row(out, &row)?;
+    }
+    Ok(())
 }
 
 /// Writes the reply to a query: how many rows there are, and the rows.

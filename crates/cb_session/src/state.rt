@@ -1,17 +1,19 @@
 //! A session, and its runs.
 ghost use Rattle.std.specs.Prelude.{◌≡◌, Bool, List, ℕ, Some, IfOk, IfSome, MatchResult};
+ghost use Rattle.cb_desk.specs.Step.{want};
 ghost use Rattle.cb_desk.specs.Timeline.{new_timeline};
 ghost use Rattle.cb_session.specs.Inputs.{first, inputs, ending_of};
 ghost use Rattle.cb_session.specs.Models.{request_of, going_of, HasPattern};
 ghost use Rattle.cb_session.specs.Serving.{Does, LeavesRun, HasFailed, IfFault, Tells, fault_of};
 ghost use Rattle.cb_session.specs.steps.Rounds.{LeavesRound, fault_in};
 ghost use Rattle.cb_session.specs.Output.{outcome};
+ghost use Rattle.cb_session.specs.Requests.{change};
 
-use crate::reply::{put_move, put_prompt, put_refusal, put_rows};
-use crate::stack::put_stack;
+use crate::places::{put_marks, put_stack};
+use crate::reply::{put_move, put_prompt, put_refusal, put_rows, put_text_rows};
 use crate::tags::{put_listing_reply, put_tags_reply};
 use crate::{Command, Ended, Fault, Feed, Going, Input, Intake, Limits};
-use cb_desk::{Desk, Format};
+use cb_desk::{Change, Desk, Field, Format};
 use cb_tags::Sink;
 use std::alloc::Global;
 use std::io::{BufRead, Write};
@@ -89,13 +91,31 @@ impl Session {
             Input::Command(command) => command,
         };
         match command {
+            Command::Query(Field::Text, text) => put_text_rows(out, &self.desk, text),
             Command::Query(field, pattern) => put_rows(out, self.desk.rows(alloc, field, pattern)),
+            Command::Change(Change::Want(text)) => self.want(alloc, text, out),
             Command::Change(change) => put_move(out, self.desk.change(alloc, change)),
             Command::Undo => put_move(out, self.desk.undo()),
             Command::Redo => put_move(out, self.desk.redo()),
             Command::Tags(format) => put_tags_reply(out, format, self.desk.tag_rows(alloc, format)),
             Command::Listing => put_listing_reply(out, self.desk.tag_rows(alloc, Format::Extended)),
+            Command::Marks => put_marks(out, &self.desk),
             Command::Stack => put_stack(out, &self.desk),
+        }
+    }
+
+    /// Wants a text, and writes the rows of the lines that hold it.
+    fn want<W: Write>(
+        &mut self,
+        alloc: Global,
+        text: &[u8],
+        out: &mut Sink<W>,
+    ) -> Result<(), Fault>
+        ensures { (out_of_memory : Bool) × Does (outcome out_of_memory self.old (change (want text.now))) self.new out.old out.new result }
+    {
+        match self.desk.change(alloc, Change::Want(text)) {
+            Ok(()) => put_text_rows(out, &self.desk, text),
+            Err(refusal) => put_refusal(out, refusal),
         }
     }
 

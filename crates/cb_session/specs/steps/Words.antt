@@ -15,8 +15,3 @@ words_after rest = words_in (rest_of rest)
 -- the words of a text by its first word and the rest
 abbrev pub parts_of : List ℕ → Option (Bor (List ℕ)) → List (List ℕ)
 parts_of word rest = word ∷ words_after rest
-
--- the text that was found; no bytes where none was
-abbrev pub text_found : Option (Bor (List ℕ)) → List ℕ
-text_found None = []
-text_found (Some text) = text.now
