@@ -1,12 +1,12 @@
 -- The matches of a pattern cut a text into gaps, in one way alone.
-use Rattle.std.proofs.Common.{◌≡◌, ◌≢◌, ◌∙◌, sym, ap, refl, subst, ℕ, zero, suc, ◌+◌, ◌-◌, ◌<◌, ◌≤◌, true, false, cond, List, [], ◌∷◌, ◌++◌, length, take, drop, get_or, slice_index, Some, None, arith, ⊎_elim, append_assoc, append-nil, length-append, length-drop, length-take-le, take-append-drop, drop-drop, get_or-take, get_or-drop}
+use Rattle.std.proofs.Common.{◌≡◌, ◌≢◌, ◌∙◌, sym, ap, refl, subst, ℕ, zero, suc, ◌+◌, ◌-◌, ◌<◌, ◌≤◌, List, [], ◌∷◌, ◌++◌, length, take, drop, slice_index, arith, ⊎_elim, append_assoc, append-nil, length-append, length-drop, length-take-le, take-append-drop, drop-drop, get_or-take, get_or-drop}
 use Rattle.std.specs.List.{flat_map}
 use Rattle.std.proofs.Math.Seq.{take-add}
 use Rattle.std.proofs.lemmas.Bool.{cases_Bool, cases_eq, cond-true, cond-false, false≢true}
-use Rattle.std.proofs.lemmas.List.{get_or-append_right, get_or_append_left, take_at, drop_at}
+use Rattle.std.proofs.lemmas.List.{get_or-append_right, take_at, drop_at}
 use Rattle.bstr.specs.Text.{split_at, part}
 use Rattle.bstr.proofs.lemmas.MatchListLemmas.{split_at-next, split_at-end}
-use Rattle.memchr.specs.Find.{OccursAt, occurs_at, Nowhere, NoneBefore, FindsNeedle, matches_from, matches, match_len}
+use Rattle.memchr.specs.Find.{OccursAt, occurs_at, Nowhere, matches_from, matches, match_len}
 use Rattle.memchr.proofs.lemmas.MatchLemmas.{OccursAt-part, OccursAt-split, OccursAt-true, occurs_at-true, matches_from-skip, matches-none, matches-first}
 use Rattle.bstr.specs.Owned.{joined}
 use Rattle.cb_desk.specs.Replacement.{AreGaps, IsCutInto, gaps_of, HasOneCut}

@@ -1,8 +1,8 @@
 -- The marks that are walked beside the lines of a text mark the lines of their numbers.
-use Rattle.std.proofs.Common.{◌≡◌, ◌∙◌, sym, ap, refl, subst, ℕ, suc, ◌+◌, ◌<◌, ◌≤◌, Bool, true, false, ◌||◌, ◌==◌, cond, List, [], ◌∷◌, ◌++◌, map, length, arith, nat_lt, nat_cmp, Less, Equal, Greater, Ordering, ⊎_elim}
-use Rattle.std.specs.List.{AllByRecursion, list_any, flat_map, range_with_len, zip}
+use Rattle.std.proofs.Common.{◌≡◌, ◌∙◌, sym, ap, refl, subst, ℕ, suc, ◌+◌, ◌<◌, ◌≤◌, Bool, false, ◌||◌, ◌==◌, List, [], ◌∷◌, ◌++◌, length, arith, nat_lt, nat_cmp, Less, ⊎_elim}
+use Rattle.std.specs.List.{list_any, flat_map}
 use Rattle.std.specs.List.Sorted.{IsStrictlySortedBy}
-use Rattle.std.proofs.lemmas.Bool.{cases_Bool, cases_eq, cond-true, cond-false, eq-eqb, ne_eqb, eqb-true, ltb-true, ltb-false}
+use Rattle.std.proofs.lemmas.Bool.{cases_Bool, cases_eq, cond-true, cond-false, eq-eqb, ne_eqb, ltb-true}
 use Rattle.bstr.specs.Text.{lines_of}
 use Rattle.cb_scan.proofs.LineTable.{lines-few, lines-whole}
 use Rattle.cb_desk.specs.Replacement.{marked_from}

@@ -1,12 +1,11 @@
 -- How long a text is after a replacement, and what makes it.
-use Rattle.std.proofs.Common.{◌≡◌, ◌≢◌, ◌∙◌, sym, ap, refl, subst, ℕ, suc, ◌+◌, ◌-◌, ◌*◌, ◌<◌, ◌≤◌, Bool, true, false, cond, List, [], ◌∷◌, ◌++◌, length, take, drop, arith, append_assoc, length-append, length-drop, suc-mul, zero-mul}
+use Rattle.std.proofs.Common.{◌≡◌, ◌≢◌, ◌∙◌, sym, ap, refl, subst, ℕ, suc, ◌+◌, ◌*◌, ◌≤◌, List, [], ◌∷◌, ◌++◌, length, drop, arith, append_assoc, length-append, length-drop, suc-mul, zero-mul}
 use Rattle.std.proofs.Math.Nat.{le-mul_of_pos_right, mul-le-mul_left}
-use Rattle.std.specs.List.{flat_map}
 use Rattle.bstr.specs.Owned.{joined}
 use Rattle.bstr.specs.Text.{split_at, part, replaced_at, without_terminator}
 use Rattle.memchr.specs.Find.{matches}
 use Rattle.cb_desk.specs.declared.limits.TheConstants.{MOST_BYTES}
-use Rattle.cb_desk.specs.Replacement.{gaps_of, replaced, replaced_line, replaced_if_marked, line_end}
+use Rattle.cb_desk.specs.Replacement.{gaps_of, replaced, replaced_line, line_end}
 use Rattle.cb_desk.proofs.Gaps.{joined-next, joined-one, first-gap, has-cut, some-length}
 
 -- joining the gaps is what replacing at the matches makes

@@ -1,20 +1,19 @@
 -- The search of a whole text finds the lines that hold a pattern.
-use Rattle.std.proofs.Common.{◌≡◌, ◌≢◌, ◌∙◌, ◌⊎◌, sym, ap, refl, subst, ℕ, zero, suc, ◌+◌, ◌-◌, ◌<◌, ◌≤◌, Bool, true, false, ◌||◌, ◌&&◌, ◌==◌, nat_lt, cond, List, [], ◌∷◌, ◌++◌, map, filter, length, take, drop, get_or, slice_index, count_by, Option, Some, None, arith, ⊎_elim, inl, inr, append_assoc, length-append, length-drop, length-take-le, take-append-drop, take_all, drop-drop, get_or-drop}
+use Rattle.std.proofs.Common.{◌≡◌, ◌≢◌, ◌∙◌, sym, ap, refl, subst, ℕ, zero, suc, ◌+◌, ◌-◌, ◌<◌, ◌≤◌, Bool, true, false, ◌||◌, ◌&&◌, ◌==◌, nat_lt, cond, List, [], ◌∷◌, ◌++◌, map, filter, length, take, drop, slice_index, count_by, Option, Some, None, arith, ⊎_elim, inl, inr, append_assoc, length-append, length-drop, length-take-le, take_all, drop-drop, get_or-drop}
 use Rattle.std.specs.Prelude.{is_some}
 use Rattle.std.specs.List.{list_any, range_with_len, slice_index_or}
 use Rattle.std.proofs.Math.Seq.{take-add, get_or-append_seam}
-use Rattle.std.proofs.lemmas.Bool.{cases_Bool, cases_eq, cond-true, cond-false, eq-eqb, ne_eqb, eqb-true, both_ways, false_from_ne_true, false≢true}
-use Rattle.std.proofs.lemmas.List.{length-map}
+use Rattle.std.proofs.lemmas.Bool.{cases_eq, cond-true, eq-eqb, false_from_ne_true}
 use Rattle.std.proofs.lemmas.List.Sums.{sum_by-append, sum_by-cons}
-use Rattle.bstr.specs.Text.{line_len, lines_of, without_terminator, no_cr}
+use Rattle.bstr.specs.Text.{line_len, without_terminator, no_cr}
 use Rattle.bstr.proofs.lemmas.LineLemmas.{line_len-bounds, lines-step, lines-nil}
 use Rattle.memchr.specs.Find.{OccursAt, occurs_at, Nowhere, FindsNeedle}
 use Rattle.memchr.proofs.lemmas.MatchLemmas.{OccursAt-true, occurs_at-true}
 use Rattle.cb_scan.specs.Lines.{lines, line_text}
-use Rattle.cb_scan.proofs.LineTable.{line_text-at, lines-few}
+use Rattle.cb_scan.proofs.LineTable.{line_text-at}
 use Rattle.cb_desk.specs.Search.{holds, lines_with}
 use Rattle.cb_desk.specs.steps.Search.{found_from, IsLineStart}
-use Rattle.cb_desk.proofs.Gaps.{occurs-later, occurs-sooner, occurs-first, some-length}
+use Rattle.cb_desk.proofs.Gaps.{occurs-later, occurs-first, some-length}
 
 -- ---- a line holds a pattern where a search finds it
 

@@ -1,4 +1,4 @@
-use Rattle.std.proofs.Common.{◌≡◌, ◌∙◌, ap, sym, refl, ◌++◌, length, drop, take, ◌-◌}
+use Rattle.std.proofs.Common.{◌∙◌, refl, ◌++◌, length}
 use Rattle.std.proofs.lemmas.List.{take_rest}
 use Rattle.cb_desk.proofs.ReplacedLines.{line-made}
 use Rattle.cb_desk.proofs.replacement.put_replaced_line.Goals as goal

@@ -1,4 +1,4 @@
-use Rattle.std.proofs.Common.{◌≡◌, ◌∙◌, ap, map, length, arith}
+use Rattle.std.proofs.Common.{◌∙◌, ap, map, length, arith}
 use Rattle.std.specs.List.{flat_map}
 use Rattle.cb_desk.specs.Replacement.{replaced_text, replaced_if_marked}
 use Rattle.cb_desk.proofs.MarkedLines.{first-part, bytes-of}

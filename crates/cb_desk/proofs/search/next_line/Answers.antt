@@ -1,5 +1,4 @@
-use Rattle.std.proofs.Common.{◌∙◌, ◌≡◌, ◌∷◌, ◌+◌, sym, ap, length, arith, Some, None}
-use Rattle.cb_scan.specs.Lines.{lines}
+use Rattle.std.proofs.Common.{◌∙◌, ◌∷◌, ◌+◌, sym, ap, arith}
 use Rattle.cb_desk.specs.steps.Search.{found_from}
 use Rattle.cb_desk.proofs.TextLines.{passes, passes-held, passes-bare, passes-many, holds-found, found-none}
 use Rattle.cb_desk.proofs.Gaps.{some-length}

@@ -1,4 +1,4 @@
-use Rattle.std.proofs.Common.{◌∙◌, sym, ap, map, arith, length}
+use Rattle.std.proofs.Common.{◌∙◌, sym, ap, map}
 use Rattle.cb_scan.specs.Lines.{lines}
 use Rattle.cb_desk.specs.Answer.{line_row}
 use Rattle.cb_desk.specs.steps.Search.{found_from}
