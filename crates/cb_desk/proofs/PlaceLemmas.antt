@@ -28,7 +28,7 @@ pub name-same : (a : List ℕ) → bytes_eq a a ≡ true
 name-same a = (bytes_eq-Decides a a).1 refl
 
 -- a name that is not there has no text
-no-text : (files : List File) (name : List ℕ) → has_file files name ≡ false → text_of_file files name ≡ []
+pub no-text : (files : List File) (name : List ℕ) → has_file files name ≡ false → text_of_file files name ≡ []
 unfolding text_of_file
 no-text [] name e = refl
 no-text (f ∷ files) name e =

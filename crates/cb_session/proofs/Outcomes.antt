@@ -1,46 +1,48 @@
 -- A move that follows what is meant, and its reply.
-use Rattle.std.proofs.Common.{◌≡◌, ℕ, Bool, true, false, List, Result, Ok, Err, refl, sym, ap, ◌∙◌, subst}
+use Rattle.std.proofs.Common.{◌≡◌, ◌≢◌, ℕ, Bool, true, false, List, [], ◌∷◌, Result, Ok, Err, refl, sym, ap, ◌∙◌, subst}
 use Rattle.cb_tags.proofs.Prefixes.{PutsAll-none}
 use Rattle.cb_desk.specs.declared.refusal.Refusal.{Refusal}
 use Rattle.cb_desk.specs.declared.refusal.Refusal.TheVariants.{OutOfMemory}
 use Rattle.cb_desk.specs.declared.rows.Field.{Field}
+use Rattle.cb_desk.specs.declared.rows.Field.TheVariants.{Definition, Text}
 use Rattle.cb_session.specs.declared.input.Fault.{Fault}
 use Rattle.cb_desk.specs.Timeline.{Timeline, Moves, Changes, judged, changed, undone, redone}
-use Rattle.cb_desk.specs.Step.{Step}
+use Rattle.cb_desk.specs.Step.{Step, step, load, unload, rename, want, mark, mark_all, replace, tag, pop}
+use Rattle.cb_desk.specs.World.{World}
 use Rattle.cb_desk.specs.Answer.{AnswerRow, answer}
 use Rattle.cb_tags.specs.TagLines.{Tag}
 use Rattle.std.specs.Prelude.{IfOk, IfErr}
 use Rattle.cb_tags.specs.Writers.{Writer}
 use Rattle.cb_desk.specs.declared.tags.Format.{Format}
 use Rattle.cb_desk.specs.declared.tags.Format.TheVariants.{Extended}
-use Rattle.cb_session.specs.Requests.{Request, query, change, undo, redo, tags_file, listing, stack, refused, nothing, quit}
+use Rattle.cb_session.specs.Requests.{Request, query, change, undo, redo, tags_file, listing, marks, stack, refused, nothing, quit}
 use Rattle.cb_session.specs.Serving.{Does}
 use Rattle.cb_session.specs.steps.Rounds.{move_line, rows_line, tags_line, listing_lines}
-use Rattle.cb_session.specs.Output.{moved, done_line, outcome, refused_line, answer_lines, tags_reply, listing_reply}
+use Rattle.cb_session.specs.Output.{moved, done_line, change_reply, query_reply, shown, outcome, refused_line, answer_lines, tags_reply, listing_reply}
 use Rattle.cb_desk.specs.Tags.{tags}
-use Rattle.cb_session.specs.Stack.{stack_rows}
+use Rattle.cb_session.specs.Places.{mark_rows, stack_rows}
 use Rattle.cb_session.specs.Writing.{Puts}
 
 -- a move as it was meant, and its reply
-moves : (done : List ℕ) (meant : Result Timeline Refusal) (old new : Timeline) (r : Result (Unit {0}) Refusal)
-    → Moves meant old new r → (new ≡ (moved old done meant).timeline) × (move_line done r ≡ (moved old done meant).reply)
-moves done meant old new (Ok x) p = (ap (λ m. (moved old done m).timeline) (sym p), ap (λ m. (moved old done m).reply) (sym p))
-moves done meant old new (Err r) p = (p.1 ∙ ap (λ m. (moved old done m).timeline) (sym p.0), ap (λ m. (moved old done m).reply) (sym p.0))
+moves : (reply : World → List ℕ) (meant : Result Timeline Refusal) (old new : Timeline) (r : Result (Unit {0}) Refusal)
+    → Moves meant old new r → (new ≡ (moved old reply meant).timeline) × (move_line (reply new.present) r ≡ (moved old reply meant).reply)
+moves reply meant old new (Ok x) p = (ap (λ m. (moved old reply m).timeline) (sym p), ap (λ m. (moved old reply m).reply) (sym p))
+moves reply meant old new (Err r) p = (p.1 ∙ ap (λ m. (moved old reply m).timeline) (sym p.0), ap (λ m. (moved old reply m).reply) (sym p.0))
 
-Does-moved : {A : Type 0} (done : List ℕ) (meant : Result Timeline Refusal) (old new : Timeline) (r : Result (Unit {0}) Refusal) (out out' : Writer) (result : Result A Fault)
-    → Moves meant old new r → Puts out out' result (move_line done r) → Does (moved old done meant) new out out' result
-Does-moved done meant old new r out out' result p q =
-    let m = moves done meant old new r p in
+Does-moved : {A : Type 0} (reply : World → List ℕ) (meant : Result Timeline Refusal) (old new : Timeline) (r : Result (Unit {0}) Refusal) (out out' : Writer) (result : Result A Fault)
+    → Moves meant old new r → Puts out out' result (move_line (reply new.present) r) → Does (moved old reply meant) new out out' result
+Does-moved reply meant old new r out out' result p q =
+    let m = moves reply meant old new r p in
     (m.0, subst (λ l. Puts out out' result l) m.1 q)
 
 -- each kind of request is done
 pub Does-change : {A : Type 0} (start old new : Timeline) (e : Request) (s : Step) (r : Result (Unit {0}) Refusal) (out out' : Writer) (result : Result A Fault)
-    → old ≡ start → e ≡ change s → Changes s old new r → Puts out out' result (move_line done_line r) → (out_of_memory : Bool) × Does (outcome out_of_memory start e) new out out' result
+    → old ≡ start → e ≡ change s → Changes s old new r → Puts out out' result (move_line (change_reply s new.present) r) → (out_of_memory : Bool) × Does (outcome out_of_memory start e) new out out' result
 unfolding outcome
 Does-change start old new e s r out out' result same h p q =
     subst (λ v. (out_of_memory : Bool) × Does (outcome out_of_memory v e) new out out' result) same
     (subst (λ x. (out_of_memory : Bool) × Does (outcome out_of_memory old x) new out out' result) (sym h)
-    (p.0, Does-moved done_line (judged p.0 s (changed old s)) old new r out out' result p.1 q))
+    (p.0, Does-moved (change_reply s) (judged p.0 s (changed old s)) old new r out out' result p.1 q))
 
 pub Does-undo : {A : Type 0} (start old new : Timeline) (e : Request) (r : Result (Unit {0}) Refusal) (out out' : Writer) (result : Result A Fault)
     → old ≡ start → e ≡ undo → Moves (undone old) old new r → Puts out out' result (move_line done_line r) → (out_of_memory : Bool) × Does (outcome out_of_memory start e) new out out' result
@@ -48,7 +50,7 @@ unfolding outcome
 Does-undo start old new e r out out' result same h p q =
     subst (λ v. (out_of_memory : Bool) × Does (outcome out_of_memory v e) new out out' result) same
     (subst (λ x. (out_of_memory : Bool) × Does (outcome out_of_memory old x) new out out' result) (sym h)
-    (false, Does-moved done_line (undone old) old new r out out' result p q))
+    (false, Does-moved (λ _. done_line) (undone old) old new r out out' result p q))
 
 pub Does-redo : {A : Type 0} (start old new : Timeline) (e : Request) (r : Result (Unit {0}) Refusal) (out out' : Writer) (result : Result A Fault)
     → old ≡ start → e ≡ redo → Moves (redone old) old new r → Puts out out' result (move_line done_line r) → (out_of_memory : Bool) × Does (outcome out_of_memory start e) new out out' result
@@ -56,7 +58,7 @@ unfolding outcome
 Does-redo start old new e r out out' result same h p q =
     subst (λ v. (out_of_memory : Bool) × Does (outcome out_of_memory v e) new out out' result) same
     (subst (λ x. (out_of_memory : Bool) × Does (outcome out_of_memory old x) new out out' result) (sym h)
-    (false, Does-moved done_line (redone old) old new r out out' result p q))
+    (false, Does-moved (λ _. done_line) (redone old) old new r out out' result p q))
 
 pub Does-stack : {A : Type 0} (t desk : Timeline) (e : Request) (out out' : Writer) (result : Result A Fault)
     → desk ≡ t → e ≡ stack → Puts out out' result (answer_lines (stack_rows desk.present)) → (out_of_memory : Bool) × Does (outcome out_of_memory t e) t out out' result
@@ -65,16 +67,55 @@ Does-stack t desk e out out' result same h p =
     subst (λ x. (out_of_memory : Bool) × Does (outcome out_of_memory t x) t out out' result) (sym h)
     (false, (refl, subst (λ v. Puts out out' result (answer_lines (stack_rows v.present))) same p))
 
+-- a query of another field than 4
+not-text : (b : Bool) (field : Field) (rows : List AnswerRow) → field ≢ Text → query_reply b field rows ≡ shown b (answer_lines rows)
+not-text b Definition rows other = refl
+not-text b Text rows other = absurd (other refl)
+
 pub Does-query : {A : Type 0} (t desk : Timeline) (e : Request) (field : Field) (pattern : List ℕ) (r : Result (List AnswerRow) Refusal) (out out' : Writer) (result : Result A Fault)
-    → desk ≡ t → e ≡ query field pattern → IfOk r (λ rows. rows ≡ answer desk.present field pattern) → IfErr r (λ x. x ≡ OutOfMemory)
+    → desk ≡ t → e ≡ query field pattern → field ≢ Text → IfOk r (λ rows. rows ≡ answer desk.present field pattern) → IfErr r (λ x. x ≡ OutOfMemory)
     → Puts out out' result (rows_line r) → (out_of_memory : Bool) × Does (outcome out_of_memory t e) t out out' result
 unfolding outcome
-Does-query t desk e field pattern (Ok rows) out out' result same h is memory p =
+Does-query t desk e field pattern (Ok rows) out out' result same h other is memory p =
     subst (λ x. (out_of_memory : Bool) × Does (outcome out_of_memory t x) t out out' result) (sym h)
-    (false, (refl, subst (λ l. Puts out out' result l) (ap answer_lines is ∙ ap (λ v. answer_lines (answer v.present field pattern)) same) p))
-Does-query t desk e field pattern (Err x) out out' result same h is memory p =
+    (false, (refl, subst (λ l. Puts out out' result l) (ap answer_lines is ∙ ap (λ v. answer_lines (answer v.present field pattern)) same ∙ sym (not-text false field (answer t.present field pattern) other)) p))
+Does-query t desk e field pattern (Err x) out out' result same h other is memory p =
     subst (λ y. (out_of_memory : Bool) × Does (outcome out_of_memory t y) t out out' result) (sym h)
-    (true, (refl, subst (λ l. Puts out out' result l) (ap refused_line memory) p))
+    (true, (refl, subst (λ l. Puts out out' result l) (ap refused_line memory ∙ sym (not-text true field (answer t.present field pattern) other)) p))
+
+-- a query of field 4
+pub Does-text : {A : Type 0} (t desk : Timeline) (e : Request) (text : List ℕ) (out out' : Writer) (result : Result A Fault)
+    → desk ≡ t → e ≡ query Text text → Puts out out' result (answer_lines (answer desk.present Text text)) → (out_of_memory : Bool) × Does (outcome out_of_memory t e) t out out' result
+unfolding outcome
+Does-text t desk e text out out' result same h p =
+    subst (λ x. (out_of_memory : Bool) × Does (outcome out_of_memory t x) t out out' result) (sym h)
+    (false, (refl, subst (λ v. Puts out out' result (answer_lines (answer v.present Text text))) same p))
+
+pub Does-marks : {A : Type 0} (t desk : Timeline) (e : Request) (out out' : Writer) (result : Result A Fault)
+    → desk ≡ t → e ≡ marks → Puts out out' result (answer_lines (mark_rows desk.present)) → (out_of_memory : Bool) × Does (outcome out_of_memory t e) t out out' result
+unfolding outcome
+Does-marks t desk e out out' result same h p =
+    subst (λ x. (out_of_memory : Bool) × Does (outcome out_of_memory t x) t out out' result) (sym h)
+    (false, (refl, subst (λ v. Puts out out' result (answer_lines (mark_rows v.present))) same p))
+
+-- a change that replies by its line alone
+pub plain-change : (s : Step) (w : World) → ((text : List ℕ) → s ≡ want text → ⊥) → change_reply s w ≡ done_line
+plain-change (load name bytes) w other = refl
+plain-change (unload name) w other = refl
+plain-change (rename from to) w other = refl
+plain-change (want text) w other = absurd (other text refl)
+plain-change (mark n) w other = refl
+plain-change mark_all w other = refl
+plain-change (replace text) w other = refl
+plain-change (tag name n) w other = refl
+plain-change pop w other = refl
+
+-- a want that is accepted has a text
+pub wanted-some : (text : List ℕ) (b : Bool) (t u : Timeline) → judged b (want text) (changed t (want text)) ≡ Ok u → text ≢ []
+unfolding changed step
+wanted-some [] true t u e is = cc
+wanted-some [] false t u e is = cc
+wanted-some (x ∷ text) b t u e is = cc
 
 pub Does-tags : {A : Type 0} (t desk : Timeline) (e : Request) (format : Format) (r : Result (List Tag) Refusal) (out out' : Writer) (result : Result A Fault)
     → desk ≡ t → e ≡ tags_file format → IfOk r (λ ts. ts ≡ tags format desk.present) → IfErr r (λ x. x ≡ OutOfMemory)

@@ -2,15 +2,15 @@
 use Rattle.std.proofs.Common.{◌≡◌, ℕ, Bool, true, false, cond, ◌||◌, List, [], ◌∷◌, Option, Some, None, sym, subst, nat_lt, nat_eq, codes}
 use Rattle.std.specs.List.{position}
 use Rattle.std.specs.Str.{bytes_eq}
-use Rattle.cb_session.specs.Commands.{words_in, cut_at, letter_q, end_of_transmission, tags_numbered, tags_words, drop_words, rename_words, tag_numbered, tag_words, alone, number_in, is_space, is_digit, load_sized, load_words, query_of, command, command_line, short_line}
+use Rattle.cb_session.specs.Commands.{words_in, cut_at, letter_q, end_of_transmission, tags_numbered, tags_words, drop_words, rename_words, mark_numbered, mark_words, to_text, want_of, field_line, digit_5, tag_numbered, tag_words, alone, number_in, is_space, is_digit, load_sized, load_words, query_of, command, command_line, short_line}
 use Rattle.cb_session.specs.Models.{HasPattern}
-use Rattle.cb_session.specs.Requests.{Request, refused, quit, change, undo, redo, tags_file, listing, stack, LineRequest, whole, block}
+use Rattle.cb_session.specs.Requests.{Request, refused, quit, change, undo, redo, tags_file, listing, marks, stack, LineRequest, whole, block}
 use Rattle.cb_desk.specs.declared.refusal.Refusal.TheVariants.{BadCount}
 use Rattle.cb_desk.specs.declared.rows.Field.{Field}
 use Rattle.cb_desk.specs.Answer.{field_of_digit}
 use Rattle.cb_session.specs.declared.limits.TheConstants.{MOST_BYTES}
 use Rattle.cb_desk.specs.declared.tags.Format.TheVariants.{Plain, Extended}
-use Rattle.cb_desk.specs.Step.{pop}
+use Rattle.cb_desk.specs.Step.{mark_all, pop}
 
 abbrev IsPatterned : LineRequest → Type 0
 IsPatterned (whole e) = HasPattern e
@@ -60,6 +60,19 @@ rename_words-patterned (old ∷ []) = tt
 rename_words-patterned (old ∷ new ∷ []) = tt
 rename_words-patterned (old ∷ new ∷ more ∷ others) = tt
 
+mark_numbered-patterned : (n : Option ℕ) → HasPattern (mark_numbered n)
+mark_numbered-patterned None = tt
+mark_numbered-patterned (Some n) = tt
+
+mark_words-patterned : (words : List (List ℕ)) → HasPattern (mark_words words)
+mark_words-patterned [] = tt
+mark_words-patterned (number ∷ []) = mark_numbered-patterned (number_in number)
+mark_words-patterned (number ∷ more ∷ others) = tt
+
+to_text-patterned : (rest : Option (List ℕ)) → HasPattern (to_text rest)
+to_text-patterned None = tt
+to_text-patterned (Some text) = tt
+
 tag_numbered-patterned : (name : List ℕ) (n : Option ℕ) → HasPattern (tag_numbered name n)
 tag_numbered-patterned name None = tt
 tag_numbered-patterned name (Some n) = tt
@@ -81,20 +94,35 @@ command-patterned word rest =
     IsPatterned-choice (bytes_eq word (codes ":load")) _ _ (load_words-patterned words)
     (IsPatterned-choice (bytes_eq word (codes ":drop")) (whole (drop_words words)) _ (drop_words-patterned words)
     (IsPatterned-choice (bytes_eq word (codes ":rename")) (whole (rename_words words)) _ (rename_words-patterned words)
+    (IsPatterned-choice (bytes_eq word (codes ":mark")) (whole (mark_words words)) _ (mark_words-patterned words)
+    (IsPatterned-choice (bytes_eq word (codes ":markall")) _ _ (alone-patterned (change mark_all) words tt)
+    (IsPatterned-choice (bytes_eq word (codes ":to")) (whole (to_text rest)) _ (to_text-patterned rest)
     (IsPatterned-choice (bytes_eq word (codes ":tag")) (whole (tag_words words)) _ (tag_words-patterned words)
     (IsPatterned-choice (bytes_eq word (codes ":pop")) _ _ (alone-patterned (change pop) words tt)
     (IsPatterned-choice (bytes_eq word (codes ":undo")) _ _ (alone-patterned undo words tt)
     (IsPatterned-choice (bytes_eq word (codes ":redo")) _ _ (alone-patterned redo words tt)
     (IsPatterned-choice (bytes_eq word (codes ":tags")) (whole (tags_words words)) _ (tags_words-patterned words)
     (IsPatterned-choice (bytes_eq word (codes ":listing")) _ _ (alone-patterned listing words tt)
-    (IsPatterned-choice (bytes_eq word (codes ":stack")) _ _ (alone-patterned stack words tt) tt)))))))))
+    (IsPatterned-choice (bytes_eq word (codes ":marks")) _ _ (alone-patterned marks words tt)
+    (IsPatterned-choice (bytes_eq word (codes ":stack")) _ _ (alone-patterned stack words tt) tt)))))))))))))
+
+want_of-patterned : (text : List ℕ) → HasPattern (want_of text)
+want_of-patterned [] = tt
+want_of-patterned (b ∷ bs) = tt
+
+field_line-patterned : (b : ℕ) (bs : List ℕ) → HasPattern (field_line b bs)
+field_line-patterned b bs =
+    elim (nat_eq b digit_5) as (λ is. HasPattern (cond is (want_of bs) (query_of (field_of_digit b) bs))) [
+      | true ↦ want_of-patterned bs
+      | false ↦ query_of-patterned (field_of_digit b) bs
+    ]
 
 short_line-patterned : (line : List ℕ) → IsPatterned (short_line line)
 short_line-patterned [] = tt
 short_line-patterned (b ∷ bs) =
     let parts = cut_at (b ∷ bs) (position is_space (b ∷ bs)) in
     IsPatterned-choice (nat_eq b letter_q || nat_eq b end_of_transmission) (whole quit) _ tt
-    (IsPatterned-choice (is_digit b) (whole (query_of (field_of_digit b) bs)) (command_line (b ∷ bs)) (query_of-patterned (field_of_digit b) bs) (command-patterned parts.0 parts.1))
+    (IsPatterned-choice (is_digit b) (whole (field_line b bs)) (command_line (b ∷ bs)) (field_line-patterned b bs) (command-patterned parts.0 parts.1))
 
 -- the request of a line has its pattern
 pub HasPattern-whole : (line : List ℕ) (e : Request) → whole e ≡ short_line line → HasPattern e

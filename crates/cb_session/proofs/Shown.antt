@@ -1,12 +1,13 @@
--- The rows of the frames, written from the top of the stack down.
-use Rattle.std.proofs.Common.{◌≡◌, ◌≤◌, ℕ, zero, suc, List, [], ◌∷◌, ◌++◌, map, reverse, length, codes, Result, refl, sym, ap, ◌∙◌, subst, append_assoc, arith, slice_index_or}
+-- The rows of the marks and of the frames.
+use Rattle.std.proofs.Common.{◌≡◌, ◌≤◌, ℕ, zero, suc, true, false, cond, Option, Some, None, List, [], ◌∷◌, ◌++◌, map, reverse, length, codes, Result, refl, sym, ap, ◌∙◌, subst, append_assoc, arith, slice_index_or}
 use Rattle.std.proofs.lemmas.List.{reverse-append, length-map, length-reverse}
 use Rattle.std.specs.Prelude.{IsErrAnd}
 use Rattle.std.specs.List.{flat_map}
 use Rattle.cb_scan.specs.Lines.{lines}
 use Rattle.cb_scan.proofs.LineTable.{lines-few}
 use Rattle.cb_session.specs.declared.input.Fault.{Fault}
-use Rattle.cb_desk.specs.World.{World, File, Place}
+use Rattle.cb_desk.specs.World.{World, File, Place, has_file, text_of_file, text_named}
+use Rattle.cb_desk.proofs.PlaceLemmas.{no-text}
 use Rattle.cb_session.specs.declared.input.Fault.TheVariants.{Write}
 use Rattle.cb_tags.specs.Writers.{Writer}
 use Rattle.cb_tags.specs.Writing.{PutsAll, PutsPrefix}
@@ -14,8 +15,8 @@ use Rattle.cb_tags.proofs.Prefixes.{PutsAll-after, PutsPrefix-more, PutsPrefix-a
 use Rattle.cb_desk.specs.Answer.{AnswerRow, line_row, unindented}
 use Rattle.cb_desk.specs.declared.refusal.Refusal.{Refusal}
 use Rattle.std.specs.Prelude.{Ok, Err}
-use Rattle.cb_session.specs.Output.{row_line}
-use Rattle.cb_session.specs.Stack.{place_row, stack_rows}
+use Rattle.cb_session.specs.Output.{row_line, count_line, answer_lines}
+use Rattle.cb_session.specs.Places.{place_row, stack_rows}
 use Rattle.cb_session.specs.Writing.{Puts}
 use Rattle.cb_session.proofs.Puts.{Puts-fault}
 
@@ -74,6 +75,32 @@ line_row-empty file zero = refl
 line_row-empty file (suc n) =
     let row : List (List ℕ) → AnswerRow = λ ls. record { file = file; function = codes "<unknown>"; line = suc n; text = unindented (slice_index_or ls n []) } in
     ap row no_lines
+
+-- the text of a name, as it is looked up
+pub text-found : (files : List File) (name text : List ℕ) → Some text ≡ text_named files name → text ≡ text_of_file files name
+text-found files name text is =
+    (elim (has_file files name) as (λ b. Some text ≡ cond {A = Option (List ℕ)} b (Some (text_of_file files name)) None → text ≡ text_of_file files name) [
+      | true ↦ λ e. cc
+      | false ↦ λ e. cc
+    ]) is
+
+-- a name that is not there has no text
+pub no-text-found : (files : List File) (name : List ℕ) → None ≡ text_named files name → text_of_file files name ≡ []
+no-text-found files name is =
+    (elim (has_file files name) as (λ b. has_file files name ≡ b → None ≡ cond {A = Option (List ℕ)} b (Some (text_of_file files name)) None → text_of_file files name ≡ []) [
+      | true ↦ λ h e. cc
+      | false ↦ λ h e. no-text files name h
+    ]) refl is
+
+-- the reply that shows the marks, place by place
+pub marks-shown : (files : List File) (marks : List Place) → count_line (length marks) ++ flat_map (λ (p : Place). row_line (place_row files p)) marks ≡ answer_lines (map (place_row files) marks)
+marks-shown files marks =
+    ap (λ n. count_line n ++ flat_map (λ (p : Place). row_line (place_row files p)) marks) (sym (length-map marks (place_row files)))
+    ∙ ap (λ l. count_line (length (map (place_row files) marks)) ++ l) (rows-of marks)
+  where
+    rows-of : (ps : List Place) → flat_map (λ (p : Place). row_line (place_row files p)) ps ≡ flat_map row_line (map (place_row files) ps)
+    rows-of [] = refl
+    rows-of (p ∷ ps) = ap (λ l. row_line (place_row files p) ++ l) (rows-of ps)
 
 -- the rows of an answer; none where it was refused
 abbrev pub rows_in : Result (List AnswerRow) Refusal → List AnswerRow

@@ -14,8 +14,8 @@ mod intake;
 mod limits;
 mod line;
 mod operands;
-mod reply;
 mod places;
+mod reply;
 mod state;
 mod tags;
 
