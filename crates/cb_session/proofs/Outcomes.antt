@@ -9,6 +9,10 @@ use Rattle.cb_session.specs.declared.input.Fault.{Fault}
 use Rattle.cb_desk.specs.Timeline.{Timeline, Moves, Changes, judged, changed, undone, redone}
 use Rattle.cb_desk.specs.Step.{Step, step, load, unload, rename, want, mark, mark_all, replace, tag, pop}
 use Rattle.cb_desk.specs.World.{World}
+use Rattle.std.specs.Borrow.{Bor}
+use Rattle.cb_desk.specs.declared.change.Change.{Change}
+use Rattle.cb_desk.specs.declared.change.Change.TheVariants.{Load, Unload, Rename, Want, Mark, MarkAll, Replace, Tag as TagOf, Pop}
+use Rattle.cb_desk.specs.Models.{step_of}
 use Rattle.cb_desk.specs.Answer.{AnswerRow, answer}
 use Rattle.cb_tags.specs.TagLines.{Tag}
 use Rattle.std.specs.Prelude.{IfOk, IfErr}
@@ -72,24 +76,28 @@ not-text : (b : Bool) (field : Field) (rows : List AnswerRow) → field ≢ Text
 not-text b Definition rows other = refl
 not-text b Text rows other = absurd (other refl)
 
-pub Does-query : {A : Type 0} (t desk : Timeline) (e : Request) (field : Field) (pattern : List ℕ) (r : Result (List AnswerRow) Refusal) (out out' : Writer) (result : Result A Fault)
-    → desk ≡ t → e ≡ query field pattern → field ≢ Text → IfOk r (λ rows. rows ≡ answer desk.present field pattern) → IfErr r (λ x. x ≡ OutOfMemory)
-    → Puts out out' result (rows_line r) → (out_of_memory : Bool) × Does (outcome out_of_memory t e) t out out' result
-unfolding outcome
-Does-query t desk e field pattern (Ok rows) out out' result same h other is memory p =
-    subst (λ x. (out_of_memory : Bool) × Does (outcome out_of_memory t x) t out out' result) (sym h)
-    (false, (refl, subst (λ l. Puts out out' result l) (ap answer_lines is ∙ ap (λ v. answer_lines (answer v.present field pattern)) same ∙ sym (not-text false field (answer t.present field pattern) other)) p))
-Does-query t desk e field pattern (Err x) out out' result same h other is memory p =
-    subst (λ y. (out_of_memory : Bool) × Does (outcome out_of_memory t y) t out out' result) (sym h)
-    (true, (refl, subst (λ l. Puts out out' result l) (ap refused_line memory ∙ sym (not-text true field (answer t.present field pattern) other)) p))
+-- the rows of another field than 4 as they were collected, or memory was refused
+pub replies-other : {A : Type 0} (desk t : Timeline) (field : Field) (pattern : List ℕ) (r : Result (List AnswerRow) Refusal) (out out' : Writer) (result : Result A Fault)
+    → desk ≡ t → field ≢ Text → IfOk r (λ rows. rows ≡ answer desk.present field pattern) → IfErr r (λ x. x ≡ OutOfMemory)
+    → Puts out out' result (rows_line r) → (out_of_memory : Bool) × Puts out out' result (query_reply out_of_memory field (answer t.present field pattern))
+replies-other desk t field pattern (Ok rows) out out' result same other is memory p =
+    (false, subst (λ l. Puts out out' result l) (ap answer_lines (is ∙ ap (λ v. answer v.present field pattern) same) ∙ sym (not-text false field (answer t.present field pattern) other)) p)
+replies-other desk t field pattern (Err x) out out' result same other is memory p =
+    (true, subst (λ l. Puts out out' result l) (ap refused_line memory ∙ sym (not-text true field (answer t.present field pattern) other)) p)
 
--- a query of field 4
-pub Does-text : {A : Type 0} (t desk : Timeline) (e : Request) (text : List ℕ) (out out' : Writer) (result : Result A Fault)
-    → desk ≡ t → e ≡ query Text text → Puts out out' result (answer_lines (answer desk.present Text text)) → (out_of_memory : Bool) × Does (outcome out_of_memory t e) t out out' result
+-- the rows of field 4
+pub replies-text : {A : Type 0} (desk t : Timeline) (field : Field) (pattern : List ℕ) (out out' : Writer) (result : Result A Fault)
+    → desk ≡ t → field ≡ Text → Puts out out' result (answer_lines (answer desk.present Text pattern)) → (out_of_memory : Bool) × Puts out out' result (query_reply out_of_memory field (answer t.present field pattern))
+replies-text desk t field pattern out out' result same is p =
+    (false, subst (λ f. Puts out out' result (query_reply false f (answer t.present f pattern))) (sym is) (subst (λ v. Puts out out' result (answer_lines (answer v.present Text pattern))) same p))
+
+pub Does-query : {A : Type 0} (t desk : Timeline) (e : Request) (field : Field) (pattern : List ℕ) (out out' : Writer) (result : Result A Fault)
+    → desk ≡ t → e ≡ query field pattern → (out_of_memory : Bool) × Puts out out' result (query_reply out_of_memory field (answer desk.present field pattern))
+    → (out_of_memory : Bool) × Does (outcome out_of_memory t e) t out out' result
 unfolding outcome
-Does-text t desk e text out out' result same h p =
+Does-query t desk e field pattern out out' result same h p =
     subst (λ x. (out_of_memory : Bool) × Does (outcome out_of_memory t x) t out out' result) (sym h)
-    (false, (refl, subst (λ v. Puts out out' result (answer_lines (answer v.present Text text))) same p))
+    (p.0, (refl, subst (λ v. Puts out out' result (query_reply p.0 field (answer v.present field pattern))) same p.1))
 
 pub Does-marks : {A : Type 0} (t desk : Timeline) (e : Request) (out out' : Writer) (result : Result A Fault)
     → desk ≡ t → e ≡ marks → Puts out out' result (answer_lines (mark_rows desk.present)) → (out_of_memory : Bool) × Does (outcome out_of_memory t e) t out out' result
@@ -99,7 +107,7 @@ Does-marks t desk e out out' result same h p =
     (false, (refl, subst (λ v. Puts out out' result (answer_lines (mark_rows v.present))) same p))
 
 -- a change that replies by its line alone
-pub plain-change : (s : Step) (w : World) → ((text : List ℕ) → s ≡ want text → ⊥) → change_reply s w ≡ done_line
+plain-change : (s : Step) (w : World) → ((text : List ℕ) → s ≡ want text → ⊥) → change_reply s w ≡ done_line
 plain-change (load name bytes) w other = refl
 plain-change (unload name) w other = refl
 plain-change (rename from to) w other = refl
@@ -109,6 +117,36 @@ plain-change mark_all w other = refl
 plain-change (replace text) w other = refl
 plain-change (tag name n) w other = refl
 plain-change pop w other = refl
+
+-- a change that is no want is no step that is one
+pub other-step : (c : Change) → ((text : Bor (List ℕ)) → c ≡ Want text → ⊥) → (text : List ℕ) → step_of c ≡ want text → ⊥
+other-step (Load name bytes) other text e = cc
+other-step (Unload name) other text e = cc
+other-step (Rename from to) other text e = cc
+other-step (Want t) other text e = other t refl
+other-step (Mark n) other text e = cc
+other-step MarkAll other text e = cc
+other-step (Replace t) other text e = cc
+other-step (TagOf name n) other text e = cc
+other-step Pop other text e = cc
+
+pub Does-other : {A : Type 0} (start old new : Timeline) (c : Change) (r : Result (Unit {0}) Refusal) (out out' : Writer) (result : Result A Fault)
+    → old ≡ start → ((text : Bor (List ℕ)) → c ≡ Want text → ⊥) → Changes (step_of c) old new r → Puts out out' result (move_line done_line r)
+    → (out_of_memory : Bool) × Does (outcome out_of_memory start (change (step_of c))) new out out' result
+Does-other start old new c r out out' result same other p q =
+    Does-change start old new (change (step_of c)) (step_of c) r out out' result same refl p
+    (subst (λ l. Puts out out' result (move_line l r)) (sym (plain-change (step_of c) new.present (other-step c other))) q)
+
+-- a request that was asked for under another name
+pub Does-asked : {A : Type 0} (start new : Timeline) (e asked : Request) (out out' : Writer) (result : Result A Fault)
+    → e ≡ asked → (out_of_memory : Bool) × Does (outcome out_of_memory start asked) new out out' result → (out_of_memory : Bool) × Does (outcome out_of_memory start e) new out out' result
+Does-asked start new e asked out out' result same p = subst (λ x. (out_of_memory : Bool) × Does (outcome out_of_memory start x) new out out' result) (sym same) p
+
+-- a want, with the rows of its text or its refusal
+pub Does-want : {A : Type 0} (start old new : Timeline) (text : List ℕ) (r : Result (Unit {0}) Refusal) (out out' : Writer) (result : Result A Fault)
+    → old ≡ start → Changes (want text) old new r → Puts out out' result (move_line (answer_lines (answer new.present Text text)) r)
+    → (out_of_memory : Bool) × Does (outcome out_of_memory start (change (want text))) new out out' result
+Does-want start old new text r out out' result same p q = Does-change start old new (change (want text)) (want text) r out out' result same refl p q
 
 -- a want that is accepted has a text
 pub wanted-some : (text : List ℕ) (b : Bool) (t u : Timeline) → judged b (want text) (changed t (want text)) ≡ Ok u → text ≢ []

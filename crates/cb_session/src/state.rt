@@ -1,13 +1,16 @@
 //! A session, and its runs.
-ghost use Rattle.std.specs.Prelude.{◌≡◌, Bool, List, ℕ, Some, IfOk, IfSome, MatchResult};
+ghost use Rattle.std.specs.Prelude.{◌≡◌, ◌≢◌, [], Bool, List, ℕ, Some, IfOk, IfSome, MatchResult};
+ghost use Rattle.cb_desk.specs.Answer.{answer};
+ghost use Rattle.cb_desk.specs.Models.{step_of};
 ghost use Rattle.cb_desk.specs.Step.{want};
 ghost use Rattle.cb_desk.specs.Timeline.{new_timeline};
 ghost use Rattle.cb_session.specs.Inputs.{first, inputs, ending_of};
 ghost use Rattle.cb_session.specs.Models.{request_of, going_of, HasPattern};
 ghost use Rattle.cb_session.specs.Serving.{Does, LeavesRun, HasFailed, IfFault, Tells, fault_of};
 ghost use Rattle.cb_session.specs.steps.Rounds.{LeavesRound, fault_in};
-ghost use Rattle.cb_session.specs.Output.{outcome};
-ghost use Rattle.cb_session.specs.Requests.{change};
+ghost use Rattle.cb_session.specs.Output.{outcome, query_reply};
+ghost use Rattle.cb_session.specs.Requests.{change as change_asked};
+ghost use Rattle.cb_session.specs.Writing.{Puts};
 
 use crate::places::{put_marks, put_stack};
 use crate::reply::{put_move, put_prompt, put_refusal, put_rows, put_text_rows};
@@ -91,16 +94,46 @@ impl Session {
             Input::Command(command) => command,
         };
         match command {
-            Command::Query(Field::Text, text) => put_text_rows(out, &self.desk, text),
-            Command::Query(field, pattern) => put_rows(out, self.desk.rows(alloc, field, pattern)),
-            Command::Change(Change::Want(text)) => self.want(alloc, text, out),
-            Command::Change(change) => put_move(out, self.desk.change(alloc, change)),
+            Command::Query(field, pattern) => self.query(alloc, field, pattern, out),
+            Command::Change(change) => self.change(alloc, change, out),
             Command::Undo => put_move(out, self.desk.undo()),
             Command::Redo => put_move(out, self.desk.redo()),
             Command::Tags(format) => put_tags_reply(out, format, self.desk.tag_rows(alloc, format)),
             Command::Listing => put_listing_reply(out, self.desk.tag_rows(alloc, Format::Extended)),
             Command::Marks => put_marks(out, &self.desk),
             Command::Stack => put_stack(out, &self.desk),
+        }
+    }
+
+    /// Writes the rows that answer a query. Those of field 4 come one by one.
+    fn query<W: Write>(
+        &self,
+        alloc: Global,
+        field: Field,
+        pattern: &[u8],
+        out: &mut Sink<W>,
+    ) -> Result<(), Fault>
+        requires { pattern.now ≢ [] }
+        ensures { (out_of_memory : Bool) × Puts out.old out.new result (query_reply out_of_memory field (answer self.now.present field pattern.now)) }
+    {
+        match field {
+            Field::Text => put_text_rows(out, &self.desk, pattern),
+            _ => put_rows(out, self.desk.rows(alloc, field, pattern)),
+        }
+    }
+
+    /// Makes a change, and writes its reply.
+    fn change<W: Write>(
+        &mut self,
+        alloc: Global,
+        change: Change<'_>,
+        out: &mut Sink<W>,
+    ) -> Result<(), Fault>
+        ensures { (out_of_memory : Bool) × Does (outcome out_of_memory self.old (change_asked (step_of change.entry))) self.new out.old out.new result }
+    {
+        match change {
+            Change::Want(text) => self.want(alloc, text, out),
+            _ => put_move(out, self.desk.change(alloc, change)),
         }
     }
 
@@ -111,7 +144,7 @@ impl Session {
         text: &[u8],
         out: &mut Sink<W>,
     ) -> Result<(), Fault>
-        ensures { (out_of_memory : Bool) × Does (outcome out_of_memory self.old (change (want text.now))) self.new out.old out.new result }
+        ensures { (out_of_memory : Bool) × Does (outcome out_of_memory self.old (change_asked (want text.now))) self.new out.old out.new result }
     {
         match self.desk.change(alloc, Change::Want(text)) {
             Ok(()) => put_text_rows(out, &self.desk, text),

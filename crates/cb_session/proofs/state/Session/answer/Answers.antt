@@ -1,6 +1,6 @@
-use Rattle.std.proofs.Common.{◌∙◌, ap}
+use Rattle.std.proofs.Common.{◌∙◌, ap, refl}
 use Rattle.cb_session.specs.Models.{command_of, request_of}
-use Rattle.cb_session.proofs.Outcomes.{Does-change, Does-listing, Does-nothing, Does-query, Does-quit, Does-redo, Does-refused, Does-stack, Does-tags, Does-undo}
+use Rattle.cb_session.proofs.Outcomes.{Does-asked, Does-listing, Does-marks, Does-nothing, Does-query, Does-quit, Does-redo, Does-refused, Does-stack, Does-tags, Does-undo}
 use Rattle.cb_session.proofs.state.Session.answer.Goals as goal
 
 pub returns-in-Nothing : goal.returns-in-Nothing
@@ -13,14 +13,15 @@ pub returns-in-Refused : goal.returns-in-Refused
 returns-in-Refused g c = Does-refused _ _ _ _ _ _ (ap request_of c.in-Refused.is) c.put_refusal.ensures
 
 pub returns-in-Query : goal.returns-in-Query
-returns-in-Query g c = ?
+returns-in-Query g c =
+    Does-query _ _ _ _ _ _ _ _ refl (ap request_of c.in-Command.is ∙ ap command_of c.in-Query.is) c.query.ensures
 
 pub returns-in-Change : goal.returns-in-Change
-returns-in-Change g c = ?
+returns-in-Change g c = Does-asked _ _ _ _ _ _ _ (ap request_of c.in-Command.is ∙ ap command_of c.in-Change.is) c.change.ensures
 
 pub returns-in-Undo : goal.returns-in-Undo
 returns-in-Undo g c =
-    Does-undo _ _ _ _ _ _ _ _ c.self-in-Undo.view_is (ap request_of c.in-Command.is ∙ ap command_of c.in-Undo.is) c.undo.ensures c.put_move-in-Undo.ensures
+    Does-undo _ _ _ _ _ _ _ _ c.self.view_is (ap request_of c.in-Command.is ∙ ap command_of c.in-Undo.is) c.undo.ensures c.put_move.ensures
 
 pub returns-in-Redo : goal.returns-in-Redo
 returns-in-Redo g c =
@@ -37,3 +38,7 @@ returns-in-Listing g c =
 pub returns-in-Stack : goal.returns-in-Stack
 returns-in-Stack g c =
     Does-stack _ _ _ _ _ _ c.self-in-Stack.view_is (ap request_of c.in-Command.is ∙ ap command_of c.in-Stack.is) c.put_stack.ensures
+
+pub returns-in-Marks : goal.returns-in-Marks
+returns-in-Marks g c =
+    Does-marks _ _ _ _ _ _ c.self-in-Marks.view_is (ap request_of c.in-Command.is ∙ ap command_of c.in-Marks.is) c.put_marks.ensures

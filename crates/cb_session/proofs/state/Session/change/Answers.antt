@@ -1,0 +1,6 @@
+use Rattle.std.proofs.Common.{◌≡◌}
+use Rattle.cb_session.proofs.Outcomes.{Does-other}
+use Rattle.cb_session.proofs.state.Session.change.Goals as goal
+
+pub returns-in_default : goal.returns-in_default
+returns-in_default g c = Does-other _ _ _ _ _ _ _ _ c.self.view_is c.in_default.not-Want c.change.ensures c.put_move.ensures
