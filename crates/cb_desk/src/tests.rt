@@ -1,4 +1,5 @@
 mod calls;
+mod marks;
 mod memory;
 mod moves;
 mod replacement;

@@ -1,6 +1,7 @@
 //! Runs over memory. The expected bytes are written by hand from the rules of commands and replies.
 mod devices;
 mod frames;
+mod marks;
 mod memory;
 mod operands;
 mod tags;

@@ -1,6 +1,7 @@
 //! Tests in which memory may be refused, each growth in turn, one a run. For each call that takes
 //! memory, `refused_growth_of_CALL` passes in each run, and `no_refusal_of_CALL` only in a run that
 //! refuses nothing.
+use super::marks::marked_files;
 use super::moves::{has_frames, two_files};
 use super::{load_text_or_refused, shows};
 use crate::{Change, Desk, Field, Format, Refusal};
@@ -130,6 +131,108 @@ fn tag_meets_a_refusal(rt: &impl Abort, alloc: Global) -> bool {
 
 fn pop_meets_a_refusal(rt: &impl Abort, alloc: Global) -> bool {
     change_meets_a_refusal(rt, alloc, Change::Pop, Change::Pop)
+}
+
+/// Marked files with a future; whatever is refused, the marks stay, and redo goes on.
+fn marked_change_meets_a_refusal(
+    rt: &impl Abort,
+    alloc: Global,
+    first: Change<'_>,
+    again: Change<'_>,
+) -> bool {
+    let Ok(mut desk) = marked_with_a_future(alloc) else {
+        return true;
+    };
+    match desk.change(alloc, first) {
+        Ok(()) => {
+            assert!(rt; desk.redo() == Err(Refusal::NothingToRedo));
+            false
+        }
+        Err(refusal) => {
+            assert!(rt; refusal == Refusal::OutOfMemory);
+            assert_eq!(rt; desk.marks().len(), 3);
+            assert!(rt; desk.redo() == Ok(()));
+            assert!(rt; desk.undo() == Ok(()));
+            assert!(rt; desk.change(alloc, again) == Ok(()));
+            true
+        }
+    }
+}
+
+/// Marked files, and a drop that was taken back.
+fn marked_with_a_future(alloc: Global) -> Result<Desk, Refusal> {
+    let mut desk = marked_files(alloc)?;
+    desk.change(alloc, Change::Unload(b"m.c"))?;
+    desk.undo()?;
+    Ok(desk)
+}
+
+fn want_meets_a_refusal(rt: &impl Abort, alloc: Global) -> bool {
+    marked_change_meets_a_refusal(rt, alloc, Change::Want(b"int"), Change::Want(b"int"))
+}
+
+fn mark_meets_a_refusal(rt: &impl Abort, alloc: Global) -> bool {
+    marked_change_meets_a_refusal(rt, alloc, Change::Mark(2), Change::Mark(2))
+}
+
+fn mark_all_meets_a_refusal(rt: &impl Abort, alloc: Global) -> bool {
+    marked_change_meets_a_refusal(rt, alloc, Change::MarkAll, Change::MarkAll)
+}
+
+fn replace_meets_a_refusal(rt: &impl Abort, alloc: Global) -> bool {
+    marked_change_meets_a_refusal(rt, alloc, Change::Replace(b"sum"), Change::Replace(b"sum"))
+}
+
+#[test]
+fn refused_growth_of_want(rt: HostRuntime) {
+    let _refused = want_meets_a_refusal(&rt, rt.alloc());
+}
+
+#[test]
+fn no_refusal_of_want(rt: HostRuntime) {
+    assert!(rt;
+        !want_meets_a_refusal(&rt, rt.alloc()),
+        "memory was refused"
+    );
+}
+
+#[test]
+fn refused_growth_of_mark(rt: HostRuntime) {
+    let _refused = mark_meets_a_refusal(&rt, rt.alloc());
+}
+
+#[test]
+fn no_refusal_of_mark(rt: HostRuntime) {
+    assert!(rt;
+        !mark_meets_a_refusal(&rt, rt.alloc()),
+        "memory was refused"
+    );
+}
+
+#[test]
+fn refused_growth_of_mark_all(rt: HostRuntime) {
+    let _refused = mark_all_meets_a_refusal(&rt, rt.alloc());
+}
+
+#[test]
+fn no_refusal_of_mark_all(rt: HostRuntime) {
+    assert!(rt;
+        !mark_all_meets_a_refusal(&rt, rt.alloc()),
+        "memory was refused"
+    );
+}
+
+#[test]
+fn refused_growth_of_replace(rt: HostRuntime) {
+    let _refused = replace_meets_a_refusal(&rt, rt.alloc());
+}
+
+#[test]
+fn no_refusal_of_replace(rt: HostRuntime) {
+    assert!(rt;
+        !replace_meets_a_refusal(&rt, rt.alloc()),
+        "memory was refused"
+    );
 }
 
 #[test]

@@ -29,7 +29,7 @@ fn has_frames_from_the_top(desk: &Desk, frames: &[(&[u8], u32)]) -> bool {
 }
 
 /// Whether the file of that name has that text.
-fn has_text(desk: &Desk, name: &[u8], text: &[u8]) -> bool {
+pub(crate) fn has_text(desk: &Desk, name: &[u8], text: &[u8]) -> bool {
     for (file, source) in desk.files() {
         if file == name {
             return source.bytes() == text;

@@ -12,7 +12,7 @@ const A: &[u8] =
 const M: &[u8] = b"int Mb(void) {\n}\n";
 
 /// The first as an operand.
-const ONE: &[(&[u8], &[u8])] = &[(b"a.c", A)];
+pub(crate) const ONE: &[(&[u8], &[u8])] = &[(b"a.c", A)];
 
 /// Both.
 const TWO: &[(&[u8], &[u8])] = &[(b"a.c", A), (b"m.c", M)];
