@@ -125,15 +125,17 @@ goes-along (f ∷ fs) marks files up there =
     let mine = filter (is_in f.name) marks in
     let rest = filter (λ p. not (is_in f.name p)) marks in
     let in_it : AllByRecursion (λ p. is_in f.name p ≡ true) mine = all-passed (is_in f.name) marks in
-    let out : AllByRecursion (λ p. not (is_in f.name p) ≡ true) rest = all-passed (λ p. not (is_in f.name p)) marks in
-    (mine, rest,
+    let out : AllByRecursion (λ p. not (is_in f.name p) ≡ true) rest = all-passed (λ p. not (is_in f.name p)) marks in (
+      mine,
+      rest,
       in-two f.name marks up (all-along (λ (p : Place). has_file (f ∷ fs) p.file ≡ true) (λ (p : Place). NotAfter f.name p.file) marks (λ p h. low-first f fs p.file files.0 h) there),
       in_it,
       all-along (λ p. not (is_in f.name p) ≡ true) (λ p. is_in f.name p ≡ false) rest (λ p h. false-from (is_in f.name p) h) out,
       all-along (λ g. by_name f g ≡ Less) (λ g. AllByRecursion (λ p. is_in g.name p ≡ false) mine) fs (λ g less. all-along (λ p. is_in f.name p ≡ true) (λ p. is_in g.name p ≡ false) mine (λ p h. elsewhere f g p less h) in_it) files.0,
       goes-along fs rest files.1 (IsStrictlySortedBy-filter (λ (p q : Place). slice_cmp nat_cmp (place_key p) (place_key q)) (λ p. not (is_in f.name p)) marks up)
           (all-both (λ p. not (is_in f.name p) ≡ true) (λ (p : Place). has_file (f ∷ fs) p.file ≡ true) (λ (p : Place). has_file fs p.file ≡ true) rest (λ p h k. not-here f fs p h k) out
-          (all-filter (λ (p : Place). has_file (f ∷ fs) p.file ≡ true) (λ p. not (is_in f.name p)) marks there)))
+          (all-filter (λ (p : Place). has_file (f ∷ fs) p.file ≡ true) (λ p. not (is_in f.name p)) marks there)),
+    )
   where
     false-from : (b : Bool) → not b ≡ true → b ≡ false
     false-from true e = cc

@@ -111,15 +111,15 @@ marks-toggled files wanted marks p is valid = record {
   short = valid.short;
   some = valid.some;
   held =
-    elim (list_any (same_place p) marks) as (λ b. AllByRecursion (IsAt (IsMarkIn wanted) files) (cond b (filter (λ q. not (same_place p q)) marks) (put place_key p marks))) [
-      | true ↦ all-filter (IsAt (IsMarkIn wanted) files) (λ q. not (same_place p q)) marks valid.held
-      | false ↦ all-put place_key (IsAt (IsMarkIn wanted) files) p marks is valid.held
-    ];
+      elim (list_any (same_place p) marks) as (λ b. AllByRecursion (IsAt (IsMarkIn wanted) files) (cond b (filter (λ q. not (same_place p q)) marks) (put place_key p marks))) [
+        | true ↦ all-filter (IsAt (IsMarkIn wanted) files) (λ q. not (same_place p q)) marks valid.held
+        | false ↦ all-put place_key (IsAt (IsMarkIn wanted) files) p marks is valid.held
+      ];
   ascending =
-    (elim (list_any (same_place p) marks) as (λ b. list_any (same_place p) marks ≡ b → AreAscending (cond b (filter (λ q. not (same_place p q)) marks) (put place_key p marks))) [
-      | true ↦ λ h. IsStrictlySortedBy-filter (λ (p q : Place). slice_cmp nat_cmp (place_key p) (place_key q)) (λ q. not (same_place p q)) marks valid.ascending
-      | false ↦ λ h. put-strict place_key p marks valid.ascending (none-same p marks h)
-    ]) refl;
+      (elim (list_any (same_place p) marks) as (λ b. list_any (same_place p) marks ≡ b → AreAscending (cond b (filter (λ q. not (same_place p q)) marks) (put place_key p marks))) [
+        | true ↦ λ h. IsStrictlySortedBy-filter (λ (p q : Place). slice_cmp nat_cmp (place_key p) (place_key q)) (λ q. not (same_place p q)) marks valid.ascending
+        | false ↦ λ h. put-strict place_key p marks valid.ascending (none-same p marks h)
+      ]) refl;
 }
 
 -- ---- every line that holds a text

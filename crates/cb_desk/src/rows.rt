@@ -110,7 +110,10 @@ impl<'a> RowList<'a> {
     }
 
     /// All rows of lines that hold a text. No two of them are equal.
-    pub(crate) fn collected(alloc: Global, rows: TextRows<'a, '_>) -> Result<RowList<'a>, AllocError>
+    pub(crate) fn collected(
+        alloc: Global,
+        rows: TextRows<'a, '_>,
+    ) -> Result<RowList<'a>, AllocError>
         ensures { IfOk result (λ list. list ≡ rows.entry) }
     {
         let mut list = Vec::new(alloc);

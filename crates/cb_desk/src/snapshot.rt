@@ -13,9 +13,9 @@ mod stack;
 
 use crate::files::{Files, StoredFile, find_file};
 use crate::marks::{WantedText, shared_text};
+use crate::place::{Place, Places, Spot};
 use crate::snapshot::marks::want_refusal;
 use crate::snapshot::stack::push_refusal;
-use crate::place::{Place, Places, Spot};
 use crate::{Change, Refusal};
 use cb_scan::Source;
 use std::alloc::{AllocError, Global};
@@ -125,7 +125,11 @@ impl Snapshot {
     }
 
     /// Why a change is refused, if it is. `place` is the place that it asks for.
-    pub(crate) fn refusal_of(&self, change: &Change<'_>, place: &Option<Spot<'_>>) -> Option<Refusal>
+    pub(crate) fn refusal_of(
+        &self,
+        change: &Change<'_>,
+        place: &Option<Spot<'_>>,
+    ) -> Option<Refusal>
         requires valid { IsValidWorld self.now }
         requires place { place.now ≡ place_of self.now (step_of change.now) }
         ensures { result ≡ refusal_of self.now (step_of change.now) }

@@ -138,12 +138,7 @@ impl Session {
     }
 
     /// Wants a text, and writes the rows of the lines that hold it.
-    fn want<W: Write>(
-        &mut self,
-        alloc: Global,
-        text: &[u8],
-        out: &mut Sink<W>,
-    ) -> Result<(), Fault>
+    fn want<W: Write>(&mut self, alloc: Global, text: &[u8], out: &mut Sink<W>) -> Result<(), Fault>
         ensures { (out_of_memory : Bool) × Does (outcome out_of_memory self.old (change_asked (want text.now))) self.new out.old out.new result }
     {
         match self.desk.change(alloc, Change::Want(text)) {

@@ -134,7 +134,11 @@ impl Snapshot {
     }
 
     /// The world in which the wanted text is replaced on the marked lines.
-    pub(crate) fn replaced_on_marks(&self, alloc: Global, text: &[u8]) -> Result<Snapshot, AllocError>
+    pub(crate) fn replaced_on_marks(
+        &self,
+        alloc: Global,
+        text: &[u8],
+    ) -> Result<Snapshot, AllocError>
         requires valid { IsValidWorld self.now }
         requires accepted { replace_refusal self.now text.now ≡ None }
         ensures { IfOk result (λ w. w ≡ replaced_on_marks self.now self.now.wanted text.now) }

@@ -35,7 +35,7 @@ returns-then-is_large c =
     let counted : c.marks_in.result ≡ prefix_len (is_in file.value.name) rest = c.marks_in.ensures.value ∙ ap (λ n. prefix_len (is_in n) rest) (c.name.ensures ∙ ap (λ f. f.name) c.deref.ensures) in
     let split = c.split_at.ensures in
     let large : nat_lt MOST_BYTES (length (replaced_text c.args.old.now c.args.new.now (map (λ p. p.line) c.split_at.result.0.now) file.value.bytes)) ≡ true =
-        ap (λ (f : File). nat_lt MOST_BYTES (length (replaced_text c.args.old.now c.args.new.now (map (λ p. p.line) c.split_at.result.0.now) f.bytes))) (sym c.as_ref.ensures) ∙ sym c.is_large.ensures ∙ c.if-is_large.true in
+    ap (λ (f : File). nat_lt MOST_BYTES (length (replaced_text c.args.old.now c.args.new.now (map (λ p. p.line) c.split_at.result.0.now) f.bytes))) (sym c.as_ref.ensures) ∙ sym c.is_large.ensures ∙ c.if-is_large.true in
     sym (c.loop-file.invariant.same ∙ ap (list_any is_too_large) (next-made v c.args.files.now c.loop-file.file-index file c.args.old.now c.args.new.now rest _ _ c.marks_in.result c.loop-file-test.true c.file-item.is counted split.front split.back c.loop-file.invariant.along c.loop-file.invariant.ascending) ∙ rw large refl)
 
 pub loop-file-preserved : goal.loop-file-preserved
@@ -46,7 +46,7 @@ loop-file-preserved c =
     let counted : c.marks_in.result ≡ prefix_len (is_in file.value.name) rest = c.marks_in.ensures.value ∙ ap (λ n. prefix_len (is_in n) rest) (c.name.ensures ∙ ap (λ f. f.name) c.deref.ensures) in
     let split = c.split_at.ensures in
     let small : nat_lt MOST_BYTES (length (replaced_text c.args.old.now c.args.new.now (map (λ p. p.line) c.split_at.result.0.now) file.value.bytes)) ≡ false =
-        ap (λ (f : File). nat_lt MOST_BYTES (length (replaced_text c.args.old.now c.args.new.now (map (λ p. p.line) c.split_at.result.0.now) f.bytes))) (sym c.as_ref.ensures) ∙ sym c.is_large.ensures ∙ c.if-is_large.false in
+    ap (λ (f : File). nat_lt MOST_BYTES (length (replaced_text c.args.old.now c.args.new.now (map (λ p. p.line) c.split_at.result.0.now) f.bytes))) (sym c.as_ref.ensures) ∙ sym c.is_large.ensures ∙ c.if-is_large.false in
     let sizes = subst (AllByRecursion (λ (f : File). length f.bytes ≤ MOST_BYTES)) (next_file v c.args.files.now c.loop-file.file-index file c.loop-file-test.true c.file-item.is) c.loop-file.invariant.sizes in
     record {
       same = c.loop-file.invariant.same ∙ ap (list_any is_too_large) (next-made v c.args.files.now c.loop-file.file-index file c.args.old.now c.args.new.now rest _ _ c.marks_in.result c.loop-file-test.true c.file-item.is counted split.front split.back c.loop-file.invariant.along c.loop-file.invariant.ascending) ∙ rw small refl;

@@ -17,5 +17,5 @@ returns-then-is_empty c =
     let none = nothing-in c.args.marks.now c.if-is_empty.ensures in
     let file = c.args.file.now.value in
     let same : ◌≡◌ {A = File} file (record { name = file.name; bytes = replaced_text c.args.old.now c.args.new.now (map (λ p. p.line) c.args.marks.now) file.bytes }) =
-        rw (none, unmarked-text c.args.old.now c.args.new.now file.bytes) refl in
+    rw (none, unmarked-text c.args.old.now c.args.new.now file.bytes) refl in
     ok-from _ _ _ c.clone.result (λ f is. is ∙ same) c.clone.ensures.cases
