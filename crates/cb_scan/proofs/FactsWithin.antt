@@ -1,6 +1,6 @@
 -- What is found in a text lies in it, and its definitions are on lines of it.
 use Rattle.std.proofs.Common.{ltb-true, ◌≡◌, ◌≤◌, ◌<◌, ◌+◌, ◌-◌, ℕ, zero, suc, true, false, List, [], ◌∷◌, Some, None, refl, sym, subst, map, take, length, arith}
-use Rattle.std.specs.Prelude.{cond, find, nat_lt}
+use Rattle.std.specs.Prelude.{◌&&◌, cond, find, nat_lt, not}
 use Rattle.std.specs.List.{AllByRecursion, flat_map, range_with_len}
 use Rattle.std.specs.Option.{MatchOption, option_map, option_map_or}
 use Rattle.std.proofs.lemmas.List.{map-append}
@@ -17,11 +17,11 @@ use Rattle.cb_scan.specs.Definitions.{AreWithin, IsScopeWithin, IsWithin, calls,
 use Rattle.cb_scan.specs.rules.Depth.{head_start, no_token, token_at}
 use Rattle.cb_scan.specs.rules.Functions.{Function, function_at, functions}
 use Rattle.cb_scan.specs.Lines.{IsLineOf}
-use Rattle.cb_scan.specs.rules.Macros.{Macro, after_arguments, defines_macro, macro_of, macros}
+use Rattle.cb_scan.specs.rules.Macros.{Macro, after_arguments, begin_arguments, defines_macro, macro_names as defined_macros, macro_names_of, macro_of, macros, plain_macro_of}
 use Rattle.cb_scan.specs.Order.{call_key, def_key, goes_first, in_order, put}
 use Rattle.cb_scan.specs.lex.Pieces.{LiesIn}
 use Rattle.cb_scan.specs.rules.Scope.{function_range, function_ranges, holds, macro_ranges, name_around, scope}
-use Rattle.cb_scan.specs.lex.Tokens.{bytes_of, has_kind, is_mark, is_str, kind_is_include}
+use Rattle.cb_scan.specs.lex.Tokens.{bytes_of, has_kind, is_mark, is_name_token, is_str, kind_is_define, kind_is_include}
 use Rattle.cb_scan.specs.steps.Quote.{is_closed}
 use Rattle.cb_scan.specs.steps.Cut.{pieces}
 use Rattle.cb_scan.specs.rules.Typedefs.{typedefs}
@@ -58,6 +58,34 @@ all_function_names P ts k (suc n) a =
     (flat_map (function_at ts) (range_with_len (k + 1) n))))
     (all-append P _ _ (named_in_head P ts k (all-drop P (head_start ts k) (take k ts) (all-take P k ts a)))
     (all_function_names P ts (k + 1) n a))
+
+module _ (P : Token → Type 0) where
+  with_arguments : (l : List Token) → AllByRecursion P l → AllByRecursion P (map (λ (m : Macro). m.name) (macro_of l))
+  with_arguments [] a = tt
+  with_arguments (h ∷ []) a = tt
+  with_arguments (h ∷ o ∷ []) a = tt
+  with_arguments (h ∷ o ∷ n ∷ []) a = tt
+  with_arguments (h ∷ o ∷ n ∷ p ∷ l) a =
+      elim (defines_macro o n p) as (λ b. AllByRecursion P (map (λ (m : Macro). m.name)
+      (cond b (record { name = n; body = after_arguments l } ∷ []) []))) [ true ↦ (a.1.1.0, tt) | false ↦ tt ]
+
+  without_arguments : (l : List Token) → AllByRecursion P l → AllByRecursion P (plain_macro_of l)
+  without_arguments [] a = tt
+  without_arguments (h ∷ []) a = tt
+  without_arguments (h ∷ o ∷ []) a = tt
+  without_arguments (h ∷ o ∷ n ∷ l) a =
+      elim (has_kind kind_is_define o.role && is_name_token n.role && not (begin_arguments n l)) as
+      (λ b. AllByRecursion P (cond b (n ∷ []) [])) [ true ↦ (a.1.1.0, tt) | false ↦ tt ]
+
+  all_macro_names : (ls : List (List Token)) → AllByRecursion P (flat_map (λ l. l) ls)
+      → AllByRecursion P (flat_map macro_names_of ls)
+  all_macro_names [] a = tt
+  all_macro_names (l ∷ ls) a =
+      let parts = all-prefix P l (flat_map (λ l. l) ls) a in
+      all-append P (macro_names_of l) _
+      (all-append P (map (λ (m : Macro). m.name) (macro_of l)) (plain_macro_of l) (with_arguments l parts.0)
+      (without_arguments l parts.0))
+      (all_macro_names ls parts.1)
 
 module _ (S : Span → Type 0) where
   calls_from_body : (ts : List Token) (caller : Span) (k n : ℕ) → S no_token.span → S caller
@@ -246,10 +274,10 @@ module _ (text : List ℕ) where
   spans_of : (ts : List Token) → AllByRecursion (TokenWithin text) ts → AllByRecursion (SpanWithin text) ts
   spans_of = all_implied (TokenWithin text) (SpanWithin text) span_within
 
-  defs_of_macros : (ms : List Macro) → AllByRecursion (TokenWithin text) (map (λ (m : Macro). m.name) ms)
-      → AllByRecursion (DefWithin text) (map macro_def ms)
+  defs_of_macros : (ts : List Token) → AllByRecursion (TokenWithin text) ts
+      → AllByRecursion (DefWithin text) (map macro_def ts)
   defs_of_macros [] a = tt
-  defs_of_macros (m ∷ ms) a = ((span_within m.name a.0, a.0.2), defs_of_macros ms a.1)
+  defs_of_macros (t ∷ ts) a = ((span_within t a.0, a.0.2), defs_of_macros ts a.1)
 
   defs_of_tokens : (ts : List Token) → AllByRecursion (TokenWithin text) ts
       → AllByRecursion (DefWithin text) (map typedef_def ts)
@@ -292,7 +320,8 @@ module _ (text : List ℕ) where
       all_in_order def_key (DefWithin text) _
       (all-append (DefWithin text) _ _
       (all-append (DefWithin text) _ _ (functions-lie text (pieces-lie text))
-      (defs_of_macros (macros text (pieces text)) macro_tokens))
+      (defs_of_macros (defined_macros text (pieces text))
+      (all_macro_names (TokenWithin text) (directives text (pieces text)) directive_tokens)))
       (defs_of_tokens (typedefs (code text (pieces text)))
       (all_typedefs (TokenWithin text) (code text (pieces text)) code_tokens)))
 

@@ -7,7 +7,7 @@ ghost use Rattle.cb_scan.specs.declared.lex.piece.Piece.{Piece};
 ghost use Rattle.cb_scan.specs.rules.Code.{code, directives, logical_lines};
 ghost use Rattle.cb_scan.specs.Definitions.{facts_from, facts_of, function_def, macro_def, typedef_def, AreWithin};
 ghost use Rattle.cb_scan.specs.rules.Functions.{functions};
-ghost use Rattle.cb_scan.specs.rules.Macros.{macros};
+ghost use Rattle.cb_scan.specs.rules.Macros.{macro_names, macros};
 ghost use Rattle.cb_scan.specs.lex.Pieces.{IsPieces};
 ghost use Rattle.cb_scan.specs.rules.Scope.{function_ranges, macro_ranges};
 ghost use Rattle.cb_scan.specs.steps.Cut.{pieces};
@@ -59,7 +59,7 @@ fn gather(alloc: Global, text: &[u8]) -> Result<Gathered, AllocError>
     ensures names { IfOk result
         (λ g. g.lines.names.items ≡ flat_map used (logical_lines text.now (pieces text.now))) }
     ensures macros { IfOk result
-        (λ g. g.lines.macros.items ≡ map macro_def (macros text.now (pieces text.now))) }
+        (λ g. g.lines.macros.items ≡ map macro_def (macro_names text.now (pieces text.now))) }
     ensures macro_ranges { IfOk result
         (λ g. g.lines.ranges.items ≡ macro_ranges text.now (pieces text.now)) }
     ensures macro_calls { IfOk result

@@ -35,7 +35,7 @@ fn finds_the_typedefs_of_short_texts(rt: HostRuntime) -> Result<(), Fail> {
         ("typedef int a", ""),
         ("typedef int;", ""),
         ("int typedef a;", ""),
-        ("#define A typedef int b;\n/* typedef int c; */", ""),
+        ("#define A typedef int b;\n/* typedef int c; */", "A d 1;"),
         ("extern \"C\" { typedef int a; }", "a t 1;"),
         ("f() { typedef int a; }", "f f 1;"),
         ("f() { extern \"C\" { typedef int a; } b; }", "f f 1;b t 1;"),

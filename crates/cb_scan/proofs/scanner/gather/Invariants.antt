@@ -6,7 +6,7 @@ use Rattle.cb_scan.specs.rules.Code.{code, directives, logical_lines}
 use Rattle.cb_scan.specs.declared.source.TheConstants.{MOST_BYTES}
 use Rattle.cb_scan.specs.Definitions.{function_def, macro_def, typedef_def}
 use Rattle.cb_scan.specs.rules.Functions.{functions}
-use Rattle.cb_scan.specs.rules.Macros.{macros}
+use Rattle.cb_scan.specs.rules.Macros.{macro_names, macros}
 use Rattle.cb_scan.specs.rules.Scope.{function_ranges, macro_ranges}
 use Rattle.cb_scan.specs.rules.Typedefs.{typedefs}
 use Rattle.cb_scan.specs.rules.Uses.{function_calls, include_of, macro_calls, used}
@@ -32,7 +32,7 @@ invariant-loop-lined l = record {
   names_found : l.lines.names.items ++ walk use_out nothing l.text l.line l.lined-iterator
       ≡ flat_map used (logical_lines l.text (pieces l.text));
   macros_found : l.lines.macros.items ++ walk macro_out nothing l.text l.line l.lined-iterator
-      ≡ map macro_def (macros l.text (pieces l.text));
+      ≡ map macro_def (macro_names l.text (pieces l.text));
   macro_ranges_found : l.lines.ranges.items ++ walk no_range range_finish l.text l.line l.lined-iterator
       ≡ macro_ranges l.text (pieces l.text);
   macro_calls_found : l.lines.calls.items ++ walk macro_call_out nothing l.text l.line l.lined-iterator
