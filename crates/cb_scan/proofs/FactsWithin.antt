@@ -13,7 +13,7 @@ use Rattle.cb_scan.specs.declared.lex.piece.Span.{Span}
 use Rattle.cb_scan.specs.declared.lex.token.Token.{Token}
 use Rattle.cb_scan.specs.declared.rules.scope.Range.{Range}
 use Rattle.cb_scan.specs.rules.Code.{code, directives, is_newline, logical_lines}
-use Rattle.cb_scan.specs.Definitions.{AreWithin, IsScopeWithin, IsWithin, calls, facts_of, definitions, definitions_from, macro_def, typedef_def}
+use Rattle.cb_scan.specs.Definitions.{AreWithin, IsScopeWithin, IsWithin, calls, facts_of, definitions, definitions_from, macro_def, structure_def, typedef_def}
 use Rattle.cb_scan.specs.rules.Depth.{head_start, no_token, token_at}
 use Rattle.cb_scan.specs.rules.Functions.{Function, function_at, functions}
 use Rattle.cb_scan.specs.Lines.{IsLineOf}
@@ -24,6 +24,7 @@ use Rattle.cb_scan.specs.rules.Scope.{function_range, function_ranges, holds, ma
 use Rattle.cb_scan.specs.lex.Tokens.{bytes_of, has_kind, is_mark, is_name_token, is_str, kind_is_define, kind_is_include}
 use Rattle.cb_scan.specs.steps.Quote.{is_closed}
 use Rattle.cb_scan.specs.steps.Cut.{pieces}
+use Rattle.cb_scan.specs.rules.Structures.{Structure, structures}
 use Rattle.cb_scan.specs.rules.Typedefs.{typedefs}
 use Rattle.cb_scan.specs.rules.Uses.{call_at, call_of, calls_among, calls_of_function, header_between, header_of, include_of, includes, is_call, used, uses}
 use Rattle.cb_scan.proofs.MacroLines.{range_names}
@@ -31,6 +32,7 @@ use Rattle.cb_scan.proofs.FunctionsRise.{all_implied, named_in_head}
 use Rattle.cb_scan.proofs.Rising.{all-prefix, all-picked, macro_picks, macro_names, names_flat, only_directives, used_picks}
 use Rattle.cb_scan.proofs.PieceLists.{pieces-lie}
 use Rattle.cb_scan.proofs.WithinLemmas.{DefWithin, TokenWithin, all-append, all-drop, all-joined, all-split, all-take, code-within, functions-lie, lines-within}
+use Rattle.cb_scan.proofs.StructureLemmas.{all_structures, structure_name}
 use Rattle.cb_scan.proofs.TypedefsWithin.{SpanWithin, found_among, at_any, all_typedefs}
 
 -- ---- order
@@ -284,6 +286,11 @@ module _ (text : List ℕ) where
   defs_of_tokens [] a = tt
   defs_of_tokens (t ∷ ts) a = ((span_within t a.0, a.0.2), defs_of_tokens ts a.1)
 
+  defs_of_structures : (ss : List Structure) → AllByRecursion (TokenWithin text) (map structure_name ss)
+      → AllByRecursion (DefWithin text) (map structure_def ss)
+  defs_of_structures [] a = tt
+  defs_of_structures (s ∷ ss) a = ((span_within s.name a.0, a.0.2), defs_of_structures ss a.1)
+
   line_tokens : AllByRecursion (TokenWithin text) (flat_map (λ l. l) (logical_lines text (pieces text)))
   line_tokens =
       all-joined (TokenWithin text) (logical_lines text (pieces text))
@@ -319,11 +326,14 @@ module _ (text : List ℕ) where
   definitions_lie =
       all_in_order def_key (DefWithin text) _
       (all-append (DefWithin text) _ _
+      (all-append (DefWithin text) _ _
       (all-append (DefWithin text) _ _ (functions-lie text (pieces-lie text))
       (defs_of_macros (defined_macros text (pieces text))
       (all_macro_names (TokenWithin text) (directives text (pieces text)) directive_tokens)))
       (defs_of_tokens (typedefs (code text (pieces text)))
       (all_typedefs (TokenWithin text) (code text (pieces text)) code_tokens)))
+      (defs_of_structures (structures (code text (pieces text)))
+      (all_structures (TokenWithin text) (code text (pieces text)) code_tokens)))
 
   uses_lie : AllByRecursion (λ (u : Use). IsWithin text u.name × IsScopeWithin text u.scope) (uses text (pieces text))
   unfolding uses

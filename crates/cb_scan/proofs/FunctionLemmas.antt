@@ -12,7 +12,7 @@ use Rattle.cb_scan.specs.declared.rules.functions.Before.{Before}
 use Rattle.cb_scan.specs.declared.rules.functions.Before.TheVariants.{Anything, Extern, Linkage}
 use Rattle.cb_scan.specs.declared.lex.token.Role.{Role}
 use Rattle.cb_scan.specs.declared.lex.token.Role.TheVariants.{Word, Mark, Str, Other}
-use Rattle.cb_scan.specs.declared.lex.token.WordKind.TheVariants.{Name, Define, Include, Typedef, Static, Reserved}
+use Rattle.cb_scan.specs.declared.lex.token.WordKind.TheVariants.{Name, Define, Include, Typedef, Static, Struct, Union, Enum, Reserved}
 use Rattle.cb_scan.specs.declared.lex.token.WordKind.TheVariants as kind
 use Rattle.std.proofs.Math.Bool.{and-false}
 use Rattle.cb_scan.specs.lex.Tokens.{is_mark, is_static, is_extern, is_str}
@@ -52,6 +52,9 @@ linkage_after b (Word Include) = sym (and-false (is_after_extern b))
 linkage_after b (Word Typedef) = sym (and-false (is_after_extern b))
 linkage_after b (Word kind.Extern) = sym (and-false (is_after_extern b))
 linkage_after b (Word Static) = sym (and-false (is_after_extern b))
+linkage_after b (Word Struct) = sym (and-false (is_after_extern b))
+linkage_after b (Word Union) = sym (and-false (is_after_extern b))
+linkage_after b (Word Enum) = sym (and-false (is_after_extern b))
 linkage_after b (Word Reserved) = sym (and-false (is_after_extern b))
 linkage_after b (Mark x) = sym (and-false (is_after_extern b))
 linkage_after b Other = sym (and-false (is_after_extern b))
@@ -67,6 +70,9 @@ extern_after b (Word Include) = refl
 extern_after b (Word Typedef) = refl
 extern_after b (Word kind.Extern) = refl
 extern_after b (Word Static) = refl
+extern_after b (Word Struct) = refl
+extern_after b (Word Union) = refl
+extern_after b (Word Enum) = refl
 extern_after b (Word Reserved) = refl
 extern_after b (Mark x) = refl
 extern_after b Other = refl

@@ -24,6 +24,7 @@ pub mod Prefixes
 pub mod Rising
 pub mod ScopeLemmas
 pub mod Stages
+pub mod StructureLemmas
 pub mod TypedefLemmas
 pub mod TypedefsWithin
 pub mod WithinLemmas

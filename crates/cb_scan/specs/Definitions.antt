@@ -15,12 +15,13 @@ use Rattle.cb_scan.specs.rules.Functions.{Function, functions}
 use Rattle.cb_scan.specs.Lines.{IsLineOf}
 use Rattle.cb_scan.specs.rules.Macros.{macro_names, macros}
 use Rattle.cb_scan.specs.Order.{call_key, def_key, in_order}
+use Rattle.cb_scan.specs.rules.Structures.{Structure, structures}
 use Rattle.cb_scan.specs.TextFacts.{TextFacts}
 use Rattle.cb_scan.specs.rules.Typedefs.{typedefs}
 use Rattle.cb_scan.specs.steps.Cut.{pieces}
 use Rattle.cb_scan.specs.rules.Uses.{function_calls, includes, macro_calls, uses}
 
--- a function, the name of a macro and a name of a typedef as definitions
+-- a function, the name of a macro, a name of a typedef and a structure as definitions
 abbrev pub function_def : Function → Def
 function_def f = record {
   name = f.name.span;
@@ -35,12 +36,15 @@ macro_def t = record { name = t.span; kind = kind.Macro; line = t.line; local = 
 abbrev pub typedef_def : Token → Def
 typedef_def t = record { name = t.span; kind = kind.Typedef; line = t.line; local = false }
 
--- the definitions of a text with these pieces, by place, a function before a typedef at one place
+abbrev pub structure_def : Structure → Def
+structure_def s = record { name = s.name.span; kind = s.kind; line = s.name.line; local = false }
+
+-- the definitions of a text with these pieces, by place, and at one place by kind
 unfoldable pub definitions_from : List ℕ → List Piece → List Def
 definitions_from text ps =
     in_order def_key
     (map function_def (functions (code text ps)) ++ map macro_def (macro_names text ps)
-    ++ map typedef_def (typedefs (code text ps)))
+    ++ map typedef_def (typedefs (code text ps)) ++ map structure_def (structures (code text ps)))
 
 -- the calls of a text with these pieces, by place
 unfoldable pub calls : List ℕ → List Piece → List Call

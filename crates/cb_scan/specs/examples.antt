@@ -3,5 +3,6 @@ pub mod Functions
 pub mod Includes
 pub mod Macros
 pub mod Pieces
+pub mod Structures
 pub mod Typedefs
 pub mod Uses

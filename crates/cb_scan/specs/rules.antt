@@ -3,5 +3,6 @@ pub mod Depth
 pub mod Functions
 pub mod Macros
 pub mod Scope
+pub mod Structures
 pub mod Typedefs
 pub mod Uses

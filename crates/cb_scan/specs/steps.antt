@@ -5,4 +5,5 @@ pub mod LineStarts
 pub mod Lined
 pub mod Quote
 pub mod Scopes
+pub mod Structures
 pub mod Typedefs

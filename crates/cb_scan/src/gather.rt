@@ -4,6 +4,7 @@ ghost use Rattle.cb_scan.specs.declared.source.TheConstants.{MOST_BYTES};
 ghost use Rattle.std.specs.Option.{option_to_list};
 ghost use Rattle.cb_scan.specs.steps.Directives.{include_out, macro_call_out, macro_out, next_stage, range_finish, use_out};
 ghost use Rattle.cb_scan.specs.steps.Functions.{called, closed, found, left_open, next};
+ghost use Rattle.cb_scan.specs.steps.Structures.{next_naming, structure_found};
 ghost use Rattle.cb_scan.specs.steps.Typedefs.{nesting_of, next_declaration, next_pending, typedefs_out};
 
 use crate::facts::{Call, Def, Include};
@@ -11,18 +12,21 @@ use crate::lex::token::Token;
 use crate::rules::directives::Stage;
 use crate::rules::functions::Machine;
 use crate::rules::scope::Range;
+use crate::rules::structures::Naming;
 use crate::rules::typedefs::{Declaration, take_token};
 use std::alloc::{AllocError, Global};
 
-/// The state of the pass over the code: depth, head and body, and the typedef that is open.
+/// The state of the pass over the code: depth, head and body, the typedef that is open, and the
+/// structure whose name may have come.
 #[derive(Clone, Copy)]
 pub(crate) struct CodeState {
     pub machine: Machine,
     pub declared: Option<Declaration>,
+    pub naming: Naming,
 }
 
-/// What the code gives: its functions, their ranges and calls, and the names of its typedefs. The
-/// names of a typedef that is still open are held back.
+/// What the code gives: its functions, their ranges and calls, the names of its typedefs, and its
+/// structures, unions and enumerations. The names of a typedef that is still open are held back.
 #[derive(Drop)]
 pub(crate) struct CodeLists {
     pub functions: Vec<Def>,
@@ -30,6 +34,7 @@ pub(crate) struct CodeLists {
     pub calls: Vec<Call>,
     pub typedefs: Vec<Def>,
     pub pending: Vec<Token>,
+    pub structures: Vec<Def>,
 }
 
 /// What all lines give: the names that they use, and of directives the macros, their ranges and
@@ -59,6 +64,7 @@ impl CodeLists {
         ensures calls { result.calls.items ≡ [] }
         ensures typedefs { result.typedefs.items ≡ [] }
         ensures pending { result.pending.items ≡ [] }
+        ensures structures { result.structures.items ≡ [] }
     {
         CodeLists {
             functions: Vec::new(alloc),
@@ -66,6 +72,7 @@ impl CodeLists {
             calls: Vec::new(alloc),
             typedefs: Vec::new(alloc),
             pending: Vec::new(alloc),
+            structures: Vec::new(alloc),
         }
     }
 
@@ -93,11 +100,16 @@ impl CodeLists {
         ensures typedefs { IfOk result
             (λ _. self.new.typedefs.items ≡ self.old.typedefs.items
             ++ typedefs_out state.machine state.declared self.old.pending.items token) }
+        ensures naming { IfOk result (λ s. s.naming ≡ next_naming state.naming token) }
+        ensures structures { IfOk result
+            (λ _. self.new.structures.items ≡ self.old.structures.items
+            ++ option_to_list (structure_found state.naming token)) }
     {
         let machine = state.machine;
         push_some(&mut self.functions, machine.found(token))?;
         push_some(&mut self.ranges, machine.closed(token))?;
         push_some(&mut self.calls, machine.called(token))?;
+        push_some(&mut self.structures, state.naming.found(token))?;
         let declared = take_token(
             machine,
             state.declared,
@@ -108,6 +120,7 @@ impl CodeLists {
         Ok(CodeState {
             machine: machine.next(token),
             declared,
+            naming: state.naming.next(token),
         })
     }
 

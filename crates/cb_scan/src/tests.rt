@@ -11,6 +11,7 @@ mod names;
 mod scopes;
 mod shown;
 mod sizes;
+mod structures;
 mod typedefs;
 mod uses;
 

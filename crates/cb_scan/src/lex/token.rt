@@ -10,7 +10,7 @@ use crate::lex::name::is_reserved;
 use crate::lex::piece::{Class, Piece, Span};
 
 /// A `Name` piece: a name, two of which mean something as the own word of a directive; or a
-/// reserved word, three of which a rule asks for.
+/// reserved word, six of which a rule asks for.
 #[derive(Clone, Copy, Debug, PartialEq, Eq)]
 pub(crate) enum WordKind {
     Name,
@@ -19,6 +19,9 @@ pub(crate) enum WordKind {
     Typedef,
     Extern,
     Static,
+    Struct,
+    Union,
+    Enum,
     Reserved,
 }
 
@@ -70,6 +73,12 @@ fn word_of(word: &[u8]) -> WordKind
         WordKind::Extern
     } else if is_same(word, b"static") {
         WordKind::Static
+    } else if is_same(word, b"struct") {
+        WordKind::Struct
+    } else if is_same(word, b"union") {
+        WordKind::Union
+    } else if is_same(word, b"enum") {
+        WordKind::Enum
     } else {
         WordKind::Reserved
     }
