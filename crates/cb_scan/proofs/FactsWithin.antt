@@ -1,5 +1,5 @@
 -- What is found in a text lies in it, and its definitions are on lines of it.
-use Rattle.std.proofs.Common.{ltb-true, ◌≡◌, ◌≤◌, ◌<◌, ◌+◌, ◌-◌, ℕ, zero, suc, true, false, List, [], ◌∷◌, Some, None, refl, sym, subst, map, take, length, arith}
+use Rattle.std.proofs.Common.{ltb-true, ◌≡◌, ◌≤◌, ◌<◌, ◌+◌, ◌-◌, ℕ, zero, suc, true, false, List, [], ◌∷◌, Some, None, refl, sym, subst, map, length, arith}
 use Rattle.std.specs.Prelude.{◌&&◌, cond, find, nat_lt, not}
 use Rattle.std.specs.List.{AllByRecursion, flat_map, range_with_len}
 use Rattle.std.specs.Option.{MatchOption, option_map, option_map_or}
@@ -14,7 +14,7 @@ use Rattle.cb_scan.specs.declared.lex.token.Token.{Token}
 use Rattle.cb_scan.specs.declared.rules.scope.Range.{Range}
 use Rattle.cb_scan.specs.rules.Code.{code, directives, is_newline, logical_lines}
 use Rattle.cb_scan.specs.Definitions.{AreWithin, IsScopeWithin, IsWithin, calls, facts_of, definitions, definitions_from, macro_def, structure_def, typedef_def}
-use Rattle.cb_scan.specs.rules.Depth.{head_start, no_token, token_at}
+use Rattle.cb_scan.specs.rules.Depth.{no_token, token_at}
 use Rattle.cb_scan.specs.rules.Functions.{Function, function_at, functions}
 use Rattle.cb_scan.specs.Lines.{IsLineOf}
 use Rattle.cb_scan.specs.rules.Macros.{Macro, after_arguments, begin_arguments, defines_macro, macro_names as defined_macros, macro_names_of, macro_of, macros, plain_macro_of}
@@ -28,12 +28,13 @@ use Rattle.cb_scan.specs.rules.Structures.{Structure, structures}
 use Rattle.cb_scan.specs.rules.Typedefs.{typedefs}
 use Rattle.cb_scan.specs.rules.Uses.{call_at, call_of, calls_among, calls_of_function, header_between, header_of, include_of, includes, is_call, used, uses}
 use Rattle.cb_scan.proofs.MacroLines.{range_names}
-use Rattle.cb_scan.proofs.FunctionsRise.{all_implied, named_in_head}
+use Rattle.cb_scan.specs.rules.OldStyle.{semicolons_before}
+use Rattle.cb_scan.proofs.FunctionsRise.{all_implied, named_before}
 use Rattle.cb_scan.proofs.Rising.{all-prefix, all-picked, macro_picks, macro_names, names_flat, only_directives, used_picks}
 use Rattle.cb_scan.proofs.PieceLists.{pieces-lie}
-use Rattle.cb_scan.proofs.WithinLemmas.{DefWithin, TokenWithin, all-append, all-drop, all-joined, all-split, all-take, code-within, functions-lie, lines-within}
+use Rattle.cb_scan.proofs.WithinLemmas.{DefWithin, TokenWithin, all-append, all-joined, all-split, code-within, found_among, functions-lie, head_of_all, heads_of_all, lines-within}
 use Rattle.cb_scan.proofs.StructureLemmas.{all_structures, structure_name}
-use Rattle.cb_scan.proofs.TypedefsWithin.{SpanWithin, found_among, at_any, all_typedefs}
+use Rattle.cb_scan.proofs.TypedefsWithin.{SpanWithin, at_any, all_typedefs}
 
 -- ---- order
 all_put : {X : Type 0} (key : X → List ℕ) (Q : X → Type 0) (x : X) (ys : List X) → Q x → AllByRecursion Q ys
@@ -58,7 +59,7 @@ all_function_names P ts k (suc n) a =
     subst (AllByRecursion P)
     (sym (map-append (λ (f : Function). f.name) (function_at ts k)
     (flat_map (function_at ts) (range_with_len (k + 1) n))))
-    (all-append P _ _ (named_in_head P ts k (all-drop P (head_start ts k) (take k ts) (all-take P k ts a)))
+    (all-append P _ _ (named_before P ts k (head_of_all P ts a k) (heads_of_all P ts a (semicolons_before ts k)))
     (all_function_names P ts (k + 1) n a))
 
 module _ (P : Token → Type 0) where

@@ -18,6 +18,7 @@ pub mod LineTable
 pub mod LinedPieces
 pub mod Literals
 pub mod MacroLines
+pub mod OldStyleLemmas
 pub mod OrderLemmas
 pub mod PieceLists
 pub mod Prefixes

@@ -1,6 +1,7 @@
 pub mod Cut
 pub mod Directives
 pub mod Functions
+pub mod Heads
 pub mod LineStarts
 pub mod Lined
 pub mod Quote

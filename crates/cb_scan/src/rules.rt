@@ -3,6 +3,7 @@
 pub(crate) mod directives;
 pub(crate) mod functions;
 pub(crate) mod header;
+pub(crate) mod heads;
 pub(crate) mod order;
 pub(crate) mod scope;
 pub(crate) mod structures;

@@ -8,6 +8,7 @@ mod macros;
 mod memory;
 mod meter;
 mod names;
+mod old_style;
 mod scopes;
 mod shown;
 mod sizes;

@@ -15,7 +15,10 @@ fn finds_the_typedefs_of_short_texts(rt: HostRuntime) -> Result<(), Fail> {
             "a t 1;b t 1;c t 1;f t 1;",
         ),
         ("typedef int a(int b, int c);", "a t 1;"),
-        ("typedef struct s { int x, y; } A, *B;", "s s 1;A t 1;B t 1;"),
+        (
+            "typedef struct s { int x, y; } A, *B;",
+            "s s 1;A t 1;B t 1;",
+        ),
         (
             "typedef struct s {\n\tstruct { int x; } y[(;\n} A, B;",
             "s s 1;A t 3;B t 3;",
