@@ -59,3 +59,21 @@ fn the_range_of_a_function_in_the_old_style_begins_with_its_name(
     assert_eq!(rt; found.calls.as_str(), "g 3 f;");
     Ok(())
 }
+
+/// A file with a definition of each kind but a union.
+const EACH: &str =
+    "#define MAX 10\nstruct point { int x; };\ntypedef struct node { struct node *next; } node;\nenum color { RED };\nint add(a, b)\nint a;\nint b;\n{\n\treturn a + b + MAX;\n}\n";
+
+#[test]
+fn a_macro_without_arguments_has_no_scope(rt: HostRuntime) -> Result<(), Fail> {
+    let found = show(rt.alloc(), EACH)?;
+    assert_eq!(rt;
+        found.defs.as_str(),
+        "MAX d 1;point s 2;node s 3;node t 3;color g 4;add f 5;"
+    );
+    assert_eq!(rt;
+        found.uses.as_str(),
+        "MAX 1 -;point 2 -;x 2 -;node 3 -;node 3 -;next 3 -;node 3 -;color 4 -;RED 4 -;add 5 add;a 5 add;b 5 add;a 6 add;b 7 add;a 9 add;b 9 add;MAX 9 add;"
+    );
+    Ok(())
+}
