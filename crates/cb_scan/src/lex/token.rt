@@ -1,7 +1,7 @@
 //! Tokens: the pieces that the rules on definitions speak of, each with what it is for them.
 ghost use Rattle.std.specs.Prelude.{◌≡◌, ◌≤◌, ◌<◌, length};
 ghost use Rattle.std.specs.Str.{bytes_eq};
-ghost use Rattle.cb_scan.specs.lex.Tokens.{is_mark, is_name_token, is_static, is_typedef, name_kind, role_of, starts_line, word_of};
+ghost use Rattle.cb_scan.specs.lex.Tokens.{is_any_word, is_mark, is_name_token, is_static, is_typedef, name_kind, role_of, starts_line, word_of};
 ghost use Rattle.cb_scan.specs.steps.Lined.{Within};
 ghost use Rattle.cb_scan.specs.steps.Directives.{lined_token};
 
@@ -128,6 +128,13 @@ impl Token {
             self.role,
             Role::Word(WordKind::Name | WordKind::Define | WordKind::Include)
         )
+    }
+
+    /// A word, reserved or not.
+    pub(crate) fn is_word(self) -> bool
+        ensures { result ≡ is_any_word self.role }
+    {
+        matches!(self.role, Role::Word(_))
     }
 
     pub(crate) fn is_typedef(self) -> bool

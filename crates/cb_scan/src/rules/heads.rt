@@ -1,9 +1,9 @@
 //! The tokens since the last stop, as far as the rules on functions ask.
 ghost use Rattle.std.specs.Prelude.{◌≡◌};
-ghost use Rattle.cb_scan.specs.steps.Heads.{add, called_after, declares, def_of, defined, empty_head, listing_after, next_opened, opened, opens};
+ghost use Rattle.cb_scan.specs.steps.Heads.{add, called_after, calls_last, declares, def_of, defined, empty_head, listing_after, next_opened, opened, opens};
 
 use crate::facts::{Def, Kind};
-use crate::lex::token::{Role, Token};
+use crate::lex::token::Token;
 
 /// How far the list of names has come that follows the first called name.
 #[derive(Clone, Copy)]
@@ -34,14 +34,24 @@ pub(crate) struct Head {
     listing: Listing,
 }
 
+/// Whether the token is the `(` behind a called name.
+fn calls_last(last: Option<Token>, token: Token) -> bool
+    ensures { result ≡ calls_last last token }
+{
+    match last {
+        Some(name) => token.is_mark(b'(') && name.is_name(),
+        None => false,
+    }
+}
+
 /// The first called name so far, after one more token.
 fn called_after(called: Option<Token>, last: Option<Token>, token: Token) -> Option<Token>
     ensures { result ≡ called_after called last token }
 {
-    match (called, last) {
-        (Some(name), _) => Some(name),
-        (None, Some(name)) if name.is_name() && token.is_mark(b'(') => Some(name),
-        _ => None,
+    if called.is_none() && calls_last(last, token) {
+        last
+    } else {
+        called
     }
 }
 
@@ -49,15 +59,14 @@ fn called_after(called: Option<Token>, last: Option<Token>, token: Token) -> Opt
 fn listing_after(listing: Listing, last: Option<Token>, token: Token) -> Listing
     ensures { result ≡ listing_after listing last token }
 {
-    match (listing, last) {
-        (Listing::Nothing, Some(name)) if name.is_name() && token.is_mark(b'(') => Listing::Open,
-        (Listing::Nothing, _) => Listing::Nothing,
-        (Listing::Open, _) if token.is_name() => Listing::Name,
-        (Listing::Name, _) if token.is_mark(b',') => Listing::Open,
-        (Listing::Name, _) if token.is_mark(b')') => Listing::Closed,
-        (Listing::Closed, _) if matches!(token.role, Role::Word(_)) => Listing::Whole,
-        (Listing::Whole, _) => Listing::Whole,
-        _ => Listing::Other,
+    match listing {
+        Listing::Nothing if calls_last(last, token) => Listing::Open,
+        Listing::Open if token.is_name() => Listing::Name,
+        Listing::Name if token.is_mark(b',') => Listing::Open,
+        Listing::Name if token.is_mark(b')') => Listing::Closed,
+        Listing::Closed if token.is_word() => Listing::Whole,
+        Listing::Nothing | Listing::Whole => listing,
+        Listing::Open | Listing::Name | Listing::Closed | Listing::Other => Listing::Other,
     }
 }
 
@@ -96,7 +105,7 @@ impl Head {
         Head {
             last: Some(token),
             begins_with_word: if is_first {
-                matches!(token.role, Role::Word(_))
+                token.is_word()
             } else {
                 self.begins_with_word
             },
