@@ -57,6 +57,24 @@ fn push_some<T: Drop>(list: &mut Vec<T>, item: Option<T>) -> Result<(), AllocErr
     Ok(())
 }
 
+impl CodeState {
+    /// After a token of the code, with the typedef that is open after it. This takes no memory, so
+    /// that the state goes through no `Result`.
+    pub(crate) fn after(self, token: Token, declared: Option<Declaration>) -> CodeState
+        requires deep { self.machine.depth + 1 < 2 ^ 32 }
+        ensures machine { result.machine ≡ next self.machine token }
+        ensures declared { result.declared ≡ declared }
+        ensures naming { result.naming ≡ next_naming self.naming token }
+        ensures deep { result.machine.depth ≤ self.machine.depth + 1 }
+    {
+        CodeState {
+            machine: self.machine.next(token),
+            declared,
+            naming: self.naming.next(token),
+        }
+    }
+}
+
 impl CodeLists {
     pub(crate) fn new(alloc: Global) -> CodeLists
         ensures functions { result.functions.items ≡ [] }
@@ -76,15 +94,17 @@ impl CodeLists {
         }
     }
 
-    /// A token of the code, in the state of the pass before it; gives the state after it.
-    pub(crate) fn add(&mut self, state: CodeState, token: Token) -> Result<CodeState, AllocError>
-        requires deep { state.machine.depth + 1 < 2 ^ 32 }
+    /// A token of the code, in the state of the pass before it; gives the typedef that is open after
+    /// it.
+    pub(crate) fn add(
+        &mut self,
+        state: CodeState,
+        token: Token,
+    ) -> Result<Option<Declaration>, AllocError>
         requires nested { nesting_of state.declared + 1 < 2 ^ 32 }
-        ensures machine { IfOk result (λ s. s.machine ≡ next state.machine token) }
         ensures declared { IfOk result
-            (λ s. s.declared ≡ next_declaration state.machine state.declared token) }
-        ensures deep { IfOk result (λ s. s.machine.depth ≤ state.machine.depth + 1) }
-        ensures nested { IfOk result (λ s. nesting_of s.declared ≤ nesting_of state.declared + 1) }
+            (λ d. d ≡ next_declaration state.machine state.declared token) }
+        ensures nested { IfOk result (λ d. nesting_of d ≤ nesting_of state.declared + 1) }
         ensures functions { IfOk result
             (λ _. self.new.functions.items ≡ self.old.functions.items
             ++ option_to_list (found state.machine token)) }
@@ -100,7 +120,6 @@ impl CodeLists {
         ensures typedefs { IfOk result
             (λ _. self.new.typedefs.items ≡ self.old.typedefs.items
             ++ typedefs_out state.machine state.declared self.old.pending.items token) }
-        ensures naming { IfOk result (λ s. s.naming ≡ next_naming state.naming token) }
         ensures structures { IfOk result
             (λ _. self.new.structures.items ≡ self.old.structures.items
             ++ option_to_list (structure_found state.naming token)) }
@@ -110,18 +129,13 @@ impl CodeLists {
         push_some(&mut self.ranges, machine.closed(token))?;
         push_some(&mut self.calls, machine.called(token))?;
         push_some(&mut self.structures, state.naming.found(token))?;
-        let declared = take_token(
+        take_token(
             machine,
             state.declared,
             token,
             &mut self.pending,
             &mut self.typedefs,
-        )?;
-        Ok(CodeState {
-            machine: machine.next(token),
-            declared,
-            naming: state.naming.next(token),
-        })
+        )
     }
 
     /// The end of the text, in the state of the pass there.

@@ -89,7 +89,8 @@ fn gather(alloc: Global, text: &[u8]) -> Result<Gathered, AllocError>
             let token = token_of(text, lined);
             line = lines.add(text, line, token)?;
             if line.is_code() {
-                state = code.add(state, token)?;
+                let declared = code.add(state, token)?;
+                state = state.after(token, declared);
             }
         }
     }
