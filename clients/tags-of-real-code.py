@@ -43,7 +43,7 @@ HEADS = [
     b"!_TAG_FILE_SORTED\t1\t/0=unsorted, 1=sorted, 2=foldcase/",
 ]
 PLAIN = rb"([^\t\n]+)\t([^\t\n]+)\t(/\^(?:\\[\\/]|[^\\/\n])*\$/)"
-EXTENDED = PLAIN + rb';"\t([fdt])\tline:([1-9][0-9]*)(\tfile:)?'
+EXTENDED = PLAIN + rb';"\t([fdtsug])\tline:([1-9][0-9]*)(\tfile:)?'
 READTAGS = PLAIN + rb'(?:;"\tkind:(.))?((?:\t.*)?)'
 NAMES_AT_ONCE = 200
 NAMES_OF_LESS = 200
@@ -287,7 +287,7 @@ def check(cbrowse, folder, number, home, report):
     kinds = collections.Counter(tag.kind for tag in extended)
     mains = sum(tag.name == b"main" for tag in extended)
     print(f"cbrowse tags: {len(extended)} definitions, {kinds[b'f']} functions ({mains} of them main), {kinds[b'd']} macros,"
-          f" {kinds[b't']} typedefs")
+          f" {kinds[b't']} typedefs, {kinds[b's']} structures, {kinds[b'u']} unions, {kinds[b'g']} enumerations")
     mixed = len(names) - len(sources.alike)
     print(f"line ends: {mixed} files have mixed ones or a CR within a line; jumps to them are not judged")
     for file, tags in ("tags", plain), ("extended.tags", extended):

@@ -1,10 +1,10 @@
 -- What the pass knows of the body that it is in.
 -- their bodies.
-use Rattle.std.proofs.Common.{◌≡◌, ◌∙◌, ℕ, zero, suc, ◌+◌, ◌-◌, ◌<◌, ◌≤◌, Bool, true, false, List, [], ◌∷◌, Option, Some, None, refl, sym, ap, length, map, arith, add-one, inl, inr, ⊎_elim}
+use Rattle.std.proofs.Common.{◌≡◌, ◌∙◌, ℕ, zero, suc, ◌+◌, ◌-◌, ◌<◌, ◌≤◌, Bool, true, false, List, [], Option, Some, None, refl, sym, ap, length, map, arith, add-one, inl, inr, ⊎_elim}
 use Rattle.std.proofs.lemmas.Bool.{false≢true, true≢false, eqb-true, eq-eqb}
 use Rattle.std.specs.Prelude.{◌⊎◌, ◌||◌, ◌&&◌, ◌==◌, if◌then◌else◌, cond, find, nat_lt, unwrap_or}
-use Rattle.std.specs.List.{flat_map, list_any, range_with_len}
-use Rattle.std.specs.Option.{MatchOption, option_to_list, option_map, option_map_or}
+use Rattle.std.specs.List.{flat_map, range_with_len}
+use Rattle.std.specs.Option.{MatchOption, option_to_list, option_map}
 use Rattle.cb_scan.specs.declared.facts.Call.{Call}
 use Rattle.cb_scan.specs.declared.facts.Def.{Def}
 use Rattle.cb_scan.specs.declared.rules.functions.Machine.{Machine}
@@ -14,9 +14,10 @@ use Rattle.cb_scan.specs.declared.lex.token.Role.{Role}
 use Rattle.cb_scan.specs.declared.lex.token.Role.TheVariants.{Word, Mark, Str, Other}
 use Rattle.cb_scan.specs.rules.Depth.{depth, is_counted, closes, is_stop, token_at}
 use Rattle.cb_scan.specs.Definitions.{function_def}
-use Rattle.cb_scan.specs.rules.Functions.{Function, close_from, defined_name, function_at, head}
+use Rattle.cb_scan.specs.rules.Functions.{close_from, function_at, function_from, signature}
+use Rattle.cb_scan.specs.rules.Heads.{Signature}
 use Rattle.cb_scan.specs.rules.Scope.{function_range}
-use Rattle.cb_scan.specs.lex.Tokens.{is_mark, is_name_token, is_static}
+use Rattle.cb_scan.specs.lex.Tokens.{is_mark, is_name_token}
 use Rattle.cb_scan.specs.rules.Uses.{call_at, calls_of_function}
 use Rattle.cb_scan.specs.steps.Functions.{range_to}
 use Rattle.cb_scan.proofs.FunctionLemmas.{IsAt}
@@ -115,43 +116,33 @@ pending ts (suc k) body = flat_map (open_calls ts k) (option_to_list body)
 abbrev pub def_name : Def → Span
 def_name d = d.name
 
--- the functions that a `{` opens where the head names one
-abbrev pub function_named : List Token → ℕ → Option Token → List Function
-function_named ts k o = option_map_or
-    (λ name. record {
-      name = name;
-      local = list_any (λ (t : Token). is_static t.role) (head ts k);
-      body = k;
-      end = close_from ts (suc k);
-    } ∷ []) o []
-
 -- the range and the calls of the function whose `{` is token k, by its name alone
 module _ (text : List ℕ) (ts : List Token) (k : ℕ) where
   pub ranges_here : map (function_range text ts) (function_at ts k)
       ≡ map (range_to (place_of text ts (close_from ts (suc k)))) (map def_name (map function_def (function_at ts k)))
-  ranges_here = by_cases (is_counted ts k && depth ts k == 0) (defined_name (head ts k))
+  ranges_here = by_cases (is_counted ts k && depth ts k == 0) (signature ts k)
     where
-      by_cases : (b : Bool) (o : Option Token)
-          → map (function_range text ts) (cond b (function_named ts k o) [])
+      by_cases : (b : Bool) (o : Option Signature)
+          → map (function_range text ts) (cond b (function_from ts k o) [])
           ≡ map (range_to (place_of text ts (close_from ts (suc k))))
-          (map def_name (map function_def (cond b (function_named ts k o) [])))
+          (map def_name (map function_def (cond b (function_from ts k o) [])))
       by_cases true (Some name) = refl
       by_cases true None = refl
       by_cases false o = refl
 
   pub calls_here : flat_map (calls_of_function ts) (function_at ts k)
       ≡ flat_map (open_calls ts k) (map def_name (map function_def (function_at ts k)))
-  calls_here = by_cases (is_counted ts k && depth ts k == 0) (defined_name (head ts k))
+  calls_here = by_cases (is_counted ts k && depth ts k == 0) (signature ts k)
     where
-      by_cases : (b : Bool) (o : Option Token)
-          → flat_map (calls_of_function ts) (cond b (function_named ts k o) [])
-          ≡ flat_map (open_calls ts k) (map def_name (map function_def (cond b (function_named ts k o) [])))
+      by_cases : (b : Bool) (o : Option Signature)
+          → flat_map (calls_of_function ts) (cond b (function_from ts k o) [])
+          ≡ flat_map (open_calls ts k) (map def_name (map function_def (cond b (function_from ts k o) [])))
       by_cases true (Some name) = refl
       by_cases true None = refl
       by_cases false o = refl
 
   pub none_here : (is_counted ts k && depth ts k == 0) ≡ false → function_at ts k ≡ []
-  none_here closed_ = ap (λ b. cond b (function_named ts k (defined_name (head ts k))) []) closed_
+  none_here closed_ = ap (λ b. cond b (function_from ts k (signature ts k)) []) closed_
 
 -- the names that are found
 pub found_names : (o : Option Def) → map def_name (option_to_list o) ≡ option_to_list (option_map def_name o)

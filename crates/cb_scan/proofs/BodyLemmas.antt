@@ -19,7 +19,8 @@ use Rattle.cb_scan.specs.rules.Functions.{close_from, function_at, functions}
 use Rattle.cb_scan.specs.rules.Scope.{function_range}
 use Rattle.cb_scan.specs.lex.Tokens.{is_mark, is_name_token}
 use Rattle.cb_scan.specs.rules.Uses.{call_at, call_of, calls_of_function, function_calls, is_call}
-use Rattle.cb_scan.specs.steps.Functions.{add, counts, empty_head, start, def_of, defined, found, is_after_linkage, next, next_body, next_depth, ends_all, closed, called, call_before, range_to, ranges_from, calls_from}
+use Rattle.cb_scan.specs.steps.Functions.{counts, start, found, is_after_linkage, next, next_body, next_depth, ends_all, closed, called, call_before, range_to, ranges_from, calls_from, function_here}
+use Rattle.cb_scan.specs.steps.Heads.{add, empty_head}
 use Rattle.cb_scan.proofs.FunctionLemmas.{step, depth_next, stops_is, found_is}
 use Rattle.cb_scan.proofs.Bodies.{last_at, InBody, close_step, close_end, close_bound, only_mark, no_name, and_left, and_right, stays_deep, place_of, open_calls, pending, def_name, ranges_here, calls_here, none_here, found_names, either}
 
@@ -52,7 +53,7 @@ module _ (text : List ℕ) (ts : List Token) (k : ℕ) (m : Machine) (within : k
       ap (λ d. d == 0) (depth_next ts k m here.at) ∙ and_right _ _ ends in
       (λ i. if m.depth == 0 then option_map def_name
       (if (shut i && not (is_after_linkage m.before)) && m.depth == 0
-      then option_map (def_of m.head.has_static) (defined m.head) else None)
+      then function_here m else None)
       else (if after i then None else m.body))
       ∙ either (m.depth == 0) None
 
@@ -323,7 +324,7 @@ in_body_next text ts k m within here = record {
         let above : 0 < depth ts (suc k) = omega (arith, after, depth_next ts k m here.at) in
         any_def (found m (token_at ts k)) above)
         (λ uncounted. subst (λ o. MatchOption (option_map def_name o) (Unit {0}) (λ _. 0 < depth ts (suc k)))
-        (sym (ap (λ b. if b && m.depth == 0 then option_map (def_of m.head.has_static) (defined m.head) else None)
+        (sym (ap (λ b. if b && m.depth == 0 then function_here m else None)
         uncounted)) tt)
         (cases_Bool (counts m (token_at ts k)))
       where
@@ -430,7 +431,7 @@ module _ (text : List ℕ) (ts : List Token) where
   start_in_body : InBody ts 0 start
   unfolding depth head_start
   start_in_body = record {
-    at = record { depth_is = refl; linkage_is = refl; extern_is = refl; head_is = refl };
+    at = record { depth_is = refl; linkage_is = refl; extern_is = refl; head_is = refl; empty_is = refl; opened_is = refl };
     last_is = refl;
     deep = tt;
   }

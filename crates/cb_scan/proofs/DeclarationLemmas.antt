@@ -8,7 +8,7 @@ use Rattle.std.specs.Option.{option_to_list, option_map_or}
 use Rattle.cb_scan.specs.declared.lex.token.Token.{Token}
 use Rattle.cb_scan.specs.declared.lex.token.Role.{Role}
 use Rattle.cb_scan.specs.declared.lex.token.Role.TheVariants.{Word, Mark, Str, Other}
-use Rattle.cb_scan.specs.declared.lex.token.WordKind.TheVariants.{Name, Define, Include, Typedef, Extern, Static, Reserved}
+use Rattle.cb_scan.specs.declared.lex.token.WordKind.TheVariants.{Name, Define, Include, Typedef, Extern, Static, Struct, Union, Enum, Reserved}
 use Rattle.cb_scan.specs.declared.rules.typedefs.Declaration.{Declaration}
 use Rattle.cb_scan.specs.declared.rules.typedefs.Reach.{Reach}
 use Rattle.cb_scan.specs.declared.rules.typedefs.Reach.TheVariants.{Nothing, Paren, Stars}
@@ -192,6 +192,9 @@ typedef_only (Word Include) is = absurd (false≢true is)
 typedef_only (Word Typedef) is = refl
 typedef_only (Word Extern) is = absurd (false≢true is)
 typedef_only (Word Static) is = absurd (false≢true is)
+typedef_only (Word Struct) is = absurd (false≢true is)
+typedef_only (Word Union) is = absurd (false≢true is)
+typedef_only (Word Enum) is = absurd (false≢true is)
 typedef_only (Word Reserved) is = absurd (false≢true is)
 typedef_only (Mark x) is = absurd (false≢true is)
 typedef_only Str is = absurd (false≢true is)

@@ -1,6 +1,6 @@
 -- What is found in a text lies in it, and its definitions are on lines of it.
-use Rattle.std.proofs.Common.{ltb-true, ◌≡◌, ◌≤◌, ◌<◌, ◌+◌, ◌-◌, ℕ, zero, suc, true, false, List, [], ◌∷◌, Some, None, refl, sym, subst, map, take, length, arith}
-use Rattle.std.specs.Prelude.{cond, find, nat_lt}
+use Rattle.std.proofs.Common.{ltb-true, ◌≡◌, ◌≤◌, ◌<◌, ◌+◌, ◌-◌, ℕ, zero, suc, true, false, List, [], ◌∷◌, Some, None, refl, sym, subst, map, length, arith}
+use Rattle.std.specs.Prelude.{◌&&◌, cond, find, nat_lt, not}
 use Rattle.std.specs.List.{AllByRecursion, flat_map, range_with_len}
 use Rattle.std.specs.Option.{MatchOption, option_map, option_map_or}
 use Rattle.std.proofs.lemmas.List.{map-append}
@@ -13,25 +13,28 @@ use Rattle.cb_scan.specs.declared.lex.piece.Span.{Span}
 use Rattle.cb_scan.specs.declared.lex.token.Token.{Token}
 use Rattle.cb_scan.specs.declared.rules.scope.Range.{Range}
 use Rattle.cb_scan.specs.rules.Code.{code, directives, is_newline, logical_lines}
-use Rattle.cb_scan.specs.Definitions.{AreWithin, IsScopeWithin, IsWithin, calls, facts_of, definitions, definitions_from, macro_def, typedef_def}
-use Rattle.cb_scan.specs.rules.Depth.{head_start, no_token, token_at}
+use Rattle.cb_scan.specs.Definitions.{AreWithin, IsScopeWithin, IsWithin, calls, facts_of, definitions, definitions_from, macro_def, structure_def, typedef_def}
+use Rattle.cb_scan.specs.rules.Depth.{no_token, token_at}
 use Rattle.cb_scan.specs.rules.Functions.{Function, function_at, functions}
 use Rattle.cb_scan.specs.Lines.{IsLineOf}
-use Rattle.cb_scan.specs.rules.Macros.{Macro, after_arguments, defines_macro, macro_of, macros}
+use Rattle.cb_scan.specs.rules.Macros.{Macro, after_arguments, begin_arguments, defines_macro, macro_names as defined_macros, macro_names_of, macro_of, macros, plain_macro_of}
 use Rattle.cb_scan.specs.Order.{call_key, def_key, goes_first, in_order, put}
 use Rattle.cb_scan.specs.lex.Pieces.{LiesIn}
 use Rattle.cb_scan.specs.rules.Scope.{function_range, function_ranges, holds, macro_ranges, name_around, scope}
-use Rattle.cb_scan.specs.lex.Tokens.{bytes_of, has_kind, is_mark, is_str, kind_is_include}
+use Rattle.cb_scan.specs.lex.Tokens.{bytes_of, has_kind, is_mark, is_name_token, is_str, kind_is_define, kind_is_include}
 use Rattle.cb_scan.specs.steps.Quote.{is_closed}
 use Rattle.cb_scan.specs.steps.Cut.{pieces}
+use Rattle.cb_scan.specs.rules.Structures.{Structure, structures}
 use Rattle.cb_scan.specs.rules.Typedefs.{typedefs}
 use Rattle.cb_scan.specs.rules.Uses.{call_at, call_of, calls_among, calls_of_function, header_between, header_of, include_of, includes, is_call, used, uses}
 use Rattle.cb_scan.proofs.MacroLines.{range_names}
-use Rattle.cb_scan.proofs.FunctionsRise.{all_implied, named_in_head}
+use Rattle.cb_scan.specs.rules.OldStyle.{semicolons_before}
+use Rattle.cb_scan.proofs.FunctionsRise.{all_implied, named_before}
 use Rattle.cb_scan.proofs.Rising.{all-prefix, all-picked, macro_picks, macro_names, names_flat, only_directives, used_picks}
 use Rattle.cb_scan.proofs.PieceLists.{pieces-lie}
-use Rattle.cb_scan.proofs.WithinLemmas.{DefWithin, TokenWithin, all-append, all-drop, all-joined, all-split, all-take, code-within, functions-lie, lines-within}
-use Rattle.cb_scan.proofs.TypedefsWithin.{SpanWithin, found_among, at_any, all_typedefs}
+use Rattle.cb_scan.proofs.WithinLemmas.{DefWithin, TokenWithin, all-append, all-joined, all-split, code-within, found_among, functions-lie, head_of_all, heads_of_all, lines-within}
+use Rattle.cb_scan.proofs.StructureLemmas.{all_structures, structure_name}
+use Rattle.cb_scan.proofs.TypedefsWithin.{SpanWithin, at_any, all_typedefs}
 
 -- ---- order
 all_put : {X : Type 0} (key : X → List ℕ) (Q : X → Type 0) (x : X) (ys : List X) → Q x → AllByRecursion Q ys
@@ -56,8 +59,36 @@ all_function_names P ts k (suc n) a =
     subst (AllByRecursion P)
     (sym (map-append (λ (f : Function). f.name) (function_at ts k)
     (flat_map (function_at ts) (range_with_len (k + 1) n))))
-    (all-append P _ _ (named_in_head P ts k (all-drop P (head_start ts k) (take k ts) (all-take P k ts a)))
+    (all-append P _ _ (named_before P ts k (head_of_all P ts a k) (heads_of_all P ts a (semicolons_before ts k)))
     (all_function_names P ts (k + 1) n a))
+
+module _ (P : Token → Type 0) where
+  with_arguments : (l : List Token) → AllByRecursion P l → AllByRecursion P (map (λ (m : Macro). m.name) (macro_of l))
+  with_arguments [] a = tt
+  with_arguments (h ∷ []) a = tt
+  with_arguments (h ∷ o ∷ []) a = tt
+  with_arguments (h ∷ o ∷ n ∷ []) a = tt
+  with_arguments (h ∷ o ∷ n ∷ p ∷ l) a =
+      elim (defines_macro o n p) as (λ b. AllByRecursion P (map (λ (m : Macro). m.name)
+      (cond b (record { name = n; body = after_arguments l } ∷ []) []))) [ true ↦ (a.1.1.0, tt) | false ↦ tt ]
+
+  without_arguments : (l : List Token) → AllByRecursion P l → AllByRecursion P (plain_macro_of l)
+  without_arguments [] a = tt
+  without_arguments (h ∷ []) a = tt
+  without_arguments (h ∷ o ∷ []) a = tt
+  without_arguments (h ∷ o ∷ n ∷ l) a =
+      elim (has_kind kind_is_define o.role && is_name_token n.role && not (begin_arguments n l)) as
+      (λ b. AllByRecursion P (cond b (n ∷ []) [])) [ true ↦ (a.1.1.0, tt) | false ↦ tt ]
+
+  all_macro_names : (ls : List (List Token)) → AllByRecursion P (flat_map (λ l. l) ls)
+      → AllByRecursion P (flat_map macro_names_of ls)
+  all_macro_names [] a = tt
+  all_macro_names (l ∷ ls) a =
+      let parts = all-prefix P l (flat_map (λ l. l) ls) a in
+      all-append P (macro_names_of l) _
+      (all-append P (map (λ (m : Macro). m.name) (macro_of l)) (plain_macro_of l) (with_arguments l parts.0)
+      (without_arguments l parts.0))
+      (all_macro_names ls parts.1)
 
 module _ (S : Span → Type 0) where
   calls_from_body : (ts : List Token) (caller : Span) (k n : ℕ) → S no_token.span → S caller
@@ -246,15 +277,20 @@ module _ (text : List ℕ) where
   spans_of : (ts : List Token) → AllByRecursion (TokenWithin text) ts → AllByRecursion (SpanWithin text) ts
   spans_of = all_implied (TokenWithin text) (SpanWithin text) span_within
 
-  defs_of_macros : (ms : List Macro) → AllByRecursion (TokenWithin text) (map (λ (m : Macro). m.name) ms)
-      → AllByRecursion (DefWithin text) (map macro_def ms)
+  defs_of_macros : (ts : List Token) → AllByRecursion (TokenWithin text) ts
+      → AllByRecursion (DefWithin text) (map macro_def ts)
   defs_of_macros [] a = tt
-  defs_of_macros (m ∷ ms) a = ((span_within m.name a.0, a.0.2), defs_of_macros ms a.1)
+  defs_of_macros (t ∷ ts) a = ((span_within t a.0, a.0.2), defs_of_macros ts a.1)
 
   defs_of_tokens : (ts : List Token) → AllByRecursion (TokenWithin text) ts
       → AllByRecursion (DefWithin text) (map typedef_def ts)
   defs_of_tokens [] a = tt
   defs_of_tokens (t ∷ ts) a = ((span_within t a.0, a.0.2), defs_of_tokens ts a.1)
+
+  defs_of_structures : (ss : List Structure) → AllByRecursion (TokenWithin text) (map structure_name ss)
+      → AllByRecursion (DefWithin text) (map structure_def ss)
+  defs_of_structures [] a = tt
+  defs_of_structures (s ∷ ss) a = ((span_within s.name a.0, a.0.2), defs_of_structures ss a.1)
 
   line_tokens : AllByRecursion (TokenWithin text) (flat_map (λ l. l) (logical_lines text (pieces text)))
   line_tokens =
@@ -291,10 +327,14 @@ module _ (text : List ℕ) where
   definitions_lie =
       all_in_order def_key (DefWithin text) _
       (all-append (DefWithin text) _ _
+      (all-append (DefWithin text) _ _
       (all-append (DefWithin text) _ _ (functions-lie text (pieces-lie text))
-      (defs_of_macros (macros text (pieces text)) macro_tokens))
+      (defs_of_macros (defined_macros text (pieces text))
+      (all_macro_names (TokenWithin text) (directives text (pieces text)) directive_tokens)))
       (defs_of_tokens (typedefs (code text (pieces text)))
       (all_typedefs (TokenWithin text) (code text (pieces text)) code_tokens)))
+      (defs_of_structures (structures (code text (pieces text)))
+      (all_structures (TokenWithin text) (code text (pieces text)) code_tokens)))
 
   uses_lie : AllByRecursion (λ (u : Use). IsWithin text u.name × IsScopeWithin text u.scope) (uses text (pieces text))
   unfolding uses

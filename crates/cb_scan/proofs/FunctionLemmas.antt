@@ -4,23 +4,28 @@ use Rattle.std.proofs.Math.Seq.{take-suc}
 use Rattle.std.proofs.lemmas.List.{drop-append-le, drop_all, drop_more, map-append}
 use Rattle.std.proofs.lemmas.List.Sums.{fold-append}
 use Rattle.std.specs.Prelude.{◌||◌, ◌&&◌, ◌==◌, not, if◌then◌else◌}
-use Rattle.std.specs.List.{list_any, flat_map, range_with_len}
-use Rattle.std.specs.Option.{option_to_list, option_map, option_map_or}
+use Rattle.std.specs.List.{flat_map, range_with_len}
+use Rattle.std.specs.Option.{is_none, option_to_list, option_map}
 use Rattle.cb_scan.specs.declared.rules.functions.Machine.{Machine}
 use Rattle.cb_scan.specs.declared.lex.token.Token.{Token}
 use Rattle.cb_scan.specs.declared.rules.functions.Before.{Before}
 use Rattle.cb_scan.specs.declared.rules.functions.Before.TheVariants.{Anything, Extern, Linkage}
 use Rattle.cb_scan.specs.declared.lex.token.Role.{Role}
 use Rattle.cb_scan.specs.declared.lex.token.Role.TheVariants.{Word, Mark, Str, Other}
-use Rattle.cb_scan.specs.declared.lex.token.WordKind.TheVariants.{Name, Define, Include, Typedef, Static, Reserved}
+use Rattle.cb_scan.specs.declared.lex.token.WordKind.TheVariants.{Name, Define, Include, Typedef, Static, Struct, Union, Enum, Reserved}
 use Rattle.cb_scan.specs.declared.lex.token.WordKind.TheVariants as kind
 use Rattle.std.proofs.Math.Bool.{and-false}
-use Rattle.cb_scan.specs.lex.Tokens.{is_mark, is_static, is_extern, is_str}
+use Rattle.std.proofs.lemmas.Bool.{eq-eqb, eqb-true, false_from_ne_true}
+use Rattle.cb_scan.specs.lex.Tokens.{is_mark, is_extern, is_str}
 use Rattle.cb_scan.specs.rules.Depth.{depth, head_start, is_counted, is_stop, token_at, no_token, follows_linkage, depth_after}
-use Rattle.cb_scan.specs.rules.Functions.{head, defined_name, close_from, function_at, functions}
+use Rattle.cb_scan.specs.rules.Functions.{function_at, function_from, functions, signature}
+use Rattle.cb_scan.specs.rules.Heads.{Signature, defined_name, head, signed}
+use Rattle.cb_scan.specs.rules.OldStyle.{old_signature}
 use Rattle.cb_scan.specs.Definitions.{function_def}
-use Rattle.cb_scan.specs.steps.Functions.{add, empty_head, defined, start, next, next_depth, stops, found, defs_from, def_of, is_after_linkage, is_after_extern}
-use Rattle.cb_scan.proofs.HeadLemmas.{defined_of, static_is}
+use Rattle.cb_scan.specs.steps.Functions.{start, next, next_depth, stops, found, function_here, defs_from, is_after_linkage, is_after_extern}
+use Rattle.cb_scan.specs.steps.Heads.{add, defined, empty_head, next_opened}
+use Rattle.cb_scan.proofs.HeadLemmas.{defined_of, signature_def}
+use Rattle.cb_scan.proofs.OldStyleLemmas.{opened_next}
 
 -- `extern` is directly before token k
 abbrev pub follows_extern : List Token → ℕ → Bool
@@ -33,6 +38,8 @@ pub record IsAt (ts : List Token) (k : ℕ) (m : Machine) : Type 0 where
   pub linkage_is : is_after_linkage m.before ≡ follows_linkage ts k
   pub extern_is : is_after_extern m.before ≡ follows_extern ts k
   pub head_is : m.head ≡ fold add empty_head (head ts k)
+  pub empty_is : is_none m.head.last ≡ (head_start ts k == k)
+  pub opened_is : m.opened ≡ option_map signature_def (old_signature ts k)
 
 pub head_start_le : (ts : List Token) (k : ℕ) → head_start ts k ≤ k
 unfolding head_start
@@ -52,6 +59,9 @@ linkage_after b (Word Include) = sym (and-false (is_after_extern b))
 linkage_after b (Word Typedef) = sym (and-false (is_after_extern b))
 linkage_after b (Word kind.Extern) = sym (and-false (is_after_extern b))
 linkage_after b (Word Static) = sym (and-false (is_after_extern b))
+linkage_after b (Word Struct) = sym (and-false (is_after_extern b))
+linkage_after b (Word Union) = sym (and-false (is_after_extern b))
+linkage_after b (Word Enum) = sym (and-false (is_after_extern b))
 linkage_after b (Word Reserved) = sym (and-false (is_after_extern b))
 linkage_after b (Mark x) = sym (and-false (is_after_extern b))
 linkage_after b Other = sym (and-false (is_after_extern b))
@@ -67,6 +77,9 @@ extern_after b (Word Include) = refl
 extern_after b (Word Typedef) = refl
 extern_after b (Word kind.Extern) = refl
 extern_after b (Word Static) = refl
+extern_after b (Word Struct) = refl
+extern_after b (Word Union) = refl
+extern_after b (Word Enum) = refl
 extern_after b (Word Reserved) = refl
 extern_after b (Mark x) = refl
 extern_after b Other = refl
@@ -114,32 +127,41 @@ module _ (ts : List Token) (k : ℕ) (m : Machine) (at : IsAt ts k m) where
     extern_is = extern_after m.before (token_at ts k).role;
     head_is = (λ i. if stops_is i then empty_head else add (at.head_is i) (token_at ts k))
         ∙ head_goes_on ts k (is_stop ts k) within;
+    empty_is = (λ i. is_none (if stops_is i then empty_head else add m.head (token_at ts k)).last)
+        ∙ by_stop (is_stop ts k);
+    opened_is = (λ i. if stops_is i then (if is_mark 59 (token_at ts k).role
+        then next_opened (at.head_is i) (at.opened_is i) else None) else at.opened_is i) ∙ opened_next ts k;
   }
+    where
+      by_stop : (b : Bool) → is_none (if b then empty_head else add m.head (token_at ts k)).last
+          ≡ ((if b then suc k else head_start ts k) == suc k)
+      by_stop true = sym (eq-eqb (suc k) (suc k) refl)
+      by_stop false = sym (false_from_ne_true (head_start ts k == suc k)
+          (λ e. let equal : head_start ts k ≡ suc k =
+          eqb-true (head_start ts k) (suc k) e in absurd (omega (arith, head_start_le ts k))))
+
+  -- the function that a `{` opens here
+  here_is : function_here m ≡ option_map signature_def (signature ts k)
+  here_is =
+      (λ i. if at.empty_is i then at.opened_is i else (ap defined at.head_is ∙ defined_of (head ts k)) i)
+      ∙ elim (head_start ts k == k) as (λ b. (if b then option_map signature_def (old_signature ts k)
+      else option_map signature_def (signed (head ts k) (defined_name (head ts k))))
+      ≡ option_map signature_def (if b then old_signature ts k else signed (head ts k) (defined_name (head ts k))))
+      [ true ↦ refl | false ↦ refl ]
 
   -- the definition of the function whose `{` is the token
   pub found_is : option_to_list (found m (token_at ts k)) ≡ map function_def (function_at ts k)
   found_is =
-      let inside : option_map (def_of m.head.has_static) (defined m.head)
-      ≡ option_map (def_of (list_any (λ (t : Token). is_static t.role) (head ts k))) (defined_name (head ts k)) =
-      (λ i. option_map (def_of ((ap (λ h. h.has_static) at.head_is ∙ static_is (head ts k)) i))
-      ((ap defined at.head_is ∙ defined_of (head ts k)) i)) in
       (λ i. option_to_list (if (is_mark 123 (token_at ts k).role && not (at.linkage_is i)) && at.depth_is i == 0
-      then inside i else None))
-      ∙ defs_at (is_counted ts k && depth ts k == 0) (defined_name (head ts k))
+      then here_is i else None))
+      ∙ defs_at (is_counted ts k && depth ts k == 0) (signature ts k)
     where
-      defs_at : (b : Bool) (name : Option Token)
-          → option_to_list (if b then option_map (def_of (list_any (λ (t : Token). is_static t.role) (head ts k))) name
-          else None) ≡ map function_def
-          (if b then option_map_or
-          (λ name. record {
-            name = name;
-            local = list_any (λ (t : Token). is_static t.role) (head ts k);
-            body = k;
-            end = close_from ts (suc k);
-          } ∷ []) name [] else [])
+      defs_at : (b : Bool) (o : Option Signature)
+          → option_to_list (if b then option_map signature_def o else None)
+          ≡ map function_def (if b then function_from ts k o else [])
       defs_at true None = refl
-      defs_at true (Some name) = refl
-      defs_at false name = refl
+      defs_at true (Some s) = refl
+      defs_at false o = refl
 
 -- the pass from token k on finds the functions from there on
 from : (ts : List Token) (k : ℕ) (m : Machine) (rest : List Token) → drop k ts ≡ rest → IsAt ts k m
@@ -163,4 +185,4 @@ from ts k m (t ∷ rest) left at =
 pub defs_from_start : (ts : List Token) → defs_from start ts ≡ map function_def (functions ts)
 unfolding depth head_start
 defs_from_start ts = from ts 0 start ts refl
-    (record { depth_is = refl; linkage_is = refl; extern_is = refl; head_is = refl })
+    (record { depth_is = refl; linkage_is = refl; extern_is = refl; head_is = refl; empty_is = refl; opened_is = refl })

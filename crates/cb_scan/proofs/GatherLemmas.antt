@@ -9,9 +9,10 @@ use Rattle.cb_scan.specs.declared.lex.piece.Class.{Class}
 use Rattle.cb_scan.specs.declared.lex.piece.Class.TheVariants.{Name, Number, Str, Chr, LineNote, BlockNote, Blank, Newline, Byte}
 use Rattle.cb_scan.specs.declared.lex.token.Token.{Token}
 use Rattle.cb_scan.specs.rules.Code.{code, is_newline}
-use Rattle.cb_scan.specs.Definitions.{function_def, typedef_def}
+use Rattle.cb_scan.specs.Definitions.{function_def, structure_def, typedef_def}
 use Rattle.cb_scan.specs.rules.Functions.{functions}
 use Rattle.cb_scan.specs.rules.Scope.{function_ranges}
+use Rattle.cb_scan.specs.rules.Structures.{structures}
 use Rattle.cb_scan.specs.rules.Typedefs.{typedefs}
 use Rattle.cb_scan.specs.rules.Uses.{function_calls}
 use Rattle.cb_scan.specs.steps.Cut.{pieces}
@@ -19,10 +20,13 @@ use Rattle.cb_scan.specs.steps.Directives.{code_out, is_code, lined_token, next_
 use Rattle.cb_scan.specs.lex.Tokens.{is_significant}
 use Rattle.cb_scan.specs.steps.Lined.{lined}
 use Rattle.cb_scan.specs.steps.Functions.{calls_from, defs_from, ranges_from, start}
+use Rattle.cb_scan.specs.declared.rules.structures.Naming.TheVariants.{Nothing}
+use Rattle.cb_scan.specs.steps.Structures.{structures_from}
 use Rattle.cb_scan.specs.steps.Typedefs.{typedef_defs_from}
 use Rattle.cb_scan.proofs.BodyLemmas.{calls_from_start, ranges_from_start}
 use Rattle.cb_scan.proofs.CodeLines.{code_is}
 use Rattle.cb_scan.proofs.FunctionLemmas.{defs_from_start}
+use Rattle.cb_scan.proofs.StructureLemmas.{structures_from_start}
 use Rattle.cb_scan.proofs.TypedefLemmas.{typedef_defs_from_start}
 
 module _ (text : List ℕ) where
@@ -44,6 +48,11 @@ module _ (text : List ℕ) where
       ≡ map typedef_def (typedefs (code text (pieces text)))
   typedefs_found = ap (typedef_defs_from start None []) (code_is text (pieces text))
       ∙ typedef_defs_from_start (code text (pieces text))
+
+  pub structures_found : structures_from Nothing (walk code_out nothing text Start (map (lined text) (pieces text)))
+      ≡ map structure_def (structures (code text (pieces text)))
+  structures_found = ap (structures_from Nothing) (code_is text (pieces text))
+      ∙ structures_from_start (code text (pieces text))
 
 -- what is appended was to come
 pub appended : {A : Type 0} (old new x y z all : List A) → new ≡ old ++ x → y ≡ x ++ z → old ++ y ≡ all → new ++ z ≡ all

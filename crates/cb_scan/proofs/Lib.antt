@@ -18,12 +18,14 @@ pub mod LineTable
 pub mod LinedPieces
 pub mod Literals
 pub mod MacroLines
+pub mod OldStyleLemmas
 pub mod OrderLemmas
 pub mod PieceLists
 pub mod Prefixes
 pub mod Rising
 pub mod ScopeLemmas
 pub mod Stages
+pub mod StructureLemmas
 pub mod TypedefLemmas
 pub mod TypedefsWithin
 pub mod WithinLemmas

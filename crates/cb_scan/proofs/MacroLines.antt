@@ -3,10 +3,9 @@ use Rattle.std.proofs.Common.{◌≡◌, ◌∙◌, ⊎_elim, ℕ, Bool, true, f
 use Rattle.std.proofs.lemmas.Bool.{cases_Bool}
 use Rattle.std.proofs.lemmas.List.{append-nil, map-append}
 use Rattle.std.proofs.lemmas.List.Concat.{flat_map-append}
-use Rattle.std.specs.Prelude.{cond, ◌&&◌, ◌==◌}
+use Rattle.std.specs.Prelude.{cond, ◌&&◌, ◌==◌, not}
 use Rattle.std.specs.List.{flat_map, zip}
 use Rattle.std.specs.Option.{option_to_list}
-use Rattle.cb_scan.specs.declared.facts.Kind.TheVariants as fact_kind
 use Rattle.cb_scan.specs.declared.rules.directives.Defining.TheVariants as defining
 use Rattle.cb_scan.specs.declared.rules.directives.Directive.TheVariants as directive
 use Rattle.cb_scan.specs.declared.rules.directives.Including.{Including}
@@ -19,7 +18,7 @@ use Rattle.cb_scan.specs.declared.rules.scope.Range.{Range}
 use Rattle.cb_scan.specs.declared.lex.token.Token.{Token}
 use Rattle.cb_scan.specs.rules.Code.{directives, is_directive, line_ends, logical_lines}
 use Rattle.cb_scan.specs.Definitions.{macro_def}
-use Rattle.cb_scan.specs.rules.Macros.{Macro, after_arguments, macro_of, macros}
+use Rattle.cb_scan.specs.rules.Macros.{Macro, after_arguments, macro_names, macro_names_of, macro_of, macros}
 use Rattle.cb_scan.specs.rules.Scope.{macro_range, macro_ranges, range_of_line}
 use Rattle.cb_scan.specs.lex.Tokens.{has_kind, is_mark, is_name_token, kind_is_define, kind_is_include}
 use Rattle.cb_scan.specs.rules.Uses.{call_of, calls_among, is_call, macro_calls}
@@ -148,6 +147,10 @@ one_each f [] = refl
 one_each f (m ∷ ms) = ap (λ c. f m ∷ c) (one_each f ms)
 
 -- ---- the definitions of macros
+no_defs : (ts : List Token) → run macro_out none (in_define defining.Other) ts ≡ []
+no_defs = quiet macro_out none (λ (u : Unit {0}). in_define defining.Other) (λ u t. tt) (λ u t. refl) (λ u t. refl)
+    (λ u. refl) tt
+
 body_defs : (n : Span) (last : Option Token) (ts : List Token)
     → run macro_out none (in_define (defining.Body n last)) ts ≡ []
 body_defs n last [] = refl
@@ -162,26 +165,100 @@ argument_defs n (t ∷ ts) =
       | false ↦ argument_defs n ts
     ]
 
-def_line : (l : List Token)
-    → run macro_out none Start l ≡ cond (is_directive l) (flat_map (λ m. macro_def m ∷ []) (macro_of l)) []
-def_line =
-    macro_line macro_out none (λ m. macro_def m ∷ [])
-    ((λ t. refl), refl) (λ u. ((λ t. refl), refl)) ((λ t. refl), refl) (λ u. ((λ t. refl), refl))
-    (λ i. ((λ t. refl), refl)) ((λ t. refl), refl) (λ u. ((λ t. refl), refl))
-    (λ n. refl)
-    (λ n p ts is. ap (λ b. option_to_list (cond b (Some (macro_def (macro_named n ts))) None)
-    ++ run macro_out none (in_define (defining.Arguments n.span)) ts) is
-    ∙ ap (λ c. macro_def (macro_named n ts) ∷ c) (argument_defs n.span ts))
-    (λ n p isnt. ap (λ b. option_to_list
-    (cond b (Some (record { name = n.span; kind = fact_kind.Macro; line = n.line; local = false })) None)) isnt)
+-- nothing is defined after the name
+later_defs : (n : Token) (ts : List Token) → run macro_out none (in_define (defining.Name n)) ts ≡ []
+later_defs n [] = refl
+later_defs n (p ∷ ts) =
+    elim (opens n p) as (λ b. run macro_out none
+    (in_define (cond b (defining.Arguments n.span) defining.Other)) ts ≡ []) [
+      | true ↦ argument_defs n.span ts
+      | false ↦ no_defs ts
+    ]
+
+-- a macro has arguments or has none: the third token names it in both cases
+abbrev third : Token → List Token → List Token
+third own [] = []
+third own (n ∷ ts) = cond (has_kind kind_is_define own.role && is_name_token n.role) (n ∷ []) []
+
+either_sort : (h own : Token) (ts : List Token) → macro_names_of (h ∷ own ∷ ts) ≡ third own ts
+either_sort h own [] = refl
+either_sort h own (n ∷ []) =
+    elim (has_kind kind_is_define own.role) as (λ d. cond (d && is_name_token n.role && true) (n ∷ []) []
+    ≡ cond (d && is_name_token n.role) (n ∷ []) []) [
+      | true ↦ elim (is_name_token n.role) as (λ b. cond (b && true) (n ∷ []) [] ≡ cond b (n ∷ []) [])
+          [ true ↦ refl | false ↦ refl ]
+      | false ↦ refl
+    ]
+either_sort h own (n ∷ p ∷ ts) =
+    sorts (has_kind kind_is_define own.role) (is_name_token n.role) (is_mark 40 p.role)
+    (p.span.start == n.span.end)
+  where
+    sorts : (d b x y : Bool)
+        → map (λ (m : Macro). m.name) (cond (d && b && x && y) (macro_named n ts ∷ []) [])
+        ++ cond (d && b && not (x && y)) (n ∷ []) [] ≡ cond (d && b) (n ∷ []) []
+    sorts true true true true = refl
+    sorts true true true false = refl
+    sorts true true false y = refl
+    sorts true false x y = refl
+    sorts false b x y = refl
+
+defs_after_define : (own : Token) (ts : List Token) → has_kind kind_is_define own.role ≡ true
+    → run macro_out none (in_define defining.Begun) ts ≡ map macro_def (third own ts)
+defs_after_define own [] is = refl
+defs_after_define own (n ∷ ts) is =
+    elim (is_name_token n.role) as (λ b. option_to_list (cond b (Some (macro_def n)) None)
+    ++ run macro_out none (in_define (cond b (defining.Name n) defining.Other)) ts
+    ≡ map macro_def (cond b (n ∷ []) [])) [
+      | true ↦ ap (λ c. macro_def n ∷ c) (later_defs n ts)
+      | false ↦ no_defs ts
+    ]
+    ∙ ap (λ d. map macro_def (cond (d && is_name_token n.role) (n ∷ []) [])) (sym is)
+
+no_third : (own : Token) (ts : List Token) → has_kind kind_is_define own.role ≡ false → third own ts ≡ []
+no_third own [] isnt = refl
+no_third own (n ∷ ts) isnt = ap (λ d. cond (d && is_name_token n.role) (n ∷ []) []) isnt
+
+defs_after_hash : (h : Token) (ts : List Token)
+    → run macro_out none (InDirective directive.Hash) ts ≡ map macro_def (macro_names_of (h ∷ ts))
+defs_after_hash h [] = refl
+defs_after_hash h (own ∷ ts) =
+    let go = λ (d i : Bool). run macro_out none
+    (InDirective (cond d (directive.Define defining.Begun)
+    (cond i (directive.Include including.Begun) directive.Other))) ts in
+    ⊎_elim
+    (λ is. ap (λ b. go b (has_kind kind_is_include own.role)) is ∙ defs_after_define own ts is)
+    (λ isnt.
+    ap (λ b. go b (has_kind kind_is_include own.role)) isnt
+    ∙ elim (has_kind kind_is_include own.role) as (λ b. go false b ≡ []) [
+      | true ↦ quiet macro_out none in_include next_including (λ i t. refl) (λ i t. refl) (λ i. refl) including.Begun ts
+      | false ↦ quiet macro_out none in_other (λ u t. tt) (λ u t. refl) (λ u t. refl) (λ u. refl) tt ts
+    ]
+    ∙ ap (map macro_def) (sym (no_third own ts isnt)))
+    (cases_Bool (has_kind kind_is_define own.role))
+    ∙ ap (map macro_def) (sym (either_sort h own ts))
+
+def_line : (l : List Token) → run macro_out none Start l ≡ cond (is_directive l) (map macro_def (macro_names_of l)) []
+def_line [] = refl
+def_line (t ∷ ts) =
+    elim (is_mark 35 t.role) as (λ b. run macro_out none (cond b (InDirective directive.Hash) Code) ts
+    ≡ cond b (map macro_def (macro_names_of (t ∷ ts))) []) [
+      | true ↦ defs_after_hash t ts
+      | false ↦ quiet macro_out none in_code (λ u t. tt) (λ u t. refl) (λ u t. refl) (λ u. refl) tt ts
+    ]
 
 pub macros_are : (text : List ℕ) (ps : List Piece)
-    → walk macro_out nothing text Start (map (lined text) ps) ≡ map macro_def (macros text ps)
+    → walk macro_out nothing text Start (map (lined text) ps) ≡ map macro_def (macro_names text ps)
 macros_are text ps =
     walk_lines macro_out none text ps
     ∙ (λ i. flat_map (λ l. def_line l i) (logical_lines text ps))
-    ∙ by_macros (λ m. macro_def m ∷ []) text ps
-    ∙ one_each macro_def (macros text ps)
+    ∙ sym (filtered (λ l. map macro_def (macro_names_of l)) (logical_lines text ps))
+    ∙ mapped (directives text ps)
+  where
+    mapped : (ls : List (List Token))
+        → flat_map (λ l. map macro_def (macro_names_of l)) ls ≡ map macro_def (flat_map macro_names_of ls)
+    mapped [] = refl
+    mapped (l ∷ ls) = ap (λ c. map macro_def (macro_names_of l) ++ c) (mapped ls)
+        ∙ sym (map-append macro_def (macro_names_of l) (flat_map macro_names_of ls))
 
 -- ---- the ranges of macros
 module _ (end : ℕ) where

@@ -1,5 +1,5 @@
 -- A list that is sorted is the list in order.
-use Rattle.std.proofs.Common.{◌≡◌, ◌∙◌, ◌≤◌, ◌<◌, ◌+◌, ℕ, suc, Bool, true, false, List, [], ◌∷◌, refl, sym, ap, subst, length, get_or, arith, zero-add, ⊎_elim}
+use Rattle.std.proofs.Common.{◌≡◌, ◌∙◌, ◌≤◌, ◌<◌, ◌+◌, ℕ, zero, suc, Bool, true, false, List, [], ◌∷◌, refl, sym, ap, subst, length, get_or, arith, zero-add, ⊎_elim}
 use Rattle.std.proofs.lemmas.Bool.{cases_Bool, true≢false, false≢true}
 use Rattle.std.proofs.lemmas.Cmp.{nat_list_cmp_total}
 use Rattle.std.proofs.lemmas.List.Sorted.{sum_by-IsPermutation}
@@ -17,7 +17,7 @@ use Rattle.std.specs.declared.cmp.Ordering.TheVariants.{Less, Equal, Greater}
 use Rattle.cb_scan.specs.declared.facts.Call.{Call}
 use Rattle.cb_scan.specs.declared.facts.Def.{Def}
 use Rattle.cb_scan.specs.declared.facts.Kind.{Kind}
-use Rattle.cb_scan.specs.declared.facts.Kind.TheVariants.{Function, Macro, Typedef}
+use Rattle.cb_scan.specs.declared.facts.Kind.TheVariants.{Function, Macro, Typedef, Struct, Union, Enum}
 use Rattle.cb_scan.specs.Order.{call_key, def_key, goes_first, in_order, kind_rank, put}
 
 abbrev pub Keys : List ℕ → List ℕ → Ordering
@@ -206,16 +206,25 @@ module _ {X : Type 0} (key : X → List ℕ) where
       ((first, all_first x y ys first later.0), later)
 
 -- ---- definitions and calls have exact keys
+kind_at : ℕ → Kind
+kind_at zero = Function
+kind_at (suc zero) = Macro
+kind_at (suc (suc zero)) = Typedef
+kind_at (suc (suc (suc zero))) = Struct
+kind_at (suc (suc (suc (suc zero)))) = Union
+kind_at (suc (suc (suc (suc (suc n))))) = Enum
+
+kind_there : (a : Kind) → kind_at (kind_rank a) ≡ a
+unfolding kind_at
+kind_there Function = refl
+kind_there Macro = refl
+kind_there Typedef = refl
+kind_there Struct = refl
+kind_there Union = refl
+kind_there Enum = refl
+
 same_kind : (a b : Kind) → kind_rank a ≡ kind_rank b → a ≡ b
-same_kind Function Function is = refl
-same_kind Function Macro is = absurd (omega arith)
-same_kind Function Typedef is = absurd (omega arith)
-same_kind Macro Function is = absurd (omega arith)
-same_kind Macro Macro is = refl
-same_kind Macro Typedef is = absurd (omega arith)
-same_kind Typedef Function is = absurd (omega arith)
-same_kind Typedef Macro is = absurd (omega arith)
-same_kind Typedef Typedef is = refl
+same_kind a b is = sym (kind_there a) ∙ ap kind_at is ∙ kind_there b
 
 same_flag : (a b : Bool) → number a ≡ number b → a ≡ b
 same_flag true true is = refl

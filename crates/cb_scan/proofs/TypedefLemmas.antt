@@ -14,7 +14,8 @@ use Rattle.cb_scan.specs.Definitions.{typedef_def}
 use Rattle.cb_scan.specs.rules.Depth.{depth, head_start, is_stop, token_at, no_token}
 use Rattle.cb_scan.specs.lex.Tokens.{is_mark, is_typedef}
 use Rattle.cb_scan.specs.rules.Typedefs.{begins_typedef, ends_declaration, taken, taken_at, typedef_at, typedef_names, typedef_stop, typedefs}
-use Rattle.cb_scan.specs.steps.Functions.{add, empty_head, next, start}
+use Rattle.cb_scan.specs.steps.Functions.{next, start}
+use Rattle.cb_scan.specs.steps.Heads.{add, empty_head}
 use Rattle.cb_scan.specs.steps.Typedefs.{after, all_names, begins, declaration_start, ends, name_of, names_out, next_declaration, next_pending, parts_at, takes, typedef_defs_from, typedefs_from}
 use Rattle.cb_scan.proofs.DeclarationLemmas.{names_after, names_from, names_of_typedef}
 use Rattle.cb_scan.proofs.FunctionLemmas.{IsAt, step, stops_is}
@@ -267,7 +268,7 @@ pub typedefs_from_start : (ts : List Token) â†’ typedefs_from start None [] ts â
 unfolding depth head_start
 typedefs_from_start ts =
     typedefs_are ts 0 start None [] ts refl
-    (record { at = record { depth_is = refl; linkage_is = refl; extern_is = refl; head_is = refl }; empty_is = refl })
+    (record { at = record { depth_is = refl; linkage_is = refl; extern_is = refl; head_is = refl; empty_is = refl; opened_is = refl }; empty_is = refl })
 
 -- the same as definitions
 defs_are : (m : Machine) (s : Option Declaration) (pending ts : List Token)

@@ -1,6 +1,6 @@
 -- The names of typedefs are tokens of the code.
-use Rattle.std.proofs.Common.{◌≤◌, ◌<◌, ◌+◌, ◌-◌, ℕ, zero, suc, Bool, true, false, List, [], ◌∷◌, Option, Some, None, length, arith}
-use Rattle.std.specs.Prelude.{◌&&◌, ◌||◌, ◌==◌, cond, not, find}
+use Rattle.std.proofs.Common.{◌≤◌, ◌<◌, ◌+◌, ◌-◌, ℕ, zero, suc, true, false, List, [], ◌∷◌, Option, Some, None, length, arith}
+use Rattle.std.specs.Prelude.{◌&&◌, ◌||◌, ◌==◌, cond, not}
 use Rattle.std.specs.List.{AllByRecursion, flat_map, range_with_len}
 use Rattle.std.specs.Option.{MatchOption, option_map_or, option_to_list}
 use Rattle.cb_scan.specs.declared.lex.token.Token.{Token}
@@ -8,21 +8,13 @@ use Rattle.cb_scan.specs.Definitions.{IsWithin}
 use Rattle.cb_scan.specs.rules.Depth.{depth, no_token, token_at}
 use Rattle.cb_scan.specs.lex.Tokens.{is_mark, is_name_token}
 use Rattle.cb_scan.specs.rules.Typedefs.{Nested, begins_with_star, last_name, name_after_stars, nested, nesting_after, part_name, parts, parts_here, pointer_name, taken, taken_at, typedef_at, typedef_names, typedef_stop, begins_typedef, ends_declaration, typedefs}
-use Rattle.cb_scan.proofs.WithinLemmas.{all-append, all-split}
+use Rattle.cb_scan.proofs.WithinLemmas.{all-append, all-split, found_among}
 
 -- the span of a token lies in the text
 abbrev pub SpanWithin : List ℕ → Token → Type 0
 SpanWithin text t = IsWithin text t.span
 
 -- ---- places in a list
--- the first element that passes is one of the list
-pub found_among : {X : Type 0} (Q : X → Type 0) (test : X → Bool) (xs : List X) → AllByRecursion Q xs
-    → MatchOption (find test xs) (Unit {0}) Q
-found_among Q test [] a = tt
-found_among Q test (x ∷ xs) a =
-    elim (test x) as (λ b. MatchOption (cond b (Some x) (find test xs)) (Unit {0}) Q)
-    [ true ↦ a.0 | false ↦ found_among Q test xs a.1 ]
-
 -- a range up to a bound stays below it
 pub range_below : (k n bound : ℕ) → k + n ≤ bound → AllByRecursion (λ j. j < bound) (range_with_len k n)
 range_below k zero bound le = tt

@@ -1,20 +1,22 @@
 -- What is found in a text lies in it.
 use Rattle.std.proofs.Common.{◌≤◌, ◌<◌, ℕ, zero, suc, Bool, true, false, List, [], ◌∷◌, ◌++◌, Option, Some, None, map, ◌+◌, sym, subst, arith, take, drop, length}
-use Rattle.std.specs.Prelude.{◌&&◌, ◌==◌, cond, not, filter}
-use Rattle.std.specs.List.{AllByRecursion, list_any, flat_map, slice_split, onto_first, range_with_len}
+use Rattle.std.specs.Prelude.{◌&&◌, ◌||◌, ◌==◌, cond, not, filter, find}
+use Rattle.std.specs.List.{AllByRecursion, flat_map, slice_split, onto_first, range_with_len}
 use Rattle.std.specs.Option.{option_map_or, MatchOption}
 use Rattle.std.proofs.lemmas.List.{map-append}
 use Rattle.cb_scan.specs.declared.lex.piece.Piece.{Piece}
 use Rattle.cb_scan.specs.declared.lex.token.Token.{Token}
 use Rattle.cb_scan.specs.rules.Code.{is_newline, is_directive, code, logical_lines}
 use Rattle.cb_scan.specs.Definitions.{IsWithin, function_def}
-use Rattle.cb_scan.specs.rules.Functions.{Function, called_name, may_define, head, function_from, function_at, functions, close_from}
+use Rattle.cb_scan.specs.rules.Functions.{function_at, function_from, functions, signature}
+use Rattle.cb_scan.specs.rules.Heads.{Signature, called_name, defined_name, head, may_define, signed}
+use Rattle.cb_scan.specs.rules.OldStyle.{is_declaration, is_opening, nearest_opening, old_signature, segments, semicolons_before}
 use Rattle.cb_scan.specs.rules.Depth.{depth, head_start, is_counted}
 use Rattle.cb_scan.specs.declared.facts.Def.{Def}
 use Rattle.cb_scan.specs.Lines.{IsLineOf}
 use Rattle.cb_scan.specs.steps.Cut.{pieces}
 use Rattle.cb_scan.specs.lex.Pieces.{LiesIn}
-use Rattle.cb_scan.specs.lex.Tokens.{tokens, token_of, is_significant, is_name_token, is_mark, is_static}
+use Rattle.cb_scan.specs.lex.Tokens.{tokens, token_of, is_significant, is_name_token, is_mark}
 use Rattle.cb_scan.proofs.LineTable.{line-within}
 
 -- each of a list of lists
@@ -97,6 +99,58 @@ called-among P (t ∷ u ∷ h) a =
     && is_mark 40 u.role) as (λ b. MatchOption (cond b (Some t) (called_name (u ∷ h))) (Unit {0}) P)
     [ true ↦ a.0 | false ↦ called-among P (u ∷ h) a.1 ]
 
+-- the first element that passes is one of the list
+pub found_among : {X : Type 0} (Q : X → Type 0) (test : X → Bool) (xs : List X) → AllByRecursion Q xs
+    → MatchOption (find test xs) (Unit {0}) Q
+found_among Q test [] a = tt
+found_among Q test (x ∷ xs) a =
+    elim (test x) as (λ b. MatchOption (cond b (Some x) (find test xs)) (Unit {0}) Q)
+    [ true ↦ a.0 | false ↦ found_among Q test xs a.1 ]
+
+-- the opening among some segments is one of them
+opening_among : (Q : List Token → Type 0) (ss : List (List Token)) → AllByRecursion Q ss
+    → MatchOption (nearest_opening ss) (Unit {0}) Q
+opening_among Q ss a =
+    elim (find (λ s. is_opening s || not (is_declaration s)) ss) as (λ o. MatchOption o (Unit {0}) Q
+    → MatchOption (option_map_or (λ s. cond (is_opening s) (Some s) None) o None) (Unit {0}) Q) [
+      | None ↦ λ q. tt
+      | Some s ↦ λ q. elim (is_opening s) as (λ b. MatchOption (cond b (Some s) None) (Unit {0}) Q)
+          [ true ↦ q | false ↦ tt ]
+    ] (found_among Q (λ s. is_opening s || not (is_declaration s)) ss a)
+
+-- the name of a function is a token of its head, or of a segment before it
+pub signature_among : (P : Token → Type 0) (ts : List Token) (k : ℕ) → AllByRecursion P (head ts k)
+    → AllOfAll P (segments ts k) → MatchOption (signature ts k) (Unit {0}) (λ s. P s.name)
+signature_among P ts k a b =
+    elim (head_start ts k == k) as (λ x. MatchOption
+    (cond x (old_signature ts k) (signed (head ts k) (defined_name (head ts k)))) (Unit {0}) (λ s. P s.name)) [
+      | true ↦ of_opening (nearest_opening (segments ts k)) (opening_among (AllByRecursion P) (segments ts k) b)
+      | false ↦ elim (may_define (head ts k)) as (λ x. MatchOption
+          (signed (head ts k) (cond x (called_name (head ts k)) None)) (Unit {0}) (λ s. P s.name)) [
+            | true ↦ of_name (head ts k) (called_name (head ts k)) (called-among P (head ts k) a)
+            | false ↦ tt
+          ]
+    ]
+  where
+    of_name : (h : List Token) (o : Option Token) → MatchOption o (Unit {0}) P
+        → MatchOption (signed h o) (Unit {0}) (λ s. P s.name)
+    of_name h None p = tt
+    of_name h (Some t) p = p
+
+    of_opening : (o : Option (List Token)) → MatchOption o (Unit {0}) (AllByRecursion P)
+        → MatchOption (option_map_or (λ s. signed s (called_name s)) o None) (Unit {0}) (λ s. P s.name)
+    of_opening None p = tt
+    of_opening (Some s) p = of_name s (called_name s) (called-among P s p)
+
+-- heads are parts of the code
+module _ (P : Token → Type 0) (ts : List Token) (a : AllByRecursion P ts) where
+  pub head_of_all : (k : ℕ) → AllByRecursion P (head ts k)
+  head_of_all k = all-drop P (head_start ts k) (take k ts) (all-take P k ts a)
+
+  pub heads_of_all : (ks : List ℕ) → AllOfAll P (map (head ts) ks)
+  heads_of_all [] = tt
+  heads_of_all (k ∷ ks) = (head_of_all k, heads_of_all ks)
+
 -- the name of a definition lies in the text, and its line is one of the text
 abbrev pub DefWithin : List ℕ → Def → Type 0
 DefWithin text d = IsWithin text d.name × IsLineOf text d.line
@@ -105,29 +159,15 @@ DefWithin text d = IsWithin text d.name × IsLineOf text d.line
 function-within : (text : List ℕ) (ts : List Token) (k : ℕ) → AllByRecursion (TokenWithin text) ts
     → AllByRecursion (DefWithin text) (map function_def (function_at ts k))
 function-within text ts k a =
-    elim (is_counted ts k && depth ts k == 0) as (λ b. AllByRecursion (DefWithin text)
-    (map function_def (cond b (function_from ts k (head ts k)) []))) [
-      | true ↦ elim (may_define (head ts k)) as (λ b. AllByRecursion (DefWithin text)
-          (map function_def (named (cond b (called_name (head ts k)) None)))) [
-            | true ↦ elim (called_name (head ts k)) as (λ o. MatchOption o (Unit {0}) (TokenWithin text)
-                → AllByRecursion (DefWithin text) (map function_def (named o))) [
-                  | None ↦ λ _. tt
-                  | Some t ↦ λ w. (((omega (arith, w.0), w.1), w.2), tt)
-                ] (called-among (TokenWithin text) (head ts k)
-                (all-drop (TokenWithin text) (head_start ts k) (take k ts) (all-take (TokenWithin text) k ts a)))
-            | false ↦ tt
-          ]
-      | false ↦ tt
-    ]
+    by_cases (is_counted ts k && depth ts k == 0) (signature ts k)
+    (signature_among (TokenWithin text) ts k (head_of_all (TokenWithin text) ts a k)
+    (heads_of_all (TokenWithin text) ts a (semicolons_before ts k)))
   where
-    named : Option Token → List Function
-    named o = option_map_or (λ name.
-        record {
-          name = name;
-          local = list_any (λ (t : Token). is_static t.role) (head ts k);
-          body = k;
-          end = close_from ts (suc k);
-        } ∷ []) o []
+    by_cases : (b : Bool) (o : Option Signature) → MatchOption o (Unit {0}) (λ s. TokenWithin text s.name)
+        → AllByRecursion (DefWithin text) (map function_def (cond b (function_from ts k o) []))
+    by_cases true None w = tt
+    by_cases true (Some s) w = (((omega (arith, w.0), w.1), w.2), tt)
+    by_cases false o w = tt
 
 functions-within : (text : List ℕ) (ts : List Token) (k n : ℕ) → AllByRecursion (TokenWithin text) ts
     → AllByRecursion (DefWithin text) (map function_def (flat_map (function_at ts) (range_with_len k n)))

@@ -13,14 +13,15 @@ use Rattle.cb_scan.specs.declared.lex.token.Token.{Token}
 use Rattle.cb_scan.specs.rules.Code.{code}
 use Rattle.cb_scan.specs.rules.Functions.{Function, functions}
 use Rattle.cb_scan.specs.Lines.{IsLineOf}
-use Rattle.cb_scan.specs.rules.Macros.{Macro, macros}
+use Rattle.cb_scan.specs.rules.Macros.{macro_names, macros}
 use Rattle.cb_scan.specs.Order.{call_key, def_key, in_order}
+use Rattle.cb_scan.specs.rules.Structures.{Structure, structures}
 use Rattle.cb_scan.specs.TextFacts.{TextFacts}
 use Rattle.cb_scan.specs.rules.Typedefs.{typedefs}
 use Rattle.cb_scan.specs.steps.Cut.{pieces}
 use Rattle.cb_scan.specs.rules.Uses.{function_calls, includes, macro_calls, uses}
 
--- a function, a macro and a name of a typedef as definitions
+-- a function, the name of a macro, a name of a typedef and a structure as definitions
 abbrev pub function_def : Function → Def
 function_def f = record {
   name = f.name.span;
@@ -29,18 +30,21 @@ function_def f = record {
   local = f.local;
 }
 
-abbrev pub macro_def : Macro → Def
-macro_def m = record { name = m.name.span; kind = kind.Macro; line = m.name.line; local = false }
+abbrev pub macro_def : Token → Def
+macro_def t = record { name = t.span; kind = kind.Macro; line = t.line; local = false }
 
 abbrev pub typedef_def : Token → Def
 typedef_def t = record { name = t.span; kind = kind.Typedef; line = t.line; local = false }
 
--- the definitions of a text with these pieces, by place, a function before a typedef at one place
+abbrev pub structure_def : Structure → Def
+structure_def s = record { name = s.name.span; kind = s.kind; line = s.name.line; local = false }
+
+-- the definitions of a text with these pieces, by place, and at one place by kind
 unfoldable pub definitions_from : List ℕ → List Piece → List Def
 definitions_from text ps =
     in_order def_key
-    (map function_def (functions (code text ps)) ++ map macro_def (macros text ps)
-    ++ map typedef_def (typedefs (code text ps)))
+    (map function_def (functions (code text ps)) ++ map macro_def (macro_names text ps)
+    ++ map typedef_def (typedefs (code text ps)) ++ map structure_def (structures (code text ps)))
 
 -- the calls of a text with these pieces, by place
 unfoldable pub calls : List ℕ → List Piece → List Call

@@ -7,7 +7,7 @@ use Rattle.cb_scan.specs.declared.facts.Call.{Call}
 use Rattle.cb_scan.specs.declared.facts.Def.{Def}
 use Rattle.cb_scan.specs.declared.facts.Include.{Include}
 use Rattle.cb_scan.specs.declared.facts.Kind.{Kind}
-use Rattle.cb_scan.specs.declared.facts.Kind.TheVariants.{Function, Macro, Typedef}
+use Rattle.cb_scan.specs.declared.facts.Kind.TheVariants.{Function, Macro, Typedef, Struct, Union, Enum}
 use Rattle.cb_scan.specs.declared.facts.Use.{Use}
 use Rattle.cb_scan.specs.TextFacts.{TextFacts}
 
@@ -25,11 +25,14 @@ unfoldable pub in_order : {X : Type 0} → (X → List ℕ) → List X → List 
 in_order key [] = []
 in_order key (x ∷ xs) = put key x (in_order key xs)
 
--- a function goes before a macro, and that before a typedef
+-- the kinds at one place: a function, a macro, a typedef, a structure, a union, an enumeration
 abbrev pub kind_rank : Kind → ℕ
 kind_rank Function = 0
 kind_rank Macro = 1
 kind_rank Typedef = 2
+kind_rank Struct = 3
+kind_rank Union = 4
+kind_rank Enum = 5
 
 -- definitions go by place, and at one place by kind; what is left of them makes no two equal in
 -- order

@@ -1,7 +1,10 @@
 pub mod Code
 pub mod Depth
 pub mod Functions
+pub mod Heads
 pub mod Macros
+pub mod OldStyle
 pub mod Scope
+pub mod Structures
 pub mod Typedefs
 pub mod Uses

@@ -1,8 +1,10 @@
 pub mod Cut
 pub mod Directives
 pub mod Functions
+pub mod Heads
 pub mod LineStarts
 pub mod Lined
 pub mod Quote
 pub mod Scopes
+pub mod Structures
 pub mod Typedefs

@@ -10,6 +10,9 @@ pub enum Kind {
     Function,
     Macro,
     Typedef,
+    Struct,
+    Union,
+    Enum,
 }
 
 /// A definition: the bytes of its name, its kind, the line of its name (from 1), and whether it is

@@ -4,6 +4,7 @@ ghost use Rattle.cb_scan.specs.declared.source.TheConstants.{MOST_BYTES};
 ghost use Rattle.std.specs.Option.{option_to_list};
 ghost use Rattle.cb_scan.specs.steps.Directives.{include_out, macro_call_out, macro_out, next_stage, range_finish, use_out};
 ghost use Rattle.cb_scan.specs.steps.Functions.{called, closed, found, left_open, next};
+ghost use Rattle.cb_scan.specs.steps.Structures.{next_naming, structure_found};
 ghost use Rattle.cb_scan.specs.steps.Typedefs.{nesting_of, next_declaration, next_pending, typedefs_out};
 
 use crate::facts::{Call, Def, Include};
@@ -11,18 +12,21 @@ use crate::lex::token::Token;
 use crate::rules::directives::Stage;
 use crate::rules::functions::Machine;
 use crate::rules::scope::Range;
+use crate::rules::structures::Naming;
 use crate::rules::typedefs::{Declaration, take_token};
 use std::alloc::{AllocError, Global};
 
-/// The state of the pass over the code: depth, head and body, and the typedef that is open.
+/// The state of the pass over the code: depth, head and body, the typedef that is open, and the
+/// structure whose name may have come.
 #[derive(Clone, Copy)]
 pub(crate) struct CodeState {
     pub machine: Machine,
     pub declared: Option<Declaration>,
+    pub naming: Naming,
 }
 
-/// What the code gives: its functions, their ranges and calls, and the names of its typedefs. The
-/// names of a typedef that is still open are held back.
+/// What the code gives: its functions, their ranges and calls, the names of its typedefs, and its
+/// structures, unions and enumerations. The names of a typedef that is still open are held back.
 #[derive(Drop)]
 pub(crate) struct CodeLists {
     pub functions: Vec<Def>,
@@ -30,6 +34,7 @@ pub(crate) struct CodeLists {
     pub calls: Vec<Call>,
     pub typedefs: Vec<Def>,
     pub pending: Vec<Token>,
+    pub structures: Vec<Def>,
 }
 
 /// What all lines give: the names that they use, and of directives the macros, their ranges and
@@ -52,6 +57,24 @@ fn push_some<T: Drop>(list: &mut Vec<T>, item: Option<T>) -> Result<(), AllocErr
     Ok(())
 }
 
+impl CodeState {
+    /// After a token of the code, with the typedef that is open after it. This takes no memory, so
+    /// that the state goes through no `Result`.
+    pub(crate) fn after(self, token: Token, declared: Option<Declaration>) -> CodeState
+        requires deep { self.machine.depth + 1 < 2 ^ 32 }
+        ensures machine { result.machine ≡ next self.machine token }
+        ensures declared { result.declared ≡ declared }
+        ensures naming { result.naming ≡ next_naming self.naming token }
+        ensures deep { result.machine.depth ≤ self.machine.depth + 1 }
+    {
+        CodeState {
+            machine: self.machine.next(token),
+            declared,
+            naming: self.naming.next(token),
+        }
+    }
+}
+
 impl CodeLists {
     pub(crate) fn new(alloc: Global) -> CodeLists
         ensures functions { result.functions.items ≡ [] }
@@ -59,6 +82,7 @@ impl CodeLists {
         ensures calls { result.calls.items ≡ [] }
         ensures typedefs { result.typedefs.items ≡ [] }
         ensures pending { result.pending.items ≡ [] }
+        ensures structures { result.structures.items ≡ [] }
     {
         CodeLists {
             functions: Vec::new(alloc),
@@ -66,18 +90,21 @@ impl CodeLists {
             calls: Vec::new(alloc),
             typedefs: Vec::new(alloc),
             pending: Vec::new(alloc),
+            structures: Vec::new(alloc),
         }
     }
 
-    /// A token of the code, in the state of the pass before it; gives the state after it.
-    pub(crate) fn add(&mut self, state: CodeState, token: Token) -> Result<CodeState, AllocError>
-        requires deep { state.machine.depth + 1 < 2 ^ 32 }
+    /// A token of the code, in the state of the pass before it; gives the typedef that is open after
+    /// it.
+    pub(crate) fn add(
+        &mut self,
+        state: CodeState,
+        token: Token,
+    ) -> Result<Option<Declaration>, AllocError>
         requires nested { nesting_of state.declared + 1 < 2 ^ 32 }
-        ensures machine { IfOk result (λ s. s.machine ≡ next state.machine token) }
         ensures declared { IfOk result
-            (λ s. s.declared ≡ next_declaration state.machine state.declared token) }
-        ensures deep { IfOk result (λ s. s.machine.depth ≤ state.machine.depth + 1) }
-        ensures nested { IfOk result (λ s. nesting_of s.declared ≤ nesting_of state.declared + 1) }
+            (λ d. d ≡ next_declaration state.machine state.declared token) }
+        ensures nested { IfOk result (λ d. nesting_of d ≤ nesting_of state.declared + 1) }
         ensures functions { IfOk result
             (λ _. self.new.functions.items ≡ self.old.functions.items
             ++ option_to_list (found state.machine token)) }
@@ -93,22 +120,22 @@ impl CodeLists {
         ensures typedefs { IfOk result
             (λ _. self.new.typedefs.items ≡ self.old.typedefs.items
             ++ typedefs_out state.machine state.declared self.old.pending.items token) }
+        ensures structures { IfOk result
+            (λ _. self.new.structures.items ≡ self.old.structures.items
+            ++ option_to_list (structure_found state.naming token)) }
     {
         let machine = state.machine;
         push_some(&mut self.functions, machine.found(token))?;
         push_some(&mut self.ranges, machine.closed(token))?;
         push_some(&mut self.calls, machine.called(token))?;
-        let declared = take_token(
+        push_some(&mut self.structures, state.naming.found(token))?;
+        take_token(
             machine,
             state.declared,
             token,
             &mut self.pending,
             &mut self.typedefs,
-        )?;
-        Ok(CodeState {
-            machine: machine.next(token),
-            declared,
-        })
+        )
     }
 
     /// The end of the text, in the state of the pass there.

@@ -5,11 +5,12 @@ ghost use Rattle.cb_scan.specs.declared.source.TheConstants.{MOST_BYTES};
 ghost use Rattle.std.specs.List.{flat_map};
 ghost use Rattle.cb_scan.specs.declared.lex.piece.Piece.{Piece};
 ghost use Rattle.cb_scan.specs.rules.Code.{code, directives, logical_lines};
-ghost use Rattle.cb_scan.specs.Definitions.{facts_from, facts_of, function_def, macro_def, typedef_def, AreWithin};
+ghost use Rattle.cb_scan.specs.Definitions.{facts_from, facts_of, function_def, macro_def, structure_def, typedef_def, AreWithin};
 ghost use Rattle.cb_scan.specs.rules.Functions.{functions};
-ghost use Rattle.cb_scan.specs.rules.Macros.{macros};
+ghost use Rattle.cb_scan.specs.rules.Macros.{macro_names, macros};
 ghost use Rattle.cb_scan.specs.lex.Pieces.{IsPieces};
 ghost use Rattle.cb_scan.specs.rules.Scope.{function_ranges, macro_ranges};
+ghost use Rattle.cb_scan.specs.rules.Structures.{structures};
 ghost use Rattle.cb_scan.specs.steps.Cut.{pieces};
 ghost use Rattle.cb_scan.specs.lex.Tokens.{is_significant};
 ghost use Rattle.cb_scan.specs.rules.Typedefs.{typedefs};
@@ -25,6 +26,7 @@ use crate::rules::directives::Stage;
 use crate::rules::functions::Machine;
 use crate::rules::order::{ordered_calls, ordered_defs};
 use crate::rules::scope::{Around, scoped_includes, scoped_uses};
+use crate::rules::structures::Naming;
 use crate::source::{ScanError, Source};
 use std::alloc::{AllocError, Global};
 
@@ -56,10 +58,13 @@ fn gather(alloc: Global, text: &[u8]) -> Result<Gathered, AllocError>
         (λ g. g.code.calls.items ≡ function_calls (code text.now (pieces text.now))) }
     ensures typedefs { IfOk result
         (λ g. g.code.typedefs.items ≡ map typedef_def (typedefs (code text.now (pieces text.now)))) }
+    ensures structures { IfOk result
+        (λ g. g.code.structures.items
+        ≡ map structure_def (structures (code text.now (pieces text.now)))) }
     ensures names { IfOk result
         (λ g. g.lines.names.items ≡ flat_map used (logical_lines text.now (pieces text.now))) }
     ensures macros { IfOk result
-        (λ g. g.lines.macros.items ≡ map macro_def (macros text.now (pieces text.now))) }
+        (λ g. g.lines.macros.items ≡ map macro_def (macro_names text.now (pieces text.now))) }
     ensures macro_ranges { IfOk result
         (λ g. g.lines.ranges.items ≡ macro_ranges text.now (pieces text.now)) }
     ensures macro_calls { IfOk result
@@ -74,6 +79,7 @@ fn gather(alloc: Global, text: &[u8]) -> Result<Gathered, AllocError>
     let mut state = CodeState {
         machine: Machine::start(),
         declared: None,
+        naming: Naming::Nothing,
     };
     for lined in lined_pieces(text) {
         if lined.piece.class == Class::Newline {
@@ -83,7 +89,8 @@ fn gather(alloc: Global, text: &[u8]) -> Result<Gathered, AllocError>
             let token = token_of(text, lined);
             line = lines.add(text, line, token)?;
             if line.is_code() {
-                state = code.add(state, token)?;
+                let declared = code.add(state, token)?;
+                state = state.after(token, declared);
             }
         }
     }
@@ -111,6 +118,7 @@ fn facts_in(alloc: Global, text: &[u8]) -> Result<Facts, AllocError>
         code.functions.as_slice(),
         lines.macros.as_slice(),
         code.typedefs.as_slice(),
+        code.structures.as_slice(),
     )?;
     let calls = ordered_calls(alloc, code.calls.as_slice(), lines.calls.as_slice())?;
     Ok(Facts::new(defs, uses, calls, includes))

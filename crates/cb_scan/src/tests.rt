@@ -8,9 +8,11 @@ mod macros;
 mod memory;
 mod meter;
 mod names;
+mod old_style;
 mod scopes;
 mod shown;
 mod sizes;
+mod structures;
 mod typedefs;
 mod uses;
 

@@ -2,7 +2,8 @@
 use Rattle.std.specs.Prelude.{◌≡◌, true, false, codes, refl}
 use Rattle.std.specs.Fmt.{digits}
 use Rattle.bstr.specs.Text.{lines_from, line_len}
-use Rattle.cb_scan.specs.declared.facts.Kind.TheVariants.{Function, Macro, Typedef}
+use Rattle.cb_scan.specs.declared.facts.Kind.{Kind}
+use Rattle.cb_scan.specs.declared.facts.Kind.TheVariants.{Function, Macro, Typedef, Struct, Union, Enum}
 use Rattle.cb_tags.specs.Addresses.{escape, address}
 use Rattle.cb_tags.specs.TagLines.{Tag, plain_line, extended_line, listing_line}
 use Rattle.cb_tags.specs.TagNames.{tag_name}
@@ -32,6 +33,10 @@ half = record { name = codes "HALF"; file = codes "m.h"; line = 1; text = codes 
 -- a typedef; `local` says nothing of it
 abbrev word : Tag
 word = record { name = codes "word"; file = codes "a.c"; line = 3; text = codes "\ttypedef int word;"; kind = Typedef; local = true }
+
+-- a structure, a union and an enumeration; `local` says nothing of them
+abbrev tagged : Kind → Tag
+tagged kind = record { name = codes "n"; file = codes "a.h"; line = 1; text = codes "n {"; kind = kind; local = true }
 
 -- only `/` and `\` are escaped
 pub escaped_text : escape half.text ≡ codes "#define HALF(x) (x\\/2) \\\\$"
@@ -67,6 +72,18 @@ extended_macro = refl
 pub extended_typedef : extended_line word ≡ codes "word\ta.c\t/^\ttypedef int word;$/;\"\tt\tline:3\n"
 unfolding writing
 extended_typedef = refl
+
+pub extended_structure : extended_line (tagged Struct) ≡ codes "n\ta.h\t/^n {$/;\"\ts\tline:1\n"
+unfolding writing
+extended_structure = refl
+
+pub extended_union : extended_line (tagged Union) ≡ codes "n\ta.h\t/^n {$/;\"\tu\tline:1\n"
+unfolding writing
+extended_union = refl
+
+pub extended_enumeration : extended_line (tagged Enum) ≡ codes "n\ta.h\t/^n {$/;\"\tg\tline:1\n"
+unfolding writing
+extended_enumeration = refl
 
 -- a listing shows the whole line, its first tab included
 pub listed_typedef : listing_line word ≡ codes "word 3 a.c \ttypedef int word;\n"

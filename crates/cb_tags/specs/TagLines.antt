@@ -1,7 +1,7 @@
 -- The lines of a tags file and of a listing.
 use Rattle.std.specs.Prelude.{ℕ, Bool, true, false, ◌&&◌, List, [], ◌++◌, codes, decimal, if◌then◌else◌}
 use Rattle.cb_scan.specs.declared.facts.Kind.{Kind}
-use Rattle.cb_scan.specs.declared.facts.Kind.TheVariants.{Function, Macro, Typedef}
+use Rattle.cb_scan.specs.declared.facts.Kind.TheVariants.{Function, Macro, Typedef, Struct, Union, Enum}
 use Rattle.cb_tags.specs.declared.row.TagRow.{TagRow}
 use Rattle.cb_tags.specs.Addresses.{address}
 use Rattle.cb_tags.specs.TagNames.{tag_name}
@@ -24,17 +24,23 @@ tag_of r = record { name = r.name.now; file = r.file.now; line = r.line; text = 
 abbrev pub plain_line : Tag → List ℕ
 plain_line t = tag_name t.name t.file ++ codes "\t" ++ t.file ++ codes "\t" ++ address t.text ++ codes "\n"
 
--- the letter of a kind (tags(5); this project's profile has three)
+-- the letter of a kind (tags(5); this project's profile has six)
 abbrev pub kind_letter : Kind → List ℕ
 kind_letter Function = codes "f"
 kind_letter Macro = codes "d"
 kind_letter Typedef = codes "t"
+kind_letter Struct = codes "s"
+kind_letter Union = codes "u"
+kind_letter Enum = codes "g"
 
 -- the kind of definition that may be seen by its file alone (this project's profile): a function
 abbrev pub is_function : Kind → Bool
 is_function Function = true
 is_function Macro = false
 is_function Typedef = false
+is_function Struct = false
+is_function Union = false
+is_function Enum = false
 
 -- the field of a definition that only its file sees (tags(5)): of a function that is `static`
 abbrev pub file_field : Tag → List ℕ

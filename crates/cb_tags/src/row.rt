@@ -68,6 +68,9 @@ fn kind_letter(kind: Kind) -> &'static [u8]
         Kind::Function => b"f",
         Kind::Macro => b"d",
         Kind::Typedef => b"t",
+        Kind::Struct => b"s",
+        Kind::Union => b"u",
+        Kind::Enum => b"g",
     }
 }
 

@@ -140,6 +140,24 @@ fn extended_lines(rt: HostRuntime) -> Result<(), Fail> {
             want.as_bytes()
         );
     }
+    for (kind, want) in [
+        (Kind::Struct, "n\ta.h\t/^n {$/;\"\ts\tline:1\n"),
+        (Kind::Union, "n\ta.h\t/^n {$/;\"\tu\tline:1\n"),
+        (Kind::Enum, "n\ta.h\t/^n {$/;\"\tg\tline:1\n"),
+    ] {
+        let row = TagRow {
+            name: b"n",
+            file: b"a.h",
+            line: 1,
+            text: b"n {",
+            kind,
+            local: true,
+        };
+        assert_eq!(rt;
+            written(rt.alloc(), Form::Extended, &row)?.as_slice(),
+            want.as_bytes()
+        );
+    }
     Ok(())
 }
 

@@ -2,14 +2,16 @@
 use Rattle.std.specs.Prelude.{◌≡◌, ℕ, Bool, true, false, List, [], ◌∷◌, codes, map, refl}
 use Rattle.cb_scan.specs.rules.Code.{code}
 use Rattle.cb_scan.specs.rules.Depth.{depth, head_start}
-use Rattle.cb_scan.specs.rules.Functions.{functions, ends_in_declarator, called_name}
+use Rattle.cb_scan.specs.rules.Functions.{functions}
+use Rattle.cb_scan.specs.rules.Heads.{ends_in_declarator, called_name}
+use Rattle.cb_scan.specs.rules.OldStyle.{after_called, lists_names}
 use Rattle.cb_scan.specs.examples.Pieces.{cutting}
 use Rattle.cb_scan.specs.lex.Reserved.{is_reserved, reserved_words}
 use Rattle.cb_scan.specs.steps.Cut.{pieces}
 use Rattle.cb_scan.specs.lex.Tokens.{bytes_of, word_of}
 
 -- the names of the functions of a text
-abbrev names : List ℕ → List (List ℕ)
+abbrev pub names : List ℕ → List (List ℕ)
 names text = map (λ f. bytes_of text f.name.span) (functions (code text (pieces text)))
 
 -- the lines of their names
@@ -17,16 +19,17 @@ abbrev lines_of_names : List ℕ → List ℕ
 lines_of_names text = map (λ f. f.name.line) (functions (code text (pieces text)))
 
 -- which of them are static
-abbrev statics : List ℕ → List Bool
+abbrev pub statics : List ℕ → List Bool
 statics text = map (λ f. f.local) (functions (code text (pieces text)))
 
 -- the indices of the tokens that end their bodies
-abbrev ends : List ℕ → List ℕ
+abbrev pub ends : List ℕ → List ℕ
 ends text = map (λ f. f.end) (functions (code text (pieces text)))
 
 -- `unfolding finding` opens how functions are found
 unfoldable pub finding : Unit {0}
-unfolding cutting depth head_start ends_in_declarator called_name is_reserved reserved_words word_of
+unfolding cutting depth head_start ends_in_declarator called_name after_called lists_names is_reserved
+    reserved_words word_of
 finding = tt
 
 -- the `{` after `extern` and a string doesn't count, so `f` is at depth 0
@@ -71,11 +74,6 @@ typedef_head = refl
 pub equals_in_head : names (codes "int x = f(1) {") ≡ []
 unfolding finding
 equals_in_head = refl
-
--- the `;` is a stop, so the head is empty: old style definitions aren't found
-pub old_style : names (codes "int f(a) int a; {") ≡ []
-unfolding finding
-old_style = refl
 
 -- no name is directly followed by `(`
 pub in_parentheses : names (codes "int (f)(int a) {") ≡ []

@@ -1,14 +1,24 @@
--- The macros with arguments of short texts, computed.
+-- The macros of short texts, computed.
 use Rattle.std.specs.Prelude.{◌≡◌, ℕ, List, [], ◌∷◌, codes, map, refl}
+use Rattle.std.specs.List.{flat_map}
 use Rattle.cb_scan.specs.examples.Functions.{finding}
-use Rattle.cb_scan.specs.rules.Macros.{after_arguments, macros}
+use Rattle.cb_scan.specs.rules.Macros.{after_arguments, macro_names, macros, plain_macro_of}
+use Rattle.cb_scan.specs.rules.Code.{directives}
 use Rattle.cb_scan.specs.rules.Scope.{macro_ranges}
 use Rattle.cb_scan.specs.lex.Tokens.{bytes_of}
 use Rattle.cb_scan.specs.steps.Cut.{pieces}
 
--- the names of the macros
+-- the names of the macros with arguments
 abbrev names : List ℕ → List (List ℕ)
 names text = map (λ m. bytes_of text m.name.span) (macros text (pieces text))
+
+-- the names of those without
+abbrev plain_names : List ℕ → List (List ℕ)
+plain_names text = map (λ t. bytes_of text t.span) (flat_map plain_macro_of (directives text (pieces text)))
+
+-- the names of both
+abbrev all_names : List ℕ → List (List ℕ)
+all_names text = map (λ t. bytes_of text t.span) (macro_names text (pieces text))
 
 -- the tokens of their bodies
 abbrev bodies : List ℕ → List (List (List ℕ))
@@ -66,3 +76,41 @@ range_after_comment = refl
 pub range_at_end : ends (codes "#define F() a ") ≡ 14 ∷ []
 unfolding expanding
 range_at_end = refl
+
+-- ---- without arguments
+pub plain : plain_names (codes "#define F 1\n#define G\n") ≡ codes "F" ∷ codes "G" ∷ []
+unfolding expanding
+plain = refl
+
+-- a `(` that does not begin where the name ends opens no arguments
+pub plain_before_paren : plain_names (codes "#define F (x)\n") ≡ codes "F" ∷ []
+unfolding expanding
+plain_before_paren = refl
+
+pub plain_before_join : plain_names (codes "#define F\\\n(x)\n") ≡ codes "F" ∷ []
+unfolding expanding
+plain_before_join = refl
+
+pub not_plain : plain_names (codes "#define F(x) 1\n") ≡ []
+unfolding expanding
+not_plain = refl
+
+-- neither a reserved word nor a number is a name
+pub plain_reserved : plain_names (codes "#define if 1\n#define 1 F\n#define") ≡ []
+unfolding expanding
+plain_reserved = refl
+
+pub other_directive : plain_names (codes "#undef F\ndefine G") ≡ []
+unfolding expanding
+other_directive = refl
+
+-- by place, and none twice
+pub both_sorts : all_names (codes "#define F 1\n#define G(x) x\n#define H")
+    ≡ codes "F" ∷ codes "G" ∷ codes "H" ∷ []
+unfolding expanding
+both_sorts = refl
+
+-- it has no range
+pub no_range : ends (codes "#define F 1\n") ≡ []
+unfolding expanding
+no_range = refl

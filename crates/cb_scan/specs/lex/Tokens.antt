@@ -9,7 +9,7 @@ use Rattle.cb_scan.specs.declared.lex.token.Token.{Token}
 use Rattle.cb_scan.specs.declared.lex.token.Role.{Role}
 use Rattle.cb_scan.specs.declared.lex.token.Role.TheVariants.{Word, Mark, Str, Other}
 use Rattle.cb_scan.specs.declared.lex.token.WordKind.{WordKind}
-use Rattle.cb_scan.specs.declared.lex.token.WordKind.TheVariants.{Name, Define, Include, Typedef, Extern, Static, Reserved}
+use Rattle.cb_scan.specs.declared.lex.token.WordKind.TheVariants.{Name, Define, Include, Typedef, Extern, Static, Struct, Union, Enum, Reserved}
 use Rattle.cb_scan.specs.Lines.{line_of}
 use Rattle.cb_scan.specs.lex.Reserved.{is_reserved}
 use Rattle.cb_scan.specs.Bytes.{line_feed}
@@ -36,7 +36,7 @@ abbrev pub name_kind : List ℕ → WordKind
 name_kind bytes = if bytes_eq bytes (codes "define") then Define
     else (if bytes_eq bytes (codes "include") then Include else Name)
 
--- a name, two of which mean something as the own word of a directive; or a reserved word, three of
+-- a name, two of which mean something as the own word of a directive; or a reserved word, six of
 -- which a rule asks for
 unfoldable pub word_of : List ℕ → WordKind
 word_of bytes =
@@ -44,7 +44,10 @@ word_of bytes =
     else (if bytes_eq bytes (codes "typedef") then Typedef
     else (if bytes_eq bytes (codes "extern") then Extern
     else (if bytes_eq bytes (codes "static") then Static
-    else Reserved)))
+    else (if bytes_eq bytes (codes "struct") then Struct
+    else (if bytes_eq bytes (codes "union") then Union
+    else (if bytes_eq bytes (codes "enum") then Enum
+    else Reserved))))))
 
 -- what a piece is for the rules
 abbrev pub role_by : Class → List ℕ → Span → Role

@@ -4,7 +4,6 @@ use Rattle.std.specs.Option.{option_to_list}
 use Rattle.cb_scan.specs.declared.facts.Call.{Call}
 use Rattle.cb_scan.specs.declared.facts.Def.{Def}
 use Rattle.cb_scan.specs.declared.facts.Include.{Include}
-use Rattle.cb_scan.specs.declared.facts.Kind.TheVariants as kind
 use Rattle.cb_scan.specs.declared.rules.directives.Defining.{Defining}
 use Rattle.cb_scan.specs.declared.rules.directives.Defining.TheVariants as defining
 use Rattle.cb_scan.specs.declared.rules.directives.Directive.{Directive}
@@ -16,6 +15,7 @@ use Rattle.cb_scan.specs.declared.rules.directives.Stage.TheVariants.{Start, Cod
 use Rattle.cb_scan.specs.declared.lex.lined.Lined.{Lined}
 use Rattle.cb_scan.specs.declared.rules.scope.Range.{Range}
 use Rattle.cb_scan.specs.declared.lex.token.Token.{Token}
+use Rattle.cb_scan.specs.Definitions.{macro_def}
 use Rattle.cb_scan.specs.rules.Code.{is_newline}
 use Rattle.cb_scan.specs.lex.Tokens.{has_kind, is_mark, is_name_token, is_significant, is_str, kind_is_define, kind_is_include, role_of, starts_line}
 use Rattle.cb_scan.specs.rules.Uses.{call_of, header_between, header_of, is_call}
@@ -117,16 +117,13 @@ names_count (InDirective directive.Other) = true
 abbrev pub use_out : Stage → Token → List Token
 use_out s t = if is_name_token t.role && names_count s then t ∷ [] else []
 
--- the macro of that name, if the token opens its arguments
-abbrev pub macro_opened : Defining → Token → Option Def
-macro_opened (defining.Name name) t =
-    if opens_arguments name t
-    then Some (record { name = name.span; kind = kind.Macro; line = name.line; local = false })
-    else None
-macro_opened _ t = None
+-- the macro that the token names, if it names one
+abbrev pub macro_named : Defining → Token → Option Def
+macro_named defining.Begun t = if is_name_token t.role then Some (macro_def t) else None
+macro_named _ t = None
 
 abbrev pub macro_found : Stage → Token → Option Def
-macro_found (InDirective (directive.Define d)) t = macro_opened d t
+macro_found (InDirective (directive.Define d)) t = macro_named d t
 macro_found _ t = None
 
 abbrev pub macro_out : Stage → Token → List Def

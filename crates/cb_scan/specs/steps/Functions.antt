@@ -3,8 +3,6 @@ use Rattle.std.specs.Prelude.{ℕ, Bool, true, false, ◌&&◌, ◌||◌, ◌==�
 use Rattle.std.specs.Option.{option_map, option_to_list, is_none}
 use Rattle.cb_scan.specs.declared.facts.Call.{Call}
 use Rattle.cb_scan.specs.declared.facts.Def.{Def}
-use Rattle.cb_scan.specs.declared.facts.Kind.TheVariants as kind
-use Rattle.cb_scan.specs.declared.rules.functions.Head.{Head}
 use Rattle.cb_scan.specs.declared.rules.functions.Machine.{Machine}
 use Rattle.cb_scan.specs.declared.rules.functions.Before.{Before}
 use Rattle.cb_scan.specs.declared.rules.functions.Before.TheVariants.{Anything, Extern, Linkage}
@@ -12,46 +10,10 @@ use Rattle.cb_scan.specs.declared.lex.piece.Span.{Span}
 use Rattle.cb_scan.specs.declared.rules.scope.Range.{Range}
 use Rattle.cb_scan.specs.declared.lex.token.Token.{Token}
 use Rattle.cb_scan.specs.rules.Uses.{call_of, is_call}
-use Rattle.cb_scan.specs.lex.Tokens.{is_mark, is_name_token, is_typedef, is_static, is_extern, is_str}
+use Rattle.cb_scan.specs.lex.Tokens.{is_mark, is_extern, is_str}
 use Rattle.cb_scan.specs.rules.Depth.{depth_after}
-use Rattle.cb_scan.specs.Bytes.{close_brace, close_paren, equals, open_brace, open_paren, semicolon}
-
--- no token since the last stop
-abbrev pub empty_head : Head
-empty_head = record {
-  last = None;
-  begins_with_typedef = false;
-  has_equals = false;
-  has_static = false;
-  called = None;
-}
-
--- the first called name so far, after one more token
-abbrev pub called_after : Option Token → Option Token → Token → Option Token
-called_after (Some name) last t = Some name
-called_after None (Some name) t =
-    if is_name_token name.role && is_mark open_paren t.role then Some name else None
-called_after None None t = None
-
--- one more token of the head
-abbrev pub add : Head → Token → Head
-add h t = record {
-  last = Some t;
-  begins_with_typedef = if is_none h.last then is_typedef t.role else h.begins_with_typedef;
-  has_equals = h.has_equals || is_mark equals t.role;
-  has_static = h.has_static || is_static t.role;
-  called = called_after h.called h.last t;
-}
-
--- the last token may end the head of a function
-abbrev pub may_end : Option Token → Bool
-may_end None = false
-may_end (Some t) = is_mark close_paren t.role || is_name_token t.role
-
--- the name that the head defines
-abbrev pub defined : Head → Option Token
-defined h = if not h.begins_with_typedef && not h.has_equals && may_end h.last then h.called
-    else None
+use Rattle.cb_scan.specs.steps.Heads.{add, defined, empty_head, next_opened}
+use Rattle.cb_scan.specs.Bytes.{close_brace, open_brace, semicolon}
 
 -- `extern` is directly before
 abbrev pub is_after_extern : Before → Bool
@@ -70,7 +32,7 @@ before_after b t = if is_extern t.role then Extern
 
 -- the beginning of the code
 abbrev pub start : Machine
-start = record { depth = 0; before = Anything; head = empty_head; body = None }
+start = record { depth = 0; before = Anything; head = empty_head; opened = None; body = None }
 
 -- the token is a `{` that counts
 abbrev pub counts : Machine → Token → Bool
@@ -86,24 +48,25 @@ stops m t = (is_mark semicolon t.role && m.depth == 0)
     || (is_mark close_brace t.role && next_depth m t == 0)
     || (is_mark open_brace t.role && is_after_linkage m.before)
 
--- the definition of a function of that name
-abbrev pub def_of : Bool → Token → Def
-def_of local name = record {
-  name = name.span;
-  kind = kind.Function;
-  line = name.line;
-  local = local;
-}
+-- the function that a `{` opens here: that of the head, or where it is empty one in the old style
+abbrev pub function_here : Machine → Option Def
+function_here m = if is_none m.head.last then m.opened else defined m.head
 
 -- the function whose `{` is the token, if one is
 abbrev pub found : Machine → Token → Option Def
-found m t = if counts m t && m.depth == 0
-    then option_map (def_of m.head.has_static) (defined m.head) else None
+found m t = if counts m t && m.depth == 0 then function_here m else None
 
 -- the name of the function whose body the next token is in
 abbrev pub next_body : Machine → Token → Option Span
 next_body m t = if m.depth == 0 then option_map (λ (d : Def). d.name) (found m t)
     else (if next_depth m t == 0 then None else m.body)
+
+-- the function in the old style that is open after the token: a `;` that is a stop may open one, and
+-- every other stop ends it
+abbrev pub next_open : Machine → Token → Option Def
+next_open m t =
+    if stops m t then (if is_mark semicolon t.role then next_opened m.head m.opened else None)
+    else m.opened
 
 -- the state after the token
 unfoldable pub next : Machine → Token → Machine
@@ -111,6 +74,7 @@ next m t = record {
   depth = next_depth m t;
   before = before_after m.before t;
   head = if stops m t then empty_head else add m.head t;
+  opened = next_open m t;
   body = next_body m t;
 }
 

@@ -1,7 +1,7 @@
 //! Tokens: the pieces that the rules on definitions speak of, each with what it is for them.
 ghost use Rattle.std.specs.Prelude.{◌≡◌, ◌≤◌, ◌<◌, length};
 ghost use Rattle.std.specs.Str.{bytes_eq};
-ghost use Rattle.cb_scan.specs.lex.Tokens.{is_mark, is_name_token, is_static, is_typedef, name_kind, role_of, starts_line, word_of};
+ghost use Rattle.cb_scan.specs.lex.Tokens.{is_any_word, is_mark, is_name_token, is_static, is_typedef, name_kind, role_of, starts_line, word_of};
 ghost use Rattle.cb_scan.specs.steps.Lined.{Within};
 ghost use Rattle.cb_scan.specs.steps.Directives.{lined_token};
 
@@ -10,7 +10,7 @@ use crate::lex::name::is_reserved;
 use crate::lex::piece::{Class, Piece, Span};
 
 /// A `Name` piece: a name, two of which mean something as the own word of a directive; or a
-/// reserved word, three of which a rule asks for.
+/// reserved word, six of which a rule asks for.
 #[derive(Clone, Copy, Debug, PartialEq, Eq)]
 pub(crate) enum WordKind {
     Name,
@@ -19,6 +19,9 @@ pub(crate) enum WordKind {
     Typedef,
     Extern,
     Static,
+    Struct,
+    Union,
+    Enum,
     Reserved,
 }
 
@@ -70,6 +73,12 @@ fn word_of(word: &[u8]) -> WordKind
         WordKind::Extern
     } else if is_same(word, b"static") {
         WordKind::Static
+    } else if is_same(word, b"struct") {
+        WordKind::Struct
+    } else if is_same(word, b"union") {
+        WordKind::Union
+    } else if is_same(word, b"enum") {
+        WordKind::Enum
     } else {
         WordKind::Reserved
     }
@@ -119,6 +128,13 @@ impl Token {
             self.role,
             Role::Word(WordKind::Name | WordKind::Define | WordKind::Include)
         )
+    }
+
+    /// A word, reserved or not.
+    pub(crate) fn is_word(self) -> bool
+        ensures { result ≡ is_any_word self.role }
+    {
+        matches!(self.role, Role::Word(_))
     }
 
     pub(crate) fn is_typedef(self) -> bool

@@ -3,7 +3,7 @@ ghost use Rattle.std.specs.Prelude.{◌≡◌, ◌≤◌, ◌<◌, ◌&&◌, len
 ghost use Rattle.cb_scan.specs.declared.source.TheConstants.{MOST_BYTES};
 ghost use Rattle.std.specs.Option.{option_to_list};
 ghost use Rattle.cb_scan.specs.lex.Tokens.{is_name_token};
-ghost use Rattle.cb_scan.specs.steps.Directives.{body_call, directive_of, header_found, include_out, is_code, macro_call, macro_ended, macro_found, macro_opened, names_count, next_defining, next_directive, next_including, next_stage, opens_arguments, range_ended};
+ghost use Rattle.cb_scan.specs.steps.Directives.{body_call, directive_of, header_found, include_out, is_code, macro_call, macro_ended, macro_found, macro_named, names_count, next_defining, next_directive, next_including, next_stage, opens_arguments, range_ended};
 
 use crate::facts::{Call, Def, Include, Kind};
 use crate::lex::piece::Span;
@@ -83,15 +83,15 @@ impl Defining {
         }
     }
 
-    /// The macro whose arguments the next token opens, if it opens some.
-    fn opened(self, token: Token) -> Option<Def>
-        ensures { result ≡ macro_opened self token }
+    /// The macro that the next token names, with arguments or without, if it names one.
+    fn named(self, token: Token) -> Option<Def>
+        ensures { result ≡ macro_named self token }
     {
         match self {
-            Defining::Name(name) if opens_arguments(name, token) => Some(Def {
-                name: name.span,
+            Defining::Begun if token.is_name() => Some(Def {
+                name: token.span,
                 kind: Kind::Macro,
-                line: name.line,
+                line: token.line,
                 local: false,
             }),
             _ => None,
@@ -207,12 +207,12 @@ impl Stage {
             )
     }
 
-    /// The macro whose arguments the next token opens, if it opens some.
+    /// The macro that the next token names, with arguments or without, if it names one.
     pub(crate) fn macro_found(self, token: Token) -> Option<Def>
         ensures { result ≡ macro_found self token }
     {
         match self {
-            Stage::Directive(Directive::Define(define)) => define.opened(token),
+            Stage::Directive(Directive::Define(define)) => define.named(token),
             _ => None,
         }
     }

@@ -1,21 +1,12 @@
 //! The one pass that finds functions: a small state that every token of the code moves.
 ghost use Rattle.std.specs.Prelude.{◌≡◌, ◌+◌, ◌<◌, ◌≤◌, ◌^◌};
-ghost use Rattle.cb_scan.specs.steps.Functions.{add, before_after, called, called_after, closed, counts, defined, empty_head, found, left_open, next, next_body, next_depth, start, stops};
+ghost use Rattle.cb_scan.specs.steps.Functions.{before_after, called, closed, counts, found, left_open, next, next_body, next_depth, next_open, start, stops};
 
-use crate::facts::{Call, Def, Kind};
+use crate::facts::{Call, Def};
 use crate::lex::piece::Span;
 use crate::lex::token::{Role, Token, WordKind};
+use crate::rules::heads::Head;
 use crate::rules::scope::Range;
-
-/// The tokens since the last stop, as far as the rule on functions asks.
-#[derive(Clone, Copy)]
-pub(crate) struct Head {
-    pub(crate) last: Option<Token>,
-    begins_with_typedef: bool,
-    has_equals: bool,
-    has_static: bool,
-    called: Option<Token>,
-}
 
 /// What is directly before a token: `extern`, `extern` and a string, or anything else.
 #[derive(Clone, Copy)]
@@ -25,25 +16,15 @@ pub(crate) enum Before {
     Linkage,
 }
 
-/// The state of the pass: the depth in braces, what is directly before, the head so far, and the
-/// name of the function whose body it is in.
+/// The state of the pass: the depth in braces, what is directly before, the head so far, the function
+/// in the old style that is open before it, and the name of the function whose body it is in.
 #[derive(Clone, Copy)]
 pub(crate) struct Machine {
     pub(crate) depth: u32,
     before: Before,
     pub(crate) head: Head,
+    opened: Option<Def>,
     body: Option<Span>,
-}
-
-/// The first called name so far, after one more token.
-fn called_after(called: Option<Token>, last: Option<Token>, token: Token) -> Option<Token>
-    ensures { result ≡ called_after called last token }
-{
-    match (called, last) {
-        (Some(name), _) => Some(name),
-        (None, Some(name)) if name.is_name() && token.is_mark(b'(') => Some(name),
-        _ => None,
-    }
 }
 
 /// What is directly before the token after this one.
@@ -57,49 +38,6 @@ fn before_after(before: Before, token: Token) -> Before
     }
 }
 
-impl Head {
-    fn new() -> Head
-        ensures { result ≡ empty_head }
-    {
-        Head {
-            last: None,
-            begins_with_typedef: false,
-            has_equals: false,
-            has_static: false,
-            called: None,
-        }
-    }
-
-    fn add(self, token: Token) -> Head
-        ensures { result ≡ add self token }
-    {
-        Head {
-            last: Some(token),
-            begins_with_typedef: if self.last.is_none() {
-                token.is_typedef()
-            } else {
-                self.begins_with_typedef
-            },
-            has_equals: self.has_equals || token.is_mark(b'='),
-            has_static: self.has_static || token.is_static(),
-            called: called_after(self.called, self.last, token),
-        }
-    }
-
-    /// The name that the head defines, if it is that of a function.
-    fn defined(self) -> Option<Token>
-        ensures { result ≡ defined self }
-    {
-        match self.last {
-            Some(last)
-                if !self.begins_with_typedef
-                    && !self.has_equals
-                    && (last.is_mark(b')') || last.is_name()) => self.called,
-            _ => None,
-        }
-    }
-}
-
 impl Machine {
     /// The beginning of the code.
     pub(crate) fn start() -> Machine
@@ -109,6 +47,7 @@ impl Machine {
             depth: 0,
             before: Before::Anything,
             head: Head::new(),
+            opened: None,
             body: None,
         }
     }
@@ -161,6 +100,21 @@ impl Machine {
         if after == 0 { None } else { self.body }
     }
 
+    /// The function in the old style that is open after a token: a `;` that is a stop may open one,
+    /// and every other stop ends it.
+    fn next_open(self, token: Token, is_stop: bool) -> Option<Def>
+        requires { is_stop ≡ stops self token }
+        ensures { result ≡ next_open self token }
+    {
+        if !is_stop {
+            self.opened
+        } else if token.is_mark(b';') {
+            self.head.next_opened(self.opened)
+        } else {
+            None
+        }
+    }
+
     /// The state after a token of the code.
     #[tactic(auto, unfolding(crate::specs::steps::Functions::next))]
     pub(crate) fn next(self, token: Token) -> Machine
@@ -169,14 +123,16 @@ impl Machine {
         ensures small { result.depth ≤ self.depth + 1 }
     {
         let depth = self.next_depth(token);
+        let is_stop = self.stops(token, depth);
         Machine {
             depth,
             before: before_after(self.before, token),
-            head: if self.stops(token, depth) {
+            head: if is_stop {
                 Head::new()
             } else {
                 self.head.add(token)
             },
+            opened: self.next_open(token, is_stop),
             body: self.next_body(token, depth),
         }
     }
@@ -188,13 +144,10 @@ impl Machine {
         if self.depth != 0 || !self.counts(token) {
             return None;
         }
-        let name = self.head.defined()?;
-        Some(Def {
-            name: name.span,
-            kind: Kind::Function,
-            line: name.line,
-            local: self.head.has_static,
-        })
+        if self.head.last.is_none() {
+            return self.opened;
+        }
+        self.head.defined()
     }
 
     /// The range of the function whose body the token ends, if it ends one.

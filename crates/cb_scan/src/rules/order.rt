@@ -12,6 +12,9 @@ fn kind_rank(kind: Kind) -> u32
         Kind::Function => 0,
         Kind::Macro => 1,
         Kind::Typedef => 2,
+        Kind::Struct => 3,
+        Kind::Union => 4,
+        Kind::Enum => 5,
     }
 }
 
@@ -42,7 +45,7 @@ fn call_key(call: &Call) -> [u32; 5]
     ]
 }
 
-/// Puts definitions in the order of their places, a function before a typedef at one place.
+/// Puts definitions in the order of their places, and at one place in that of their kinds.
 fn order_defs(defs: &mut [Def])
     ensures { defs.new ≡ in_order def_key defs.old }
 {
@@ -64,35 +67,39 @@ fn order_calls(calls: &mut [Call])
     );
 }
 
-/// Three lists, one after the other, at their exact size.
+/// Four lists, one after the other, at their exact size.
 fn joined<T: Copy>(
     alloc: Global,
     first: &[T],
     second: &[T],
     third: &[T],
+    fourth: &[T],
 ) -> Result<Vec<T>, AllocError>
-    requires { length first.now + length second.now + length third.now < 2 ^ 64 }
-    ensures { IfOk result (λ all. all.items ≡ first.now ++ second.now ++ third.now) }
+    requires { length first.now + length second.now + length third.now + length fourth.now < 2 ^ 64 }
+    ensures { IfOk result (λ all. all.items ≡ first.now ++ second.now ++ third.now ++ fourth.now) }
 {
-    let mut all = Vec::with_capacity(alloc, first.len() + second.len() + third.len())?;
+    let count = first.len() + second.len() + third.len() + fourth.len();
+    let mut all = Vec::with_capacity(alloc, count)?;
     all.extend_from_slice(first)?;
     all.extend_from_slice(second)?;
     all.extend_from_slice(third)?;
+    all.extend_from_slice(fourth)?;
     Ok(all)
 }
 
-/// Functions, macros and typedefs in the order of their places, a function before a typedef at one
-/// place.
+/// Functions, macros, typedefs and structures in the order of their places, and at one place in that
+/// of their kinds.
 pub(crate) fn ordered_defs(
     alloc: Global,
     functions: &[Def],
     macros: &[Def],
     typedefs: &[Def],
+    structures: &[Def],
 ) -> Result<Vec<Def>, AllocError>
     ensures { IfOk result (λ defs. defs.items
-        ≡ in_order def_key (functions.now ++ macros.now ++ typedefs.now)) }
+        ≡ in_order def_key (functions.now ++ macros.now ++ typedefs.now ++ structures.now)) }
 {
-    let mut defs = joined(alloc, functions, macros, typedefs)?;
+    let mut defs = joined(alloc, functions, macros, typedefs, structures)?;
     order_defs(defs.as_mut_slice());
     Ok(defs)
 }
@@ -105,7 +112,7 @@ pub(crate) fn ordered_calls(
 ) -> Result<Vec<Call>, AllocError>
     ensures { IfOk result (λ calls. calls.items ≡ in_order call_key (functions.now ++ macros.now)) }
 {
-    let mut calls = joined(alloc, functions, macros, &[])?;
+    let mut calls = joined(alloc, functions, macros, &[], &[])?;
     order_calls(calls.as_mut_slice());
     Ok(calls)
 }

@@ -61,7 +61,7 @@ fn finds_the_functions_of_short_texts(rt: HostRuntime) -> Result<(), Fail> {
         ),
         ("typedef int f(a) { } g() { }", "g 1;"),
         ("int x = f(1) { } ; g() { }", "g 1;"),
-        ("int f(a) int a; { return a; }", ""),
+        ("int f(a) int a; { return a; }", "f 1;"),
         ("FOO(x) int f(void) { } BAR g() { }", "FOO 1;g 1;"),
         ("__attribute__((x)) f() { }", "f 1;"),
         ("int (f)(void) { } struct s { } int g() const { }", ""),

@@ -9,8 +9,9 @@ use std::fmt::Write;
 use std::test::Fail;
 
 /// The facts of a text, each with `;` after it: `f f 4 static;` is a definition, with the kind as
-/// tags(5) has it (`f` function, `d` macro, `t` typedef) and the line; `a 5 f;` a use or a call on
-/// line 5 with its scope or caller, `-` for none; `[a.h] 1 -;` an include.
+/// tags(5) has it (`f` function, `d` macro, `t` typedef, `s` structure, `u` union, `g` enumeration)
+/// and the line; `a 5 f;` a use or a call on line 5 with its scope or caller, `-` for none;
+/// `[a.h] 1 -;` an include.
 #[derive(Debug, Drop)]
 pub(crate) struct Shown {
     pub defs: String,
@@ -43,6 +44,9 @@ pub(crate) fn show(alloc: Global, text: &str) -> Result<Shown, Fail> {
             Kind::Function => "f",
             Kind::Macro => "d",
             Kind::Typedef => "t",
+            Kind::Struct => "s",
+            Kind::Union => "u",
+            Kind::Enum => "g",
         };
         let local = if def.local { " static" } else { "" };
         let name = spelled(&source, def.name)?;

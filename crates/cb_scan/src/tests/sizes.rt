@@ -36,8 +36,8 @@ fn lists_of_facts_have_their_exact_size(rt: HostRuntime) -> Result<(), Fail> {
         functions: &[],
         macros: &[],
     };
-    let defs = ordered_defs(rt.alloc(), &[def, def], &[def], &[def, def])?;
-    assert_eq!(rt; (defs.len(), defs.capacity()), (5, 5));
+    let defs = ordered_defs(rt.alloc(), &[def, def], &[def], &[def, def], &[def; 3])?;
+    assert_eq!(rt; (defs.len(), defs.capacity()), (8, 8));
     let calls = ordered_calls(rt.alloc(), &[call; 6], &[call])?;
     assert_eq!(rt; (calls.len(), calls.capacity()), (7, 7));
     let uses = scoped_uses(rt.alloc(), &[name; 9], around)?;

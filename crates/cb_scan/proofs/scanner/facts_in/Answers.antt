@@ -18,13 +18,13 @@ returns c =
     let defs_are : c.in_ok-defs.defs.items ≡ definitions text =
     c.in_ok-defs.ensures ∙ (λ i. in_order def_key
     ((c.as_slice-5.ensures.value ∙ g.functions) i ++ (c.as_slice-6.ensures.value ∙ g.macros) i
-    ++ (c.as_slice-7.ensures.value ∙ g.typedefs) i)) in
+    ++ (c.as_slice-7.ensures.value ∙ g.typedefs) i ++ (c.as_slice-8.ensures.value ∙ g.structures) i)) in
     let uses_are : c.in_ok-uses.uses.items ≡ uses text (pieces text) =
     c.in_ok-uses.ensures ∙ (λ i. scoped token_place use_of (functions_are i) (macros_are i)
     ((c.as_slice-3.ensures.value ∙ g.names) i)) ∙ uses_scoped text in
     let calls_are : c.in_ok-calls.calls.items ≡ calls text (pieces text) =
     c.in_ok-calls.ensures ∙ (λ i. in_order call_key
-    ((c.as_slice-8.ensures.value ∙ g.function_calls) i ++ (c.as_slice-9.ensures.value ∙ g.macro_calls) i)) in
+    ((c.as_slice-9.ensures.value ∙ g.function_calls) i ++ (c.as_slice-10.ensures.value ∙ g.macro_calls) i)) in
     let includes_are : c.in_ok-includes.includes.items ≡ includes text (pieces text) =
     c.in_ok-includes.ensures
     ∙ (λ i. scoped include_place include_with (functions_are i) (macros_are i)

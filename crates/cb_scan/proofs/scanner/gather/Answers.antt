@@ -7,11 +7,13 @@ use Rattle.cb_scan.specs.steps.Cut.{pieces}
 use Rattle.cb_scan.specs.steps.Directives.{code_out, include_out, is_code, macro_call_out, macro_out, no_range, nothing, range_finish, use_out, walk}
 use Rattle.cb_scan.specs.steps.Lined.{Within}
 use Rattle.cb_scan.specs.steps.Functions.{called, calls_from, closed, defs_from, found, ranges_from}
-use Rattle.cb_scan.specs.steps.Typedefs.{typedef_defs_from, typedefs_out}
+use Rattle.cb_scan.specs.declared.rules.structures.Naming.TheVariants.{Nothing}
+use Rattle.cb_scan.specs.steps.Structures.{structure_found, structures_from}
+use Rattle.cb_scan.specs.steps.Typedefs.{nesting_of, typedef_defs_from, typedefs_out}
 use Rattle.cb_scan.proofs.CodeLines.{uses_are}
 use Rattle.cb_scan.proofs.IncludeLines.{includes_are}
 use Rattle.cb_scan.proofs.MacroLines.{macro_calls_are, macro_ranges_are, macros_are}
-use Rattle.cb_scan.proofs.GatherLemmas.{appended, calls_found, code_on, walk_on, functions_found, ranges_found, typedefs_found}
+use Rattle.cb_scan.proofs.GatherLemmas.{appended, calls_found, code_on, walk_on, functions_found, ranges_found, structures_found, typedefs_found}
 use Rattle.cb_scan.proofs.scanner.gather.Goals as goal
 
 -- nothing is gathered yet, and all is still to come
@@ -33,6 +35,8 @@ loop-lined-init c =
       typedefs_found = (λ i. code.typedefs i
           ++ typedef_defs_from (machine i) None (code.pending i) (walk code_out nothing text Start (source i)))
           ∙ typedefs_found text;
+      structures_found = (λ i. code.structures i
+          ++ structures_from Nothing (walk code_out nothing text Start (source i))) ∙ structures_found text;
       names_found = (λ i. lines.names i ++ walk use_out nothing text Start (source i)) ∙ uses_are text (pieces text);
       macros_found = (λ i. lines.macros i ++ walk macro_out nothing text Start (source i))
           ∙ macros_are text (pieces text);
@@ -63,7 +67,8 @@ loop-lined-preserved-then-is_code c =
     let token_is = c.token_of-token.ensures in
     let line_is = c.in_ok-line.ensures.line in
     let code_is : is_code c.in_ok-line.line ≡ true = sym c.is_code.ensures ∙ c.if-is_code.true in
-    let code = c.in_ok-state.ensures in
+    let code = c.in_ok-declared.ensures in
+    let state = c.after-state.ensures in
     let lines = c.in_ok-line.ensures in
     let on = code_on text c.loop-lined.line c.in_ok-line.line c.token_of-token.result c.in-Some.lined
     c.loop-lined.lined-iterator c.next.new.self all_is is token_is line_is code_is in
@@ -72,20 +77,25 @@ loop-lined-preserved-then-is_code c =
     let t = c.token_of-token.result in
     record {
       functions_found = appended _ _ _ _ _ _ code.functions
-          (ap (defs_from m) on ∙ ap (λ k. option_to_list (found m t) ++ defs_from k rest) (sym code.machine))
+          (ap (defs_from m) on ∙ ap (λ k. option_to_list (found m t) ++ defs_from k rest) (sym state.machine))
           so_far.functions_found;
       ranges_found = appended _ _ _ _ _ _ code.ranges
           (ap (ranges_from (length text) m) on
-          ∙ ap (λ k. option_to_list (closed m t) ++ ranges_from (length text) k rest) (sym code.machine))
+          ∙ ap (λ k. option_to_list (closed m t) ++ ranges_from (length text) k rest) (sym state.machine))
           so_far.ranges_found;
       calls_found = appended _ _ _ _ _ _ code.calls
-          (ap (calls_from m) on ∙ ap (λ k. option_to_list (called m t) ++ calls_from k rest) (sym code.machine))
+          (ap (calls_from m) on ∙ ap (λ k. option_to_list (called m t) ++ calls_from k rest) (sym state.machine))
           so_far.calls_found;
       typedefs_found = appended _ _ _ _ _ _ code.typedefs
           (ap (typedef_defs_from m c.loop-lined.state.declared c.loop-lined.code.pending.items) on
           ∙ (λ i. typedefs_out m c.loop-lined.state.declared c.loop-lined.code.pending.items t
-          ++ typedef_defs_from (sym code.machine i) (sym code.declared i) (sym code.pending i) rest))
+          ++ typedef_defs_from (sym state.machine i) (sym (state.declared ∙ code.declared) i) (sym code.pending i) rest))
           so_far.typedefs_found;
+      structures_found = appended _ _ _ _ _ _ code.structures
+          (ap (structures_from c.loop-lined.state.naming) on
+          ∙ ap (λ n. option_to_list (structure_found c.loop-lined.state.naming t) ++ structures_from n rest)
+          (sym state.naming))
+          so_far.structures_found;
       names_found = appended _ _ _ _ _ _ lines.names
           (walk_on use_out nothing text _ _ _ _ _ _ all_is is token_is line_is) so_far.names_found;
       macros_found = appended _ _ _ _ _ _ lines.macros
@@ -98,6 +108,6 @@ loop-lined-preserved-then-is_code c =
       includes_found = appended _ _ _ _ _ _ lines.includes
           (walk_on (include_out text) nothing text _ _ _ _ _ _ all_is is token_is line_is) so_far.includes_found;
       within = (subst (AllByRecursion (Within text)) all_is so_far.within).1;
-      room = omega (arith, ap length all_is, code.deep, so_far.room);
-      nested = omega (arith, ap length all_is, code.nested, so_far.nested);
+      room = omega (arith, ap length all_is, state.deep, so_far.room);
+      nested = omega (arith, ap length all_is, ap nesting_of state.declared, code.nested, so_far.nested);
     }

@@ -1,0 +1,177 @@
+//! The tokens since the last stop, as far as the rules on functions ask.
+ghost use Rattle.std.specs.Prelude.{◌≡◌};
+ghost use Rattle.cb_scan.specs.steps.Heads.{add, called_after, calls_last, declares, def_of, defined, empty_head, listing_after, next_opened, opened, opens};
+
+use crate::facts::{Def, Kind};
+use crate::lex::token::Token;
+
+/// How far the list of names has come that follows the first called name.
+#[derive(Clone, Copy)]
+pub(crate) enum Listing {
+    /// No name is called yet.
+    Nothing,
+    /// A name is to come.
+    Open,
+    /// A comma or `)` is to come.
+    Name,
+    /// After `)` a word is to come.
+    Closed,
+    /// The whole list came, and the word.
+    Whole,
+    /// Something else came.
+    Other,
+}
+
+/// The tokens since the last stop.
+#[derive(Clone, Copy)]
+pub(crate) struct Head {
+    pub(crate) last: Option<Token>,
+    begins_with_word: bool,
+    begins_with_typedef: bool,
+    has_equals: bool,
+    pub(crate) has_static: bool,
+    called: Option<Token>,
+    listing: Listing,
+}
+
+/// Whether the token is the `(` behind a called name.
+fn calls_last(last: Option<Token>, token: Token) -> bool
+    ensures { result ≡ calls_last last token }
+{
+    match last {
+        Some(name) => token.is_mark(b'(') && name.is_name(),
+        None => false,
+    }
+}
+
+/// The first called name so far, after one more token.
+fn called_after(called: Option<Token>, last: Option<Token>, token: Token) -> Option<Token>
+    ensures { result ≡ called_after called last token }
+{
+    if called.is_none() && calls_last(last, token) {
+        last
+    } else {
+        called
+    }
+}
+
+/// How far the list of names has come, after one more token.
+fn listing_after(listing: Listing, last: Option<Token>, token: Token) -> Listing
+    ensures { result ≡ listing_after listing last token }
+{
+    match listing {
+        Listing::Nothing if calls_last(last, token) => Listing::Open,
+        Listing::Open if token.is_name() => Listing::Name,
+        Listing::Name if token.is_mark(b',') => Listing::Open,
+        Listing::Name if token.is_mark(b')') => Listing::Closed,
+        Listing::Closed if token.is_word() => Listing::Whole,
+        Listing::Nothing | Listing::Whole => listing,
+        Listing::Open | Listing::Name | Listing::Closed | Listing::Other => Listing::Other,
+    }
+}
+
+/// A function of that name as a definition.
+fn def_of(local: bool, name: Token) -> Def
+    ensures { result ≡ def_of local name }
+{
+    Def {
+        name: name.span,
+        kind: Kind::Function,
+        line: name.line,
+        local,
+    }
+}
+
+impl Head {
+    pub(crate) fn new() -> Head
+        ensures { result ≡ empty_head }
+    {
+        Head {
+            last: None,
+            begins_with_word: false,
+            begins_with_typedef: false,
+            has_equals: false,
+            has_static: false,
+            called: None,
+            listing: Listing::Nothing,
+        }
+    }
+
+    /// One more token.
+    pub(crate) fn add(self, token: Token) -> Head
+        ensures { result ≡ add self token }
+    {
+        let is_first = self.last.is_none();
+        Head {
+            last: Some(token),
+            begins_with_word: if is_first {
+                token.is_word()
+            } else {
+                self.begins_with_word
+            },
+            begins_with_typedef: if is_first {
+                token.is_typedef()
+            } else {
+                self.begins_with_typedef
+            },
+            has_equals: self.has_equals || token.is_mark(b'='),
+            has_static: self.has_static || token.is_static(),
+            called: called_after(self.called, self.last, token),
+            listing: listing_after(self.listing, self.last, token),
+        }
+    }
+
+    /// The function that the head defines, if it is that of one.
+    pub(crate) fn defined(self) -> Option<Def>
+        ensures { result ≡ defined self }
+    {
+        match (self.last, self.called) {
+            (Some(last), Some(name))
+                if !self.begins_with_typedef
+                    && !self.has_equals
+                    && (last.is_mark(b')') || last.is_name()) => Some(def_of(
+                self.has_static,
+                name,
+            )),
+            _ => None,
+        }
+    }
+
+    /// The tokens open a function in the old style.
+    fn opens(self) -> bool
+        ensures { result ≡ opens self }
+    {
+        !self.begins_with_typedef && !self.has_equals && matches!(self.listing, Listing::Whole)
+    }
+
+    /// The tokens are a declaration.
+    fn declares(self) -> bool
+        ensures { result ≡ declares self }
+    {
+        self.begins_with_word && !self.begins_with_typedef && !self.has_equals
+    }
+
+    /// The function that the tokens open.
+    fn opened(self) -> Option<Def>
+        ensures { result ≡ opened self }
+    {
+        match self.called {
+            Some(name) => Some(def_of(self.has_static, name)),
+            None => None,
+        }
+    }
+
+    /// The function in the old style that is open after a `;` that ends the tokens, where that one
+    /// was open before them.
+    pub(crate) fn next_opened(self, before: Option<Def>) -> Option<Def>
+        ensures { result ≡ next_opened self before }
+    {
+        if self.opens() {
+            self.opened()
+        } else if self.declares() {
+            before
+        } else {
+            None
+        }
+    }
+}
