@@ -9,7 +9,7 @@ ghost use Rattle.cb_desk.specs.steps.Search.{found_in, IsLineStart};
 use bstr::ByteSlice;
 use cb_scan::Source;
 use memchr::memmem::Finder;
-use memchr::memrchr;
+use memchr::{memchr_iter, memrchr};
 use std::marker::Model;
 
 /// What is left of a text from the start of a line on, and the number of that line.
@@ -50,7 +50,7 @@ fn line_start(text: &[u8], place: usize) -> usize
 fn feeds_in(bytes: &[u8]) -> usize
     ensures { result ≡ count_by (λ b. b == 10) bytes.now }
 {
-    bytes.iter().filter(|byte| **byte == b'\n').count()
+    memchr_iter(b'\n', bytes).count()
 }
 
 /// The number of the next line that holds a text, and what is left after it. Lines between matches
