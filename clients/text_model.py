@@ -1,7 +1,8 @@
 """Lines of texts and what texts define: written from docs/PROFILE.md alone and not from the code.
 
-The lines are those of any text. The definitions are known for texts without comments, literals, joins and typedefs, in
-which a line is a logical line; asked for those of any other text the model raises `Unknown`.
+The lines are those of any text. The definitions are known for texts without comments, literals, joins, typedefs,
+structures, unions, enumerations and functions in the old style, in which a line is a logical line; asked for those of any
+other text the model raises `Unknown`.
 """
 
 import functools
@@ -46,19 +47,17 @@ class Token(NamedTuple):
 
 def tokens_by_line(text):
     """The tokens of each line; in these texts lines are logical lines."""
-    if re.search(rb"""["'\\]|//|/\*|\btypedef\b""", text):
+    if re.search(rb"""["'\\]|//|/\*|\b(typedef|struct|union|enum)\b""", text):
         raise Unknown
     return [[Token(found[0], number, found.start()) for found in TOKEN.finditer(line)]
             for number, line in enumerate(text.split(b"\n"), 1)]
 
 
 def macro_of(directive):
-    """The macro with arguments that a directive defines, if it does."""
-    texts = [token.text for token in directive[:4]]
-    if len(texts) == 4 and texts[1] == b"define" and is_name(texts[2]) and texts[3] == b"(":
-        name, bracket = directive[2:4]
-        if name.place + len(name.text) == bracket.place:
-            return name, b"d", False
+    """The macro that a directive defines, with or without arguments, if it does."""
+    texts = [token.text for token in directive[:3]]
+    if len(texts) == 3 and texts[1] == b"define" and is_name(texts[2]):
+        return directive[2], b"d", False
     return None
 
 
@@ -75,16 +74,18 @@ def function_of(head):
 
 def functions_in(code):
     """The functions that the tokens of the code define."""
-    found, head, depth = [], [], 0
+    found, head, depth, stop = [], [], 0, None
     for token in code:
         if token.text == b"{":
             if depth == 0:
+                if not head and stop == b";":
+                    raise Unknown  # perhaps a function in the old style
                 found.append(function_of(head))
             depth += 1
         elif token.text == b"}":
             depth = 0 if token.place == 0 else max(depth - 1, 0)
         if depth == 0 and token.text in (b"}", b";"):
-            head = []
+            head, stop = [], token.text
         else:
             head.append(token)
     return found
