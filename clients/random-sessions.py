@@ -7,17 +7,18 @@ A person runs this by hand; no gate does.
     clients/random-sessions.py --cbrowse PATH --sessions 1000 -j 2
     clients/random-sessions.py --first 4711 --sessions 1    one session again, by its seed
 
-First come the worked sessions of `worked_sessions.py`, in which the model and the program have to agree with what is worked
-out by hand, then sessions that reach the limits, then random ones: session number n has the seed n. Each has files of the
-command line or none, 5 to 40 inputs of all kinds that work today, and wrong ones. Its texts have CR LF, no last LF, CRs
-and blanks within, bytes of all values; its patterns are parts of these texts, also across the end of a shown line. One
-process is run for each session. Standard output, standard error and the exit status are compared with the model.
+First come the worked sessions of `worked_sessions.py`, in which the model and the program have to agree with what is
+worked out by hand, then sessions that reach the limits, then random ones: session number n has the seed n. Each has files
+of the command line or none, and 5 to 40 inputs or short runs of inputs: all that work today, and wrong ones. Its texts
+have CR LF, no last LF, CRs and blanks within, bytes that are no text; its patterns are parts of these texts, also across
+the end of a shown line. One process is run for each session. Standard output, standard error and the exit status are
+compared with the model.
 
 The model (`session_model.py`, `text_model.py`) knows the definitions of texts without comments, literals, joins and
 typedefs. Where a question for definitions meets another text, another input is drawn in its place.
 
-At the first difference the seed, the input and both outputs are shown and the exit status is 1. Else a table tells how
-often each input was accepted and each refusal was met, so that one sees what was reached.
+At the first difference the seed, the input and both outputs are shown and the exit status is 1. Else two lines tell how
+often each kind of line was drawn and how often each reply came, so that one sees what was reached.
 """
 
 import argparse
@@ -312,7 +313,7 @@ def compare(cbrowse, what, operands, data, model):
 
 
 def outcomes(data, out):
-    """How often each input was met by each outcome; what stands in blocks is not told apart."""
+    """How often each kind of line was drawn and each reply came, and the prompts. Lines of blocks are not told apart."""
     told = collections.Counter(re.findall(rb"^(?:>> )*cscope: (refused: .*|done)$", out, re.MULTILINE))
     told[b"count and rows"] = len(re.findall(rb"^(?:>> )*cscope: [0-9]+ lines$", out, re.MULTILINE))
     inputs = collections.Counter(re.findall(rb"^(?::[a-z]+|[0-9])", data, re.MULTILINE))
