@@ -5,7 +5,7 @@ use Rattle.std.specs.List.{list_any, range_with_len, slice_index_or}
 use Rattle.std.proofs.Math.Seq.{take-add, get_or-append_seam}
 use Rattle.std.proofs.lemmas.Bool.{cases_eq, cond-true, eq-eqb, false_from_ne_true}
 use Rattle.std.proofs.lemmas.List.Sums.{sum_by-append, sum_by-cons}
-use Rattle.bstr.specs.Text.{line_len, without_terminator, no_cr}
+use Rattle.bstr.specs.Text.{line_len, lines_of, without_terminator, no_cr}
 use Rattle.bstr.proofs.lemmas.LineLemmas.{line_len-bounds, lines-step, lines-nil}
 use Rattle.memchr.specs.Find.{OccursAt, occurs_at, Nowhere, FindsNeedle}
 use Rattle.memchr.proofs.lemmas.MatchLemmas.{OccursAt-true, occurs_at-true}
@@ -13,7 +13,7 @@ use Rattle.cb_scan.specs.Lines.{lines, line_text}
 use Rattle.cb_scan.proofs.LineTable.{line_text-at}
 use Rattle.cb_desk.specs.Search.{holds, lines_with}
 use Rattle.cb_desk.specs.steps.Search.{found_from, IsLineStart}
-use Rattle.cb_desk.proofs.Gaps.{occurs-later, occurs-first, some-length}
+use Rattle.cb_desk.proofs.Gaps.{occurs-later, occurs-sooner, occurs-first, occurs-within, some-length}
 
 -- ---- a line holds a pattern where a search finds it
 
@@ -239,6 +239,52 @@ passes p rest n start place count other match low begins counted =
       found = all.found ∙ (λ i. found_from p (n + number i) (lines (left i)));
       many = omega arith;
     }
+
+-- the first shown line is the front of the text
+front-of : (text l : List ℕ) (ls : List (List ℕ)) → 0 < length text → lines text ≡ l ∷ ls → (n : ℕ) × (n ≤ length text) × (l ≡ take n text) × (length l ≡ n)
+front-of text l ls full is =
+    let L = line_len text in
+    let first : lines text ≡ without_terminator (take L text) ∷ map without_terminator (lines_of (drop L text)) = ap (map without_terminator) (lines-step text full) in
+    let same : l ≡ without_terminator (take L text) = first-same (sym is ∙ first) in
+    let front = shown-front (take L text) in
+    let bounds = line_len-bounds text full in
+    let long : length (take L text) ≡ L = length-take-le L text (omega (arith, bounds)) in
+    let low = front.1 in
+    let here : l ≡ take front.0 text = same ∙ front.2 ∙ take-take front.0 L text (omega (arith, low, long)) in
+    (front.0, omega (arith, low, long, bounds), here, ap length here ∙ length-take-le front.0 text (omega (arith, low, long, bounds)))
+  where
+    first-same : {a b : List ℕ} {xs ys : List (List ℕ)} → a ∷ xs ≡ b ∷ ys → a ≡ b
+    first-same e = cc
+
+module _ (p rest : List ℕ) (start place : ℕ) (l rest' : List ℕ) (other : p ≢ []) (match : FindsNeedle rest p 0 (Some place)) (low : start ≤ place) (next : lines (rest_from start rest) ≡ l ∷ lines rest') where
+  whole-rest : rest_from start rest ≡ drop start rest
+  whole-rest = let fits = match.1.fits in take_all (length rest - start) (drop start rest) (omega (arith, length-drop start rest))
+
+  shown-part : (n : ℕ) × (n ≤ length (drop start rest)) × (l ≡ take n (drop start rest)) × (length l ≡ n)
+  shown-part =
+      let fits = match.1.fits in
+      let some = some-length p other in
+      front-of (drop start rest) l (lines rest') (omega (arith, length-drop start rest)) (ap lines (sym whole-rest) ∙ next)
+
+  -- the line of the first match holds the pattern where the match lies in what is shown
+  pub held-within : place - start + length p ≤ length l → holds p l ≡ true
+  held-within within =
+      let part = shown-part in
+      let long = part.3 in
+      let from_start : start + (place - start) ≡ place = omega (arith, low) in
+      let there = occurs-sooner rest p start (place - start) (subst (OccursAt rest p) (sym from_start) match.1) in
+      let here = subst (λ xs. OccursAt xs p (place - start)) (sym part.2) (occurs-within (drop start rest) p part.0 (place - start) part.1 (omega (arith, long, within)) there) in
+      any-at (occurs_at l p) 0 (length l + 1) (place - start) (omega arith) (omega (arith, within)) (occurs_at-true l p (place - start) here)
+
+  -- and does not where the match takes more
+  pub held-outside : length l < place - start + length p → holds p l ≡ false
+  held-outside beyond =
+      let part = shown-part in
+      holds-none p l (λ k _ _ occurs.
+        let fits = occurs.fits in
+        let there = occurs-first (drop start rest) p part.0 k part.1 (subst (λ xs. OccursAt xs p k) part.2 occurs) in
+        let found = occurs-later rest p start k (some-length p other) there in
+        match.0.before (start + k) (omega arith) (omega (arith, fits, beyond, low)) found)
 
 module _ (p : List ℕ) (n : ℕ) (rest : List ℕ) (start count : ℕ) (pass : Passes p n rest start count) (l rest' : List ℕ) (next : lines (rest_from start rest) ≡ l ∷ lines rest') where
   -- the line after them holds the pattern

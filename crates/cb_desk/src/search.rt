@@ -75,7 +75,7 @@ pub(crate) fn next_line<'t>(
             line: number + 1,
         };
         // The match may take the end of the line, which is not shown.
-        if finder.find(line).is_some() {
+        if finder.needle().len() <= line.len().saturating_sub(place - start) {
             return Some((number, left));
         }
     }

@@ -1,6 +1,6 @@
-use Rattle.std.proofs.Common.{◌∙◌, ◌∷◌, ◌+◌, sym, ap, arith}
+use Rattle.std.proofs.Common.{◌∙◌, ◌∷◌, ◌+◌, length, sym, ap, arith}
 use Rattle.cb_desk.specs.steps.Search.{found_from}
-use Rattle.cb_desk.proofs.TextLines.{passes, passes-held, passes-bare, passes-many, holds-found, found-none}
+use Rattle.cb_desk.proofs.TextLines.{passes, passes-held, passes-bare, passes-many, held-within, held-outside, found-none}
 use Rattle.cb_desk.proofs.Gaps.{some-length}
 use Rattle.cb_desk.proofs.search.next_line.Goals as goal
 
@@ -48,8 +48,8 @@ overflow_add-left c =
     let many = passes-many p n rest start c.feeds_in.result pass c.in_ok-line.line.now c.as_bytes.result.now next in
     omega arith
 
-pub returns-then-is_some-clause-found : goal.returns-then-is_some-clause-found
-returns-then-is_some-clause-found c =
+pub returns-then-needle-saturating_sub-clause-found : goal.returns-then-needle-saturating_sub-clause-found
+returns-then-needle-saturating_sub-clause-found c =
     let p = c.args.finder.now in
     let rest = c.loop-place.left.rest.now in
     let n = c.loop-place.left.line in
@@ -58,11 +58,11 @@ returns-then-is_some-clause-found c =
     let next = sym c.lines-lines.ensures.value ∙ c.in_ok-line.ensures.steps ∙ ap (λ ls. c.in_ok-line.line.now ∷ ls) (sym c.as_bytes.ensures) in
     let room = c.loop-place.invariant.small in
     let many = passes-many p n rest start c.feeds_in.result pass c.in_ok-line.line.now c.as_bytes.result.now next in
-    let held = sym (holds-found p c.in_ok-line.line.now c.find-in-Some.result c.find-in-Some.ensures) ∙ sym c.is_some.ensures ∙ c.if-is_some.true in
+    let held = held-within p rest start c.in-Some.place c.in_ok-line.line.now c.as_bytes.result.now c.requires.some c.in-Some.ensures c.line_start-start.ensures.within next (let some = some-length p c.requires.some in let size = ap length c.needle.ensures in let fits = c.if-needle-saturating_sub.true in let left = c.saturating_sub.ensures in omega (arith, some, size, fits, left)) in
     sym c.loop-place.invariant.found ∙ passes-held p n rest start c.feeds_in.result pass c.in_ok-line.line.now c.as_bytes.result.now next held
 
-pub returns-then-is_some-clause-small : goal.returns-then-is_some-clause-small
-returns-then-is_some-clause-small c =
+pub returns-then-needle-saturating_sub-clause-small : goal.returns-then-needle-saturating_sub-clause-small
+returns-then-needle-saturating_sub-clause-small c =
     let p = c.args.finder.now in
     let rest = c.loop-place.left.rest.now in
     let n = c.loop-place.left.line in
@@ -95,7 +95,7 @@ loop-place-preserved c =
     let next = sym c.lines-lines.ensures.value ∙ c.in_ok-line.ensures.steps ∙ ap (λ ls. c.in_ok-line.line.now ∷ ls) (sym c.as_bytes.ensures) in
     let room = c.loop-place.invariant.small in
     let many = passes-many p n rest start c.feeds_in.result pass c.in_ok-line.line.now c.as_bytes.result.now next in
-    let held = sym (holds-found p c.in_ok-line.line.now c.find-in-Some.result c.find-in-Some.ensures) ∙ sym c.is_some.ensures ∙ c.if-is_some.false in
+    let held = held-outside p rest start c.in-Some.place c.in_ok-line.line.now c.as_bytes.result.now c.requires.some c.in-Some.ensures c.line_start-start.ensures.within next (let some = some-length p c.requires.some in let size = ap length c.needle.ensures in let more = c.if-needle-saturating_sub.false in let left = c.saturating_sub.ensures in omega (arith, some, size, more, left)) in
     record {
       found = sym (passes-bare p n rest start c.feeds_in.result pass c.in_ok-line.line.now c.as_bytes.result.now next held) ∙ c.loop-place.invariant.found;
       small = omega arith;
