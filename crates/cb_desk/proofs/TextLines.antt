@@ -281,10 +281,10 @@ module _ (p rest : List ℕ) (start place : ℕ) (l rest' : List ℕ) (other : p
   held-outside beyond =
       let part = shown-part in
       holds-none p l (λ k _ _ occurs.
-        let fits = occurs.fits in
-        let there = occurs-first (drop start rest) p part.0 k part.1 (subst (λ xs. OccursAt xs p k) part.2 occurs) in
-        let found = occurs-later rest p start k (some-length p other) there in
-        match.0.before (start + k) (omega arith) (omega (arith, fits, beyond, low)) found)
+      let fits = occurs.fits in
+      let there = occurs-first (drop start rest) p part.0 k part.1 (subst (λ xs. OccursAt xs p k) part.2 occurs) in
+      let found = occurs-later rest p start k (some-length p other) there in
+      match.0.before (start + k) (omega arith) (omega (arith, fits, beyond, low)) found)
 
 module _ (p : List ℕ) (n : ℕ) (rest : List ℕ) (start count : ℕ) (pass : Passes p n rest start count) (l rest' : List ℕ) (next : lines (rest_from start rest) ≡ l ∷ lines rest') where
   -- the line after them holds the pattern

@@ -106,9 +106,15 @@ pub(crate) fn put_text_rows<W: Write>(
     requires { text.now ≢ [] }
     ensures { Puts out.old out.new result (answer_lines (answer desk.now.present Field.Text text.now)) }
 {
-    put_count(out, desk.text_rows(text).count() as u128)?;
-    for row in desk.text_rows(text) {
-        put_row(out, &row)?;
+    let count = desk.text_rows(text).count();
+    put_count(out, count as u128)?;
+    let mut rows = desk.text_rows(text);
+    // The texts after the last row are not searched once more.
+    'rows: for _row in 0..count {
+        match rows.next() {
+            Some(row) => put_row(out, &row)?,
+            None => {}
+        }
     }
     Ok(())
 }

@@ -1,4 +1,4 @@
-use Rattle.std.proofs.Common.{◌≡◌, List, ◌++◌, length, subst}
+use Rattle.std.proofs.Common.{◌≡◌, ◌≤◌, ◌+◌, ◌++◌, ap, refl, List, [], ◌∷◌, length, subst, arith}
 use Rattle.std.proofs.lemmas.Iterator.Consumers.{count_from_yields_List, YieldsList-from_first}
 use Rattle.std.specs.List.{flat_map}
 use Rattle.cb_desk.specs.declared.rows.Field.TheVariants.{Text}
@@ -8,23 +8,47 @@ use Rattle.cb_session.specs.Output.{count_line, row_line}
 use Rattle.cb_session.specs.Writing.{Puts}
 use Rattle.cb_session.proofs.Puts.{Puts-unfinished, WrittenAfter-all, WrittenAfter-fault, WrittenAfter-more}
 use Rattle.cb_session.proofs.reply.put_text_rows.Goals as goal
+use Rattle.cb_session.proofs.reply.put_text_rows.Goals.{in-Some+in_ok-put_row-in-Some, in-None}
+
+nothing-left : {X : Type 0} (xs : List X) → length xs ≤ 0 → xs ≡ []
+nothing-left [] few = refl
+nothing-left (x ∷ xs) few = absurd (omega arith)
 
 pub returns-in_err-put_count : goal.returns-in_err-put_count
 returns-in_err-put_count g c =
     let k = c.in_err-put_count.ensures in
     let rows = answer c.args.desk.now.present Text c.args.text.now in
-    let counted : c.count.result ≡ length rows = count_from_yields_List c.text_rows.result c.count.result c.count.ensures.ran (YieldsList-from_first row_of (λ (l : List AnswerRow). l) rows c.text_rows.ensures.value) in
+    let counted : c.count-count.result ≡ length rows = count_from_yields_List c.text_rows.result c.count-count.result c.count-count.ensures.ran (YieldsList-from_first row_of (λ (l : List AnswerRow). l) rows c.text_rows.ensures.value) in
     subst (λ n. Puts c.args.out.now c.put_count.new.out c.from_residual.result (count_line n ++ flat_map row_line rows)) counted
     (Puts-unfinished _ _ _ _ _ _ c.from_residual.ensures.1 k.1 k.0)
 
-pub loop-row-preserved : goal.loop-row-preserved
-loop-row-preserved g c =
-    WrittenAfter-more _ row_line _ _ _ _ _ _ (row_of c.in-Some.row) c.loop-row.invariant c.in-Some.ensures.steps c.in_ok-put_row.ensures.0
+pub returns-in_err-put_row-in-Some : goal.returns-in_err-put_row-in-Some
+returns-in_err-put_row-in-Some g c =
+    let k = c.in_err-put_row-in-Some.ensures in
+    WrittenAfter-fault _ row_line _ _ _ _ _ _ (row_of c.in-Some.row) _ _ c.rows.invariant.wrote c.in-Some.ensures.steps c.from_residual-in_err-put_row-in-Some.ensures.1 k.1 k.0
 
-pub returns-in_err-put_row : goal.returns-in_err-put_row
-returns-in_err-put_row g c =
-    let k = c.in_err-put_row.ensures in
-    WrittenAfter-fault _ row_line _ _ _ _ _ _ (row_of c.in-Some.row) _ _ c.loop-row.invariant c.in-Some.ensures.steps c.from_residual-in_err-put_row.ensures.1 k.1 k.0
+pub rows-preserved : goal.rows-preserved
+rows-preserved g c =
+    elim c.match-next.branch [
+      | in-Some+in_ok-put_row-in-Some w ↦
+          let fewer = ap length w.in-Some.ensures.steps in
+          let left = c.rows.invariant.left in
+          record {
+            wrote = rw w.out-is (WrittenAfter-more _ row_line _ _ _ _ _ _ (row_of w.in-Some.row) c.rows.invariant.wrote w.in-Some.ensures.steps w.in_ok-put_row-in-Some.ensures.0);
+            left = omega (arith, fewer, left);
+          }
+      | in-None w ↦
+          let none = ap length w.in-None.ensures.steps.0 in
+          let left = c.rows.invariant.left in
+          let before = c.rows-test.true in
+          let counted : c.count-count.result ≡ length (answer c.args.desk.now.present Text c.args.text.now) = count_from_yields_List c.text_rows.result c.count-count.result c.count-count.ensures.ran (YieldsList-from_first row_of (λ (l : List AnswerRow). l) (answer c.args.desk.now.present Text c.args.text.now) c.text_rows.ensures.value) in
+          absurd (omega (arith, none, left, before, counted))
+    ]
 
 pub returns : goal.returns
-returns g c = (WrittenAfter-all _ row_line _ _ _ _ c.loop-row.invariant c.in-None.ensures.steps.0, tt)
+returns g c =
+    let rows = answer c.args.desk.now.present Text c.args.text.now in
+    let counted : c.count-count.result ≡ length rows = count_from_yields_List c.text_rows.result c.count-count.result c.count-count.ensures.ran (YieldsList-from_first row_of (λ (l : List AnswerRow). l) rows c.text_rows.ensures.value) in
+    let left = c.rows.invariant.left in
+    let after = c.rows-test.false in
+    (WrittenAfter-all _ row_line _ _ _ _ c.rows.invariant.wrote (nothing-left _ (omega (arith, left, after, counted))), tt)
