@@ -2,7 +2,6 @@ mod calls;
 mod marks;
 mod memory;
 mod moves;
-mod replacement;
 mod search;
 
 use super::*;

@@ -103,10 +103,31 @@ fn a_change_of_a_text_works_on_the_marked_lines_alone(rt: HostRuntime) -> Result
 fn matches_are_the_leftmost_that_do_not_overlap(rt: HostRuntime) -> Result<(), Refusal> {
     let alloc = rt.alloc();
     assert!(rt; is_changed_to(alloc, b"aaa\n", b"aa", b"b", b"ba\n")?);
+    assert!(rt; is_changed_to(alloc, b"aaaaa\n", b"aa", b"", b"a\n")?);
+    assert!(rt; is_changed_to(alloc, b"xababy\n", b"ab", b"", b"xy\n")?);
+    assert!(rt; is_changed_to(alloc, b"a\r\na\r", b"a\r", b"b", b"a\r\nb")?);
     assert!(rt; is_changed_to(alloc, b"aXa\n", b"a", b"aa", b"aaXaa\n")?);
     assert!(rt; is_changed_to(alloc, b"int a;\r", b";\r", b"x", b"int ax")?);
     assert!(rt; is_changed_to(alloc, b"aa\nba\na", b"a", b"", b"\nb\n")?);
     assert!(rt; is_changed_to(alloc, b"a\r\na\n", b"a", b"b\r", b"b\r\r\nb\r\n")?);
+    Ok(())
+}
+
+/// So many times a text.
+fn repeated(alloc: Global, text: &[u8], count: usize) -> Result<Vec<u8>, AllocError> {
+    let mut made = Vec::new(alloc);
+    for _time in 0..count {
+        made.extend_from_slice(text)?;
+    }
+    Ok(made)
+}
+
+#[test]
+fn every_line_of_a_million_bytes_changes(rt: HostRuntime) -> Result<(), Refusal> {
+    let alloc = rt.alloc();
+    let text = repeated(alloc, b"aaaa\n", 200_000)?;
+    let meant = repeated(alloc, b"b\n", 200_000)?;
+    assert!(rt; is_changed_to(alloc, text.as_slice(), b"aaaa", b"b", meant.as_slice())?);
     Ok(())
 }
 

@@ -18,6 +18,9 @@ fn has_lines(
         Err(ScanError::OutOfMemory) => return Err(AllocError),
         Err(ScanError::TooLarge) => return Ok(false),
     };
+    if pattern.is_empty() {
+        return Ok(false);
+    }
     let finder = Finder::new(pattern);
     let mut found = TextLines::new(&source, &finder);
     for line in lines {
