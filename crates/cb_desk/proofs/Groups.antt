@@ -50,8 +50,8 @@ pub unlike : (q : AnswerRow) (rows : List AnswerRow) → AllByRecursion (NotOn q
 unlike q rows all =
     all-along (NotOn q.file q.line) (λ r. row_eq q r ≡ false) rows
     (λ r apart. false_from_ne_true (row_eq q r) (λ yes.
-        let same = row_same q r yes in
-        ⊎_elim (λ other. other (ap (λ (s : AnswerRow). s.file) (sym same))) (λ other. other (ap (λ (s : AnswerRow). s.line) (sym same))) apart))
+    let same = row_same q r yes in
+    ⊎_elim (λ other. other (ap (λ (s : AnswerRow). s.file) (sym same))) (λ other. other (ap (λ (s : AnswerRow). s.line) (sym same))) apart))
     all
 
 take-front : {X : Type 0} (n : ℕ) (xs ys : List X) → n ≤ length xs → take n (xs ++ ys) ≡ take n xs
@@ -65,10 +65,10 @@ group-kept q rows g low group =
     elim (list_any (row_eq q) rows) as (λ b. IsGroupOf q.file (cond b rows (rows ++ q ∷ [])) g) [
       | true ↦ group
       | false ↦ record {
-          within = let w = group.within in omega (arith, w, length-append rows (q ∷ []));
-          before = rw (take-front g.first rows (q ∷ []) group.within) group.before;
-          so_far = all-join (UpTo q.file g.line) rows (q ∷ []) group.so_far (inr low, tt);
-        }
+        within = let w = group.within in omega (arith, w, length-append rows (q ∷ []));
+        before = rw (take-front g.first rows (q ∷ []) group.within) group.before;
+        so_far = all-join (UpTo q.file g.line) rows (q ∷ []) group.so_far (inr low, tt);
+      }
     ]
 
 -- ---- looking among the last rows alone

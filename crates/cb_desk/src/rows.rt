@@ -184,11 +184,7 @@ impl<'a> RowList<'a> {
     }
 
     /// Adds the row of a file whose name holds a text. No row is of it so far.
-    pub(crate) fn add_file(
-        &mut self,
-        finder: &Finder<'_>,
-        name: &'a [u8],
-    ) -> Result<(), AllocError>
+    pub(crate) fn add_file(&mut self, finder: &Finder<'_>, name: &'a [u8]) -> Result<(), AllocError>
         requires { AllByRecursion (IsNotOf name.now) self.old }
         ensures { IfOk result (λ _. Collects self.old self.new (file_rows finder.now name.now)) }
     {
@@ -232,12 +228,7 @@ impl<'list, 'a> Iterator for RowIter<'list, 'a> {
 }
 
 /// The row that shows a line of a file. Lines count from 1.
-fn row_on<'a>(
-    file: &'a [u8],
-    source: &'a Source,
-    function: &'a [u8],
-    line: u32,
-) -> RefRow<'a>
+fn row_on<'a>(file: &'a [u8], source: &'a Source, function: &'a [u8], line: u32) -> RefRow<'a>
     ensures { row_of result ≡ row_on file.now source.now function.now line }
 {
     RefRow {

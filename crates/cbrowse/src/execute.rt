@@ -18,7 +18,9 @@ use crate::execute::files::{make_file, read_operands};
 use crate::execute::finish::{Finish, conclude, files_of};
 use crate::job::{Job, job_of};
 use cb_desk::{Desk, Field, Format, TagRowIter};
-use cb_session::{Ended, Fault, Feed, Limits, Session, prepare, put_answer, put_listing_file, put_tags_file};
+use cb_session::{
+    Ended, Fault, Feed, Limits, Session, prepare, put_answer, put_listing_file, put_tags_file,
+};
 use cb_tags::Sink;
 pub(crate) use finish::refuse;
 use std::alloc::Global;

@@ -8,10 +8,7 @@ type Row<'a> = (&'a [u8], &'a [u8], u32, &'a [u8]);
 
 /// Whether a row has these columns.
 fn is_row(shown: &RefRow<'_>, row: &Row<'_>) -> bool {
-    shown.file == row.0
-        && shown.function == row.1
-        && shown.line == row.2
-        && shown.text == row.3
+    shown.file == row.0 && shown.function == row.1 && shown.line == row.2 && shown.text == row.3
 }
 
 /// Whether the rows that answer a question are these, in this order. A desk without memory to spare
@@ -41,6 +38,7 @@ fn desk_with(alloc: Global, name: &[u8], text: &[u8]) -> Result<Desk, AllocError
 }
 
 const TWICE: &[u8] = b"#define TWICE(x) ((x) + add(x, 0))";
+
 const CALLS: &[u8] = b"return add(1, 2) / TWICE(3);";
 
 #[test]
@@ -83,11 +81,10 @@ fn names_are_compared_whole(rt: HostRuntime) -> Result<(), AllocError> {
 }
 
 #[test]
-fn a_header_is_the_pattern_or_ends_in_it_behind_a_slash(
-    rt: HostRuntime,
-) -> Result<(), AllocError> {
+fn a_header_is_the_pattern_or_ends_in_it_behind_a_slash(rt: HostRuntime) -> Result<(), AllocError> {
     let alloc = rt.alloc();
-    let text = b"#include <b.h>\n#include \"ab.h\"\n#include \"d/b.h\"\nint f(void) {\n#include <d/e/b.h>\n}\n";
+    let text =
+        b"#include <b.h>\n#include \"ab.h\"\n#include \"d/b.h\"\nint f(void) {\n#include <d/e/b.h>\n}\n";
     let desk = desk_with(alloc, b"x.c", text)?;
     let rows: [Row<'_>; 3] = [
         (b"x.c", b"<global>", 1, b"#include <b.h>"),
@@ -112,7 +109,9 @@ fn equal_rows_that_are_not_neighbours_are_one_row(rt: HostRuntime) -> Result<(),
 }
 
 #[test]
-fn rows_of_equal_texts_on_two_lines_or_in_two_files_stay(rt: HostRuntime) -> Result<(), AllocError> {
+fn rows_of_equal_texts_on_two_lines_or_in_two_files_stay(
+    rt: HostRuntime,
+) -> Result<(), AllocError> {
     let alloc = rt.alloc();
     let mut desk = desk_with(alloc, b"b.c", b"x;x;\nx;x;\n")?;
     assert!(rt; load_text(&mut desk, alloc, b"a.c", b"x;x;\n")? == Ok(()));
@@ -168,8 +167,24 @@ fn a_rebuild_leaves_answers_and_timeline(rt: HostRuntime) -> Result<(), AllocErr
     assert!(rt; desk.undo() == Ok(()));
     let rebuilt = desk.rebuild(alloc);
     assert!(rt; rebuilt == Ok(()) || rebuilt == Err(Refusal::OutOfMemory));
-    assert!(rt; answers(&desk, alloc, Field::Symbol, b"x", &[(b"a.c", b"TWICE", 2, TWICE)]));
+    assert!(rt;
+        answers(
+            &desk,
+            alloc,
+            Field::Symbol,
+            b"x",
+            &[(b"a.c", b"TWICE", 2, TWICE)]
+        )
+    );
     assert!(rt; desk.redo() == Ok(()));
-    assert!(rt; answers(&desk, alloc, Field::Definition, b"f", &[(b"b.c", b"f", 1, b"f(){}")]));
+    assert!(rt;
+        answers(
+            &desk,
+            alloc,
+            Field::Definition,
+            b"f",
+            &[(b"b.c", b"f", 1, b"f(){}")]
+        )
+    );
     Ok(())
 }

@@ -62,10 +62,9 @@ fn tags_command<'a>(alloc: Global) -> Result<Command<'a>, AllocError>
 fn with_num<'a>(alloc: Global, command: Command<'a>) -> Result<Command<'a>, AllocError>
     ensures { IfOk result (λ more. app_of more ≡ with_rule (app_of command.entry) num_rule) }
 {
-    let num = Arg::new(alloc, "num")
-        .value_name("NUM")
-        .required(true)
-        .help("Field of the search: 0 uses of a name, 1 its definitions, 2 calls in a function, 3 calls of it, 4 a text, 7 file names, 8 includes");
+    let num = Arg::new(alloc, "num").value_name("NUM").required(true).help(
+        "Field of the search: 0 uses of a name, 1 its definitions, 2 calls in a function, 3 calls of it, 4 a text, 7 file names, 8 includes",
+    );
     command.arg(num)
 }
 

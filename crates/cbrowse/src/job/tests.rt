@@ -82,12 +82,7 @@ fn sessions(rt: HostRuntime) -> Result<(), AllocError> {
 }
 
 /// Whether this is a search of that field for that pattern in these files.
-fn is_find(
-    outcome: &Result<Job, Usage>,
-    asked: Field,
-    text: &str,
-    names: &[&str],
-) -> bool {
+fn is_find(outcome: &Result<Job, Usage>, asked: Field, text: &str, names: &[&str]) -> bool {
     match outcome {
         Ok(
             Job::Find {
@@ -95,9 +90,7 @@ fn is_find(
                 pattern,
                 files,
             },
-        ) => {
-            *field == asked && pattern.as_str() == text && are_named(files.as_slice(), names)
-        }
+        ) => { *field == asked && pattern.as_str() == text && are_named(files.as_slice(), names) }
         _ => false,
     }
 }

@@ -49,9 +49,9 @@ loop-index-preserved c =
             group = group-kept (found_row f x) c.loop-index.self w.after-group.result w.after-group.ensures.least group;
           })
       | else-is_asked w ↦ rw (w.self-is, w.group-is) (record {
-          so_far = λ before same. c.loop-index.invariant.so_far before same ∙ ap (λ rows. distinct (before ++ rows)) (sym (found-passed c.args.field c.args.pattern.now f xs c.loop-index.index x next (sym asked ∙ w.if-is_asked.false)));
-          group = c.loop-index.invariant.group;
-        })
+        so_far = λ before same. c.loop-index.invariant.so_far before same ∙ ap (λ rows. distinct (before ++ rows)) (sym (found-passed c.args.field c.args.pattern.now f xs c.loop-index.index x next (sym asked ∙ w.if-is_asked.false)));
+        group = c.loop-index.invariant.group;
+      })
     ]
 
 pub returns : goal.returns
