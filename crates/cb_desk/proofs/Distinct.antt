@@ -10,11 +10,11 @@ use Rattle.cb_desk.specs.steps.Collects.{kept}
 abbrev row_from : List ℕ → List ℕ → ℕ → List ℕ → AnswerRow
 row_from file function line text = record { file = file; function = function; line = line; text = text }
 
-and-left : (a b : Bool) → a && b ≡ true → a ≡ true
+pub and-left : (a b : Bool) → a && b ≡ true → a ≡ true
 and-left true b e = refl
 and-left false b e = e
 
-and-right : (a b : Bool) → a && b ≡ true → b ≡ true
+pub and-right : (a b : Bool) → a && b ≡ true → b ≡ true
 and-right true b e = e
 and-right false b e = cc
 

@@ -1,5 +1,5 @@
 -- Marks that ascend are those of the first file, then those of the second, and so on.
-use Rattle.std.proofs.Common.{◌≡◌, ◌≢◌, ◌∙◌, sym, ap, refl, subst, ℕ, zero, suc, ◌+◌, ◌<◌, get_or, arith, Bool, true, false, not, ◌||◌, cond, List, [], ◌∷◌, ◌++◌, filter, map, take, drop, length, bytes_eq, Some, nat_cmp, is_eq, Ordering, Less, Equal, Greater}
+use Rattle.std.proofs.Common.{◌≡◌, ◌≢◌, ◌∙◌, sym, ap, refl, subst, ℕ, zero, suc, ◌+◌, ◌<◌, get_or, ◌==◌, arith, Bool, true, false, not, ◌||◌, cond, List, [], ◌∷◌, ◌++◌, filter, map, take, drop, length, bytes_eq, Some, nat_cmp, is_eq, Ordering, Less, Equal, Greater}
 use Rattle.std.specs.List.{AllByRecursion, prefix_len, list_any, flat_map}
 use Rattle.std.specs.List.Sorted.{IsStrictlySortedBy}
 use Rattle.std.specs.Cmp.Lexicographic.{slice_cmp}
@@ -226,6 +226,11 @@ module _ (old new : List ℕ) where
 nothing-marked : (old new : List ℕ) (first : ℕ) (ls : List (List ℕ)) → flat_map (replaced_if_marked old new) (marked_from [] first ls) ≡ first-part (marked_from [] first ls)
 nothing-marked old new first [] = refl
 nothing-marked old new first (l ∷ ls) = ap (λ bs. l ++ bs) (nothing-marked old new (first + 1) ls)
+
+-- a list without an element
+pub nothing-in : {X : Type 0} (xs : List X) → true ≡ (length xs == 0) → xs ≡ []
+nothing-in [] e = refl
+nothing-in (x ∷ xs) e = absurd (grind (arith, e))
 
 -- a text without a marked line stays
 pub unmarked-text : (old new text : List ℕ) → replaced_text old new [] text ≡ text

@@ -9,16 +9,11 @@ use Rattle.std.proofs.lemmas.Map.Text.{is_eq-slice_cmp}
 use Rattle.std.proofs.lemmas.Slice.Eq.{bytes_eq-Decides}
 use Rattle.cb_desk.specs.World.{File, is_named, has_file, text_of_file, IsAscending}
 use Rattle.cb_desk.specs.steps.Shared.{file_named}
-use Rattle.cb_desk.proofs.Placed.{by_name}
+use Rattle.cb_desk.proofs.Placed.{by_name, less-from}
 
 -- the order of a name and another
 abbrev against : List ℕ → File → Ordering
 against name f = slice_cmp nat_cmp f.name name
-
-less-from : (o : Ordering) → is_lt o ≡ true → o ≡ Less
-less-from Less e = refl
-less-from Equal e = cc
-less-from Greater e = cc
 
 lower-differs : (o : Ordering) → is_lt o ≡ true → is_eq o ≡ false
 lower-differs Less e = refl

@@ -13,7 +13,7 @@ use Rattle.cb_desk.specs.Files.{is_before, with_file}
 abbrev pub by_name : File → File → Ordering
 by_name f g = slice_cmp nat_cmp f.name g.name
 
-less-from : (o : Ordering) → is_lt o ≡ true → o ≡ Less
+pub less-from : (o : Ordering) → is_lt o ≡ true → o ≡ Less
 less-from Less e = refl
 less-from Equal e = cc
 less-from Greater e = cc

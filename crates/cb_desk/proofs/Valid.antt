@@ -12,7 +12,7 @@ use Rattle.cb_tags.specs.Names.{is_file_name}
 use Rattle.cb_desk.specs.declared.limits.TheConstants.{MOST_BYTES, MOST_FILES}
 use Rattle.cb_desk.specs.World.{File, is_named, has_file, AreValidFiles}
 use Rattle.cb_desk.specs.Files.{is_before, with_file, without_file}
-use Rattle.cb_desk.proofs.Placed.{by_name}
+use Rattle.cb_desk.proofs.Placed.{by_name, less-from}
 
 pub all-filter : {X : Type 0} (P : X → Type 0) (p : X → Bool) (xs : List X) → AllByRecursion P xs → AllByRecursion P (filter p xs)
 all-filter P p [] all = all
@@ -54,11 +54,6 @@ none-named name (x ∷ xs) e =
       | true ↦ λ h k. cc
       | false ↦ λ h k. (h, none-named name xs k)
     ]) refl e
-
-less-from : (o : Ordering) → is_lt o ≡ true → o ≡ Less
-less-from Less e = refl
-less-from Equal e = cc
-less-from Greater e = cc
 
 above-from : (o : Ordering) → not (is_lt o) ≡ true → is_eq o ≡ false → ordering_reverse o ≡ Less
 above-from Less e k = cc

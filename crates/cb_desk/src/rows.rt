@@ -5,7 +5,7 @@ ghost use Rattle.std.specs.List.{AllByRecursion, list_any, prefix_len, flat_map}
 ghost use Rattle.cb_scan.specs.Definitions.{IsWithin, IsScopeWithin};
 ghost use Rattle.cb_desk.specs.World.{File};
 ghost use Rattle.cb_desk.specs.Answer.{AnswerRow, row_eq, distinct, space, tab, unindented, row_on, line_row, found_row, fact_rows, file_row, file_rows, text_rows_in, field_of_digit};
-ghost use Rattle.cb_desk.specs.steps.Collects.{Collects, IsNotOf, kept};
+ghost use Rattle.cb_desk.specs.steps.Collects.{Collects, IsNotOf, IsTextedLike, alike, kept};
 ghost use Rattle.cb_desk.specs.Models.{row_of, file_of};
 ghost use Rattle.cb_desk.specs.Search.{holds};
 
@@ -66,14 +66,11 @@ pub struct RefRow<'a> {
 }
 
 impl<'a> RefRow<'a> {
-    /// Whether two rows are equal in all four columns. The lines come first, since that is cheap.
-    fn equals(&self, other: &RefRow<'_>) -> bool
-        ensures { result ≡ row_eq (row_of self.now) (row_of other.now) }
+    /// Whether two rows are equal but for their texts, which rows on one line of a file share.
+    fn is_like(&self, other: &RefRow<'_>) -> bool
+        ensures { result ≡ alike (row_of self.now) (row_of other.now) }
     {
-        self.line == other.line
-            && self.file == other.file
-            && self.function == other.function
-            && self.text == other.text
+        self.line == other.line && self.function == other.function && self.file == other.file
     }
 }
 
@@ -141,9 +138,11 @@ impl<'a> RowList<'a> {
         Ok(RowList { rows: list })
     }
 
-    /// Adds a row, unless an equal one is there. None of the rows before `first` is equal.
+    /// Adds a row, unless an equal one is there. None of the rows before `first` is equal, and rows
+    /// on one line of a file have one text, which may be long and is not compared.
     fn add(&mut self, first: usize, row: RefRow<'a>) -> Result<(), AllocError>
         requires within { first ≤ length self.old }
+        requires texts { AllByRecursion (IsTextedLike (row_of row)) self.old }
         requires others { AllByRecursion (λ other. row_eq (row_of row) other ≡ false) (take first self.old) }
         ensures { IfOk result (λ _. self.new ≡ kept self.old (row_of row.entry)) }
     {
@@ -246,17 +245,17 @@ pub fn line_row<'a>(file: &'a [u8], source: &'a Source, line: u32) -> RefRow<'a>
     row_on(file, source, b"<unknown>", line)
 }
 
-/// Whether one of the rows is equal to this one.
+/// Whether one of the rows is equal to this one but for its text.
 fn has_row(rows: &[RefRow<'_>], row: &RefRow<'_>) -> bool
-    ensures { result ≡ list_any (λ other. row_eq (row_of row.now) (row_of other)) rows.now }
+    ensures { result ≡ list_any (λ other. alike (row_of row.now) (row_of other)) rows.now }
 {
-    rows.iter().any(|other| row.equals(other))
+    rows.iter().any(|other| row.is_like(other))
 }
 
-/// Whether one of the rows from an index on is equal to this one.
+/// The same for the rows from an index on.
 fn has_row_from(rows: &[RefRow<'_>], first: usize, row: &RefRow<'_>) -> bool
     requires { first ≤ length rows.now }
-    ensures { result ≡ list_any (λ other. row_eq (row_of row.now) (row_of other)) (drop first rows.now) }
+    ensures { result ≡ list_any (λ other. alike (row_of row.now) (row_of other)) (drop first rows.now) }
 {
     has_row(&rows[first..], row)
 }

@@ -101,8 +101,3 @@ marks-shown files marks =
     rows-of : (ps : List Place) → flat_map (λ (p : Place). row_line (place_row files p)) ps ≡ flat_map row_line (map (place_row files) ps)
     rows-of [] = refl
     rows-of (p ∷ ps) = ap (λ l. row_line (place_row files p) ++ l) (rows-of ps)
-
--- the rows of an answer; none where it was refused
-abbrev pub rows_in : Result (List AnswerRow) Refusal → List AnswerRow
-rows_in (Ok rows) = rows
-rows_in (Err r) = []

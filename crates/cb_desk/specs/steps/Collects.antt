@@ -1,12 +1,23 @@
 -- How an answer is collected.
-use Rattle.std.specs.Prelude.{◌≡◌, ◌≢◌, ◌⊎◌, ◌<◌, ◌≤◌, ℕ, List, [], ◌∷◌, ◌++◌, length, take, if◌then◌else◌}
+use Rattle.std.specs.Prelude.{◌≡◌, ◌≢◌, ◌⊎◌, ◌<◌, ◌≤◌, ℕ, Bool, ◌&&◌, ◌==◌, List, [], ◌∷◌, ◌++◌, length, take, if◌then◌else◌}
 use Rattle.std.specs.List.{AllByRecursion, list_any}
+use Rattle.std.specs.Str.{bytes_eq}
+use Rattle.cb_scan.specs.Lines.{line_text}
 use Rattle.cb_desk.specs.declared.collected.Group.{Group}
-use Rattle.cb_desk.specs.Answer.{AnswerRow, distinct, row_eq}
+use Rattle.cb_desk.specs.Answer.{AnswerRow, distinct, row_eq, unindented}
+use Rattle.cb_desk.specs.World.{File}
 
 -- the rows with one more at the end, unless an equal one is there
 abbrev pub kept : List AnswerRow → AnswerRow → List AnswerRow
 kept rows r = if list_any (row_eq r) rows then rows else rows ++ r ∷ []
+
+-- two rows are equal but for their texts
+abbrev pub alike : AnswerRow → AnswerRow → Bool
+alike r q = bytes_eq r.file q.file && bytes_eq r.function q.function && r.line == q.line
+
+-- a row has the text of another if it is of the same file and on the same line
+abbrev pub IsTextedLike : AnswerRow → AnswerRow → Type 0
+IsTextedLike q r = r.file ≡ q.file → r.line ≡ q.line → r.text ≡ q.text
 
 -- a list of rows in which equal ones stand once has taken in more rows
 abbrev pub Collects : List AnswerRow → List AnswerRow → List AnswerRow → Type 0
@@ -15,6 +26,10 @@ Collects old new more = (before : List AnswerRow) → old ≡ distinct before �
 -- a row is not of that file
 abbrev pub IsNotOf : List ℕ → AnswerRow → Type 0
 IsNotOf name r = r.file ≢ name
+
+-- a row of a file shows its line
+abbrev pub IfOfShows : File → AnswerRow → Type 0
+IfOfShows f r = IsNotOf f.name r ⊎ (r.text ≡ unindented (line_text f.bytes r.line))
 
 -- no row of the file is on a line after that of the group, and each of those before the group is on
 -- a line before

@@ -65,6 +65,22 @@ fn load_meets_a_refusal(rt: &impl Abort, alloc: Global) -> bool {
     )
 }
 
+/// Scans all files again. Where memory refuses it, nothing has moved, and then it is done.
+fn rebuild_meets_a_refusal(rt: &impl Abort, alloc: Global) -> bool {
+    let Ok(mut desk) = with_a_future(alloc) else {
+        return true;
+    };
+    match desk.rebuild(alloc) {
+        Ok(()) => false,
+        Err(refusal) => {
+            assert!(rt; refusal == Refusal::OutOfMemory);
+            assert!(rt; is_as_before(&mut desk));
+            assert!(rt; desk.rebuild(alloc) == Ok(()));
+            true
+        }
+    }
+}
+
 /// Asks for the definitions of a name. Where memory refuses it, it is answered the next time.
 fn rows_meet_a_refusal(rt: &impl Abort, alloc: Global) -> bool {
     let Ok(desk) = two_files(alloc) else {
@@ -292,6 +308,16 @@ fn refused_growth_of_pop(rt: HostRuntime) {
 #[test]
 fn no_refusal_of_pop(rt: HostRuntime) {
     assert!(rt; !pop_meets_a_refusal(&rt, rt.alloc()), "memory was refused");
+}
+
+#[test]
+fn refused_growth_of_rebuild(rt: HostRuntime) {
+    let _refused = rebuild_meets_a_refusal(&rt, rt.alloc());
+}
+
+#[test]
+fn no_refusal_of_rebuild(rt: HostRuntime) {
+    assert!(rt; !rebuild_meets_a_refusal(&rt, rt.alloc()), "memory was refused");
 }
 
 #[test]

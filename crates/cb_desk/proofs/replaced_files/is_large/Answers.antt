@@ -1,12 +1,8 @@
 use Rattle.std.proofs.Common.{◌≡◌, ◌≤◌, ◌∙◌, sym, ap, refl, ℕ, Bool, true, false, not, List, [], ◌∷◌, length, map, ◌==◌, nat_lt, arith}
 use Rattle.cb_desk.specs.declared.limits.TheConstants.{MOST_BYTES}
 use Rattle.cb_desk.specs.Replacement.{replaced_text}
-use Rattle.cb_desk.proofs.MarksAlong.{unmarked-text}
+use Rattle.cb_desk.proofs.MarksAlong.{nothing-in, unmarked-text}
 use Rattle.cb_desk.proofs.replaced_files.is_large.Goals as goal
-
-nothing-in : {X : Type 0} (xs : List X) → true ≡ (length xs == 0) → xs ≡ []
-nothing-in [] e = refl
-nothing-in (x ∷ xs) e = absurd (grind (arith, e))
 
 not-large : (n : ℕ) → n ≤ MOST_BYTES → false ≡ nat_lt MOST_BYTES n
 not-large n small = grind (arith, small)

@@ -1,16 +1,12 @@
 use Rattle.std.proofs.Common.{◌≡◌, ◌∙◌, sym, ap, refl, ℕ, suc, true, List, [], ◌∷◌, length, map, ◌==◌, arith, Result, Ok, Err, IfOk, MatchResult}
 use Rattle.cb_desk.specs.Replacement.{replaced_text}
 use Rattle.cb_desk.specs.World.{File}
-use Rattle.cb_desk.proofs.MarksAlong.{unmarked-text}
+use Rattle.cb_desk.proofs.MarksAlong.{nothing-in, unmarked-text}
 use Rattle.cb_desk.proofs.replaced_files.replaced_file.Goals as goal
 
 ok-from : {A E : Type 0} (P R : A → Type 0) (Q : E → Type 0) (r : Result A E) → ((x : A) → P x → R x) → MatchResult r P Q → IfOk r R
 ok-from P R Q (Ok x) along is = along x is
 ok-from P R Q (Err e) along is = tt
-
-nothing-in : {X : Type 0} (xs : List X) → true ≡ (length xs == 0) → xs ≡ []
-nothing-in [] e = refl
-nothing-in (x ∷ xs) e = absurd (grind (arith, e))
 
 pub returns-then-is_empty : goal.returns-then-is_empty
 returns-then-is_empty c =

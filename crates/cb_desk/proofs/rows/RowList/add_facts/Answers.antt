@@ -1,19 +1,20 @@
-use Rattle.std.proofs.Common.{◌≡◌, ◌∙◌, sym, ap, subst, false, ◌++◌, append-nil, length, take, take_all, arith}
+use Rattle.std.proofs.Common.{◌≡◌, ◌∙◌, sym, ap, refl, subst, false, ◌++◌, append-nil, length, take, take_all, arith}
 use Rattle.std.specs.List.{AllByRecursion}
 use Rattle.cb_scan.specs.Definitions.{facts_of}
 use Rattle.cb_desk.specs.Answer.{bytes_of, distinct, found_in, found_row, found_rows, is_asked, row_eq}
 use Rattle.cb_desk.specs.Models.{file_of}
 use Rattle.cb_desk.specs.World.{File}
-use Rattle.cb_desk.specs.steps.Collects.{kept}
+use Rattle.cb_desk.specs.steps.Collects.{IsTextedLike, kept}
 use Rattle.cb_desk.specs.steps.Found.{IsFoundAt}
 use Rattle.cb_desk.proofs.FoundRows.{found-here, found-passed, found-joins}
-use Rattle.cb_desk.proofs.Groups.{group-kept, unlike}
+use Rattle.cb_desk.proofs.Groups.{group-kept, shows-kept, shows-none, texted-like, unlike}
 use Rattle.cb_desk.proofs.rows.RowList.add_facts.Goals.{then-is_asked+in_ok-add, else-is_asked}
 use Rattle.cb_desk.proofs.rows.RowList.add_facts.Goals as goal
 
 pub loop-index-init : goal.loop-index-init
 loop-index-init c = record {
   so_far = λ before same. same ∙ sym (ap distinct (append-nil before));
+  shown = shows-none (file_of (c.args.name, c.args.source)) c.args.self.now c.requires;
   group = c.start-group.ensures c.args.name.now c.args.self.now (sym c.len.ensures) c.requires;
 }
 
@@ -33,6 +34,12 @@ add-requires-clause-others c =
     subst (λ q. AllByRecursion (λ other. row_eq q other ≡ false) (take c.first_on.result c.loop-index.self)) (sym c.found_row.ensures)
     (unlike (found_row (file_of (c.args.name, c.args.source)) c.found_at-found.result) (take c.first_on.result c.loop-index.self) (c.first_on.ensures.others c.args.name.now c.loop-index.self group))
 
+pub add-requires-clause-texts : goal.add-requires-clause-texts
+add-requires-clause-texts c =
+    let f : File = file_of (c.args.name, c.args.source) in
+    subst (λ q. AllByRecursion (IsTextedLike q) c.loop-index.self) (sym c.found_row.ensures)
+    (texted-like f (found_row f c.found_at-found.result) c.loop-index.self refl refl c.loop-index.invariant.shown)
+
 pub loop-index-preserved : goal.loop-index-preserved
 loop-index-preserved c =
     let f : File = file_of (c.args.name, c.args.source) in
@@ -46,11 +53,13 @@ loop-index-preserved c =
           let group = w.after-group.ensures.group c.args.name.now c.loop-index.self (sym w.len-then-is_asked.ensures) c.loop-index.invariant.group in
           rw (w.self-is, w.in_ok-add.ensures, w.found_row.ensures, w.group-is) (record {
             so_far = λ before same. ap (λ rows. kept rows (found_row f x)) (c.loop-index.invariant.so_far before same) ∙ sym (found-joins c.args.field c.args.pattern.now f xs c.loop-index.index x next before (sym asked ∙ w.if-is_asked.true));
+            shown = shows-kept f (found_row f x) c.loop-index.self refl c.loop-index.invariant.shown;
             group = group-kept (found_row f x) c.loop-index.self w.after-group.result w.after-group.ensures.least group;
           })
       | else-is_asked w ↦ rw (w.self-is, w.group-is) (record {
         so_far = λ before same. c.loop-index.invariant.so_far before same ∙ ap (λ rows. distinct (before ++ rows)) (sym (found-passed c.args.field c.args.pattern.now f xs c.loop-index.index x next (sym asked ∙ w.if-is_asked.false)));
-        group = c.loop-index.invariant.group;
+        shown = c.loop-index.invariant.shown;
+          group = c.loop-index.invariant.group;
       })
     ]
 

@@ -1,7 +1,7 @@
 use Rattle.std.proofs.Common.{◌≡◌, ◌∙◌, sym, ap, subst, false, cond, ◌∷◌, [], ◌++◌, append-nil, inl, take}
 use Rattle.std.specs.List.{AllByRecursion}
 use Rattle.cb_desk.specs.Answer.{distinct, file_row, row_eq}
-use Rattle.cb_desk.specs.steps.Collects.{IsNotOf, kept}
+use Rattle.cb_desk.specs.steps.Collects.{IsNotOf, IsTextedLike, kept}
 use Rattle.cb_desk.proofs.Distinct.{distinct-push}
 use Rattle.cb_desk.proofs.Groups.{NotOn, all-take, unlike}
 use Rattle.cb_desk.proofs.Valid.{all-along}
@@ -13,6 +13,11 @@ add-requires-clause-others c =
     let apart = all-along (IsNotOf name) (NotOn name 1) c.args.self.now (λ r other. inl other) c.requires in
     subst (λ q. AllByRecursion (λ other. row_eq q other ≡ false) (take c.len-first.result c.args.self.now)) (sym c.file_row.ensures)
     (all-take (λ other. row_eq (file_row name) other ≡ false) c.len-first.result c.args.self.now (unlike (file_row name) c.args.self.now apart))
+
+pub add-requires-clause-texts : goal.add-requires-clause-texts
+add-requires-clause-texts c =
+    subst (λ q. AllByRecursion (IsTextedLike q) c.args.self.now) (sym c.file_row.ensures)
+    (all-along (IsNotOf c.args.name.now) (IsTextedLike (file_row c.args.name.now)) c.args.self.now (λ r other same line. absurd (other same)) c.requires)
 
 pub returns : goal.returns
 returns c before same =
