@@ -1,8 +1,10 @@
 pub mod Counting
 pub mod Distinct
 pub mod FeedsCounted
+pub mod FilesApart
 pub mod FoundRows
 pub mod Gaps
+pub mod Groups
 pub mod HeldRows
 pub mod MarkedLines
 pub mod Moves

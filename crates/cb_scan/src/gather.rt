@@ -8,7 +8,7 @@ ghost use Rattle.cb_scan.specs.steps.Structures.{next_naming, structure_found};
 ghost use Rattle.cb_scan.specs.steps.Typedefs.{nesting_of, next_declaration, next_pending, typedefs_out};
 
 use crate::facts::{Call, Def, Include};
-use crate::lex::token::Token;
+use crate::lex::token::{Role, Token};
 use crate::rules::directives::Stage;
 use crate::rules::functions::Machine;
 use crate::rules::scope::Range;
@@ -57,24 +57,6 @@ fn push_some<T: Drop>(list: &mut Vec<T>, item: Option<T>) -> Result<(), AllocErr
     Ok(())
 }
 
-impl CodeState {
-    /// After a token of the code, with the typedef that is open after it. This takes no memory, so
-    /// that the state goes through no `Result`.
-    pub(crate) fn after(self, token: Token, declared: Option<Declaration>) -> CodeState
-        requires deep { self.machine.depth + 1 < 2 ^ 32 }
-        ensures machine { result.machine ≡ next self.machine token }
-        ensures declared { result.declared ≡ declared }
-        ensures naming { result.naming ≡ next_naming self.naming token }
-        ensures deep { result.machine.depth ≤ self.machine.depth + 1 }
-    {
-        CodeState {
-            machine: self.machine.next(token),
-            declared,
-            naming: self.naming.next(token),
-        }
-    }
-}
-
 impl CodeLists {
     pub(crate) fn new(alloc: Global) -> CodeLists
         ensures functions { result.functions.items ≡ [] }
@@ -94,55 +76,85 @@ impl CodeLists {
         }
     }
 
-    /// A token of the code, in the state of the pass before it; gives the typedef that is open after
-    /// it.
-    pub(crate) fn add(
-        &mut self,
-        state: CodeState,
-        token: Token,
-    ) -> Result<Option<Declaration>, AllocError>
-        requires nested { nesting_of state.declared + 1 < 2 ^ 32 }
-        ensures declared { IfOk result
-            (λ d. d ≡ next_declaration state.machine state.declared token) }
-        ensures nested { IfOk result (λ d. nesting_of d ≤ nesting_of state.declared + 1) }
+    /// What a token of the code gives at once, in the state of the pass before it. Most tokens are
+    /// none of the marks that can give something.
+    fn find(&mut self, state: &CodeState, token: &Token) -> Result<(), AllocError>
         ensures functions { IfOk result
             (λ _. self.new.functions.items ≡ self.old.functions.items
-            ++ option_to_list (found state.machine token)) }
+            ++ option_to_list (found state.now.machine token.now)) }
         ensures ranges { IfOk result
             (λ _. self.new.ranges.items ≡ self.old.ranges.items
-            ++ option_to_list (closed state.machine token)) }
+            ++ option_to_list (closed state.now.machine token.now)) }
         ensures calls { IfOk result
             (λ _. self.new.calls.items ≡ self.old.calls.items
-            ++ option_to_list (called state.machine token)) }
-        ensures pending { IfOk result
-            (λ _. self.new.pending.items
-            ≡ next_pending state.machine state.declared self.old.pending.items token) }
-        ensures typedefs { IfOk result
-            (λ _. self.new.typedefs.items ≡ self.old.typedefs.items
-            ++ typedefs_out state.machine state.declared self.old.pending.items token) }
+            ++ option_to_list (called state.now.machine token.now)) }
         ensures structures { IfOk result
             (λ _. self.new.structures.items ≡ self.old.structures.items
-            ++ option_to_list (structure_found state.naming token)) }
+            ++ option_to_list (structure_found state.now.naming token.now)) }
+        ensures pending { IfOk result (λ _. self.new.pending ≡ self.old.pending) }
+        ensures typedefs { IfOk result (λ _. self.new.typedefs ≡ self.old.typedefs) }
     {
-        let machine = state.machine;
-        push_some(&mut self.functions, machine.found(token))?;
-        push_some(&mut self.ranges, machine.closed(token))?;
-        push_some(&mut self.calls, machine.called(token))?;
-        push_some(&mut self.structures, state.naming.found(token))?;
+        match token.role {
+            Role::Mark(b'{') => {
+                push_some(&mut self.functions, state.machine.found(token))?;
+                push_some(&mut self.structures, state.naming.found(token))
+            }
+            Role::Mark(b'}') => push_some(&mut self.ranges, state.machine.closed(token)),
+            Role::Mark(b'(') => push_some(&mut self.calls, state.machine.called(token)),
+            _ => Ok(()),
+        }
+    }
+
+    /// A token of the code, which moves the state of the pass.
+    pub(crate) fn add(&mut self, state: &mut CodeState, token: &Token) -> Result<(), AllocError>
+        requires deep { state.old.machine.depth + 1 < 2 ^ 32 }
+        requires nested { nesting_of state.old.declared + 1 < 2 ^ 32 }
+        ensures machine { IfOk result (λ _. state.new.machine ≡ next state.old.machine token.now) }
+        ensures deep { IfOk result
+            (λ _. state.new.machine.depth ≤ state.old.machine.depth + 1) }
+        ensures declared { IfOk result
+            (λ _. state.new.declared
+            ≡ next_declaration state.old.machine state.old.declared token.now) }
+        ensures nested { IfOk result
+            (λ _. nesting_of state.new.declared ≤ nesting_of state.old.declared + 1) }
+        ensures naming { IfOk result (λ _. state.new.naming ≡ next_naming state.old.naming token.now) }
+        ensures functions { IfOk result
+            (λ _. self.new.functions.items ≡ self.old.functions.items
+            ++ option_to_list (found state.old.machine token.now)) }
+        ensures ranges { IfOk result
+            (λ _. self.new.ranges.items ≡ self.old.ranges.items
+            ++ option_to_list (closed state.old.machine token.now)) }
+        ensures calls { IfOk result
+            (λ _. self.new.calls.items ≡ self.old.calls.items
+            ++ option_to_list (called state.old.machine token.now)) }
+        ensures pending { IfOk result
+            (λ _. self.new.pending.items ≡ next_pending state.old.machine state.old.declared
+            self.old.pending.items token.now) }
+        ensures typedefs { IfOk result
+            (λ _. self.new.typedefs.items ≡ self.old.typedefs.items
+            ++ typedefs_out state.old.machine state.old.declared self.old.pending.items token.now) }
+        ensures structures { IfOk result
+            (λ _. self.new.structures.items ≡ self.old.structures.items
+            ++ option_to_list (structure_found state.old.naming token.now)) }
+    {
+        self.find(state, token)?;
         take_token(
-            machine,
-            state.declared,
+            &state.machine,
+            &mut state.declared,
             token,
             &mut self.pending,
             &mut self.typedefs,
-        )
+        )?;
+        state.machine.next(token);
+        state.naming.next(token);
+        Ok(())
     }
 
     /// The end of the text, in the state of the pass there.
-    pub(crate) fn end(&mut self, machine: Machine, end: u32) -> Result<(), AllocError>
+    pub(crate) fn end(&mut self, machine: &Machine, end: u32) -> Result<(), AllocError>
         ensures ranges { IfOk result
             (λ _. self.new.ranges.items ≡ self.old.ranges.items
-            ++ option_to_list (left_open machine end)) }
+            ++ option_to_list (left_open machine.now end)) }
         ensures others { IfOk result
             (λ _. self.new ≡ record self.old { ranges = self.new.ranges }) }
     {
@@ -167,41 +179,42 @@ impl LineLists {
         }
     }
 
-    /// A token, by how far its line came before it; gives how far it comes with it.
+    /// A token, which moves the state of its line.
     pub(crate) fn add(
         &mut self,
         text: &[u8],
-        line: Stage,
-        token: Token,
-    ) -> Result<Stage, AllocError>
-        requires some { token.span.start < token.span.end }
-        requires within { token.span.end ≤ length text.now }
+        line: &mut Stage,
+        token: &Token,
+    ) -> Result<(), AllocError>
+        requires some { token.now.span.start < token.now.span.end }
+        requires within { token.now.span.end ≤ length text.now }
         requires few { length text.now ≤ MOST_BYTES }
-        ensures line { IfOk result (λ s. s ≡ next_stage line token) }
+        ensures line { IfOk result (λ _. line.new ≡ next_stage line.old token.now) }
         ensures names { IfOk result
-            (λ _. self.new.names.items ≡ self.old.names.items ++ use_out line token) }
+            (λ _. self.new.names.items ≡ self.old.names.items ++ use_out line.old token.now) }
         ensures macros { IfOk result
-            (λ _. self.new.macros.items ≡ self.old.macros.items ++ macro_out line token) }
+            (λ _. self.new.macros.items ≡ self.old.macros.items ++ macro_out line.old token.now) }
         ensures calls { IfOk result
-            (λ _. self.new.calls.items ≡ self.old.calls.items ++ macro_call_out line token) }
+            (λ _. self.new.calls.items ≡ self.old.calls.items ++ macro_call_out line.old token.now) }
         ensures includes { IfOk result
             (λ _. self.new.includes.items ≡ self.old.includes.items
-            ++ include_out text.now line token) }
+            ++ include_out text.now line.old token.now) }
         ensures ranges { IfOk result (λ _. self.new.ranges.items ≡ self.old.ranges.items) }
     {
         if line.is_use(token) {
-            self.names.push(token)?;
+            self.names.push(*token)?;
         }
         push_some(&mut self.macros, line.macro_found(token))?;
         push_some(&mut self.calls, line.macro_call(token))?;
         push_some(&mut self.includes, line.include_found(text, token))?;
-        Ok(line.next(token))
+        line.next(token);
+        Ok(())
     }
 
     /// The end of a line that came so far, and the place where it ends.
-    pub(crate) fn end(&mut self, line: Stage, end: u32) -> Result<(), AllocError>
+    pub(crate) fn end(&mut self, line: &Stage, end: u32) -> Result<(), AllocError>
         ensures ranges { IfOk result
-            (λ _. self.new.ranges.items ≡ self.old.ranges.items ++ range_finish line end) }
+            (λ _. self.new.ranges.items ≡ self.old.ranges.items ++ range_finish line.now end) }
         ensures others { IfOk result
             (λ _. self.new ≡ record self.old { ranges = self.new.ranges }) }
     {

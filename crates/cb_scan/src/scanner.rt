@@ -83,19 +83,18 @@ fn gather(alloc: Global, text: &[u8]) -> Result<Gathered, AllocError>
     };
     for lined in lined_pieces(text) {
         if lined.piece.class == Class::Newline {
-            lines.end(line, lined.piece.span.start)?;
+            lines.end(&line, lined.piece.span.start)?;
             line = Stage::Start;
         } else if is_significant(lined.piece.class) {
             let token = token_of(text, lined);
-            line = lines.add(text, line, token)?;
+            lines.add(text, &mut line, &token)?;
             if line.is_code() {
-                let declared = code.add(state, token)?;
-                state = state.after(token, declared);
+                code.add(&mut state, &token)?;
             }
         }
     }
-    lines.end(line, text.len() as u32)?;
-    code.end(state.machine, text.len() as u32)?;
+    lines.end(&line, text.len() as u32)?;
+    code.end(&state.machine, text.len() as u32)?;
     Ok(Gathered { code, lines })
 }
 

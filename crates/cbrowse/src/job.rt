@@ -9,7 +9,7 @@ mod matched;
 #[cfg(test)]
 mod tests;
 
-use cb_desk::Format;
+use cb_desk::{Field, Format};
 use clap::Error;
 use clap::error::ErrorKind;
 use std::alloc::{AllocError, Global};
@@ -19,6 +19,12 @@ use std::alloc::{AllocError, Global};
 pub enum Job {
     /// A session over standard input and output, with these files loaded first.
     Line {
+        files: Vec<String>,
+    },
+    /// The rows that answer a question about these files. The pattern is not empty.
+    Find {
+        field: Field,
+        pattern: String,
         files: Vec<String>,
     },
     /// The tags of these files: a listing on standard output, or else a tags file of this name and form.
@@ -37,6 +43,10 @@ pub enum Usage {
     Help(String),
     /// The words are wrong: the text that says why.
     Wrong(String),
+    /// The number of a search is not that of a field.
+    BadField,
+    /// The pattern of a search is empty.
+    NoPattern,
     /// A growth of memory was refused.
     Memory,
 }
@@ -60,7 +70,11 @@ pub fn job_of(alloc: Global, words: &[String]) -> Result<Job, Usage>
         Ok(matches) => matches,
         Err(error) => return Err(usage_of(alloc, &error)),
     };
-    match matched::found_job(alloc, &matches)? {
+    let found = match matched::found_job(alloc, &matches) {
+        Ok(found) => found,
+        Err(usage) => return Err(usage),
+    };
+    match found {
         Some(job) => Ok(job),
         // clap refuses words without a subcommand and other formats, so no words lead here.
         None => Err(Usage::Wrong(command.render_usage()?)),

@@ -62,30 +62,30 @@ pub(crate) enum Stage {
 }
 
 /// Whether a `(` directly follows the name: then the macro has arguments.
-fn opens_arguments(name: Token, token: Token) -> bool
-    ensures { result ≡ opens_arguments name token }
+fn opens_arguments(name: Token, token: &Token) -> bool
+    ensures { result ≡ opens_arguments name token.now }
 {
     token.is_mark(b'(') && token.span.start == name.span.end
 }
 
 impl Defining {
     /// After a token.
-    fn next(self, token: Token) -> Defining
-        ensures { result ≡ next_defining self token }
+    fn next(&mut self, token: &Token)
+        ensures { self.new ≡ next_defining self.old token.now }
     {
-        match self {
-            Defining::Begun if token.is_name() => Defining::Name(token),
+        *self = match *self {
+            Defining::Begun if token.is_name() => Defining::Name(*token),
             Defining::Name(name) if opens_arguments(name, token) => Defining::Arguments(name.span),
             Defining::Arguments(name) if token.is_mark(b')') => Defining::Body(name, None),
-            Defining::Arguments(_) => self,
-            Defining::Body(name, _) => Defining::Body(name, Some(token)),
+            Defining::Arguments(_) => *self,
+            Defining::Body(name, _) => Defining::Body(name, Some(*token)),
             Defining::Begun | Defining::Name(_) | Defining::Other => Defining::Other,
-        }
+        };
     }
 
     /// The macro that the next token names, with arguments or without, if it names one.
-    fn named(self, token: Token) -> Option<Def>
-        ensures { result ≡ macro_named self token }
+    fn named(&self, token: &Token) -> Option<Def>
+        ensures { result ≡ macro_named self.now token.now }
     {
         match self {
             Defining::Begun if token.is_name() => Some(Def {
@@ -99,20 +99,20 @@ impl Defining {
     }
 
     /// The range of the macro, where the line ends at a place.
-    fn ended(self, end: u32) -> Option<Range>
-        ensures { result ≡ range_ended self end }
+    fn ended(&self, end: u32) -> Option<Range>
+        ensures { result ≡ range_ended self.now end }
     {
-        match self {
+        match *self {
             Defining::Arguments(name) | Defining::Body(name, _) => Some(Range { name, end }),
             _ => None,
         }
     }
 
     /// The call that the last token is, if the next one tells so.
-    fn call(self, token: Token) -> Option<Call>
-        ensures { result ≡ body_call self token }
+    fn call(&self, token: &Token) -> Option<Call>
+        ensures { result ≡ body_call self.now token.now }
     {
-        match self {
+        match *self {
             Defining::Body(caller, Some(last)) if last.is_name() && token.is_mark(b'(') => Some(
                 Call {
                     callee: last.span,
@@ -127,26 +127,26 @@ impl Defining {
 
 impl Including {
     /// After a token.
-    fn next(self, token: Token) -> Including
-        ensures { result ≡ next_including self token }
+    fn next(&mut self, token: &Token)
+        ensures { self.new ≡ next_including self.old token.now }
     {
-        match self {
-            Including::Begun if token.is_mark(b'<') => Including::Angle(token),
-            Including::Angle(_) if !token.is_mark(b'>') => self,
+        *self = match *self {
+            Including::Begun if token.is_mark(b'<') => Including::Angle(*token),
+            Including::Angle(_) if !token.is_mark(b'>') => *self,
             _ => Including::Done,
-        }
+        };
     }
 
     /// The include whose header the next token is or ends.
-    fn found(self, text: &[u8], token: Token) -> Option<Include>
-        requires some { token.span.start < token.span.end }
-        requires within { token.span.end ≤ length text.now }
+    fn found(&self, text: &[u8], token: &Token) -> Option<Include>
+        requires some { token.now.span.start < token.now.span.end }
+        requires within { token.now.span.end ≤ length text.now }
         requires small { length text.now ≤ MOST_BYTES }
-        ensures { option_to_list result ≡ header_found text.now self token }
+        ensures { option_to_list result ≡ header_found text.now self.now token.now }
     {
-        match (self, token.role) {
-            (Including::Begun, Role::Str) => string_header(text, token),
-            (Including::Angle(open), Role::Mark(b'>')) => angle_header(open, token),
+        match (*self, token.role) {
+            (Including::Begun, Role::Str) => string_header(text, *token),
+            (Including::Angle(open), Role::Mark(b'>')) => angle_header(open, *token),
             _ => None,
         }
     }
@@ -154,8 +154,8 @@ impl Including {
 
 impl Directive {
     /// After the own word of a directive.
-    fn of(own: Token) -> Directive
-        ensures { result ≡ directive_of own }
+    fn of(own: &Token) -> Directive
+        ensures { result ≡ directive_of own.now }
     {
         match own.role {
             Role::Word(WordKind::Define) => Directive::Define(Defining::Begun),
@@ -165,40 +165,41 @@ impl Directive {
     }
 
     /// After a token.
-    fn next(self, token: Token) -> Directive
-        ensures { result ≡ next_directive self token }
+    fn next(&mut self, token: &Token)
+        ensures { self.new ≡ next_directive self.old token.now }
     {
         match self {
-            Directive::Hash => Directive::of(token),
-            Directive::Define(define) => Directive::Define(define.next(token)),
-            Directive::Include(include) => Directive::Include(include.next(token)),
-            Directive::Other => Directive::Other,
+            Directive::Hash => *self = Directive::of(token),
+            Directive::Define(define) => define.next(token),
+            Directive::Include(include) => include.next(token),
+            Directive::Other => {}
         }
     }
 }
 
 impl Stage {
     /// After a token.
-    pub(crate) fn next(self, token: Token) -> Stage
-        ensures { result ≡ next_stage self token }
+    pub(crate) fn next(&mut self, token: &Token)
+        ensures { self.new ≡ next_stage self.old token.now }
     {
         match self {
-            Stage::Start if token.is_mark(b'#') => Stage::Directive(Directive::Hash),
-            Stage::Start | Stage::Code => Stage::Code,
-            Stage::Directive(directive) => Stage::Directive(directive.next(token)),
+            Stage::Start if token.is_mark(b'#') => *self = Stage::Directive(Directive::Hash),
+            Stage::Start => *self = Stage::Code,
+            Stage::Code => {}
+            Stage::Directive(directive) => directive.next(token),
         }
     }
 
     /// Whether the last token was code.
-    pub(crate) fn is_code(self) -> bool
-        ensures { result ≡ is_code self }
+    pub(crate) fn is_code(&self) -> bool
+        ensures { result ≡ is_code self.now }
     {
         matches!(self, Stage::Code)
     }
 
     /// Whether the next token is a use.
-    pub(crate) fn is_use(self, token: Token) -> bool
-        ensures { result ≡ (is_name_token token.role && names_count self) }
+    pub(crate) fn is_use(&self, token: &Token) -> bool
+        ensures { result ≡ (is_name_token token.now.role && names_count self.now) }
     {
         token.is_name()
             && !matches!(
@@ -208,8 +209,8 @@ impl Stage {
     }
 
     /// The macro that the next token names, with arguments or without, if it names one.
-    pub(crate) fn macro_found(self, token: Token) -> Option<Def>
-        ensures { result ≡ macro_found self token }
+    pub(crate) fn macro_found(&self, token: &Token) -> Option<Def>
+        ensures { result ≡ macro_found self.now token.now }
     {
         match self {
             Stage::Directive(Directive::Define(define)) => define.named(token),
@@ -218,8 +219,8 @@ impl Stage {
     }
 
     /// The range of the macro whose line ends at a place.
-    pub(crate) fn macro_ended(self, end: u32) -> Option<Range>
-        ensures { result ≡ macro_ended self end }
+    pub(crate) fn macro_ended(&self, end: u32) -> Option<Range>
+        ensures { result ≡ macro_ended self.now end }
     {
         match self {
             Stage::Directive(Directive::Define(define)) => define.ended(end),
@@ -228,8 +229,8 @@ impl Stage {
     }
 
     /// The call that the last token is, if the next one tells so.
-    pub(crate) fn macro_call(self, token: Token) -> Option<Call>
-        ensures { result ≡ macro_call self token }
+    pub(crate) fn macro_call(&self, token: &Token) -> Option<Call>
+        ensures { result ≡ macro_call self.now token.now }
     {
         match self {
             Stage::Directive(Directive::Define(define)) => define.call(token),
@@ -238,11 +239,11 @@ impl Stage {
     }
 
     /// The include whose header the next token is or ends.
-    pub(crate) fn include_found(self, text: &[u8], token: Token) -> Option<Include>
-        requires some { token.span.start < token.span.end }
-        requires within { token.span.end ≤ length text.now }
+    pub(crate) fn include_found(&self, text: &[u8], token: &Token) -> Option<Include>
+        requires some { token.now.span.start < token.now.span.end }
+        requires within { token.now.span.end ≤ length text.now }
         requires small { length text.now ≤ MOST_BYTES }
-        ensures { option_to_list result ≡ include_out text.now self token }
+        ensures { option_to_list result ≡ include_out text.now self.now token.now }
     {
         match self {
             Stage::Directive(Directive::Include(include)) => include.found(text, token),

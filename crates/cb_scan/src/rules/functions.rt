@@ -1,5 +1,7 @@
 //! The one pass that finds functions: a small state that every token of the code moves.
-ghost use Rattle.std.specs.Prelude.{◌≡◌, ◌+◌, ◌<◌, ◌≤◌, ◌^◌};
+ghost use Rattle.std.specs.Prelude.{◌≡◌, ◌+◌, ◌<◌, ◌≤◌, ◌^◌, false};
+ghost use Rattle.cb_scan.specs.Bytes.{close_brace, open_brace, semicolon};
+ghost use Rattle.cb_scan.specs.lex.Tokens.{is_mark};
 ghost use Rattle.cb_scan.specs.steps.Functions.{before_after, called, closed, counts, found, left_open, next, next_body, next_depth, next_open, start, stops};
 
 use crate::facts::{Call, Def};
@@ -28,8 +30,8 @@ pub(crate) struct Machine {
 }
 
 /// What is directly before the token after this one.
-fn before_after(before: Before, token: Token) -> Before
-    ensures { result ≡ before_after before token }
+fn before_after(before: Before, token: &Token) -> Before
+    ensures { result ≡ before_after before token.now }
 {
     match (token.role, before) {
         (Role::Word(WordKind::Extern), _) => Before::Extern,
@@ -52,16 +54,16 @@ impl Machine {
         }
     }
 
-    fn counts(self, token: Token) -> bool
-        ensures { result ≡ counts self token }
+    fn counts(&self, token: &Token) -> bool
+        ensures { result ≡ counts self.now token.now }
     {
         token.is_mark(b'{') && !matches!(self.before, Before::Linkage)
     }
 
-    fn next_depth(self, token: Token) -> u32
-        requires { self.depth + 1 < 2 ^ 32 }
-        ensures value { result ≡ next_depth self token }
-        ensures small { result ≤ self.depth + 1 }
+    fn next_depth(&self, token: &Token) -> u32
+        requires { self.now.depth + 1 < 2 ^ 32 }
+        ensures value { result ≡ next_depth self.now token.now }
+        ensures small { result ≤ self.now.depth + 1 }
     {
         if self.counts(token) {
             self.depth + 1
@@ -74,9 +76,9 @@ impl Machine {
         }
     }
 
-    fn stops(self, token: Token, after: u32) -> bool
-        requires { after ≡ next_depth self token }
-        ensures { result ≡ stops self token }
+    fn stops(&self, token: &Token, after: u32) -> bool
+        requires { after ≡ next_depth self.now token.now }
+        ensures { result ≡ stops self.now token.now }
     {
         match token.role {
             Role::Mark(b';') => self.depth == 0,
@@ -87,9 +89,9 @@ impl Machine {
     }
 
     /// The name of the function whose body the next token is in.
-    fn next_body(self, token: Token, after: u32) -> Option<Span>
-        requires { after ≡ next_depth self token }
-        ensures { result ≡ next_body self token }
+    fn next_body(&self, token: &Token, after: u32) -> Option<Span>
+        requires { after ≡ next_depth self.now token.now }
+        ensures { result ≡ next_body self.now token.now }
     {
         if self.depth == 0 {
             return match self.found(token) {
@@ -102,9 +104,9 @@ impl Machine {
 
     /// The function in the old style that is open after a token: a `;` that is a stop may open one,
     /// and every other stop ends it.
-    fn next_open(self, token: Token, is_stop: bool) -> Option<Def>
-        requires { is_stop ≡ stops self token }
-        ensures { result ≡ next_open self token }
+    fn next_open(&self, token: &Token, is_stop: bool) -> Option<Def>
+        requires { is_stop ≡ stops self.now token.now }
+        ensures { result ≡ next_open self.now token.now }
     {
         if !is_stop {
             self.opened
@@ -115,31 +117,60 @@ impl Machine {
         }
     }
 
-    /// The state after a token of the code.
+    /// After a brace or a `;`.
     #[tactic(auto, unfolding(crate::specs::steps::Functions::next))]
-    pub(crate) fn next(self, token: Token) -> Machine
-        requires { self.depth + 1 < 2 ^ 32 }
-        ensures value { result ≡ next self token }
-        ensures small { result.depth ≤ self.depth + 1 }
+    fn turn(&mut self, token: &Token)
+        requires { self.old.depth + 1 < 2 ^ 32 }
+        ensures value { self.new ≡ next self.old token.now }
+        ensures small { self.new.depth ≤ self.old.depth + 1 }
     {
         let depth = self.next_depth(token);
         let is_stop = self.stops(token, depth);
-        Machine {
-            depth,
-            before: before_after(self.before, token),
-            head: if is_stop {
-                Head::new()
-            } else {
-                self.head.add(token)
-            },
-            opened: self.next_open(token, is_stop),
-            body: self.next_body(token, depth),
+        let body = self.next_body(token, depth);
+        let opened = self.next_open(token, is_stop);
+        self.depth = depth;
+        self.before = before_after(self.before, token);
+        if is_stop {
+            self.head = Head::new();
+        } else {
+            self.head.add(token);
+        }
+        self.opened = opened;
+        self.body = body;
+    }
+
+    /// After any other token: then the depth stays.
+    #[tactic(auto, unfolding(crate::specs::steps::Functions::next))]
+    fn go_on(&mut self, token: &Token)
+        requires no_open_brace { is_mark open_brace token.now.role ≡ false }
+        requires no_close_brace { is_mark close_brace token.now.role ≡ false }
+        requires no_semicolon { is_mark semicolon token.now.role ≡ false }
+        ensures value { self.new ≡ next self.old token.now }
+        ensures same { self.new.depth ≡ self.old.depth }
+    {
+        self.before = before_after(self.before, token);
+        self.head.add(token);
+        if self.depth == 0 {
+            self.body = None;
+        }
+    }
+
+    /// After a token of the code.
+    pub(crate) fn next(&mut self, token: &Token)
+        requires { self.old.depth + 1 < 2 ^ 32 }
+        ensures value { self.new ≡ next self.old token.now }
+        ensures small { self.new.depth ≤ self.old.depth + 1 }
+    {
+        if token.is_mark(b'{') || token.is_mark(b'}') || token.is_mark(b';') {
+            self.turn(token);
+        } else {
+            self.go_on(token);
         }
     }
 
     /// The function whose body the token opens, if it opens one.
-    pub(crate) fn found(self, token: Token) -> Option<Def>
-        ensures { result ≡ found self token }
+    pub(crate) fn found(&self, token: &Token) -> Option<Def>
+        ensures { result ≡ found self.now token.now }
     {
         if self.depth != 0 || !self.counts(token) {
             return None;
@@ -151,8 +182,8 @@ impl Machine {
     }
 
     /// The range of the function whose body the token ends, if it ends one.
-    pub(crate) fn closed(self, token: Token) -> Option<Range>
-        ensures { result ≡ closed self token }
+    pub(crate) fn closed(&self, token: &Token) -> Option<Range>
+        ensures { result ≡ closed self.now token.now }
     {
         let name = self.body?;
         let ends = token.is_mark(b'}') && (token.starts_line || self.depth <= 1);
@@ -167,8 +198,8 @@ impl Machine {
     }
 
     /// The call of the token before, if it is one.
-    pub(crate) fn called(self, token: Token) -> Option<Call>
-        ensures { result ≡ called self token }
+    pub(crate) fn called(&self, token: &Token) -> Option<Call>
+        ensures { result ≡ called self.now token.now }
     {
         match (self.body, self.head.last) {
             (Some(caller), Some(name)) if name.is_name() && token.is_mark(b'(') => Some(Call {
@@ -181,8 +212,8 @@ impl Machine {
     }
 
     /// The range of the function whose body the end of the text ends.
-    pub(crate) fn left_open(self, end: u32) -> Option<Range>
-        ensures { result ≡ left_open self end }
+    pub(crate) fn left_open(&self, end: u32) -> Option<Range>
+        ensures { result ≡ left_open self.now end }
     {
         match self.body {
             Some(name) => Some(Range { name, end }),

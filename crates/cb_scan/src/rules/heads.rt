@@ -35,8 +35,8 @@ pub(crate) struct Head {
 }
 
 /// Whether the token is the `(` behind a called name.
-fn calls_last(last: Option<Token>, token: Token) -> bool
-    ensures { result ≡ calls_last last token }
+fn calls_last(last: &Option<Token>, token: &Token) -> bool
+    ensures { result ≡ calls_last last.now token.now }
 {
     match last {
         Some(name) => token.is_mark(b'(') && name.is_name(),
@@ -44,20 +44,18 @@ fn calls_last(last: Option<Token>, token: Token) -> bool
     }
 }
 
-/// The first called name so far, after one more token.
-fn called_after(called: Option<Token>, last: Option<Token>, token: Token) -> Option<Token>
-    ensures { result ≡ called_after called last token }
+/// Keeps the first called name, after one more token.
+fn call(called: &mut Option<Token>, last: &Option<Token>, token: &Token)
+    ensures { called.new ≡ called_after called.old last.now token.now }
 {
     if called.is_none() && calls_last(last, token) {
-        last
-    } else {
-        called
+        *called = *last;
     }
 }
 
 /// How far the list of names has come, after one more token.
-fn listing_after(listing: Listing, last: Option<Token>, token: Token) -> Listing
-    ensures { result ≡ listing_after listing last token }
+fn listing_after(listing: Listing, last: &Option<Token>, token: &Token) -> Listing
+    ensures { result ≡ listing_after listing last.now token.now }
 {
     match listing {
         Listing::Nothing if calls_last(last, token) => Listing::Open,
@@ -98,32 +96,23 @@ impl Head {
     }
 
     /// One more token.
-    pub(crate) fn add(self, token: Token) -> Head
-        ensures { result ≡ add self token }
+    pub(crate) fn add(&mut self, token: &Token)
+        ensures { self.new ≡ add self.old token.now }
     {
-        let is_first = self.last.is_none();
-        Head {
-            last: Some(token),
-            begins_with_word: if is_first {
-                token.is_word()
-            } else {
-                self.begins_with_word
-            },
-            begins_with_typedef: if is_first {
-                token.is_typedef()
-            } else {
-                self.begins_with_typedef
-            },
-            has_equals: self.has_equals || token.is_mark(b'='),
-            has_static: self.has_static || token.is_static(),
-            called: called_after(self.called, self.last, token),
-            listing: listing_after(self.listing, self.last, token),
+        if self.last.is_none() {
+            self.begins_with_word = token.is_word();
+            self.begins_with_typedef = token.is_typedef();
         }
+        self.has_equals = self.has_equals || token.is_mark(b'=');
+        self.has_static = self.has_static || token.is_static();
+        call(&mut self.called, &self.last, token);
+        self.listing = listing_after(self.listing, &self.last, token);
+        self.last = Some(*token);
     }
 
     /// The function that the head defines, if it is that of one.
-    pub(crate) fn defined(self) -> Option<Def>
-        ensures { result ≡ defined self }
+    pub(crate) fn defined(&self) -> Option<Def>
+        ensures { result ≡ defined self.now }
     {
         match (self.last, self.called) {
             (Some(last), Some(name))
@@ -138,22 +127,22 @@ impl Head {
     }
 
     /// The tokens open a function in the old style.
-    fn opens(self) -> bool
-        ensures { result ≡ opens self }
+    fn opens(&self) -> bool
+        ensures { result ≡ opens self.now }
     {
         !self.begins_with_typedef && !self.has_equals && matches!(self.listing, Listing::Whole)
     }
 
     /// The tokens are a declaration.
-    fn declares(self) -> bool
-        ensures { result ≡ declares self }
+    fn declares(&self) -> bool
+        ensures { result ≡ declares self.now }
     {
         self.begins_with_word && !self.begins_with_typedef && !self.has_equals
     }
 
     /// The function that the tokens open.
-    fn opened(self) -> Option<Def>
-        ensures { result ≡ opened self }
+    fn opened(&self) -> Option<Def>
+        ensures { result ≡ opened self.now }
     {
         match self.called {
             Some(name) => Some(def_of(self.has_static, name)),
@@ -163,8 +152,8 @@ impl Head {
 
     /// The function in the old style that is open after a `;` that ends the tokens, where that one
     /// was open before them.
-    pub(crate) fn next_opened(self, before: Option<Def>) -> Option<Def>
-        ensures { result ≡ next_opened self before }
+    pub(crate) fn next_opened(&self, before: Option<Def>) -> Option<Def>
+        ensures { result ≡ next_opened self.now before }
     {
         if self.opens() {
             self.opened()

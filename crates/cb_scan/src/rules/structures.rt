@@ -30,8 +30,8 @@ fn keyword_kind(role: Role) -> Option<Kind>
 }
 
 /// After a token that goes on with nothing.
-fn begun(token: Token) -> Naming
-    ensures { result ≡ begun token }
+fn begun(token: &Token) -> Naming
+    ensures { result ≡ begun token.now }
 {
     match keyword_kind(token.role) {
         Some(kind) => Naming::Keyword(kind),
@@ -41,10 +41,10 @@ fn begun(token: Token) -> Naming
 
 impl Naming {
     /// After a token of the code.
-    pub(crate) fn next(self, token: Token) -> Naming
-        ensures { result ≡ next_naming self token }
+    pub(crate) fn next(&mut self, token: &Token)
+        ensures { self.new ≡ next_naming self.old token.now }
     {
-        match self {
+        *self = match *self {
             Naming::Keyword(kind) if token.is_name() => Naming::Named(Def {
                 name: token.span,
                 kind,
@@ -52,14 +52,14 @@ impl Naming {
                 local: false,
             }),
             _ => begun(token),
-        }
+        };
     }
 
     /// The structure, union or enumeration whose `{` is the token, if one is.
-    pub(crate) fn found(self, token: Token) -> Option<Def>
-        ensures { result ≡ structure_found self token }
+    pub(crate) fn found(&self, token: &Token) -> Option<Def>
+        ensures { result ≡ structure_found self.now token.now }
     {
-        match self {
+        match *self {
             Naming::Named(def) if token.is_mark(b'{') => Some(def),
             _ => None,
         }

@@ -1,10 +1,10 @@
 //! The names that typedefs define: a small state beside that of the functions, which every token of
 //! the code moves.
-ghost use Rattle.std.specs.Prelude.{◌≡◌, ◌+◌, ◌<◌, ◌≤◌, ◌^◌, ◌++◌, map, IfOk};
+ghost use Rattle.std.specs.Prelude.{◌≡◌, ◌+◌, ◌<◌, ◌≤◌, ◌^◌, ◌++◌, map, IfOk, Some};
 ghost use Rattle.std.specs.Option.{option_to_list};
 ghost use Rattle.cb_scan.specs.Definitions.{typedef_def};
 ghost use Rattle.cb_scan.specs.rules.Typedefs.{nesting_after};
-ghost use Rattle.cb_scan.specs.steps.Typedefs.{after, all_names, begins, declaration_start, ended_name, ends, name_of, nesting_of, next_declaration, next_pending, parts_at, pointer_after, reach_after, takes, typedefs_out};
+ghost use Rattle.cb_scan.specs.steps.Typedefs.{after, all_names, begins, declaration_start, ended_name, ends, name_of, nesting_of, next_declaration, next_pending, parts_at, pointer_after, reach_after, stays, takes, typedefs_out};
 
 use crate::facts::{Def, Kind};
 use crate::lex::token::{Role, Token};
@@ -30,9 +30,9 @@ pub(crate) struct Declaration {
 }
 
 /// The parentheses and brackets that are open after a token.
-fn nesting_after(token: Token, nesting: u32) -> u32
+fn nesting_after(token: &Token, nesting: u32) -> u32
     requires { nesting + 1 < 2 ^ 32 }
-    ensures value { result ≡ nesting_after token nesting }
+    ensures value { result ≡ nesting_after token.now nesting }
     ensures small { result ≤ nesting + 1 }
 {
     match token.role {
@@ -42,8 +42,8 @@ fn nesting_after(token: Token, nesting: u32) -> u32
     }
 }
 
-fn reach_after(reach: Reach, token: Token) -> Reach
-    ensures { result ≡ reach_after reach token }
+fn reach_after(reach: Reach, token: &Token) -> Reach
+    ensures { result ≡ reach_after reach token.now }
 {
     match (token.role, reach) {
         (Role::Mark(b'('), _) => Reach::Paren,
@@ -52,13 +52,12 @@ fn reach_after(reach: Reach, token: Token) -> Reach
     }
 }
 
-fn pointer_after(pointer: Option<Token>, reach: Reach, token: Token) -> Option<Token>
-    ensures { result ≡ pointer_after pointer reach token }
+/// Keeps the first name that `(` and `*` lead to, after one more token.
+fn point(pointer: &mut Option<Token>, reach: Reach, token: &Token)
+    ensures { pointer.new ≡ pointer_after pointer.old reach token.now }
 {
-    match (pointer, reach) {
-        (Some(name), _) => Some(name),
-        (None, Reach::Stars) if token.is_name() => Some(token),
-        _ => None,
+    if pointer.is_none() && matches!(reach, Reach::Stars) && token.is_name() {
+        *pointer = Some(*token);
     }
 }
 
@@ -76,37 +75,34 @@ impl Declaration {
     }
 
     /// The token is a comma outside parentheses and brackets.
-    fn parts_at(self, token: Token) -> bool
-        ensures { result ≡ parts_at self.nesting token }
+    fn parts_at(&self, token: &Token) -> bool
+        ensures { result ≡ parts_at self.now.nesting token.now }
     {
         token.is_mark(b',') && self.nesting == 0
     }
 
     /// After a token: a comma outside parentheses and brackets begins the next part.
     #[tactic(auto, unfolding(crate::specs::steps::Typedefs::after))]
-    fn next(self, token: Token) -> Declaration
-        requires { self.nesting + 1 < 2 ^ 32 }
-        ensures value { result ≡ after self token }
-        ensures small { result.nesting ≤ self.nesting + 1 }
+    fn next(&mut self, token: &Token)
+        requires { self.old.nesting + 1 < 2 ^ 32 }
+        ensures value { self.new ≡ after self.old token.now }
+        ensures small { self.new.nesting ≤ self.old.nesting + 1 }
     {
         if self.parts_at(token) {
-            return Declaration::start();
+            *self = Declaration::start();
+            return;
         }
-        Declaration {
-            nesting: nesting_after(token, self.nesting),
-            reach: reach_after(self.reach, token),
-            pointer: pointer_after(self.pointer, self.reach, token),
-            last: if token.is_name() && self.nesting == 0 {
-                Some(token)
-            } else {
-                self.last
-            },
+        if token.is_name() && self.nesting == 0 {
+            self.last = Some(*token);
         }
+        point(&mut self.pointer, self.reach, token);
+        self.reach = reach_after(self.reach, token);
+        self.nesting = nesting_after(token, self.nesting);
     }
 
     /// The name that the part defines.
-    fn name(self) -> Option<Token>
-        ensures { result ≡ name_of self }
+    fn name(&self) -> Option<Token>
+        ensures { result ≡ name_of self.now }
     {
         match self.pointer {
             Some(name) => Some(name),
@@ -116,56 +112,24 @@ impl Declaration {
 }
 
 /// The token is a `typedef` that directly follows a stop.
-fn begins(machine: Machine, token: Token) -> bool
-    ensures { result ≡ begins machine token }
+fn begins(machine: &Machine, token: &Token) -> bool
+    ensures { result ≡ begins machine.now token.now }
 {
     token.is_typedef() && machine.head.last.is_none()
 }
 
 /// The token is a `;` at depth 0.
-fn ends(machine: Machine, token: Token) -> bool
-    ensures { result ≡ ends machine token }
+fn ends(machine: &Machine, token: &Token) -> bool
+    ensures { result ≡ ends machine.now token.now }
 {
     token.is_mark(b';') && machine.depth == 0
 }
 
 /// The token is at depth 0 and is no brace.
-fn takes(machine: Machine, token: Token) -> bool
-    ensures { result ≡ takes machine token }
+fn takes(machine: &Machine, token: &Token) -> bool
+    ensures { result ≡ takes machine.now token.now }
 {
     machine.depth == 0 && !token.is_mark(b'{') && !token.is_mark(b'}')
-}
-
-/// The typedef that is open after a token.
-fn next_declaration(
-    machine: Machine,
-    state: Option<Declaration>,
-    token: Token,
-) -> Option<Declaration>
-    requires { nesting_of state + 1 < 2 ^ 32 }
-    ensures value { result ≡ next_declaration machine state token }
-    ensures small { nesting_of result ≤ nesting_of state + 1 }
-{
-    if ends(machine, token) {
-        return None;
-    }
-    if begins(machine, token) {
-        return Some(Declaration::start());
-    }
-    match state {
-        Some(open) if takes(machine, token) => Some(open.next(token)),
-        _ => state,
-    }
-}
-
-/// The name of the part that a comma ends.
-fn ended_name(machine: Machine, state: Option<Declaration>, token: Token) -> Option<Token>
-    ensures { result ≡ ended_name machine state token }
-{
-    match state {
-        Some(open) if takes(machine, token) && open.parts_at(token) => open.name(),
-        _ => None,
-    }
 }
 
 fn typedef_def(name: Token) -> Def
@@ -191,12 +155,12 @@ fn define(names: &[Token], out: &mut Vec<Def>) -> Result<(), AllocError>
 
 /// The names of a typedef that ends, with that of its last part, become definitions.
 fn define_all(
-    state: Option<Declaration>,
+    state: &Option<Declaration>,
     pending: &mut Vec<Token>,
     out: &mut Vec<Def>,
 ) -> Result<(), AllocError>
     ensures { IfOk result (λ _. out.new.items ≡ out.old.items
-        ++ map typedef_def (all_names state pending.old.items)) }
+        ++ map typedef_def (all_names state.now pending.old.items)) }
 {
     let Some(open) = state else {
         return Ok(());
@@ -217,30 +181,55 @@ fn hold(name: Option<Token>, pending: &mut Vec<Token>) -> Result<(), AllocError>
     Ok(())
 }
 
+/// A token that neither ends nor begins a typedef, in one that is open: the name of the part that a
+/// comma ends is held back.
+fn go_on(
+    machine: &Machine,
+    declaration: &mut Declaration,
+    token: &Token,
+    pending: &mut Vec<Token>,
+) -> Result<(), AllocError>
+    requires { declaration.old.nesting + 1 < 2 ^ 32 }
+    ensures state { IfOk result (λ _. declaration.new ≡ stays machine.now token.now declaration.old) }
+    ensures small { IfOk result (λ _. declaration.new.nesting ≤ declaration.old.nesting + 1) }
+    ensures held { IfOk result (λ _. pending.new.items ≡ pending.old.items
+        ++ option_to_list (ended_name machine.now (Some declaration.old) token.now)) }
+{
+    if takes(machine, token) {
+        if declaration.parts_at(token) {
+            hold(declaration.name(), pending)?;
+        }
+        declaration.next(token);
+    }
+    Ok(())
+}
+
 /// One token of the code: what it defines, the names that are held back, and the typedef that is
 /// open after it.
 pub(crate) fn take_token(
-    machine: Machine,
-    state: Option<Declaration>,
-    token: Token,
+    machine: &Machine,
+    state: &mut Option<Declaration>,
+    token: &Token,
     pending: &mut Vec<Token>,
     out: &mut Vec<Def>,
-) -> Result<Option<Declaration>, AllocError>
-    requires { nesting_of state + 1 < 2 ^ 32 }
-    ensures state { IfOk result (λ s. s ≡ next_declaration machine state token) }
-    ensures small { IfOk result (λ s. nesting_of s ≤ nesting_of state + 1) }
-    ensures held { IfOk result
-        (λ _. pending.new.items ≡ next_pending machine state pending.old.items token) }
-    ensures made { IfOk result
-        (λ _. out.new.items ≡ out.old.items ++ typedefs_out machine state pending.old.items token) }
+) -> Result<(), AllocError>
+    requires { nesting_of state.old + 1 < 2 ^ 32 }
+    ensures state { IfOk result (λ _. state.new ≡ next_declaration machine.now state.old token.now) }
+    ensures small { IfOk result (λ _. nesting_of state.new ≤ nesting_of state.old + 1) }
+    ensures held { IfOk result (λ _. pending.new.items
+        ≡ next_pending machine.now state.old pending.old.items token.now) }
+    ensures made { IfOk result (λ _. out.new.items ≡ out.old.items
+        ++ typedefs_out machine.now state.old pending.old.items token.now) }
 {
     if ends(machine, token) {
         define_all(state, pending, out)?;
         pending.clear();
+        *state = None;
     } else if begins(machine, token) {
         pending.clear();
-    } else {
-        hold(ended_name(machine, state, token), pending)?;
+        *state = Some(Declaration::start());
+    } else if let Some(open) = state {
+        go_on(machine, open, token, pending)?;
     }
-    Ok(next_declaration(machine, state, token))
+    Ok(())
 }
