@@ -108,9 +108,9 @@ def answer(world, digit, pattern):
     refuse_if(not pattern, "no pattern")
     if digit == b"7":
         return [line_row(file, b"<unknown>", 1, b"<unknown>") for file in sorted(world.files) if pattern in file]
-    rows = [line_row(file, function or b"<global>", line, cut_lines(text)[line - 1][0])
-            for file, text in sorted(world.files.items()) for function, line in found_in(text, digit, pattern)]
-    return list(dict.fromkeys(rows))
+    places = dict.fromkeys((file, function or b"<global>", line) for file, text in sorted(world.files.items())
+                           for function, line in found_in(text, digit, pattern))  # the text follows from file and line
+    return [line_row(*place, cut_lines(world.files[place[0]])[place[2] - 1][0]) for place in places]
 
 
 # ---- changes: each makes the next world, or is refused
@@ -346,7 +346,6 @@ class Outcome(NamedTuple):
 
 
 WRONG_WORDS, HELP = Outcome(b"", None, 2), Outcome(b"", None)
-NO_TEXT = Outcome(b"", b"error: a word is not UTF-8\n", 2)
 FIELDS = (b"0", b"1", b"2", b"3", b"4", b"7", b"8")
 
 
@@ -359,7 +358,7 @@ def plain_words(words):
     end = words.index(b"--") if b"--" in words else len(words)
     options = [word for word in words[:end] if word[:1] == b"-" and word != b"-"]
     if not all(map(is_text, words)):
-        return [], NO_TEXT
+        return [], WRONG_WORDS
     if options:
         return [], HELP if options[0] == b"--help" or options[0][:2] == b"-h" else WRONG_WORDS
     return words[:end] + words[end + 1:], None
