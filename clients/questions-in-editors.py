@@ -96,7 +96,8 @@ class Sources:
 
     def __init__(self, cbrowse, folder, number, home):
         names = sorted(str(path.relative_to(folder)) for path in folder.rglob("*.[ch]") if path.is_file())
-        names = [name for name in names if re.fullmatch("[!-,.-~][!-~]*", name) and b"\0" not in (folder / name).read_bytes()]
+        names = [name for name in names if re.fullmatch("[!-,.-~][!-~]*", name)
+                 and b"\0" not in (folder / name).read_bytes()]
         self.names = [names[i * len(names) // number] for i in range(min(number, len(names)))]
         self.cbrowse, self.home = cbrowse, home
         for name in self.names:
@@ -117,10 +118,12 @@ class Sources:
         headers = sorted({word for text in texts for word in re.findall(r'include[ \t]*[<"]([^>" \n]+)', text)})
         parts = sorted({part for text in texts for part in re.findall(r"(?m)^[ \t]*([a-z]\w+ [\w(]\w+)", text)})
         files = sorted({name.rsplit("/", 1)[-1] for name in self.names})
-        listed = subprocess.run([self.cbrowse, "tags", "-x", *self.names], cwd=self.home, check=True, stdout=subprocess.PIPE)
+        listed = subprocess.run([self.cbrowse, "tags", "-x", *self.names], cwd=self.home, check=True,
+                                stdout=subprocess.PIPE)
         known = sorted({line.split(" ")[0] for line in listed.stdout.decode("latin-1").split("\n")[:-1]})
         pools = {"0": words, "1": known, "2": known, "3": called, "4": parts, "7": files, "8": headers}
-        return [(field, pool[i * len(pool) // number]) for field, pool in pools.items() for i in range(min(number, len(pool)))]
+        return [(field, pool[i * len(pool) // number])
+                for field, pool in pools.items() for i in range(min(number, len(pool)))]
 
 
 def run_editor(words, home, settings, asked):
@@ -128,8 +131,9 @@ def run_editor(words, home, settings, asked):
     files = {"ASKED": home / ".asked", "FOUND": home / ".found"}
     files["ASKED"].write_text(json.dumps(asked))
     files["FOUND"].unlink(missing_ok=True)
-    subprocess.run(words, env={**os.environ, **settings, **{name: str(file) for name, file in files.items()}}, check=True,
-                   timeout=PATIENCE, stdin=subprocess.DEVNULL, stdout=subprocess.DEVNULL, stderr=subprocess.DEVNULL, cwd=home)
+    subprocess.run(words, env={**os.environ, **settings, **{name: str(file) for name, file in files.items()}},
+                   check=True, timeout=PATIENCE, stdin=subprocess.DEVNULL, stdout=subprocess.DEVNULL,
+                   stderr=subprocess.DEVNULL, cwd=home)
     return files["FOUND"].read_bytes().decode("latin-1")
 
 
@@ -192,7 +196,8 @@ def check_emacs(sources, settings, questions, report):
     parts = re.split(r"\n?={79}\n", shown)[1:]
     report.same("emacs, answers", len(asked), len(parts))
     for (field, word), part in zip(questions, parts):
-        expected = collections.Counter((file, function, int(line)) for (file, function, line, _), _ in sources.rows(field, word))
+        expected = collections.Counter((file, function, int(line))
+                                       for (file, function, line, _), _ in sources.rows(field, word))
         found, file = collections.Counter(), ""
         for line in part.split("\n"):
             if head := re.fullmatch(r"\*\*\* (?:\./)?(.*):", line):
