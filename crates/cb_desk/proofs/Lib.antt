@@ -15,6 +15,7 @@ pub mod PlaceOrder
 pub mod NamedFile
 pub mod Placed
 pub mod ReplacedLines
+pub mod Replays
 pub mod StepsValid
 pub mod Swaps
 pub mod TagOrder

@@ -11,6 +11,7 @@ mod block;
 mod feed;
 mod input;
 mod intake;
+pub mod laws;
 mod limits;
 mod line;
 mod operands;

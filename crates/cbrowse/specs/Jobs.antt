@@ -45,13 +45,13 @@ find_app = with_rule (with_rule (with_rule (new_app (codes "find")) num_rule) pa
 abbrev pub tags_app : App
 tags_app = with_rule (with_rule (with_rule (with_rule (new_app (codes "tags")) listing_rule) tagsfile_rule) format_rule) (files_rule true)
 
--- a command that needs one of its subcommands
-abbrev pub with_subcommand_required : App → App
-with_subcommand_required a = record a { top = record a.top { subcommand_required = true } }
+-- a command that needs one of its subcommands and tells its version
+abbrev pub with_version : App → App
+with_version a = record a { top = record a.top { subcommand_required = true; has_version = true } }
 
 -- the program's command
 abbrev pub browse_app : App
-browse_app = with_subcommand (with_subcommand (with_subcommand (with_subcommand_required (new_app (codes "cbrowse"))) line_app.top) find_app.top) tags_app.top
+browse_app = with_subcommand (with_subcommand (with_subcommand (with_version (new_app (codes "cbrowse"))) line_app.top) find_app.top) tags_app.top
 
 -- the first value of an argument, or this text where it has none
 abbrev pub first_or : Text → Text → List Row → Text

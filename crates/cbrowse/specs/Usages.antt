@@ -3,7 +3,7 @@ use Rattle.std.specs.Prelude.{◌≡◌, ◌≢◌, ◌⊎◌, List, ◌∷◌, 
 use Rattle.std.specs.Borrow.{Bor}
 use Rattle.clap.specs.Words.{IsAmong, Row, Text, fault_of, subcommand_of}
 use Rattle.clap.specs.declared.error.kind.ErrorKind.{ErrorKind}
-use Rattle.clap.specs.declared.error.kind.ErrorKind.TheVariants.{DisplayHelp, OutOfMemory}
+use Rattle.clap.specs.declared.error.kind.ErrorKind.TheVariants.{DisplayHelp, DisplayVersion, OutOfMemory}
 use Rattle.cbrowse.specs.Commands.{browse_app_of}
 use Rattle.cbrowse.specs.Jobs.{IsJobOf, browse_app, field_of, first_or}
 use Rattle.cbrowse.specs.declared.job.Job.{Job}
@@ -20,9 +20,17 @@ FailsWith words kind = (choices : Bor (List (Bor Text)))
 abbrev pub AsksNothing : List Text → Type 0
 AsksNothing words = (job : Job) → IsJobOf (subcommand_of browse_app words) job → ⊥
 
--- clap refuses the words, for another reason than that they ask for help
+-- clap shows a text for this kind of error: help or the version
+abbrev pub ShowsText : ErrorKind → Type 0
+ShowsText kind = (kind ≡ DisplayHelp) ⊎ (kind ≡ DisplayVersion)
+
+-- clap shows such a text for the words
+abbrev pub AskForText : List Text → Type 0
+AskForText words = (kind : ErrorKind) × ShowsText kind × FailsWith words kind
+
+-- clap refuses the words, for another reason than that they ask for such a text
 abbrev pub IsRefused : List Text → Type 0
-IsRefused words = (kind : ErrorKind) × (kind ≢ DisplayHelp) × FailsWith words kind
+IsRefused words = (kind : ErrorKind) × (kind ≢ DisplayHelp) × (kind ≢ DisplayVersion) × FailsWith words kind
 
 -- a search was found whose number is not that of a field, or whose number is and whose pattern is empty; memory may be refused
 -- to any
@@ -35,17 +43,17 @@ IsBadSearch (Some found) NoPattern =
     × (first_or (codes "pattern") [] found.1 ≡ [])
 IsBadSearch found usage = ⊥
 
--- help is shown only where clap shows it for these words, and words are wrong only where clap refuses them or no job is in
+-- help or the version is shown only where clap shows it for these words, and words are wrong only where clap refuses them or no job is in
 -- them; a bad search is one that was found in them, and memory may be refused for any words
 abbrev pub IsUsageOf : List Text → Usage → Type 0
-IsUsageOf words (Help text) = FailsWith words DisplayHelp
+IsUsageOf words (Help text) = AskForText words
 IsUsageOf words (Wrong text) = IsRefused words ⊎ AsksNothing words
 IsUsageOf words usage = IsBadSearch (subcommand_of browse_app words) usage
 
 -- the kind of clap's error that a usage tells
 abbrev pub TellsKind : ErrorKind → Usage → Type 0
-TellsKind kind (Help text) = kind ≡ DisplayHelp
-TellsKind kind (Wrong text) = (kind ≢ DisplayHelp) × (kind ≢ OutOfMemory)
+TellsKind kind (Help text) = ShowsText kind
+TellsKind kind (Wrong text) = (kind ≢ DisplayHelp) × (kind ≢ DisplayVersion) × (kind ≢ OutOfMemory)
 TellsKind kind Memory = Unit {0}
 TellsKind kind BadField = ⊥
 TellsKind kind NoPattern = ⊥

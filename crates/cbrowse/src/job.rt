@@ -39,7 +39,7 @@ pub enum Job {
 /// Why there is no job.
 #[derive(Debug, Drop)]
 pub enum Usage {
-    /// Help was asked for: its text.
+    /// Help or the version was asked for: its text.
     Help(String),
     /// The words are wrong: the text that says why.
     Wrong(String),
@@ -89,6 +89,7 @@ fn usage_of(alloc: Global, error: &Error) -> Usage
         (ErrorKind::OutOfMemory, _) => Usage::Memory,
         (_, Err(_)) => Usage::Memory,
         (ErrorKind::DisplayHelp, Ok(text)) => Usage::Help(text),
+        (ErrorKind::DisplayVersion, Ok(text)) => Usage::Help(text),
         (_, Ok(text)) => Usage::Wrong(text),
     }
 }

@@ -8,6 +8,9 @@ use clap::builder::ValueParser;
 use clap::{Arg, ArgAction, Command};
 use std::alloc::{AllocError, Global};
 
+/// The version of the program.
+const VERSION: &str = "0.1.0";
+
 /// The numbers of the formats.
 static FORMATS: [&str; 2] = ["1", "2"];
 
@@ -17,6 +20,7 @@ pub(crate) fn browse_command<'a>(alloc: Global) -> Result<Command<'a>, AllocErro
 {
     Command::new(alloc, "cbrowse")
         .about("Browses C sources")
+        .version(VERSION)
         .subcommand_required(true)
         .subcommand(line_command(alloc)?)?
         .subcommand(find_command(alloc)?)?

@@ -213,7 +213,8 @@ Commands:
   help  Print this message or the help of the given subcommand(s)
 
 Options:
-  -h, --help  Print help
+  -h, --help     Print help
+  -V, --version  Print version
 ";
     let line = "Reads commands from standard input and writes their replies
 
@@ -262,6 +263,8 @@ Example: cbrowse find 1 main a.c
         (["find", "--help"].as_slice(), find),
         (["tags", "--help"].as_slice(), tags),
         (["help", "tags"].as_slice(), tags),
+        (["--version"].as_slice(), "cbrowse 0.1.0\n"),
+        (["-V"].as_slice(), "cbrowse 0.1.0\n"),
     ];
     for (words, text) in cases {
         let outcome = job_of_words(rt.alloc(), words)?;
