@@ -1,14 +1,13 @@
-"""What `cbrowse line` writes for its input: a model of a session, written from docs/ alone and not from the code.
+"""What cbrowse writes: a model of its sessions and of its program, written from docs/ alone and not from the code.
 
-`docs/COMMANDS.md` has the commands and refusals, `docs/FORMATS.md` rows and tag lines. What texts are and define is in
-`text_model.py`; where that does not know the definitions of a text, `Unknown` is raised and the session is as before.
-Memory never runs out here.
+`docs/COMMANDS.md` has the commands, refusals and the words of the program, `docs/FORMATS.md` rows and tag lines. What
+texts hold is in `text_model.py`. Memory never runs out here.
 """
 
 import re
 from typing import NamedTuple, Optional
 
-from text_model import cut_lines, definitions, replaced
+from text_model import cut_lines, facts, replaced
 
 MOST_BYTES, MOST_FILES, MOST_LINE, MOST_CHANGES = 1_000_000, 4_096, 4_096, 65_536
 PROMPT, DONE = b">> ", b"cscope: done\n"
@@ -57,8 +56,8 @@ def places_of_text(world, pattern):
 
 def tags_of(world):
     """All definitions, by file and place."""
-    return [Tag(name, file, line, cut_lines(world.files[file])[line - 1][0], kind, local)
-            for file in sorted(world.files) for name, line, kind, local in definitions(world.files[file])]
+    return [Tag(name, file, line, cut_lines(text)[line - 1][0], kind, local)
+            for file, text in sorted(world.files.items()) for name, line, kind, local in facts(text).definitions]
 
 
 def tag_name(tag):
@@ -87,16 +86,31 @@ def listing_lines(world):
     return [b"%s %d %s %s\n" % (tag.name, tag.line, tag.file, tag.text) for tag in tags]
 
 
+def found_in(text, digit, pattern):
+    """The function column and the line of each row of a field in a text, by place; no function is outside of them all."""
+    if digit == b"0":
+        return [(use.scope, use.line) for use in facts(text).uses if use.name == pattern]
+    if digit == b"1":
+        return [(one.name, one.line) for one in facts(text).definitions if one.name == pattern]
+    if digit == b"2":
+        return [(call.callee, call.line) for call in facts(text).calls if call.caller == pattern]
+    if digit == b"3":
+        return [(call.caller, call.line) for call in facts(text).calls if call.callee == pattern]
+    if digit == b"8":
+        return [(one.scope, one.line) for one in facts(text).includes
+                if one.header == pattern or one.header.endswith(b"/" + pattern)]
+    return [(b"<unknown>", number) for number, (shown, _) in enumerate(cut_lines(text), 1) if pattern in shown]
+
+
 def answer(world, digit, pattern):
-    """The rows of a field. The others than 1 and 4 do not work yet."""
-    if digit not in b"14":
-        raise Refused("field not in this profile")
-    if not pattern:
-        raise Refused("no pattern")
-    if digit == b"4":
-        return place_rows(world, places_of_text(world, pattern))
-    rows = [line_row(tag.file, tag.name, tag.line, tag.text) for tag in tags_of(world) if tag.name == pattern]
-    return list(dict.fromkeys(rows))
+    """The rows of a field; of equal ones the first."""
+    refuse_if(digit in b"69", "field not in this profile")
+    refuse_if(not pattern, "no pattern")
+    if digit == b"7":
+        return [line_row(file, b"<unknown>", 1, b"<unknown>") for file in sorted(world.files) if pattern in file]
+    places = dict.fromkeys((file, function or b"<global>", line) for file, text in sorted(world.files.items())
+                           for function, line in found_in(text, digit, pattern))  # the text follows from file and line
+    return [line_row(*place, cut_lines(world.files[place[0]])[place[2] - 1][0]) for place in places]
 
 
 # ---- changes: each makes the next world, or is refused
@@ -199,17 +213,13 @@ def lines_reply(lines):
 
 
 class Session:
-    """A session: its worlds, what it has written, and, once it has ended, the line on standard error."""
+    """A session: its worlds, what it has written, and, once it has ended, the line on standard error. An older program
+    misses some fields, or `r`."""
 
-    def __init__(self):
+    def __init__(self, missing=()):
+        self.missing = missing
         self.past, self.present, self.future = [], World({}), []
         self.out, self.ended = bytearray(), None
-
-    def copy(self):
-        other = Session()
-        other.past, other.present, other.future = [*self.past], self.present, [*self.future]
-        other.out, other.ended = self.out[:], self.ended
-        return other
 
     def change(self, step, *details):
         """Makes a change, and replies."""
@@ -227,7 +237,9 @@ class Session:
         return DONE
 
     def operand(self, name, text):
-        """Loads a file of the command line; a refused one ends the run."""
+        """Loads a file of the command line; the first that is refused ends the run."""
+        if self.ended is not None:
+            return
         try:
             self.change(load, name, text)
         except Refused as refused:
@@ -272,6 +284,7 @@ class Session:
             return b"cscope: refused: %s\n" % str(refused).encode()
 
     def query(self, digit, pattern):
+        refuse_if(digit in self.missing, "field not in this profile")
         if digit == b"5":
             self.change(want, pattern)
             digit = b"4"
@@ -316,6 +329,65 @@ class Session:
             b":stack": lambda: lines_reply(place_rows(self.present, reversed(self.present.frames))),
             b":marks": lambda: lines_reply(place_rows(self.present, self.present.marks)),
             b":listing": lambda: lines_reply(listing_lines(self.present)),
+            b"r": lambda: DONE,
         }
-        refuse_if(word not in commands or rest is not None, "unknown command")
+        refuse_if(word not in commands or rest is not None or word in self.missing, "unknown command")
         return commands[word]()
+
+
+# ---- the program
+
+
+class Outcome(NamedTuple):
+    """What a program writes and its status. An error of None is a text of clap's, of which no page tells the words."""
+    out: bytes
+    error: Optional[bytes] = b""
+    status: int = 0
+
+
+WRONG_WORDS, HELP = Outcome(b"", None, 2), Outcome(b"", None)
+FIELDS = (b"0", b"1", b"2", b"3", b"4", b"7", b"8")
+
+
+def is_text(word):
+    return word.decode("utf-8", "ignore").encode() == word
+
+
+def plain_words(words):
+    """The words that are no options, and the outcome where an option is among them: help, or wrong words."""
+    end = words.index(b"--") if b"--" in words else len(words)
+    options = [word for word in words[:end] if word[:1] == b"-" and word != b"-"]
+    if not all(map(is_text, words)):
+        return [], WRONG_WORDS
+    if options:
+        return [], HELP if options[0] == b"--help" or options[0][:2] == b"-h" else WRONG_WORDS
+    return words[:end] + words[end + 1:], None
+
+
+def loaded(operands, files):
+    """A session with the files of the command line, or the outcome where one cannot be read or is refused."""
+    for name in operands:
+        if name not in files:
+            return None, Outcome(b"", b"cbrowse: %s: cannot be read\n" % name, 1)
+    session = Session()
+    for name in operands:
+        session.operand(name, files[name])
+        if session.ended is not None:
+            return None, Outcome(b"", session.ended, 1)
+    return session, None
+
+
+def find(words, files):
+    """`cbrowse find` with the words behind it, in a folder with these files."""
+    plain, failed = plain_words(words)
+    if failed:
+        return failed
+    if len(plain) < 3:
+        return WRONG_WORDS
+    number, pattern, *operands = plain
+    if number not in FIELDS:
+        return Outcome(b"", b"cbrowse: field not in this profile\n", 2)
+    if not pattern:
+        return Outcome(b"", b"cbrowse: no pattern\n", 2)
+    session, failed = loaded(operands, files)
+    return failed or Outcome(b"".join(answer(session.present, number, pattern)))
