@@ -8,3 +8,4 @@ pub mod Quote
 pub mod Scopes
 pub mod Structures
 pub mod Typedefs
+pub mod Words
