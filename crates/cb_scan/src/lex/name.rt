@@ -2,10 +2,10 @@
 ghost use Rattle.std.specs.Prelude.{◌≡◌};
 ghost use Rattle.std.specs.List.{list_all, list_any};
 ghost use Rattle.std.specs.Str.{bytes_eq};
-ghost use Rattle.cb_scan.specs.lex.Lexeme.{is_identifier, is_letter, is_word};
+ghost use Rattle.cb_scan.specs.lex.Lexeme.{is_identifier, is_word};
 ghost use Rattle.cb_scan.specs.lex.Reserved.{is_name, is_reserved};
 
-use crate::lex::lexeme::is_word;
+use crate::lex::lexeme::{is_letter, is_word};
 
 const TWO: [&[u8]; 2] = [b"do", b"if"];
 
@@ -79,12 +79,6 @@ fn is_identifier(bytes: &[u8]) -> bool
         [first, others @ ..] => is_letter(*first) && all_word_bytes(others),
         [] => false,
     }
-}
-
-fn is_letter(byte: u8) -> bool
-    ensures { result ≡ is_letter byte }
-{
-    matches!(byte, b'A'..=b'Z' | b'a'..=b'z' | b'_')
 }
 
 fn all_word_bytes(bytes: &[u8]) -> bool

@@ -103,10 +103,16 @@ impl Head {
             self.begins_with_word = token.is_word();
             self.begins_with_typedef = token.is_typedef();
         }
-        self.has_equals = self.has_equals || token.is_mark(b'=');
-        self.has_static = self.has_static || token.is_static();
+        if !self.has_equals {
+            self.has_equals = token.is_mark(b'=');
+        }
+        if !self.has_static {
+            self.has_static = token.is_static();
+        }
         call(&mut self.called, &self.last, token);
-        self.listing = listing_after(self.listing, &self.last, token);
+        if !matches!(self.listing, Listing::Whole | Listing::Other) {
+            self.listing = listing_after(self.listing, &self.last, token);
+        }
         self.last = Some(*token);
     }
 
