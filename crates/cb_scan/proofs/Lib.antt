@@ -30,3 +30,4 @@ pub mod TypedefLemmas
 pub mod TypedefsWithin
 pub mod WithinLemmas
 pub mod WordLemmas
+pub mod WordRun

@@ -2,6 +2,7 @@ pub mod Cut
 pub mod Directives
 pub mod Functions
 pub mod Heads
+pub mod Lanes
 pub mod LineStarts
 pub mod Lined
 pub mod Quote

@@ -18,6 +18,7 @@ ghost use Rattle.cb_scan.specs.steps.Cut.{
   length_in,
 };
 
+use crate::lex::lanes::{LANES, word_run};
 use crate::lex::piece::Class;
 use memchr::memmem;
 
@@ -99,11 +100,28 @@ pub(crate) fn is_word(byte: u8) -> bool
     matches!(byte, b'A'..=b'Z' | b'a'..=b'z' | b'_' | b'0'..=b'9')
 }
 
-fn name_len(text: &[u8]) -> usize
+/// How many letters, digits and `_` a text begins with, one byte after the other.
+fn words_len(text: &[u8]) -> usize
     ensures value { result ≡ prefix_len is_word text.now }
     ensures within { result ≤ length text.now }
 {
     text.iter().take_while(|byte| is_word(**byte)).count()
+}
+
+/// The same, many bytes at a time where there are as many. Few names are longer.
+fn name_len(text: &[u8]) -> usize
+    ensures value { result ≡ prefix_len is_word text.now }
+    ensures within { result ≤ length text.now }
+{
+    if text.len() < LANES {
+        return words_len(text);
+    }
+    let run = word_run(text);
+    if run < LANES {
+        run
+    } else {
+        LANES + words_len(&text[LANES..])
+    }
 }
 
 #[inline]
