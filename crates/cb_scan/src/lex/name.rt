@@ -48,10 +48,20 @@ const LONGER: [&[u8]; 7] = [
     b"_Static_assert",
 ];
 
+/// Whether two words are the same. Most differ in their first byte.
+fn is_same(word: &[u8], other: &[u8]) -> bool
+    ensures { result ≡ bytes_eq word.now other.now }
+{
+    match (word, other) {
+        ([a, ..], [b, ..]) if *a != *b => false,
+        _ => word == other,
+    }
+}
+
 fn is_among(words: &[&[u8]], word: &[u8]) -> bool
     ensures { result ≡ list_any (λ w. bytes_eq w.now word.now) words.now }
 {
-    words.iter().any(|w| *w == word)
+    words.iter().any(|w| is_same(w, word))
 }
 
 /// Whether the word is reserved. The words of one length are few, so few bytes are compared.
