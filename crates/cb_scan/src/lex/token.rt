@@ -124,11 +124,14 @@ fn role_of(text: &[u8], piece: Piece) -> Role
     ensures { result ≡ role_of text.now piece }
 {
     let start = piece.span.start as usize;
-    match piece.class {
-        Class::Name => Role::Word(word_of(&text[start..piece.span.end as usize])),
-        Class::Byte => Role::Mark(text[start]),
-        Class::Str => Role::Str,
-        _ => Role::Other,
+    if piece.class == Class::Name {
+        Role::Word(word_of(&text[start..piece.span.end as usize]))
+    } else if piece.class == Class::Byte {
+        Role::Mark(text[start])
+    } else if piece.class == Class::Str {
+        Role::Str
+    } else {
+        Role::Other
     }
 }
 
