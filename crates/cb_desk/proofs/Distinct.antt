@@ -5,6 +5,7 @@ use Rattle.std.proofs.lemmas.Slice.Eq.{bytes_eq-Decides}
 use Rattle.std.proofs.lemmas.Bool.Decides.{Decides-eqb}
 use Rattle.std.proofs.lemmas.List.Elements.{filter-append}
 use Rattle.cb_desk.specs.Answer.{AnswerRow, row_eq, distinct}
+use Rattle.cb_desk.specs.steps.Collects.{kept}
 
 abbrev row_from : List ℕ → List ℕ → ℕ → List ℕ → AnswerRow
 row_from file function line text = record { file = file; function = function; line = line; text = text }
@@ -32,10 +33,6 @@ row_same r q e =
 pub row_itself : (r : AnswerRow) → row_eq r r ≡ true
 row_itself r =
     rw ((bytes_eq-Decides r.file r.file).1 refl, (bytes_eq-Decides r.function r.function).1 refl, (Decides-eqb r.line r.line).1 refl, (bytes_eq-Decides r.text r.text).1 refl) refl
-
--- the rows with one more at the end, unless an equal one is there
-abbrev pub kept : List AnswerRow → AnswerRow → List AnswerRow
-kept rows r = if list_any (row_eq r) rows then rows else rows ++ r ∷ []
 
 abbrev other : AnswerRow → AnswerRow → Bool
 other x q = not (row_eq x q)

@@ -1,7 +1,9 @@
 pub mod Counting
 pub mod Distinct
+pub mod FilesApart
 pub mod FoundRows
 pub mod Gaps
+pub mod Groups
 pub mod HeldRows
 pub mod MarkedLines
 pub mod Moves
@@ -12,6 +14,7 @@ pub mod PlaceOrder
 pub mod NamedFile
 pub mod Placed
 pub mod ReplacedLines
+pub mod Replays
 pub mod StepsValid
 pub mod Swaps
 pub mod TagOrder

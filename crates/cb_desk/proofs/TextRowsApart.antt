@@ -74,7 +74,7 @@ module _ (f : File) where
 
 -- ---- rows of two files differ
 
-not-below : (name : List ℕ) → slice_cmp nat_cmp name name ≢ Less
+pub not-below : (name : List ℕ) → slice_cmp nat_cmp name name ≢ Less
 not-below name less = false≢true (sym (ap is_eq less) ∙ is_eq-slice_cmp name name ∙ (bytes_eq-Decides name name).1 refl)
 
 -- the rows of files above a name

@@ -1,26 +1,32 @@
 -- What is asked of a world, and the rows that answer.
-use Rattle.std.specs.Prelude.{ℕ, Bool, ◌&&◌, ◌||◌, ◌==◌, not, if◌then◌else◌, Option, Some, None, List, [], ◌∷◌, filter, map, codes, slice_range}
+use Rattle.std.specs.Prelude.{ℕ, ◌-◌, Bool, ◌&&◌, ◌||◌, ◌==◌, not, nat_le, if◌then◌else◌, Option, Some, None, List, [], ◌∷◌, length, drop, filter, map, codes, slice_range}
 use Rattle.std.specs.List.{flat_map}
 use Rattle.std.specs.Str.{bytes_eq}
+use Rattle.cb_scan.specs.declared.facts.Call.{Call}
 use Rattle.cb_scan.specs.declared.facts.Def.{Def}
-use Rattle.cb_scan.specs.Definitions.{definitions}
+use Rattle.cb_scan.specs.declared.facts.Include.{Include}
+use Rattle.cb_scan.specs.declared.facts.Use.{Use}
+use Rattle.cb_scan.specs.declared.lex.piece.Span.{Span}
+use Rattle.cb_scan.specs.Definitions.{facts_of}
 use Rattle.cb_scan.specs.Lines.{line_text}
+use Rattle.cb_scan.specs.TextFacts.{TextFacts}
+use Rattle.cb_desk.specs.declared.found.Found.{Found}
 use Rattle.cb_desk.specs.declared.rows.Field.{Field}
-use Rattle.cb_desk.specs.declared.rows.Field.TheVariants.{Definition, Text}
-use Rattle.cb_desk.specs.Search.{lines_with}
+use Rattle.cb_desk.specs.declared.rows.Field.TheVariants.{Symbol, Definition, Called, Calling, Text, File as FileName, Including}
+use Rattle.cb_desk.specs.Search.{holds, lines_with}
 use Rattle.cb_desk.specs.World.{World, File}
 
--- the byte of the digit that names a field
-abbrev pub digit_of : Field → ℕ
-digit_of Definition = 0x31
-digit_of Text = 0x34
-
--- the field that a digit names, if there is one
+-- the field that the byte of a digit names, if there is one: 0 to 4, 7 and 8
 abbrev pub field_of_digit : ℕ → Option Field
 field_of_digit digit =
-    if digit == digit_of Definition then Some Definition
-    else (if digit == digit_of Text then Some Text
-    else None)
+    if digit == 0x30 then Some Symbol
+    else (if digit == 0x31 then Some Definition
+    else (if digit == 0x32 then Some Called
+    else (if digit == 0x33 then Some Calling
+    else (if digit == 0x34 then Some Text
+    else (if digit == 0x37 then Some FileName
+    else (if digit == 0x38 then Some Including
+    else None))))))
 
 -- a row of an answer: file, function, line from 1, and text
 pub record AnswerRow : Type 0 where
@@ -38,56 +44,128 @@ unfoldable pub distinct : List AnswerRow → List AnswerRow
 distinct [] = []
 distinct (r ∷ rs) = r ∷ filter (λ q. not (row_eq r q)) (distinct rs)
 
--- the bytes of a space and a tab
+-- the bytes of a space, a tab and a slash
 abbrev pub space : ℕ
 space = 0x20
 
 abbrev pub tab : ℕ
 tab = 0x09
 
+abbrev pub slash : ℕ
+slash = 0x2F
+
 -- a line without its leading spaces and tabs
 unfoldable pub unindented : List ℕ → List ℕ
 unindented [] = []
 unindented (b ∷ bs) = if b == space || b == tab then unindented bs else b ∷ bs
 
+-- the row of a line of a file
+abbrev pub row_on : (file text function : List ℕ) → ℕ → AnswerRow
+row_on file text function line = record {
+  file = file;
+  function = function;
+  line = line;
+  text = unindented (line_text text line);
+}
+
+-- what stands in a column that has nothing to show
+abbrev pub unknown : List ℕ
+unknown = codes "<unknown>"
+
+-- the row of a line of a file, which names no function
+abbrev pub line_row : List ℕ → List ℕ → ℕ → AnswerRow
+line_row file text line = row_on file text unknown line
+
+-- ---- the facts of a text
+
+-- the bytes of a span of a text
+abbrev pub bytes_of : List ℕ → Span → List ℕ
+bytes_of text s = slice_range text s.start s.end
+
 -- the name of a definition in its text
 abbrev pub name_of : List ℕ → Def → List ℕ
-name_of text d = slice_range text d.name.start d.name.end
+name_of text d = bytes_of text d.name
 
 -- a definition has that name
 abbrev pub defines : List ℕ → List ℕ → Def → Bool
 defines text name d = bytes_eq (name_of text d) name
 
--- the row of a line of a file, which names no function
-abbrev pub line_row : List ℕ → List ℕ → ℕ → AnswerRow
-line_row file text line = record {
-  file = file;
-  function = codes "<unknown>";
-  line = line;
-  text = unindented (line_text text line);
-}
+-- a fact as a field shows it: what the pattern is held against, the name in the function column if
+-- there is one, and the line
+abbrev pub found_use : Use → Found
+found_use u = record { key = u.name; function = u.scope; line = u.line }
 
--- the row of a definition in a file
-abbrev pub definition_row : File → Def → AnswerRow
-definition_row f d = record {
-  file = f.name;
-  function = name_of f.bytes d;
-  line = d.line;
-  text = unindented (line_text f.bytes d.line);
-}
+abbrev pub found_def : Def → Found
+found_def d = record { key = d.name; function = Some d.name; line = d.line }
 
--- the rows of the definitions of that name in a file
-abbrev pub definition_rows : List ℕ → File → List AnswerRow
-definition_rows pattern f = map (definition_row f) (filter (defines f.bytes pattern) (definitions f.bytes))
+abbrev pub found_called : Call → Found
+found_called c = record { key = c.caller; function = Some c.callee; line = c.line }
+
+abbrev pub found_calling : Call → Found
+found_calling c = record { key = c.callee; function = Some c.caller; line = c.line }
+
+abbrev pub found_include : Include → Found
+found_include i = record { key = i.header; function = i.scope; line = i.line }
+
+-- the facts that a field asks for, by place
+abbrev pub found_in : Field → TextFacts → List Found
+found_in Symbol facts = map found_use facts.uses
+found_in Definition facts = map found_def facts.defs
+found_in Called facts = map found_called facts.calls
+found_in Calling facts = map found_calling facts.calls
+found_in Including facts = map found_include facts.includes
+found_in _ facts = []
+
+-- some bytes end in others
+abbrev pub ends_in : (suffix bytes : List ℕ) → Bool
+ends_in suffix bytes = nat_le (length suffix) (length bytes) && bytes_eq (drop (length bytes - length suffix) bytes) suffix
+
+-- a header is the one asked for, or it ends in a slash and that one
+abbrev pub is_header : (pattern header : List ℕ) → Bool
+is_header pattern header = bytes_eq header pattern || ends_in (slash ∷ pattern) header
+
+-- the pattern of a field asks for these bytes
+abbrev pub is_asked : Field → (pattern key : List ℕ) → Bool
+is_asked Including pattern key = is_header pattern key
+is_asked _ pattern key = bytes_eq key pattern
+
+-- the name in the function column; outside of functions and macros it is `<global>`
+abbrev pub function_name : List ℕ → Option Span → List ℕ
+function_name text None = codes "<global>"
+function_name text (Some name) = bytes_of text name
+
+-- the row of a fact of a file
+abbrev pub found_row : File → Found → AnswerRow
+found_row f x = row_on f.name f.bytes (function_name f.bytes x.function) x.line
+
+-- the rows of those of some facts of a file that a pattern asks for
+abbrev pub found_rows : Field → List ℕ → File → List Found → List AnswerRow
+found_rows field pattern f xs =
+    map (found_row f) (filter (λ (x : Found). is_asked field pattern (bytes_of f.bytes x.key)) xs)
+
+-- the rows of the facts of a file that a pattern asks for
+abbrev pub fact_rows : Field → List ℕ → File → List AnswerRow
+fact_rows field pattern f = found_rows field pattern f (found_in field (facts_of f.bytes))
+
+-- ---- the answer
 
 -- the rows of the lines that hold a pattern in a file
 abbrev pub text_rows_in : List ℕ → File → List AnswerRow
 text_rows_in pattern f = map (line_row f.name f.bytes) (lines_with pattern f.bytes)
 
+-- the row of a file
+abbrev pub file_row : List ℕ → AnswerRow
+file_row name = record { file = name; function = unknown; line = 1; text = unknown }
+
+-- that row, where the name of the file holds a pattern
+abbrev pub file_rows : (pattern name : List ℕ) → List AnswerRow
+file_rows pattern name = if holds pattern name then file_row name ∷ [] else []
+
 -- the rows of a field in a file
 abbrev pub field_rows : Field → List ℕ → File → List AnswerRow
-field_rows Definition pattern f = definition_rows pattern f
 field_rows Text pattern f = text_rows_in pattern f
+field_rows FileName pattern f = file_rows pattern f.name
+field_rows field pattern f = fact_rows field pattern f
 
 -- all rows of a field, by file and place, equal ones included
 abbrev pub all_rows : World → Field → List ℕ → List AnswerRow

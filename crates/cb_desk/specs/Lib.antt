@@ -11,6 +11,7 @@ pub mod Search
 pub mod Stack
 pub mod Step
 pub mod StepExamples
+pub mod Survivors
 pub mod Tags
 pub mod Timeline
 pub mod World

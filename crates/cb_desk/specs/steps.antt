@@ -1,4 +1,5 @@
 pub mod Collects
+pub mod Found
 pub mod Held
 pub mod MarkedLines
 pub mod Scans

@@ -1,6 +1,7 @@
 //! What follows from the definitions alone: no code runs here.
 ghost use Rattle.cb_desk.specs.Laws.{UndoTakesBack, RedoTakesBack, StepKeepsValid, TimelineStaysValid};
 ghost use Rattle.cb_desk.specs.Replacement.{HasOneCut};
+ghost use Rattle.cb_desk.specs.Survivors.{TimelineIsReplayed};
 
 /// An accepted change followed by undo gives back the past and the present; the new world is then
 /// the future.
@@ -21,6 +22,12 @@ pub fn step_keeps_valid()
 /// A valid timeline stays valid by change, undo and redo.
 pub fn timeline_stays_valid()
     ensures { TimelineStaysValid }
+{}
+
+/// After any changes, undos and redos of a new timeline, the present is the replay of the changes
+/// that survive, and the past and the future are the replays of fewer and of more of them.
+pub fn timeline_is_replayed()
+    ensures { TimelineIsReplayed }
 {}
 
 /// A text is cut at the matches of a pattern that is not empty, and in no other way.

@@ -7,6 +7,7 @@
 #![tactic(auto)]
 
 mod change;
+mod collected;
 mod files;
 mod found;
 pub mod laws;

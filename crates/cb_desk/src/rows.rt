@@ -1,16 +1,19 @@
 //! Questions and the rows that answer them.
-ghost use Rattle.std.specs.Prelude.{◌≡◌, ◌≢◌, ◌≤◌, ◌==◌, ◌||◌, [], ◌∷◌, ◌++◌, List, length, map, IfOk};
+ghost use Rattle.std.specs.Prelude.{◌≡◌, ◌≢◌, ◌≤◌, ◌==◌, ◌||◌, [], ◌∷◌, ◌++◌, List, false, drop, length, map, take, IfOk};
 ghost use Rattle.std.specs.Iterator.{YieldsFirstBy, item_count};
-ghost use Rattle.std.specs.List.{list_any, prefix_len, flat_map};
-ghost use Rattle.cb_scan.specs.Definitions.{IsWithin};
+ghost use Rattle.std.specs.List.{AllByRecursion, list_any, prefix_len, flat_map};
+ghost use Rattle.cb_scan.specs.Definitions.{IsWithin, IsScopeWithin};
 ghost use Rattle.cb_desk.specs.World.{File};
-ghost use Rattle.cb_desk.specs.Answer.{AnswerRow, row_eq, distinct, space, tab, unindented, line_row, definition_row, definition_rows, text_rows_in, field_of_digit};
-ghost use Rattle.cb_desk.specs.steps.Collects.{Collects};
+ghost use Rattle.cb_desk.specs.Answer.{AnswerRow, row_eq, distinct, space, tab, unindented, row_on, line_row, found_row, fact_rows, file_row, file_rows, text_rows_in, field_of_digit};
+ghost use Rattle.cb_desk.specs.steps.Collects.{Collects, IsNotOf, kept};
 ghost use Rattle.cb_desk.specs.Models.{row_of, file_of};
+ghost use Rattle.cb_desk.specs.Search.{holds};
 
-use crate::found::{defined_name, shown_line};
+use crate::collected::Group;
+use crate::found::{Found, bytes_of, found_at, found_count, function_name, is_asked, shown_line};
 use crate::text_rows::TextRows;
-use cb_scan::{Def, Meter, Source, scan};
+use cb_scan::{Meter, Source, scan};
+use memchr::memmem::Finder;
 use std::alloc::{AllocError, Global};
 use std::marker::Model;
 use std::slice;
@@ -18,10 +21,20 @@ use std::slice;
 /// What is asked: the field of a question.
 #[derive(Clone, Copy, Debug, PartialEq, Eq)]
 pub enum Field {
+    /// 0: the uses of a name.
+    Symbol,
     /// 1: the definitions of a name.
     Definition,
+    /// 2: the calls in a function.
+    Called,
+    /// 3: the calls of a function.
+    Calling,
     /// 4: the lines that hold a text.
     Text,
+    /// 7: the files whose name holds a text.
+    File,
+    /// 8: the includes of a header.
+    Including,
 }
 
 impl Field {
@@ -30,8 +43,13 @@ impl Field {
         ensures { result ≡ field_of_digit digit }
     {
         match digit {
+            b'0' => Some(Field::Symbol),
             b'1' => Some(Field::Definition),
+            b'2' => Some(Field::Called),
+            b'3' => Some(Field::Calling),
             b'4' => Some(Field::Text),
+            b'7' => Some(Field::File),
+            b'8' => Some(Field::Including),
             _ => None,
         }
     }
@@ -123,37 +141,58 @@ impl<'a> RowList<'a> {
         Ok(RowList { rows: list })
     }
 
-    /// Adds a row, unless an equal one is there.
-    fn add(&mut self, row: RefRow<'a>) -> Result<(), AllocError>
-        ensures { IfOk result (λ _. Collects self.old self.new (row_of row.entry ∷ [])) }
+    /// Adds a row, unless an equal one is there. None of the rows before `first` is equal.
+    fn add(&mut self, first: usize, row: RefRow<'a>) -> Result<(), AllocError>
+        requires within { first ≤ length self.old }
+        requires others { AllByRecursion (λ other. row_eq (row_of row) other ≡ false) (take first self.old) }
+        ensures { IfOk result (λ _. self.new ≡ kept self.old (row_of row.entry)) }
     {
-        if has_row(&self.rows, &row) {
+        if has_row_from(&self.rows, first, &row) {
             return Ok(());
         }
         self.rows.push(row)?;
         Ok(())
     }
 
-    /// Adds the rows of the definitions of that name in a file, which is scanned afresh.
-    pub(crate) fn add_definitions(
+    /// Adds the rows of the facts of a file that a pattern asks for. The file is scanned afresh, and
+    /// no row is of it so far. A row is compared with those of its line alone.
+    pub(crate) fn add_facts(
         &mut self,
         alloc: Global,
+        field: Field,
+        pattern: &[u8],
         name: &'a [u8],
         source: &'a Source,
-        pattern: &[u8],
     ) -> Result<(), AllocError>
-        ensures { IfOk result (λ _. Collects self.old self.new (definition_rows pattern.now (file_of (name.entry, source.entry)))) }
+        requires { AllByRecursion (IsNotOf name.now) self.old }
+        ensures { IfOk result (λ _. Collects self.old self.new (fact_rows field pattern.now (file_of (name.entry, source.entry)))) }
     {
         let mut meter = Meter::new();
         let facts = match scan(alloc, &mut meter, source) {
             Ok(facts) => facts,
             Err(_) => return Err(AllocError),
         };
-        for def in facts.defs() {
-            if defined_name(source, def) == pattern {
-                self.add(definition_row(name, source, def))?;
+        let mut group = Group::start(self.len());
+        for index in 0..found_count(&facts, field) {
+            let found = found_at(&facts, field, index);
+            if is_asked(field, pattern, bytes_of(source, found.key)) {
+                group = group.after(found.line, self.len());
+                self.add(group.first_on(found.line), found_row(name, source, found))?;
             }
         }
+        Ok(())
+    }
+
+    /// Adds the row of a file whose name holds a text. No row is of it so far.
+    pub(crate) fn add_file(&mut self, finder: &Finder<'_>, name: &'a [u8]) -> Result<(), AllocError>
+        requires { AllByRecursion (IsNotOf name.now) self.old }
+        ensures { IfOk result (λ _. Collects self.old self.new (file_rows finder.now name.now)) }
+    {
+        if !holds(finder, name) {
+            return Ok(());
+        }
+        let first = self.rows.len();
+        self.add(first, file_row(name))?;
         Ok(())
     }
 }
@@ -188,16 +227,23 @@ impl<'list, 'a> Iterator for RowIter<'list, 'a> {
     }
 }
 
+/// The row that shows a line of a file. Lines count from 1.
+fn row_on<'a>(file: &'a [u8], source: &'a Source, function: &'a [u8], line: u32) -> RefRow<'a>
+    ensures { row_of result ≡ row_on file.now source.now function.now line }
+{
+    RefRow {
+        file,
+        function,
+        line,
+        text: unindented(shown_line(source, line)),
+    }
+}
+
 /// The row that shows a line of a file and names no function. Lines count from 1.
 pub fn line_row<'a>(file: &'a [u8], source: &'a Source, line: u32) -> RefRow<'a>
     ensures { row_of result ≡ line_row file.now source.now line }
 {
-    RefRow {
-        file,
-        function: b"<unknown>",
-        line,
-        text: unindented(shown_line(source, line)),
-    }
+    row_on(file, source, b"<unknown>", line)
 }
 
 /// Whether one of the rows is equal to this one.
@@ -207,16 +253,43 @@ fn has_row(rows: &[RefRow<'_>], row: &RefRow<'_>) -> bool
     rows.iter().any(|other| row.equals(other))
 }
 
-/// The row of a definition in a file.
-fn definition_row<'a>(name: &'a [u8], source: &'a Source, def: &Def) -> RefRow<'a>
-    requires { IsWithin source.now def.now.name }
-    ensures { row_of result ≡ definition_row (file_of (name.entry, source.entry)) def.now }
+/// Whether one of the rows from an index on is equal to this one.
+fn has_row_from(rows: &[RefRow<'_>], first: usize, row: &RefRow<'_>) -> bool
+    requires { first ≤ length rows.now }
+    ensures { result ≡ list_any (λ other. row_eq (row_of row.now) (row_of other)) (drop first rows.now) }
+{
+    has_row(&rows[first..], row)
+}
+
+/// The row of a fact of a file.
+fn found_row<'a>(name: &'a [u8], source: &'a Source, found: Found) -> RefRow<'a>
+    requires { IsScopeWithin source.now found.function }
+    ensures { row_of result ≡ found_row (file_of (name.entry, source.entry)) found }
+{
+    row_on(
+        name,
+        source,
+        function_name(source, found.function),
+        found.line,
+    )
+}
+
+/// Whether a text holds a pattern.
+fn holds(finder: &Finder<'_>, text: &[u8]) -> bool
+    ensures { result ≡ holds finder.now text.now }
+{
+    finder.find(text).is_some()
+}
+
+/// The row of a file.
+fn file_row(name: &[u8]) -> RefRow<'_>
+    ensures { row_of result ≡ file_row name.now }
 {
     RefRow {
         file: name,
-        function: defined_name(source, def),
-        line: def.line,
-        text: unindented(shown_line(source, def.line)),
+        function: b"<unknown>",
+        line: 1,
+        text: b"<unknown>",
     }
 }
 

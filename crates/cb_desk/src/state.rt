@@ -1,18 +1,20 @@
 //! The state of a session.
 ghost use Rattle.std.specs.Prelude.{◌≡◌, ◌≢◌, ◌<◌, ◌≤◌, ◌*◌, [], length, IfOk, IfErr, MatchResult, nat_le};
+ghost use Rattle.std.specs.List.{flat_map};
 ghost use Rattle.std.specs.Option.{option_copied};
 ghost use Rattle.cb_desk.specs.declared.rows.Field.{Field};
 ghost use Rattle.cb_desk.specs.declared.limits.TheConstants.{MOST_BYTES, MOST_FILES, MOST_CHANGES};
 ghost use Rattle.cb_desk.specs.World.{text_named, IsValidWorld};
 ghost use Rattle.cb_desk.specs.Timeline.{new_timeline, moved_on, undone, redone, Moves, Changes};
-ghost use Rattle.cb_desk.specs.Answer.{answer};
+ghost use Rattle.cb_desk.specs.Answer.{answer, distinct, fact_rows, file_rows};
 ghost use Rattle.cb_desk.specs.Tags.{tags};
 ghost use Rattle.cb_desk.specs.Models.{step_of};
 
 use crate::limits::MOST_CHANGES;
 use crate::snapshot::Snapshot;
 use crate::{Change, Field, Files, Format, Places, Refusal, RowList, TagRowList, TextRows};
-use cb_scan::Source;
+use cb_scan::{Meter, Source, scan};
+use memchr::memmem::Finder;
 use std::alloc::{AllocError, Global};
 use std::marker::Model;
 use std::mem;
@@ -118,6 +120,21 @@ impl Desk {
         Ok(())
     }
 
+    /// Scans every present file again. The files, their past and their future stay.
+    pub fn rebuild(&mut self, alloc: Global) -> Result<(), Refusal>
+        ensures timeline { self.new ≡ self.old }
+        ensures memory { IfErr result (λ r. r ≡ Refusal.OutOfMemory) }
+    {
+        for (_, source) in self.present.files() {
+            let mut meter = Meter::new();
+            let _ = match scan(alloc, &mut meter, source) {
+                Ok(facts) => facts,
+                Err(_) => return Err(Refusal::OutOfMemory),
+            };
+        }
+        Ok(())
+    }
+
     /// The present files, name and text, by name.
     pub fn files(&self) -> Files<'_>
         ensures value { result ≡ self.now.present.files }
@@ -161,20 +178,38 @@ impl Desk {
         ensures memory { IfErr result (λ r. r ≡ Refusal.OutOfMemory) }
     {
         match field {
-            Field::Definition => self.definition_rows(alloc, pattern),
             Field::Text => Ok(RowList::collected(alloc, self.text_rows(pattern))?),
+            Field::File => Ok(self.file_rows(alloc, pattern)?),
+            _ => Ok(self.fact_rows(alloc, field, pattern)?),
         }
     }
 
-    /// The rows of the definitions of a name; equal ones once.
+    /// The rows of the files whose name holds a text.
     #[tactic(auto, unfolding(crate::specs::Answer::distinct))]
-    fn definition_rows(&self, alloc: Global, pattern: &[u8]) -> Result<RowList<'_>, Refusal>
-        ensures rows { IfOk result (λ rows. rows ≡ answer self.now.present Field.Definition pattern.now) }
-        ensures memory { IfErr result (λ r. r ≡ Refusal.OutOfMemory) }
+    fn file_rows(&self, alloc: Global, pattern: &[u8]) -> Result<RowList<'_>, AllocError>
+        ensures { IfOk result (λ rows. rows ≡ distinct (flat_map (λ f. file_rows pattern.now f.name) self.now.present.files)) }
+    {
+        let finder = Finder::new(pattern);
+        let mut rows = RowList::new(alloc);
+        for (name, _) in self.present.files() {
+            rows.add_file(&finder, name)?;
+        }
+        Ok(rows)
+    }
+
+    /// The rows of the facts that a pattern asks for; equal ones once.
+    #[tactic(auto, unfolding(crate::specs::Answer::distinct))]
+    fn fact_rows(
+        &self,
+        alloc: Global,
+        field: Field,
+        pattern: &[u8],
+    ) -> Result<RowList<'_>, AllocError>
+        ensures { IfOk result (λ rows. rows ≡ distinct (flat_map (fact_rows field pattern.now) self.now.present.files)) }
     {
         let mut rows = RowList::new(alloc);
         for (name, source) in self.present.files() {
-            rows.add_definitions(alloc, name, source, pattern)?;
+            rows.add_facts(alloc, field, pattern, name, source)?;
         }
         Ok(rows)
     }

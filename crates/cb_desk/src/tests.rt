@@ -2,6 +2,7 @@ mod calls;
 mod marks;
 mod memory;
 mod moves;
+mod queries;
 mod search;
 
 use super::*;

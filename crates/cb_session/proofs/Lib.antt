@@ -2,6 +2,7 @@ pub mod Loading
 pub mod Outcomes
 pub mod Patterns
 pub mod Puts
+pub mod Replay
 pub mod Round
 pub mod Rounds
 pub mod Shown

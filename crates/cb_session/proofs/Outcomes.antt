@@ -4,7 +4,7 @@ use Rattle.cb_tags.proofs.Prefixes.{PutsAll-none}
 use Rattle.cb_desk.specs.declared.refusal.Refusal.{Refusal}
 use Rattle.cb_desk.specs.declared.refusal.Refusal.TheVariants.{OutOfMemory}
 use Rattle.cb_desk.specs.declared.rows.Field.{Field}
-use Rattle.cb_desk.specs.declared.rows.Field.TheVariants.{Definition, Text}
+use Rattle.cb_desk.specs.declared.rows.Field.TheVariants.{Symbol, Definition, Called, Calling, Text, File as FileName, Including}
 use Rattle.cb_session.specs.declared.input.Fault.{Fault}
 use Rattle.cb_desk.specs.Timeline.{Timeline, Moves, Changes, judged, changed, undone, redone}
 use Rattle.cb_desk.specs.Step.{Step, step, load, unload, rename, want, mark, mark_all, replace, tag, pop}
@@ -19,7 +19,7 @@ use Rattle.std.specs.Prelude.{IfOk, IfErr}
 use Rattle.cb_tags.specs.Writers.{Writer}
 use Rattle.cb_desk.specs.declared.tags.Format.{Format}
 use Rattle.cb_desk.specs.declared.tags.Format.TheVariants.{Extended}
-use Rattle.cb_session.specs.Requests.{Request, query, change, undo, redo, tags_file, listing, marks, stack, refused, nothing, quit}
+use Rattle.cb_session.specs.Requests.{Request, query, change, undo, redo, rebuild, tags_file, listing, marks, stack, refused, nothing, quit}
 use Rattle.cb_session.specs.Serving.{Does}
 use Rattle.cb_session.specs.steps.Rounds.{move_line, rows_line, tags_line, listing_lines}
 use Rattle.cb_session.specs.Output.{moved, done_line, change_reply, query_reply, shown, outcome, refused_line, answer_lines, tags_reply, listing_reply}
@@ -64,6 +64,16 @@ Does-redo start old new e r out out' result same h p q =
     (subst (λ x. (out_of_memory : Bool) × Does (outcome out_of_memory old x) new out out' result) (sym h)
     (false, Does-moved (λ _. done_line) (redone old) old new r out out' result p q))
 
+pub Does-rebuild : {A : Type 0} (start old new : Timeline) (e : Request) (r : Result (Unit {0}) Refusal) (out out' : Writer) (result : Result A Fault)
+    → old ≡ start → e ≡ rebuild → new ≡ old → IfErr r (λ x. x ≡ OutOfMemory)
+    → Puts out out' result (move_line done_line r) → (out_of_memory : Bool) × Does (outcome out_of_memory start e) new out out' result
+unfolding outcome
+Does-rebuild start old new e (Ok x) out out' result same h stays memory p =
+    subst (λ x. (out_of_memory : Bool) × Does (outcome out_of_memory start x) new out out' result) (sym h) (false, (stays ∙ same, p))
+Does-rebuild start old new e (Err x) out out' result same h stays memory p =
+    subst (λ y. (out_of_memory : Bool) × Does (outcome out_of_memory start y) new out out' result) (sym h)
+    (true, (stays ∙ same, subst (λ l. Puts out out' result l) (ap refused_line memory) p))
+
 pub Does-stack : {A : Type 0} (t desk : Timeline) (e : Request) (out out' : Writer) (result : Result A Fault)
     → desk ≡ t → e ≡ stack → Puts out out' result (answer_lines (stack_rows desk.present)) → (out_of_memory : Bool) × Does (outcome out_of_memory t e) t out out' result
 unfolding outcome
@@ -73,8 +83,13 @@ Does-stack t desk e out out' result same h p =
 
 -- a query of another field than 4
 not-text : (b : Bool) (field : Field) (rows : List AnswerRow) → field ≢ Text → query_reply b field rows ≡ shown b (answer_lines rows)
+not-text b Symbol rows other = refl
 not-text b Definition rows other = refl
+not-text b Called rows other = refl
+not-text b Calling rows other = refl
 not-text b Text rows other = absurd (other refl)
+not-text b FileName rows other = refl
+not-text b Including rows other = refl
 
 -- the rows of another field than 4 as they were collected, or memory was refused
 pub replies-other : {A : Type 0} (desk t : Timeline) (field : Field) (pattern : List ℕ) (r : Result (List AnswerRow) Refusal) (out out' : Writer) (result : Result A Fault)

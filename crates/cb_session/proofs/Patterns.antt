@@ -4,7 +4,7 @@ use Rattle.std.specs.List.{position}
 use Rattle.std.specs.Str.{bytes_eq}
 use Rattle.cb_session.specs.Commands.{words_in, cut_at, letter_q, end_of_transmission, tags_numbered, tags_words, drop_words, rename_words, mark_numbered, mark_words, to_text, want_of, field_line, digit_5, tag_numbered, tag_words, alone, number_in, is_space, is_digit, load_sized, load_words, query_of, command, command_line, short_line}
 use Rattle.cb_session.specs.Models.{HasPattern}
-use Rattle.cb_session.specs.Requests.{Request, refused, quit, change, undo, redo, tags_file, listing, marks, stack, LineRequest, whole, block}
+use Rattle.cb_session.specs.Requests.{Request, refused, quit, change, undo, redo, rebuild, tags_file, listing, marks, stack, LineRequest, whole, block}
 use Rattle.cb_desk.specs.declared.refusal.Refusal.TheVariants.{BadCount}
 use Rattle.cb_desk.specs.declared.rows.Field.{Field}
 use Rattle.cb_desk.specs.Answer.{field_of_digit}
@@ -91,7 +91,8 @@ command-patterned : (word : List ℕ) (rest : Option (List ℕ)) → IsPatterned
 unfolding command
 command-patterned word rest =
     let words = words_in rest in
-    IsPatterned-choice (bytes_eq word (codes ":load")) _ _ (load_words-patterned words)
+    IsPatterned-choice (bytes_eq word (codes "r")) _ _ (alone-patterned rebuild words tt)
+    (IsPatterned-choice (bytes_eq word (codes ":load")) _ _ (load_words-patterned words)
     (IsPatterned-choice (bytes_eq word (codes ":drop")) (whole (drop_words words)) _ (drop_words-patterned words)
     (IsPatterned-choice (bytes_eq word (codes ":rename")) (whole (rename_words words)) _ (rename_words-patterned words)
     (IsPatterned-choice (bytes_eq word (codes ":mark")) (whole (mark_words words)) _ (mark_words-patterned words)
@@ -104,7 +105,7 @@ command-patterned word rest =
     (IsPatterned-choice (bytes_eq word (codes ":tags")) (whole (tags_words words)) _ (tags_words-patterned words)
     (IsPatterned-choice (bytes_eq word (codes ":listing")) _ _ (alone-patterned listing words tt)
     (IsPatterned-choice (bytes_eq word (codes ":marks")) _ _ (alone-patterned marks words tt)
-    (IsPatterned-choice (bytes_eq word (codes ":stack")) _ _ (alone-patterned stack words tt) tt)))))))))))))
+    (IsPatterned-choice (bytes_eq word (codes ":stack")) _ _ (alone-patterned stack words tt) tt))))))))))))))
 
 want_of-patterned : (text : List ℕ) → HasPattern (want_of text)
 want_of-patterned [] = tt

@@ -11,7 +11,7 @@ use Rattle.cb_desk.specs.declared.tags.Format.TheVariants.{Plain, Extended}
 use Rattle.cb_desk.specs.Answer.{field_of_digit}
 use Rattle.cb_desk.specs.Step.{unload, rename, want, mark, mark_all, replace, tag, pop}
 use Rattle.cb_session.specs.declared.limits.TheConstants.{MOST_DIGITS, MOST_BYTES}
-use Rattle.cb_session.specs.Requests.{Request, query, change, undo, redo, tags_file, listing, marks, stack, refused, nothing, quit, LineRequest, whole, block}
+use Rattle.cb_session.specs.Requests.{Request, query, change, undo, redo, rebuild, tags_file, listing, marks, stack, refused, nothing, quit, LineRequest, whole, block}
 
 -- the letter that ends the session
 abbrev pub letter_q : ℕ
@@ -114,7 +114,8 @@ alone r (word ∷ words) = whole (refused UnknownCommand)
 -- a command by its word and the rest of its line
 unfoldable pub command : List ℕ → Option (List ℕ) → LineRequest
 command word rest =
-    if bytes_eq word (codes ":load") then load_words (words_in rest)
+    if bytes_eq word (codes "r") then alone rebuild (words_in rest)
+    else (if bytes_eq word (codes ":load") then load_words (words_in rest)
     else (if bytes_eq word (codes ":drop") then whole (drop_words (words_in rest))
     else (if bytes_eq word (codes ":rename") then whole (rename_words (words_in rest))
     else (if bytes_eq word (codes ":mark") then whole (mark_words (words_in rest))
@@ -128,7 +129,7 @@ command word rest =
     else (if bytes_eq word (codes ":listing") then alone listing (words_in rest)
     else (if bytes_eq word (codes ":marks") then alone marks (words_in rest)
     else (if bytes_eq word (codes ":stack") then alone stack (words_in rest)
-    else whole (refused UnknownCommand))))))))))))))
+    else whole (refused UnknownCommand)))))))))))))))
 
 -- a text in two at its first space: what comes before it, and what comes after it, if there is a
 -- space

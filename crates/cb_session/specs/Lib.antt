@@ -6,6 +6,7 @@ pub mod Operands
 pub mod Output
 pub mod Places
 pub mod Reading
+pub mod Replay
 pub mod Requests
 pub mod RunExamples
 pub mod Serving

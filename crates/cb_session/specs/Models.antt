@@ -6,16 +6,17 @@ use Rattle.cb_session.specs.declared.input.Ended.{Ended}
 use Rattle.cb_session.specs.declared.input.Going.{Going}
 use Rattle.cb_session.specs.declared.input.Going.TheVariants.{On, Stop}
 use Rattle.cb_session.specs.declared.input.Command.{Command as Asks}
-use Rattle.cb_session.specs.declared.input.Command.TheVariants.{Query, Change, Undo, Redo, Tags, Listing, Marks, Stack}
+use Rattle.cb_session.specs.declared.input.Command.TheVariants.{Query, Change, Rebuild, Undo, Redo, Tags, Listing, Marks, Stack}
 use Rattle.cb_session.specs.declared.line.Asked.{Asked}
 use Rattle.cb_session.specs.declared.line.Asked.TheVariants.{Whole, Block}
 use Rattle.cb_desk.specs.Models.{step_of}
-use Rattle.cb_session.specs.Requests.{Request, query, change, undo, redo, tags_file, listing, marks, stack, refused, nothing, quit, LineRequest, whole, block}
+use Rattle.cb_session.specs.Requests.{Request, query, change, undo, redo, rebuild, tags_file, listing, marks, stack, refused, nothing, quit, LineRequest, whole, block}
 
 -- the request that a command is
 abbrev pub command_of : Asks → Request
 command_of (Query field pattern) = query field pattern.now
 command_of (Change c) = change (step_of c)
+command_of Rebuild = rebuild
 command_of Undo = undo
 command_of Redo = redo
 command_of (Tags format) = tags_file format

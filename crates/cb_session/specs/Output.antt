@@ -15,7 +15,7 @@ use Rattle.cb_tags.specs.TagLines.{Tag}
 use Rattle.cb_desk.specs.declared.tags.Format.{Format}
 use Rattle.cb_desk.specs.declared.tags.Format.TheVariants.{Extended}
 use Rattle.cb_session.specs.Places.{mark_rows, stack_rows}
-use Rattle.cb_session.specs.Requests.{Request, query, change, undo, redo, tags_file, listing, marks, stack, refused, nothing, quit, overlong}
+use Rattle.cb_session.specs.Requests.{Request, query, change, undo, redo, rebuild, tags_file, listing, marks, stack, refused, nothing, quit, overlong}
 
 -- the prompt
 abbrev pub prompt : List ℕ
@@ -79,6 +79,7 @@ moved t reply (Ok next) = record { timeline = next; reply = reply next.present }
 -- the outcome of an input; `out_of_memory` says that memory was refused to it, where it takes any
 unfoldable pub outcome : Bool → Timeline → Request → Outcome
 outcome out_of_memory t (query field pattern) = record { timeline = t; reply = query_reply out_of_memory field (answer t.present field pattern) }
+outcome out_of_memory t rebuild = record { timeline = t; reply = shown out_of_memory done_line }
 outcome out_of_memory t (tags_file format) = record { timeline = t; reply = shown out_of_memory (tags_reply format (tags format t.present)) }
 outcome out_of_memory t listing = record { timeline = t; reply = shown out_of_memory (listing_reply (tags Extended t.present)) }
 outcome out_of_memory t marks = record { timeline = t; reply = answer_lines (mark_rows t.present) }

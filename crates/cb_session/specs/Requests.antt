@@ -15,6 +15,8 @@ pub data Request : Type 0 where
   undo : Request
   -- make the last change that was taken back again
   redo : Request
+  -- scan every file again
+  rebuild : Request
   -- the tags file
   tags_file : Format → Request
   -- the listing

@@ -27,6 +27,8 @@ pub enum Command<'a> {
     Query(Field, &'a [u8]),
     /// A change of the files, of the marks or of the tag stack.
     Change(Change<'a>),
+    /// Scans every file again.
+    Rebuild,
     /// Takes the last change back.
     Undo,
     /// Makes the last change that was taken back again.

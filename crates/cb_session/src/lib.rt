@@ -11,6 +11,7 @@ mod block;
 mod feed;
 mod input;
 mod intake;
+pub mod laws;
 mod limits;
 mod line;
 mod operands;
@@ -24,7 +25,7 @@ pub use input::{Command, Ended, Fault, Going, Input};
 pub use intake::{Intake, OutOfMemory};
 pub use limits::Limits;
 pub use operands::{Operand, Operands, prepare, run};
-pub use reply::put_row;
+pub use reply::{put_answer, put_row};
 pub use state::Session;
 pub use tags::{put_listing_file, put_tags_file};
 

@@ -271,7 +271,9 @@ fn field_line(digit: u8, rest: &[u8]) -> Input<'_>
 fn command<'a>(word: &[u8], rest: Option<&'a [u8]>) -> Asked<'a>
     ensures { line_request_of result ≡ command word.now (rest_of rest.entry) }
 {
-    if word == b":load".as_slice() {
+    if word == b"r".as_slice() {
+        alone(Command::Rebuild, rest)
+    } else if word == b":load".as_slice() {
         load_words(rest)
     } else if word == b":drop".as_slice() {
         Asked::Whole(drop_words(rest))

@@ -9,7 +9,7 @@ ghost use Rattle.cb_desk.specs.Models.{row_of};
 ghost use Rattle.cb_session.specs.steps.Rounds.{move_line, rows_line};
 
 use crate::Fault;
-use cb_desk::{Desk, Field, RefRow, Refusal, RowList};
+use cb_desk::{Desk, Field, RefRow, Refusal, RowIter, RowList};
 use cb_tags::{Sink, put_text, put_texts};
 use itoa::Buffer;
 use std::io::Write;
@@ -131,7 +131,14 @@ pub(crate) fn put_rows<W: Write>(
         Err(refusal) => return put_refusal(out, refusal),
     };
     put_count(out, list.len() as u128)?;
-    for row in list.iter() {
+    put_answer(out, list.iter())
+}
+
+/// Writes rows, one after another.
+pub fn put_answer<W: Write>(out: &mut Sink<W>, rows: RowIter<'_, '_>) -> Result<(), Fault>
+    ensures { Puts out.old out.new result (flat_map row_line rows.entry) }
+{
+    for row in rows {
         put_row(out, &row)?;
     }
     Ok(())

@@ -96,6 +96,7 @@ impl Session {
         match command {
             Command::Query(field, pattern) => self.query(alloc, field, pattern, out),
             Command::Change(change) => self.change(alloc, change, out),
+            Command::Rebuild => put_move(out, self.desk.rebuild(alloc)),
             Command::Undo => put_move(out, self.desk.undo()),
             Command::Redo => put_move(out, self.desk.redo()),
             Command::Tags(format) => put_tags_reply(out, format, self.desk.tag_rows(alloc, format)),

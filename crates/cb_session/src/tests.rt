@@ -5,6 +5,7 @@ mod frames;
 mod marks;
 mod memory;
 mod operands;
+mod queries;
 mod tags;
 
 use crate::{Ended, Fault, Feed, Limits, Session, put_row};

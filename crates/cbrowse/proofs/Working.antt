@@ -10,7 +10,7 @@ use Rattle.cb_tags.specs.Writers.{Writer}
 use Rattle.cbrowse.specs.declared.execute.finish.Finish.{Finish}
 use Rattle.cbrowse.specs.declared.execute.finish.Finish.TheVariants.{Ran, Unreadable, Unwritable}
 use Rattle.cbrowse.specs.declared.job.Job.{Job}
-use Rattle.cbrowse.specs.declared.job.Job.TheVariants.{Line, Tags}
+use Rattle.cbrowse.specs.declared.job.Job.TheVariants.{Line, Find, Tags}
 use Rattle.cbrowse.specs.Messages.{files_of}
 use Rattle.cbrowse.specs.Program.{DoesFrom, DoesJob, DoesLoaded, EndsIntoFile, Reaches, Works, most_line_bytes, most_lines, writes_file}
 
@@ -37,6 +37,7 @@ stopped job ops feed out (Fault fault) named p = absurd p
 pub into_file : (job : Job) (t : Timeline) (feed feed' : Reader) (out : Writer) (f : Finish) → writes_file job ≡ true → Reaches job (Ok t)
     → EndsIntoFile f → feed' ≡ feed → Works job feed feed' out out f
 into_file (Line files) t feed feed' out f writes reached ends same = cc
+into_file (Find field pattern files) t feed feed' out f writes reached ends same = cc
 into_file (Tags true tagsfile format files) t feed feed' out f writes reached ends same = cc
 into_file (Tags false tagsfile format files) t feed feed' out (Ran ended) writes reached ends same = inr (Ok t, reached, (ends, (same, refl)))
 into_file (Tags false tagsfile format files) t feed feed' out Unwritable writes reached ends same = (writes, (t, reached), (same, refl))
@@ -46,5 +47,6 @@ into_file (Tags false tagsfile format files) t feed feed' out (Unreadable place)
 pub over_both : (job : Job) (t : Timeline) (feed feed' : Reader) (out out' : Writer) (ended : Ended) → writes_file job ≡ false
     → DoesJob job most_lines most_line_bytes t feed feed' out out' ended → DoesFrom t job feed feed' out out' ended
 over_both (Line files) t feed feed' out out' ended writes does = does
+over_both (Find field pattern files) t feed feed' out out' ended writes does = does
 over_both (Tags true tagsfile format files) t feed feed' out out' ended writes does = does
 over_both (Tags false tagsfile format files) t feed feed' out out' ended writes does = cc

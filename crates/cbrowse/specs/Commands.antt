@@ -4,7 +4,7 @@ use Rattle.std.specs.Borrow.{Bor}
 use Rattle.clap.specs.Words.{App, Row, Text, found_of, new_app, rows_of, with_rule, with_subcommand}
 use Rattle.clap.specs.declared.builder.ValueParser.TheVariants.{Names}
 use Rattle.clap.specs.declared.ArgMatches.{ArgMatches}
-use Rattle.cbrowse.specs.Jobs.{files_rule, format_rule, line_app, listing_rule, tagsfile_rule, with_subcommand_required}
+use Rattle.cbrowse.specs.Jobs.{files_rule, find_app, format_rule, line_app, listing_rule, tagsfile_rule, with_version}
 
 -- a command with `--format`, which takes these texts alone
 abbrev pub with_format : App → Bor (List (Bor Text)) → App
@@ -16,7 +16,7 @@ tags_app_of choices = with_rule (with_format (with_rule (with_rule (new_app (cod
 
 -- the program's command, whose formats are these texts
 abbrev pub browse_app_of : Bor (List (Bor Text)) → App
-browse_app_of choices = with_subcommand (with_subcommand (with_subcommand_required (new_app (codes "cbrowse"))) line_app.top) (tags_app_of choices).top
+browse_app_of choices = with_subcommand (with_subcommand (with_subcommand (with_version (new_app (codes "cbrowse"))) line_app.top) find_app.top) (tags_app_of choices).top
 
 -- the command is the one whose formats are the texts 1 and 2
 abbrev pub TakesFormats : (Bor (List (Bor Text)) → App) → App → Type 0

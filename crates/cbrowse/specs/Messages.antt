@@ -12,18 +12,20 @@ use Rattle.cb_tags.specs.Writing.{AppendsPrefix}
 use Rattle.cbrowse.specs.declared.execute.finish.Finish.{Finish}
 use Rattle.cbrowse.specs.declared.execute.finish.Finish.TheVariants.{Ran, Unreadable, Unwritable}
 use Rattle.cbrowse.specs.declared.job.Job.{Job}
-use Rattle.cbrowse.specs.declared.job.Job.TheVariants.{Line, Tags}
+use Rattle.cbrowse.specs.declared.job.Job.TheVariants.{Line, Find, Tags}
 use Rattle.cbrowse.specs.declared.job.Usage.{Usage}
-use Rattle.cbrowse.specs.declared.job.Usage.TheVariants.{Help, Wrong, Memory as NoMemory}
+use Rattle.cbrowse.specs.declared.job.Usage.TheVariants.{Help, Wrong, BadField, NoPattern, Memory as NoMemory}
 
 -- the names of a job's files
 abbrev pub files_of : Job → List (List ℕ)
 files_of (Line files) = map string_bytes files.items
+files_of (Find field pattern files) = map string_bytes files.items
 files_of (Tags listing tagsfile format files) = map string_bytes files.items
 
 -- the name of a job's tags file
 abbrev pub tagsfile_of : Job → List ℕ
 tagsfile_of (Line files) = []
+tagsfile_of (Find field pattern files) = []
 tagsfile_of (Tags listing tagsfile format files) = string_bytes tagsfile
 
 -- a line that names the program
@@ -72,12 +74,16 @@ status_of Unwritable = 1
 abbrev pub usage_status : Usage → ℕ
 usage_status (Help text) = 0
 usage_status (Wrong text) = 2
+usage_status BadField = 2
+usage_status NoPattern = 2
 usage_status NoMemory = 1
 
 -- what is said then: clap's text as it is
 abbrev pub usage_said : Usage → List ℕ
 usage_said (Help text) = string_bytes text
 usage_said (Wrong text) = string_bytes text
+usage_said BadField = error_line (codes "field not in this profile")
+usage_said NoPattern = error_line (codes "no pattern")
 usage_said NoMemory = error_line (codes "out of memory")
 
 -- the whole text is on standard error, unless that has failed; then a prefix of it is

@@ -1,6 +1,8 @@
 -- What the program does: the files of a job are read and loaded, and then the job is done.
-use Rattle.std.specs.Prelude.{◌≡◌, ◌⊎◌, ℕ, ◌<◌, Bool, true, false, not, List, IsTrue, length, Some, Result, Ok, Err, map}
+use Rattle.std.specs.Prelude.{◌≡◌, ◌≢◌, ◌⊎◌, ℕ, ◌<◌, Bool, true, false, not, List, [], IsTrue, length, Some, Result, Ok, Err, map, string_bytes}
+use Rattle.std.specs.List.{flat_map}
 use Rattle.std.specs.Io.KnownBytes.{Appends}
+use Rattle.cb_desk.specs.Answer.{answer}
 use Rattle.cb_desk.specs.declared.tags.Format.{Format}
 use Rattle.cb_desk.specs.declared.tags.Format.TheVariants.{Extended}
 use Rattle.cb_desk.specs.Tags.{tags, tags_text, listing_text}
@@ -11,6 +13,7 @@ use Rattle.cb_session.specs.declared.input.Ended.TheVariants.{Done, Fault, Opera
 use Rattle.cb_session.specs.declared.input.Fault.TheVariants.{Write, Memory}
 use Rattle.cb_session.specs.Devices.{Reader}
 use Rattle.cb_session.specs.Inputs.{inputs}
+use Rattle.cb_session.specs.Output.{row_line}
 use Rattle.cb_session.specs.Operands.{Loads, RefusedOperand}
 use Rattle.cb_session.specs.Serving.{HasFailed, IfFault, LeavesRun, Tells, fault_of}
 use Rattle.cb_tags.specs.TagLines.{Tag}
@@ -19,7 +22,7 @@ use Rattle.cb_tags.specs.Writing.{AppendsPrefix}
 use Rattle.cbrowse.specs.declared.execute.finish.Finish.{Finish}
 use Rattle.cbrowse.specs.declared.execute.finish.Finish.TheVariants.{Ran, Unreadable, Unwritable}
 use Rattle.cbrowse.specs.declared.job.Job.{Job}
-use Rattle.cbrowse.specs.declared.job.Job.TheVariants.{Line, Tags}
+use Rattle.cbrowse.specs.declared.job.Job.TheVariants.{Line, Find, Tags}
 use Rattle.cbrowse.specs.Messages.{files_of}
 
 -- the most lines that a session of the program reads
@@ -55,11 +58,19 @@ WritesText text old new _ = ⊥
 
 -- ---- a job over a session
 
--- a job is done from a timeline: a session is a run over the bytes of the reader; tags are written, and the reader is left alone
+-- a search has a pattern
+abbrev pub HasPattern : Job → Type 0
+HasPattern (Find field pattern files) = string_bytes pattern ≢ []
+HasPattern _ = Unit {0}
+
+-- a job is done from a timeline: a session is a run over the bytes of the reader; the rows of a search and tags are written, and
+-- the reader is left alone
 abbrev pub DoesJob : Job → (lines limit : ℕ) → Timeline → Reader → Reader → Writer → Writer → Ended → Type 0
 DoesJob (Line files) lines limit t feed feed' old new ended =
     ((bytes : List ℕ) → feed.bytes ≡ Some bytes → LeavesRun (inputs lines limit bytes) t old new ended)
     × IfFault ended (HasFailed feed' new) × Tells feed feed' old new (fault_of ended)
+DoesJob (Find field pattern files) lines limit t feed feed' old new ended =
+    (feed' ≡ feed) × WritesText (flat_map row_line (answer t.present field (string_bytes pattern))) old new ended
 DoesJob (Tags listing tagsfile format files) lines limit t feed feed' old new ended =
     (feed' ≡ feed) × WritesText (tags_output listing format t.present) old new ended
 
@@ -68,6 +79,7 @@ DoesJob (Tags listing tagsfile format files) lines limit t feed feed' old new en
 -- the job writes a tags file
 abbrev pub writes_file : Job → Bool
 writes_file (Line files) = false
+writes_file (Find field pattern files) = false
 writes_file (Tags listing tagsfile format files) = not listing
 
 -- input and output are left alone
@@ -100,6 +112,8 @@ Reaches job end = (files : List File) × (map (λ f. f.name) files ≡ files_of 
 abbrev pub DoesFrom : Timeline → Job → Reader → Reader → Writer → Writer → Ended → Type 0
 DoesFrom t (Line files) feed feed' out out' ended =
     DoesJob (Line files) most_lines most_line_bytes t feed feed' out out' ended
+DoesFrom t (Find field pattern files) feed feed' out out' ended =
+    DoesJob (Find field pattern files) most_lines most_line_bytes t feed feed' out out' ended
 DoesFrom t (Tags true tagsfile format files) feed feed' out out' ended =
     DoesJob (Tags true tagsfile format files) most_lines most_line_bytes t feed feed' out out' ended
 DoesFrom t (Tags false tagsfile format files) feed feed' out out' ended = EndsFile ended × LeavesAlone feed feed' out out'

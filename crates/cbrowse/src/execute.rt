@@ -1,9 +1,12 @@
 //! The program behind its entry: words in, a job done, an exit status out.
-ghost use Rattle.std.specs.Prelude.{◌≡◌, ◌⊎◌, true, false, map, string_bytes};
+ghost use Rattle.std.specs.Prelude.{◌≡◌, ◌≢◌, ◌⊎◌, [], true, false, map, string_bytes};
+ghost use Rattle.std.specs.List.{flat_map};
 ghost use Rattle.std.specs.Option.{MatchOption};
+ghost use Rattle.cb_desk.specs.Answer.{answer};
+ghost use Rattle.cb_session.specs.Output.{row_line};
 ghost use Rattle.cbrowse.specs.Endings.{EndsJob, EndsUsage};
 ghost use Rattle.cbrowse.specs.Messages.{tagsfile_of};
-ghost use Rattle.cbrowse.specs.Program.{output_format, output_text, tags_output, writes_file, WritesText, DoesJob, EndsIntoFile, Works};
+ghost use Rattle.cbrowse.specs.Program.{HasPattern, output_format, output_text, tags_output, writes_file, WritesText, DoesJob, EndsIntoFile, Works};
 ghost use Rattle.cb_session.specs.Writing.{Puts};
 
 mod files;
@@ -14,8 +17,10 @@ mod tests;
 use crate::execute::files::{make_file, read_operands};
 use crate::execute::finish::{Finish, conclude, files_of};
 use crate::job::{Job, job_of};
-use cb_desk::{Desk, Format, TagRowIter};
-use cb_session::{Ended, Fault, Feed, Limits, Session, prepare, put_listing_file, put_tags_file};
+use cb_desk::{Desk, Field, Format, TagRowIter};
+use cb_session::{
+    Ended, Fault, Feed, Limits, Session, prepare, put_answer, put_listing_file, put_tags_file,
+};
 use cb_tags::Sink;
 pub(crate) use finish::refuse;
 use std::alloc::Global;
@@ -75,6 +80,31 @@ fn write_tags<W: Write>(
     }
 }
 
+/// Writes the rows that answer a question, and hands them on.
+fn write_rows<W: Write>(
+    alloc: Global,
+    field: Field,
+    pattern: &[u8],
+    desk: &Desk,
+    out: &mut Sink<W>,
+) -> Ended
+    requires { pattern.now ≢ [] }
+    ensures { WritesText (flat_map row_line (answer desk.now.present field pattern.now)) out.old out.new result }
+{
+    let list = match desk.rows(alloc, field, pattern) {
+        Ok(list) => list,
+        Err(_) => return Ended::Fault(Fault::Memory),
+    };
+    match put_answer(out, list.iter()) {
+        Ok(()) => {}
+        Err(fault) => return Ended::Fault(fault),
+    }
+    match out.flush() {
+        Ok(()) => Ended::Done,
+        Err(_failed) => Ended::Fault(Fault::Write),
+    }
+}
+
 /// Does a job over input and output, from a session in which its files are loaded.
 pub fn run_job<R: BufRead, W: Write>(
     alloc: Global,
@@ -84,10 +114,18 @@ pub fn run_job<R: BufRead, W: Write>(
     feed: &mut Feed<R>,
     out: &mut Sink<W>,
 ) -> Ended
+    requires { HasPattern job.now }
     ensures { DoesJob job.now limits.now.lines limits.now.line session feed.old feed.new out.old out.new result }
 {
     match job {
         Job::Line { .. } => session.serve(alloc, limits, feed, out),
+        Job::Find { field, pattern, .. } => write_rows(
+            alloc,
+            *field,
+            pattern.as_bytes(),
+            session.desk(),
+            out,
+        ),
         Job::Tags {
             listing,
             format,
@@ -102,6 +140,7 @@ fn output_file(job: &Job) -> Option<&str>
 {
     match job {
         Job::Line { .. } => None,
+        Job::Find { .. } => None,
         Job::Tags {
             listing,
             tagsfile,
@@ -123,7 +162,8 @@ fn run_job_into<R: Files + AllocGlobal, I: BufRead>(
     session: Session,
     feed: &mut Feed<I>,
 ) -> Finish
-    requires { writes_file job.now ≡ true }
+    requires file { writes_file job.now ≡ true }
+    requires pattern { HasPattern job.now }
     ensures end { EndsIntoFile result }
     ensures feed { feed.new ≡ feed.old }
 {
@@ -146,6 +186,7 @@ fn work<R: Files + AllocGlobal, I: BufRead, O: Write>(
     feed: &mut Feed<I>,
     out: &mut Sink<O>,
 ) -> Finish
+    requires { HasPattern job.now }
     ensures { Works job.now feed.old feed.new out.old out.new result }
 {
     let operands = match read_operands(rt, folder, files_of(job)) {

@@ -9,7 +9,7 @@ mod matched;
 #[cfg(test)]
 mod tests;
 
-use cb_desk::Format;
+use cb_desk::{Field, Format};
 use clap::Error;
 use clap::error::ErrorKind;
 use std::alloc::{AllocError, Global};
@@ -19,6 +19,12 @@ use std::alloc::{AllocError, Global};
 pub enum Job {
     /// A session over standard input and output, with these files loaded first.
     Line {
+        files: Vec<String>,
+    },
+    /// The rows that answer a question about these files. The pattern is not empty.
+    Find {
+        field: Field,
+        pattern: String,
         files: Vec<String>,
     },
     /// The tags of these files: a listing on standard output, or else a tags file of this name and form.
@@ -33,10 +39,14 @@ pub enum Job {
 /// Why there is no job.
 #[derive(Debug, Drop)]
 pub enum Usage {
-    /// Help was asked for: its text.
+    /// Help or the version was asked for: its text.
     Help(String),
     /// The words are wrong: the text that says why.
     Wrong(String),
+    /// The number of a search is not that of a field.
+    BadField,
+    /// The pattern of a search is empty.
+    NoPattern,
     /// A growth of memory was refused.
     Memory,
 }
@@ -60,7 +70,11 @@ pub fn job_of(alloc: Global, words: &[String]) -> Result<Job, Usage>
         Ok(matches) => matches,
         Err(error) => return Err(usage_of(alloc, &error)),
     };
-    match matched::found_job(alloc, &matches)? {
+    let found = match matched::found_job(alloc, &matches) {
+        Ok(found) => found,
+        Err(usage) => return Err(usage),
+    };
+    match found {
         Some(job) => Ok(job),
         // clap refuses words without a subcommand and other formats, so no words lead here.
         None => Err(Usage::Wrong(command.render_usage()?)),
@@ -75,6 +89,7 @@ fn usage_of(alloc: Global, error: &Error) -> Usage
         (ErrorKind::OutOfMemory, _) => Usage::Memory,
         (_, Err(_)) => Usage::Memory,
         (ErrorKind::DisplayHelp, Ok(text)) => Usage::Help(text),
+        (ErrorKind::DisplayVersion, Ok(text)) => Usage::Help(text),
         (_, Ok(text)) => Usage::Wrong(text),
     }
 }

@@ -68,14 +68,6 @@ fn the_rows_of_a_definition_have_file_name_line_and_text(rt: HostRuntime) -> Res
 }
 
 #[test]
-fn the_digit_1_asks_for_definitions(rt: HostRuntime) {
-    assert!(rt; Field::of_digit(b'1') == Some(Field::Definition));
-    assert!(rt; Field::of_digit(b'0') == None);
-    assert!(rt; Field::of_digit(b'6') == None);
-    assert!(rt; Field::of_digit(1) == None);
-}
-
-#[test]
 fn equal_rows_are_one_row(rt: HostRuntime) -> Result<(), Refusal> {
     let alloc = rt.alloc();
     let mut desk = Desk::new(alloc);

@@ -53,6 +53,10 @@ fn queries_of_each_kind(rt: HostRuntime) -> Result<(), Fail> {
         ),
         (b"1add\n", b"cscope: 1 lines\nk.c add 5 int add(a, b)\n"),
         (
+            b"0MAX\n",
+            b"cscope: 2 lines\nk.c <global> 1 #define MAX 10\nk.c add 9 return a + b + MAX;\n",
+        ),
+        (
             b"1color\n",
             b"cscope: 1 lines\nk.c color 4 enum color { RED };\n",
         ),

@@ -26,6 +26,7 @@ pub(crate) fn files_of(job: &Job) -> &[String]
 {
     match job {
         Job::Line { files } => files.as_slice(),
+        Job::Find { files, .. } => files.as_slice(),
         Job::Tags { files, .. } => files.as_slice(),
     }
 }
@@ -36,6 +37,7 @@ fn tagsfile_of(job: &Job) -> &[u8]
 {
     match job {
         Job::Line { .. } => b"",
+        Job::Find { .. } => b"",
         Job::Tags { tagsfile, .. } => tagsfile.as_bytes(),
     }
 }
@@ -77,6 +79,8 @@ fn usage_status(usage: &Usage) -> u8
     match usage {
         Usage::Help(_) => 0,
         Usage::Wrong(_) => 2,
+        Usage::BadField => 2,
+        Usage::NoPattern => 2,
         Usage::Memory => 1,
     }
 }
@@ -146,6 +150,8 @@ fn put_usage<E: Write>(errors: &mut Sink<E>, usage: &Usage) -> Result<(), WriteF
     match usage {
         Usage::Help(text) => put_texts(errors, &[text.as_bytes()]),
         Usage::Wrong(text) => put_texts(errors, &[text.as_bytes()]),
+        Usage::BadField => put_error(errors, b"field not in this profile"),
+        Usage::NoPattern => put_error(errors, b"no pattern"),
         Usage::Memory => put_error(errors, b"out of memory"),
     }
 }

@@ -98,15 +98,16 @@ fn a_line_of_more_than_a_million_bytes(rt: HostRuntime) -> Result<(), AllocError
 fn words_without_a_job(rt: HostRuntime) -> Result<(), AllocError> {
     let cases = [
         (["--help"].as_slice(), 0u8, b"Browses C sources".as_slice()),
+        (["--version"].as_slice(), 0u8, b"cbrowse ".as_slice()),
         (
             ["tags"].as_slice(),
             2u8,
             b"error: the following required arguments were not provided".as_slice(),
         ),
         (
-            ["find"].as_slice(),
+            ["search"].as_slice(),
             2u8,
-            b"error: unrecognized subcommand 'find'".as_slice(),
+            b"error: unrecognized subcommand 'search'".as_slice(),
         ),
         (
             [].as_slice(),

@@ -1,12 +1,15 @@
 //! The command line, as clap is to read it.
 ghost use Rattle.std.specs.Prelude.{◌≡◌, IfOk};
 ghost use Rattle.clap.specs.Words.{app_of, with_rule};
-ghost use Rattle.cbrowse.specs.Jobs.{files_rule, line_app, listing_rule, tagsfile_rule};
+ghost use Rattle.cbrowse.specs.Jobs.{files_rule, find_app, line_app, listing_rule, num_rule, pattern_rule, tagsfile_rule};
 ghost use Rattle.cbrowse.specs.Commands.{TakesFormats, browse_app_of, tags_app_of, with_format};
 
 use clap::builder::ValueParser;
 use clap::{Arg, ArgAction, Command};
 use std::alloc::{AllocError, Global};
+
+/// The version of the program.
+const VERSION: &str = "0.1.0";
 
 /// The numbers of the formats.
 static FORMATS: [&str; 2] = ["1", "2"];
@@ -17,8 +20,10 @@ pub(crate) fn browse_command<'a>(alloc: Global) -> Result<Command<'a>, AllocErro
 {
     Command::new(alloc, "cbrowse")
         .about("Browses C sources")
+        .version(VERSION)
         .subcommand_required(true)
         .subcommand(line_command(alloc)?)?
+        .subcommand(find_command(alloc)?)?
         .subcommand(tags_command(alloc)?)
 }
 
@@ -32,6 +37,18 @@ fn line_command<'a>(alloc: Global) -> Result<Command<'a>, AllocError>
     with_files(alloc, command, "C source to load first", false)
 }
 
+/// `find`: one search.
+fn find_command<'a>(alloc: Global) -> Result<Command<'a>, AllocError>
+    ensures { IfOk result (λ command. app_of command ≡ find_app) }
+{
+    let command = Command::new(alloc, "find")
+        .about("Writes the rows that answer one question about C sources")
+        .after_help("Example: cbrowse find 1 main a.c");
+    let command = with_num(alloc, command)?;
+    let command = with_pattern(alloc, command)?;
+    with_files(alloc, command, "C source to search", true)
+}
+
 /// `tags`: a tags file, or a listing.
 fn tags_command<'a>(alloc: Global) -> Result<Command<'a>, AllocError>
     ensures { IfOk result (λ command. TakesFormats tags_app_of (app_of command)) }
@@ -43,6 +60,27 @@ fn tags_command<'a>(alloc: Global) -> Result<Command<'a>, AllocError>
     let command = with_tagsfile(alloc, command)?;
     let command = with_format(alloc, command)?;
     with_files(alloc, command, "C source to write the tags of", true)
+}
+
+/// Adds the number of the field.
+fn with_num<'a>(alloc: Global, command: Command<'a>) -> Result<Command<'a>, AllocError>
+    ensures { IfOk result (λ more. app_of more ≡ with_rule (app_of command.entry) num_rule) }
+{
+    let num = Arg::new(alloc, "num").value_name("NUM").required(true).help(
+        "Field of the search: 0 uses of a name, 1 its definitions, 2 calls in a function, 3 calls of it, 4 a text, 7 file names, 8 includes",
+    );
+    command.arg(num)
+}
+
+/// Adds the pattern.
+fn with_pattern<'a>(alloc: Global, command: Command<'a>) -> Result<Command<'a>, AllocError>
+    ensures { IfOk result (λ more. app_of more ≡ with_rule (app_of command.entry) pattern_rule) }
+{
+    let pattern = Arg::new(alloc, "pattern")
+        .value_name("PATTERN")
+        .required(true)
+        .help("What is searched for; after -- where it begins with -");
+    command.arg(pattern)
 }
 
 /// Adds `-x`.

@@ -1,25 +1,55 @@
 //! The job of what clap found in the words.
-ghost use Rattle.std.specs.Prelude.{◌≡◌, IfOk, Some, codes, map, string_bytes};
+ghost use Rattle.std.specs.Prelude.{◌≡◌, IfOk, MatchResult, Some, codes, map, string_bytes};
 ghost use Rattle.std.specs.Option.{MatchOption};
 ghost use Rattle.clap.specs.Words.{subcommand_rows_of};
-ghost use Rattle.cbrowse.specs.Jobs.{IsJobOf, all_or_none, first_or, format_number};
+ghost use Rattle.cbrowse.specs.Jobs.{IsJobOf, all_or_none, field_of, first_or, format_number};
+ghost use Rattle.cbrowse.specs.Usages.{IsBadSearch};
 ghost use Rattle.cbrowse.specs.declared.job.Job.{Job};
 ghost use Rattle.cb_desk.specs.declared.tags.Format.{Format};
 ghost use Rattle.cbrowse.specs.Commands.{rows_in};
 
-use crate::job::Job;
-use cb_desk::Format;
+use crate::job::{Job, Usage};
+use cb_desk::{Field, Format};
 use clap::ArgMatches;
 use std::alloc::{AllocError, Global};
 
 /// The job of the subcommand that was found, or `None` where there is no such subcommand or format.
-pub(crate) fn found_job(alloc: Global, matches: &ArgMatches<'_>) -> Result<Option<Job>, AllocError>
-    ensures { IfOk result (λ found. MatchOption found ((job : Job) → IsJobOf (subcommand_rows_of matches.now) job → ⊥) (IsJobOf (subcommand_rows_of matches.now))) }
+pub(crate) fn found_job(alloc: Global, matches: &ArgMatches<'_>) -> Result<Option<Job>, Usage>
+    ensures { MatchResult result (λ found. MatchOption found ((job : Job) → IsJobOf (subcommand_rows_of matches.now) job → ⊥) (IsJobOf (subcommand_rows_of matches.now))) (IsBadSearch (subcommand_rows_of matches.now)) }
 {
     match matches.subcommand() {
         Some(("line", found)) => Ok(Some(line_job(alloc, found)?)),
-        Some(("tags", found)) => tags_job(alloc, found),
+        Some(("find", found)) => Ok(Some(find_job(alloc, found)?)),
+        Some(("tags", found)) => Ok(tags_job(alloc, found)?),
         _ => Ok(None),
+    }
+}
+
+/// The search that was asked for. Its number is judged first, and then its pattern.
+fn find_job(alloc: Global, found: &ArgMatches<'_>) -> Result<Job, Usage>
+    ensures { MatchResult result (IsJobOf (Some (codes "find", rows_in found.now))) (IsBadSearch (Some (codes "find", rows_in found.now))) }
+{
+    let Some(field) = field_of(value_or(found, "num", "")) else {
+        return Err(Usage::BadField);
+    };
+    let pattern = value_or(found, "pattern", "");
+    if pattern.is_empty() {
+        return Err(Usage::NoPattern);
+    }
+    Ok(Job::Find {
+        field,
+        pattern: String::from_str(alloc, pattern)?,
+        files: files_of(alloc, found)?,
+    })
+}
+
+/// The field of this number.
+fn field_of(num: &str) -> Option<Field>
+    ensures { result ≡ field_of num.now }
+{
+    match num.as_bytes() {
+        [digit] => Field::of_digit(*digit),
+        _ => None,
     }
 }
 

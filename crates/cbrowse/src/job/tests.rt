@@ -1,6 +1,6 @@
 //! The words of a command line and their jobs, or the texts on wrong words and of help.
 use super::{Job, Usage, job_of};
-use cb_desk::Format;
+use cb_desk::{Field, Format};
 use std::alloc::{AllocError, Global};
 
 /// The job of `cbrowse` and these words.
@@ -81,6 +81,54 @@ fn sessions(rt: HostRuntime) -> Result<(), AllocError> {
     Ok(())
 }
 
+/// Whether this is a search of that field for that pattern in these files.
+fn is_find(outcome: &Result<Job, Usage>, asked: Field, text: &str, names: &[&str]) -> bool {
+    match outcome {
+        Ok(
+            Job::Find {
+                field,
+                pattern,
+                files,
+            },
+        ) => { *field == asked && pattern.as_str() == text && are_named(files.as_slice(), names) }
+        _ => false,
+    }
+}
+
+#[test]
+fn searches(rt: HostRuntime) -> Result<(), AllocError> {
+    let fields = [
+        ("0", Field::Symbol),
+        ("1", Field::Definition),
+        ("2", Field::Called),
+        ("3", Field::Calling),
+        ("4", Field::Text),
+        ("7", Field::File),
+        ("8", Field::Including),
+    ];
+    for (num, field) in fields {
+        let outcome = job_of_words(rt.alloc(), &["find", num, "a b", "a.c", "b.c"])?;
+        assert!(rt; is_find(&outcome, field, "a b", &["a.c", "b.c"]));
+    }
+    let outcome = job_of_words(rt.alloc(), &["find", "4", "--", "-x", "a.c"])?;
+    assert!(rt; is_find(&outcome, Field::Text, "-x", &["a.c"]));
+    Ok(())
+}
+
+/// The number is judged first, and then the pattern.
+#[test]
+fn bad_searches(rt: HostRuntime) -> Result<(), AllocError> {
+    for num in ["5", "6", "9", "", "01", "1 ", "x"] {
+        for pattern in ["f", ""] {
+            let outcome = job_of_words(rt.alloc(), &["find", num, pattern, "a.c"])?;
+            assert!(rt; matches!(outcome, Err(Usage::BadField)));
+        }
+    }
+    let outcome = job_of_words(rt.alloc(), &["find", "1", "", "a.c"])?;
+    assert!(rt; matches!(outcome, Err(Usage::NoPattern)));
+    Ok(())
+}
+
 #[test]
 fn tags(rt: HostRuntime) -> Result<(), AllocError> {
     let outcome = job_of_words(rt.alloc(), &["tags", "a.c"])?;
@@ -104,7 +152,22 @@ fn tags(rt: HostRuntime) -> Result<(), AllocError> {
 fn wrong_words(rt: HostRuntime) -> Result<(), AllocError> {
     let cases = [
         ([].as_slice(), "error: 'cbrowse' requires a subcommand"),
-        (["find"].as_slice(), "error: unrecognized subcommand 'find'"),
+        (
+            ["search"].as_slice(),
+            "error: unrecognized subcommand 'search'",
+        ),
+        (
+            ["find"].as_slice(),
+            "error: the following required arguments were not provided:\n  <NUM>\n  <PATTERN>\n  <FILE>...\n",
+        ),
+        (
+            ["find", "1", "f"].as_slice(),
+            "error: the following required arguments were not provided:\n  <FILE>...\n",
+        ),
+        (
+            ["find", "4", "-x", "a.c"].as_slice(),
+            "error: unexpected argument '-x' found",
+        ),
         (
             ["line", "-x"].as_slice(),
             "error: unexpected argument '-x' found",
@@ -145,11 +208,13 @@ Usage: cbrowse <COMMAND>
 
 Commands:
   line  Reads commands from standard input and writes their replies
+  find  Writes the rows that answer one question about C sources
   tags  Writes the tags of C sources to a tags file
   help  Print this message or the help of the given subcommand(s)
 
 Options:
-  -h, --help  Print help
+  -h, --help     Print help
+  -V, --version  Print version
 ";
     let line = "Reads commands from standard input and writes their replies
 
@@ -178,11 +243,28 @@ Options:
 
 Example: cbrowse tags a.c
 ";
+    let find = "Writes the rows that answer one question about C sources
+
+Usage: cbrowse find <NUM> <PATTERN> <FILE>...
+
+Arguments:
+  <NUM>      Field of the search: 0 uses of a name, 1 its definitions, 2 calls in a function, 3 calls of it, 4 a text, 7 file names, 8 includes
+  <PATTERN>  What is searched for; after -- where it begins with -
+  <FILE>...  C source to search
+
+Options:
+  -h, --help  Print help
+
+Example: cbrowse find 1 main a.c
+";
     let cases = [
         (["--help"].as_slice(), top),
         (["line", "--help"].as_slice(), line),
+        (["find", "--help"].as_slice(), find),
         (["tags", "--help"].as_slice(), tags),
         (["help", "tags"].as_slice(), tags),
+        (["--version"].as_slice(), "cbrowse 0.1.0\n"),
+        (["-V"].as_slice(), "cbrowse 0.1.0\n"),
     ];
     for (words, text) in cases {
         let outcome = job_of_words(rt.alloc(), words)?;

@@ -2,7 +2,7 @@ use Rattle.std.proofs.Common.{◌≡◌, ◌∙◌, ap, inr, sym, subst, map, st
 use Rattle.clap.specs.Words.{is_simple, is_simple_and_free, subcommand_of, subcommand_rows_of}
 use Rattle.cbrowse.specs.Jobs.{browse_app, IsJobOf}
 use Rattle.cbrowse.proofs.Choices.{same_found}
-use Rattle.cbrowse.proofs.Refusing.{usage_from_kind}
+use Rattle.cbrowse.proofs.Refusing.{usage_from_kind, usage_from_search}
 use Rattle.cbrowse.proofs.job.job_of.Goals as goal
 
 pub returns-in-Some : goal.returns-in-Some
@@ -12,13 +12,22 @@ returns-in-Some c =
     let found = c.in-Ok.ensures.ok.2 (ap is_simple app.2) in
     let same : subcommand_rows_of c.in-Ok.matches ≡ subcommand_of browse_app words =
     found.1 ∙ ap (λ a. subcommand_of a words) app.2 ∙ sym (same_found app.0 words) in
-    subst (λ o. IsJobOf o c.in-Some.job) same (rw c.in-Some.is at c.in_ok-job.ensures)
+    subst (λ o. IsJobOf o c.in-Some.job) same (rw c.in-Some.is at c.in-Ok-found_job.ensures)
 
 pub returns-in-Err : goal.returns-in-Err
 returns-in-Err c =
     let words = map string_bytes c.args.words.now in
     let app = c.in_ok-command.ensures in
     usage_from_kind words _ app.0 _ _ app.1 app.2 c.usage_of.ensures (c.in-Err.ensures.kinds (ap is_simple_and_free app.2))
+
+pub returns-in-Err-found_job : goal.returns-in-Err-found_job
+returns-in-Err-found_job c =
+    let words = map string_bytes c.args.words.now in
+    let app = c.in_ok-command.ensures in
+    let found = c.in-Ok.ensures.ok.2 (ap is_simple app.2) in
+    let same : subcommand_rows_of c.in-Ok.matches ≡ subcommand_of browse_app words =
+    found.1 ∙ ap (λ a. subcommand_of a words) app.2 ∙ sym (same_found app.0 words) in
+    usage_from_search words (subcommand_rows_of c.in-Ok.matches) c.in-Err-found_job.usage same c.in-Err-found_job.ensures
 
 pub returns : goal.returns
 returns c =
@@ -27,5 +36,5 @@ returns c =
     let found = c.in-Ok.ensures.ok.2 (ap is_simple app.2) in
     let same : subcommand_rows_of c.in-Ok.matches ≡ subcommand_of browse_app words =
     found.1 ∙ ap (λ a. subcommand_of a words) app.2 ∙ sym (same_found app.0 words) in
-    let none = rw c.in-None.is at c.in_ok-job.ensures in
+    let none = rw c.in-None.is at c.in-Ok-found_job.ensures in
     inr (λ job is. none job (subst (λ o. IsJobOf o job) (sym same) is))

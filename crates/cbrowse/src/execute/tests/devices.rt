@@ -1,4 +1,7 @@
 //! The jobs of the program over writers that count what they are asked, and that fail.
+ghost use Rattle.std.specs.Prelude.{IfOk};
+ghost use Rattle.cbrowse.specs.Program.{HasPattern};
+
 use crate::execute::{LIMITS, run_job};
 use crate::job::Job;
 use cb_desk::Format;
@@ -32,7 +35,9 @@ impl Write for Flushed {
 }
 
 /// The job of the tags of `m.c`: a listing, or a tags file.
-fn tags_job(alloc: Global, listing: bool) -> Result<Job, Fail> {
+fn tags_job(alloc: Global, listing: bool) -> Result<Job, Fail>
+    ensures { IfOk result HasPattern }
+{
     let mut files = Vec::new(alloc);
     files.push(String::from_str(alloc, "m.c")?)?;
     Ok(Job::Tags {

@@ -198,3 +198,79 @@ fn a_session_begins_with_its_files(rt: HostRuntime) -> Result<(), Fail> {
     fs::remove_dir_all(&rt, folder.as_str())?;
     Ok(())
 }
+
+#[test]
+fn searches(rt: HostRuntime) -> Result<(), Fail> {
+    let folder = new_folder(&rt)?;
+    fs::write(&rt, within(&rt, folder.as_str(), "a.c")?.as_str(), A)?;
+    fs::write(
+        &rt,
+        within(&rt, folder.as_str(), "b.c")?.as_str(),
+        b"int a = -x;\n",
+    )?;
+    let cases = [
+        (
+            ["find", "0", "add", "a.c"].as_slice(),
+            b"a.c TWICE 2 #define TWICE(x) ((x) + add(x, 0))\na.c add 4 static int add(int a, int b) {\na.c main 8 return add(1, 2) / TWICE(3);\n".as_slice(),
+        ),
+        (
+            ["find", "8", "a.h", "a.c"].as_slice(),
+            b"a.c <global> 1 #include \"a.h\"\n".as_slice(),
+        ),
+        (
+            ["find", "4", "--", "-x", "b.c", "a.c"].as_slice(),
+            b"b.c <unknown> 1 int a = -x;\n".as_slice(),
+        ),
+        (["find", "1", "none", "a.c"].as_slice(), b"".as_slice()),
+    ];
+    for (words, rows) in cases {
+        let (written, status, said) = program_in(&rt, folder.as_str(), words, b":undo\n")?;
+        assert_eq!(rt; written.as_slice(), rows);
+        assert_eq!(rt; status, 0);
+        assert!(rt; said.is_empty());
+    }
+    fs::remove_dir_all(&rt, folder.as_str())?;
+    Ok(())
+}
+
+/// The number is judged first, then the pattern, then the files.
+#[test]
+fn bad_searches(rt: HostRuntime) -> Result<(), Fail> {
+    let folder = new_folder(&rt)?;
+    fs::write(&rt, within(&rt, folder.as_str(), "a.c")?.as_str(), A)?;
+    let cases = [
+        (
+            ["find", "6", "x", "a.c"].as_slice(),
+            2u8,
+            b"cbrowse: field not in this profile\n".as_slice(),
+        ),
+        (
+            ["find", "5", "", "none.c"].as_slice(),
+            2u8,
+            b"cbrowse: field not in this profile\n".as_slice(),
+        ),
+        (
+            ["find", "1", "", "none.c"].as_slice(),
+            2u8,
+            b"cbrowse: no pattern\n".as_slice(),
+        ),
+        (
+            ["find", "1", "f", "none.c"].as_slice(),
+            1u8,
+            b"cbrowse: none.c: cannot be read\n".as_slice(),
+        ),
+        (
+            ["find", "1", "f", "a.c", "a.c"].as_slice(),
+            1u8,
+            b"cbrowse: a.c: file exists\n".as_slice(),
+        ),
+    ];
+    for (words, end, text) in cases {
+        let (written, status, said) = program_in(&rt, folder.as_str(), words, b"")?;
+        assert!(rt; written.is_empty());
+        assert_eq!(rt; status, end);
+        assert_eq!(rt; said.as_slice(), text);
+    }
+    fs::remove_dir_all(&rt, folder.as_str())?;
+    Ok(())
+}

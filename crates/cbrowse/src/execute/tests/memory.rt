@@ -24,7 +24,7 @@ fn job_meets_a_refusal(rt: &impl Abort, alloc: Global) -> bool {
             assert_eq!(rt; files.len(), 2);
             false
         }
-        Ok(Job::Line { .. }) => {
+        Ok(_) => {
             assert!(rt; false, "another job was found");
             false
         }

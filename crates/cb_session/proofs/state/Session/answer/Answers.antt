@@ -1,6 +1,6 @@
 use Rattle.std.proofs.Common.{◌∙◌, ap, refl}
 use Rattle.cb_session.specs.Models.{command_of, request_of}
-use Rattle.cb_session.proofs.Outcomes.{Does-asked, Does-listing, Does-marks, Does-nothing, Does-query, Does-quit, Does-redo, Does-refused, Does-stack, Does-tags, Does-undo}
+use Rattle.cb_session.proofs.Outcomes.{Does-asked, Does-listing, Does-marks, Does-nothing, Does-query, Does-quit, Does-rebuild, Does-redo, Does-refused, Does-stack, Does-tags, Does-undo}
 use Rattle.cb_session.proofs.state.Session.answer.Goals as goal
 
 pub returns-in-Nothing : goal.returns-in-Nothing
@@ -19,9 +19,13 @@ returns-in-Query g c =
 pub returns-in-Change : goal.returns-in-Change
 returns-in-Change g c = Does-asked _ _ _ _ _ _ _ (ap request_of c.in-Command.is ∙ ap command_of c.in-Change.is) c.change.ensures
 
+pub returns-in-Rebuild : goal.returns-in-Rebuild
+returns-in-Rebuild g c =
+    Does-rebuild _ _ _ _ _ _ _ _ c.self.view_is (ap request_of c.in-Command.is ∙ ap command_of c.in-Rebuild.is) c.rebuild.ensures.timeline c.rebuild.ensures.memory c.put_move.ensures
+
 pub returns-in-Undo : goal.returns-in-Undo
 returns-in-Undo g c =
-    Does-undo _ _ _ _ _ _ _ _ c.self.view_is (ap request_of c.in-Command.is ∙ ap command_of c.in-Undo.is) c.undo.ensures c.put_move.ensures
+    Does-undo _ _ _ _ _ _ _ _ c.self-in-Undo.view_is (ap request_of c.in-Command.is ∙ ap command_of c.in-Undo.is) c.undo.ensures c.put_move-in-Undo.ensures
 
 pub returns-in-Redo : goal.returns-in-Redo
 returns-in-Redo g c =

@@ -1,10 +1,10 @@
 use Rattle.std.proofs.Common.{◌≡◌, ◌++◌, flat_map, map}
-use Rattle.cb_desk.specs.Answer.{distinct, definition_rows}
+use Rattle.cb_desk.specs.Answer.{distinct, file_rows}
 use Rattle.cb_desk.specs.Models.{file_of}
-use Rattle.cb_desk.proofs.state.Desk.definition_rows.Given as goal
+use Rattle.cb_desk.proofs.state.Desk.file_rows.Given as goal
 
 abbrev pub invariant-loop-name : goal.invariant-loop-name
 invariant-loop-name l = record {
-  so_far : l.rows ≡ distinct (flat_map (definition_rows l.pattern) (map file_of l.yielded));
+  so_far : l.rows ≡ distinct (flat_map (λ f. file_rows l.pattern f.name) (map file_of l.yielded));
   left : map file_of l.yielded ++ l.name-iterator ≡ l.fn.self.present.files;
 }
