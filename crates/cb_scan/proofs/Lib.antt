@@ -6,6 +6,7 @@ pub mod CodeLines
 pub mod Cuts
 pub mod DeclarationLemmas
 pub mod FactsWithin
+pub mod FeedsCounted
 pub mod FunctionLemmas
 pub mod FunctionsRise
 pub mod GatherLemmas
@@ -30,3 +31,4 @@ pub mod TypedefLemmas
 pub mod TypedefsWithin
 pub mod WithinLemmas
 pub mod WordLemmas
+pub mod WordRun

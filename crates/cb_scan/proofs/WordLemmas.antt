@@ -1,9 +1,13 @@
 -- Words: what an identifier is by its first byte and the others, and that a word can only equal
 -- words of its own length.
 use Rattle.std.proofs.Common.{◌≡◌, ◌≤◌, ◌<◌, get_or, drop, arith, ℕ, Bool, true, false, List, [], ◌∷◌, length, refl, sym, ap, ◌∙◌}
-use Rattle.std.specs.Prelude.{filter, ◌||◌, ◌&&◌, cond}
+use Rattle.std.specs.Prelude.{codes, filter, ◌||◌, ◌&&◌, cond}
 use Rattle.std.specs.List.{list_all, list_any}
+use Rattle.cb_scan.specs.declared.lex.token.WordKind.TheVariants.{Name}
 use Rattle.cb_scan.specs.lex.Lexeme.{is_identifier, is_letter, is_word}
+use Rattle.cb_scan.specs.lex.Reserved.{is_reserved, reserved_words}
+use Rattle.cb_scan.specs.lex.Tokens.{word_of}
+use Rattle.cb_scan.specs.steps.Words.{may_mean}
 use Rattle.std.specs.Str.{bytes_eq}
 use Rattle.std.proofs.lemmas.Bool.{false≢true, false_from_ne_true}
 use Rattle.std.proofs.lemmas.Slice.Eq.{bytes_eq-Decides}
@@ -27,6 +31,37 @@ among_by_length q [] word long = refl
 among_by_length q (r ∷ rs) word long =
     among_step (λ w. bytes_eq w word) (q (length r)) r (filter (λ w. q (length w)) rs) rs (differs q r word long)
     (among_by_length q rs word long)
+
+-- a word that fails a test is none that passes it
+other : (p : List ℕ → Bool) (r word : List ℕ) → p r ≡ true → p word ≡ false → bytes_eq r word ≡ false
+other p r word passes fails =
+    false_from_ne_true (bytes_eq r word)
+    (λ same. false≢true (sym fails ∙ ap p (sym ((bytes_eq-Decides r word).0 same)) ∙ passes))
+
+other_way : (p : List ℕ → Bool) (r word : List ℕ) → p r ≡ true → p word ≡ false → bytes_eq word r ≡ false
+other_way p r word passes fails =
+    false_from_ne_true (bytes_eq word r)
+    (λ same. false≢true (sym fails ∙ ap p ((bytes_eq-Decides word r).0 same) ∙ passes))
+
+both : (a b : Bool) → (a && b) ≡ true → (a ≡ true) × (b ≡ true)
+both true b all = (refl, all)
+both false b all = absurd (false≢true all)
+
+none_of : (p : List ℕ → Bool) (words : List (List ℕ)) (word : List ℕ) → list_all p words ≡ true → p word ≡ false
+    → list_any (λ r. bytes_eq r word) words ≡ false
+none_of p [] word all fails = refl
+none_of p (r ∷ rs) word all fails =
+    let parts = both (p r) (list_all p rs) all in
+    ap (λ b. b || list_any (λ w. bytes_eq w word) rs) (other p r word parts.0 fails) ∙ none_of p rs word parts.1 fails
+
+-- a word of another first byte or length than those that mean something is a name
+pub no_meaning : (word : List ℕ) → may_mean word ≡ false → Name ≡ word_of word
+unfolding word_of is_reserved reserved_words may_mean
+no_meaning word fails =
+    let reserved : is_reserved word ≡ false = none_of may_mean reserved_words word refl fails in
+    let define : bytes_eq word (codes "define") ≡ false = other_way may_mean (codes "define") word refl fails in
+    let include : bytes_eq word (codes "include") ≡ false = other_way may_mean (codes "include") word refl fails in
+    rw (reserved, define, include) refl
 
 -- an identifier by its first byte and the others
 pub identifier-parts : (bs : List ℕ) → 1 ≤ length bs

@@ -179,7 +179,8 @@ impl LineLists {
         }
     }
 
-    /// A token, which moves the state of its line.
+    /// A token, which moves the state of its line. A line of code stays one, and gives its uses
+    /// alone.
     pub(crate) fn add(
         &mut self,
         text: &[u8],
@@ -203,6 +204,9 @@ impl LineLists {
     {
         if line.is_use(token) {
             self.names.push(*token)?;
+        }
+        if line.is_code() {
+            return Ok(());
         }
         push_some(&mut self.macros, line.macro_found(token))?;
         push_some(&mut self.calls, line.macro_call(token))?;

@@ -1,7 +1,7 @@
 //! Where a lexeme ends. The first byte decides its class, and each byte is looked at once.
 ghost use Rattle.std.specs.Prelude.{◌≡◌, ◌<◌, ◌≤◌, false, ◌==◌, length};
 ghost use Rattle.std.specs.List.{prefix_len};
-ghost use Rattle.cb_scan.specs.lex.Lexeme.{is_digit, is_word, goes_on, first_is};
+ghost use Rattle.cb_scan.specs.lex.Lexeme.{is_digit, is_letter, is_word, goes_on, first_is};
 ghost use Rattle.cb_scan.specs.steps.Cut.{
   begins,
   ends_join,
@@ -18,6 +18,7 @@ ghost use Rattle.cb_scan.specs.steps.Cut.{
   length_in,
 };
 
+use crate::lex::lanes::{LANES, word_run};
 use crate::lex::piece::Class;
 use memchr::memmem;
 
@@ -54,6 +55,18 @@ fn ends_join(text: &[u8]) -> bool
     matches!(text, [b'\n', ..] | [b'\r', b'\n', ..])
 }
 
+/// A letter or `_`. Small letters are asked for first, since most are.
+#[inline]
+pub(crate) fn is_letter(byte: u8) -> bool
+    ensures { result ≡ is_letter byte }
+{
+    if byte >= b'a' {
+        byte <= b'z'
+    } else {
+        matches!(byte, b'A'..=b'Z' | b'_')
+    }
+}
+
 /// The class of the piece that a text begins with.
 #[inline]
 #[tactic(auto, unfolding(crate::specs::steps::Cut::class_at))]
@@ -62,8 +75,10 @@ pub(crate) fn class_at(text: &[u8]) -> Class
     ensures { result ≡ class_at text.now }
 {
     let rest = &text[1..];
+    if is_letter(text[0]) {
+        return Class::Name;
+    }
     match text[0] {
-        b'A'..=b'Z' | b'a'..=b'z' | b'_' => Class::Name,
         b' ' | b'\t' | 0x0B | 0x0C | b'\r' => Class::Blank,
         b'\n' => Class::Newline,
         b'0'..=b'9' => Class::Number,
@@ -85,11 +100,28 @@ pub(crate) fn is_word(byte: u8) -> bool
     matches!(byte, b'A'..=b'Z' | b'a'..=b'z' | b'_' | b'0'..=b'9')
 }
 
-fn name_len(text: &[u8]) -> usize
+/// How many letters, digits and `_` a text begins with, one byte after the other.
+fn words_len(text: &[u8]) -> usize
     ensures value { result ≡ prefix_len is_word text.now }
     ensures within { result ≤ length text.now }
 {
     text.iter().take_while(|byte| is_word(**byte)).count()
+}
+
+/// The same, many bytes at a time where there are as many. Few names are longer.
+fn name_len(text: &[u8]) -> usize
+    ensures value { result ≡ prefix_len is_word text.now }
+    ensures within { result ≤ length text.now }
+{
+    if text.len() < LANES {
+        return words_len(text);
+    }
+    let run = word_run(text);
+    if run < LANES {
+        run
+    } else {
+        LANES + words_len(&text[LANES..])
+    }
 }
 
 #[inline]

@@ -7,6 +7,7 @@ ghost use Rattle.cb_scan.specs.steps.Cut.{pieces};
 ghost use Rattle.cb_scan.specs.steps.Lined.{is_feed, lined, Within, holds_feeds};
 
 use crate::lex::piece::{Class, Piece, first_piece};
+use memchr::memchr_iter;
 use std::marker::Model;
 
 /// A piece and the line of its first byte, from 1.
@@ -40,8 +41,16 @@ impl<'a> Model for LinedPieces<'a> {
         × (s.line ≡ line_of s.text.now s.at) };
 }
 
+/// How many of the bytes are line feeds, many looked at together.
+fn feeds_among(bytes: &[u8]) -> u32
+    requires { length bytes.now ≤ MOST_BYTES }
+    ensures { result ≡ count_by is_feed bytes.now }
+{
+    memchr_iter(b'\n', bytes).count() as u32
+}
+
 /// How many line feeds the bytes of a piece hold: pieces that can hold none are not looked at
-/// again.
+/// again, and those that are often long many bytes at a time.
 #[inline]
 fn feeds_in(class: Class, bytes: &[u8]) -> u32
     requires none { holds_feeds class ≡ false → count_by is_feed bytes.now ≡ 0 }
@@ -50,6 +59,7 @@ fn feeds_in(class: Class, bytes: &[u8]) -> u32
 {
     match class {
         Class::Name | Class::Number | Class::Byte => 0,
+        Class::LineNote | Class::BlockNote => feeds_among(bytes),
         _ => bytes.iter().filter(|byte| **byte == b'\n').count() as u32,
     }
 }

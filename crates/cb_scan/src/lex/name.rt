@@ -2,10 +2,10 @@
 ghost use Rattle.std.specs.Prelude.{◌≡◌};
 ghost use Rattle.std.specs.List.{list_all, list_any};
 ghost use Rattle.std.specs.Str.{bytes_eq};
-ghost use Rattle.cb_scan.specs.lex.Lexeme.{is_identifier, is_letter, is_word};
+ghost use Rattle.cb_scan.specs.lex.Lexeme.{is_identifier, is_word};
 ghost use Rattle.cb_scan.specs.lex.Reserved.{is_name, is_reserved};
 
-use crate::lex::lexeme::is_word;
+use crate::lex::lexeme::{is_letter, is_word};
 
 const TWO: [&[u8]; 2] = [b"do", b"if"];
 
@@ -48,10 +48,20 @@ const LONGER: [&[u8]; 7] = [
     b"_Static_assert",
 ];
 
+/// Whether two words are the same. Most differ in their first byte.
+fn is_same(word: &[u8], other: &[u8]) -> bool
+    ensures { result ≡ bytes_eq word.now other.now }
+{
+    match (word, other) {
+        ([a, ..], [b, ..]) if *a != *b => false,
+        _ => word == other,
+    }
+}
+
 fn is_among(words: &[&[u8]], word: &[u8]) -> bool
     ensures { result ≡ list_any (λ w. bytes_eq w.now word.now) words.now }
 {
-    words.iter().any(|w| *w == word)
+    words.iter().any(|w| is_same(w, word))
 }
 
 /// Whether the word is reserved. The words of one length are few, so few bytes are compared.
@@ -79,12 +89,6 @@ fn is_identifier(bytes: &[u8]) -> bool
         [first, others @ ..] => is_letter(*first) && all_word_bytes(others),
         [] => false,
     }
-}
-
-fn is_letter(byte: u8) -> bool
-    ensures { result ≡ is_letter byte }
-{
-    matches!(byte, b'A'..=b'Z' | b'a'..=b'z' | b'_')
 }
 
 fn all_word_bytes(bytes: &[u8]) -> bool

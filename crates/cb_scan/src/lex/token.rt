@@ -4,6 +4,7 @@ ghost use Rattle.std.specs.Str.{bytes_eq};
 ghost use Rattle.cb_scan.specs.lex.Tokens.{is_any_word, is_mark, is_name_token, is_static, is_typedef, name_kind, role_of, starts_line, word_of};
 ghost use Rattle.cb_scan.specs.steps.Lined.{Within};
 ghost use Rattle.cb_scan.specs.steps.Directives.{lined_token};
+ghost use Rattle.cb_scan.specs.steps.Words.{may_begin, may_mean};
 
 use crate::lex::lined::Lined;
 use crate::lex::name::is_reserved;
@@ -61,10 +62,42 @@ fn name_kind(name: &[u8]) -> WordKind
     }
 }
 
+/// For `_`, the byte after it and each small letter: the lengths of the words that begin with it and
+/// are reserved, `define` or `include`, a bit for each.
+const LENGTHS: [u16; 28] = [
+    0x67a0, 0x0000, 0x0018, 0x0020, 0x0130, 0x00c4, 0x0050, 0x0028, 0x0010, 0x0000, 0x00cc, 0x0000,
+    0x0000, 0x0010, 0x0000, 0x0000, 0x0000, 0x0000, 0x0000, 0x0140, 0x0060, 0x0080, 0x0120, 0x0110,
+    0x0020, 0x0000, 0x0000, 0x0000,
+];
+
+/// Whether a word with this first byte and of this length may be reserved, `define` or `include`.
+fn may_begin(first: u8, len: usize) -> bool
+    ensures { result ≡ may_begin first len }
+{
+    match first {
+        b'_'..=b'z' if len < 16 => (LENGTHS[(first - b'_') as usize] >> len) & 1 == 1,
+        _ => false,
+    }
+}
+
+/// Whether a word may be reserved, `define` or `include`: most names are seen to be none.
+#[tactic(auto, unfolding(crate::specs::steps::Words::may_mean))]
+fn may_mean(word: &[u8]) -> bool
+    ensures { result ≡ may_mean word.now }
+{
+    match word {
+        [first, ..] => may_begin(*first, word.len()),
+        [] => false,
+    }
+}
+
 #[tactic(auto, unfolding(crate::specs::lex::Tokens::word_of))]
 fn word_of(word: &[u8]) -> WordKind
     ensures { result ≡ word_of word.now }
 {
+    if !may_mean(word) {
+        return WordKind::Name;
+    }
     if !is_reserved(word) {
         name_kind(word)
     } else if is_same(word, b"typedef") {
@@ -91,11 +124,14 @@ fn role_of(text: &[u8], piece: Piece) -> Role
     ensures { result ≡ role_of text.now piece }
 {
     let start = piece.span.start as usize;
-    match piece.class {
-        Class::Name => Role::Word(word_of(&text[start..piece.span.end as usize])),
-        Class::Byte => Role::Mark(text[start]),
-        Class::Str => Role::Str,
-        _ => Role::Other,
+    if piece.class == Class::Name {
+        Role::Word(word_of(&text[start..piece.span.end as usize]))
+    } else if piece.class == Class::Byte {
+        Role::Mark(text[start])
+    } else if piece.class == Class::Str {
+        Role::Str
+    } else {
+        Role::Other
     }
 }
 

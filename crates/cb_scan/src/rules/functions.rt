@@ -33,10 +33,12 @@ pub(crate) struct Machine {
 fn before_after(before: Before, token: &Token) -> Before
     ensures { result ≡ before_after before token.now }
 {
-    match (token.role, before) {
-        (Role::Word(WordKind::Extern), _) => Before::Extern,
-        (Role::Str, Before::Extern) => Before::Linkage,
-        _ => Before::Anything,
+    if matches!(token.role, Role::Word(WordKind::Extern)) {
+        Before::Extern
+    } else if matches!(before, Before::Extern) && matches!(token.role, Role::Str) {
+        Before::Linkage
+    } else {
+        Before::Anything
     }
 }
 
@@ -161,10 +163,9 @@ impl Machine {
         ensures value { self.new ≡ next self.old token.now }
         ensures small { self.new.depth ≤ self.old.depth + 1 }
     {
-        if token.is_mark(b'{') || token.is_mark(b'}') || token.is_mark(b';') {
-            self.turn(token);
-        } else {
-            self.go_on(token);
+        match token.role {
+            Role::Mark(b'{' | b'}' | b';') => self.turn(token),
+            _ => self.go_on(token),
         }
     }
 

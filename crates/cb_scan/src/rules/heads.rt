@@ -1,9 +1,11 @@
 //! The tokens since the last stop, as far as the rules on functions ask.
-ghost use Rattle.std.specs.Prelude.{◌≡◌};
+ghost use Rattle.std.specs.Prelude.{◌≡◌, ◌||◌};
+ghost use Rattle.cb_scan.specs.Bytes.{equals};
+ghost use Rattle.cb_scan.specs.lex.Tokens.{is_mark, is_static};
 ghost use Rattle.cb_scan.specs.steps.Heads.{add, called_after, calls_last, declares, def_of, defined, empty_head, listing_after, next_opened, opened, opens};
 
 use crate::facts::{Def, Kind};
-use crate::lex::token::Token;
+use crate::lex::token::{Role, Token, WordKind};
 
 /// How far the list of names has come that follows the first called name.
 #[derive(Clone, Copy)]
@@ -95,6 +97,25 @@ impl Head {
         }
     }
 
+    /// What the role of one more token tells: an `=`, a `static`, or that the name before is called.
+    fn note(&mut self, token: &Token)
+        ensures equal { self.new.has_equals ≡ (self.old.has_equals || is_mark equals token.now.role) }
+        ensures local { self.new.has_static ≡ (self.old.has_static || is_static token.now.role) }
+        ensures called { self.new.called ≡ called_after self.old.called self.old.last token.now }
+        ensures others { self.new ≡ record self.old {
+          has_equals = self.new.has_equals;
+          has_static = self.new.has_static;
+          called = self.new.called;
+        } }
+    {
+        match token.role {
+            Role::Word(WordKind::Static) => self.has_static = true,
+            Role::Mark(b'=') => self.has_equals = true,
+            Role::Mark(b'(') => call(&mut self.called, &self.last, token),
+            _ => {}
+        }
+    }
+
     /// One more token.
     pub(crate) fn add(&mut self, token: &Token)
         ensures { self.new ≡ add self.old token.now }
@@ -103,10 +124,10 @@ impl Head {
             self.begins_with_word = token.is_word();
             self.begins_with_typedef = token.is_typedef();
         }
-        self.has_equals = self.has_equals || token.is_mark(b'=');
-        self.has_static = self.has_static || token.is_static();
-        call(&mut self.called, &self.last, token);
-        self.listing = listing_after(self.listing, &self.last, token);
+        self.note(token);
+        if !matches!(self.listing, Listing::Whole | Listing::Other) {
+            self.listing = listing_after(self.listing, &self.last, token);
+        }
         self.last = Some(*token);
     }
 

@@ -44,6 +44,10 @@ impl Naming {
     pub(crate) fn next(&mut self, token: &Token)
         ensures { self.new ≡ next_naming self.old token.now }
     {
+        if !token.is_word() {
+            *self = Naming::Nothing;
+            return;
+        }
         *self = match *self {
             Naming::Keyword(kind) if token.is_name() => Naming::Named(Def {
                 name: token.span,
