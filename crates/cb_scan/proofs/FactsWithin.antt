@@ -45,7 +45,7 @@ all_put key Q x (y ∷ ys) q a =
     elim (goes_first key x y) as (λ b. AllByRecursion Q (cond b (x ∷ y ∷ ys) (y ∷ put key x ys)))
     [ true ↦ (q, a) | false ↦ (a.0, all_put key Q x ys q a.1) ]
 
-all_in_order : {X : Type 0} (key : X → List ℕ) (Q : X → Type 0) (xs : List X) → AllByRecursion Q xs
+pub all_in_order : {X : Type 0} (key : X → List ℕ) (Q : X → Type 0) (xs : List X) → AllByRecursion Q xs
     → AllByRecursion Q (in_order key xs)
 unfolding in_order
 all_in_order key Q [] a = tt

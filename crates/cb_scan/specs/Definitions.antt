@@ -11,6 +11,7 @@ use Rattle.cb_scan.specs.declared.lex.piece.Piece.{Piece}
 use Rattle.cb_scan.specs.declared.lex.piece.Span.{Span}
 use Rattle.cb_scan.specs.declared.lex.token.Token.{Token}
 use Rattle.cb_scan.specs.rules.Code.{code}
+use Rattle.cb_scan.specs.FactKeys.{keys_of_facts}
 use Rattle.cb_scan.specs.rules.Functions.{Function, functions}
 use Rattle.cb_scan.specs.Lines.{IsLineOf}
 use Rattle.cb_scan.specs.rules.Macros.{macro_names, macros}
@@ -58,6 +59,7 @@ facts_from text ps =
       uses = uses text ps;
       calls = calls text ps;
       includes = includes text ps;
+      keys = keys_of_facts text (definitions_from text ps) (uses text ps) (calls text ps);
     }
 
 -- ---- by the pieces as they are computed, which are the pieces (`IsPieces`) of the text

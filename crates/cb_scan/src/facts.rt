@@ -1,6 +1,8 @@
 //! What is found in a text: definitions, uses of names, calls and includes.
 ghost use Rattle.std.specs.Prelude.{◌≡◌};
 
+use crate::keys::facts::FactKeys;
+use crate::keys::list::KeyList;
 use crate::lex::piece::Span;
 use std::marker::Model;
 
@@ -50,13 +52,14 @@ pub struct Include {
     pub scope: Option<Span>,
 }
 
-/// The facts of a text, each list in the order of its places.
+/// The facts of a text, each list in the order of its places, and the same facts by their keys.
 #[derive(Debug, Drop)]
 pub struct Facts {
     defs: Vec<Def>,
     uses: Vec<Use>,
     calls: Vec<Call>,
     includes: Vec<Include>,
+    keys: FactKeys,
 }
 
 impl Model for Facts {
@@ -69,6 +72,12 @@ impl Model for Facts {
       uses = f.uses.items;
       calls = f.calls.items;
       includes = f.includes.items;
+      keys = record {
+        defs = f.keys.defs;
+        uses = f.keys.uses;
+        callees = f.keys.callees;
+        callers = f.keys.callers;
+      };
     } };
 }
 
@@ -78,12 +87,19 @@ impl Facts {
         uses: Vec<Use>,
         calls: Vec<Call>,
         includes: Vec<Include>,
+        keys: FactKeys,
     ) -> Facts
         ensures { result ≡ record {
           defs = defs.items;
           uses = uses.items;
           calls = calls.items;
           includes = includes.items;
+          keys = record {
+            defs = keys.defs;
+            uses = keys.uses;
+            callees = keys.callees;
+            callers = keys.callers;
+          };
         } }
     {
         Facts {
@@ -91,6 +107,7 @@ impl Facts {
             uses,
             calls,
             includes,
+            keys,
         }
     }
 
@@ -120,5 +137,33 @@ impl Facts {
         ensures { result.now ≡ self.now.includes }
     {
         self.includes.as_slice()
+    }
+
+    /// The definitions by name.
+    pub fn def_keys(&self) -> &KeyList
+        ensures { result.now ≡ self.now.keys.defs }
+    {
+        &self.keys.defs
+    }
+
+    /// The uses by name.
+    pub fn use_keys(&self) -> &KeyList
+        ensures { result.now ≡ self.now.keys.uses }
+    {
+        &self.keys.uses
+    }
+
+    /// The calls by the called name.
+    pub fn callee_keys(&self) -> &KeyList
+        ensures { result.now ≡ self.now.keys.callees }
+    {
+        &self.keys.callees
+    }
+
+    /// The calls by the name that calls.
+    pub fn caller_keys(&self) -> &KeyList
+        ensures { result.now ≡ self.now.keys.callers }
+    {
+        &self.keys.callers
     }
 }

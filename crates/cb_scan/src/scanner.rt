@@ -16,8 +16,9 @@ ghost use Rattle.cb_scan.specs.lex.Tokens.{is_significant};
 ghost use Rattle.cb_scan.specs.rules.Typedefs.{typedefs};
 ghost use Rattle.cb_scan.specs.rules.Uses.{function_calls, include_of, macro_calls, used};
 
-use crate::facts::Facts;
+use crate::facts::{Call, Def, Facts, Include, Use};
 use crate::gather::{CodeLists, CodeState, LineLists};
+use crate::keys::facts::fact_keys;
 use crate::lex::lined::lined_pieces;
 use crate::lex::piece::Class;
 use crate::lex::token::token_of;
@@ -99,10 +100,22 @@ fn gather(alloc: Global, text: &[u8]) -> Result<Gathered, AllocError>
     Ok(Gathered { code, lines })
 }
 
-/// What is found in a text: what was gathered, in order, with scopes, each list at its exact size.
-fn facts_in(alloc: Global, text: &[u8]) -> Result<Facts, AllocError>
+/// The lists of facts of a text.
+#[derive(Drop)]
+struct Lists {
+    defs: Vec<Def>,
+    uses: Vec<Use>,
+    calls: Vec<Call>,
+    includes: Vec<Include>,
+}
+
+/// What was gathered, in order, with scopes, each list at its exact size.
+fn lists_in(alloc: Global, text: &[u8]) -> Result<Lists, AllocError>
     requires { length text.now ≤ MOST_BYTES }
-    ensures { IfOk result (λ f. f ≡ facts_of text.now) }
+    ensures defs { IfOk result (λ l. l.defs.items ≡ (facts_of text.now).defs) }
+    ensures uses { IfOk result (λ l. l.uses.items ≡ (facts_of text.now).uses) }
+    ensures calls { IfOk result (λ l. l.calls.items ≡ (facts_of text.now).calls) }
+    ensures includes { IfOk result (λ l. l.includes.items ≡ (facts_of text.now).includes) }
 {
     let gathered = gather(alloc, text)?;
     let code = &gathered.code;
@@ -121,7 +134,34 @@ fn facts_in(alloc: Global, text: &[u8]) -> Result<Facts, AllocError>
         code.structures.as_slice(),
     )?;
     let calls = ordered_calls(alloc, code.calls.as_slice(), lines.calls.as_slice())?;
-    Ok(Facts::new(defs, uses, calls, includes))
+    Ok(Lists {
+        defs,
+        uses,
+        calls,
+        includes,
+    })
+}
+
+/// What is found in a text, and the same by the keys of the facts.
+fn facts_in(alloc: Global, text: &[u8]) -> Result<Facts, AllocError>
+    requires { length text.now ≤ MOST_BYTES }
+    ensures { IfOk result (λ f. f ≡ facts_of text.now) }
+{
+    let found = lists_in(alloc, text)?;
+    let keys = fact_keys(
+        alloc,
+        text,
+        found.defs.as_slice(),
+        found.uses.as_slice(),
+        found.calls.as_slice(),
+    )?;
+    let Lists {
+        defs,
+        uses,
+        calls,
+        includes,
+    } = found;
+    Ok(Facts::new(defs, uses, calls, includes, keys))
 }
 
 /// What is found in the text: the facts that follow from its pieces (`exact`), which lie in it

@@ -1,33 +1,37 @@
-use Rattle.std.proofs.Common.{◌≡◌, ◌∙◌, ◌++◌}
-use Rattle.cb_scan.specs.steps.Cut.{pieces}
-use Rattle.cb_scan.specs.Definitions.{calls, definitions, definitions_from}
-use Rattle.cb_scan.specs.Order.{call_key, def_key, in_order}
-use Rattle.cb_scan.specs.rules.Uses.{includes, uses}
-use Rattle.cb_scan.specs.steps.Scopes.{include_place, include_with, scoped, token_place, use_of}
-use Rattle.cb_scan.proofs.ScopeLemmas.{includes_scoped, uses_scoped}
+use Rattle.std.proofs.Common.{◌∙◌, sym, subst}
+use Rattle.std.specs.List.{AllByRecursion}
+use Rattle.cb_scan.specs.declared.facts.Call.{Call}
+use Rattle.cb_scan.specs.declared.facts.Def.{Def}
+use Rattle.cb_scan.specs.declared.facts.Use.{Use}
+use Rattle.cb_scan.specs.Definitions.{IsScopeWithin, IsWithin}
+use Rattle.cb_scan.specs.FactKeys.{keys_of_facts}
+use Rattle.cb_scan.proofs.FactsWithin.{facts_lie}
 use Rattle.cb_scan.proofs.scanner.facts_in.Goals as goal
 
--- each list is what was gathered, in order and with its scopes
-pub returns : goal.returns
-unfolding definitions_from calls
-returns c =
+-- the facts lie in the text
+pub fact_keys-requires-clause-defs : goal.fact_keys-requires-clause-defs
+fact_keys-requires-clause-defs c =
     let text = c.args.text.now in
-    let g = c.in_ok-gathered.ensures in
-    let functions_are = c.as_slice.ensures.value ∙ g.function_ranges in
-    let macros_are = c.as_slice-2.ensures.value ∙ g.macro_ranges in
-    let defs_are : c.in_ok-defs.defs.items ≡ definitions text =
-    c.in_ok-defs.ensures ∙ (λ i. in_order def_key
-    ((c.as_slice-5.ensures.value ∙ g.functions) i ++ (c.as_slice-6.ensures.value ∙ g.macros) i
-    ++ (c.as_slice-7.ensures.value ∙ g.typedefs) i ++ (c.as_slice-8.ensures.value ∙ g.structures) i)) in
-    let uses_are : c.in_ok-uses.uses.items ≡ uses text (pieces text) =
-    c.in_ok-uses.ensures ∙ (λ i. scoped token_place use_of (functions_are i) (macros_are i)
-    ((c.as_slice-3.ensures.value ∙ g.names) i)) ∙ uses_scoped text in
-    let calls_are : c.in_ok-calls.calls.items ≡ calls text (pieces text) =
-    c.in_ok-calls.ensures ∙ (λ i. in_order call_key
-    ((c.as_slice-9.ensures.value ∙ g.function_calls) i ++ (c.as_slice-10.ensures.value ∙ g.macro_calls) i)) in
-    let includes_are : c.in_ok-includes.includes.items ≡ includes text (pieces text) =
-    c.in_ok-includes.ensures
-    ∙ (λ i. scoped include_place include_with (functions_are i) (macros_are i)
-    ((c.as_slice-4.ensures.value ∙ g.includes) i)) ∙ includes_scoped text in
+    subst (AllByRecursion (λ (d : Def). IsWithin text d.name))
+    (sym (c.as_slice.ensures.value ∙ c.in_ok-found.ensures.defs)) (facts_lie text).defs
+
+pub fact_keys-requires-clause-uses : goal.fact_keys-requires-clause-uses
+fact_keys-requires-clause-uses c =
+    let text = c.args.text.now in
+    subst (AllByRecursion (λ (u : Use). IsWithin text u.name × IsScopeWithin text u.scope))
+    (sym (c.as_slice-2.ensures.value ∙ c.in_ok-found.ensures.uses)) (facts_lie text).uses
+
+pub fact_keys-requires-clause-calls : goal.fact_keys-requires-clause-calls
+fact_keys-requires-clause-calls c =
+    let text = c.args.text.now in
+    subst (AllByRecursion (λ (k : Call). IsWithin text k.callee × IsWithin text k.caller))
+    (sym (c.as_slice-3.ensures.value ∙ c.in_ok-found.ensures.calls)) (facts_lie text).calls
+
+pub returns : goal.returns
+returns c =
+    let l = c.in_ok-found.ensures in
+    let keys = c.in_ok-keys.ensures ∙ (λ i. keys_of_facts c.args.text.now
+    ((c.as_slice.ensures.value ∙ l.defs) i) ((c.as_slice-2.ensures.value ∙ l.uses) i)
+    ((c.as_slice-3.ensures.value ∙ l.calls) i)) in
     c.new.ensures
-    ∙ (λ i. record { defs = defs_are i; uses = uses_are i; calls = calls_are i; includes = includes_are i })
+    ∙ (λ i. record { defs = l.defs i; uses = l.uses i; calls = l.calls i; includes = l.includes i; keys = keys i })
