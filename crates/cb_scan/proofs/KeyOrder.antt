@@ -95,22 +95,25 @@ zero_cmp y = grind (arith, nat_tests)
 cmp_zero : (x : ℕ) → nat_cmp (suc x) 0 ≡ Greater
 cmp_zero x = grind (arith, nat_tests)
 
-ended : (a b : List ℕ) (i j : ℕ) → slice_cmp nat_cmp (map suc a ++ 0 ∷ i ∷ []) (map suc b ++ 0 ∷ j ∷ [])
-    ≡ ordering_then (slice_cmp nat_cmp a b) (nat_cmp i j)
-ended [] [] i j = then_equal (nat_cmp i j)
-ended [] (y ∷ ys) i j =
-    ap (λ o. ordering_then o (slice_cmp nat_cmp (i ∷ []) (map suc ys ++ 0 ∷ j ∷ []))) (zero_cmp y)
-ended (x ∷ xs) [] i j =
-    ap (λ o. ordering_then o (slice_cmp nat_cmp (map suc xs ++ 0 ∷ i ∷ []) (j ∷ []))) (cmp_zero x)
-ended (x ∷ xs) (y ∷ ys) i j =
-    (λ k. ordering_then (suc_cmp x y k) (ended xs ys i j k))
-    ∙ sym (then_assoc (nat_cmp x y) (slice_cmp nat_cmp xs ys) (nat_cmp i j))
+-- lists that begin with bytes, ended by a 0, are ordered by the bytes and then by what follows
+pub ended : (a b xs ys : List ℕ) → slice_cmp nat_cmp (map suc a ++ 0 ∷ xs) (map suc b ++ 0 ∷ ys)
+    ≡ ordering_then (slice_cmp nat_cmp a b) (slice_cmp nat_cmp xs ys)
+ended [] [] xs ys = refl
+ended [] (y ∷ ys) ps qs =
+    ap (λ o. ordering_then o (slice_cmp nat_cmp ps (map suc ys ++ 0 ∷ qs))) (zero_cmp y)
+ended (x ∷ xs) [] ps qs =
+    ap (λ o. ordering_then o (slice_cmp nat_cmp (map suc xs ++ 0 ∷ ps) qs)) (cmp_zero x)
+ended (x ∷ xs) (y ∷ ys) ps qs =
+    (λ k. ordering_then (suc_cmp x y k) (ended xs ys ps qs k))
+    ∙ sym (then_assoc (nat_cmp x y) (slice_cmp nat_cmp xs ys) (slice_cmp nat_cmp ps qs))
 
 pub sort_key_cmp : (k l : Keyed) → slice_cmp nat_cmp (sort_key k) (sort_key l)
     ≡ ordering_then (slice_cmp nat_cmp k.key l.key) (nat_cmp k.item l.item)
-sort_key_cmp k l = ended k.key l.key k.item l.item
+sort_key_cmp k l =
+    ended k.key l.key (k.item ∷ []) (l.item ∷ [])
+    ∙ ap (ordering_then (slice_cmp nat_cmp k.key l.key)) (then_equal (nat_cmp k.item l.item))
 
-both_equal : (o p : Ordering) → ordering_then o p ≡ Equal → (o ≡ Equal) × (p ≡ Equal)
+pub both_equal : (o p : Ordering) → ordering_then o p ≡ Equal → (o ≡ Equal) × (p ≡ Equal)
 both_equal Less p is = absurd (cc)
 both_equal Equal p is = (refl, is)
 both_equal Greater p is = absurd (cc)

@@ -22,7 +22,7 @@ fn byte_at(key: &[u8], at: usize) -> u64
 }
 
 /// The first eight bytes of a key as a big-endian number; where it has fewer, zeros follow.
-pub(crate) fn prefix_of(key: &[u8]) -> u64
+pub fn key_prefix(key: &[u8]) -> u64
     ensures { result ≡ key_prefix key.now }
 {
     byte_at(key, 0) * 0x0100_0000_0000_0000

@@ -9,7 +9,7 @@ ghost use Rattle.cb_scan.specs.Order.{in_order};
 ghost use Rattle.cb_scan.specs.steps.Keys.{numbered, sort_key};
 ghost use Rattle.cb_scan.specs.steps.Places.{keyed};
 
-use crate::keys::place::{Place, prefix_of, read_bytes};
+use crate::keys::place::{Place, key_prefix, read_bytes};
 use crate::lex::piece::Span;
 use std::alloc::{AllocError, Global};
 use std::cmp::Ordering;
@@ -35,7 +35,7 @@ fn place(key: &[u8], item: u32) -> Place<'_>
 {
     read_bytes(key);
     Place {
-        prefix: prefix_of(key),
+        prefix: key_prefix(key),
         key,
         item,
     }

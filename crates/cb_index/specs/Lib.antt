@@ -1,0 +1,5 @@
+pub mod Archived
+pub mod Bytes
+pub mod Entries
+pub mod Held
+pub mod Orders

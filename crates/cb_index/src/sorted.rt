@@ -1,0 +1,108 @@
+//! Entries kept in one of the orders.
+ghost use Rattle.std.specs.Prelude.{◌≡◌, ◌+◌, ◌≤◌, ◌<◌, ◌^◌, ◌++◌, [], length, filter, not, OnOk};
+ghost use Rattle.std.specs.Cmp.Lexicographic.{slice_cmp};
+ghost use Rattle.std.specs.Ordering.{nat_cmp};
+ghost use Rattle.cb_scan.specs.Order.{in_order};
+ghost use Rattle.cb_index.specs.Entries.{is_of, sort_key};
+ghost use Rattle.cb_index.specs.Held.{entries_of};
+ghost use Rattle.cb_index.specs.declared.entry.Entry.{Entry};
+
+use crate::archive::Archive;
+use crate::entry::{Entry, Shown};
+use crate::memory::OutOfMemory;
+use crate::order::{EntryOrder, compare};
+use std::alloc::Global;
+use std::cmp::Ordering;
+use std::marker::{Model, PhantomData};
+
+/// The entries of the versions that were put, in the order `O`.
+#[derive(Debug, Drop)]
+pub struct Sorted<O> {
+    entries: Vec<Entry>,
+    order: PhantomData<O>,
+}
+
+impl<O> Model for Sorted<O> {
+    ghost use Rattle.std.specs.Prelude.{vec_capacity};
+    ghost use Rattle.cb_index.specs.Held.{Held};
+
+    ghost Value = { Held };
+
+    ghost view = { λ s. record { entries = s.entries.items; room = vec_capacity s.entries } };
+}
+
+/// Puts entries in order.
+fn sort<O: EntryOrder>(archive: &Archive, entries: &mut [Entry])
+    ensures { entries.new ≡ in_order (sort_key O.parts_of archive.now) entries.old }
+{
+    entries.sort_unstable_by(
+        |a: &Entry, b: &Entry| -> Ordering
+            ensures { result ≡ slice_cmp nat_cmp (sort_key O.parts_of archive.entry.now a.now)
+                (sort_key O.parts_of archive.entry.now b.now) }
+        { compare::<O>(archive, *a, *b) },
+    );
+}
+
+fn is_of(name: u32, version: u32, entry: &Entry) -> bool
+    ensures { result ≡ is_of name version entry.now }
+{
+    entry.name == name && entry.version == version
+}
+
+impl<O: EntryOrder> Sorted<O> {
+    /// An index that holds nothing. It takes no memory.
+    pub fn new(alloc: Global) -> Sorted<O>
+        ensures { result.entries ≡ [] }
+    {
+        Sorted {
+            entries: Vec::new(alloc),
+            order: PhantomData,
+        }
+    }
+
+    /// Makes room for so many entries in all. What is held stays, also where memory is refused.
+    pub fn reserve(&mut self, n: u64) -> Result<(), OutOfMemory>
+        ensures ok { OnOk result (n ≤ self.new.room) }
+        ensures entries { self.new.entries ≡ self.old.entries }
+        ensures room { self.old.room ≤ self.new.room }
+    {
+        let more = (n as usize).saturating_sub(self.entries.len());
+        match self.entries.reserve(more) {
+            Ok(()) => Ok(()),
+            Err(_) => Err(OutOfMemory),
+        }
+    }
+
+    /// How many entries a version has in this order under a name.
+    pub fn count(&self, archive: &Archive, shown: Shown) -> usize
+        ensures { result ≡ length (O.prefixes_of archive.now shown.name shown.version) }
+    {
+        O::count(archive, shown.name, shown.version)
+    }
+
+    /// Puts the entries of a version under a name, in the room that is there. It takes no memory.
+    pub fn put_all(&mut self, archive: &Archive, shown: Shown)
+        requires room { length self.old.entries
+            + length (O.prefixes_of archive.now shown.name shown.version) ≤ self.old.room }
+        requires few { length (O.prefixes_of archive.now shown.name shown.version) < 2 ^ 32 }
+        ensures entries { self.new.entries ≡ in_order (sort_key O.parts_of archive.now)
+            (self.old.entries ++ entries_of O.prefixes_of archive.now shown) }
+        ensures room { self.old.room ≤ self.new.room }
+    {
+        O::append(archive, shown.name, shown.version, &mut self.entries);
+        sort::<O>(archive, self.entries.as_mut_slice());
+    }
+
+    /// Takes away the entries of a version under a name. It takes no memory, and the room stays.
+    pub fn take_version(&mut self, shown: Shown)
+        ensures entries { self.new.entries
+            ≡ filter (λ e. not (is_of shown.name shown.version e)) self.old.entries }
+        ensures room { self.new.room ≡ self.old.room }
+    {
+        self.entries.retain(
+            |entry: &Entry| -> bool
+                ensures { result ≡ not (is_of shown.name shown.version entry.now) }
+            { !is_of(shown.name, shown.version, entry) },
+        );
+    }
+}
