@@ -1,6 +1,9 @@
 -- Entries and their order.
 use Rattle.std.specs.Prelude.{ℕ, suc, Bool, ◌&&◌, nat_eq, List, [], ◌∷◌, ◌++◌, map, filter}
+use Rattle.std.specs.Cmp.Lexicographic.{slice_cmp}
+use Rattle.std.specs.Ordering.{nat_cmp, ordering_then}
 use Rattle.std.specs.Str.{bytes_eq}
+use Rattle.std.specs.declared.cmp.Ordering.{Ordering}
 use Rattle.cb_index.specs.Archived.{Archived, name_of}
 use Rattle.cb_index.specs.declared.entry.Entry.{Entry}
 
@@ -32,6 +35,11 @@ entries_from number name version [] = []
 entries_from number name version (p ∷ ps) =
     record { prefix = p; name = name; version = version; number = number }
     ∷ entries_from (suc number) name version ps
+
+-- a key with its prefix against an entry
+abbrev pub key_cmp : (Archived → Entry → Parts) → Archived → ℕ → List ℕ → Entry → Ordering
+key_cmp parts a prefix key e =
+    ordering_then (nat_cmp prefix e.prefix) (slice_cmp nat_cmp key (parts a e).key)
 
 -- whether an entry has the key
 abbrev pub has_key : (Archived → Entry → Parts) → Archived → ℕ → List ℕ → Entry → Bool

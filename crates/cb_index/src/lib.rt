@@ -20,6 +20,3 @@ pub use memory::OutOfMemory;
 pub use order::EntryOrder;
 pub use orders::{CallsByCallee, CallsByCaller, DefsByName, DefsByTagName, UsesByName};
 pub use sorted::Sorted;
-
-
-

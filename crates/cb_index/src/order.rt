@@ -18,7 +18,9 @@ pub trait EntryOrder {
     ghost use Rattle.cb_index.specs.declared.entry.Entry.{Entry};
 
     ghost parts_of: { Archived → Entry → Parts };
+
     ghost prefixes_of: { Archived → ℕ → ℕ → List ℕ };
+
     ghost prefix_of: { List ℕ → ℕ };
 
     /// The order of the keys of two entries by their bytes.

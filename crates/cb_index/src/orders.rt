@@ -144,7 +144,9 @@ impl EntryOrder for UsesByName {
     ghost use Rattle.cb_index.specs.Orders.{use_parts, use_prefixes};
 
     ghost parts_of = { use_parts };
+
     ghost prefixes_of = { use_prefixes };
+
     ghost prefix_of = { key_prefix };
 
     fn compare_keys(archive: &Archive, a: Entry, b: Entry) -> Ordering {
@@ -208,7 +210,9 @@ impl EntryOrder for CallsByCallee {
     ghost use Rattle.cb_index.specs.Orders.{callee_parts, callee_prefixes};
 
     ghost parts_of = { callee_parts };
+
     ghost prefixes_of = { callee_prefixes };
+
     ghost prefix_of = { key_prefix };
 
     fn compare_keys(archive: &Archive, a: Entry, b: Entry) -> Ordering {
@@ -236,7 +240,12 @@ impl EntryOrder for CallsByCallee {
 
     fn append(archive: &Archive, name: u32, version: u32, entries: &mut Vec<Entry>) {
         if let Some(kept) = archive.version(version) {
-            append_postings(kept.facts().callee_keys().prefixes(), name, version, entries);
+            append_postings(
+                kept.facts().callee_keys().prefixes(),
+                name,
+                version,
+                entries,
+            );
         }
     }
 }
@@ -272,7 +281,9 @@ impl EntryOrder for CallsByCaller {
     ghost use Rattle.cb_index.specs.Orders.{caller_parts, caller_prefixes};
 
     ghost parts_of = { caller_parts };
+
     ghost prefixes_of = { caller_prefixes };
+
     ghost prefix_of = { key_prefix };
 
     fn compare_keys(archive: &Archive, a: Entry, b: Entry) -> Ordering {
@@ -300,7 +311,12 @@ impl EntryOrder for CallsByCaller {
 
     fn append(archive: &Archive, name: u32, version: u32, entries: &mut Vec<Entry>) {
         if let Some(kept) = archive.version(version) {
-            append_postings(kept.facts().caller_keys().prefixes(), name, version, entries);
+            append_postings(
+                kept.facts().caller_keys().prefixes(),
+                name,
+                version,
+                entries,
+            );
         }
     }
 }
@@ -311,7 +327,10 @@ fn def_key(archive: &Archive, entry: Entry) -> &[u8]
 {
     match archive.version(entry.version) {
         Some(version) => {
-            bytes_at(version.source().bytes(), def_span(version.facts(), entry.number))
+            bytes_at(
+                version.source().bytes(),
+                def_span(version.facts(), entry.number),
+            )
         }
         None => &[],
     }
@@ -393,7 +412,9 @@ impl EntryOrder for DefsByName {
     ghost use Rattle.cb_index.specs.Orders.{def_parts, def_prefixes};
 
     ghost parts_of = { def_parts };
+
     ghost prefixes_of = { def_prefixes };
+
     ghost prefix_of = { key_prefix };
 
     fn compare_keys(archive: &Archive, a: Entry, b: Entry) -> Ordering {
@@ -428,7 +449,9 @@ impl EntryOrder for DefsByTagName {
     ghost use Rattle.cb_index.specs.Orders.{no_prefix, tag_parts, tag_prefixes};
 
     ghost parts_of = { tag_parts };
+
     ghost prefixes_of = { tag_prefixes };
+
     ghost prefix_of = { no_prefix };
 
     fn compare_keys(archive: &Archive, a: Entry, b: Entry) -> Ordering {

@@ -1,9 +1,10 @@
 //! Entries kept in one of the orders.
-ghost use Rattle.std.specs.Prelude.{◌≡◌, ◌+◌, ◌≤◌, ◌<◌, ◌^◌, ◌++◌, [], length, filter, not, OnOk};
+ghost use Rattle.std.specs.Prelude.{◌≡◌, ◌+◌, ◌≤◌, ◌<◌, ◌^◌, ◌++◌, [], true, false, length, filter, not, OnOk};
 ghost use Rattle.std.specs.Cmp.Lexicographic.{slice_cmp};
-ghost use Rattle.std.specs.Ordering.{nat_cmp};
+ghost use Rattle.std.specs.Ordering.{is_gt, is_lt, nat_cmp};
+ghost use Rattle.std.specs.List.Sorted.{IsPartitionPoint, IsPartitionedBy};
 ghost use Rattle.cb_scan.specs.Order.{in_order};
-ghost use Rattle.cb_index.specs.Entries.{is_of, sort_key};
+ghost use Rattle.cb_index.specs.Entries.{has_key, is_of, key_cmp, sort_key};
 ghost use Rattle.cb_index.specs.Held.{entries_of};
 ghost use Rattle.cb_index.specs.declared.entry.Entry.{Entry};
 
@@ -41,6 +42,51 @@ fn sort<O: EntryOrder>(archive: &Archive, entries: &mut [Entry])
                 (sort_key O.parts_of archive.entry.now b.now) }
         { compare::<O>(archive, *a, *b) },
     );
+}
+
+/// A key with its prefix against an entry.
+fn compare_key<O: EntryOrder>(archive: &Archive, prefix: u64, key: &[u8], entry: Entry) -> Ordering
+    ensures { result ≡ key_cmp O.parts_of archive.now prefix key.now entry }
+{
+    match prefix.cmp(&entry.prefix) {
+        Ordering::Less => Ordering::Less,
+        Ordering::Greater => Ordering::Greater,
+        Ordering::Equal => O::compare_key(archive, key, entry),
+    }
+}
+
+/// How many entries are below a key.
+fn below<O: EntryOrder>(archive: &Archive, prefix: u64, key: &[u8], entries: &[Entry]) -> usize
+    requires { entries.now ≡ in_order (sort_key O.parts_of archive.now) entries.now }
+    ensures bound { result ≤ length entries.now }
+    ensures parted { IsPartitionPoint
+        (λ e. is_gt (key_cmp O.parts_of archive.now prefix key.now e) ≡ true)
+        (λ e. is_gt (key_cmp O.parts_of archive.now prefix key.now e) ≡ false) entries.now result }
+{
+    entries.partition_point(
+        |e: &Entry| -> bool
+            ensures { result
+                ≡ is_gt (key_cmp O.parts_of archive.entry.now prefix key.entry.now e.now) }
+        { compare_key::<O>(archive, prefix, key, *e) == Ordering::Greater },
+    )
+}
+
+/// How many entries are not above a key.
+fn upto<O: EntryOrder>(archive: &Archive, prefix: u64, key: &[u8], entries: &[Entry]) -> usize
+    requires { IsPartitionedBy
+        (λ e. not (is_lt (key_cmp O.parts_of archive.now prefix key.now e))) entries.now }
+    ensures bound { result ≤ length entries.now }
+    ensures parted { IsPartitionPoint
+        (λ e. not (is_lt (key_cmp O.parts_of archive.now prefix key.now e)) ≡ true)
+        (λ e. not (is_lt (key_cmp O.parts_of archive.now prefix key.now e)) ≡ false)
+        entries.now result }
+{
+    entries.partition_point(
+        |e: &Entry| -> bool
+            ensures { result
+                ≡ not (is_lt (key_cmp O.parts_of archive.entry.now prefix key.entry.now e.now)) }
+        { compare_key::<O>(archive, prefix, key, *e) != Ordering::Less },
+    )
 }
 
 fn is_of(name: u32, version: u32, entry: &Entry) -> bool
@@ -104,5 +150,21 @@ impl<O: EntryOrder> Sorted<O> {
                 ensures { result ≡ not (is_of shown.name shown.version entry.now) }
             { !is_of(shown.name, shown.version, entry) },
         );
+    }
+
+    /// The entries that have the key, in order.
+    pub fn range(&self, archive: &Archive, key: &[u8]) -> &[Entry]
+        requires { self.now.entries ≡ in_order (sort_key O.parts_of archive.now) self.now.entries }
+        ensures { result.now ≡ filter
+            (has_key O.parts_of archive.now (O.prefix_of key.now) key.now) self.now.entries }
+    {
+        let prefix = O::prefix(key);
+        let from = &self.entries.as_slice()[below::<O>(
+            archive,
+            prefix,
+            key,
+            self.entries.as_slice(),
+        )..];
+        &from[..upto::<O>(archive, prefix, key, from)]
     }
 }
