@@ -9,6 +9,7 @@
 mod archive;
 mod bytes;
 mod entry;
+pub mod laws;
 mod memory;
 mod order;
 mod orders;
@@ -20,3 +21,6 @@ pub use memory::OutOfMemory;
 pub use order::EntryOrder;
 pub use orders::{CallsByCallee, CallsByCaller, DefsByName, DefsByTagName, UsesByName};
 pub use sorted::Sorted;
+
+#[cfg(test)]
+mod tests;

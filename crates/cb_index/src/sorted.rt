@@ -119,6 +119,13 @@ impl<O: EntryOrder> Sorted<O> {
         }
     }
 
+    /// The entries, in order.
+    pub fn entries(&self) -> &[Entry]
+        ensures { result.now ≡ self.now.entries }
+    {
+        self.entries.as_slice()
+    }
+
     /// How many entries a version has in this order under a name.
     pub fn count(&self, archive: &Archive, shown: Shown) -> usize
         ensures { result ≡ length (O.prefixes_of archive.now shown.name shown.version) }
