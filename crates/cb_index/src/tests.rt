@@ -11,7 +11,8 @@ use std::alloc::Global;
 use std::test::Fail;
 
 /// An include, a macro, a typedef and two functions.
-const FIRST: &[u8] = b"#include \"a.h\"\n#define TWICE(x) ((x) + add(x, 0))\ntypedef unsigned long word;\nstatic int add(int a, int b) {\n\treturn a + b;\n}\nint main(void) {\n\treturn add(1, 2) / TWICE(3);\n}\n";
+const FIRST: &[u8] =
+    b"#include \"a.h\"\n#define TWICE(x) ((x) + add(x, 0))\ntypedef unsigned long word;\nstatic int add(int a, int b) {\n\treturn a + b;\n}\nint main(void) {\n\treturn add(1, 2) / TWICE(3);\n}\n";
 
 /// One function.
 const SECOND: &[u8] = b"int main(void) {\n\treturn 0;\n}\n";

@@ -14,7 +14,7 @@ pub record KeysOfFacts : Type 0 where
   pub callers : ItemsByKey
 
 -- these facts of a text by their keys
-abbrev pub keys_of_facts : List ℕ → List Def → List Use → List Call → KeysOfFacts
+unfoldable pub keys_of_facts : List ℕ → List Def → List Use → List Call → KeysOfFacts
 keys_of_facts text defs uses calls = record {
   defs = items_by_key (map (λ (d : Def). bytes_of text d.name) defs);
   uses = items_by_key (map (λ (u : Use). bytes_of text u.name) uses);

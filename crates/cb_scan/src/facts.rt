@@ -72,12 +72,7 @@ impl Model for Facts {
       uses = f.uses.items;
       calls = f.calls.items;
       includes = f.includes.items;
-      keys = record {
-        defs = f.keys.defs;
-        uses = f.keys.uses;
-        callees = f.keys.callees;
-        callers = f.keys.callers;
-      };
+      keys = f.keys;
     } };
 }
 
@@ -94,12 +89,7 @@ impl Facts {
           uses = uses.items;
           calls = calls.items;
           includes = includes.items;
-          keys = record {
-            defs = keys.defs;
-            uses = keys.uses;
-            callees = keys.callees;
-            callers = keys.callers;
-          };
+          keys = keys;
         } }
     {
         Facts {
@@ -143,27 +133,27 @@ impl Facts {
     pub fn def_keys(&self) -> &KeyList
         ensures { result.now ≡ self.now.keys.defs }
     {
-        &self.keys.defs
+        self.keys.defs()
     }
 
     /// The uses by name.
     pub fn use_keys(&self) -> &KeyList
         ensures { result.now ≡ self.now.keys.uses }
     {
-        &self.keys.uses
+        self.keys.uses()
     }
 
     /// The calls by the called name.
     pub fn callee_keys(&self) -> &KeyList
         ensures { result.now ≡ self.now.keys.callees }
     {
-        &self.keys.callees
+        self.keys.callees()
     }
 
     /// The calls by the name that calls.
     pub fn caller_keys(&self) -> &KeyList
         ensures { result.now ≡ self.now.keys.callers }
     {
-        &self.keys.callers
+        self.keys.callers()
     }
 }

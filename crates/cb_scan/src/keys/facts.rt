@@ -12,14 +12,54 @@ use crate::keys::build::key_list;
 use crate::keys::list::KeyList;
 use crate::lex::piece::Span;
 use std::alloc::{AllocError, Global};
+use std::marker::Model;
 
 /// Definitions and uses by name, calls by the called name and by the name that calls.
 #[derive(Debug, Drop)]
 pub(crate) struct FactKeys {
-    pub defs: KeyList,
-    pub uses: KeyList,
-    pub callees: KeyList,
-    pub callers: KeyList,
+    defs: KeyList,
+    uses: KeyList,
+    callees: KeyList,
+    callers: KeyList,
+}
+
+impl Model for FactKeys {
+    ghost use Rattle.cb_scan.specs.FactKeys.{KeysOfFacts};
+
+    ghost Value = { KeysOfFacts };
+
+    ghost view = { λ k. record {
+      defs = k.defs;
+      uses = k.uses;
+      callees = k.callees;
+      callers = k.callers;
+    } };
+}
+
+impl FactKeys {
+    pub(crate) fn defs(&self) -> &KeyList
+        ensures { result.now ≡ self.now.defs }
+    {
+        &self.defs
+    }
+
+    pub(crate) fn uses(&self) -> &KeyList
+        ensures { result.now ≡ self.now.uses }
+    {
+        &self.uses
+    }
+
+    pub(crate) fn callees(&self) -> &KeyList
+        ensures { result.now ≡ self.now.callees }
+    {
+        &self.callees
+    }
+
+    pub(crate) fn callers(&self) -> &KeyList
+        ensures { result.now ≡ self.now.callers }
+    {
+        &self.callers
+    }
 }
 
 fn def_names(alloc: Global, defs: &[Def]) -> Result<Vec<Span>, AllocError>

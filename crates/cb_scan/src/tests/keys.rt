@@ -5,7 +5,8 @@ use crate::scanner::scan;
 use crate::source::Source;
 use std::test::Fail;
 
-const TEXT: &[u8] = b"#define TWICE(x) ((x) + add(x, 0))\ntypedef unsigned long word;\nstatic int add(int a, int b) {\n\treturn a + b;\n}\nint main(void) {\n\treturn add(1, 2) / TWICE(3);\n}\n";
+const TEXT: &[u8] =
+    b"#define TWICE(x) ((x) + add(x, 0))\ntypedef unsigned long word;\nstatic int add(int a, int b) {\n\treturn a + b;\n}\nint main(void) {\n\treturn add(1, 2) / TWICE(3);\n}\n";
 
 #[test]
 fn facts_go_by_key(rt: HostRuntime) -> Result<(), Fail> {
@@ -15,7 +16,15 @@ fn facts_go_by_key(rt: HostRuntime) -> Result<(), Fail> {
     let defs = facts.def_keys();
     assert_eq!(rt; defs.items(), [0, 2, 3, 1].as_slice());
     assert_eq!(rt; defs.starts(), [0, 1, 2, 3, 4].as_slice());
-    assert_eq!(rt; defs.prefixes()[..], [0x5457_4943_4500_0000, 0x6164_6400_0000_0000, 0x6d61_696e_0000_0000, 0x776f_7264_0000_0000]);
+    assert_eq!(rt;
+        defs.prefixes()[..],
+        [
+            0x5457_4943_4500_0000,
+            0x6164_6400_0000_0000,
+            0x6d61_696e_0000_0000,
+            0x776f_7264_0000_0000
+        ]
+    );
     // TWICE once, add twice
     let callees = facts.callee_keys();
     assert_eq!(rt; callees.items(), [2, 0, 1].as_slice());

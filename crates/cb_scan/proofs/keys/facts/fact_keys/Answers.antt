@@ -4,6 +4,7 @@ use Rattle.cb_scan.specs.declared.facts.Call.{Call}
 use Rattle.cb_scan.specs.declared.facts.Def.{Def}
 use Rattle.cb_scan.specs.declared.facts.Use.{Use}
 use Rattle.cb_scan.specs.Definitions.{IsScopeWithin, IsWithin}
+use Rattle.cb_scan.specs.FactKeys.{keys_of_facts}
 use Rattle.cb_scan.specs.Keys.{items_by_key}
 use Rattle.cb_scan.specs.lex.Tokens.{bytes_of}
 use Rattle.cb_scan.proofs.KeyPlaces.{all_mapped, map_mapped}
@@ -40,6 +41,7 @@ key_list-requires-4 c =
 
 -- the keys are the bytes of the names
 pub returns : goal.returns
+unfolding keys_of_facts
 returns c =
     let bytes = bytes_of c.args.text.now in
     let defs = c.in_ok-defs.ensures ∙ ap (λ ss. items_by_key (map bytes ss)) (c.as_slice.ensures.value ∙ c.in_ok-def_names.ensures)
