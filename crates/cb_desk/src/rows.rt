@@ -1,10 +1,11 @@
 //! Questions and the rows that answer them.
-ghost use Rattle.std.specs.Prelude.{◌≡◌, ◌≢◌, ◌≤◌, ◌==◌, ◌||◌, [], ◌∷◌, ◌++◌, List, length, map, IfOk};
+ghost use Rattle.std.specs.Prelude.{◌≡◌, ◌≢◌, ◌≤◌, ◌==◌, ◌||◌, [], ◌∷◌, ◌++◌, List, length, map, filter, IfOk};
 ghost use Rattle.std.specs.Iterator.{YieldsFirstBy, item_count};
-ghost use Rattle.std.specs.List.{list_any, prefix_len, flat_map};
+ghost use Rattle.std.specs.List.{AllByRecursion, list_any, prefix_len, flat_map};
+ghost use Rattle.cb_scan.specs.declared.facts.Def.{Def};
 ghost use Rattle.cb_scan.specs.Definitions.{IsWithin};
 ghost use Rattle.cb_desk.specs.World.{File};
-ghost use Rattle.cb_desk.specs.Answer.{AnswerRow, row_eq, distinct, space, tab, unindented, line_row, definition_row, definition_rows, text_rows_in, field_of_digit};
+ghost use Rattle.cb_desk.specs.Answer.{AnswerRow, row_eq, distinct, space, tab, unindented, line_row, defines, definition_row, definition_rows, text_rows_in, field_of_digit};
 ghost use Rattle.cb_desk.specs.steps.Collects.{Collects};
 ghost use Rattle.cb_desk.specs.Models.{row_of, file_of};
 
@@ -134,6 +135,27 @@ impl<'a> RowList<'a> {
         Ok(())
     }
 
+    /// Adds the rows of those of these definitions that have that name.
+    fn add_defining(
+        &mut self,
+        name: &'a [u8],
+        source: &'a Source,
+        defs: &[Def],
+        pattern: &[u8],
+    ) -> Result<(), AllocError>
+        requires { AllByRecursion (λ (d : Def). IsWithin source.now d.name) defs.now }
+        ensures { IfOk result (λ _. Collects self.old self.new
+            (map (definition_row (file_of (name.entry, source.entry)))
+            (filter (defines source.entry.now pattern.now) defs.now))) }
+    {
+        for def in defs {
+            if defined_name(source, def) == pattern {
+                self.add(definition_row(name, source, def))?;
+            }
+        }
+        Ok(())
+    }
+
     /// Adds the rows of the definitions of that name in a file, which is scanned afresh.
     pub(crate) fn add_definitions(
         &mut self,
@@ -149,12 +171,7 @@ impl<'a> RowList<'a> {
             Ok(facts) => facts,
             Err(_) => return Err(AllocError),
         };
-        for def in facts.defs() {
-            if defined_name(source, def) == pattern {
-                self.add(definition_row(name, source, def))?;
-            }
-        }
-        Ok(())
+        self.add_defining(name, source, facts.defs(), pattern)
     }
 }
 

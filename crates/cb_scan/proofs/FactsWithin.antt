@@ -37,7 +37,7 @@ use Rattle.cb_scan.proofs.StructureLemmas.{all_structures, structure_name}
 use Rattle.cb_scan.proofs.TypedefsWithin.{SpanWithin, at_any, all_typedefs}
 
 -- ---- order
-all_put : {X : Type 0} (key : X → List ℕ) (Q : X → Type 0) (x : X) (ys : List X) → Q x → AllByRecursion Q ys
+pub all_put : {X : Type 0} (key : X → List ℕ) (Q : X → Type 0) (x : X) (ys : List X) → Q x → AllByRecursion Q ys
     → AllByRecursion Q (put key x ys)
 unfolding put
 all_put key Q x [] q a = (q, tt)

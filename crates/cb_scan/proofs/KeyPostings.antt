@@ -101,26 +101,26 @@ module _ (key : List ℕ) (item : ℕ) (p : Posting) (ps : List Posting) where
   unfolding put_item put_by
   put_is = refl
 
-  put_less : Keys key p.key ≡ Less → put_item key item (p ∷ ps) ≡ record { key = key; items = item ∷ [] } ∷ p ∷ ps
+  pub put_less : Keys key p.key ≡ Less → put_item key item (p ∷ ps) ≡ record { key = key; items = item ∷ [] } ∷ p ∷ ps
   unfolding put_by
   put_less is = put_is ∙ ap put_by is
 
-  put_equal : Keys key p.key ≡ Equal
+  pub put_equal : Keys key p.key ≡ Equal
       → put_item key item (p ∷ ps) ≡ record { key = p.key; items = item ∷ p.items } ∷ ps
   unfolding put_by
   put_equal is = put_is ∙ ap put_by is
 
-  put_greater : Keys key p.key ≡ Greater → put_item key item (p ∷ ps) ≡ p ∷ put_item key item ps
+  pub put_greater : Keys key p.key ≡ Greater → put_item key item (p ∷ ps) ≡ p ∷ put_item key item ps
   unfolding put_by
   put_greater is = put_is ∙ ap put_by is
 
-differ_less : (a b : List ℕ) → Keys a b ≡ Less → bytes_eq a b ≡ false
+pub differ_less : (a b : List ℕ) → Keys a b ≡ Less → bytes_eq a b ≡ false
 differ_less a b is = sym (is_eq-slice_cmp a b) ∙ ap is_eq is
 
 alike : (a b : List ℕ) → Keys a b ≡ Equal → bytes_eq a b ≡ true
 alike a b is = sym (is_eq-slice_cmp a b) ∙ ap is_eq is
 
-turned : (a b : List ℕ) (o : Ordering) → Keys a b ≡ o → Keys b a ≡ ordering_reverse o
+pub turned : (a b : List ℕ) (o : Ordering) → Keys a b ≡ o → Keys b a ≡ ordering_reverse o
 turned a b o is = nat_list_cmp_total.antisymm b a ∙ ap ordering_reverse is
 
 -- an item of a greater key is put beyond the postings of a key

@@ -13,6 +13,7 @@ pub mod HeadLemmas
 pub mod InOrder
 pub mod IncludeLines
 pub mod Lengths
+pub mod KeyLaws
 pub mod KeyOrder
 pub mod KeyPlaces
 pub mod KeyPostings

@@ -1,8 +1,9 @@
 -- The items of a list by their keys.
-use Rattle.std.specs.Prelude.{ℕ, zero, suc, ◌+◌, ◌*◌, ◌^◌, List, [], ◌∷◌, length, map, if◌then◌else◌}
-use Rattle.std.specs.List.{flat_map}
+use Rattle.std.specs.Prelude.{ℕ, zero, suc, ◌+◌, ◌*◌, ◌^◌, ◌≤◌, List, [], ◌∷◌, length, map, filter, if◌then◌else◌}
+use Rattle.std.specs.List.{AllByRecursion, flat_map}
 use Rattle.std.specs.Cmp.Lexicographic.{slice_cmp}
 use Rattle.std.specs.Ordering.{nat_cmp, is_gt, is_lt}
+use Rattle.std.specs.Str.{bytes_eq}
 
 -- the first bytes of a key, so many, as a big-endian number; where the key has fewer, zeros follow
 abbrev pub leading : ℕ → List ℕ → ℕ
@@ -59,3 +60,24 @@ items_by_key keys = record {
   starts = starts_from 0 (postings keys);
   prefixes = map (λ (p : Posting). key_prefix p.key) (postings keys);
 }
+
+-- ---- what holds of postings
+
+-- the items of the postings that have a key
+abbrev pub items_with : List ℕ → List Posting → List ℕ
+items_with key ps = items_of (filter (λ (p : Posting). bytes_eq key p.key) ps)
+
+-- the numbers of the keys that are equal to a key, counted from n
+abbrev pub numbers_with : List ℕ → ℕ → List (List ℕ) → List ℕ
+numbers_with key n [] = []
+numbers_with key n (k ∷ ks) =
+    if bytes_eq key k then n ∷ numbers_with key (suc n) ks else numbers_with key (suc n) ks
+
+-- P holds of each key and its number, counted from n
+abbrev pub AllNumbered : (ℕ → List ℕ → Type 0) → ℕ → List (List ℕ) → Type 0
+AllNumbered P n [] = Unit {0}
+AllNumbered P n (key ∷ keys) = P n key × AllNumbered P (suc n) keys
+
+-- a posting has an item, and P holds of each of its items and its key
+abbrev pub HoldsOf : (ℕ → List ℕ → Type 0) → Posting → Type 0
+HoldsOf P p = (1 ≤ length p.items) × AllByRecursion (λ i. P i p.key) p.items

@@ -1,5 +1,5 @@
 //! The items of a list of facts, by the bytes of their keys.
-ghost use Rattle.std.specs.Prelude.{◌≡◌};
+ghost use Rattle.std.specs.Prelude.{◌≡◌, ◌<◌, ◌≤◌, ◌^◌, length};
 
 use std::marker::Model;
 
@@ -13,6 +13,7 @@ pub struct KeyList {
 }
 
 impl Model for KeyList {
+    ghost use Rattle.std.specs.Prelude.{◌<◌, ◌≤◌, ◌^◌, length};
     ghost use Rattle.cb_scan.specs.Keys.{ItemsByKey};
 
     ghost Value = { ItemsByKey };
@@ -22,10 +23,15 @@ impl Model for KeyList {
       starts = k.starts.items;
       prefixes = k.prefixes.items;
     } };
+
+    ghost invariant = { λ k. (length k.items.items < 2 ^ 32)
+        × (length k.prefixes.items ≤ length k.items.items) };
 }
 
 impl KeyList {
     pub(crate) fn new(items: Vec<u32>, starts: Vec<u32>, prefixes: Vec<u64>) -> KeyList
+        requires few { length items.items < 2 ^ 32 }
+        requires postings { length prefixes.items ≤ length items.items }
         ensures { result ≡ record {
           items = items.items;
           starts = starts.items;
@@ -41,7 +47,8 @@ impl KeyList {
 
     /// The items, posting after posting.
     pub fn items(&self) -> &[u32]
-        ensures { result.now ≡ self.now.items }
+        ensures value { result.now ≡ self.now.items }
+        ensures few { length result.now < 2 ^ 32 }
     {
         self.items.as_slice()
     }
@@ -55,7 +62,9 @@ impl KeyList {
 
     /// The first eight bytes of the key of each posting, as a big-endian number.
     pub fn prefixes(&self) -> &[u64]
-        ensures { result.now ≡ self.now.prefixes }
+        ensures value { result.now ≡ self.now.prefixes }
+        ensures few { length result.now < 2 ^ 32 }
+        ensures postings { length result.now ≤ length self.now.items }
     {
         self.prefixes.as_slice()
     }
