@@ -11,8 +11,3 @@ cut text span =
 abbrev pub bytes_at : List ℕ → Option Span → List ℕ
 bytes_at text None = []
 bytes_at text (Some span) = cut text span
-
--- where a span starts, if there is one
-abbrev pub start_at : Option Span → ℕ
-start_at None = 0
-start_at (Some span) = span.start

@@ -1,5 +1,5 @@
 -- What an index holds.
-use Rattle.std.specs.Prelude.{ℕ, List}
+use Rattle.std.specs.Prelude.{ℕ, List, Option, slice_get}
 use Rattle.std.specs.List.{flat_map}
 use Rattle.cb_index.specs.Archived.{Archived}
 use Rattle.cb_index.specs.Entries.{entries_from}
@@ -11,10 +11,18 @@ pub record Held : Type 0 where
   pub entries : List Entry
   pub room : ℕ
 
--- the entries of a version under a name, by the prefixes that an order gives them
-abbrev pub entries_of : (Archived → ℕ → ℕ → List ℕ) → Archived → Shown → List Entry
-entries_of prefixes a s = entries_from 0 s.name s.version (prefixes a s.name s.version)
+-- the prefixes that an order gives the entries of a text, if it is there
+abbrev pub Prefixer : Type 0
+Prefixer = Option (List ℕ) → List ℕ
+
+-- those of a version
+abbrev pub prefixes_of : Prefixer → Archived → ℕ → List ℕ
+prefixes_of prefixer a version = prefixer (slice_get a.texts version)
+
+-- the entries of a version under a name
+abbrev pub entries_of : Prefixer → Archived → Shown → List Entry
+entries_of prefixer a s = entries_from 0 s.name s.version (prefixes_of prefixer a s.version)
 
 -- the entries of all versions that are shown
-abbrev pub all_entries : (Archived → ℕ → ℕ → List ℕ) → Archived → List Shown → List Entry
-all_entries prefixes a shown = flat_map (entries_of prefixes a) shown
+abbrev pub all_entries : Prefixer → Archived → List Shown → List Entry
+all_entries prefixer a shown = flat_map (entries_of prefixer a) shown

@@ -56,7 +56,7 @@ pub struct Archive {
 }
 
 impl Model for Archive {
-    ghost use Rattle.std.specs.Prelude.{map, vec_capacity};
+    ghost use Rattle.std.specs.Prelude.{map, min, vec_capacity};
     ghost use Rattle.cb_index.specs.Archived.{Archived};
 
     ghost Value = { Archived };
@@ -64,8 +64,8 @@ impl Model for Archive {
     ghost view = { λ a. record {
       names = map (λ n. n.items) a.names.items;
       texts = a.versions.items;
-      name_room = vec_capacity a.names;
-      version_room = vec_capacity a.versions;
+      name_room = min (vec_capacity a.names) 4294967295;
+      version_room = min (vec_capacity a.versions) 4294967295;
     } };
 }
 
@@ -104,8 +104,7 @@ impl Archive {
 
     /// Keeps a name under the number that is answered: the count of names before.
     pub fn push_name(&mut self, name: Vec<u8>) -> u32
-        requires room { length self.old.names < self.old.name_room }
-        requires few { length self.old.names < 2 ^ 32 }
+        requires { length self.old.names < self.old.name_room }
         ensures value { result ≡ length self.old.names }
         ensures names { self.new.names ≡ self.old.names ++ name.items ∷ [] }
         ensures texts { self.new.texts ≡ self.old.texts }
@@ -123,7 +122,6 @@ impl Archive {
     /// versions before.
     pub fn push_version(&mut self, source: Source, facts: Facts) -> u32
         requires room { length self.old.texts < self.old.version_room }
-        requires few { length self.old.texts < 2 ^ 32 }
         requires facts { facts ≡ facts_of source }
         ensures value { result ≡ length self.old.texts }
         ensures texts { self.new.texts ≡ self.old.texts ++ source ∷ [] }

@@ -24,12 +24,8 @@ pub(crate) fn bytes_at(text: &[u8], span: Option<Span>) -> &[u8]
 }
 
 /// The number at a place, or 0 past the end.
-pub(crate) fn number_at(numbers: &[u32], at: u32) -> u32
+pub(crate) fn number_at(numbers: &[u32], at: usize) -> u32
     ensures { result ≡ get_or numbers.now at 0 }
 {
-    if (at as usize) < numbers.len() {
-        numbers[at as usize]
-    } else {
-        0
-    }
+    if at < numbers.len() { numbers[at] } else { 0 }
 }

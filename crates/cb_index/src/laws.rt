@@ -12,11 +12,11 @@ use crate::order::EntryOrder;
 
 /// Every order is total, in every archive.
 pub fn orders_are_total<O: EntryOrder>()
-    ensures { (a : Archived) → IsTotalOrder (on (sort_key O.parts_of a) (slice_cmp nat_cmp)) }
+    ensures { (a : Archived) → IsTotalOrder (on (sort_key O.keyer a) (slice_cmp nat_cmp)) }
 {}
 
 /// Two entries are equal in an order only if they are the same entry.
 pub fn equal_entries_are_one<O: EntryOrder>()
     ensures { (a : Archived) (e f : Entry)
-        → slice_cmp nat_cmp (sort_key O.parts_of a e) (sort_key O.parts_of a f) ≡ Equal → e ≡ f }
+        → slice_cmp nat_cmp (sort_key O.keyer a e) (sort_key O.keyer a f) ≡ Equal → e ≡ f }
 {}

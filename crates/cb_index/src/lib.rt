@@ -8,19 +8,32 @@
 
 mod archive;
 mod bytes;
+mod counted;
+mod entries;
 mod entry;
+mod facts;
 pub mod laws;
 mod memory;
 mod order;
 mod orders;
+mod room;
+mod rows;
+mod shelf;
 mod sorted;
+mod tags;
 
 pub use archive::Archive;
+pub use entries::Entries;
 pub use entry::{Entry, Shown};
+pub use facts::FactRows;
 pub use memory::OutOfMemory;
 pub use order::EntryOrder;
 pub use orders::{CallsByCallee, CallsByCaller, DefsByName, DefsByTagName, UsesByName};
+pub use room::Room;
+pub use rows::FactRow;
+pub use shelf::Shelf;
 pub use sorted::Sorted;
+pub use tags::TagRows;
 
 #[cfg(test)]
 mod tests;

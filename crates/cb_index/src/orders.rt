@@ -1,17 +1,15 @@
 //! The five orders.
-ghost use Rattle.std.specs.Prelude.{◌≡◌, ◌+◌, ◌≤◌, ◌<◌, ◌^◌, ◌++◌, ◌∷◌, [], length, map, slice_get, vec_len, vec_capacity};
+ghost use Rattle.std.specs.Prelude.{◌≡◌, ◌+◌, ◌≤◌, ◌<◌, ◌^◌, ◌++◌, length, map, slice_get, vec_len, vec_capacity};
 ghost use Rattle.cb_scan.specs.Definitions.{facts_of};
-ghost use Rattle.cb_scan.specs.Keys.{key_prefix};
-ghost use Rattle.cb_scan.specs.declared.facts.Def.{Def};
-ghost use Rattle.cb_index.specs.Bytes.{cut, start_at};
-ghost use Rattle.cb_index.specs.Entries.{entries_from};
-ghost use Rattle.cb_index.specs.Orders.{callee_parts, callee_span, caller_parts, caller_span, def_parts, def_prefixes, def_span, first_item, rank_at, tag_prefix, use_parts, use_span};
+ghost use Rattle.cb_index.specs.Entries.{entries_from, key_of};
+ghost use Rattle.cb_index.specs.Held.{prefixes_of};
+ghost use Rattle.cb_index.specs.Orders.{callee_key, callee_span, caller_key, caller_span, def_key, def_prefix, def_prefixes, def_span, first_item, use_key, use_span};
 
-use crate::archive::Archive;
+use crate::archive::{Archive, Version};
 use crate::bytes::{bytes_at, number_at};
-use crate::entry::Entry;
+use crate::entry::{Entry, Shown};
 use crate::order::EntryOrder;
-use cb_scan::{Def, Facts, KeyList, Kind, Span, key_prefix};
+use cb_scan::{Def, Facts, KeyList, Span, key_prefix};
 use cb_tags::{compare_tag_key, compare_tag_names};
 use std::cmp::Ordering;
 
@@ -34,16 +32,10 @@ pub struct DefsByTagName;
 fn first_item(keys: &KeyList, number: u32) -> u32
     ensures { result ≡ first_item keys.now number }
 {
-    number_at(keys.items(), number_at(keys.starts(), number))
-}
-
-fn start_at(span: Option<Span>) -> u32
-    ensures { result ≡ start_at span }
-{
-    match span {
-        Some(span) => span.start,
-        None => 0,
-    }
+    number_at(
+        keys.items(),
+        number_at(keys.starts(), number as usize) as usize,
+    )
 }
 
 fn use_span(facts: &Facts, item: u32) -> Option<Span>
@@ -82,31 +74,19 @@ fn def_span(facts: &Facts, item: u32) -> Option<Span>
     }
 }
 
-fn def_rank(facts: &Facts, item: u32) -> u32
-    ensures { result ≡ rank_at (slice_get facts.now.defs item) }
-{
-    match facts.defs().get(item as usize) {
-        Some(found) => match found.kind {
-            Kind::Function => 0,
-            Kind::Macro => 1,
-            Kind::Typedef => 2,
-        },
-        None => 0,
-    }
-}
-
 /// Puts the entries of postings with these prefixes behind others.
-fn append_postings(prefixes: &[u64], name: u32, version: u32, entries: &mut Vec<Entry>)
+fn append_postings(prefixes: &[u64], shown: Shown, entries: &mut Vec<Entry>)
     requires room { vec_len entries.old + length prefixes.now ≤ vec_capacity entries.old }
     requires few { length prefixes.now < 2 ^ 32 }
-    ensures entries { entries.new.items ≡ entries.old.items ++ entries_from 0 name version prefixes.now }
+    ensures entries { entries.new.items
+        ≡ entries.old.items ++ entries_from 0 shown.name shown.version prefixes.now }
     ensures room { vec_capacity entries.old ≤ vec_capacity entries.new }
 {
     for (i, prefix) in prefixes.iter().enumerate() {
         let entry = Entry {
             prefix: *prefix,
-            name,
-            version,
+            name: shown.name,
+            version: shown.version,
             number: i as u32,
         };
         let _ = entries.push(entry);
@@ -115,7 +95,7 @@ fn append_postings(prefixes: &[u64], name: u32, version: u32, entries: &mut Vec<
 
 /// The key of a posting, in the text of its version.
 fn use_key(archive: &Archive, entry: Entry) -> &[u8]
-    ensures { result.now ≡ (use_parts archive.now entry).key }
+    ensures { result.now ≡ key_of use_key archive.now entry }
 {
     match archive.version(entry.version) {
         Some(version) => {
@@ -127,25 +107,13 @@ fn use_key(archive: &Archive, entry: Entry) -> &[u8]
     }
 }
 
-fn use_place(archive: &Archive, entry: Entry) -> u32
-    ensures { result ≡ (use_parts archive.now entry).place }
-{
-    match archive.version(entry.version) {
-        Some(version) => {
-            let facts = version.facts();
-            start_at(use_span(facts, first_item(facts.use_keys(), entry.number)))
-        }
-        None => 0,
-    }
-}
-
 impl EntryOrder for UsesByName {
     ghost use Rattle.cb_scan.specs.Keys.{key_prefix};
-    ghost use Rattle.cb_index.specs.Orders.{use_parts, use_prefixes};
+    ghost use Rattle.cb_index.specs.Orders.{use_key, use_prefixes};
 
-    ghost parts_of = { use_parts };
+    ghost keyer = { use_key };
 
-    ghost prefixes_of = { use_prefixes };
+    ghost prefixer = { use_prefixes };
 
     ghost prefix_of = { key_prefix };
 
@@ -157,31 +125,27 @@ impl EntryOrder for UsesByName {
         key.cmp(use_key(archive, entry))
     }
 
-    fn place(archive: &Archive, entry: Entry) -> [u32; 2] {
-        [use_place(archive, entry), 0]
-    }
-
     fn prefix(key: &[u8]) -> u64 {
         key_prefix(key)
     }
 
-    fn count(archive: &Archive, _name: u32, version: u32) -> usize {
+    fn count(archive: &Archive, version: u32) -> usize {
         match archive.version(version) {
             Some(version) => version.facts().use_keys().prefixes().len(),
             None => 0,
         }
     }
 
-    fn append(archive: &Archive, name: u32, version: u32, entries: &mut Vec<Entry>) {
-        if let Some(kept) = archive.version(version) {
-            append_postings(kept.facts().use_keys().prefixes(), name, version, entries);
+    fn append(archive: &Archive, shown: Shown, entries: &mut Vec<Entry>) {
+        if let Some(kept) = archive.version(shown.version) {
+            append_postings(kept.facts().use_keys().prefixes(), shown, entries);
         }
     }
 }
 
 /// The key of a posting, in the text of its version.
 fn callee_key(archive: &Archive, entry: Entry) -> &[u8]
-    ensures { result.now ≡ (callee_parts archive.now entry).key }
+    ensures { result.now ≡ key_of callee_key archive.now entry }
 {
     match archive.version(entry.version) {
         Some(version) => {
@@ -193,25 +157,13 @@ fn callee_key(archive: &Archive, entry: Entry) -> &[u8]
     }
 }
 
-fn callee_place(archive: &Archive, entry: Entry) -> u32
-    ensures { result ≡ (callee_parts archive.now entry).place }
-{
-    match archive.version(entry.version) {
-        Some(version) => {
-            let facts = version.facts();
-            start_at(callee_span(facts, first_item(facts.callee_keys(), entry.number)))
-        }
-        None => 0,
-    }
-}
-
 impl EntryOrder for CallsByCallee {
     ghost use Rattle.cb_scan.specs.Keys.{key_prefix};
-    ghost use Rattle.cb_index.specs.Orders.{callee_parts, callee_prefixes};
+    ghost use Rattle.cb_index.specs.Orders.{callee_key, callee_prefixes};
 
-    ghost parts_of = { callee_parts };
+    ghost keyer = { callee_key };
 
-    ghost prefixes_of = { callee_prefixes };
+    ghost prefixer = { callee_prefixes };
 
     ghost prefix_of = { key_prefix };
 
@@ -223,36 +175,27 @@ impl EntryOrder for CallsByCallee {
         key.cmp(callee_key(archive, entry))
     }
 
-    fn place(archive: &Archive, entry: Entry) -> [u32; 2] {
-        [callee_place(archive, entry), 0]
-    }
-
     fn prefix(key: &[u8]) -> u64 {
         key_prefix(key)
     }
 
-    fn count(archive: &Archive, _name: u32, version: u32) -> usize {
+    fn count(archive: &Archive, version: u32) -> usize {
         match archive.version(version) {
             Some(version) => version.facts().callee_keys().prefixes().len(),
             None => 0,
         }
     }
 
-    fn append(archive: &Archive, name: u32, version: u32, entries: &mut Vec<Entry>) {
-        if let Some(kept) = archive.version(version) {
-            append_postings(
-                kept.facts().callee_keys().prefixes(),
-                name,
-                version,
-                entries,
-            );
+    fn append(archive: &Archive, shown: Shown, entries: &mut Vec<Entry>) {
+        if let Some(kept) = archive.version(shown.version) {
+            append_postings(kept.facts().callee_keys().prefixes(), shown, entries);
         }
     }
 }
 
 /// The key of a posting, in the text of its version.
 fn caller_key(archive: &Archive, entry: Entry) -> &[u8]
-    ensures { result.now ≡ (caller_parts archive.now entry).key }
+    ensures { result.now ≡ key_of caller_key archive.now entry }
 {
     match archive.version(entry.version) {
         Some(version) => {
@@ -264,25 +207,13 @@ fn caller_key(archive: &Archive, entry: Entry) -> &[u8]
     }
 }
 
-fn caller_place(archive: &Archive, entry: Entry) -> u32
-    ensures { result ≡ (caller_parts archive.now entry).place }
-{
-    match archive.version(entry.version) {
-        Some(version) => {
-            let facts = version.facts();
-            start_at(callee_span(facts, first_item(facts.caller_keys(), entry.number)))
-        }
-        None => 0,
-    }
-}
-
 impl EntryOrder for CallsByCaller {
     ghost use Rattle.cb_scan.specs.Keys.{key_prefix};
-    ghost use Rattle.cb_index.specs.Orders.{caller_parts, caller_prefixes};
+    ghost use Rattle.cb_index.specs.Orders.{caller_key, caller_prefixes};
 
-    ghost parts_of = { caller_parts };
+    ghost keyer = { caller_key };
 
-    ghost prefixes_of = { caller_prefixes };
+    ghost prefixer = { caller_prefixes };
 
     ghost prefix_of = { key_prefix };
 
@@ -294,36 +225,27 @@ impl EntryOrder for CallsByCaller {
         key.cmp(caller_key(archive, entry))
     }
 
-    fn place(archive: &Archive, entry: Entry) -> [u32; 2] {
-        [caller_place(archive, entry), 0]
-    }
-
     fn prefix(key: &[u8]) -> u64 {
         key_prefix(key)
     }
 
-    fn count(archive: &Archive, _name: u32, version: u32) -> usize {
+    fn count(archive: &Archive, version: u32) -> usize {
         match archive.version(version) {
             Some(version) => version.facts().caller_keys().prefixes().len(),
             None => 0,
         }
     }
 
-    fn append(archive: &Archive, name: u32, version: u32, entries: &mut Vec<Entry>) {
-        if let Some(kept) = archive.version(version) {
-            append_postings(
-                kept.facts().caller_keys().prefixes(),
-                name,
-                version,
-                entries,
-            );
+    fn append(archive: &Archive, shown: Shown, entries: &mut Vec<Entry>) {
+        if let Some(kept) = archive.version(shown.version) {
+            append_postings(kept.facts().caller_keys().prefixes(), shown, entries);
         }
     }
 }
 
 /// The name of a definition, in the text of its version.
 fn def_key(archive: &Archive, entry: Entry) -> &[u8]
-    ensures { result.now ≡ (def_parts archive.now entry).key }
+    ensures { result.now ≡ key_of def_key archive.now entry }
 {
     match archive.version(entry.version) {
         Some(version) => {
@@ -336,24 +258,17 @@ fn def_key(archive: &Archive, entry: Entry) -> &[u8]
     }
 }
 
-/// The place of a definition and the rank of its kind.
-fn def_place(archive: &Archive, entry: Entry) -> [u32; 2]
-    ensures { result ≡ (def_parts archive.now entry).place ∷ (def_parts archive.now entry).rank ∷ [] }
+/// The definitions of a version.
+fn defs_of(version: &Version) -> &[Def]
+    ensures value { result.now ≡ (facts_of version.now).defs }
+    ensures few { length result.now < 2 ^ 32 }
 {
-    match archive.version(entry.version) {
-        Some(version) => {
-            let facts = version.facts();
-            [
-                start_at(def_span(facts, entry.number)),
-                def_rank(facts, entry.number),
-            ]
-        }
-        None => [0, 0],
-    }
+    let _items = version.facts().def_keys().items();
+    version.facts().defs()
 }
 
 fn def_count(archive: &Archive, version: u32) -> usize
-    ensures { result ≡ length (def_prefixes archive.now 0 version) }
+    ensures { result ≡ length (prefixes_of def_prefixes archive.now version) }
 {
     match archive.version(version) {
         Some(version) => version.facts().defs().len(),
@@ -361,46 +276,27 @@ fn def_count(archive: &Archive, version: u32) -> usize
     }
 }
 
-/// Puts the entries of definitions behind others.
-fn append_defs(text: &[u8], defs: &[Def], name: u32, version: u32, entries: &mut Vec<Entry>)
-    requires room { vec_len entries.old + length defs.now ≤ vec_capacity entries.old }
-    requires few { length defs.now < 2 ^ 32 }
-    ensures entries { entries.new.items ≡ entries.old.items ++ entries_from 0 name version
-        (map (λ (d : Def). key_prefix (cut text.now d.name)) defs.now) }
-    ensures room { vec_capacity entries.old ≤ vec_capacity entries.new }
-{
-    for (i, def) in defs.iter().enumerate() {
-        let entry = Entry {
-            prefix: key_prefix(bytes_at(text, Some(def.name))),
-            name,
-            version,
-            number: i as u32,
-        };
-        let _ = entries.push(entry);
-    }
-}
-
-/// The prefix of all definitions by tag name: their tag names are compared whole.
-#[tactic(auto, unfolding(crate::specs::Orders::tag_prefix))]
-fn tag_prefix(_def: &Def) -> u64
-    ensures { result ≡ tag_prefix _def.now }
+/// The prefix of all definitions: their keys are compared whole.
+#[tactic(auto, unfolding(crate::specs::Orders::def_prefix))]
+fn def_prefix(_def: &Def) -> u64
+    ensures { result ≡ def_prefix _def.now }
 {
     0
 }
 
-/// Puts the entries of definitions by tag name behind others.
-fn append_tags(defs: &[Def], name: u32, version: u32, entries: &mut Vec<Entry>)
+/// Puts the entries of definitions behind others.
+fn append_defs(defs: &[Def], shown: Shown, entries: &mut Vec<Entry>)
     requires room { vec_len entries.old + length defs.now ≤ vec_capacity entries.old }
     requires few { length defs.now < 2 ^ 32 }
-    ensures entries { entries.new.items ≡ entries.old.items
-        ++ entries_from 0 name version (map tag_prefix defs.now) }
+    ensures entries { entries.new.items
+        ≡ entries.old.items ++ entries_from 0 shown.name shown.version (map def_prefix defs.now) }
     ensures room { vec_capacity entries.old ≤ vec_capacity entries.new }
 {
     for (i, def) in defs.iter().enumerate() {
         let entry = Entry {
-            prefix: tag_prefix(def),
-            name,
-            version,
+            prefix: def_prefix(def),
+            name: shown.name,
+            version: shown.version,
             number: i as u32,
         };
         let _ = entries.push(entry);
@@ -408,14 +304,13 @@ fn append_tags(defs: &[Def], name: u32, version: u32, entries: &mut Vec<Entry>)
 }
 
 impl EntryOrder for DefsByName {
-    ghost use Rattle.cb_scan.specs.Keys.{key_prefix};
-    ghost use Rattle.cb_index.specs.Orders.{def_parts, def_prefixes};
+    ghost use Rattle.cb_index.specs.Orders.{def_key, def_prefixes, no_prefix};
 
-    ghost parts_of = { def_parts };
+    ghost keyer = { def_key };
 
-    ghost prefixes_of = { def_prefixes };
+    ghost prefixer = { def_prefixes };
 
-    ghost prefix_of = { key_prefix };
+    ghost prefix_of = { no_prefix };
 
     fn compare_keys(archive: &Archive, a: Entry, b: Entry) -> Ordering {
         def_key(archive, a).cmp(def_key(archive, b))
@@ -425,32 +320,27 @@ impl EntryOrder for DefsByName {
         key.cmp(def_key(archive, entry))
     }
 
-    fn place(archive: &Archive, entry: Entry) -> [u32; 2] {
-        def_place(archive, entry)
+    fn prefix(_key: &[u8]) -> u64 {
+        0
     }
 
-    fn prefix(key: &[u8]) -> u64 {
-        key_prefix(key)
-    }
-
-    fn count(archive: &Archive, _name: u32, version: u32) -> usize {
+    fn count(archive: &Archive, version: u32) -> usize {
         def_count(archive, version)
     }
 
-    fn append(archive: &Archive, name: u32, version: u32, entries: &mut Vec<Entry>) {
-        if let Some(kept) = archive.version(version) {
-            let text = kept.source().bytes();
-            append_defs(text, kept.facts().defs(), name, version, entries);
+    fn append(archive: &Archive, shown: Shown, entries: &mut Vec<Entry>) {
+        if let Some(kept) = archive.version(shown.version) {
+            append_defs(defs_of(kept), shown, entries);
         }
     }
 }
 
 impl EntryOrder for DefsByTagName {
-    ghost use Rattle.cb_index.specs.Orders.{no_prefix, tag_parts, tag_prefixes};
+    ghost use Rattle.cb_index.specs.Orders.{def_prefixes, no_prefix, tag_key};
 
-    ghost parts_of = { tag_parts };
+    ghost keyer = { tag_key };
 
-    ghost prefixes_of = { tag_prefixes };
+    ghost prefixer = { def_prefixes };
 
     ghost prefix_of = { no_prefix };
 
@@ -464,21 +354,17 @@ impl EntryOrder for DefsByTagName {
         compare_tag_key(key, def_key(archive, entry), archive.name(entry.name))
     }
 
-    fn place(archive: &Archive, entry: Entry) -> [u32; 2] {
-        def_place(archive, entry)
-    }
-
     fn prefix(_key: &[u8]) -> u64 {
         0
     }
 
-    fn count(archive: &Archive, _name: u32, version: u32) -> usize {
+    fn count(archive: &Archive, version: u32) -> usize {
         def_count(archive, version)
     }
 
-    fn append(archive: &Archive, name: u32, version: u32, entries: &mut Vec<Entry>) {
-        if let Some(kept) = archive.version(version) {
-            append_tags(kept.facts().defs(), name, version, entries);
+    fn append(archive: &Archive, shown: Shown, entries: &mut Vec<Entry>) {
+        if let Some(kept) = archive.version(shown.version) {
+            append_defs(defs_of(kept), shown, entries);
         }
     }
 }

@@ -1,11 +1,11 @@
 //! Entries kept in one of the orders.
-ghost use Rattle.std.specs.Prelude.{◌≡◌, ◌+◌, ◌≤◌, ◌<◌, ◌^◌, ◌++◌, [], true, false, length, filter, not, OnOk};
+ghost use Rattle.std.specs.Prelude.{◌≡◌, ◌+◌, ◌≤◌, ◌++◌, [], true, false, length, filter, nat_eq, not, OnOk};
 ghost use Rattle.std.specs.Cmp.Lexicographic.{slice_cmp};
 ghost use Rattle.std.specs.Ordering.{is_gt, is_lt, nat_cmp};
 ghost use Rattle.std.specs.List.Sorted.{IsPartitionPoint, IsPartitionedBy};
 ghost use Rattle.cb_scan.specs.Order.{in_order};
 ghost use Rattle.cb_index.specs.Entries.{has_key, is_of, key_cmp, sort_key};
-ghost use Rattle.cb_index.specs.Held.{entries_of};
+ghost use Rattle.cb_index.specs.Held.{entries_of, prefixes_of};
 ghost use Rattle.cb_index.specs.declared.entry.Entry.{Entry};
 
 use crate::archive::Archive;
@@ -17,7 +17,7 @@ use std::cmp::Ordering;
 use std::marker::{Model, PhantomData};
 
 /// The entries of the versions that were put, in the order `O`.
-#[derive(Debug, Drop)]
+#[derive(Drop)]
 pub struct Sorted<O> {
     entries: Vec<Entry>,
     order: PhantomData<O>,
@@ -34,19 +34,19 @@ impl<O> Model for Sorted<O> {
 
 /// Puts entries in order.
 fn sort<O: EntryOrder>(archive: &Archive, entries: &mut [Entry])
-    ensures { entries.new ≡ in_order (sort_key O.parts_of archive.now) entries.old }
+    ensures { entries.new ≡ in_order (sort_key O.keyer archive.now) entries.old }
 {
     entries.sort_unstable_by(
         |a: &Entry, b: &Entry| -> Ordering
-            ensures { result ≡ slice_cmp nat_cmp (sort_key O.parts_of archive.entry.now a.now)
-                (sort_key O.parts_of archive.entry.now b.now) }
+            ensures { result ≡ slice_cmp nat_cmp (sort_key O.keyer archive.entry.now a.now)
+                (sort_key O.keyer archive.entry.now b.now) }
         { compare::<O>(archive, *a, *b) },
     );
 }
 
 /// A key with its prefix against an entry.
 fn compare_key<O: EntryOrder>(archive: &Archive, prefix: u64, key: &[u8], entry: Entry) -> Ordering
-    ensures { result ≡ key_cmp O.parts_of archive.now prefix key.now entry }
+    ensures { result ≡ key_cmp O.keyer archive.now prefix key.now entry }
 {
     match prefix.cmp(&entry.prefix) {
         Ordering::Less => Ordering::Less,
@@ -57,16 +57,16 @@ fn compare_key<O: EntryOrder>(archive: &Archive, prefix: u64, key: &[u8], entry:
 
 /// How many entries are below a key.
 fn below<O: EntryOrder>(archive: &Archive, prefix: u64, key: &[u8], entries: &[Entry]) -> usize
-    requires { entries.now ≡ in_order (sort_key O.parts_of archive.now) entries.now }
+    requires { entries.now ≡ in_order (sort_key O.keyer archive.now) entries.now }
     ensures bound { result ≤ length entries.now }
     ensures parted { IsPartitionPoint
-        (λ e. is_gt (key_cmp O.parts_of archive.now prefix key.now e) ≡ true)
-        (λ e. is_gt (key_cmp O.parts_of archive.now prefix key.now e) ≡ false) entries.now result }
+        (λ e. is_gt (key_cmp O.keyer archive.now prefix key.now e) ≡ true)
+        (λ e. is_gt (key_cmp O.keyer archive.now prefix key.now e) ≡ false) entries.now result }
 {
     entries.partition_point(
         |e: &Entry| -> bool
             ensures { result
-                ≡ is_gt (key_cmp O.parts_of archive.entry.now prefix key.entry.now e.now) }
+                ≡ is_gt (key_cmp O.keyer archive.entry.now prefix key.entry.now e.now) }
         { compare_key::<O>(archive, prefix, key, *e) == Ordering::Greater },
     )
 }
@@ -74,17 +74,17 @@ fn below<O: EntryOrder>(archive: &Archive, prefix: u64, key: &[u8], entries: &[E
 /// How many entries are not above a key.
 fn upto<O: EntryOrder>(archive: &Archive, prefix: u64, key: &[u8], entries: &[Entry]) -> usize
     requires { IsPartitionedBy
-        (λ e. not (is_lt (key_cmp O.parts_of archive.now prefix key.now e))) entries.now }
+        (λ e. not (is_lt (key_cmp O.keyer archive.now prefix key.now e))) entries.now }
     ensures bound { result ≤ length entries.now }
     ensures parted { IsPartitionPoint
-        (λ e. not (is_lt (key_cmp O.parts_of archive.now prefix key.now e)) ≡ true)
-        (λ e. not (is_lt (key_cmp O.parts_of archive.now prefix key.now e)) ≡ false)
+        (λ e. not (is_lt (key_cmp O.keyer archive.now prefix key.now e)) ≡ true)
+        (λ e. not (is_lt (key_cmp O.keyer archive.now prefix key.now e)) ≡ false)
         entries.now result }
 {
     entries.partition_point(
         |e: &Entry| -> bool
             ensures { result
-                ≡ not (is_lt (key_cmp O.parts_of archive.entry.now prefix key.entry.now e.now)) }
+                ≡ not (is_lt (key_cmp O.keyer archive.entry.now prefix key.entry.now e.now)) }
         { compare_key::<O>(archive, prefix, key, *e) != Ordering::Less },
     )
 }
@@ -126,23 +126,29 @@ impl<O: EntryOrder> Sorted<O> {
         self.entries.as_slice()
     }
 
+    /// For how many entries there is room.
+    pub fn room(&self) -> usize
+        ensures { result ≡ self.now.room }
+    {
+        self.entries.capacity()
+    }
+
     /// How many entries a version has in this order under a name.
     pub fn count(&self, archive: &Archive, shown: Shown) -> usize
-        ensures { result ≡ length (O.prefixes_of archive.now shown.name shown.version) }
+        ensures { result ≡ length (prefixes_of O.prefixer archive.now shown.version) }
     {
-        O::count(archive, shown.name, shown.version)
+        O::count(archive, shown.version)
     }
 
     /// Puts the entries of a version under a name, in the room that is there. It takes no memory.
     pub fn put_all(&mut self, archive: &Archive, shown: Shown)
         requires room { length self.old.entries
-            + length (O.prefixes_of archive.now shown.name shown.version) ≤ self.old.room }
-        requires few { length (O.prefixes_of archive.now shown.name shown.version) < 2 ^ 32 }
-        ensures entries { self.new.entries ≡ in_order (sort_key O.parts_of archive.now)
-            (self.old.entries ++ entries_of O.prefixes_of archive.now shown) }
+            + length (prefixes_of O.prefixer archive.now shown.version) ≤ self.old.room }
+        ensures entries { self.new.entries ≡ in_order (sort_key O.keyer archive.now)
+            (self.old.entries ++ entries_of O.prefixer archive.now shown) }
         ensures room { self.old.room ≤ self.new.room }
     {
-        O::append(archive, shown.name, shown.version, &mut self.entries);
+        O::append(archive, shown, &mut self.entries);
         sort::<O>(archive, self.entries.as_mut_slice());
     }
 
@@ -159,11 +165,24 @@ impl<O: EntryOrder> Sorted<O> {
         );
     }
 
+    /// Takes away the entries of all versions under a name. It takes no memory, and the room stays.
+    pub(crate) fn take_name(&mut self, name: u32)
+        ensures entries { self.new.entries
+            ≡ filter (λ (e : Entry). not (nat_eq e.name name)) self.old.entries }
+        ensures room { self.new.room ≡ self.old.room }
+    {
+        self.entries.retain(
+            |entry: &Entry| -> bool
+                ensures { result ≡ not (nat_eq entry.now.name name) }
+            { entry.name != name },
+        );
+    }
+
     /// The entries that have the key, in order.
     pub fn range(&self, archive: &Archive, key: &[u8]) -> &[Entry]
-        requires { self.now.entries ≡ in_order (sort_key O.parts_of archive.now) self.now.entries }
+        requires { self.now.entries ≡ in_order (sort_key O.keyer archive.now) self.now.entries }
         ensures { result.now ≡ filter
-            (has_key O.parts_of archive.now (O.prefix_of key.now) key.now) self.now.entries }
+            (has_key O.keyer archive.now (O.prefix_of key.now) key.now) self.now.entries }
     {
         let prefix = O::prefix(key);
         let from = &self.entries.as_slice()[below::<O>(

@@ -1,5 +1,8 @@
 //! Tests on short texts, with the facts worked out by hand.
 mod keys;
+mod model;
+mod shelf;
+mod shelves;
 mod sorts;
 
 use crate::archive::Archive;

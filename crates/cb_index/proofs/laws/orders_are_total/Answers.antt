@@ -3,4 +3,4 @@ use Rattle.cb_index.specs.Entries.{sort_key}
 use Rattle.cb_index.proofs.laws.orders_are_total.Goals as goal
 
 pub returns : goal.returns
-returns g c a = on_total (sort_key g.O.EntryOrder.parts_of a) nat_list_cmp_total
+returns g c a = on_total (sort_key g.O.EntryOrder.keyer a) nat_list_cmp_total

@@ -7,27 +7,27 @@ use Rattle.cb_index.proofs.order.compare_bytes.Goals as goal
 
 pub returns-in-Less : goal.returns-in-Less
 returns-in-Less g c =
-    let parts = g.O.EntryOrder.parts_of in
+    let keyer = g.O.EntryOrder.keyer in
     let archive = c.args.archive.now in
     let e = c.args.a in
     let f = c.args.b in
     (λ i. ordering_then ((sym c.in-Less.is ∙ c.compare_keys.ensures) i)
-    (slice_cmp nat_cmp (file_key parts archive e) (file_key parts archive f))) ∙ bytes_cmp parts archive e f
+    (slice_cmp nat_cmp (file_key archive e) (file_key archive f))) ∙ bytes_cmp keyer archive e f
 
 pub returns-in-Greater : goal.returns-in-Greater
 returns-in-Greater g c =
-    let parts = g.O.EntryOrder.parts_of in
+    let keyer = g.O.EntryOrder.keyer in
     let archive = c.args.archive.now in
     let e = c.args.a in
     let f = c.args.b in
     (λ i. ordering_then ((sym c.in-Greater.is ∙ c.compare_keys.ensures) i)
-    (slice_cmp nat_cmp (file_key parts archive e) (file_key parts archive f))) ∙ bytes_cmp parts archive e f
+    (slice_cmp nat_cmp (file_key archive e) (file_key archive f))) ∙ bytes_cmp keyer archive e f
 
 pub returns-in-Equal : goal.returns-in-Equal
 returns-in-Equal g c =
-    let parts = g.O.EntryOrder.parts_of in
+    let keyer = g.O.EntryOrder.keyer in
     let archive = c.args.archive.now in
     let e = c.args.a in
     let f = c.args.b in
     (λ i. ordering_then ((sym c.in-Equal.is ∙ c.compare_keys.ensures) i)
-    (c.compare_files.ensures i)) ∙ bytes_cmp parts archive e f
+    (c.compare_files.ensures i)) ∙ bytes_cmp keyer archive e f

@@ -7,10 +7,10 @@ use Rattle.cb_index.proofs.sorted.below.Goals as goal
 
 pub returns-clause-parted : goal.returns-clause-parted
 returns-clause-parted g c =
-    let parts = g.O.EntryOrder.parts_of in
+    let keyer = g.O.EntryOrder.keyer in
     let archive = c.args.archive.now in
     let entries = c.args.entries.now in
-    IsPartitionPoint-from_clause (λ e. is_gt (key_cmp parts archive c.args.prefix c.args.key.now e)) entries _
+    IsPartitionPoint-from_clause (λ e. is_gt (key_cmp keyer archive c.args.prefix c.args.key.now e)) entries _
     c.partition_point.ensures.partitioned
-    (below_parted parts archive c.args.prefix c.args.key.now entries (sorted_from parts archive entries c.requires))
+    (below_parted keyer archive c.args.prefix c.args.key.now entries (sorted_from keyer archive entries c.requires))
     (λ a r f k. (search (rules, k), search (rules, k)))

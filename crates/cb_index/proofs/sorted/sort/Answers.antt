@@ -12,11 +12,11 @@ use Rattle.cb_index.proofs.sorted.sort.Goals as goal
 
 pub returns : goal.returns
 returns g c =
-    let parts = g.O.EntryOrder.parts_of in
-    let key = sort_key parts c.args.archive.now in
+    let keyer = g.O.EntryOrder.keyer in
+    let key = sort_key keyer c.args.archive.now in
     let before = c.args.entries.now in
     let after = c.sort_unstable_by.new.self in
     let moved = c.sort_unstable_by.ensures in
     let adjacent = moved.sorted (λ e f. is_lt (slice_cmp nat_cmp (key e) (key f)))
     (ranks_by nat_list_cmp_total key) (always_returns_same _ _ _ (λ a r q k. (search (rules, k), search (rules, k)))) in
-    sym (sorted_is key (sort_exact parts c.args.archive.now) before after moved.permutation (neighbours key after adjacent))
+    sym (sorted_is key (sort_exact keyer c.args.archive.now) before after moved.permutation (neighbours key after adjacent))

@@ -8,6 +8,6 @@ use Rattle.cb_index.proofs.sorted.upto.Goals as goal
 pub returns-clause-parted : goal.returns-clause-parted
 returns-clause-parted g c =
     IsPartitionPoint-from_clause
-    (λ e. not (is_lt (key_cmp g.O.EntryOrder.parts_of c.args.archive.now c.args.prefix c.args.key.now e)))
+    (λ e. not (is_lt (key_cmp g.O.EntryOrder.keyer c.args.archive.now c.args.prefix c.args.key.now e)))
     c.args.entries.now _ c.partition_point.ensures.partitioned c.requires
     (λ a r f k. (search (rules, k), search (rules, k)))
