@@ -317,7 +317,10 @@ fn refused_growth_of_rebuild(rt: HostRuntime) {
 
 #[test]
 fn no_refusal_of_rebuild(rt: HostRuntime) {
-    assert!(rt; !rebuild_meets_a_refusal(&rt, rt.alloc()), "memory was refused");
+    assert!(rt;
+        !rebuild_meets_a_refusal(&rt, rt.alloc()),
+        "memory was refused"
+    );
 }
 
 #[test]

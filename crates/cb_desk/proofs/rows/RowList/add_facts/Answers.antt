@@ -59,7 +59,7 @@ loop-index-preserved c =
       | else-is_asked w ↦ rw (w.self-is, w.group-is) (record {
         so_far = λ before same. c.loop-index.invariant.so_far before same ∙ ap (λ rows. distinct (before ++ rows)) (sym (found-passed c.args.field c.args.pattern.now f xs c.loop-index.index x next (sym asked ∙ w.if-is_asked.false)));
         shown = c.loop-index.invariant.shown;
-          group = c.loop-index.invariant.group;
+        group = c.loop-index.invariant.group;
       })
     ]
 
