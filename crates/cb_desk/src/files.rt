@@ -35,6 +35,13 @@ impl<'a> Files<'a> {
     {
         Files { rest: files }
     }
+
+    /// The same files once more.
+    pub(crate) fn again(&self) -> Files<'a>
+        ensures { result ≡ self.now }
+    {
+        Files { rest: self.rest }
+    }
 }
 
 impl<'a> Iterator for Files<'a> {

@@ -1,8 +1,9 @@
 //! The rows of the lines that hold a text, one after another.
-ghost use Rattle.std.specs.Prelude.{◌≡◌, ◌≢◌, [], ◌∷◌, ◌++◌, MatchOption, ⊤};
+ghost use Rattle.std.specs.Prelude.{◌≡◌, ◌≢◌, ◌≤◌, ◌*◌, [], ◌∷◌, ◌++◌, length, MatchOption, ⊤};
 ghost use Rattle.std.specs.Iterator.{YieldsFirstBy, item_count};
 ghost use Rattle.std.specs.List.{flat_map};
 ghost use Rattle.cb_desk.specs.Answer.{text_rows_in};
+ghost use Rattle.cb_desk.specs.declared.limits.TheConstants.{MOST_BYTES, MOST_FILES};
 ghost use Rattle.cb_desk.specs.Models.{row_of, file_of};
 ghost use Rattle.cb_desk.specs.steps.TextRows.{rows_in, rows_left, IsSmall};
 
@@ -69,6 +70,21 @@ fn first_row<'a>(files: &mut Files<'a>, finder: &Finder<'_>) -> Option<(RefRow<'
     None
 }
 
+/// The first of some files that has a row. The files up to it are passed.
+fn first_text<'a>(files: &mut Files<'a>, finder: &Finder<'_>) -> Option<Searched<'a>>
+    requires { finder.now ≢ [] }
+    ensures rows { MatchOption result ((rows_in finder.now files.old ≡ []) × (rows_in finder.now files.new ≡ [])) (λ s. rows_in finder.now files.old ≡ rows_left finder.now s ++ rows_in finder.now files.new) }
+    ensures small { MatchOption result ⊤ IsSmall }
+{
+    while let Some((name, source)) = files.next() {
+        let text = Searched::new(name, source, finder);
+        if text.next_row(finder).is_some() {
+            return Some(text);
+        }
+    }
+    None
+}
+
 /// The rows of the lines that hold a text, by file and line. They take no memory.
 #[derive(Drop)]
 pub struct TextRows<'a, 'p> {
@@ -78,27 +94,46 @@ pub struct TextRows<'a, 'p> {
 }
 
 impl<'a, 'p> Model for TextRows<'a, 'p> {
-    ghost use Rattle.std.specs.Prelude.{List, ◌++◌, ◌≢◌, []};
+    ghost use Rattle.std.specs.Prelude.{List, ◌++◌, ◌≢◌, ◌≤◌, ◌*◌, [], length};
     ghost use Rattle.cb_desk.specs.Answer.{AnswerRow};
+    ghost use Rattle.cb_desk.specs.declared.limits.TheConstants.{MOST_BYTES, MOST_FILES};
     ghost use Rattle.cb_desk.specs.steps.TextRows.{rows_in, rows_of, IsSmallIfAny};
 
     ghost Value = { List AnswerRow };
 
     ghost view = { λ r. rows_of r.finder r.searched ++ rows_in r.finder r.files };
 
-    ghost invariant = { λ r. (r.finder ≢ []) × IsSmallIfAny r.searched };
+    ghost invariant = { λ r. (r.finder ≢ []) × IsSmallIfAny r.searched
+        × (length (rows_of r.finder r.searched ++ rows_in r.finder r.files) ≤ MOST_FILES * MOST_BYTES) };
 }
 
 impl<'a, 'p> TextRows<'a, 'p> {
+    /// The files without a row before the first one are searched here, and not once more.
     pub(crate) fn new(files: Files<'a>, pattern: &'p [u8]) -> TextRows<'a, 'p>
-        requires { pattern.now ≢ [] }
+        requires some { pattern.now ≢ [] }
+        requires few { length (flat_map (text_rows_in pattern.now) files) ≤ MOST_FILES * MOST_BYTES }
         ensures { result ≡ flat_map (text_rows_in pattern.now) files.entry }
     {
+        let finder = Finder::new(pattern);
+        let mut files = files;
+        let searched = first_text(&mut files, &finder);
         TextRows {
-            searched: None,
+            searched,
             files,
-            finder: Finder::new(pattern),
+            finder,
         }
+    }
+
+    /// How many rows are left. It walks over all of them, and takes no memory.
+    pub fn count_left(&self) -> usize
+        ensures { result ≡ length self.now }
+    {
+        let rows = TextRows {
+            searched: self.searched,
+            files: self.files.again(),
+            finder: Finder::new(self.finder.needle()),
+        };
+        rows.count()
     }
 }
 

@@ -106,9 +106,9 @@ pub(crate) fn put_text_rows<W: Write>(
     requires { text.now ≢ [] }
     ensures { Puts out.old out.new result (answer_lines (answer desk.now.present Field.Text text.now)) }
 {
-    let count = desk.text_rows(text).count();
-    put_count(out, count as u128)?;
     let mut rows = desk.text_rows(text);
+    let count = rows.count_left();
+    put_count(out, count as u128)?;
     // The texts after the last row are not searched once more.
     'rows: for _row in 0..count {
         match rows.next() {

@@ -75,7 +75,10 @@ fn rows_of_a_text_go_by_file_and_line(rt: HostRuntime) -> Result<(), AllocError>
         (b"b.c", 3, b"ab ab"),
     ];
     let mut found = desk.text_rows(b"ab");
+    let mut left: usize = 3;
     for (file, line, text) in rows {
+        assert_eq!(rt; found.count_left(), left);
+        left -= 1;
         let Some(row) = found.next() else {
             assert!(rt; false);
             return Ok(());
@@ -83,7 +86,9 @@ fn rows_of_a_text_go_by_file_and_line(rt: HostRuntime) -> Result<(), AllocError>
         assert!(rt; row.file == file && row.line == line && row.text == text);
         assert!(rt; row.function == b"<unknown>".as_slice());
     }
+    assert_eq!(rt; found.count_left(), 0);
     assert!(rt; found.next().is_none());
     assert_eq!(rt; desk.text_rows(b"ab").count(), 3);
+    assert_eq!(rt; desk.text_rows(b"abc").count_left(), 0);
     Ok(())
 }

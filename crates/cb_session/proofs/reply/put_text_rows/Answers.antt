@@ -1,8 +1,7 @@
-use Rattle.std.proofs.Common.{◌≡◌, ◌≤◌, ◌+◌, ◌++◌, ap, refl, List, [], ◌∷◌, length, subst, arith}
-use Rattle.std.proofs.lemmas.Iterator.Consumers.{count_from_yields_List, YieldsList-from_first}
+use Rattle.std.proofs.Common.{◌≡◌, ◌∙◌, ◌≤◌, ◌++◌, ap, refl, List, [], ◌∷◌, length, subst, arith}
 use Rattle.std.specs.List.{flat_map}
 use Rattle.cb_desk.specs.declared.rows.Field.TheVariants.{Text}
-use Rattle.cb_desk.specs.Answer.{AnswerRow, answer}
+use Rattle.cb_desk.specs.Answer.{answer}
 use Rattle.cb_desk.specs.Models.{row_of}
 use Rattle.cb_session.specs.Output.{count_line, row_line}
 use Rattle.cb_session.specs.Writing.{Puts}
@@ -18,7 +17,7 @@ pub returns-in_err-put_count : goal.returns-in_err-put_count
 returns-in_err-put_count g c =
     let k = c.in_err-put_count.ensures in
     let rows = answer c.args.desk.now.present Text c.args.text.now in
-    let counted : c.count-count.result ≡ length rows = count_from_yields_List c.text_rows.result c.count-count.result c.count-count.ensures.ran (YieldsList-from_first row_of (λ (l : List AnswerRow). l) rows c.text_rows.ensures.value) in
+    let counted : c.count_left-count.result ≡ length rows = c.count_left-count.ensures ∙ ap length c.text_rows-rows.ensures.value in
     subst (λ n. Puts c.args.out.now c.put_count.new.out c.from_residual.result (count_line n ++ flat_map row_line rows)) counted
     (Puts-unfinished _ _ _ _ _ _ c.from_residual.ensures.1 k.1 k.0)
 
@@ -41,14 +40,14 @@ rows-preserved g c =
           let none = ap length w.in-None.ensures.steps.0 in
           let left = c.rows.invariant.left in
           let before = c.rows-test.true in
-          let counted : c.count-count.result ≡ length (answer c.args.desk.now.present Text c.args.text.now) = count_from_yields_List c.text_rows.result c.count-count.result c.count-count.ensures.ran (YieldsList-from_first row_of (λ (l : List AnswerRow). l) (answer c.args.desk.now.present Text c.args.text.now) c.text_rows.ensures.value) in
+          let counted : c.count_left-count.result ≡ length (answer c.args.desk.now.present Text c.args.text.now) = c.count_left-count.ensures ∙ ap length c.text_rows-rows.ensures.value in
           absurd (omega (arith, none, left, before, counted))
     ]
 
 pub returns : goal.returns
 returns g c =
     let rows = answer c.args.desk.now.present Text c.args.text.now in
-    let counted : c.count-count.result ≡ length rows = count_from_yields_List c.text_rows.result c.count-count.result c.count-count.ensures.ran (YieldsList-from_first row_of (λ (l : List AnswerRow). l) rows c.text_rows.ensures.value) in
+    let counted : c.count_left-count.result ≡ length rows = c.count_left-count.ensures ∙ ap length c.text_rows-rows.ensures.value in
     let left = c.rows.invariant.left in
     let after = c.rows-test.false in
     (WrittenAfter-all _ row_line _ _ _ _ c.rows.invariant.wrote (nothing-left _ (omega (arith, left, after, counted))), tt)

@@ -7,6 +7,12 @@ use Rattle.cb_desk.proofs.TextRowsApart.{text_rows-distinct}
 use Rattle.cb_desk.proofs.TextRowsFew.{rows-few}
 use Rattle.cb_desk.proofs.state.Desk.text_rows.Goals as goal
 
+pub new-requires : goal.new-requires
+new-requires c = record {
+  some = c.requires;
+  few = rw c.files.ensures (rows-few c.args.pattern.now c.self.inside.present.files c.self.invariant.1.now.files);
+}
+
 pub returns-clause-value : goal.returns-clause-value
 returns-clause-value c =
     let pattern = c.args.pattern.now in
