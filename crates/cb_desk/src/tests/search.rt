@@ -69,16 +69,14 @@ fn rows_of_a_text_go_by_file_and_line(rt: HostRuntime) -> Result<(), AllocError>
             Err(_) => assert!(rt; false),
         }
     }
-    let rows: [(&[u8], u32, &[u8]); 3] = [
-        (b"a.c", 2, b"ab"),
-        (b"b.c", 1, b"int ab;"),
-        (b"b.c", 3, b"ab ab"),
+    let rows: [(usize, &[u8], u32, &[u8]); 3] = [
+        (3, b"a.c", 2, b"ab"),
+        (2, b"b.c", 1, b"int ab;"),
+        (1, b"b.c", 3, b"ab ab"),
     ];
     let mut found = desk.text_rows(b"ab");
-    let mut left: usize = 3;
-    for (file, line, text) in rows {
+    for (left, file, line, text) in rows {
         assert_eq!(rt; found.count_left(), left);
-        left -= 1;
         let Some(row) = found.next() else {
             assert!(rt; false);
             return Ok(());
