@@ -1,0 +1,9 @@
+pub mod EntryLemmas
+pub mod FactLemmas
+pub mod FewerLemmas
+pub mod InOrderLemmas
+pub mod IndexLemmas
+pub mod KeptLemmas
+pub mod MergeLemmas
+pub mod RangeLemmas
+pub mod RowLemmas
