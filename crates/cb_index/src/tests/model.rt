@@ -1,7 +1,10 @@
 //! Random showing and hiding, against a walk over all facts of all files that are shown.
 use super::shelves::{empty_shelf, keep_name, keep_version, show};
 use crate::bytes::bytes_at;
+use crate::facts::FactRows;
 use crate::shelf::Shelf;
+use crate::tags::TagRows;
+use cb_scan::{Def, Source, Span};
 use cb_tags::compare_tag_names;
 use std::alloc::Global;
 use std::cmp::Ordering;
@@ -42,64 +45,77 @@ fn filled_shelf(alloc: Global) -> Result<Shelf, Fail> {
     Ok(shelf)
 }
 
+/// Whether the next row is on this line of this file.
+fn is_next_fact(rows: &mut FactRows<'_>, file: &[u8], line: u32) -> bool {
+    match rows.next() {
+        Some(row) => row.file == file && row.line == line,
+        None => false,
+    }
+}
+
+/// Whether the next row is this definition in this file.
+fn is_next_tag(rows: &mut TagRows<'_>, file: &[u8], def: &Def) -> bool {
+    match rows.next() {
+        Some(row) => row.file == file && row.line == def.line && row.kind == def.kind,
+        None => false,
+    }
+}
+
+/// Whether a span of a text has these bytes.
+fn is_key(source: &Source, span: Span, key: &[u8]) -> bool {
+    bytes_at(source.bytes(), Some(span)) == key
+}
+
 /// The uses of a name are those that a walk finds.
-fn uses_agree(rt: &impl Abort, shelf: &Shelf, key: &[u8]) -> Result<(), Fail> {
+fn uses_agree(rt: &impl Abort, shelf: &Shelf, key: &[u8]) {
     let mut rows = shelf.uses(key);
     for (file, source, facts) in shelf.entries() {
         for found in facts.uses() {
-            if bytes_at(source.bytes(), Some(found.name)) == key {
-                match rows.next() {
-                    Some(row) => assert!(rt; row.file == file && row.line == found.line),
-                    None => return Err(Fail::from("too few uses")),
-                }
+            if is_key(source, found.name, key) {
+                assert!(rt; is_next_fact(&mut rows, file, found.line));
             }
         }
     }
     assert!(rt; rows.next().is_none());
-    Ok(())
 }
 
 /// The definitions of a name are those that a walk finds.
-fn defs_agree(rt: &impl Abort, shelf: &Shelf, key: &[u8]) -> Result<(), Fail> {
+fn defs_agree(rt: &impl Abort, shelf: &Shelf, key: &[u8]) {
     let mut rows = shelf.defs(key);
     for (file, source, facts) in shelf.entries() {
         for found in facts.defs() {
-            if bytes_at(source.bytes(), Some(found.name)) == key {
-                match rows.next() {
-                    Some(row) => assert!(rt;
-                        row.file == file && row.line == found.line && row.kind == found.kind
-                    ),
-                    None => return Err(Fail::from("too few definitions")),
-                }
+            if is_key(source, found.name, key) {
+                assert!(rt; is_next_tag(&mut rows, file, found));
             }
         }
     }
     assert!(rt; rows.next().is_none());
-    Ok(())
 }
 
-/// The calls of a name, and those in what has that name, are those that a walk finds.
-fn calls_agree(rt: &impl Abort, shelf: &Shelf, key: &[u8]) -> Result<(), Fail> {
-    let mut to = shelf.calling(key);
-    let mut by = shelf.called_by(key);
+/// The calls of a name are those that a walk finds.
+fn calls_agree(rt: &impl Abort, shelf: &Shelf, key: &[u8]) {
+    let mut rows = shelf.calling(key);
     for (file, source, facts) in shelf.entries() {
         for found in facts.calls() {
-            if bytes_at(source.bytes(), Some(found.callee)) == key {
-                match to.next() {
-                    Some(row) => assert!(rt; row.file == file && row.line == found.line),
-                    None => return Err(Fail::from("too few calls")),
-                }
-            }
-            if bytes_at(source.bytes(), Some(found.caller)) == key {
-                match by.next() {
-                    Some(row) => assert!(rt; row.file == file && row.line == found.line),
-                    None => return Err(Fail::from("too few callers")),
-                }
+            if is_key(source, found.callee, key) {
+                assert!(rt; is_next_fact(&mut rows, file, found.line));
             }
         }
     }
-    assert!(rt; to.next().is_none() && by.next().is_none());
-    Ok(())
+    assert!(rt; rows.next().is_none());
+}
+
+/// The calls that stand in what has a name are those that a walk finds.
+fn callers_agree(rt: &impl Abort, shelf: &Shelf, key: &[u8]) {
+    let mut rows = shelf.called_by(key);
+    for (file, source, facts) in shelf.entries() {
+        for found in facts.calls() {
+            if is_key(source, found.caller, key) {
+                assert!(rt; is_next_fact(&mut rows, file, found.line));
+            }
+        }
+    }
+    assert!(rt; rows.next().is_none());
 }
 
 /// No tag goes before the one ahead of it.
@@ -130,9 +146,10 @@ fn a_shelf_agrees_with_a_walk(rt: HostRuntime) -> Result<(), Fail> {
             show(&mut shelf, name, version)?;
         }
         for key in &KEYS {
-            uses_agree(&rt, &shelf, key)?;
-            defs_agree(&rt, &shelf, key)?;
-            calls_agree(&rt, &shelf, key)?;
+            uses_agree(&rt, &shelf, key);
+            defs_agree(&rt, &shelf, key);
+            calls_agree(&rt, &shelf, key);
+            callers_agree(&rt, &shelf, key);
         }
         tags_ascend(&rt, &shelf);
     }
