@@ -209,6 +209,24 @@ module _ {X : Type 0} (key : X → List ℕ) where
   first_parted one xs s i j d upward below is =
       first_trans (key (get_or xs i d)) (key (get_or xs j d)) (key one) (earlier_first xs s i j d upward below) is
 
+-- ---- neighbours
+module _ {X : Type 0} (key : X → List ℕ) where
+  -- a list in which each element goes before the next
+  adjacent_sorted : (xs : List X)
+      → ((k : ℕ) (d : X) → k + 1 < length xs → true ≡ goes_first key (get_or xs k d) (get_or xs (k + 1) d)) → Sorted key xs
+  adjacent_sorted [] h = tt
+  adjacent_sorted (x ∷ []) h = (tt, tt)
+  adjacent_sorted (x ∷ y ∷ ys) h =
+      let later : Sorted key (y ∷ ys) = adjacent_sorted (y ∷ ys) (λ k d within. let step : suc k + 1 ≡ suc (k + 1) = omega arith in
+      subst (λ m. true ≡ goes_first key (get_or (y ∷ ys) k d) (get_or (x ∷ y ∷ ys) m d)) step (h (suc k) d (omega (arith, within)))) in
+      let first : goes_first key x y ≡ true = sym (h 0 x (omega arith)) in
+      ((first, all_first key x y ys first later.0), later)
+
+  pub adjacent_order : (exact : (x y : X) → key x ≡ key y → x ≡ y) (xs : List X)
+      → ((k : ℕ) (d : X) → k + 1 < length xs → true ≡ goes_first key (get_or xs k d) (get_or xs (k + 1) d))
+      → xs ≡ in_order key xs
+  adjacent_order exact xs h = sym (sorted_same key exact xs (adjacent_sorted xs h))
+
 -- ---- one step of a move
 module _ {X : Type 0} where
   set_at : (l : List X) (i : ℕ) (x : X) → i < length l → drop i (set l i x) ≡ x ∷ drop (suc i) l

@@ -3,7 +3,7 @@ ghost use Rattle.std.specs.Prelude.{◌≡◌, ◌+◌, ◌≤◌, ◌++◌, [],
 ghost use Rattle.std.specs.Cmp.Lexicographic.{slice_cmp};
 ghost use Rattle.std.specs.Ordering.{is_gt, is_lt, nat_cmp};
 ghost use Rattle.std.specs.List.Sorted.{IsPartitionPoint, IsPartitionedBy};
-ghost use Rattle.cb_scan.specs.Order.{in_order};
+ghost use Rattle.cb_scan.specs.Order.{goes_first, in_order};
 ghost use Rattle.cb_index.specs.Entries.{has_key, is_of, key_cmp, sort_key};
 ghost use Rattle.cb_index.specs.Held.{entries_of, prefixes_of};
 ghost use Rattle.cb_index.specs.declared.entry.Entry.{Entry};
@@ -48,6 +48,18 @@ fn sort<O: EntryOrder>(archive: &Archive, entries: &mut [Entry])
                 (sort_key O.keyer archive.entry.now b.now) }
         { compare::<O>(archive, *a, *b) },
     );
+}
+
+/// Whether entries are in order.
+fn ascend<O: EntryOrder>(archive: &Archive, entries: &[Entry]) -> bool
+    ensures { result ≡ true
+        → entries.now ≡ in_order (sort_key O.keyer archive.now) entries.now }
+{
+    entries.is_sorted_by(
+        |a: &Entry, b: &Entry| -> bool
+            ensures { result ≡ goes_first (sort_key O.keyer archive.entry.now) a.now b.now }
+        { compare::<O>(archive, *a, *b) != Ordering::Greater },
+    )
 }
 
 /// The entries of a version under a name, in order, in the room that is there.
@@ -154,6 +166,15 @@ impl<O: EntryOrder> Sorted<O> {
         ensures { result ≡ self.now.room }
     {
         self.entries.capacity().min(self.news.capacity())
+    }
+
+    /// Whether the entries are in order in an archive. They are in the one from which all were put,
+    /// whatever was pushed there since.
+    pub fn is_in_order(&self, archive: &Archive) -> bool
+        ensures { result ≡ true
+            → self.now.entries ≡ in_order (sort_key O.keyer archive.now) self.now.entries }
+    {
+        ascend::<O>(archive, self.entries.as_slice())
     }
 
     /// How many entries a version has in this order under a name.

@@ -76,6 +76,21 @@ fn put<O: EntryOrder>(archive: &Archive, one: Shown, index: &mut Sorted<O>) -> R
         Ok(()) => {}
         Err(_) => return Err(Fail::from("no memory")),
     }
+    if !index.is_in_order(archive) {
+        return Err(Fail::from("out of order"));
+    }
     index.put_all(archive, one);
     Ok(())
+}
+
+/// The entries of a key.
+fn range_of<'a, O: EntryOrder>(
+    archive: &Archive,
+    index: &'a Sorted<O>,
+    key: &[u8],
+) -> Result<&'a [Entry], Fail> {
+    if !index.is_in_order(archive) {
+        return Err(Fail::from("out of order"));
+    }
+    Ok(index.range(archive, key))
 }
