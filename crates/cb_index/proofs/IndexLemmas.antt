@@ -1,5 +1,5 @@
 -- What an index holds while versions come and go.
-use Rattle.std.proofs.Common.{◌≡◌, ◌∙◌, ◌≤◌, ◌<◌, ◌+◌, ℕ, suc, Bool, true, false, List, [], ◌∷◌, ◌++◌, refl, sym, ap, subst, length, map, filter, arith}
+use Rattle.std.proofs.Common.{◌≡◌, ◌∙◌, ◌≤◌, ◌<◌, ◌+◌, ℕ, suc, Bool, true, false, List, [], ◌∷◌, ◌++◌, refl, sym, ap, subst, length, map, drop, drop-cons, filter, get_or, arith}
 use Rattle.std.proofs.lemmas.Bool.Decides.{nat_tests}
 use Rattle.std.proofs.lemmas.Cmp.{nat_cmp_total, nat_list_cmp_total, tied_itself}
 use Rattle.std.proofs.lemmas.List.Elements.{filter-append}
@@ -149,6 +149,22 @@ module _ (prefixer : Prefixer) (count : Option (List ℕ) → ℕ) (fewer : (t :
       let held : length es ≡ length (all_entries prefixer a shown) =
       ap length is ∙ length_in_order (sort_key keyer a) (all_entries prefixer a shown) in
       omega (arith, held, enough, length_all shown, fewer (slice_get a.texts s.version))
+
+-- ---- the entries of one version after another
+module _ (prefixer : Prefixer) (a : Archived) (shown : List Shown) (i : ℕ) (d : Shown) (es old : List Entry) (room : ℕ) where
+  pub next_fits : i < length shown → es ++ all_entries prefixer a (drop i shown) ≡ old ++ all_entries prefixer a shown
+      → length old + length (all_entries prefixer a shown) ≤ room
+      → length es + length (prefixes_of prefixer a (get_or shown i d).version) ≤ room
+  next_fits below is enough =
+      let s : Shown = get_or shown i d in
+      let later : List Entry = all_entries prefixer a (drop (suc i) shown) in
+      let whole : length (es ++ (entries_of prefixer a s ++ later)) ≡ length (old ++ all_entries prefixer a shown) =
+      ap (λ l. length (es ++ all_entries prefixer a l)) (sym (drop-cons shown i d below)) ∙ ap length is in
+      let front = length-append es (entries_of prefixer a s ++ later) in
+      let back = length-append (entries_of prefixer a s) later in
+      let all = length-append old (all_entries prefixer a shown) in
+      let one = length_from 0 s.name s.version (prefixes_of prefixer a s.version) in
+      omega (arith, whole, front, back, all, one, enough)
 
 -- ---- entries go by file and number
 -- e does not come after f in the order of files

@@ -5,5 +5,6 @@ pub mod InOrderLemmas
 pub mod IndexLemmas
 pub mod KeptLemmas
 pub mod MergeLemmas
+pub mod NameLemmas
 pub mod RangeLemmas
 pub mod RowLemmas

@@ -15,6 +15,7 @@ mod facts;
 pub mod laws;
 mod memory;
 mod merge;
+mod names;
 mod order;
 mod orders;
 mod room;
