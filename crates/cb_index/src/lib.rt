@@ -13,6 +13,7 @@ mod entries;
 mod entry;
 mod facts;
 pub mod laws;
+mod listed;
 mod memory;
 mod merge;
 mod names;
