@@ -1,12 +1,13 @@
 -- Numbers of names that rise.
-use Rattle.std.proofs.Common.{◌≡◌, ◌≤◌, ◌<◌, ℕ, Bool, true, false, List, sym, length, get_or, arith, ⊎_elim}
+use Rattle.std.proofs.Common.{◌≡◌, ◌≤◌, ◌<◌, ◌+◌, ℕ, Bool, true, false, List, sym, length, get_or, arith, ⊎_elim}
 use Rattle.std.proofs.lemmas.Bool.{cases_Bool, cases_lt}
-use Rattle.std.proofs.lemmas.Bool.Decides.{Decides-eqb}
+use Rattle.std.proofs.lemmas.Bool.Decides.{Decides-eqb, nat_tests}
 use Rattle.std.proofs.lemmas.List.Elements.{All-from_get_or}
 use Rattle.std.proofs.lemmas.List.Folds.{list_any_at, list_any_none}
 use Rattle.std.proofs.lemmas.List.Sorted.{searched}
 use Rattle.std.proofs.lemmas.Map.Keys.{non_decreasing_from_sorted, sorted_from_strictly_increasing}
-use Rattle.std.specs.Prelude.{nat_eq, Result, Ok, Err, MatchResult, is_ok}
+use Rattle.std.specs.Prelude.{nat_eq, nat_lt, Result, Ok, Err, MatchResult, is_ok}
+use Rattle.std.specs.List.{AllAdjacentBelow}
 use Rattle.std.specs.List.Sorted.{IsBinarySearchResult, IsStrictlyIncreasing}
 use Rattle.std.specs.Ordering.{nat_cmp}
 use Rattle.cb_index.specs.Names.{is_among}
@@ -35,3 +36,11 @@ module _ (numbers : List ℕ) (n : ℕ) where
   among_is r search rising =
       let level = non_decreasing_from_sorted numbers (sorted_from_strictly_increasing numbers rising) in
       by_result r (searched numbers n r search (λ i j le below. level i j 0 le below))
+
+-- neighbours that rise
+pub rising_if : (numbers : List ℕ) → AllAdjacentBelow (λ m n. true ≡ nat_lt m n) numbers (length numbers)
+    → IsStrictlyIncreasing numbers
+rising_if numbers up k below = less (get_or numbers k 0) (get_or numbers (k + 1) 0) (sym (up k 0 below))
+  where
+    less : (m n : ℕ) → nat_lt m n ≡ true → m < n
+    less m n is = grind (arith, nat_tests)

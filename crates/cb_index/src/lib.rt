@@ -30,6 +30,7 @@ pub use entries::Entries;
 pub use entry::{Entry, Shown};
 pub use facts::FactRows;
 pub use memory::OutOfMemory;
+pub use names::are_rising;
 pub use order::EntryOrder;
 pub use orders::{CallsByCallee, CallsByCaller, DefsByName, DefsByTagName, UsesByName};
 pub use room::Room;

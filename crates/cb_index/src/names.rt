@@ -1,7 +1,18 @@
 //! Numbers of names.
-ghost use Rattle.std.specs.Prelude.{◌≡◌};
+ghost use Rattle.std.specs.Prelude.{◌≡◌, true, nat_lt};
 ghost use Rattle.std.specs.List.Sorted.{IsStrictlyIncreasing};
 ghost use Rattle.cb_index.specs.Names.{is_among};
+
+/// Whether each number is below the next, as `Shelf::hide_all` asks.
+pub fn are_rising(numbers: &[u32]) -> bool
+    ensures { result ≡ true → IsStrictlyIncreasing numbers.now }
+{
+    numbers.is_sorted_by(
+        |a: &u32, b: &u32| -> bool
+            ensures { result ≡ nat_lt a.now b.now }
+        { *a < *b },
+    )
+}
 
 /// Numbers of names, each below the next.
 #[derive(Clone, Copy)]
