@@ -76,6 +76,6 @@ fn put<O: EntryOrder>(archive: &Archive, one: Shown, index: &mut Sorted<O>) -> R
         Ok(()) => {}
         Err(_) => return Err(Fail::from("no memory")),
     }
-    index.put_all(archive, one);
+    index.put_each(archive, &[one]);
     Ok(())
 }

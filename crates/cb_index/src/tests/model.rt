@@ -1,6 +1,7 @@
 //! Random showing and hiding, against a walk over all facts of all files that are shown.
-use super::shelves::{empty_shelf, keep_name, keep_version, show};
+use super::shelves::{empty_shelf, hide_all, keep_name, keep_version, show, show_all};
 use crate::bytes::bytes_at;
+use crate::entry::Shown;
 use crate::shelf::Shelf;
 use cb_tags::compare_tag_names;
 use std::alloc::Global;
@@ -114,14 +115,29 @@ fn tags_ascend(rt: &impl Abort, shelf: &Shelf) {
     }
 }
 
+/// All rows are those that a walk finds.
+fn all_agree(rt: &impl Abort, shelf: &Shelf) -> Result<(), Fail> {
+    for key in &KEYS {
+        uses_agree(rt, shelf, key)?;
+        defs_agree(rt, shelf, key)?;
+        calls_agree(rt, shelf, key)?;
+    }
+    tags_ascend(rt, shelf);
+    Ok(())
+}
+
+/// The next number of a sequence that looks random.
+fn next(seed: u64) -> u64 {
+    seed.wrapping_mul(6_364_136_223_846_793_005)
+        .wrapping_add(1_442_695_040_888_963_407)
+}
+
 #[test]
 fn a_shelf_agrees_with_a_walk(rt: HostRuntime) -> Result<(), Fail> {
     let mut shelf = filled_shelf(rt.alloc())?;
     let mut seed: u64 = 1;
     for _ in 0..60 {
-        seed = seed
-            .wrapping_mul(6_364_136_223_846_793_005)
-            .wrapping_add(1_442_695_040_888_963_407);
+        seed = next(seed);
         let name = ((seed >> 33) % 6) as u32;
         let version = ((seed >> 43) % 5) as u32;
         if shelf.shown().iter().any(|s| s.name == name) {
@@ -129,13 +145,60 @@ fn a_shelf_agrees_with_a_walk(rt: HostRuntime) -> Result<(), Fail> {
         } else {
             show(&mut shelf, name, version)?;
         }
-        for key in &KEYS {
-            uses_agree(&rt, &shelf, key)?;
-            defs_agree(&rt, &shelf, key)?;
-            calls_agree(&rt, &shelf, key)?;
-        }
-        tags_ascend(&rt, &shelf);
+        all_agree(&rt, &shelf)?;
     }
     assert_eq!(rt; shelf.turns(), 60);
+    Ok(())
+}
+
+/// Both show the same files and the same definitions.
+fn shows_the_same(rt: &impl Abort, one: &Shelf, other: &Shelf) -> Result<(), Fail> {
+    assert!(rt; one.shown() == other.shown());
+    assert_eq!(rt; one.turns(), other.turns());
+    let mut rows = other.all_defs();
+    for row in one.all_defs() {
+        match rows.next() {
+            Some(same) => assert!(rt;
+                row.name == same.name && row.file == same.file && row.line == same.line
+            ),
+            None => return Err(Fail::from("too few definitions")),
+        }
+    }
+    assert!(rt; rows.next().is_none());
+    Ok(())
+}
+
+/// The numbers of `NAMES` in the order of the file names.
+const BY_NAME: [u32; 6] = [1, 3, 0, 4, 2, 5];
+
+#[test]
+fn many_at_once_are_as_one_by_one(rt: HostRuntime) -> Result<(), Fail> {
+    let mut single = filled_shelf(rt.alloc())?;
+    let mut many = filled_shelf(rt.alloc())?;
+    let mut seed: u64 = 7;
+    for _ in 0..40 {
+        seed = next(seed);
+        let chosen = seed >> 33;
+        let mut news: Vec<Shown> = Vec::new(rt.alloc());
+        let mut gone: Vec<u32> = Vec::new(rt.alloc());
+        for name in BY_NAME {
+            let version = ((seed >> 43) % 5) as u32;
+            if (chosen >> name) % 2 == 0 {
+                continue;
+            }
+            if single.shown().iter().any(|s| s.name == name) {
+                single.hide(name);
+                gone.push(name)?;
+            } else {
+                show(&mut single, name, version)?;
+                news.push(Shown { name, version })?;
+            }
+        }
+        gone.sort_unstable();
+        hide_all(&mut many, gone.as_slice())?;
+        show_all(&mut many, news.as_slice())?;
+        shows_the_same(&rt, &single, &many)?;
+        all_agree(&rt, &many)?;
+    }
     Ok(())
 }
