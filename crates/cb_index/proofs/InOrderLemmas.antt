@@ -192,7 +192,7 @@ module _ {X : Type 0} (key : X → List ℕ) (x : X) where
 
 -- ---- sums and lengths
 module _ {X Y : Type 0} (g : X → List Y) where
-  sum_flat : (f : Y → ℕ) (xs : List X) → sum_by f (flat_map g xs) ≡ sum_by (λ x. sum_by f (g x)) xs
+  pub sum_flat : (f : Y → ℕ) (xs : List X) → sum_by f (flat_map g xs) ≡ sum_by (λ x. sum_by f (g x)) xs
   sum_flat f [] = refl
   sum_flat f (x ∷ xs) =
       sum_by-append f (g x) (flat_map g xs) ∙ ap (λ n. sum_by f (g x) + n) (sum_flat f xs)

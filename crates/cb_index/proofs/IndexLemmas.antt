@@ -1,5 +1,5 @@
 -- What an index holds while versions come and go.
-use Rattle.std.proofs.Common.{◌≡◌, ◌∙◌, ◌≤◌, ◌<◌, ◌+◌, ℕ, suc, Bool, true, false, List, [], ◌∷◌, ◌++◌, refl, sym, ap, subst, length, map, filter, arith}
+use Rattle.std.proofs.Common.{◌≡◌, ◌∙◌, ◌≤◌, ◌<◌, ◌+◌, ℕ, suc, Bool, true, false, List, [], ◌∷◌, ◌++◌, refl, sym, ap, subst, length, map, drop, drop-cons, filter, get_or, arith}
 use Rattle.std.proofs.lemmas.Bool.Decides.{nat_tests}
 use Rattle.std.proofs.lemmas.Cmp.{nat_cmp_total, nat_list_cmp_total, tied_itself}
 use Rattle.std.proofs.lemmas.List.Elements.{filter-append}
@@ -24,7 +24,7 @@ use Rattle.cb_index.specs.Shelved.{IsIndexOf}
 use Rattle.cb_index.specs.declared.entry.Entry.{Entry}
 use Rattle.cb_index.specs.declared.entry.Shown.{Shown}
 use Rattle.cb_index.proofs.EntryLemmas.{file_cmp, sort_exact}
-use Rattle.cb_index.proofs.InOrderLemmas.{filter_in_order, in_order_cong, length_in_order, same_order, sum_flat_put}
+use Rattle.cb_index.proofs.InOrderLemmas.{filter_in_order, in_order_cong, length_in_order, same_order, sum_flat, sum_flat_put}
 
 -- ---- the entries of one version
 abbrev pub IsNumbered : ℕ → ℕ → ℕ → Entry → Type 0
@@ -57,42 +57,61 @@ module _ (keyer : Keyer) (prefixer : Prefixer) (a : Archived) (s : Shown) (shown
       sum_flat_put (entries_of prefixer a) (shown_name a) f s shown in
       omega (arith, both, held, more))
 
--- ---- and lets it go
-module _ (prefixer : Prefixer) (a : Archived) (name : ℕ) where
+-- ---- an index takes many versions in
+module _ (keyer : Keyer) (prefixer : Prefixer) (a : Archived) (shown news : List Shown) (es : List Entry) where
+  pub indexed_each : IsIndexOf keyer prefixer a shown es
+      → IsIndexOf keyer prefixer a (in_order (shown_name a) (shown ++ news))
+      (in_order (sort_key keyer a) (es ++ all_entries prefixer a news))
+  indexed_each is =
+      same_order (sort_key keyer a) (sort_exact keyer a) (es ++ all_entries prefixer a news)
+      (all_entries prefixer a (in_order (shown_name a) (shown ++ news)))
+      (λ f.
+      let size : Shown → ℕ = λ s. sum_by f (entries_of prefixer a s) in
+      let both = sum_by-append f es (all_entries prefixer a news) in
+      let held : sum_by f es ≡ sum_by f (all_entries prefixer a shown) =
+      ap (sum_by f) is ∙ in_order_sum (sort_key keyer a) f (all_entries prefixer a shown) in
+      let old = sum_flat (entries_of prefixer a) f shown in
+      let more = sum_flat (entries_of prefixer a) f news in
+      let whole = sum_flat (entries_of prefixer a) f (in_order (shown_name a) (shown ++ news)) in
+      let moved = in_order_sum (shown_name a) size (shown ++ news) in
+      let parts = sum_by-append size shown news in
+      omega (arith, both, held, old, more, whole, moved, parts))
+
+-- ---- and lets some go, by the numbers of their names
+module _ (prefixer : Prefixer) (a : Archived) (stays : ℕ → Bool) where
   nothing : (b : Bool) → ◌≡◌ {A = List Entry} [] (cond b [] [])
   nothing true = refl
   nothing false = refl
 
   kept_from : (number other version : ℕ) (ps : List ℕ)
-      → filter (λ (e : Entry). not (nat_eq e.name name)) (entries_from number other version ps)
-      ≡ cond (not (nat_eq other name)) (entries_from number other version ps) []
-  kept_from number other version [] = nothing (not (nat_eq other name))
+      → filter (λ (e : Entry). stays e.name) (entries_from number other version ps)
+      ≡ cond (stays other) (entries_from number other version ps) []
+  kept_from number other version [] = nothing (stays other)
   kept_from number other version (p ∷ ps) =
-      step (not (nat_eq other name)) (record { prefix = p; name = other; version = version; number = number })
-      (filter (λ (e : Entry). not (nat_eq e.name name)) (entries_from (suc number) other version ps))
+      step (stays other) (record { prefix = p; name = other; version = version; number = number })
+      (filter (λ (e : Entry). stays e.name) (entries_from (suc number) other version ps))
       (entries_from (suc number) other version ps) (kept_from (suc number) other version ps)
     where
       step : (b : Bool) (e : Entry) (kept es : List Entry) → kept ≡ cond b es [] → cond b (e ∷ kept) kept ≡ cond b (e ∷ es) []
       step true e kept es is = ap (λ l. e ∷ l) is
       step false e kept es is = is
 
-  kept_all : (shown : List Shown) → filter (λ (e : Entry). not (nat_eq e.name name)) (all_entries prefixer a shown)
-      ≡ all_entries prefixer a (filter (λ (s : Shown). not (nat_eq s.name name)) shown)
+  kept_all : (shown : List Shown) → filter (λ (e : Entry). stays e.name) (all_entries prefixer a shown)
+      ≡ all_entries prefixer a (filter (λ (s : Shown). stays s.name) shown)
   kept_all [] = refl
   kept_all (s ∷ shown) =
-      filter-append (λ (e : Entry). not (nat_eq e.name name)) (entries_of prefixer a s) (all_entries prefixer a shown)
+      filter-append (λ (e : Entry). stays e.name) (entries_of prefixer a s) (all_entries prefixer a shown)
       ∙ (λ i. kept_from 0 s.name s.version (prefixes_of prefixer a s.version) i ++ kept_all shown i)
-      ∙ elim (not (nat_eq s.name name)) as (λ b.
-      cond b (entries_of prefixer a s) [] ++ all_entries prefixer a (filter (λ (t : Shown). not (nat_eq t.name name)) shown)
-      ≡ all_entries prefixer a (cond b (s ∷ filter (λ (t : Shown). not (nat_eq t.name name)) shown)
-      (filter (λ (t : Shown). not (nat_eq t.name name)) shown))) [ true ↦ refl | false ↦ refl ]
+      ∙ elim (stays s.name) as (λ b.
+      cond b (entries_of prefixer a s) [] ++ all_entries prefixer a (filter (λ (t : Shown). stays t.name) shown)
+      ≡ all_entries prefixer a (cond b (s ∷ filter (λ (t : Shown). stays t.name) shown)
+      (filter (λ (t : Shown). stays t.name) shown))) [ true ↦ refl | false ↦ refl ]
 
   pub indexed_take : (keyer : Keyer) (shown : List Shown) (es : List Entry) → IsIndexOf keyer prefixer a shown es
-      → IsIndexOf keyer prefixer a (filter (λ (s : Shown). not (nat_eq s.name name)) shown)
-      (filter (λ (e : Entry). not (nat_eq e.name name)) es)
+      → IsIndexOf keyer prefixer a (filter (λ (s : Shown). stays s.name) shown) (filter (λ (e : Entry). stays e.name) es)
   indexed_take keyer shown es is =
-      ap (filter (λ (e : Entry). not (nat_eq e.name name))) is
-      ∙ filter_in_order (sort_key keyer a) (sort_exact keyer a) (λ (e : Entry). not (nat_eq e.name name)) (all_entries prefixer a shown)
+      ap (filter (λ (e : Entry). stays e.name)) is
+      ∙ filter_in_order (sort_key keyer a) (sort_exact keyer a) (λ (e : Entry). stays e.name) (all_entries prefixer a shown)
       ∙ ap (in_order (sort_key keyer a)) (kept_all shown)
 
 -- ---- the archive changes elsewhere
@@ -149,6 +168,29 @@ module _ (prefixer : Prefixer) (count : Option (List ℕ) → ℕ) (fewer : (t :
       let held : length es ≡ length (all_entries prefixer a shown) =
       ap length is ∙ length_in_order (sort_key keyer a) (all_entries prefixer a shown) in
       omega (arith, held, enough, length_all shown, fewer (slice_get a.texts s.version))
+
+  pub each_fits : (keyer : Keyer) (shown news : List Shown) (es : List Entry) (room : ℕ) → IsIndexOf keyer prefixer a shown es
+      → total count a shown + total count a news ≤ room → length es + length (all_entries prefixer a news) ≤ room
+  each_fits keyer shown news es room is enough =
+      let held : length es ≡ length (all_entries prefixer a shown) =
+      ap length is ∙ length_in_order (sort_key keyer a) (all_entries prefixer a shown) in
+      omega (arith, held, enough, length_all shown, length_all news)
+
+-- ---- the entries of one version after another
+module _ (prefixer : Prefixer) (a : Archived) (shown : List Shown) (i : ℕ) (d : Shown) (es old : List Entry) (room : ℕ) where
+  pub next_fits : i < length shown → es ++ all_entries prefixer a (drop i shown) ≡ old ++ all_entries prefixer a shown
+      → length old + length (all_entries prefixer a shown) ≤ room
+      → length es + length (prefixes_of prefixer a (get_or shown i d).version) ≤ room
+  next_fits below is enough =
+      let s : Shown = get_or shown i d in
+      let later : List Entry = all_entries prefixer a (drop (suc i) shown) in
+      let whole : length (es ++ (entries_of prefixer a s ++ later)) ≡ length (old ++ all_entries prefixer a shown) =
+      ap (λ l. length (es ++ all_entries prefixer a l)) (sym (drop-cons shown i d below)) ∙ ap length is in
+      let front = length-append es (entries_of prefixer a s ++ later) in
+      let back = length-append (entries_of prefixer a s) later in
+      let all = length-append old (all_entries prefixer a shown) in
+      let one = length_from 0 s.name s.version (prefixes_of prefixer a s.version) in
+      omega (arith, whole, front, back, all, one, enough)
 
 -- ---- entries go by file and number
 -- e does not come after f in the order of files

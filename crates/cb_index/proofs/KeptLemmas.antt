@@ -179,7 +179,7 @@ module _ (a : Archived) (s : Shown) where
   abbrev IsOther : Shown → Type 0
   IsOther t = bytes_eq (name_of a s.name) (name_of a t.name) ≡ false
 
-  split_or : (p q : Bool) → (p || q) ≡ false → (p ≡ false) × (q ≡ false)
+  pub split_or : (p q : Bool) → (p || q) ≡ false → (p ≡ false) × (q ≡ false)
   split_or true q is = absurd (true≢false is)
   split_or false q is = (refl, is)
 
@@ -191,7 +191,7 @@ module _ (a : Archived) (s : Shown) where
       (list_any (λ (t : Shown). bytes_eq (name_of a s.name) (name_of a t.name)) shown) none in
       (parts.0, others shown parts.1)
 
-  strict : (x y : List ℕ) → not (is_gt (Names x y)) ≡ true → bytes_eq x y ≡ false → Names x y ≡ Less
+  pub strict : (x y : List ℕ) → not (is_gt (Names x y)) ≡ true → bytes_eq x y ≡ false → Names x y ≡ Less
   strict x y first other = by_order (Names x y) refl first
     where
       by_order : (o : Ordering) → Names x y ≡ o → not (is_gt o) ≡ true → Names x y ≡ Less
@@ -207,10 +207,10 @@ module _ (a : Archived) (s : Shown) where
       by_order Equal is le = absurd (true≢false le)
       by_order Greater is le = nat_list_cmp_total.antisymm y x ∙ ap ordering_reverse is
 
-  abbrev After : Shown → Shown → Type 0
+  abbrev pub After : Shown → Shown → Type 0
   After r t = Names (name_of a r.name) (name_of a t.name) ≡ Less
 
-  before_all : (t : Shown) (shown : List Shown) → After s t → AllByRecursion (After t) shown → AllByRecursion (After s) shown
+  pub before_all : (t : Shown) (shown : List Shown) → After s t → AllByRecursion (After t) shown → AllByRecursion (After s) shown
   before_all t [] less up = tt
   before_all t (r ∷ shown) less up =
       (nat_list_cmp_total.trans (name_of a s.name) (name_of a t.name) (name_of a r.name) less up.0, before_all t shown less up.1)
@@ -247,13 +247,13 @@ module _ (a : Archived) (s : Shown) where
     callers = indexed_put caller_key caller_prefixes a s shown e kept.callers;
   }
 
--- ---- what is shown under a name is hidden
-module _ (a : Archived) (name : ℕ) where
-  abbrev stays : Shown → Bool
-  stays s = not (nat_eq s.name name)
+-- ---- what is shown under some names is hidden
+module _ (a : Archived) (stays : ℕ → Bool) where
+  abbrev shown_stays : Shown → Bool
+  shown_stays s = stays s.name
 
   abbrev entry_stays : Entry → Bool
-  entry_stays e = not (nat_eq e.name name)
+  entry_stays e = stays e.name
 
   ascending_filter : (p : Shown → Bool) (shown : List Shown) → AreAscending a shown → AreAscending a (filter p shown)
   unfolding AreOrdered
@@ -265,14 +265,14 @@ module _ (a : Archived) (name : ℕ) where
       ]
 
   pub kept_hidden : (shown : List Shown) (d t u c e : List Entry) → AreKept a shown d t u c e
-      → AreKept a (filter stays shown) (filter entry_stays d) (filter entry_stays t) (filter entry_stays u)
+      → AreKept a (filter shown_stays shown) (filter entry_stays d) (filter entry_stays t) (filter entry_stays u)
       (filter entry_stays c) (filter entry_stays e)
   kept_hidden shown d t u c e kept = record {
-    there = all_filter stays (IsThere a) shown kept.there;
-    ascending = ascending_filter stays shown kept.ascending;
-    defs = indexed_take def_prefixes a name def_key shown d kept.defs;
-    tags = indexed_take def_prefixes a name tag_key shown t kept.tags;
-    uses = indexed_take use_prefixes a name use_key shown u kept.uses;
-    callees = indexed_take callee_prefixes a name callee_key shown c kept.callees;
-    callers = indexed_take caller_prefixes a name caller_key shown e kept.callers;
+    there = all_filter shown_stays (IsThere a) shown kept.there;
+    ascending = ascending_filter shown_stays shown kept.ascending;
+    defs = indexed_take def_prefixes a stays def_key shown d kept.defs;
+    tags = indexed_take def_prefixes a stays tag_key shown t kept.tags;
+    uses = indexed_take use_prefixes a stays use_key shown u kept.uses;
+    callees = indexed_take callee_prefixes a stays callee_key shown c kept.callees;
+    callers = indexed_take caller_prefixes a stays caller_key shown e kept.callers;
   }

@@ -4,6 +4,8 @@ pub mod FewerLemmas
 pub mod InOrderLemmas
 pub mod IndexLemmas
 pub mod KeptLemmas
+pub mod ListedLemmas
 pub mod MergeLemmas
+pub mod NameLemmas
 pub mod RangeLemmas
 pub mod RowLemmas

@@ -1,7 +1,9 @@
 -- The files that are shown.
-use Rattle.std.specs.Prelude.{ℕ, ◌≡◌, ◌<◌, ◌+◌, List, [], ◌∷◌, Option, Some, None, length, map, slice_get, slice_index_or}
+use Rattle.std.specs.Prelude.{ℕ, suc, Bool, false, ◌≡◌, ◌<◌, ◌+◌, List, [], ◌∷◌, ◌++◌, Option, Some, None, length, map, slice_get, slice_index_or}
 use Rattle.std.specs.Cmp.Lexicographic.{slice_cmp}
+use Rattle.std.specs.List.{list_any}
 use Rattle.std.specs.Ordering.{nat_cmp}
+use Rattle.std.specs.Str.{bytes_eq}
 use Rattle.std.specs.declared.cmp.Ordering.TheVariants.{Less}
 use Rattle.cb_scan.specs.Definitions.{facts_of}
 use Rattle.cb_scan.specs.Order.{AreOrdered}
@@ -31,9 +33,21 @@ IsThere a s = (s.name < length a.names) × (s.version < length a.texts)
 abbrev pub AreAscending : Archived → List Shown → Type 0
 AreAscending a shown = AreOrdered (λ (s t : Shown). slice_cmp nat_cmp (name_of a s.name) (name_of a t.name) ≡ Less) shown
 
+-- no two of these have one file name
+abbrev pub AreApart : Archived → List Shown → Type 0
+AreApart a shown = AreOrdered (λ (s t : Shown). bytes_eq (name_of a s.name) (name_of a t.name) ≡ false) shown
+
+-- whether a file of the name of this version is among those that are shown
+abbrev pub is_shown : Archived → List Shown → Shown → Bool
+is_shown a shown s = list_any (λ (t : Shown). bytes_eq (name_of a s.name) (name_of a t.name)) shown
+
 -- the name by which a version is shown
 abbrev pub shown_name : Archived → Shown → List ℕ
 shown_name a s = name_of a s.name
+
+-- the same with the numbers of the version behind. A 0 ends the name, and no byte is 0 in it
+abbrev pub shown_key : Archived → Shown → List ℕ
+shown_key a s = map suc (name_of a s.name) ++ 0 ∷ s.name ∷ s.version ∷ []
 
 -- ---- how many facts there are
 

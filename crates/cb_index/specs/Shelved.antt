@@ -7,7 +7,7 @@ use Rattle.cb_scan.specs.Order.{in_order}
 use Rattle.cb_scan.specs.TextFacts.{TextFacts}
 use Rattle.cb_index.specs.Archived.{Archived, name_of}
 use Rattle.cb_index.specs.Entries.{Keyer, sort_key}
-use Rattle.cb_index.specs.Files.{AreAscending, File, IsThere, call_count, def_count, files_of, total, use_count}
+use Rattle.cb_index.specs.Files.{AreApart, AreAscending, File, IsThere, call_count, def_count, files_of, is_shown, total, use_count}
 use Rattle.cb_index.specs.Held.{Prefixer, all_entries}
 use Rattle.cb_index.specs.Orders.{callee_key, callee_prefixes, caller_key, caller_prefixes, def_key, def_prefixes, tag_key, use_key, use_prefixes}
 use Rattle.cb_index.specs.declared.entry.Entry.{Entry}
@@ -47,6 +47,17 @@ pub record CanShow (s : Shelved) (name version : ℕ) : Type 0 where
   pub defs : total def_count s.archive s.shown + def_count (slice_get s.archive.texts version) ≤ s.def_room
   pub uses : total use_count s.archive s.shown + use_count (slice_get s.archive.texts version) ≤ s.use_room
   pub calls : total call_count s.archive s.shown + call_count (slice_get s.archive.texts version) ≤ s.call_room
+
+-- versions can be shown together: their numbers are there, no two of them have one file name, no
+-- file of such a name is shown, and there is room for all
+pub record CanShowAll (s : Shelved) (news : List Shown) : Type 0 where
+  pub there : AllByRecursion (IsThere s.archive) news
+  pub apart : AreApart s.archive news
+  pub other : list_any (is_shown s.archive s.shown) news ≡ false
+  pub entries : length s.shown + length news ≤ s.entry_room
+  pub defs : total def_count s.archive s.shown + total def_count s.archive news ≤ s.def_room
+  pub uses : total use_count s.archive s.shown + total use_count s.archive news ≤ s.use_room
+  pub calls : total call_count s.archive s.shown + total call_count s.archive news ≤ s.call_room
 
 -- the room is as large as before
 pub record KeepsRoom (old new : Shelved) : Type 0 where

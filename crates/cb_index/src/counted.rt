@@ -59,3 +59,20 @@ pub(crate) fn has_room(
         None => false,
     }
 }
+
+/// Whether there is room for the facts of versions beside those of all that is shown.
+pub(crate) fn has_room_for(
+    counted: Counted,
+    archive: &Archive,
+    shown: &[Shown],
+    news: &[Shown],
+    room: usize,
+) -> bool
+    ensures { result ≡ true → total (count_for counted) archive.now shown.now
+        + total (count_for counted) archive.now news.now ≤ room }
+{
+    match room_left(counted, archive, shown, room) {
+        Some(left) => room_left(counted, archive, news, left).is_some(),
+        None => false,
+    }
+}

@@ -1,7 +1,7 @@
 //! Versions that are shown under file names, and what is found in them.
 ghost use Rattle.std.specs.Prelude.{◌≡◌, ◌+◌, ◌-◌, ◌*◌, ◌^◌, ◌≤◌, ◌<◌, ◌++◌, ◌∷◌, [], true, false, min, not, nat_eq, length, map, filter, take, drop, vec_capacity, OnOk};
 ghost use Rattle.std.specs.List.{AllByRecursion, list_any};
-ghost use Rattle.std.specs.List.Sorted.{IsPartitionPoint};
+ghost use Rattle.std.specs.List.Sorted.{IsStrictlyIncreasing};
 ghost use Rattle.std.specs.Cmp.Lexicographic.{slice_cmp};
 ghost use Rattle.std.specs.Ordering.{is_gt, nat_cmp};
 ghost use Rattle.std.specs.Str.{bytes_eq};
@@ -10,17 +10,20 @@ ghost use Rattle.cb_scan.specs.FactKeys.{keys_of};
 ghost use Rattle.cb_scan.specs.Order.{goes_first, in_order, put};
 ghost use Rattle.cb_index.specs.Archived.{name_of};
 ghost use Rattle.cb_index.specs.Files.{AreAscending, shown_name};
+ghost use Rattle.cb_index.specs.Names.{is_among};
 ghost use Rattle.cb_index.specs.Rows.{calls_in, calls_of, tags_by_name, tags_by_tag_name, tags_named, uses_of};
-ghost use Rattle.cb_index.specs.Shelved.{CanShow, KeepsRoom, files, with_facts};
+ghost use Rattle.cb_index.specs.Shelved.{CanShow, CanShowAll, KeepsRoom, files, with_facts};
 ghost use Rattle.cb_index.specs.declared.entry.Shown.{Shown};
 ghost use Rattle.cb_index.specs.steps.Left.{entries_left, facts_left, tags_left};
 
 use crate::archive::Archive;
-use crate::counted::{Counted, has_room};
+use crate::counted::{Counted, has_room, has_room_for};
 use crate::entries::Entries;
 use crate::entry::Shown;
 use crate::facts::FactRows;
+use crate::listed::{are_there, ascend, has_any_name, has_name, put_all_shown, put_shown};
 use crate::memory::OutOfMemory;
+use crate::names::Names;
 use crate::orders::{CallsByCallee, CallsByCaller, DefsByName, DefsByTagName, UsesByName};
 use crate::room::Room;
 use crate::rows::FactSort;
@@ -63,56 +66,6 @@ impl Model for Shelf {
 
     ghost invariant = { λ s. AreKept s.archive s.shown.items s.defs.entries s.tags.entries
         s.uses.entries s.callees.entries s.callers.entries };
-}
-
-/// Where a version is put among those that are shown, by file name.
-fn place_for(archive: &Archive, name: u32, shown: &[Shown]) -> usize
-    requires { AreAscending archive.now shown.now }
-    ensures bound { result ≤ length shown.now }
-    ensures parted { IsPartitionPoint
-        (λ s. is_gt (slice_cmp nat_cmp (name_of archive.now name) (name_of archive.now s.name)) ≡ true)
-        (λ s. is_gt (slice_cmp nat_cmp (name_of archive.now name) (name_of archive.now s.name)) ≡ false)
-        shown.now result }
-{
-    shown.partition_point(
-        |s: &Shown| -> bool
-            ensures { result ≡ is_gt (slice_cmp nat_cmp (name_of archive.entry.now name)
-                (name_of archive.entry.now s.now.name)) }
-        { archive.name(name).cmp(archive.name(s.name)) == Ordering::Greater },
-    )
-}
-
-/// Inserts in the room that is there.
-fn insert_shown(shown: &mut Vec<Shown>, at: usize, one: Shown)
-    requires bound { at ≤ length shown.old.items }
-    requires room { length shown.old.items < vec_capacity shown.old }
-    ensures items { shown.new.items ≡ take at shown.old.items ++ one ∷ drop at shown.old.items }
-    ensures room { vec_capacity shown.old ≤ vec_capacity shown.new }
-{
-    if shown.insert(at, one).is_err() {
-        unreachable!()
-    }
-}
-
-/// Puts a version among those that are shown, by file name.
-fn put_shown(archive: &Archive, one: Shown, shown: &mut Vec<Shown>)
-    requires ascending { AreAscending archive.now shown.old.items }
-    requires room { length shown.old.items < vec_capacity shown.old }
-    ensures items { shown.new.items ≡ put (shown_name archive.now) one shown.old.items }
-    ensures room { vec_capacity shown.old ≤ vec_capacity shown.new }
-{
-    let at = place_for(archive, one.name, shown.as_slice());
-    insert_shown(shown, at, one);
-}
-
-/// Whether a file of this name is shown.
-fn has_name(archive: &Archive, name: u32, shown: &[Shown]) -> bool
-    ensures { result ≡ list_any (λ (t : Shown). bytes_eq (name_of archive.now name)
-        (name_of archive.now t.name)) shown.now }
-{
-    shown
-        .iter()
-        .any(|s| archive.name(name) == archive.name(s.name))
 }
 
 impl Shelf {
@@ -268,6 +221,28 @@ impl Shelf {
             && has_room(Counted::Calls, &self.archive, shown, version, call_room)
     }
 
+    /// Whether versions can be shown together: their numbers are there, no file of one of their
+    /// names is shown, and there is room for all. It asks for file names that ascend.
+    pub fn can_show_all(&self, news: &[Shown]) -> bool
+        ensures { result ≡ true → CanShowAll self.now news.now }
+    {
+        let shown = self.shown.as_slice();
+        if !are_there(&self.archive, news) || !ascend(&self.archive, news) {
+            return false;
+        }
+        if has_any_name(&self.archive, news, shown) {
+            return false;
+        }
+        if news.len() > self.shown.capacity() - shown.len() {
+            return false;
+        }
+        let def_room = self.defs.room().min(self.tags.room());
+        let call_room = self.callees.room().min(self.callers.room());
+        has_room_for(Counted::Defs, &self.archive, shown, news, def_room)
+            && has_room_for(Counted::Uses, &self.archive, shown, news, self.uses.room())
+            && has_room_for(Counted::Calls, &self.archive, shown, news, call_room)
+    }
+
     /// Shows a version under a name, in the room that is there. It takes no memory.
     pub fn show(&mut self, name: u32, version: u32)
         requires { CanShow self.old name version }
@@ -285,6 +260,25 @@ impl Shelf {
         self.callees.put_all(&self.archive, one);
         self.callers.put_all(&self.archive, one);
         self.turns = self.turns.saturating_add(1);
+    }
+
+    /// Shows versions together, each under its name, in the room that is there. Each index is put in
+    /// order once. It takes no memory.
+    pub fn show_all(&mut self, news: &[Shown])
+        requires { CanShowAll self.old news.now }
+        ensures shown { self.new.shown
+            ≡ in_order (shown_name self.old.archive) (self.old.shown ++ news.now) }
+        ensures archive { self.new.archive ≡ self.old.archive }
+        ensures turns { self.new.turns ≡ min (self.old.turns + length news.now) (2 ^ 64 - 1) }
+        ensures room { KeepsRoom self.old self.new }
+    {
+        put_all_shown(&self.archive, news, &mut self.shown);
+        self.defs.put_each(&self.archive, news);
+        self.tags.put_each(&self.archive, news);
+        self.uses.put_each(&self.archive, news);
+        self.callees.put_each(&self.archive, news);
+        self.callers.put_each(&self.archive, news);
+        self.turns = self.turns.saturating_add(news.len() as u64);
     }
 
     /// Hides what is shown under a name. It takes no memory.
@@ -305,6 +299,30 @@ impl Shelf {
         self.callees.take_name(name);
         self.callers.take_name(name);
         self.turns = self.turns.saturating_add(1);
+    }
+
+    /// Hides what is shown under many names, each number below the next, in one pass of each index.
+    /// It takes no memory.
+    pub fn hide_all(&mut self, names: &[u32])
+        requires { IsStrictlyIncreasing names.now }
+        ensures shown { self.new.shown
+            ≡ filter (λ (s : Shown). not (is_among names.now s.name)) self.old.shown }
+        ensures archive { self.new.archive ≡ self.old.archive }
+        ensures turns { self.new.turns ≡ min (self.old.turns + length names.now) (2 ^ 64 - 1) }
+        ensures room { KeepsRoom self.old self.new }
+    {
+        let hidden = Names { numbers: names };
+        self.shown.retain(
+            |s: &Shown| -> bool
+                ensures { result ≡ not (is_among hidden.entry.numbers.now s.now.name) }
+            { !hidden.has(s.name) },
+        );
+        self.defs.take_names(names);
+        self.tags.take_names(names);
+        self.uses.take_names(names);
+        self.callees.take_names(names);
+        self.callers.take_names(names);
+        self.turns = self.turns.saturating_add(names.len() as u64);
     }
 
     /// The files that are shown, by name, each with what is found in it.

@@ -2,16 +2,18 @@
 ghost use Rattle.std.specs.Prelude.{◌≡◌, ◌+◌, ◌≤◌, ◌++◌, [], true, false, length, filter, nat_eq, not, vec_capacity, OnOk};
 ghost use Rattle.std.specs.Cmp.Lexicographic.{slice_cmp};
 ghost use Rattle.std.specs.Ordering.{is_gt, is_lt, nat_cmp};
-ghost use Rattle.std.specs.List.Sorted.{IsPartitionPoint, IsPartitionedBy};
+ghost use Rattle.std.specs.List.Sorted.{IsPartitionPoint, IsPartitionedBy, IsStrictlyIncreasing};
 ghost use Rattle.cb_scan.specs.Order.{goes_first, in_order};
 ghost use Rattle.cb_index.specs.Entries.{has_key, is_of, key_cmp, sort_key};
-ghost use Rattle.cb_index.specs.Held.{entries_of, prefixes_of};
+ghost use Rattle.cb_index.specs.Held.{all_entries, entries_of, prefixes_of};
+ghost use Rattle.cb_index.specs.Names.{is_among};
 ghost use Rattle.cb_index.specs.declared.entry.Entry.{Entry};
 
 use crate::archive::Archive;
 use crate::entry::{Entry, Shown};
 use crate::memory::OutOfMemory;
 use crate::merge::put_between;
+use crate::names::Names;
 use crate::order::{EntryOrder, compare};
 use std::alloc::Global;
 use std::cmp::Ordering;
@@ -72,6 +74,19 @@ fn gather<O: EntryOrder>(archive: &Archive, shown: Shown, news: &mut Vec<Entry>)
     news.truncate(0);
     O::append(archive, shown, news);
     sort::<O>(archive, news.as_mut_slice());
+}
+
+/// Puts the entries of versions behind others, in the room that is there.
+fn append_each<O: EntryOrder>(archive: &Archive, shown: &[Shown], entries: &mut Vec<Entry>)
+    requires { length entries.old.items + length (all_entries O.prefixer archive.now shown.now)
+        ≤ vec_capacity entries.old }
+    ensures items { entries.new.items
+        ≡ entries.old.items ++ all_entries O.prefixer archive.now shown.now }
+    ensures room { vec_capacity entries.old ≤ vec_capacity entries.new }
+{
+    for one in shown {
+        O::append(archive, *one, entries);
+    }
 }
 
 /// A key with its prefix against an entry.
@@ -198,6 +213,19 @@ impl<O: EntryOrder> Sorted<O> {
         put_between::<O>(archive, self.news.as_slice(), &mut self.entries);
     }
 
+    /// Puts the entries of many versions among the others, in the room that is there. It takes no
+    /// memory, and sorts once.
+    pub fn put_each(&mut self, archive: &Archive, shown: &[Shown])
+        requires { length self.old.entries + length (all_entries O.prefixer archive.now shown.now)
+            ≤ self.old.room }
+        ensures entries { self.new.entries ≡ in_order (sort_key O.keyer archive.now)
+            (self.old.entries ++ all_entries O.prefixer archive.now shown.now) }
+        ensures room { self.old.room ≤ self.new.room }
+    {
+        append_each::<O>(archive, shown, &mut self.entries);
+        sort::<O>(archive, self.entries.as_mut_slice());
+    }
+
     /// Takes away the entries of a version under a name. It takes no memory, and the room stays.
     pub fn take_version(&mut self, shown: Shown)
         ensures entries { self.new.entries
@@ -221,6 +249,22 @@ impl<O: EntryOrder> Sorted<O> {
             |entry: &Entry| -> bool
                 ensures { result ≡ not (nat_eq entry.now.name name) }
             { entry.name != name },
+        );
+    }
+
+    /// Takes away the entries of all versions under many names, in one pass. It takes no memory, and
+    /// the room stays.
+    pub(crate) fn take_names(&mut self, names: &[u32])
+        requires { IsStrictlyIncreasing names.now }
+        ensures entries { self.new.entries
+            ≡ filter (λ (e : Entry). not (is_among names.now e.name)) self.old.entries }
+        ensures room { self.new.room ≡ self.old.room }
+    {
+        let names = Names { numbers: names };
+        self.entries.retain(
+            |entry: &Entry| -> bool
+                ensures { result ≡ not (is_among names.entry.numbers.now entry.now.name) }
+            { !names.has(entry.name) },
         );
     }
 

@@ -1,11 +1,12 @@
 //! Random showing and hiding, against a walk over all facts of all files that are shown.
-use super::shelves::{empty_shelf, keep_name, keep_version, show};
+use super::shelves::{empty_shelf, hide_all, keep_name, keep_version, show, show_all};
 use crate::bytes::bytes_at;
+use crate::entry::Shown;
 use crate::facts::FactRows;
 use crate::shelf::Shelf;
 use crate::tags::TagRows;
 use cb_scan::{Def, Source, Span};
-use cb_tags::compare_tag_names;
+use cb_tags::{TagRow, compare_tag_names};
 use std::alloc::Global;
 use std::cmp::Ordering;
 use std::process::Abort;
@@ -130,14 +131,29 @@ fn tags_ascend(rt: &impl Abort, shelf: &Shelf) {
     }
 }
 
+/// All rows are those that a walk finds.
+fn all_agree(rt: &impl Abort, shelf: &Shelf) {
+    for key in &KEYS {
+        uses_agree(rt, shelf, key);
+        defs_agree(rt, shelf, key);
+        calls_agree(rt, shelf, key);
+        callers_agree(rt, shelf, key);
+    }
+    tags_ascend(rt, shelf);
+}
+
+/// The next number of a sequence that looks random.
+fn next(seed: u64) -> u64 {
+    seed.wrapping_mul(6_364_136_223_846_793_005)
+        .wrapping_add(1_442_695_040_888_963_407)
+}
+
 #[test]
 fn a_shelf_agrees_with_a_walk(rt: HostRuntime) -> Result<(), Fail> {
     let mut shelf = filled_shelf(rt.alloc())?;
     let mut seed: u64 = 1;
     for _ in 0..60 {
-        seed = seed
-            .wrapping_mul(6_364_136_223_846_793_005)
-            .wrapping_add(1_442_695_040_888_963_407);
+        seed = next(seed);
         let name = ((seed >> 33) % 6) as u32;
         let version = ((seed >> 43) % 5) as u32;
         if shelf.shown().iter().any(|s| s.name == name) {
@@ -145,14 +161,74 @@ fn a_shelf_agrees_with_a_walk(rt: HostRuntime) -> Result<(), Fail> {
         } else {
             show(&mut shelf, name, version)?;
         }
-        for key in &KEYS {
-            uses_agree(&rt, &shelf, key);
-            defs_agree(&rt, &shelf, key);
-            calls_agree(&rt, &shelf, key);
-            callers_agree(&rt, &shelf, key);
-        }
-        tags_ascend(&rt, &shelf);
+        all_agree(&rt, &shelf);
     }
     assert_eq!(rt; shelf.turns(), 60);
+    Ok(())
+}
+
+/// Whether the next row is this one.
+fn is_next_row(rows: &mut TagRows<'_>, row: &TagRow<'_>) -> bool {
+    match rows.next() {
+        Some(next) => next.name == row.name && next.file == row.file && next.line == row.line,
+        None => false,
+    }
+}
+
+/// Both show the same files and the same definitions.
+fn shows_the_same(rt: &impl Abort, one: &Shelf, other: &Shelf) {
+    assert!(rt; one.shown() == other.shown());
+    assert_eq!(rt; one.turns(), other.turns());
+    let mut rows = other.all_defs();
+    for row in one.all_defs() {
+        assert!(rt; is_next_row(&mut rows, &row));
+    }
+    assert!(rt; rows.next().is_none());
+}
+
+/// The numbers of `NAMES` in the order of the file names.
+const BY_NAME: [u32; 6] = [1, 3, 0, 4, 2, 5];
+
+/// Hides some files that are shown, and shows some that are not, one by one on one shelf and
+/// together on the other. The bits of a number say which.
+fn exchange(
+    alloc: Global,
+    single: &mut Shelf,
+    many: &mut Shelf,
+    bits: u64,
+    version: u32,
+) -> Result<(), Fail> {
+    let mut news: Vec<Shown> = Vec::new(alloc);
+    let mut gone: Vec<u32> = Vec::new(alloc);
+    let mut left = bits;
+    for name in BY_NAME {
+        let chosen = left % 2 == 1;
+        left /= 2;
+        let is_shown = single.shown().iter().any(|s| s.name == name);
+        if chosen && is_shown {
+            single.hide(name);
+            gone.push(name)?;
+        } else if chosen {
+            show(single, name, version)?;
+            news.push(Shown { name, version })?;
+        }
+    }
+    gone.sort_unstable();
+    hide_all(many, gone.as_slice())?;
+    show_all(many, news.as_slice())
+}
+
+#[test]
+fn many_at_once_are_as_one_by_one(rt: HostRuntime) -> Result<(), Fail> {
+    let mut single = filled_shelf(rt.alloc())?;
+    let mut many = filled_shelf(rt.alloc())?;
+    let mut seed: u64 = 7;
+    for _ in 0..40 {
+        seed = next(seed);
+        let version = ((seed >> 43) % 5) as u32;
+        exchange(rt.alloc(), &mut single, &mut many, seed >> 33, version)?;
+        shows_the_same(&rt, &single, &many);
+        all_agree(&rt, &many);
+    }
     Ok(())
 }

@@ -1,5 +1,9 @@
 //! What a shelf shows, on files whose facts are worked out by hand.
-use super::shelves::{empty_shelf, has_facts, has_tags, keep_name, keep_version, show};
+use super::shelves::{
+    empty_shelf, has_facts, has_tags, hide_all, keep_name, keep_version, show, show_all,
+};
+use crate::entry::Shown;
+use crate::names::are_rising;
 use crate::shelf::Shelf;
 use std::alloc::Global;
 use std::process::Abort;
@@ -61,6 +65,98 @@ fn two_files_are_shown_in_either_order(rt: HostRuntime) -> Result<(), Fail> {
     show(&mut other, 1, 1)?;
     show(&mut other, 0, 0)?;
     shows_both(&rt, &other)
+}
+
+#[test]
+fn files_are_shown_and_hidden_together(rt: HostRuntime) -> Result<(), Fail> {
+    let mut shelf = two_files(rt.alloc())?;
+    let both = [
+        Shown {
+            name: 1,
+            version: 1,
+        },
+        Shown {
+            name: 0,
+            version: 0,
+        },
+    ];
+    show_all(&mut shelf, &both)?;
+    shows_both(&rt, &shelf)?;
+    assert_eq!(rt; shelf.turns(), 2);
+    hide_all(&mut shelf, &[0, 1])?;
+    has_tags(&rt, shelf.tags(), &[])?;
+    has_facts(&rt, shelf.uses(b"x"), &[], &[])?;
+    assert_eq!(rt; shelf.turns(), 4);
+    Ok(())
+}
+
+#[test]
+fn files_beside_others_are_shown_and_hidden_together(rt: HostRuntime) -> Result<(), Fail> {
+    let mut shelf = two_files(rt.alloc())?;
+    show(&mut shelf, 0, 0)?;
+    show_all(
+        &mut shelf,
+        &[Shown {
+            name: 1,
+            version: 1,
+        }],
+    )?;
+    shows_both(&rt, &shelf)?;
+    hide_all(&mut shelf, &[1])?;
+    assert!(rt;
+        shelf.shown()
+            == [Shown {
+                name: 0,
+                version: 0
+            }]
+            .as_slice()
+    );
+    let one: [&[u8]; 1] = [b"main"];
+    has_tags(&rt, shelf.defs(b"main"), &one)?;
+    has_tags(&rt, shelf.defs(b"Mb"), &[])?;
+    hide_all(&mut shelf, &[])?;
+    assert_eq!(rt; shelf.turns(), 3);
+    Ok(())
+}
+
+#[test]
+fn numbers_rise(rt: HostRuntime) -> Result<(), Fail> {
+    assert!(rt; are_rising(&[]) && are_rising(&[3]) && are_rising(&[0, 1, 7]));
+    assert!(rt; !are_rising(&[1, 0]) && !are_rising(&[2, 2]) && !are_rising(&[0, 5, 5]));
+    Ok(())
+}
+
+#[test]
+fn files_that_cannot_be_shown_together(rt: HostRuntime) -> Result<(), Fail> {
+    let mut shelf = two_files(rt.alloc())?;
+    let first = Shown {
+        name: 0,
+        version: 0,
+    };
+    let second = Shown {
+        name: 1,
+        version: 1,
+    };
+    assert!(rt; shelf.can_show_all(&[]));
+    assert!(rt; shelf.can_show_all(&[second, first]));
+    assert!(rt; !shelf.can_show_all(&[first, second]));
+    assert!(rt; !shelf.can_show_all(&[first, first]));
+    assert!(rt;
+        !shelf.can_show_all(&[Shown {
+            name: 2,
+            version: 0
+        }])
+    );
+    assert!(rt;
+        !shelf.can_show_all(&[Shown {
+            name: 0,
+            version: 2
+        }])
+    );
+    show(&mut shelf, 0, 1)?;
+    assert!(rt; shelf.can_show_all(&[second]));
+    assert!(rt; !shelf.can_show_all(&[second, first]));
+    Ok(())
 }
 
 #[test]

@@ -1,5 +1,7 @@
 //! Shelves for tests, and comparisons of what they show.
+use crate::entry::Shown;
 use crate::facts::FactRows;
+use crate::names::are_rising;
 use crate::room::Room;
 use crate::shelf::Shelf;
 use crate::tags::TagRows;
@@ -65,6 +67,24 @@ pub(super) fn show(shelf: &mut Shelf, name: u32, version: u32) -> Result<(), Fai
         return Err(Fail::from("cannot be shown"));
     }
     shelf.show(name, version);
+    Ok(())
+}
+
+/// Shows versions together where they can be shown. Their file names ascend.
+pub(super) fn show_all(shelf: &mut Shelf, news: &[Shown]) -> Result<(), Fail> {
+    if !shelf.can_show_all(news) {
+        return Err(Fail::from("cannot be shown together"));
+    }
+    shelf.show_all(news);
+    Ok(())
+}
+
+/// Hides what is shown under names whose numbers rise.
+pub(super) fn hide_all(shelf: &mut Shelf, names: &[u32]) -> Result<(), Fail> {
+    if !are_rising(names) {
+        return Err(Fail::from("numbers that do not rise"));
+    }
+    shelf.hide_all(names);
     Ok(())
 }
 

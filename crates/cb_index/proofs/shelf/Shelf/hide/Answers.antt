@@ -16,7 +16,7 @@ invariant_of-self c =
     (filter_same _ stays _ (λ e r f k. (search (rules, k), search (rules, k))) _ _ c.retain.ensures.filtered)
     c.take_name.ensures.entries c.take_name-2.ensures.entries c.take_name-3.ensures.entries
     c.take_name-4.ensures.entries c.take_name-5.ensures.entries
-    (kept_hidden a c.args.name c.self.inside.shown.items c.self.inside.defs.entries c.self.inside.tags.entries
+    (kept_hidden a (λ n. not (nat_eq n c.args.name)) c.self.inside.shown.items c.self.inside.defs.entries c.self.inside.tags.entries
     c.self.inside.uses.entries c.self.inside.callees.entries c.self.inside.callers.entries c.self.invariant)
 
 pub returns-clause-shown : goal.returns-clause-shown

@@ -6,7 +6,7 @@ use Rattle.cb_index.specs.Archived.{name_of}
 use Rattle.cb_index.specs.Files.{shown_name}
 use Rattle.cb_index.specs.declared.entry.Shown.{Shown}
 use Rattle.cb_index.proofs.InOrderLemmas.{put_at}
-use Rattle.cb_index.proofs.shelf.put_shown.Goals as goal
+use Rattle.cb_index.proofs.listed.put_shown.Goals as goal
 
 -- what is inserted there is put
 pub returns-clause-items : goal.returns-clause-items
