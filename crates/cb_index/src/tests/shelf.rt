@@ -12,6 +12,11 @@ use std::test::Fail;
 /// A function whose name is the tag name of `main` in `b.c`.
 const OTHER: &[u8] = b"int Mb(void) {\n}\n";
 
+/// The version `version` under the name `name`.
+fn one(name: u32, version: u32) -> Shown {
+    Shown { name, version }
+}
+
 /// `z/b.c` and `m.c`, kept under the numbers 0 and 1 and not shown yet.
 fn two_files(alloc: Global) -> Result<Shelf, Fail> {
     let mut shelf = empty_shelf(alloc)?;
@@ -70,18 +75,7 @@ fn two_files_are_shown_in_either_order(rt: HostRuntime) -> Result<(), Fail> {
 #[test]
 fn files_are_shown_and_hidden_together(rt: HostRuntime) -> Result<(), Fail> {
     let mut shelf = two_files(rt.alloc())?;
-    let both = [
-        Shown {
-            name: 1,
-            version: 1,
-        },
-        Shown {
-            name: 0,
-            version: 0,
-        },
-    ];
-    show_all(&mut shelf, &both)?;
-    shows_both(&rt, &shelf)?;
+    show_all(&mut shelf, &[one(1, 1), one(0, 0)])?;
     assert_eq!(rt; shelf.turns(), 2);
     hide_all(&mut shelf, &[0, 1])?;
     has_tags(&rt, shelf.tags(), &[])?;
@@ -91,29 +85,20 @@ fn files_are_shown_and_hidden_together(rt: HostRuntime) -> Result<(), Fail> {
 }
 
 #[test]
-fn files_beside_others_are_shown_and_hidden_together(rt: HostRuntime) -> Result<(), Fail> {
+fn files_beside_others_are_shown_together(rt: HostRuntime) -> Result<(), Fail> {
     let mut shelf = two_files(rt.alloc())?;
     show(&mut shelf, 0, 0)?;
-    show_all(
-        &mut shelf,
-        &[Shown {
-            name: 1,
-            version: 1,
-        }],
-    )?;
-    shows_both(&rt, &shelf)?;
+    show_all(&mut shelf, &[one(1, 1)])?;
+    shows_both(&rt, &shelf)
+}
+
+#[test]
+fn files_beside_others_are_hidden_together(rt: HostRuntime) -> Result<(), Fail> {
+    let mut shelf = two_files(rt.alloc())?;
+    show_all(&mut shelf, &[one(1, 1), one(0, 0)])?;
     hide_all(&mut shelf, &[1])?;
-    assert!(rt;
-        shelf.shown()
-            == [Shown {
-                name: 0,
-                version: 0
-            }]
-            .as_slice()
-    );
-    let one: [&[u8]; 1] = [b"main"];
-    has_tags(&rt, shelf.defs(b"main"), &one)?;
-    has_tags(&rt, shelf.defs(b"Mb"), &[])?;
+    assert!(rt; shelf.shown() == [one(0, 0)].as_slice());
+    has_tags(&rt, shelf.defs(b"main"), &[b"main".as_slice()])?;
     hide_all(&mut shelf, &[])?;
     assert_eq!(rt; shelf.turns(), 3);
     Ok(())
@@ -127,35 +112,29 @@ fn numbers_rise(rt: HostRuntime) -> Result<(), Fail> {
 }
 
 #[test]
-fn files_that_cannot_be_shown_together(rt: HostRuntime) -> Result<(), Fail> {
-    let mut shelf = two_files(rt.alloc())?;
-    let first = Shown {
-        name: 0,
-        version: 0,
-    };
-    let second = Shown {
-        name: 1,
-        version: 1,
-    };
+fn names_of_many_files_ascend(rt: HostRuntime) -> Result<(), Fail> {
+    let shelf = two_files(rt.alloc())?;
     assert!(rt; shelf.can_show_all(&[]));
-    assert!(rt; shelf.can_show_all(&[second, first]));
-    assert!(rt; !shelf.can_show_all(&[first, second]));
-    assert!(rt; !shelf.can_show_all(&[first, first]));
-    assert!(rt;
-        !shelf.can_show_all(&[Shown {
-            name: 2,
-            version: 0
-        }])
-    );
-    assert!(rt;
-        !shelf.can_show_all(&[Shown {
-            name: 0,
-            version: 2
-        }])
-    );
+    assert!(rt; shelf.can_show_all(&[one(1, 1), one(0, 0)]));
+    assert!(rt; !shelf.can_show_all(&[one(0, 0), one(1, 1)]));
+    assert!(rt; !shelf.can_show_all(&[one(0, 0), one(0, 0)]));
+    Ok(())
+}
+
+#[test]
+fn numbers_of_many_files_are_there(rt: HostRuntime) -> Result<(), Fail> {
+    let shelf = two_files(rt.alloc())?;
+    assert!(rt; !shelf.can_show_all(&[one(2, 0)]));
+    assert!(rt; !shelf.can_show_all(&[one(0, 2)]));
+    Ok(())
+}
+
+#[test]
+fn many_files_beside_one_of_their_names(rt: HostRuntime) -> Result<(), Fail> {
+    let mut shelf = two_files(rt.alloc())?;
     show(&mut shelf, 0, 1)?;
-    assert!(rt; shelf.can_show_all(&[second]));
-    assert!(rt; !shelf.can_show_all(&[second, first]));
+    assert!(rt; shelf.can_show_all(&[one(1, 1)]));
+    assert!(rt; !shelf.can_show_all(&[one(1, 1), one(0, 0)]));
     Ok(())
 }
 
