@@ -14,6 +14,10 @@ pub mod HeadLemmas
 pub mod InOrder
 pub mod IncludeLines
 pub mod Lengths
+pub mod KeyLaws
+pub mod KeyOrder
+pub mod KeyPlaces
+pub mod KeyPostings
 pub mod LineLemmas
 pub mod LineTable
 pub mod LinedPieces

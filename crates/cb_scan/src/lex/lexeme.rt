@@ -55,15 +55,18 @@ fn ends_join(text: &[u8]) -> bool
     matches!(text, [b'\n', ..] | [b'\r', b'\n', ..])
 }
 
-/// A letter or `_`. Small letters are asked for first, since most are.
+/// A letter or `_`. Small letters are asked for first, since most are, and then whether the byte is
+/// below all letters.
 #[inline]
 pub(crate) fn is_letter(byte: u8) -> bool
     ensures { result ≡ is_letter byte }
 {
     if byte >= b'a' {
         byte <= b'z'
+    } else if byte < b'A' {
+        false
     } else {
-        matches!(byte, b'A'..=b'Z' | b'_')
+        byte <= b'Z' || byte == b'_'
     }
 }
 
@@ -150,8 +153,21 @@ fn number_len(text: &[u8]) -> usize
     text.len()
 }
 
+/// How many bytes of blanks and of joined lines a text begins with. Most are a lone space.
 #[tactic(auto, unfolding(crate::specs::steps::Cut::blank_len))]
 fn blank_len(text: &[u8]) -> usize
+    ensures value { result ≡ blank_len false text.now }
+    ensures within { result ≤ length text.now }
+{
+    match text {
+        [b' ', next, ..] if *next > b' ' && *next != b'\\' => 1,
+        _ => blanks_len(text),
+    }
+}
+
+/// The same, one byte after the other.
+#[tactic(auto, unfolding(crate::specs::steps::Cut::blank_len))]
+fn blanks_len(text: &[u8]) -> usize
     ensures value { result ≡ blank_len false text.now }
     ensures within { result ≤ length text.now }
 {

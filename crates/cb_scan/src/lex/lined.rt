@@ -50,16 +50,17 @@ fn feeds_among(bytes: &[u8]) -> u32
 }
 
 /// How many line feeds the bytes of a piece hold: pieces that can hold none are not looked at
-/// again, and those that are often long many bytes at a time.
+/// again, a lone byte at once, and those that are often long many bytes at a time.
 #[inline]
 fn feeds_in(class: Class, bytes: &[u8]) -> u32
     requires none { holds_feeds class ≡ false → count_by is_feed bytes.now ≡ 0 }
     requires small { length bytes.now ≤ MOST_BYTES }
     ensures { result ≡ count_by is_feed bytes.now }
 {
-    match class {
-        Class::Name | Class::Number | Class::Byte => 0,
-        Class::LineNote | Class::BlockNote => feeds_among(bytes),
+    match (class, bytes) {
+        (Class::Name | Class::Number | Class::Byte, _) => 0,
+        (Class::LineNote | Class::BlockNote, _) => feeds_among(bytes),
+        (_, [byte]) => u32::from(*byte == b'\n'),
         _ => bytes.iter().filter(|byte| **byte == b'\n').count() as u32,
     }
 }

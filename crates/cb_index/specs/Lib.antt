@@ -1,0 +1,10 @@
+pub mod Archived
+pub mod Bytes
+pub mod Entries
+pub mod Files
+pub mod Held
+pub mod Names
+pub mod Orders
+pub mod Rows
+pub mod Shelved
+pub mod steps
