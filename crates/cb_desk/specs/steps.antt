@@ -1,9 +1,12 @@
 pub mod Collects
+pub mod Edits
 pub mod Found
 pub mod Held
 pub mod MarkedLines
+pub mod Records
 pub mod Scans
 pub mod Search
 pub mod Shared
 pub mod TextRows
+pub mod Texts
 pub mod Worlds

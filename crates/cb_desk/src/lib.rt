@@ -8,6 +8,7 @@
 
 mod change;
 mod collected;
+mod edits;
 mod files;
 mod found;
 pub mod laws;
@@ -15,12 +16,16 @@ mod limits;
 mod line;
 mod marks;
 mod place;
+mod place_list;
+mod present;
+mod record;
 mod refusal;
 mod replaced_files;
 mod replacement;
 mod rows;
 mod search;
 mod snapshot;
+mod spot;
 mod stack;
 mod state;
 mod tags;

@@ -10,7 +10,7 @@ ghost use Rattle.cb_scan.specs.FactKeys.{keys_of};
 ghost use Rattle.cb_scan.specs.Order.{goes_first, in_order, put};
 ghost use Rattle.cb_index.specs.Archived.{name_of};
 ghost use Rattle.cb_index.specs.Files.{AreAscending, shown_name};
-ghost use Rattle.cb_index.specs.Names.{is_among};
+ghost use Rattle.cb_index.specs.Names.{is_among, names_of};
 ghost use Rattle.cb_index.specs.Rows.{calls_in, calls_of, tags_by_name, tags_by_tag_name, tags_named, uses_of};
 ghost use Rattle.cb_index.specs.Shelved.{CanShow, CanShowAll, KeepsRoom, files, with_facts};
 ghost use Rattle.cb_index.specs.declared.entry.Shown.{Shown};
@@ -301,28 +301,28 @@ impl Shelf {
         self.turns = self.turns.saturating_add(1);
     }
 
-    /// Hides what is shown under many names, each number below the next, in one pass of each index.
-    /// It takes no memory.
-    pub fn hide_all(&mut self, names: &[u32])
-        requires { IsStrictlyIncreasing names.now }
+    /// Hides what is shown under the names of many files, the number of each name below that of the
+    /// next, in one pass of each index. It takes no memory.
+    pub fn hide_all(&mut self, files: &[Shown])
+        requires { IsStrictlyIncreasing (names_of files.now) }
         ensures shown { self.new.shown
-            ≡ filter (λ (s : Shown). not (is_among names.now s.name)) self.old.shown }
+            ≡ filter (λ (s : Shown). not (is_among (names_of files.now) s.name)) self.old.shown }
         ensures archive { self.new.archive ≡ self.old.archive }
-        ensures turns { self.new.turns ≡ min (self.old.turns + length names.now) (2 ^ 64 - 1) }
+        ensures turns { self.new.turns ≡ min (self.old.turns + length files.now) (2 ^ 64 - 1) }
         ensures room { KeepsRoom self.old self.new }
     {
-        let hidden = Names { numbers: names };
+        let hidden = Names { files };
         self.shown.retain(
             |s: &Shown| -> bool
-                ensures { result ≡ not (is_among hidden.entry.numbers.now s.now.name) }
+                ensures { result ≡ not (is_among (names_of hidden.entry.files.now) s.now.name) }
             { !hidden.has(s.name) },
         );
-        self.defs.take_names(names);
-        self.tags.take_names(names);
-        self.uses.take_names(names);
-        self.callees.take_names(names);
-        self.callers.take_names(names);
-        self.turns = self.turns.saturating_add(names.len() as u64);
+        self.defs.take_names(files);
+        self.tags.take_names(files);
+        self.uses.take_names(files);
+        self.callees.take_names(files);
+        self.callers.take_names(files);
+        self.turns = self.turns.saturating_add(files.len() as u64);
     }
 
     /// The files that are shown, by name, each with what is found in it.

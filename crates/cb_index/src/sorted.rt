@@ -6,7 +6,7 @@ ghost use Rattle.std.specs.List.Sorted.{IsPartitionPoint, IsPartitionedBy, IsStr
 ghost use Rattle.cb_scan.specs.Order.{goes_first, in_order};
 ghost use Rattle.cb_index.specs.Entries.{has_key, is_of, key_cmp, sort_key};
 ghost use Rattle.cb_index.specs.Held.{all_entries, entries_of, prefixes_of};
-ghost use Rattle.cb_index.specs.Names.{is_among};
+ghost use Rattle.cb_index.specs.Names.{is_among, names_of};
 ghost use Rattle.cb_index.specs.declared.entry.Entry.{Entry};
 
 use crate::archive::Archive;
@@ -252,18 +252,18 @@ impl<O: EntryOrder> Sorted<O> {
         );
     }
 
-    /// Takes away the entries of all versions under many names, in one pass. It takes no memory, and
+    /// Takes away the entries under the names of many files, in one pass. It takes no memory, and
     /// the room stays.
-    pub(crate) fn take_names(&mut self, names: &[u32])
-        requires { IsStrictlyIncreasing names.now }
+    pub(crate) fn take_names(&mut self, files: &[Shown])
+        requires { IsStrictlyIncreasing (names_of files.now) }
         ensures entries { self.new.entries
-            ≡ filter (λ (e : Entry). not (is_among names.now e.name)) self.old.entries }
+            ≡ filter (λ (e : Entry). not (is_among (names_of files.now) e.name)) self.old.entries }
         ensures room { self.new.room ≡ self.old.room }
     {
-        let names = Names { numbers: names };
+        let names = Names { files };
         self.entries.retain(
             |entry: &Entry| -> bool
-                ensures { result ≡ not (is_among names.entry.numbers.now entry.now.name) }
+                ensures { result ≡ not (is_among (names_of names.entry.files.now) entry.now.name) }
             { !names.has(entry.name) },
         );
     }

@@ -199,7 +199,7 @@ fn exchange(
     version: u32,
 ) -> Result<(), Fail> {
     let mut news: Vec<Shown> = Vec::new(alloc);
-    let mut gone: Vec<u32> = Vec::new(alloc);
+    let mut gone: Vec<Shown> = Vec::new(alloc);
     let mut left = bits;
     for name in BY_NAME {
         let chosen = left % 2 == 1;
@@ -207,13 +207,13 @@ fn exchange(
         let is_shown = single.shown().iter().any(|s| s.name == name);
         if chosen && is_shown {
             single.hide(name);
-            gone.push(name)?;
+            gone.push(Shown { name, version })?;
         } else if chosen {
             show(single, name, version)?;
             news.push(Shown { name, version })?;
         }
     }
-    gone.sort_unstable();
+    gone.sort_unstable_by_key(|file: &Shown| file.name);
     hide_all(many, gone.as_slice())?;
     show_all(many, news.as_slice())
 }

@@ -77,7 +77,7 @@ fn files_are_shown_and_hidden_together(rt: HostRuntime) -> Result<(), Fail> {
     let mut shelf = two_files(rt.alloc())?;
     show_all(&mut shelf, &[one(1, 1), one(0, 0)])?;
     assert_eq!(rt; shelf.turns(), 2);
-    hide_all(&mut shelf, &[0, 1])?;
+    hide_all(&mut shelf, &[one(0, 0), one(1, 1)])?;
     has_tags(&rt, shelf.tags(), &[])?;
     has_facts(&rt, shelf.uses(b"x"), &[], &[])?;
     assert_eq!(rt; shelf.turns(), 4);
@@ -96,7 +96,7 @@ fn files_beside_others_are_shown_together(rt: HostRuntime) -> Result<(), Fail> {
 fn files_beside_others_are_hidden_together(rt: HostRuntime) -> Result<(), Fail> {
     let mut shelf = two_files(rt.alloc())?;
     show_all(&mut shelf, &[one(1, 1), one(0, 0)])?;
-    hide_all(&mut shelf, &[1])?;
+    hide_all(&mut shelf, &[one(1, 1)])?;
     assert!(rt; shelf.shown() == [one(0, 0)].as_slice());
     has_tags(&rt, shelf.defs(b"main"), &[b"main".as_slice()])?;
     hide_all(&mut shelf, &[])?;
@@ -106,8 +106,10 @@ fn files_beside_others_are_hidden_together(rt: HostRuntime) -> Result<(), Fail> 
 
 #[test]
 fn numbers_rise(rt: HostRuntime) -> Result<(), Fail> {
-    assert!(rt; are_rising(&[]) && are_rising(&[3]) && are_rising(&[0, 1, 7]));
-    assert!(rt; !are_rising(&[1, 0]) && !are_rising(&[2, 2]) && !are_rising(&[0, 5, 5]));
+    assert!(rt; are_rising(&[]) && are_rising(&[one(3, 9)]));
+    assert!(rt; are_rising(&[one(0, 5), one(1, 5), one(7, 0)]));
+    assert!(rt; !are_rising(&[one(1, 0), one(0, 1)]) && !are_rising(&[one(2, 0), one(2, 1)]));
+    assert!(rt; !are_rising(&[one(0, 0), one(5, 1), one(5, 2)]));
     Ok(())
 }
 

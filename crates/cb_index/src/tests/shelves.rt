@@ -79,12 +79,12 @@ pub(super) fn show_all(shelf: &mut Shelf, news: &[Shown]) -> Result<(), Fail> {
     Ok(())
 }
 
-/// Hides what is shown under names whose numbers rise.
-pub(super) fn hide_all(shelf: &mut Shelf, names: &[u32]) -> Result<(), Fail> {
-    if !are_rising(names) {
+/// Hides what is shown under the names of files; the numbers of the names rise.
+pub(super) fn hide_all(shelf: &mut Shelf, files: &[Shown]) -> Result<(), Fail> {
+    if !are_rising(files) {
         return Err(Fail::from("numbers that do not rise"));
     }
-    shelf.hide_all(names);
+    shelf.hide_all(files);
     Ok(())
 }
 

@@ -1,0 +1,130 @@
+//! The present world in memory, in the numbers of an archive.
+ghost use Rattle.std.specs.Prelude.{◌≡◌, ◌≤◌, ◌++◌, length};
+ghost use Rattle.cb_scan.specs.Order.{in_order};
+ghost use Rattle.cb_index.specs.Files.{shown_name};
+ghost use Rattle.cb_index.specs.Names.{names_of};
+ghost use Rattle.cb_index.specs.Shelved.{CanShowAll, KeepsRoom};
+ghost use Rattle.std.specs.List.Sorted.{IsStrictlyIncreasing};
+ghost use Rattle.cb_desk.specs.steps.Edits.{turned_edits, edited};
+ghost use Rattle.cb_desk.specs.steps.Records.{AreThere, Fits, IsTurn, KeepsRooms, hidden, kept_wanted, no_numbers, other, other_wanted, turned, without};
+ghost use Rattle.cb_desk.specs.steps.Texts.{bytes_if, bytes_if_other};
+
+use crate::edits::{Edit, turn_edits};
+use crate::place_list::PlaceList;
+use crate::record::Record;
+use cb_index::{Shelf, Shown};
+use std::alloc::Global;
+use std::marker::Model;
+use std::mem;
+
+/// What is shown of an archive, the wanted text, the marks by file and line, the frames, bottom first;
+/// and how many names and versions of the archive this world and those before it use.
+#[derive(Drop)]
+pub(crate) struct Present {
+    shelf: Shelf,
+    wanted: Option<Vec<u8>>,
+    marks: PlaceList,
+    frames: PlaceList,
+    names: u32,
+    versions: u32,
+}
+
+impl Model for Present {
+    ghost use Rattle.cb_desk.specs.steps.Records.{Kept};
+    ghost use Rattle.cb_desk.specs.steps.Texts.{bytes_if};
+
+    ghost Value = { Kept };
+
+    ghost view = { λ p. record {
+      archive = p.shelf.archive;
+      turns = p.shelf.turns;
+      now = record {
+        shown = p.shelf.shown;
+        wanted = bytes_if p.wanted;
+        marks = p.marks.places;
+        frames = p.frames.places;
+        names = p.names;
+        versions = p.versions;
+      };
+      rooms = record {
+        files = p.shelf.entry_room;
+        defs = p.shelf.def_room;
+        uses = p.shelf.use_room;
+        calls = p.shelf.call_room;
+        marks = p.marks.room;
+        frames = p.frames.room;
+      };
+    } };
+}
+
+/// Hides some files and shows others, and swaps the two lists.
+fn turn_shown(shelf: &mut Shelf, hides: &mut Vec<Shown>, shows: &mut Vec<Shown>)
+    requires hides { IsStrictlyIncreasing (names_of hides.old.items) }
+    requires shows { CanShowAll (hidden shelf.old hides.old.items) shows.old.items }
+    ensures shown { shelf.new.shown ≡ in_order (shown_name shelf.old.archive)
+        (without hides.old.items shelf.old.shown ++ shows.old.items) }
+    ensures archive { shelf.new.archive ≡ shelf.old.archive }
+    ensures hides { hides.new.items ≡ shows.old.items }
+    ensures shows { shows.new.items ≡ hides.old.items }
+    ensures room { KeepsRoom shelf.old shelf.new }
+{
+    shelf.hide_all(hides.as_slice());
+    shelf.show_all(shows.as_slice());
+    mem::swap(hides, shows);
+}
+
+/// Swaps the wanted text with another one, if there is another.
+fn turn_wanted(wanted: &mut Option<Vec<u8>>, other: &mut Option<Option<Vec<u8>>>)
+    ensures wanted { bytes_if wanted.new ≡ other_wanted (bytes_if_other other.old) (bytes_if wanted.old) }
+    ensures other { bytes_if_other other.new ≡ kept_wanted (bytes_if_other other.old) (bytes_if wanted.old) }
+{
+    if let Some(text) = other {
+        mem::swap(text, wanted);
+    }
+}
+
+/// Makes edits, and makes them those that take them back.
+fn turn_places(places: &mut PlaceList, edits: &mut Vec<Edit>)
+    requires { length (edited edits.old.items places.old.places) ≤ places.old.room }
+    ensures places { places.new.places ≡ edited edits.old.items places.old.places }
+    ensures edits { edits.new.items ≡ turned_edits edits.old.items }
+    ensures room { places.old.room ≤ places.new.room }
+{
+    places.edit(edits.as_slice());
+    turn_edits(edits.as_mut_slice());
+}
+
+impl Present {
+    /// The world without a file. It takes no memory.
+    pub(crate) fn new(alloc: Global) -> Present
+        ensures now { result.now ≡ no_numbers }
+        ensures turns { result.turns ≡ 0 }
+    {
+        Present {
+            shelf: Shelf::new(alloc),
+            wanted: None,
+            marks: PlaceList::new(alloc),
+            frames: PlaceList::new(alloc),
+            names: 0,
+            versions: 0,
+        }
+    }
+
+    /// Goes to the world that a record leads to. Then the record leads back.
+    pub(crate) fn turn(&mut self, way: &mut Record)
+        requires turn { IsTurn self.old.archive way.old self.old.now }
+        requires there { AreThere self.old.archive (other self.old.archive way.old self.old.now) }
+        requires room { Fits self.old.rooms self.old.archive (other self.old.archive way.old self.old.now) }
+        ensures now { self.new.now ≡ other self.old.archive way.old self.old.now }
+        ensures way { way.new ≡ turned way.old self.old.now }
+        ensures archive { self.new.archive ≡ self.old.archive }
+        ensures rooms { KeepsRooms self.old.rooms self.new.rooms }
+    {
+        turn_shown(&mut self.shelf, &mut way.hides, &mut way.shows);
+        turn_wanted(&mut self.wanted, &mut way.wanted);
+        turn_places(&mut self.marks, &mut way.marks);
+        turn_places(&mut self.frames, &mut way.frames);
+        mem::swap(&mut self.names, &mut way.names);
+        mem::swap(&mut self.versions, &mut way.versions);
+    }
+}
