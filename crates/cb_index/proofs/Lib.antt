@@ -2,6 +2,7 @@ pub mod EntryLemmas
 pub mod FactLemmas
 pub mod FewerLemmas
 pub mod InOrderLemmas
+pub mod IncludeLemmas
 pub mod IndexLemmas
 pub mod KeptLemmas
 pub mod ListedLemmas

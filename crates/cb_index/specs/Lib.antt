@@ -3,6 +3,7 @@ pub mod Bytes
 pub mod Entries
 pub mod Files
 pub mod Held
+pub mod Includes
 pub mod Names
 pub mod Orders
 pub mod Rows

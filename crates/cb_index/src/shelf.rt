@@ -9,7 +9,7 @@ ghost use Rattle.cb_scan.specs.Definitions.{facts_of};
 ghost use Rattle.cb_scan.specs.FactKeys.{keys_of};
 ghost use Rattle.cb_scan.specs.Order.{goes_first, in_order, put};
 ghost use Rattle.cb_index.specs.Archived.{name_of};
-ghost use Rattle.cb_index.specs.Files.{AreAscending, shown_name};
+ghost use Rattle.cb_index.specs.Files.{AreAscending, IsThere, shown_name};
 ghost use Rattle.cb_index.specs.Names.{is_among, names_of};
 ghost use Rattle.cb_index.specs.Rows.{calls_in, calls_of, tags_by_name, tags_by_tag_name, tags_named, uses_of};
 ghost use Rattle.cb_index.specs.Shelved.{CanShow, CanShowAll, KeepsRoom, files, with_facts};
@@ -97,7 +97,9 @@ impl Shelf {
 
     /// What is shown, by file name.
     pub fn shown(&self) -> &[Shown]
-        ensures { result.now ≡ self.now.shown }
+        ensures value { result.now ≡ self.now.shown }
+        ensures there { AllByRecursion (IsThere self.now.archive) result.now }
+        ensures ascending { AreAscending self.now.archive result.now }
     {
         self.shown.as_slice()
     }
