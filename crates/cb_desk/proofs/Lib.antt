@@ -25,3 +25,4 @@ pub mod TextRowsFew
 pub mod Texts
 pub mod Unindented
 pub mod Valid
+pub mod TurnLemmas

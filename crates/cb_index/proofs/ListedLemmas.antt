@@ -68,7 +68,7 @@ module _ (a : Archived) (s t : Shown) where
 bytes_other : (x y : List ℕ) → Names x y ≡ Less → bytes_eq x y ≡ false
 bytes_other x y less = sym (is_eq-slice_cmp x y) ∙ ap is_eq less
 
-other_turned : (x y : List ℕ) → bytes_eq x y ≡ false → bytes_eq y x ≡ false
+pub other_turned : (x y : List ℕ) → bytes_eq x y ≡ false → bytes_eq y x ≡ false
 other_turned x y isnt =
     ⊎_elim (λ is. absurd (true≢false (sym ((bytes_eq-Decides x y).1 (sym ((bytes_eq-Decides y x).0 is))) ∙ isnt))) (λ is. is)
     (cases_Bool (bytes_eq y x))
