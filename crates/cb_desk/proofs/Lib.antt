@@ -26,3 +26,4 @@ pub mod Texts
 pub mod Unindented
 pub mod Valid
 pub mod TurnLemmas
+pub mod WalkLemmas

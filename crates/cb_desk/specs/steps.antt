@@ -9,4 +9,5 @@ pub mod Search
 pub mod Shared
 pub mod TextRows
 pub mod Texts
+pub mod Walks
 pub mod Worlds

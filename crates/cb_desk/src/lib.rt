@@ -11,6 +11,7 @@ mod collected;
 mod edits;
 mod files;
 mod found;
+mod history;
 pub mod laws;
 mod limits;
 mod line;

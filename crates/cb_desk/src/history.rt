@@ -1,0 +1,68 @@
+//! The present world, and the records that lead back and on from it.
+ghost use Rattle.std.specs.Prelude.{◌≡◌, ◌≤◌, ◌<◌, []};
+ghost use Rattle.cb_desk.specs.Timeline.{Moves, new_timeline, redone, undone};
+ghost use Rattle.cb_desk.specs.steps.Walks.{timeline_in};
+
+use crate::Refusal;
+use crate::present::Present;
+use crate::record::Record;
+use std::alloc::Global;
+use std::marker::Model;
+
+/// The present world and the records of the other ones. Undo and redo turn the present by a record,
+/// which then leads the other way. They take no memory.
+#[derive(Drop)]
+pub(crate) struct History {
+    present: Present,
+    /// The records that lead back, the nearest last, then those that lead on, the nearest first.
+    records: Vec<Record>,
+    /// How many of them lead back.
+    done: usize,
+}
+
+impl Model for History {
+    ghost use Rattle.cb_desk.specs.steps.Walks.{IsRecorded, Recorded};
+
+    ghost Value = { Recorded };
+
+    ghost view = { λ h. record { kept = h.present; records = h.records.items; done = h.done } };
+
+    ghost invariant = { λ h. IsRecorded (record { kept = h.present; records = h.records.items; done = h.done }) };
+}
+
+impl History {
+    /// The world without a file, with no past and no future. It takes no memory.
+    pub(crate) fn new(alloc: Global) -> History
+        ensures { timeline_in result ≡ new_timeline }
+    {
+        History {
+            present: Present::new(alloc),
+            records: Vec::new(alloc),
+            done: 0,
+        }
+    }
+
+    /// Takes the last change back.
+    pub(crate) fn undo(&mut self) -> Result<(), Refusal>
+        ensures { Moves (undone (timeline_in self.old)) (timeline_in self.old) (timeline_in self.new) result }
+    {
+        if self.done == 0 {
+            return Err(Refusal::NothingToUndo);
+        }
+        self.done -= 1;
+        self.present.turn(&mut self.records[self.done]);
+        Ok(())
+    }
+
+    /// Makes the last change that was taken back again.
+    pub(crate) fn redo(&mut self) -> Result<(), Refusal>
+        ensures { Moves (redone (timeline_in self.old)) (timeline_in self.old) (timeline_in self.new) result }
+    {
+        if self.done == self.records.len() {
+            return Err(Refusal::NothingToRedo);
+        }
+        self.present.turn(&mut self.records[self.done]);
+        self.done += 1;
+        Ok(())
+    }
+}
