@@ -27,3 +27,5 @@ pub mod Unindented
 pub mod Valid
 pub mod TurnLemmas
 pub mod WalkLemmas
+pub mod ArchiveMoves
+pub mod PlanLemmas

@@ -60,7 +60,7 @@ module _ (a : Archived) (t : Turn) (w : Numbered) (is : IsTurn a t w) where
   }
 
 -- ---- more room
-fits_more : (r s : Rooms) (a : Archived) (w : Numbered) → KeepsRooms r s → Fits r a w → Fits s a w
+pub fits_more : (r s : Rooms) (a : Archived) (w : Numbered) → KeepsRooms r s → Fits r a w → Fits s a w
 fits_more r s a w more fits = record {
   files = let x = fits.files in let y = more.files in omega (arith, x, y);
   defs = let x = fits.defs in let y = more.defs in omega (arith, x, y);
@@ -70,7 +70,7 @@ fits_more r s a w more fits = record {
   frames = let x = fits.frames in let y = more.frames in omega (arith, x, y);
 }
 
-kept_more : (r s : Rooms) (a : Archived) (w : Numbered) → KeepsRooms r s → IsKept r a w → IsKept s a w
+pub kept_more : (r s : Rooms) (a : Archived) (w : Numbered) → KeepsRooms r s → IsKept r a w → IsKept s a w
 kept_more r s a w more is = record { there = is.there; fits = fits_more r s a w more is.fits }
 
 pub back_more : (r s : Rooms) (a : Archived) (w : Numbered) (ts : List Turn) → KeepsRooms r s → LeadsBack r a w ts → LeadsBack s a w ts
@@ -114,7 +114,7 @@ module _ (r : Rooms) (a : Archived) (w : Numbered) (t : Turn) (bs os : List Turn
 -- ---- undo and redo, over one list of records
 
 -- the timeline of some turns back and on
-abbrev line : Archived → List Turn → Numbered → List Turn → Timeline
+abbrev pub line : Archived → List Turn → Numbered → List Turn → Timeline
 line a bs w os = record { past = worlds_in a (walk a w bs); present = world_in a w; future = worlds_in a (walk a w os) }
 
 module _ (k : Kept) (records : List Turn) (d : ℕ) (t : Turn) (within : d < length records) (at_d : t ≡ get_or records d t) where

@@ -3,6 +3,7 @@ pub mod Edits
 pub mod Found
 pub mod Held
 pub mod MarkedLines
+pub mod Plans
 pub mod Records
 pub mod Scans
 pub mod Search

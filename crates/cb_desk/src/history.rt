@@ -1,12 +1,16 @@
 //! The present world, and the records that lead back and on from it.
-ghost use Rattle.std.specs.Prelude.{◌≡◌, ◌≤◌, ◌<◌, []};
-ghost use Rattle.cb_desk.specs.Timeline.{Moves, new_timeline, redone, undone};
+ghost use Rattle.std.specs.Prelude.{◌≡◌, ◌<◌, [], ◌∷◌, length, MatchResult};
+ghost use Rattle.cb_desk.specs.declared.limits.TheConstants.{MOST_CHANGES};
+ghost use Rattle.cb_desk.specs.World.{World, IsValidWorld};
+ghost use Rattle.cb_desk.specs.steps.Plans.{IsPlan};
+ghost use Rattle.cb_desk.specs.Timeline.{Moves, moved_on, new_timeline, redone, undone};
 ghost use Rattle.cb_desk.specs.steps.Walks.{timeline_in};
 
 use crate::Refusal;
+use crate::plan::Plan;
 use crate::present::Present;
 use crate::record::Record;
-use std::alloc::Global;
+use std::alloc::{AllocError, Global};
 use std::marker::Model;
 
 /// The present world and the records of the other ones. Undo and redo turn the present by a record,
@@ -63,6 +67,34 @@ impl History {
         }
         self.present.turn(&mut self.records[self.done]);
         self.done += 1;
+        Ok(())
+    }
+
+    /// Makes the world that a plan leads to the only one to come.
+    fn set_next(&mut self, plan: Plan) -> Result<(), AllocError>
+        requires { (v : World) × IsPlan self.old.kept plan v × IsValidWorld v × (length (timeline_in self.old).past < MOST_CHANGES) }
+        ensures { (v : World) → IsPlan self.old.kept plan v
+            → MatchResult result (λ _. timeline_in self.new ≡ record (timeline_in self.old) { future = v ∷ [] }) (λ _. self.new ≡ self.old) }
+    {
+        self.records.reserve(1)?;
+        self.records.truncate(self.done);
+        self.present.keep(plan.names, plan.versions);
+        if self.records.push(plan.record).is_err() {
+            unreachable!()
+        }
+        Ok(())
+    }
+
+    /// Goes to the world that a plan leads to. The future is gone.
+    pub(crate) fn go(&mut self, plan: Plan) -> Result<(), AllocError>
+        requires { (v : World) × IsPlan self.old.kept plan v × IsValidWorld v × (length (timeline_in self.old).past < MOST_CHANGES) }
+        ensures { (v : World) → IsPlan self.old.kept plan v
+            → MatchResult result (λ _. timeline_in self.new ≡ moved_on (timeline_in self.old) v) (λ _. timeline_in self.new ≡ timeline_in self.old) }
+    {
+        self.set_next(plan)?;
+        if self.redo().is_err() {
+            unreachable!()
+        }
         Ok(())
     }
 }

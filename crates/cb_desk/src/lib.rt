@@ -18,6 +18,7 @@ mod line;
 mod marks;
 mod place;
 mod place_list;
+mod plan;
 mod present;
 mod record;
 mod refusal;

@@ -1,5 +1,5 @@
 //! The present world in memory, in the numbers of an archive.
-ghost use Rattle.std.specs.Prelude.{◌≡◌, ◌≤◌, ◌++◌, length};
+ghost use Rattle.std.specs.Prelude.{◌≡◌, ◌≤◌, ◌+◌, ◌++◌, length, map, take};
 ghost use Rattle.cb_scan.specs.Order.{in_order};
 ghost use Rattle.cb_index.specs.Files.{shown_name};
 ghost use Rattle.cb_index.specs.Names.{names_of};
@@ -12,7 +12,7 @@ ghost use Rattle.cb_desk.specs.steps.Texts.{bytes_if, bytes_if_other};
 use crate::edits::{Edit, turn_edits};
 use crate::place_list::PlaceList;
 use crate::record::Record;
-use cb_index::{Shelf, Shown};
+use cb_index::{Shelf, Shown, Version};
 use std::alloc::Global;
 use std::marker::Model;
 use std::mem;
@@ -94,6 +94,32 @@ fn turn_places(places: &mut PlaceList, edits: &mut Vec<Edit>)
     turn_edits(edits.as_mut_slice());
 }
 
+/// Keeps names, in the room that is there.
+fn keep_names(shelf: &mut Shelf, names: Vec<Vec<u8>>)
+    requires { length shelf.old.archive.names + length names.items ≤ shelf.old.archive.name_room }
+    ensures names { shelf.new.archive.names ≡ shelf.old.archive.names ++ map (λ n. n.items) names.items }
+    ensures texts { shelf.new.archive.texts ≡ shelf.old.archive.texts }
+    ensures shown { shelf.new.shown ≡ shelf.old.shown }
+    ensures room { KeepsRoom shelf.old shelf.new }
+{
+    for name in names {
+        let _ = shelf.push_name(name);
+    }
+}
+
+/// Keeps versions, in the room that is there.
+fn keep_versions(shelf: &mut Shelf, versions: Vec<Version>)
+    requires { length shelf.old.archive.texts + length versions.items ≤ shelf.old.archive.version_room }
+    ensures texts { shelf.new.archive.texts ≡ shelf.old.archive.texts ++ versions.items }
+    ensures names { shelf.new.archive.names ≡ shelf.old.archive.names }
+    ensures shown { shelf.new.shown ≡ shelf.old.shown }
+    ensures room { KeepsRoom shelf.old shelf.new }
+{
+    for version in versions {
+        let _ = shelf.push_version(version);
+    }
+}
+
 impl Present {
     /// The world without a file. It takes no memory.
     pub(crate) fn new(alloc: Global) -> Present
@@ -126,5 +152,23 @@ impl Present {
         turn_places(&mut self.frames, &mut way.frames);
         mem::swap(&mut self.names, &mut way.names);
         mem::swap(&mut self.versions, &mut way.versions);
+    }
+
+    /// Drops from the archive what only later worlds use, and keeps new names and versions, in the
+    /// room that is there.
+    pub(crate) fn keep(&mut self, names: Vec<Vec<u8>>, versions: Vec<Version>)
+        requires there { AreThere self.old.archive self.old.now }
+        requires names { self.old.now.names + length names.items ≤ self.old.archive.name_room }
+        requires versions { self.old.now.versions + length versions.items ≤ self.old.archive.version_room }
+        ensures names { self.new.archive.names
+            ≡ take self.old.now.names self.old.archive.names ++ map (λ n. n.items) names.items }
+        ensures texts { self.new.archive.texts
+            ≡ take self.old.now.versions self.old.archive.texts ++ versions.items }
+        ensures now { self.new.now ≡ self.old.now }
+        ensures rooms { KeepsRooms self.old.rooms self.new.rooms }
+    {
+        self.shelf.truncate(self.versions, self.names);
+        keep_names(&mut self.shelf, names);
+        keep_versions(&mut self.shelf, versions);
     }
 }

@@ -26,7 +26,7 @@ mod shelf;
 mod sorted;
 mod tags;
 
-pub use archive::Archive;
+pub use archive::{Archive, Version};
 pub use entries::Entries;
 pub use entry::{Entry, Shown};
 pub use facts::FactRows;

@@ -5,8 +5,6 @@ ghost use Rattle.std.specs.List.Sorted.{IsStrictlyIncreasing};
 ghost use Rattle.std.specs.Cmp.Lexicographic.{slice_cmp};
 ghost use Rattle.std.specs.Ordering.{is_gt, nat_cmp};
 ghost use Rattle.std.specs.Str.{bytes_eq};
-ghost use Rattle.cb_scan.specs.Definitions.{facts_of};
-ghost use Rattle.cb_scan.specs.FactKeys.{keys_of};
 ghost use Rattle.cb_scan.specs.Order.{goes_first, in_order, put};
 ghost use Rattle.cb_index.specs.Archived.{name_of};
 ghost use Rattle.cb_index.specs.Files.{AreAscending, IsThere, shown_name};
@@ -16,7 +14,7 @@ ghost use Rattle.cb_index.specs.Shelved.{CanShow, CanShowAll, KeepsRoom, files, 
 ghost use Rattle.cb_index.specs.declared.entry.Shown.{Shown};
 ghost use Rattle.cb_index.specs.steps.Left.{entries_left, facts_left, tags_left};
 
-use crate::archive::Archive;
+use crate::archive::{Archive, Version};
 use crate::counted::{Counted, has_room, has_room_for};
 use crate::entries::Entries;
 use crate::entry::Shown;
@@ -29,7 +27,6 @@ use crate::room::Room;
 use crate::rows::FactSort;
 use crate::sorted::Sorted;
 use crate::tags::TagRows;
-use cb_scan::{FactKeys, Facts, Source};
 use std::alloc::Global;
 use std::cmp::Ordering;
 use std::marker::Model;
@@ -167,20 +164,17 @@ impl Shelf {
         self.archive.push_name(name)
     }
 
-    /// Keeps a source, the facts of its text and their keys under the number that is answered: the count of
-    /// versions before.
-    pub fn push_version(&mut self, source: Source, facts: Facts, keys: FactKeys) -> u32
-        requires room { length self.old.archive.texts < self.old.archive.version_room }
-        requires facts { facts ≡ facts_of source }
-        requires keys { keys ≡ keys_of source }
+    /// Keeps a version under the number that is answered: the count of versions before.
+    pub fn push_version(&mut self, version: Version) -> u32
+        requires { length self.old.archive.texts < self.old.archive.version_room }
         ensures value { result ≡ length self.old.archive.texts }
-        ensures texts { self.new.archive.texts ≡ self.old.archive.texts ++ source ∷ [] }
+        ensures texts { self.new.archive.texts ≡ self.old.archive.texts ++ version ∷ [] }
         ensures names { self.new.archive.names ≡ self.old.archive.names }
         ensures shown { self.new.shown ≡ self.old.shown }
         ensures turns { self.new.turns ≡ self.old.turns }
         ensures room { KeepsRoom self.old self.new }
     {
-        self.archive.push_version(source, facts, keys)
+        self.archive.push_version(version)
     }
 
     /// Keeps the first versions and names alone, so many of each.

@@ -5,7 +5,7 @@ mod shelf;
 mod shelves;
 mod sorts;
 
-use crate::archive::Archive;
+use crate::archive::{Archive, Version};
 use crate::entry::{Entry, Shown};
 use crate::order::EntryOrder;
 use crate::sorted::Sorted;
@@ -39,7 +39,7 @@ fn keep(alloc: Global, archive: &mut Archive, name: &[u8], text: &[u8]) -> Resul
     }
     Ok(Shown {
         name: archive.push_name(name),
-        version: archive.push_version(source, facts, keys),
+        version: archive.push_version(Version::new(source, facts, keys)),
     })
 }
 

@@ -1,4 +1,5 @@
 //! Shelves for tests, and comparisons of what they show.
+use crate::archive::Version;
 use crate::entry::Shown;
 use crate::facts::FactRows;
 use crate::names::are_rising;
@@ -58,7 +59,7 @@ pub(super) fn keep_version(alloc: Global, shelf: &mut Shelf, text: &[u8]) -> Res
         Ok(()) => {}
         Err(_) => return Err(Fail::from("no memory")),
     }
-    Ok(shelf.push_version(source, facts, keys))
+    Ok(shelf.push_version(Version::new(source, facts, keys)))
 }
 
 /// Shows a version where it can be shown.
