@@ -1,9 +1,13 @@
+pub mod Asked
 pub mod Collects
 pub mod Found
 pub mod Held
+pub mod Lent
+pub mod LookBack
 pub mod MarkedLines
 pub mod Scans
 pub mod Search
 pub mod Shared
 pub mod TextRows
+pub mod TextsLeft
 pub mod Worlds
