@@ -78,7 +78,7 @@ group-kept q rows g low group =
 -- ---- looking among the last rows alone, and not at texts
 
 -- where none of the first rows is equal, an equal one is among the others
-any-behind : (q : AnswerRow) (rows : List AnswerRow) (n : ℕ) → AllByRecursion (λ r. row_eq q r ≡ false) (take n rows) → list_any (row_eq q) (drop n rows) ≡ list_any (row_eq q) rows
+pub any-behind : (q : AnswerRow) (rows : List AnswerRow) (n : ℕ) → AllByRecursion (λ r. row_eq q r ≡ false) (take n rows) → list_any (row_eq q) (drop n rows) ≡ list_any (row_eq q) rows
 any-behind q rows zero none = refl
 any-behind q [] (suc n) none = refl
 any-behind q (r ∷ rows) (suc n) none = any-behind q rows n none.1 ∙ rw none.0 refl
@@ -89,7 +89,7 @@ all-drop P (suc n) [] all = tt
 all-drop P (suc n) (x ∷ xs) all = all-drop P n xs all.1
 
 -- rows that are equal but for their texts are equal where they have one text
-alike-equal : (q r : AnswerRow) → IsTextedLike q r → row_eq q r ≡ alike q r
+pub alike-equal : (q r : AnswerRow) → IsTextedLike q r → row_eq q r ≡ alike q r
 alike-equal q r same =
     (elim (alike q r) as (λ b. alike q r ≡ b → b && bytes_eq q.text r.text ≡ b) [
       | true ↦ λ h.

@@ -1,7 +1,10 @@
+pub mod Asked
 pub mod Collects
 pub mod Edits
 pub mod Found
 pub mod Held
+pub mod Lent
+pub mod LookBack
 pub mod MarkedLines
 pub mod Plans
 pub mod Records
@@ -10,5 +13,6 @@ pub mod Search
 pub mod Shared
 pub mod TextRows
 pub mod Texts
+pub mod TextsLeft
 pub mod Walks
 pub mod Worlds

@@ -135,7 +135,7 @@ pub(crate) fn shown_line(source: &Source, line: u32) -> &[u8]
 }
 
 /// Whether a header is the one asked for, or ends in a slash and that one.
-fn is_header(pattern: &[u8], header: &[u8]) -> bool
+pub(crate) fn is_header(pattern: &[u8], header: &[u8]) -> bool
     ensures { result ≡ is_header pattern.now header.now }
 {
     if header.len() <= pattern.len() {

@@ -6,6 +6,7 @@
 //! The layer above uses the contracts of [`Desk`].
 #![tactic(auto)]
 
+mod answers;
 mod change;
 mod collected;
 mod edits;

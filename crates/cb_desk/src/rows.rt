@@ -67,7 +67,7 @@ pub struct RefRow<'a> {
 
 impl<'a> RefRow<'a> {
     /// Whether two rows are equal but for their texts, which rows on one line of a file share.
-    fn is_like(&self, other: &RefRow<'_>) -> bool
+    pub(crate) fn is_like(&self, other: &RefRow<'_>) -> bool
         ensures { result ≡ alike (row_of self.now) (row_of other.now) }
     {
         self.line == other.line && self.function == other.function && self.file == other.file
@@ -281,7 +281,7 @@ fn holds(finder: &Finder<'_>, text: &[u8]) -> bool
 }
 
 /// The row of a file.
-fn file_row(name: &[u8]) -> RefRow<'_>
+pub(crate) fn file_row(name: &[u8]) -> RefRow<'_>
     ensures { row_of result ≡ file_row name.now }
 {
     RefRow {
@@ -293,7 +293,7 @@ fn file_row(name: &[u8]) -> RefRow<'_>
 }
 
 /// A line without its leading spaces and tabs.
-fn unindented(line: &[u8]) -> &[u8]
+pub(crate) fn unindented(line: &[u8]) -> &[u8]
     ensures { result.now ≡ unindented line.now }
 {
     &line[blanks(line)..]
