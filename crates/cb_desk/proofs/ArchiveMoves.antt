@@ -6,15 +6,16 @@ use Rattle.std.specs.Str.{bytes_eq}
 use Rattle.cb_scan.specs.Order.{AreOrdered, in_order}
 use Rattle.cb_scan.proofs.FunctionsRise.{all_implied}
 use Rattle.cb_index.specs.Archived.{Archived, name_of}
-use Rattle.cb_index.specs.Files.{AreApart, call_count, def_count, shown_name, total, use_count}
+use Rattle.cb_index.specs.Files.{AreApart, call_count, def_count, files_of, shown_name, total, use_count}
 use Rattle.cb_index.specs.declared.entry.Shown.{Shown}
 use Rattle.cb_index.proofs.InOrderLemmas.{in_order_cong}
 use Rattle.cb_index.proofs.KeptLemmas.{get_or_front, get_or_left, slice_get_front, slice_get_left}
 use Rattle.cb_desk.specs.declared.spot.NumberedPlace.{NumberedPlace}
-use Rattle.cb_desk.specs.steps.Records.{AreThere, Fits, IsTurn, Numbered, Rooms, Turn, file_in, other, place_in, without, world_in}
-use Rattle.cb_desk.specs.steps.Walks.{IsKept, LeadsBack, walk, worlds_in}
+use Rattle.cb_desk.specs.Timeline.{IsValidTimeline}
+use Rattle.cb_desk.specs.steps.Records.{AreThere, Fits, IsTurn, Kept, KeepsRooms, Numbered, Rooms, Turn, other, place_in, without, world_in}
+use Rattle.cb_desk.specs.steps.Walks.{IsKept, IsRecorded, LeadsBack, LeadsOn, Recorded, timeline_in, turns_back, turns_on, walk, worlds_in}
 use Rattle.cb_desk.proofs.TurnLemmas.{all_from_order}
-use Rattle.cb_desk.proofs.WalkLemmas.{kept_back}
+use Rattle.cb_desk.proofs.WalkLemmas.{back_more, kept_back, kept_on, line, on_more}
 
 -- two archives agree on so many first names and texts, which the second has
 pub record Agree (a b : Archived) (n v : ℕ) : Type 0 where
@@ -39,23 +40,23 @@ agree_kept a b n v names texts some more is are =
     }
 
 module _ (a b : Archived) (n v : ℕ) (agree : Agree a b n v) where
-  abbrev Below : Shown → Type 0
+  abbrev pub Below : Shown → Type 0
   Below s = (s.name < n) × (s.version < v)
 
-  abbrev Named : NumberedPlace → Type 0
+  abbrev pub Named : NumberedPlace → Type 0
   Named p = p.name < n
 
   -- ---- what numbers stand for
-  files_same : (ss : List Shown) → AllByRecursion Below ss → map (file_in b) ss ≡ map (file_in a) ss
+  pub files_same : (ss : List Shown) → AllByRecursion Below ss → files_of b ss ≡ files_of a ss
   files_same [] all = refl
   files_same (s ∷ ss) all =
       λ i. record { name = agree.names s.name all.0.0 i; bytes = agree.bytes s.version all.0.1 i } ∷ files_same ss all.1 i
 
-  places_same : (ps : List NumberedPlace) → AllByRecursion Named ps → map (place_in b) ps ≡ map (place_in a) ps
+  pub places_same : (ps : List NumberedPlace) → AllByRecursion Named ps → map (place_in b) ps ≡ map (place_in a) ps
   places_same [] all = refl
   places_same (p ∷ ps) all = λ i. record { file = agree.names p.name all.0 i; line = p.line } ∷ places_same ps all.1 i
 
-  total_same : (count : Option (List ℕ) → ℕ) (ss : List Shown) → AllByRecursion Below ss → total count b ss ≡ total count a ss
+  pub total_same : (count : Option (List ℕ) → ℕ) (ss : List Shown) → AllByRecursion Below ss → total count b ss ≡ total count a ss
   total_same count [] all = refl
   total_same count (s ∷ ss) all = λ i. count (agree.texts s.version all.0.1 i) + total_same count ss all.1 i
 
@@ -63,7 +64,7 @@ module _ (a b : Archived) (n v : ℕ) (agree : Agree a b n v) where
   names_same : (ss : List Shown) → AllByRecursion Below ss → AllByRecursion (λ s. shown_name b s ≡ shown_name a s) ss
   names_same ss all = all_implied Below (λ s. shown_name b s ≡ shown_name a s) (λ s below. agree.names s.name below.0) ss all
 
-  order_same : (ss : List Shown) → AllByRecursion Below ss → in_order (shown_name b) ss ≡ in_order (shown_name a) ss
+  pub order_same : (ss : List Shown) → AllByRecursion Below ss → in_order (shown_name b) ss ≡ in_order (shown_name a) ss
   order_same ss all = in_order_cong (shown_name b) (shown_name a) ss (names_same ss all)
 
   apart_one : (s : Shown) → Below s → (ss : List Shown) → AllByRecursion Below ss
@@ -73,19 +74,19 @@ module _ (a b : Archived) (n v : ℕ) (agree : Agree a b n v) where
   apart_one s here (t ∷ ss) all apart =
       ((λ i. bytes_eq (agree.names s.name here.0 i) (agree.names t.name all.0.0 i)) ∙ apart.0, apart_one s here ss all.1 apart.1)
 
-  apart_same : (ss : List Shown) → AllByRecursion Below ss → AreApart a ss → AreApart b ss
+  pub apart_same : (ss : List Shown) → AllByRecursion Below ss → AreApart a ss → AreApart b ss
   unfolding AreOrdered
   apart_same [] all apart = tt
   apart_same (s ∷ ss) all apart = (apart_one s all.0 ss all.1 apart.0, apart_same ss all.1 apart.1)
 
   -- ---- a world
   module _ (w : Numbered) (there : AreThere a w) (few : w.names ≤ n) (low : w.versions ≤ v) where
-    below_shown : AllByRecursion Below w.shown
+    pub below_shown : AllByRecursion Below w.shown
     below_shown =
         all_implied (λ (s : Shown). (s.name < w.names) × (s.version < w.versions)) Below
         (λ s is. (omega (arith, is.0, few), omega (arith, is.1, low))) w.shown there.shown
 
-    below_places : (ps : List NumberedPlace) → AllByRecursion (λ (p : NumberedPlace). p.name < w.names) ps → AllByRecursion Named ps
+    pub below_places : (ps : List NumberedPlace) → AllByRecursion (λ (p : NumberedPlace). p.name < w.names) ps → AllByRecursion Named ps
     below_places ps all = all_implied (λ (p : NumberedPlace). p.name < w.names) Named (λ p is. omega (arith, is, few)) ps all
 
     pub world_same : world_in b w ≡ world_in a w
@@ -171,3 +172,77 @@ module _ (a b : Archived) (n v : ℕ) (agree : Agree a b n v) where
         let then : AreThere a (other a t w) = (kept_back r a (other a t w) ts is.4).there in
         ap (λ x. world_in b x ∷ worlds_in b (walk b x ts)) (other_same t w is.0.there few low then few_then low_then)
         ∙ (λ i. world_same (other a t w) then few_then low_then i ∷ walk_same (other a t w) ts few_then low_then is.4 i)
+
+-- ---- only the room of an archive changes
+module _ (a b : Archived) (names : b.names ≡ a.names) (texts : b.texts ≡ a.texts) where
+  pub agree_all : Agree a b (length a.names) (length a.texts)
+  agree_all = record {
+    names = λ i below. ap (λ xs. slice_index_or xs i []) names;
+    texts = λ i below. ap (λ xs. slice_get xs i) texts;
+    bytes = λ i below. ap (λ xs. slice_index_or xs i []) texts;
+    name_count = let e = ap length names in omega (arith, e);
+    text_count = let e = ap length texts in omega (arith, e);
+  }
+
+  module _ (r : Rooms) where
+    pub kept_moved : (w : Numbered) → IsKept r a w → IsKept r b w
+    kept_moved w is = kept_same a b (length a.names) (length a.texts) agree_all r w is is.there.names is.there.versions
+
+    pub on_moved : (w : Numbered) (ts : List Turn) → LeadsOn r a w ts → LeadsOn r b w ts
+    unfolding LeadsOn
+    on_moved w [] is = kept_moved w is
+    on_moved w (t ∷ ts) is =
+        let then = (kept_on r a (other a t w) ts is.4).there in
+        ( kept_moved w is.0
+        , turn_same a b (length a.names) (length a.texts) agree_all t w is.0.there is.0.there.names is.0.there.versions then then.names then.versions is.1
+        , is.2, is.3
+        , subst (λ x. LeadsOn r b x ts)
+          (sym (other_same a b (length a.names) (length a.texts) agree_all t w is.0.there is.0.there.names is.0.there.versions then then.names then.versions))
+          (on_moved (other a t w) ts is.4))
+
+    pub walk_on_moved : (w : Numbered) (ts : List Turn) → LeadsOn r a w ts → worlds_in b (walk b w ts) ≡ worlds_in a (walk a w ts)
+    unfolding LeadsOn
+    walk_on_moved w [] is = refl
+    walk_on_moved w (t ∷ ts) is =
+        let then = (kept_on r a (other a t w) ts is.4).there in
+        ap (λ x. world_in b x ∷ worlds_in b (walk b x ts))
+        (other_same a b (length a.names) (length a.texts) agree_all t w is.0.there is.0.there.names is.0.there.versions then then.names then.versions)
+        ∙ (λ i. world_same a b (length a.names) (length a.texts) agree_all (other a t w) then then.names then.versions i
+            ∷ walk_on_moved (other a t w) ts is.4 i)
+
+-- the timeline stays where only room changes
+module _ (k l : Kept) (records : List Turn) (done : ℕ) (now : l.now ≡ k.now) (names : l.archive.names ≡ k.archive.names)
+    (texts : l.archive.texts ≡ k.archive.texts) (rooms : KeepsRooms k.rooms l.rooms)
+    (is : IsRecorded (record { kept = k; records = records; done = done })) where
+  abbrev before : Recorded
+  before = record { kept = k; records = records; done = done }
+
+  abbrev after_room : Recorded
+  after_room = record { kept = l; records = records; done = done }
+
+  present_there : AreThere k.archive k.now
+  present_there = (kept_back k.rooms k.archive k.now (turns_back before) is.back).there
+
+  pub same_timeline : timeline_in after_room ≡ timeline_in before
+  same_timeline =
+      ap (λ w. line l.archive (turns_back before) w (turns_on before)) now
+      ∙ (λ i. record {
+          past = walk_same k.archive l.archive (length k.archive.names) (length k.archive.texts) (agree_all k.archive l.archive names texts) k.rooms k.now
+              (turns_back before) present_there.names present_there.versions is.back i;
+          present = world_same k.archive l.archive (length k.archive.names) (length k.archive.texts) (agree_all k.archive l.archive names texts) k.now
+              present_there present_there.names present_there.versions i;
+          future = walk_on_moved k.archive l.archive names texts k.rooms k.now (turns_on before) is.on i;
+      })
+
+  pub same_recorded : IsRecorded after_room
+  same_recorded = record {
+    within = is.within;
+    back = subst (λ w. LeadsBack l.rooms l.archive w (turns_back before)) (sym now)
+        (back_more k.rooms l.rooms l.archive k.now (turns_back before) rooms
+        (back_same k.archive l.archive (length k.archive.names) (length k.archive.texts) (agree_all k.archive l.archive names texts) k.rooms k.now
+        (turns_back before) present_there.names present_there.versions is.back));
+    on = subst (λ w. LeadsOn l.rooms l.archive w (turns_on before)) (sym now)
+        (on_more k.rooms l.rooms l.archive k.now (turns_on before) rooms
+        (on_moved k.archive l.archive names texts k.rooms k.now (turns_on before) is.on));
+    valid = subst IsValidTimeline (sym same_timeline) is.valid;
+  }

@@ -10,7 +10,7 @@ use Rattle.cb_desk.specs.declared.refusal.Refusal.{Refusal}
 use Rattle.cb_desk.specs.Timeline.{Timeline, IsValidTimeline, Moves, moved_on, redone}
 use Rattle.cb_desk.specs.World.{World, IsValidWorld}
 use Rattle.cb_desk.specs.steps.Plans.{IsPlan, Keeps, LeadsTo, Planned}
-use Rattle.cb_desk.specs.steps.Records.{Kept, KeepsRooms, Numbered, Turn, other, world_in}
+use Rattle.cb_desk.specs.steps.Records.{AreThere, Fits, IsTurn, Kept, KeepsRooms, Numbered, Turn, other, world_in}
 use Rattle.cb_desk.specs.steps.Walks.{IsKept, IsRecorded, LeadsBack, LeadsOn, Recorded, timeline_in, turns_back, turns_on, walk, worlds_in}
 use Rattle.cb_desk.proofs.ArchiveMoves.{Agree, agree_kept, back_same, kept_same, walk_same, world_same}
 use Rattle.cb_desk.proofs.WalkLemmas.{back_more, fits_more, kept_back, kept_more, line}
@@ -40,7 +40,7 @@ module _ (k l : Kept) (records : List Turn) (done : ℕ) (p : Planned) (within :
         agree_kept k.archive l.archive k.now.names k.now.versions p.names p.texts there.names there.versions keeps.names keeps.texts
 
     leads : LeadsTo k p v l.archive
-    leads = plan.leads l.archive keeps
+    leads = plan l.archive keeps
 
     pub next_is : timeline_in to ≡ record (timeline_in from) { future = v ∷ [] }
     next_is =
@@ -99,3 +99,21 @@ module _ (t u : Timeline) (v : World) (next : u ≡ record t { future = v ∷ []
 pub refused_as : (A B : Type 0) (r : Result (Unit {0}) AllocError) → IsErr r → B → MatchResult r (λ x. A) (λ x. B)
 refused_as A B (Ok x) is b = absurd (true≢false (sym is))
 refused_as A B (Err e) is b = b
+
+-- a plan stays one where only room changes
+pub plan_moved : (k l : Kept) (p : Planned) (v : World) → l.now ≡ k.now → l.archive.names ≡ k.archive.names → l.archive.texts ≡ k.archive.texts
+    → KeepsRooms k.rooms l.rooms → IsPlan k p v → IsPlan l p v
+plan_moved k l p v now names texts rooms plan a keeps =
+    let kept : Keeps k.archive k.now p a = record {
+      names = keeps.names ∙ (λ i. take (now i).names (names i) ++ p.names);
+      texts = keeps.texts ∙ (λ i. take (now i).versions (texts i) ++ p.texts);
+    } in
+    let leads = plan a kept in
+    record {
+      turn = subst (λ w. IsTurn a p.turn w) (sym now) leads.turn;
+      there = subst (λ w. AreThere a (other a p.turn w)) (sym now) leads.there;
+      fits = subst (λ w. Fits l.rooms a (other a p.turn w)) (sym now) (fits_more k.rooms l.rooms a (other a p.turn k.now) rooms leads.fits);
+      world = ap (λ w. world_in a (other a p.turn w)) now ∙ leads.world;
+      names = subst (λ w. w.names ≤ p.turn.names) (sym now) leads.names;
+      versions = subst (λ w. w.versions ≤ p.turn.versions) (sym now) leads.versions;
+    }

@@ -74,9 +74,11 @@ impl History {
     fn set_next(&mut self, plan: Plan) -> Result<(), AllocError>
         requires { (v : World) × IsPlan self.old.kept plan v × IsValidWorld v × (length (timeline_in self.old).past < MOST_CHANGES) }
         ensures { (v : World) → IsPlan self.old.kept plan v
-            → MatchResult result (λ _. timeline_in self.new ≡ record (timeline_in self.old) { future = v ∷ [] }) (λ _. self.new ≡ self.old) }
+            → MatchResult result (λ _. timeline_in self.new ≡ record (timeline_in self.old) { future = v ∷ [] })
+            (λ _. timeline_in self.new ≡ timeline_in self.old) }
     {
         self.records.reserve(1)?;
+        self.present.reserve_kept(plan.names.len(), plan.versions.len())?;
         self.records.truncate(self.done);
         self.present.keep(plan.names, plan.versions);
         if self.records.push(plan.record).is_err() {

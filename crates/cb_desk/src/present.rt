@@ -1,5 +1,5 @@
 //! The present world in memory, in the numbers of an archive.
-ghost use Rattle.std.specs.Prelude.{◌≡◌, ◌≤◌, ◌+◌, ◌++◌, length, map, take};
+ghost use Rattle.std.specs.Prelude.{◌≡◌, ◌≤◌, ◌+◌, ◌++◌, ⊤, length, map, take, MatchOption, OnOk};
 ghost use Rattle.cb_scan.specs.Order.{in_order};
 ghost use Rattle.cb_index.specs.Files.{shown_name};
 ghost use Rattle.cb_index.specs.Names.{names_of};
@@ -12,8 +12,8 @@ ghost use Rattle.cb_desk.specs.steps.Texts.{bytes_if, bytes_if_other};
 use crate::edits::{Edit, turn_edits};
 use crate::place_list::PlaceList;
 use crate::record::Record;
-use cb_index::{Shelf, Shown, Version};
-use std::alloc::Global;
+use cb_index::{Room, Shelf, Shown, Version};
+use std::alloc::{AllocError, Global};
 use std::marker::Model;
 use std::mem;
 
@@ -120,6 +120,14 @@ fn keep_versions(shelf: &mut Shelf, versions: Vec<Version>)
     }
 }
 
+/// A number and a count together, if they are a number.
+fn sum(number: u32, count: usize) -> Option<u32>
+    ensures { MatchOption result ⊤ (λ n. n ≡ number + count) }
+{
+    let count = u32::try_from(count).ok()?;
+    number.checked_add(count)
+}
+
 impl Present {
     /// The world without a file. It takes no memory.
     pub(crate) fn new(alloc: Global) -> Present
@@ -152,6 +160,33 @@ impl Present {
         turn_places(&mut self.frames, &mut way.frames);
         mem::swap(&mut self.names, &mut way.names);
         mem::swap(&mut self.versions, &mut way.versions);
+    }
+
+    /// Makes room in the archive for so many more names and versions than this world and those before
+    /// it use.
+    pub(crate) fn reserve_kept(&mut self, names: usize, versions: usize) -> Result<(), AllocError>
+        ensures names { OnOk result (self.old.now.names + names ≤ self.new.archive.name_room) }
+        ensures versions { OnOk result (self.old.now.versions + versions ≤ self.new.archive.version_room) }
+        ensures same_names { self.new.archive.names ≡ self.old.archive.names }
+        ensures same_texts { self.new.archive.texts ≡ self.old.archive.texts }
+        ensures now { self.new.now ≡ self.old.now }
+        ensures rooms { KeepsRooms self.old.rooms self.new.rooms }
+    {
+        let (Some(names), Some(versions)) = (sum(self.names, names), sum(self.versions, versions)) else {
+            return Err(AllocError);
+        };
+        let room = Room {
+            names,
+            versions,
+            entries: 0,
+            defs: 0,
+            uses: 0,
+            calls: 0,
+        };
+        match self.shelf.reserve(&room) {
+            Ok(()) => Ok(()),
+            Err(_) => Err(AllocError),
+        }
     }
 
     /// Drops from the archive what only later worlds use, and keeps new names and versions, in the

@@ -1,5 +1,5 @@
 -- What a change brings to the archive, and the turn to the new world.
-use Rattle.std.specs.Prelude.{◌≡◌, ◌≤◌, ◌+◌, ℕ, List, ◌++◌, length, take}
+use Rattle.std.specs.Prelude.{◌≡◌, ◌≤◌, ℕ, List, ◌++◌, take}
 use Rattle.cb_index.specs.Archived.{Archived}
 use Rattle.cb_desk.specs.steps.Records.{AreThere, Fits, IsTurn, Kept, Numbered, Turn, other, world_in}
 use Rattle.cb_desk.specs.World.{World}
@@ -24,7 +24,5 @@ pub record LeadsTo (k : Kept) (p : Planned) (v : World) (a : Archived) : Type 0 
   pub names : k.now.names ≤ p.turn.names
   pub versions : k.now.versions ≤ p.turn.versions
 
-pub record IsPlan (k : Kept) (p : Planned) (v : World) : Type 0 where
-  pub leads : (a : Archived) → Keeps k.archive k.now p a → LeadsTo k p v a
-  pub name_room : k.now.names + length p.names ≤ k.archive.name_room
-  pub version_room : k.now.versions + length p.texts ≤ k.archive.version_room
+abbrev pub IsPlan : Kept → Planned → World → Type 0
+IsPlan k p v = (a : Archived) → Keeps k.archive k.now p a → LeadsTo k p v a

@@ -1,17 +1,17 @@
 -- Worlds in numbers, and what leads from one to another.
-use Rattle.std.specs.Prelude.{◌≡◌, ◌≤◌, ◌<◌, ℕ, List, [], ◌∷◌, ◌++◌, false, length, map, filter, not, nat_eq, Option, None, Some, slice_index_or}
+use Rattle.std.specs.Prelude.{◌≡◌, ◌≤◌, ◌<◌, ℕ, List, [], ◌∷◌, ◌++◌, false, length, map, filter, not, nat_eq, Option, None, Some}
 use Rattle.std.specs.List.{AllByRecursion}
 use Rattle.std.specs.List.Sorted.{IsStrictlyIncreasing}
 use Rattle.cb_scan.specs.Order.{in_order}
 use Rattle.cb_index.specs.Archived.{Archived, name_of}
-use Rattle.cb_index.specs.Files.{AreApart, call_count, def_count, shown_name, total, use_count}
+use Rattle.cb_index.specs.Files.{AreApart, call_count, def_count, files_of, shown_name, total, use_count}
 use Rattle.cb_index.specs.Names.{is_among, names_of}
 use Rattle.cb_index.specs.Shelved.{Shelved}
 use Rattle.cb_index.specs.declared.entry.Shown.{Shown}
 use Rattle.cb_desk.specs.declared.edits.Edit.{Edit}
 use Rattle.cb_desk.specs.declared.spot.NumberedPlace.{NumberedPlace}
 use Rattle.cb_desk.specs.steps.Edits.{edited, turned_edits}
-use Rattle.cb_desk.specs.World.{File, Place, World}
+use Rattle.cb_desk.specs.World.{Place, World}
 
 -- a world in numbers: what is shown of an archive, by file name; and how many names and versions of
 -- the archive this world and those before it use
@@ -34,16 +34,13 @@ pub record Turn : Type 0 where
   pub names : ℕ
   pub versions : ℕ
 
--- the file, the place and the world that numbers stand for
-abbrev pub file_in : Archived → Shown → File
-file_in a s = record { name = name_of a s.name; bytes = slice_index_or a.texts s.version [] }
-
+-- the place, and the world, that numbers stand for
 abbrev pub place_in : Archived → NumberedPlace → Place
 place_in a p = record { file = name_of a p.name; line = p.line }
 
 abbrev pub world_in : Archived → Numbered → World
 world_in a w = record {
-  files = map (file_in a) w.shown;
+  files = files_of a w.shown;
   wanted = w.wanted;
   marks = map (place_in a) w.marks;
   frames = map (place_in a) w.frames;

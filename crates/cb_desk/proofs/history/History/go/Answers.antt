@@ -6,7 +6,7 @@ use Rattle.cb_desk.proofs.history.History.go.Goals as goal
 
 pub returns-in_err-set_next : goal.returns-in_err-set_next
 returns-in_err-set_next c v plan =
-    refused_as _ _ c.from_residual.result c.from_residual.ensures.0 (ap timeline_in (c.in_err-set_next.ensures v plan))
+    refused_as _ _ c.from_residual.result c.from_residual.ensures.0 (c.in_err-set_next.ensures v plan)
 
 pub unreachable-requires : goal.unreachable-requires
 unreachable-requires c =
