@@ -36,3 +36,4 @@ pub mod TurnLemmas
 pub mod WalkLemmas
 pub mod ArchiveMoves
 pub mod PlanLemmas
+pub mod PlacePlans

@@ -9,6 +9,8 @@ ghost use Rattle.cb_desk.specs.steps.Edits.{turned_edits, edited};
 ghost use Rattle.cb_desk.specs.steps.Records.{AreThere, Fits, IsTurn, KeepsRooms, hidden, kept_wanted, no_numbers, other, other_wanted, turned, without};
 ghost use Rattle.cb_desk.specs.steps.Texts.{bytes_if, bytes_if_other};
 
+mod places;
+
 use crate::edits::{Edit, turn_edits};
 use crate::place_list::PlaceList;
 use crate::record::Record;

@@ -1,7 +1,11 @@
 -- What a change brings to the archive, and the turn to the new world.
-use Rattle.std.specs.Prelude.{◌≡◌, ◌≤◌, ℕ, List, ◌++◌, take}
+use Rattle.std.specs.Prelude.{◌≡◌, ◌≤◌, ◌<◌, ℕ, List, ◌++◌, map, take, Option}
+use Rattle.std.specs.List.{AllByRecursion}
 use Rattle.cb_index.specs.Archived.{Archived}
-use Rattle.cb_desk.specs.steps.Records.{AreThere, Fits, IsTurn, Kept, Numbered, Turn, other, world_in}
+use Rattle.cb_desk.specs.declared.edits.Edit.{Edit}
+use Rattle.cb_desk.specs.declared.spot.NumberedPlace.{NumberedPlace}
+use Rattle.cb_desk.specs.steps.Edits.{edited, turned_edits}
+use Rattle.cb_desk.specs.steps.Records.{AreThere, Fits, IsTurn, Kept, Numbered, Turn, other, other_wanted, place_in, world_in}
 use Rattle.cb_desk.specs.World.{World}
 
 -- new names and texts, and the turn
@@ -26,3 +30,16 @@ pub record LeadsTo (k : Kept) (p : Planned) (v : World) (a : Archived) : Type 0 
 
 abbrev pub IsPlan : Kept → Planned → World → Type 0
 IsPlan k p v = (a : Archived) → Keeps k.archive k.now p a → LeadsTo k p v a
+
+-- edits that can be taken back and leave places whose names are below that number
+pub record AreEdits (names : ℕ) (es : List Edit) (ps : List NumberedPlace) : Type 0 where
+  pub back : edited (turned_edits es) (edited es ps) ≡ ps
+  pub named : AllByRecursion (λ (p : NumberedPlace). p.name < names) (edited es ps)
+
+-- the world with other marks and frames, and another wanted text if there is one
+abbrev pub with_places : Archived → Numbered → Option (Option (List ℕ)) → (marks frames : List Edit) → World
+with_places a w wanted marks frames = record (world_in a w) {
+  wanted = other_wanted wanted w.wanted;
+  marks = map (place_in a) (edited marks w.marks);
+  frames = map (place_in a) (edited frames w.frames);
+}

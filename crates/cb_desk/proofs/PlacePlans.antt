@@ -1,0 +1,145 @@
+-- Plans that leave the files as they are.
+use Rattle.std.proofs.Common.{◌≡◌, ◌∙◌, ◌≤◌, ◌<◌, ◌+◌, ℕ, Bool, true, false, List, [], ◌∷◌, ◌++◌, refl, sym, ap, subst, length, map, take, drop, filter, not, arith, append-nil, length-append, take-append-drop}
+use Rattle.std.specs.Prelude.{Option, Result, Ok, Err, OnOk, cond}
+use Rattle.std.specs.List.{AllByRecursion}
+use Rattle.cb_scan.specs.Order.{AreOrdered, goes_first, in_order, put}
+use Rattle.cb_scan.proofs.OrderLemmas.{Sorted}
+use Rattle.cb_index.specs.Archived.{Archived}
+use Rattle.cb_index.specs.Files.{AreAscending, AreApart, call_count, def_count, files_of, shown_name, total, use_count}
+use Rattle.cb_index.specs.declared.entry.Shown.{Shown}
+use Rattle.cb_index.proofs.KeptLemmas.{ascending_sorted}
+use Rattle.cb_index.proofs.ListedLemmas.{ascending_apart}
+use Rattle.cb_desk.specs.declared.edits.Edit.{Edit}
+use Rattle.cb_desk.specs.declared.spot.NumberedPlace.{NumberedPlace}
+use Rattle.cb_desk.specs.steps.Edits.{edited}
+use Rattle.cb_desk.specs.steps.Plans.{AreEdits, IsPlan, Keeps, LeadsTo, Planned, with_places}
+use Rattle.cb_desk.specs.steps.Records.{AreThere, Fits, IsTurn, Kept, KeepsRooms, Numbered, Turn, other, other_wanted, place_in, without, world_in}
+use Rattle.cb_desk.specs.steps.Walks.{IsKept}
+use Rattle.cb_desk.proofs.WalkLemmas.{kept_more}
+use Rattle.cb_desk.proofs.ArchiveMoves.{Agree, agree_kept, apart_same, below_places, below_shown, files_same, order_same, places_same, total_same}
+
+-- ---- the length of an edited list
+pub edited_length : (es : List Edit) (ps : List NumberedPlace) → length (edited es ps) ≤ length ps + length es
+edited_length [] ps = omega arith
+edited_length (e ∷ es) ps =
+    let here = parts e.kept ps in
+    let put = edited_length es (drop e.kept ps) in
+    let taken = edited_length es (drop 1 (drop e.kept ps)) in
+    let fewer = drop_one (drop e.kept ps) in
+    elim e.is_put as (λ b. length (take e.kept ps ++ (cond b (e.place ∷ edited es (drop e.kept ps)) (edited es (drop 1 (drop e.kept ps))))) ≤ length ps + length (e ∷ es)) [
+      | true ↦ let all = length-append (take e.kept ps) (e.place ∷ edited es (drop e.kept ps)) in omega (arith, here, put, all)
+      | false ↦ let all = length-append (take e.kept ps) (edited es (drop 1 (drop e.kept ps))) in omega (arith, here, taken, fewer, all)
+    ]
+  where
+    parts : (n : ℕ) (xs : List NumberedPlace) → length (take n xs) + length (drop n xs) ≡ length xs
+    parts n xs = sym (length-append (take n xs) (drop n xs)) ∙ ap length (take-append-drop n xs)
+
+    drop_one : (xs : List NumberedPlace) → length (drop 1 xs) ≤ length xs
+    drop_one [] = omega arith
+    drop_one (x ∷ xs) = omega arith
+
+-- ---- a list that is in order
+put_first : {X : Type 0} (key : X → List ℕ) (x : X) (xs : List X) → AllByRecursion (λ y. goes_first key x y ≡ true) xs → put key x xs ≡ x ∷ xs
+unfolding put
+put_first key x [] all = refl
+put_first key x (y ∷ ys) all = ap (λ b. cond b (x ∷ y ∷ ys) (y ∷ put key x ys)) all.0
+
+pub settled : {X : Type 0} (key : X → List ℕ) (xs : List X) → Sorted key xs → in_order key xs ≡ xs
+unfolding in_order AreOrdered
+settled key [] sorted = refl
+settled key (x ∷ xs) sorted = ap (put key x) (settled key xs sorted.1) ∙ put_first key x xs sorted.0
+
+-- ---- nothing is hidden and nothing is shown
+pub without_none : (shown : List Shown) → without [] shown ≡ shown
+without_none [] = refl
+without_none (s ∷ shown) = ap (λ xs. s ∷ xs) (without_none shown)
+
+module _ (k : Kept) (p : Planned) (wanted : Option (Option (List ℕ))) (marks frames : List Edit) (kept : IsKept k.rooms k.archive k.now)
+    (ascending : AreAscending k.archive k.now.shown) (names : p.names ≡ []) (texts : p.texts ≡ [])
+    (turn : p.turn ≡ record { hides = []; shows = []; wanted = wanted; marks = marks; frames = frames; names = k.now.names; versions = k.now.versions })
+    (are_marks : AreEdits k.now.names marks k.now.marks) (are_frames : AreEdits k.now.names frames k.now.frames)
+    (fits_marks : length (edited marks k.now.marks) ≤ k.rooms.marks) (fits_frames : length (edited frames k.now.frames) ≤ k.rooms.frames) where
+  abbrev the_turn : Turn
+  the_turn = record { hides = []; shows = []; wanted = wanted; marks = marks; frames = frames; names = k.now.names; versions = k.now.versions }
+
+  module _ (a : Archived) (keeps : Keeps k.archive k.now p a) where
+    agree : Agree k.archive a k.now.names k.now.versions
+    agree = agree_kept k.archive a k.now.names k.now.versions p.names p.texts kept.there.names kept.there.versions keeps.names keeps.texts
+
+    all_below : AllByRecursion (λ (s : Shown). (s.name < k.now.names) × (s.version < k.now.versions)) k.now.shown
+    all_below = below_shown k.archive a k.now.names k.now.versions agree k.now kept.there (omega arith) (omega arith)
+
+    both_same : without [] k.now.shown ++ [] ≡ k.now.shown
+    both_same = append-nil (without [] k.now.shown) ∙ without_none k.now.shown
+
+    in_place : in_order (shown_name a) k.now.shown ≡ k.now.shown
+    in_place =
+        order_same k.archive a k.now.names k.now.versions agree k.now.shown all_below
+        ∙ settled (shown_name k.archive) k.now.shown (ascending_sorted k.archive k.now.shown ascending)
+
+    shown_same : in_order (shown_name a) (without [] k.now.shown ++ []) ≡ k.now.shown
+    shown_same = ap (in_order (shown_name a)) both_same ∙ in_place
+
+    stays_apart : AreApart a (without [] k.now.shown ++ [])
+    stays_apart =
+        subst (AreApart a) (sym both_same)
+        (apart_same k.archive a k.now.names k.now.versions agree k.now.shown all_below (ascending_apart k.archive k.now.shown ascending))
+
+    abbrev then : Numbered
+    then = other a the_turn k.now
+
+    leads : LeadsTo k (record p { turn = the_turn }) (with_places k.archive k.now wanted marks frames) a
+    leads = record {
+      turn = record {
+        hides_rise = λ i below. absurd (omega (arith, below));
+        shows_rise = λ i below. absurd (omega (arith, below));
+        apart = stays_apart;
+        apart_then = stays_apart;
+        shown = shown_same;
+        others = ap (without []) shown_same;
+        marks = are_marks.back;
+        frames = are_frames.back;
+      };
+      there = record {
+        shown = subst (AllByRecursion (λ (s : Shown). (s.name < k.now.names) × (s.version < k.now.versions))) (sym shown_same) all_below;
+        marks = are_marks.named;
+        frames = are_frames.named;
+        names = agree.name_count;
+        versions = agree.text_count;
+      };
+      fits = record {
+        files = subst (λ xs. length xs ≤ k.rooms.files) (sym shown_same) kept.fits.files;
+        defs = totals def_count k.rooms.defs kept.fits.defs;
+        uses = totals use_count k.rooms.uses kept.fits.uses;
+        calls = totals call_count k.rooms.calls kept.fits.calls;
+        marks = fits_marks;
+        frames = fits_frames;
+      };
+      world = λ i. record {
+        files = (ap (files_of a) shown_same ∙ files_same k.archive a k.now.names k.now.versions agree k.now.shown all_below) i;
+        wanted = other_wanted wanted k.now.wanted;
+        marks = places_same k.archive a k.now.names k.now.versions agree (edited marks k.now.marks) are_marks.named i;
+        frames = places_same k.archive a k.now.names k.now.versions agree (edited frames k.now.frames) are_frames.named i;
+      };
+      names = omega arith;
+      versions = omega arith;
+    }
+      where
+        totals : (count : Option (List ℕ) → ℕ) (room : ℕ) → total count k.archive k.now.shown ≤ room → total count a then.shown ≤ room
+        totals count room fits =
+            subst (λ xs. total count a xs ≤ room) (sym shown_same)
+            (subst (λ n. n ≤ room) (sym (total_same k.archive a k.now.names k.now.versions agree count k.now.shown all_below)) fits)
+
+  pub places_planned : IsPlan k p (with_places k.archive k.now wanted marks frames)
+  places_planned a keeps = subst (λ t. LeadsTo k (record p { turn = t }) (with_places k.archive k.now wanted marks frames) a) (sym turn) (leads a keeps)
+
+-- what a growth gives, where it is not refused
+pub on_ok : {E : Type 0} (P Q : Type 0) (r : Result (Unit {0}) E) → (P → Q) → OnOk r P → OnOk r Q
+on_ok P Q (Ok x) f p = f p
+on_ok P Q (Err e) f p = p
+
+-- what is kept stays so where only room changes
+pub still_kept : (k l : Kept) → l.archive ≡ k.archive → l.now ≡ k.now → KeepsRooms k.rooms l.rooms → IsKept k.rooms k.archive k.now
+    → IsKept l.rooms l.archive l.now
+still_kept k l archive now rooms is =
+    subst (λ a. IsKept l.rooms a l.now) (sym archive) (subst (λ w. IsKept l.rooms k.archive w) (sym now) (kept_more k.rooms l.rooms k.archive k.now rooms is))
