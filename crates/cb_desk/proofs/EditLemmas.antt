@@ -1,5 +1,7 @@
 -- Lemmas on edits of a list of places.
-use Rattle.std.proofs.Common.{◌≡◌, ◌∙◌, sym, ap, refl, ℕ, ◌+◌, Bool, true, false, List, [], ◌∷◌, ◌++◌, ◌≤◌, length, drop, omega, arith, grind, append-nil}
+use Rattle.std.proofs.Common.{◌≡◌, ◌∙◌, sym, ap, refl, ℕ, suc, ◌+◌, Bool, true, false, List, [], ◌∷◌, ◌++◌, ◌≤◌, length, take, drop, arith, append-nil, append_assoc}
+use Rattle.std.proofs.Math.Seq.{take-append_seam, drop-append_seam, take-length}
+use Rattle.std.proofs.lemmas.List.{drop_all}
 use Rattle.cb_desk.specs.declared.edits.Edit.{Edit}
 use Rattle.cb_desk.specs.declared.spot.NumberedPlace.{NumberedPlace}
 use Rattle.cb_desk.specs.steps.Edits.{Begins, IsDifference, edited, turned_edit, turned_edits}
@@ -11,7 +13,7 @@ raised n (e ∷ es) = record e { kept = n + e.kept } ∷ es
 
 pub raised_none : (es : List Edit) → raised 0 es ≡ es
 raised_none [] = refl
-raised_none (e ∷ es) = refl
+raised_none (e ∷ es) = let z : 0 + e.kept ≡ e.kept = omega arith in ap (λ k. record e { kept = k } ∷ es) z
 
 pub raised_more : (n : ℕ) (es : List Edit) → raised n (raised 1 es) ≡ raised (n + 1) es
 raised_more n [] = refl
@@ -20,7 +22,7 @@ raised_more n (e ∷ es) = let m : n + (1 + e.kept) ≡ n + 1 + e.kept = omega a
 -- a place that both lists begin with stays
 pub edited_after : (p : NumberedPlace) (es : List Edit) (ps : List NumberedPlace) → edited (raised 1 es) (p ∷ ps) ≡ p ∷ edited es ps
 edited_after p [] ps = refl
-edited_after p (e ∷ es) ps = refl
+edited_after p (e ∷ es) ps = let s : 1 + e.kept ≡ suc e.kept = omega arith in ap (λ k. edited (record e { kept = k } ∷ es) (p ∷ ps)) s
 
 turned_raised : (es : List Edit) → turned_edits (raised 1 es) ≡ raised 1 (turned_edits es)
 turned_raised [] = refl
@@ -60,7 +62,11 @@ goes_kept made kept p olds news old new o n goes es d =
 -- one edit more
 one_more : (made : List Edit) (kept : ℕ) (p : NumberedPlace) (b : Bool) (es : List Edit)
     → made ++ raised kept (record { kept = 0; place = p; is_put = b } ∷ es) ≡ (made ++ record { kept = kept; place = p; is_put = b } ∷ []) ++ raised 0 es
-one_more made kept p b es = grind
+one_more made kept p b es =
+    let z : kept + 0 ≡ kept = omega arith in
+    ap (λ k. made ++ record { kept = k; place = p; is_put = b } ∷ es) z
+    ∙ ap (λ xs. made ++ record { kept = kept; place = p; is_put = b } ∷ xs) (sym (raised_none es))
+    ∙ sym (append_assoc made (record { kept = kept; place = p; is_put = b } ∷ []) (raised 0 es))
 
 pub goes_taken : (made : List Edit) (kept : ℕ) (p : NumberedPlace) (olds news old new : List NumberedPlace)
     → Begins p olds → Goes made kept olds news old new
@@ -80,6 +86,24 @@ pub goes_last : (made : List Edit) (kept : ℕ) (olds news old new : List Number
     → IsDifference [] olds news → Goes made kept olds news old new → IsDifference made old new
 goes_last made kept olds news old new d goes = rw (append-nil made) at (goes [] d)
 
-pub shorter : {p : NumberedPlace} (kept most : ℕ) (ps : List NumberedPlace) → Begins p ps → kept + length ps ≤ most → kept + 1 + length (drop 1 ps) ≤ most
-shorter kept most [] b h = elim b [ ]
-shorter kept most (q ∷ ps) b h = omega arith
+pub shorter : (p : NumberedPlace) (kept most : ℕ) (ps : List NumberedPlace) → Begins p ps → kept + length ps ≤ most → kept + 1 + length (drop 1 ps) ≤ most
+shorter p kept most [] b h = cc
+shorter p kept most (q ∷ ps) b h = omega (arith, h)
+
+-- ---- one edit at the end
+pub pushed_behind : (p : NumberedPlace) (ps : List NumberedPlace)
+    → IsDifference (record { kept = length ps; place = p; is_put = true } ∷ []) ps (ps ++ p ∷ [])
+pushed_behind p ps = record {
+  on = (λ i. take_length ps i ++ p ∷ drop_length ps i);
+  back = (λ i. take-append_seam ps (p ∷ []) i ++ drop 1 (drop-append_seam ps (p ∷ []) i)) ∙ append-nil ps;
+}
+  where
+    take_length : (xs : List NumberedPlace) → take (length xs) xs ≡ xs
+    take_length xs = take-length xs
+
+    drop_length : (xs : List NumberedPlace) → drop (length xs) xs ≡ []
+    drop_length xs = drop_all (length xs) xs (omega arith)
+
+pub popped_behind : (p : NumberedPlace) (front : List NumberedPlace)
+    → IsDifference (record { kept = length front; place = p; is_put = false } ∷ []) (front ++ p ∷ []) front
+popped_behind p front = record { on = (pushed_behind p front).back; back = (pushed_behind p front).on }

@@ -1,5 +1,5 @@
 //! What a change does to a list of places, kept so that it can be taken back and done again.
-ghost use Rattle.std.specs.Prelude.{◌≡◌, ◌≤◌, ◌+◌, ◌++◌, [], length, drop, vec_capacity, IfOk, MatchOption};
+ghost use Rattle.std.specs.Prelude.{◌≡◌, ◌≤◌, ◌+◌, ◌-◌, ◌++◌, ◌∷◌, [], length, drop, take, vec_capacity, IfOk, MatchOption};
 ghost use Rattle.cb_desk.specs.steps.Edits.{IsDifference, IsFirstStep, edited, turned_edit, turned_edits};
 
 use crate::spot::NumberedPlace;
@@ -150,4 +150,35 @@ pub(crate) fn difference(
         }
     }
     Ok(edits)
+}
+
+/// One edit.
+fn one_edit(alloc: Global, edit: Edit) -> Result<Vec<Edit>, AllocError>
+    ensures { IfOk result (λ edits. edits.items ≡ edit ∷ []) }
+{
+    let mut edits = Vec::with_capacity(alloc, 1)?;
+    edits.push(edit)?;
+    Ok(edits)
+}
+
+/// The edits that put a place behind all others.
+pub(crate) fn push_edits(
+    alloc: Global,
+    places: &[NumberedPlace],
+    place: NumberedPlace,
+) -> Result<Vec<Edit>, AllocError>
+    ensures { IfOk result (λ edits. IsDifference edits.items places.now (places.now ++ place ∷ [])) }
+{
+    let kept = places.len();
+    one_edit(alloc, Edit { kept, place, is_put: true })
+}
+
+/// The edits that take the last place out, if there is one.
+pub(crate) fn pop_edits(alloc: Global, places: &[NumberedPlace]) -> Result<Vec<Edit>, AllocError>
+    ensures { IfOk result (λ edits. IsDifference edits.items places.now (take (length places.now - 1) places.now)) }
+{
+    match places.split_last() {
+        Some((last, rest)) => one_edit(alloc, Edit { kept: rest.len(), place: *last, is_put: false }),
+        None => Ok(Vec::new(alloc)),
+    }
 }
