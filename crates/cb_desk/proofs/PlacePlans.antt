@@ -57,8 +57,7 @@ without_none (s ∷ shown) = ap (λ xs. s ∷ xs) (without_none shown)
 module _ (k : Kept) (p : Planned) (wanted : Option (Option (List ℕ))) (marks frames : List Edit) (kept : IsKept k.rooms k.archive k.now)
     (ascending : AreAscending k.archive k.now.shown) (names : p.names ≡ []) (texts : p.texts ≡ [])
     (turn : p.turn ≡ record { hides = []; shows = []; wanted = wanted; marks = marks; frames = frames; names = k.now.names; versions = k.now.versions })
-    (are_marks : AreEdits k.now.names marks k.now.marks) (are_frames : AreEdits k.now.names frames k.now.frames)
-    (fits_marks : length (edited marks k.now.marks) ≤ k.rooms.marks) (fits_frames : length (edited frames k.now.frames) ≤ k.rooms.frames) where
+    (are_marks : AreEdits k.now.names marks k.now.marks) (are_frames : AreEdits k.now.names frames k.now.frames) where
   abbrev the_turn : Turn
   the_turn = record { hides = []; shows = []; wanted = wanted; marks = marks; frames = frames; names = k.now.names; versions = k.now.versions }
 
@@ -107,14 +106,6 @@ module _ (k : Kept) (p : Planned) (wanted : Option (Option (List ℕ))) (marks f
         names = agree.name_count;
         versions = agree.text_count;
       };
-      fits = record {
-        files = subst (λ xs. length xs ≤ k.rooms.files) (sym shown_same) kept.fits.files;
-        defs = totals def_count k.rooms.defs kept.fits.defs;
-        uses = totals use_count k.rooms.uses kept.fits.uses;
-        calls = totals call_count k.rooms.calls kept.fits.calls;
-        marks = fits_marks;
-        frames = fits_frames;
-      };
       world = λ i. record {
         files = (ap (files_of a) shown_same ∙ files_same k.archive a k.now.names k.now.versions agree k.now.shown all_below) i;
         wanted = other_wanted wanted k.now.wanted;
@@ -124,22 +115,7 @@ module _ (k : Kept) (p : Planned) (wanted : Option (Option (List ℕ))) (marks f
       names = omega arith;
       versions = omega arith;
     }
-      where
-        totals : (count : Option (List ℕ) → ℕ) (room : ℕ) → total count k.archive k.now.shown ≤ room → total count a then.shown ≤ room
-        totals count room fits =
-            subst (λ xs. total count a xs ≤ room) (sym shown_same)
-            (subst (λ n. n ≤ room) (sym (total_same k.archive a k.now.names k.now.versions agree count k.now.shown all_below)) fits)
 
   pub places_planned : IsPlan k p (with_places k.archive k.now wanted marks frames)
   places_planned a keeps = subst (λ t. LeadsTo k (record p { turn = t }) (with_places k.archive k.now wanted marks frames) a) (sym turn) (leads a keeps)
 
--- what a growth gives, where it is not refused
-pub on_ok : {E : Type 0} (P Q : Type 0) (r : Result (Unit {0}) E) → (P → Q) → OnOk r P → OnOk r Q
-on_ok P Q (Ok x) f p = f p
-on_ok P Q (Err e) f p = p
-
--- what is kept stays so where only room changes
-pub still_kept : (k l : Kept) → l.archive ≡ k.archive → l.now ≡ k.now → KeepsRooms k.rooms l.rooms → IsKept k.rooms k.archive k.now
-    → IsKept l.rooms l.archive l.now
-still_kept k l archive now rooms is =
-    subst (λ a. IsKept l.rooms a l.now) (sym archive) (subst (λ w. IsKept l.rooms k.archive w) (sym now) (kept_more k.rooms l.rooms k.archive k.now rooms is))

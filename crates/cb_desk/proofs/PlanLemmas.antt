@@ -9,11 +9,11 @@ use Rattle.std.specs.declared.alloc.AllocError.{AllocError}
 use Rattle.cb_desk.specs.declared.refusal.Refusal.{Refusal}
 use Rattle.cb_desk.specs.Timeline.{Timeline, IsValidTimeline, Moves, moved_on, redone}
 use Rattle.cb_desk.specs.World.{World, IsValidWorld}
-use Rattle.cb_desk.specs.steps.Plans.{IsPlan, Keeps, LeadsTo, Planned}
+use Rattle.cb_desk.specs.steps.Plans.{HasRoomFor, IsPlan, Keeps, LeadsTo, Planned}
 use Rattle.cb_desk.specs.steps.Records.{AreThere, Fits, IsTurn, Kept, KeepsRooms, Numbered, Turn, other, world_in}
 use Rattle.cb_desk.specs.steps.Walks.{IsKept, IsRecorded, LeadsBack, LeadsOn, Recorded, timeline_in, turns_back, turns_on, walk, worlds_in}
 use Rattle.cb_desk.proofs.ArchiveMoves.{Agree, agree_kept, back_same, kept_same, walk_same, world_same}
-use Rattle.cb_desk.proofs.WalkLemmas.{back_more, fits_more, kept_back, kept_more, line}
+use Rattle.cb_desk.proofs.WalkLemmas.{back_more, kept_back, kept_more, line}
 
 module _ (k l : Kept) (records : List Turn) (done : ℕ) (p : Planned) (within : done ≤ length records)
     (keeps : Keeps k.archive k.now p l.archive) (now : l.now ≡ k.now) (rooms : KeepsRooms k.rooms l.rooms) where
@@ -54,14 +54,14 @@ module _ (k l : Kept) (records : List Turn) (done : ℕ) (p : Planned) (within :
             future = leads.world i ∷ [];
         })
 
-    pub next_recorded : IsValidWorld v → length (timeline_in from).past < MOST_CHANGES → IsRecorded to
+    pub next_recorded : HasRoomFor k.rooms k.archive k.now p → IsValidWorld v → length (timeline_in from).past < MOST_CHANGES → IsRecorded to
     unfolding LeadsOn
-    next_recorded valid short =
+    next_recorded fits valid short =
         let back : LeadsBack l.rooms l.archive k.now (turns_back from) =
         back_more k.rooms l.rooms l.archive k.now (turns_back from) rooms
         (back_same k.archive l.archive k.now.names k.now.versions agree k.rooms k.now (turns_back from) (omega arith) (omega arith) is.back) in
         let then : IsKept l.rooms l.archive (other l.archive p.turn k.now) =
-        kept_more k.rooms l.rooms l.archive (other l.archive p.turn k.now) rooms (record { there = leads.there; fits = leads.fits }) in
+        kept_more k.rooms l.rooms l.archive (other l.archive p.turn k.now) rooms (record { there = leads.there; fits = fits l.archive keeps }) in
         record {
           within = let e = length-append (take done records) (p.turn ∷ []) in omega (arith, e, long);
           back = subst (λ bs. LeadsBack l.rooms l.archive l.now bs) (sym back_is) (subst (λ w. LeadsBack l.rooms l.archive w (turns_back from)) (sym now) back);
@@ -102,8 +102,8 @@ refused_as A B (Err e) is b = b
 
 -- a plan stays one where only room changes
 pub plan_moved : (k l : Kept) (p : Planned) (v : World) → l.now ≡ k.now → l.archive.names ≡ k.archive.names → l.archive.texts ≡ k.archive.texts
-    → KeepsRooms k.rooms l.rooms → IsPlan k p v → IsPlan l p v
-plan_moved k l p v now names texts rooms plan a keeps =
+    → IsPlan k p v → IsPlan l p v
+plan_moved k l p v now names texts plan a keeps =
     let kept : Keeps k.archive k.now p a = record {
       names = keeps.names ∙ (λ i. take (now i).names (names i) ++ p.names);
       texts = keeps.texts ∙ (λ i. take (now i).versions (texts i) ++ p.texts);
@@ -112,8 +112,17 @@ plan_moved k l p v now names texts rooms plan a keeps =
     record {
       turn = subst (λ w. IsTurn a p.turn w) (sym now) leads.turn;
       there = subst (λ w. AreThere a (other a p.turn w)) (sym now) leads.there;
-      fits = subst (λ w. Fits l.rooms a (other a p.turn w)) (sym now) (fits_more k.rooms l.rooms a (other a p.turn k.now) rooms leads.fits);
       world = ap (λ w. world_in a (other a p.turn w)) now ∙ leads.world;
       names = subst (λ w. w.names ≤ p.turn.names) (sym now) leads.names;
       versions = subst (λ w. w.versions ≤ p.turn.versions) (sym now) leads.versions;
     }
+
+-- and so does room
+pub room_moved : (k l : Kept) (p : Planned) → l.now ≡ k.now → l.archive.names ≡ k.archive.names → l.archive.texts ≡ k.archive.texts
+    → HasRoomFor l.rooms k.archive k.now p → HasRoomFor l.rooms l.archive l.now p
+room_moved k l p now names texts room a keeps =
+    subst (λ w. Fits l.rooms a (other a p.turn w)) (sym now)
+    (room a (record {
+      names = keeps.names ∙ (λ i. take (now i).names (names i) ++ p.names);
+      texts = keeps.texts ∙ (λ i. take (now i).versions (texts i) ++ p.texts);
+    }))

@@ -78,7 +78,7 @@ impl History {
             (λ _. timeline_in self.new ≡ timeline_in self.old) }
     {
         self.records.reserve(1)?;
-        self.present.reserve_kept(plan.names.len(), plan.versions.len())?;
+        self.present.reserve_for(&plan)?;
         self.records.truncate(self.done);
         self.present.keep(plan.names, plan.versions);
         if self.records.push(plan.record).is_err() {

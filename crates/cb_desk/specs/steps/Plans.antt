@@ -5,7 +5,7 @@ use Rattle.cb_index.specs.Archived.{Archived}
 use Rattle.cb_desk.specs.declared.edits.Edit.{Edit}
 use Rattle.cb_desk.specs.declared.spot.NumberedPlace.{NumberedPlace}
 use Rattle.cb_desk.specs.steps.Edits.{edited, turned_edits}
-use Rattle.cb_desk.specs.steps.Records.{AreThere, Fits, IsTurn, Kept, Numbered, Turn, other, other_wanted, place_in, world_in}
+use Rattle.cb_desk.specs.steps.Records.{AreThere, Fits, IsTurn, Kept, Numbered, Rooms, Turn, other, other_wanted, place_in, world_in}
 use Rattle.cb_desk.specs.World.{World}
 
 -- new names and texts, and the turn
@@ -19,17 +19,21 @@ pub record Keeps (old : Archived) (w : Numbered) (p : Planned) (new : Archived) 
   pub names : new.names ≡ take w.names old.names ++ p.names
   pub texts : new.texts ≡ take w.versions old.texts ++ p.texts
 
--- the turn leads to that world in every such archive, in the room that is there
+-- the turn leads to that world in such an archive
 pub record LeadsTo (k : Kept) (p : Planned) (v : World) (a : Archived) : Type 0 where
   pub turn : IsTurn a p.turn k.now
   pub there : AreThere a (other a p.turn k.now)
-  pub fits : Fits k.rooms a (other a p.turn k.now)
   pub world : world_in a (other a p.turn k.now) ≡ v
   pub names : k.now.names ≤ p.turn.names
   pub versions : k.now.versions ≤ p.turn.versions
 
+-- the turn leads to that world in every such archive
 abbrev pub IsPlan : Kept → Planned → World → Type 0
 IsPlan k p v = (a : Archived) → Keeps k.archive k.now p a → LeadsTo k p v a
+
+-- there is room for the world that the turn leads to, in every such archive
+abbrev pub HasRoomFor : Rooms → Archived → Numbered → Planned → Type 0
+HasRoomFor rooms old w p = (a : Archived) → Keeps old w p a → Fits rooms a (other a p.turn w)
 
 -- edits that can be taken back and leave places whose names are below that number
 pub record AreEdits (names : ℕ) (es : List Edit) (ps : List NumberedPlace) : Type 0 where
