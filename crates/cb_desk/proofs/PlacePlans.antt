@@ -1,6 +1,6 @@
 -- Plans that leave the files as they are.
-use Rattle.std.proofs.Common.{◌≡◌, ◌∙◌, ◌≤◌, ◌<◌, ◌+◌, ℕ, Bool, true, false, List, [], ◌∷◌, ◌++◌, refl, sym, ap, subst, length, map, take, drop, filter, not, arith, append-nil, length-append, take-append-drop}
-use Rattle.std.specs.Prelude.{Option, Result, Ok, Err, OnOk, cond}
+use Rattle.std.proofs.Common.{◌≡◌, ◌∙◌, ◌≤◌, ◌<◌, ◌+◌, ◌-◌, ℕ, zero, suc, Bool, true, false, List, [], ◌∷◌, ◌++◌, refl, sym, ap, subst, length, map, take, drop, filter, not, arith, append-nil, length-append, take-append-drop}
+use Rattle.std.specs.Prelude.{Option, None, Result, Ok, Err, IfOk, cond}
 use Rattle.std.specs.List.{AllByRecursion}
 use Rattle.cb_scan.specs.Order.{AreOrdered, goes_first, in_order, put}
 use Rattle.cb_scan.proofs.OrderLemmas.{Sorted}
@@ -11,7 +11,10 @@ use Rattle.cb_index.proofs.KeptLemmas.{ascending_sorted}
 use Rattle.cb_index.proofs.ListedLemmas.{ascending_apart}
 use Rattle.cb_desk.specs.declared.edits.Edit.{Edit}
 use Rattle.cb_desk.specs.declared.spot.NumberedPlace.{NumberedPlace}
-use Rattle.cb_desk.specs.steps.Edits.{edited}
+use Rattle.std.proofs.lemmas.List.{length-map}
+use Rattle.cb_desk.specs.Stack.{popped}
+use Rattle.cb_desk.specs.World.{World}
+use Rattle.cb_desk.specs.steps.Edits.{IsDifference, edited, turned_edits}
 use Rattle.cb_desk.specs.steps.Plans.{AreEdits, IsPlan, Keeps, LeadsTo, Planned, with_places}
 use Rattle.cb_desk.specs.steps.Records.{AreThere, Fits, IsTurn, Kept, KeepsRooms, Numbered, Turn, other, other_wanted, place_in, without, world_in}
 use Rattle.cb_desk.specs.steps.Walks.{IsKept}
@@ -119,3 +122,57 @@ module _ (k : Kept) (p : Planned) (wanted : Option (Option (List ℕ))) (marks f
   pub places_planned : IsPlan k p (with_places k.archive k.now wanted marks frames)
   places_planned a keeps = subst (λ t. LeadsTo k (record p { turn = t }) (with_places k.archive k.now wanted marks frames) a) (sym turn) (leads a keeps)
 
+
+-- ---- edits that make one list from another
+pub are_edits : (names : ℕ) (es : List Edit) (ps qs : List NumberedPlace) → IsDifference es ps qs
+    → AllByRecursion (λ (p : NumberedPlace). p.name < names) qs → AreEdits names es ps
+are_edits names es ps qs is named = record {
+  back = ap (edited (turned_edits es)) is.on ∙ is.back;
+  named = subst (AllByRecursion (λ (p : NumberedPlace). p.name < names)) (sym is.on) named;
+}
+
+pub no_edits : (names : ℕ) (es : List Edit) (ps : List NumberedPlace) → es ≡ [] → AllByRecursion (λ (p : NumberedPlace). p.name < names) ps → AreEdits names es ps
+no_edits names es ps none named =
+    subst (λ xs. AreEdits names xs ps) (sym none) (record { back = refl; named = named })
+
+-- what is taken of places that are below a number is
+pub below_taken : (names n : ℕ) (ps : List NumberedPlace) → AllByRecursion (λ (p : NumberedPlace). p.name < names) ps
+    → AllByRecursion (λ (p : NumberedPlace). p.name < names) (take n ps)
+below_taken names zero ps all = tt
+below_taken names (suc n) [] all = tt
+below_taken names (suc n) (p ∷ ps) all = (all.0, below_taken names n ps all.1)
+
+pub below_pushed : (names : ℕ) (p : NumberedPlace) (ps : List NumberedPlace) → p.name < names → AllByRecursion (λ (q : NumberedPlace). q.name < names) ps
+    → AllByRecursion (λ (q : NumberedPlace). q.name < names) (ps ++ p ∷ [])
+below_pushed names p [] here all = (here, tt)
+below_pushed names p (q ∷ ps) here all = (all.0, below_pushed names p ps here all.1)
+
+-- ---- the worlds of such edits
+module _ (k : Kept) (v : World) (wanted : Option (Option (List ℕ))) (marks frames : List Edit) (new_marks new_frames : List NumberedPlace)
+    (are_marks : edited marks k.now.marks ≡ new_marks) (are_frames : edited frames k.now.frames ≡ new_frames) where
+  pub world_of_edits : with_places k.archive k.now wanted marks frames
+      ≡ record (world_in k.archive k.now) { wanted = other_wanted wanted k.now.wanted; marks = map (place_in k.archive) new_marks; frames = map (place_in k.archive) new_frames }
+  world_of_edits = λ i. record (world_in k.archive k.now) {
+    wanted = other_wanted wanted k.now.wanted;
+    marks = map (place_in k.archive) (are_marks i);
+    frames = map (place_in k.archive) (are_frames i);
+  }
+
+-- the world without its top frame
+module _ (a : Archived) where
+  taken_places : (n : ℕ) (ps : List NumberedPlace) → map (place_in a) (take n ps) ≡ take n (map (place_in a) ps)
+  taken_places zero ps = refl
+  taken_places (suc n) [] = refl
+  taken_places (suc n) (p ∷ ps) = ap (λ xs. place_in a p ∷ xs) (taken_places n ps)
+
+  pub popped_world : (w : Numbered) (frames : List Edit) → edited frames w.frames ≡ take (length w.frames - 1) w.frames
+      → with_places a w None [] frames ≡ popped (world_in a w)
+  popped_world w frames is =
+      ap (λ xs. record (world_in a w) { frames = xs })
+      (ap (map (place_in a)) is ∙ taken_places (length w.frames - 1) w.frames
+      ∙ ap (λ n. take (n - 1) (map (place_in a) w.frames)) (sym (length-map w.frames (place_in a))))
+
+-- what holds of a value that is given holds as well
+pub ok_along : {T E : Type 0} (P Q : T → Type 0) (r : Result T E) → ((x : T) → P x → Q x) → IfOk r P → IfOk r Q
+ok_along P Q (Ok x) along p = along x p
+ok_along P Q (Err e) along p = p

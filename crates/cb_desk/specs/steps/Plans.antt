@@ -47,3 +47,7 @@ with_places a w wanted marks frames = record (world_in a w) {
   marks = map (place_in a) (edited marks w.marks);
   frames = map (place_in a) (edited frames w.frames);
 }
+
+-- the world with other marks, and another wanted text if there is one
+abbrev pub with_marks : Archived → Numbered → Option (Option (List ℕ)) → List NumberedPlace → World
+with_marks a w wanted marks = record (world_in a w) { wanted = other_wanted wanted w.wanted; marks = map (place_in a) marks }
