@@ -22,6 +22,7 @@ pub mod PlaceOrder
 pub mod Placed
 pub mod ReplacedLines
 pub mod Replays
+pub mod RowsFew
 pub mod ShownFiles
 pub mod StepsValid
 pub mod Swaps

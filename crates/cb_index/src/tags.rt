@@ -1,4 +1,5 @@
 //! The tags of definitions, one after another.
+ghost use Rattle.std.specs.Prelude.{◌≡◌, length};
 ghost use Rattle.std.specs.Iterator.{YieldsFirstBy, item_count};
 ghost use Rattle.cb_tags.specs.TagLines.{tag_of};
 ghost use Rattle.cb_index.specs.steps.Left.{tags_left};
@@ -13,6 +14,15 @@ use cb_tags::TagRow;
 pub struct TagRows<'a> {
     pub(crate) archive: &'a Archive,
     pub(crate) entries: &'a [Entry],
+}
+
+impl<'a> TagRows<'a> {
+    /// How many are left.
+    pub fn len(&self) -> usize
+        ensures { result ≡ length (tags_left self.now) }
+    {
+        self.entries.len()
+    }
 }
 
 impl<'a> Iterator for TagRows<'a> {

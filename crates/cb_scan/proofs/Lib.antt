@@ -5,6 +5,7 @@ pub mod ClosedStrings
 pub mod CodeLines
 pub mod Cuts
 pub mod DeclarationLemmas
+pub mod FactsFew
 pub mod FactsWithin
 pub mod FeedsCounted
 pub mod FunctionLemmas

@@ -1,12 +1,12 @@
 //! The rows that answer a question.
-ghost use Rattle.std.specs.Prelude.{◌≡◌, ◌≢◌, ◌≤◌, ◌*◌, [], length};
+ghost use Rattle.std.specs.Prelude.{◌≡◌, ◌≢◌, ◌<◌, ◌^◌, [], length};
 ghost use Rattle.cb_desk.specs.declared.rows.Field.{Field};
 ghost use Rattle.std.specs.Iterator.{YieldsFirstBy, item_count};
 ghost use Rattle.std.specs.List.{flat_map};
 ghost use Rattle.cb_index.specs.Shelved.{files};
 ghost use Rattle.cb_desk.specs.Answer.{distinct, field_rows};
 ghost use Rattle.cb_desk.specs.Models.{row_of};
-ghost use Rattle.cb_desk.specs.declared.limits.TheConstants.{MOST_BYTES, MOST_FILES};
+ghost use Rattle.cb_desk.specs.World.{AreValidFiles};
 ghost use Rattle.cb_desk.specs.steps.Lent.{found_left};
 
 use crate::answers::distinct::DistinctRows;
@@ -46,8 +46,7 @@ impl<'a, 'p> Rows<'a, 'p> {
     /// The rows that answer a question.
     pub(crate) fn new(shelf: &'a Shelf, field: Field, pattern: &'p [u8]) -> Rows<'a, 'p>
         requires some { pattern.now ≢ [] }
-        requires few { length (flat_map (field_rows field pattern.now) (files shelf.now))
-            ≤ MOST_FILES * MOST_BYTES }
+        requires valid { AreValidFiles (files shelf.now) }
         ensures { result ≡ distinct (flat_map (field_rows field pattern.now) (files shelf.now)) }
     {
         let files = Files::new(shelf);
@@ -89,12 +88,18 @@ impl<'a, 'p> Iterator for Rows<'a, 'p> {
 
 /// The rows of facts and of names of files, by file and place, equal ones included.
 fn found_rows<'a, 'p>(shelf: &'a Shelf, field: Field, pattern: &'p [u8]) -> FoundRows<'a, 'p>
-    requires { field ≢ Field.Text }
-    ensures { found_left result ≡ flat_map (field_rows field pattern.now) (files shelf.now) }
+    requires field { field ≢ Field.Text }
+    requires valid { AreValidFiles (files shelf.now) }
+    ensures rows { found_left result ≡ flat_map (field_rows field pattern.now) (files shelf.now) }
+    ensures few { length (found_left result) < 2 ^ 64 }
 {
     match field {
         Field::Symbol => FoundRows::Around(shelf.uses(pattern)),
-        Field::Definition => FoundRows::Defs(shelf.defs(pattern)),
+        Field::Definition => {
+            let rows = shelf.defs(pattern);
+            let _count = rows.len();
+            FoundRows::Defs(rows)
+        }
         Field::Called => FoundRows::Named(shelf.called_by(pattern)),
         Field::Calling => FoundRows::Around(shelf.calling(pattern)),
         Field::Including => FoundRows::Headers(HeaderRows {
