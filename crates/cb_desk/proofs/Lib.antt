@@ -38,3 +38,4 @@ pub mod WalkLemmas
 pub mod ArchiveMoves
 pub mod PlanLemmas
 pub mod PlacePlans
+pub mod MarkPlans

@@ -1,8 +1,8 @@
 -- Worlds in numbers, and what leads from one to another.
-use Rattle.std.specs.Prelude.{◌≡◌, ◌≤◌, ◌<◌, ℕ, List, [], ◌∷◌, ◌++◌, false, length, map, filter, not, nat_eq, Option, None, Some}
-use Rattle.std.specs.List.{AllByRecursion}
+use Rattle.std.specs.Prelude.{◌≡◌, ◌≤◌, ◌<◌, ℕ, List, [], ◌∷◌, ◌++◌, false, length, map, filter, not, nat_eq, Option, None, Some, if◌then◌else◌}
+use Rattle.std.specs.List.{AllByRecursion, list_any}
 use Rattle.std.specs.List.Sorted.{IsStrictlyIncreasing}
-use Rattle.cb_scan.specs.Order.{in_order}
+use Rattle.cb_scan.specs.Order.{in_order, put}
 use Rattle.cb_index.specs.Archived.{Archived, name_of}
 use Rattle.cb_index.specs.Files.{AreApart, call_count, def_count, files_of, shown_name, total, use_count}
 use Rattle.cb_index.specs.Names.{is_among, names_of}
@@ -11,7 +11,8 @@ use Rattle.cb_index.specs.declared.entry.Shown.{Shown}
 use Rattle.cb_desk.specs.declared.edits.Edit.{Edit}
 use Rattle.cb_desk.specs.declared.spot.NumberedPlace.{NumberedPlace}
 use Rattle.cb_desk.specs.steps.Edits.{edited, turned_edits}
-use Rattle.cb_desk.specs.World.{Place, World}
+use Rattle.cb_desk.specs.Places.{same_place}
+use Rattle.cb_desk.specs.World.{Place, World, place_key}
 
 -- a world in numbers: what is shown of an archive, by file name; and how many names and versions of
 -- the archive this world and those before it use
@@ -155,3 +156,12 @@ no_numbers = record { shown = []; wanted = None; marks = []; frames = []; names 
 -- a shelf that no longer shows some files
 abbrev pub hidden : Shelved → List Shown → Shelved
 hidden s hides = record s { shown = without hides s.shown }
+
+-- ---- marks in numbers
+
+-- the marks without a place that is among them, or with it at its place
+abbrev pub toggled_numbers : Archived → NumberedPlace → List NumberedPlace → List NumberedPlace
+toggled_numbers a p marks =
+    if list_any (λ m. same_place (place_in a p) (place_in a m)) marks
+    then filter (λ m. not (same_place (place_in a p) (place_in a m))) marks
+    else put (λ m. place_key (place_in a m)) p marks

@@ -68,7 +68,7 @@ impl Present {
     }
 
     /// The plan to have other marks, and to want another text if one is given.
-    fn plan_marks(
+    pub(super) fn plan_marks(
         &self,
         alloc: Global,
         wanted: Option<Option<Vec<u8>>>,

@@ -1,0 +1,52 @@
+-- Marks in numbers are those of their places.
+use Rattle.std.proofs.Common.{◌≡◌, ◌∙◌, ◌<◌, refl, sym, ap, ℕ, Bool, true, false, List, [], ◌∷◌, map, filter, not, cond}
+use Rattle.std.specs.Prelude.{◌||◌}
+use Rattle.std.specs.List.{AllByRecursion, list_any}
+use Rattle.cb_scan.specs.Order.{goes_first, put}
+use Rattle.cb_index.specs.Archived.{Archived}
+use Rattle.cb_desk.specs.declared.spot.NumberedPlace.{NumberedPlace}
+use Rattle.cb_desk.specs.Marks.{toggled}
+use Rattle.cb_desk.specs.Places.{same_place}
+use Rattle.cb_desk.specs.World.{Place, place_key}
+use Rattle.cb_desk.specs.steps.Records.{place_in, toggled_numbers}
+use Rattle.cb_desk.proofs.PlaceOrder.{all-put}
+use Rattle.cb_desk.proofs.Valid.{all-filter}
+
+module _ (a : Archived) where
+  any_places : (p : Place → Bool) (ms : List NumberedPlace) → list_any (λ m. p (place_in a m)) ms ≡ list_any p (map (place_in a) ms)
+  any_places p [] = refl
+  any_places p (m ∷ ms) = ap (λ b. p (place_in a m) || b) (any_places p ms)
+
+  filtered_places : (p : Place → Bool) (ms : List NumberedPlace) → map (place_in a) (filter (λ m. p (place_in a m)) ms) ≡ filter p (map (place_in a) ms)
+  filtered_places p [] = refl
+  filtered_places p (m ∷ ms) =
+      elim (p (place_in a m)) as (λ b. map (place_in a) (cond b (m ∷ filter (λ n. p (place_in a n)) ms) (filter (λ n. p (place_in a n)) ms))
+      ≡ cond b (place_in a m ∷ filter p (map (place_in a) ms)) (filter p (map (place_in a) ms)))
+      [ true ↦ ap (λ xs. place_in a m ∷ xs) (filtered_places p ms) | false ↦ filtered_places p ms ]
+
+  put_places : (p : NumberedPlace) (ms : List NumberedPlace)
+      → map (place_in a) (put (λ m. place_key (place_in a m)) p ms) ≡ put place_key (place_in a p) (map (place_in a) ms)
+  unfolding put
+  put_places p [] = refl
+  put_places p (m ∷ ms) =
+      elim (goes_first place_key (place_in a p) (place_in a m)) as (λ b. map (place_in a) (cond b (p ∷ m ∷ ms) (m ∷ put (λ n. place_key (place_in a n)) p ms))
+      ≡ cond b (place_in a p ∷ place_in a m ∷ map (place_in a) ms) (place_in a m ∷ put place_key (place_in a p) (map (place_in a) ms)))
+      [ true ↦ refl | false ↦ ap (λ xs. place_in a m ∷ xs) (put_places p ms) ]
+
+  pub toggled_places : (p : NumberedPlace) (ms : List NumberedPlace)
+      → map (place_in a) (toggled_numbers a p ms) ≡ toggled (place_in a p) (map (place_in a) ms)
+  toggled_places p ms =
+      (elim (list_any (λ m. same_place (place_in a p) (place_in a m)) ms) as (λ b. map (place_in a) (cond b (filter (λ m. not (same_place (place_in a p) (place_in a m))) ms)
+          (put (λ m. place_key (place_in a m)) p ms))
+      ≡ cond b (filter (λ q. not (same_place (place_in a p) q)) (map (place_in a) ms)) (put place_key (place_in a p) (map (place_in a) ms)))
+      [ true ↦ filtered_places (λ q. not (same_place (place_in a p) q)) ms | false ↦ put_places p ms ])
+      ∙ ap (λ b. cond b (filter (λ q. not (same_place (place_in a p) q)) (map (place_in a) ms)) (put place_key (place_in a p) (map (place_in a) ms)))
+        (any_places (same_place (place_in a p)) ms)
+
+  pub toggled_below : (n : ℕ) (p : NumberedPlace) (ms : List NumberedPlace) → p.name < n → AllByRecursion (λ (q : NumberedPlace). q.name < n) ms
+      → AllByRecursion (λ (q : NumberedPlace). q.name < n) (toggled_numbers a p ms)
+  toggled_below n p ms here all =
+      elim (list_any (λ m. same_place (place_in a p) (place_in a m)) ms) as (λ b. AllByRecursion (λ (q : NumberedPlace). q.name < n)
+      (cond b (filter (λ m. not (same_place (place_in a p) (place_in a m))) ms) (put (λ m. place_key (place_in a m)) p ms)))
+      [ true ↦ all-filter (λ (q : NumberedPlace). q.name < n) (λ m. not (same_place (place_in a p) (place_in a m))) ms all
+      | false ↦ all-put (λ m. place_key (place_in a m)) (λ (q : NumberedPlace). q.name < n) p ms here all ]
