@@ -1,16 +1,21 @@
 -- Marks in numbers are those of their places.
-use Rattle.std.proofs.Common.{◌≡◌, ◌∙◌, ◌<◌, refl, sym, ap, ℕ, Bool, true, false, List, [], ◌∷◌, map, filter, not, cond}
-use Rattle.std.specs.Prelude.{◌||◌}
+use Rattle.std.proofs.Common.{◌≡◌, ◌∙◌, ◌<◌, refl, sym, ap, ℕ, Bool, true, false, List, [], ◌∷◌, ◌++◌, map, filter, not, cond}
+use Rattle.std.specs.Prelude.{◌||◌, slice_index_or}
+use Rattle.std.proofs.lemmas.List.{map-append}
 use Rattle.std.specs.List.{AllByRecursion, list_any}
 use Rattle.cb_scan.specs.Order.{goes_first, put}
-use Rattle.cb_index.specs.Archived.{Archived}
+use Rattle.cb_index.specs.Archived.{Archived, name_of}
+use Rattle.cb_index.specs.Files.{files_of}
+use Rattle.cb_index.specs.declared.entry.Shown.{Shown}
 use Rattle.cb_desk.specs.declared.spot.NumberedPlace.{NumberedPlace}
 use Rattle.cb_desk.specs.Marks.{toggled}
 use Rattle.cb_desk.specs.Places.{same_place}
+use Rattle.cb_desk.specs.Search.{lines_with}
 use Rattle.cb_desk.specs.World.{Place, place_key}
-use Rattle.cb_desk.specs.steps.Records.{place_in, toggled_numbers}
+use Rattle.cb_desk.specs.steps.Held.{held_places}
+use Rattle.cb_desk.specs.steps.Records.{held_by, held_numbers, place_in, toggled_numbers}
 use Rattle.cb_desk.proofs.PlaceOrder.{all-put}
-use Rattle.cb_desk.proofs.Valid.{all-filter}
+use Rattle.cb_desk.proofs.Valid.{all-filter, all-join}
 
 module _ (a : Archived) where
   any_places : (p : Place → Bool) (ms : List NumberedPlace) → list_any (λ m. p (place_in a m)) ms ≡ list_any p (map (place_in a) ms)
@@ -50,3 +55,28 @@ module _ (a : Archived) where
       (cond b (filter (λ m. not (same_place (place_in a p) (place_in a m))) ms) (put (λ m. place_key (place_in a m)) p ms)))
       [ true ↦ all-filter (λ (q : NumberedPlace). q.name < n) (λ m. not (same_place (place_in a p) (place_in a m))) ms all
       | false ↦ all-put (λ m. place_key (place_in a m)) (λ (q : NumberedPlace). q.name < n) p ms here all ]
+
+-- ---- the lines that hold a text
+module _ (a : Archived) (text : List ℕ) where
+  held_in_places : (s : Shown) (ns : List ℕ)
+      → map (place_in a) (map (λ n. record { name = s.name; line = n }) ns) ≡ map (λ n. record { file = name_of a s.name; line = n }) ns
+  held_in_places s [] = refl
+  held_in_places s (n ∷ ns) = ap (λ xs. record { file = name_of a s.name; line = n } ∷ xs) (held_in_places s ns)
+
+  pub held_are : (shown : List Shown) → map (place_in a) (held_numbers a text shown) ≡ held_places text (files_of a shown)
+  held_are [] = refl
+  held_are (s ∷ shown) =
+      map-append (place_in a) (held_by text s.name (slice_index_or a.texts s.version [])) (held_numbers a text shown)
+      ∙ (λ i. held_in_places s (lines_with text (slice_index_or a.texts s.version [])) i ++ held_are shown i)
+
+  held_below : (n name : ℕ) → name < n → (ns : List ℕ)
+      → AllByRecursion (λ (p : NumberedPlace). p.name < n) (map (λ line. record { name = name; line = line }) ns)
+  held_below n name here [] = tt
+  held_below n name here (line ∷ ns) = (here, held_below n name here ns)
+
+  pub all_held_below : (n v : ℕ) (shown : List Shown) → AllByRecursion (λ (s : Shown). (s.name < n) × (s.version < v)) shown
+      → AllByRecursion (λ (p : NumberedPlace). p.name < n) (held_numbers a text shown)
+  all_held_below n v [] all = tt
+  all_held_below n v (s ∷ shown) all =
+      all-join (λ (p : NumberedPlace). p.name < n) (held_by text s.name (slice_index_or a.texts s.version [])) (held_numbers a text shown)
+      (held_below n s.name all.0.0 (lines_with text (slice_index_or a.texts s.version []))) (all_held_below n v shown all.1)

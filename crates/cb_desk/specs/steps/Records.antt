@@ -1,6 +1,6 @@
 -- Worlds in numbers, and what leads from one to another.
-use Rattle.std.specs.Prelude.{◌≡◌, ◌≤◌, ◌<◌, ℕ, List, [], ◌∷◌, ◌++◌, false, length, map, filter, not, nat_eq, Option, None, Some, if◌then◌else◌}
-use Rattle.std.specs.List.{AllByRecursion, list_any}
+use Rattle.std.specs.Prelude.{◌≡◌, ◌≤◌, ◌<◌, ℕ, List, [], ◌∷◌, ◌++◌, false, length, map, filter, not, nat_eq, Option, None, Some, slice_index_or, if◌then◌else◌}
+use Rattle.std.specs.List.{AllByRecursion, flat_map, list_any}
 use Rattle.std.specs.List.Sorted.{IsStrictlyIncreasing}
 use Rattle.cb_scan.specs.Order.{in_order, put}
 use Rattle.cb_index.specs.Archived.{Archived, name_of}
@@ -12,6 +12,7 @@ use Rattle.cb_desk.specs.declared.edits.Edit.{Edit}
 use Rattle.cb_desk.specs.declared.spot.NumberedPlace.{NumberedPlace}
 use Rattle.cb_desk.specs.steps.Edits.{edited, turned_edits}
 use Rattle.cb_desk.specs.Places.{same_place}
+use Rattle.cb_desk.specs.Search.{lines_with}
 use Rattle.cb_desk.specs.World.{Place, World, place_key}
 
 -- a world in numbers: what is shown of an archive, by file name; and how many names and versions of
@@ -165,3 +166,11 @@ toggled_numbers a p marks =
     if list_any (λ m. same_place (place_in a p) (place_in a m)) marks
     then filter (λ m. not (same_place (place_in a p) (place_in a m))) marks
     else put (λ m. place_key (place_in a m)) p marks
+
+-- the lines of a text that hold another, as places of a file
+abbrev pub held_by : (text : List ℕ) (name : ℕ) (bytes : List ℕ) → List NumberedPlace
+held_by text name bytes = map (λ n. record { name = name; line = n }) (lines_with text bytes)
+
+-- those of all files that are shown
+abbrev pub held_numbers : Archived → List ℕ → List Shown → List NumberedPlace
+held_numbers a text shown = flat_map (λ (s : Shown). held_by text s.name (slice_index_or a.texts s.version [])) shown

@@ -3,22 +3,23 @@ ghost use Rattle.std.specs.Prelude.{◌≡◌, ◌≢◌, ◌≤◌, ◌<◌, �
 ghost use Rattle.std.specs.Cmp.Lexicographic.{slice_cmp};
 ghost use Rattle.std.specs.List.{AllByRecursion, list_any, prefix_len};
 ghost use Rattle.std.specs.Ordering.{nat_cmp};
-ghost use Rattle.cb_index.specs.Archived.{name_of};
-ghost use Rattle.cb_index.specs.Files.{IsThere, file_of};
+ghost use Rattle.cb_index.specs.Files.{IsThere};
 ghost use Rattle.cb_scan.specs.Order.{goes_first};
-ghost use Rattle.cb_desk.specs.Marks.{all_marked, toggled_at};
+ghost use Rattle.cb_desk.specs.Marks.{all_marked, toggled_at, wanted_places};
 ghost use Rattle.cb_desk.specs.Places.{same_place};
-ghost use Rattle.cb_desk.specs.World.{place_key};
+ghost use Rattle.cb_desk.specs.World.{IsAscending, place_key};
 ghost use Rattle.cb_desk.specs.declared.spot.NumberedPlace.{NumberedPlace};
-ghost use Rattle.cb_desk.specs.steps.Held.{held_in};
 ghost use Rattle.cb_desk.specs.steps.Plans.{IsPlan};
-ghost use Rattle.cb_desk.specs.steps.Records.{place_in, toggled_numbers, world_in};
+ghost use Rattle.cb_desk.specs.steps.Records.{held_by, held_numbers, place_in, toggled_numbers, world_in};
 ghost use Rattle.cb_desk.specs.steps.Walks.{IsKept};
 
 use crate::plan::Plan;
 use crate::present::Present;
+use crate::search::TextLines;
 use crate::spot::NumberedPlace;
-use cb_index::Archive;
+use cb_index::{Archive, Shown};
+use cb_scan::Source;
+use memchr::memmem::Finder;
 use std::alloc::{AllocError, Global};
 use std::cmp::Ordering;
 
@@ -75,7 +76,71 @@ fn toggled(
     Ok(made)
 }
 
+/// Adds the lines of a file that hold a text.
+fn add_held(
+    made: &mut Vec<NumberedPlace>,
+    name: u32,
+    source: &Source,
+    finder: &Finder<'_>,
+) -> Result<(), AllocError>
+    requires { finder.now ≢ [] }
+    ensures { IfOk result (λ _. made.new.items ≡ made.old.items ++ held_by finder.now name source.now) }
+{
+    for line in TextLines::new(source, finder) {
+        made.push(NumberedPlace { name, line })?;
+    }
+    Ok(())
+}
+
+/// The lines of some files that hold a text, by file and line.
+fn held_numbers(
+    alloc: Global,
+    archive: &Archive,
+    shown: &[Shown],
+    text: &[u8],
+) -> Result<Vec<NumberedPlace>, AllocError>
+    requires some { text.now ≢ [] }
+    requires there { AllByRecursion (IsThere archive.now) shown.now }
+    ensures { IfOk result (λ made. made.items ≡ held_numbers archive.now text.now shown.now) }
+{
+    let finder = Finder::new(text);
+    let mut made = Vec::new(alloc);
+    let mut rest = shown;
+    while let Some((file, more)) = rest.split_first() {
+        add_held(&mut made, file.name, archive.source(file.version), &finder)?;
+        rest = more;
+    }
+    Ok(made)
+}
+
 impl Present {
+    /// The lines that hold the wanted text, by file and line.
+    fn wanted_numbers(&self, alloc: Global) -> Result<Vec<NumberedPlace>, AllocError>
+        requires kept { IsKept self.now.rooms self.now.archive self.now.now }
+        requires some { self.now.now.wanted ≢ Some [] }
+        requires ascending { IsAscending (world_in self.now.archive self.now.now).files }
+        ensures places { IfOk result (λ made. map (place_in self.now.archive) made.items
+            ≡ wanted_places (world_in self.now.archive self.now.now)) }
+        ensures there { IfOk result (λ made. AllByRecursion
+            (λ (p : NumberedPlace). p.name < self.now.now.names) made.items) }
+    {
+        match &self.wanted {
+            Some(text) => held_numbers(alloc, self.shelf.archive(), self.shelf.shown(), text.as_slice()),
+            None => Ok(Vec::new(alloc)),
+        }
+    }
+
+    /// The plan to mark all lines that hold the wanted text.
+    pub(crate) fn plan_mark_all(&self, alloc: Global) -> Result<Plan, AllocError>
+        requires kept { IsKept self.now.rooms self.now.archive self.now.now }
+        requires some { self.now.now.wanted ≢ Some [] }
+        requires ascending { IsAscending (world_in self.now.archive self.now.now).files }
+        ensures { IfOk result (λ p. IsPlan self.now p (all_marked (world_in self.now.archive self.now.now))) }
+    {
+        let marks = self.wanted_numbers(alloc)?;
+        self.plan_marks(alloc, None, marks.as_slice())
+    }
+
     /// The plan to mark a place, or to take its mark away.
     pub(crate) fn plan_mark(&self, alloc: Global, place: NumberedPlace) -> Result<Plan, AllocError>
         requires kept { IsKept self.now.rooms self.now.archive self.now.now }
