@@ -1,7 +1,9 @@
 -- Marks in numbers are those of their places.
-use Rattle.std.proofs.Common.{◌≡◌, ◌∙◌, ◌<◌, refl, sym, ap, ℕ, Bool, true, false, List, [], ◌∷◌, ◌++◌, map, filter, not, cond}
-use Rattle.std.specs.Prelude.{◌||◌, slice_index_or}
+use Rattle.std.proofs.Common.{◌≡◌, ◌∙◌, ◌<◌, refl, sym, ap, ℕ, zero, suc, Bool, true, false, List, [], ◌∷◌, ◌++◌, map, filter, not, cond}
+use Rattle.std.specs.Prelude.{◌||◌, ⊤, slice_index_or}
+use Rattle.std.specs.Option.{MatchOption, option_map}
 use Rattle.std.proofs.lemmas.List.{map-append}
+use Rattle.std.proofs.lemmas.Option.{slice_get-map}
 use Rattle.std.specs.List.{AllByRecursion, list_any}
 use Rattle.cb_scan.specs.Order.{goes_first, put}
 use Rattle.cb_index.specs.Archived.{Archived, name_of}
@@ -9,7 +11,7 @@ use Rattle.cb_index.specs.Files.{files_of}
 use Rattle.cb_index.specs.declared.entry.Shown.{Shown}
 use Rattle.cb_desk.specs.declared.spot.NumberedPlace.{NumberedPlace}
 use Rattle.cb_desk.specs.Marks.{toggled}
-use Rattle.cb_desk.specs.Places.{same_place}
+use Rattle.cb_desk.specs.Places.{nth, same_place}
 use Rattle.cb_desk.specs.Search.{lines_with}
 use Rattle.cb_desk.specs.World.{Place, place_key}
 use Rattle.cb_desk.specs.steps.Held.{held_places}
@@ -80,3 +82,16 @@ module _ (a : Archived) (text : List ℕ) where
   all_held_below n v (s ∷ shown) all =
       all-join (λ (p : NumberedPlace). p.name < n) (held_by text s.name (slice_index_or a.texts s.version [])) (held_numbers a text shown)
       (held_below n s.name all.0.0 (lines_with text (slice_index_or a.texts s.version []))) (all_held_below n v shown all.1)
+
+-- ---- the nth of some places
+pub nth_place_in : (a : Archived) (n : ℕ) (ps : List NumberedPlace) → option_map (place_in a) (nth n ps) ≡ nth n (map (place_in a) ps)
+nth_place_in a zero ps = refl
+nth_place_in a (suc n) ps = sym (slice_get-map (place_in a) ps n)
+
+pub nth_below : (names n : ℕ) (ps : List NumberedPlace) → AllByRecursion (λ (p : NumberedPlace). p.name < names) ps
+    → MatchOption (nth n ps) ⊤ (λ (p : NumberedPlace). p.name < names)
+nth_below names zero ps all = tt
+nth_below names (suc zero) [] all = tt
+nth_below names (suc zero) (p ∷ ps) all = all.0
+nth_below names (suc (suc n)) [] all = tt
+nth_below names (suc (suc n)) (p ∷ ps) all = nth_below names (suc n) ps all.1

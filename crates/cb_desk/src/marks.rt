@@ -151,7 +151,7 @@ pub(crate) fn held_places(
 }
 
 /// The line of a text that is the nth to hold a pattern, counted from 0; else how many there are.
-fn nth_line(source: &Source, finder: &Finder<'_>, n: u64) -> Result<u32, u64>
+pub(crate) fn nth_line(source: &Source, finder: &Finder<'_>, n: u64) -> Result<u32, u64>
     requires { finder.now ≢ [] }
     ensures { MatchResult result (λ line. slice_get (lines_with finder.now source.now) n ≡ Some line) (λ count. (count ≡ length (lines_with finder.now source.now)) × (count ≤ n)) }
 {

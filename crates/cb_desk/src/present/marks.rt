@@ -1,18 +1,20 @@
 //! Marks in the numbers of an archive, and the plans that change them.
-ghost use Rattle.std.specs.Prelude.{◌≡◌, ◌≢◌, ◌≤◌, ◌<◌, ◌++◌, [], length, map, not, IfOk, Some};
+ghost use Rattle.std.specs.Prelude.{◌≡◌, ◌≢◌, ◌≤◌, ◌<◌, ◌++◌, ⊤, [], length, map, not, IfOk, MatchOption, Some};
+ghost use Rattle.std.specs.Option.{option_map};
 ghost use Rattle.std.specs.Cmp.Lexicographic.{slice_cmp};
 ghost use Rattle.std.specs.List.{AllByRecursion, list_any, prefix_len};
 ghost use Rattle.std.specs.Ordering.{nat_cmp};
 ghost use Rattle.cb_index.specs.Files.{IsThere};
 ghost use Rattle.cb_scan.specs.Order.{goes_first};
 ghost use Rattle.cb_desk.specs.Marks.{all_marked, toggled_at, wanted_places};
-ghost use Rattle.cb_desk.specs.Places.{same_place};
+ghost use Rattle.cb_desk.specs.Places.{nth, same_place};
 ghost use Rattle.cb_desk.specs.World.{IsAscending, place_key};
 ghost use Rattle.cb_desk.specs.declared.spot.NumberedPlace.{NumberedPlace};
 ghost use Rattle.cb_desk.specs.steps.Plans.{IsPlan};
 ghost use Rattle.cb_desk.specs.steps.Records.{held_by, held_numbers, place_in, toggled_numbers, world_in};
 ghost use Rattle.cb_desk.specs.steps.Walks.{IsKept};
 
+use crate::marks::nth_line;
 use crate::plan::Plan;
 use crate::present::Present;
 use crate::search::TextLines;
@@ -113,6 +115,28 @@ fn held_numbers(
     Ok(made)
 }
 
+/// The nth line of some files that holds a text, by file and line, counted from 1.
+fn nth_held(archive: &Archive, shown: &[Shown], text: &[u8], n: u64) -> Option<NumberedPlace>
+    requires some { text.now ≢ [] }
+    requires there { AllByRecursion (IsThere archive.now) shown.now }
+    ensures { result ≡ nth n (held_numbers archive.now text.now shown.now) }
+{
+    if n == 0 {
+        return None;
+    }
+    let finder = Finder::new(text);
+    let mut passed = n - 1;
+    let mut rest = shown;
+    while let Some((file, more)) = rest.split_first() {
+        match nth_line(archive.source(file.version), &finder, passed) {
+            Ok(line) => return Some(NumberedPlace { name: file.name, line }),
+            Err(count) => passed -= count,
+        }
+        rest = more;
+    }
+    None
+}
+
 impl Present {
     /// The lines that hold the wanted text, by file and line.
     fn wanted_numbers(&self, alloc: Global) -> Result<Vec<NumberedPlace>, AllocError>
@@ -128,6 +152,19 @@ impl Present {
             Some(text) => held_numbers(alloc, self.shelf.archive(), self.shelf.shown(), text.as_slice()),
             None => Ok(Vec::new(alloc)),
         }
+    }
+
+    /// The nth line that holds the wanted text, by file and line, counted from 1, if there is one.
+    pub(crate) fn nth_wanted(&self, n: u64) -> Option<NumberedPlace>
+        requires kept { IsKept self.now.rooms self.now.archive self.now.now }
+        requires some { self.now.now.wanted ≢ Some [] }
+        requires ascending { IsAscending (world_in self.now.archive self.now.now).files }
+        ensures place { option_map (place_in self.now.archive) result
+            ≡ nth n (wanted_places (world_in self.now.archive self.now.now)) }
+        ensures there { MatchOption result ⊤ (λ (p : NumberedPlace). p.name < self.now.now.names) }
+    {
+        let text = self.wanted.as_ref()?;
+        nth_held(self.shelf.archive(), self.shelf.shown(), text.as_slice(), n)
     }
 
     /// The plan to mark all lines that hold the wanted text.
