@@ -39,3 +39,4 @@ pub mod ArchiveMoves
 pub mod PlanLemmas
 pub mod PlacePlans
 pub mod MarkPlans
+pub mod TagPlans

@@ -2,6 +2,7 @@
 ghost use Rattle.std.specs.Prelude.{◌≡◌, ⊤, MatchOption};
 ghost use Rattle.std.specs.Cmp.Lexicographic.{slice_cmp};
 ghost use Rattle.std.specs.Iterator.{YieldsFirstBy, item_count};
+ghost use Rattle.std.specs.List.{Contains};
 ghost use Rattle.std.specs.Option.{option_copied, option_map};
 ghost use Rattle.std.specs.Ordering.{is_lt, nat_cmp};
 ghost use Rattle.cb_index.specs.Archived.{name_of};
@@ -71,6 +72,7 @@ impl<'a> Iterator for Files<'a> {
 pub(crate) fn shown_as(shelf: &Shelf, name: &[u8]) -> Option<Shown>
     ensures value { option_map (shown_file shelf.now.archive) result ≡ file_named (files shelf.now) name.now }
     ensures there { MatchOption result ⊤ (IsThere shelf.now.archive) }
+    ensures among { MatchOption result ⊤ (Contains shelf.now.shown) }
 {
     let archive = shelf.archive();
     let shown = shelf.shown();

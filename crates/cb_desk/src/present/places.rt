@@ -1,14 +1,17 @@
 //! Plans that leave the files as they are.
-ghost use Rattle.std.specs.Prelude.{◌<◌, IfOk, Some};
+ghost use Rattle.std.specs.Prelude.{◌≡◌, ◌<◌, ⊤, IfOk, MatchOption, Some};
+ghost use Rattle.std.specs.Option.{option_map};
 ghost use Rattle.std.specs.List.{AllByRecursion};
 ghost use Rattle.cb_desk.specs.Marks.{wanting};
-ghost use Rattle.cb_desk.specs.Stack.{popped, pushed};
+ghost use Rattle.cb_desk.specs.Places.{nth};
+ghost use Rattle.cb_desk.specs.Stack.{places, popped, pushed};
 ghost use Rattle.cb_desk.specs.declared.spot.NumberedPlace.{NumberedPlace};
 ghost use Rattle.cb_desk.specs.steps.Plans.{AreEdits, IsPlan, with_marks, with_places};
 ghost use Rattle.cb_desk.specs.steps.Records.{place_in, world_in};
 ghost use Rattle.cb_desk.specs.steps.Texts.{bytes_if_other};
 ghost use Rattle.cb_desk.specs.steps.Walks.{IsKept};
 
+use crate::answers::{nth_definition, shown_as};
 use crate::edits::{Edit, difference, pop_edits, push_edits};
 use crate::plan::Plan;
 use crate::present::Present;
@@ -44,6 +47,21 @@ impl Present {
                 names: self.names,
                 versions: self.versions,
             },
+        })
+    }
+
+    /// The place of the nth definition of a name, by file and place, counted from 1, if there is one.
+    pub(crate) fn nth_tag(&self, name: &[u8], n: u64) -> Option<NumberedPlace>
+        requires { IsKept self.now.rooms self.now.archive self.now.now }
+        ensures place { option_map (place_in self.now.archive) result
+            ≡ nth n (places (world_in self.now.archive self.now.now).files name.now) }
+        ensures there { MatchOption result ⊤ (λ (p : NumberedPlace). p.name < self.now.now.names) }
+    {
+        let (file, line) = nth_definition(&self.shelf, name, n)?;
+        let found = shown_as(&self.shelf, file)?;
+        Some(NumberedPlace {
+            name: found.name,
+            line,
         })
     }
 
