@@ -121,6 +121,7 @@ impl Machine {
 
     /// The head goes on with a token. Deeper in braces only the last token counts, since a stop comes
     /// before the depth is 0 again.
+    #[inline(always)]
     fn grow(&mut self, token: &Token)
         ensures { self.new ≡ record self.old { head = grown self.old token.now } }
     {
