@@ -23,6 +23,7 @@ pub mod LineTable
 pub mod LinedPieces
 pub mod Literals
 pub mod MacroLines
+pub mod Merging
 pub mod OldStyleLemmas
 pub mod OrderLemmas
 pub mod PieceLists
