@@ -1,3 +1,4 @@
+pub mod BlankRun
 pub mod Blocks
 pub mod Bodies
 pub mod BodyLemmas
