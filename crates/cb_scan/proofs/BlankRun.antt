@@ -31,13 +31,13 @@ no_blank b above = λ i. unequal b 32 above i || unequal b 9 (omega arith) i || 
     || unequal b 12 (omega arith) i || unequal b 13 (omega arith) i
 
 -- the spaces and tabs are all of the blank, where such a byte follows
-run_is : (xs : List ℕ) → 32 < get_or xs (prefix_len is_space xs) 0
+run_is : (xs : List ℕ) → is_blank (get_or xs (prefix_len is_space xs) 0) ≡ false
     → (get_or xs (prefix_len is_space xs) 0 == 92) ≡ false → blank_len false xs ≡ prefix_len is_space xs
 unfolding Known blank_len
-run_is [] above other = refl
-run_is (b ∷ xs) above other = ⊎_elim (more (run_is xs)) none (cases_Bool (is_space b))
+run_is [] no_more other = refl
+run_is (b ∷ xs) no_more other = ⊎_elim (more (run_is xs)) none (cases_Bool (is_space b))
   where
-    more : (32 < get_or xs (prefix_len is_space xs) 0 → (get_or xs (prefix_len is_space xs) 0 == 92) ≡ false
+    more : (is_blank (get_or xs (prefix_len is_space xs) 0) ≡ false → (get_or xs (prefix_len is_space xs) 0 == 92) ≡ false
         → blank_len false xs ≡ prefix_len is_space xs)
         → is_space b ≡ true → blank_len false (b ∷ xs) ≡ prefix_len is_space (b ∷ xs)
     more rest is =
@@ -48,16 +48,16 @@ run_is (b ∷ xs) above other = ⊎_elim (more (run_is xs)) none (cases_Bool (is
         ap (λ x. if x || (false && b == 10) || (b == 92 && ends_join xs)
         then suc (blank_len (b == 92 || (false && not (b == 10))) xs) else 0) all.0
         ∙ ap (λ x. suc (blank_len (x || (false && not (b == 10))) xs)) all.1
-        ∙ ap suc (rest (subst (λ m. 32 < get_or (b ∷ xs) m 0) next above)
+        ∙ ap suc (rest (subst (λ m. is_blank (get_or (b ∷ xs) m 0) ≡ false) next no_more)
         (subst (λ m. (get_or (b ∷ xs) m 0 == 92) ≡ false) next other))
         ∙ sym next
 
     none : is_space b ≡ false → blank_len false (b ∷ xs) ≡ prefix_len is_space (b ∷ xs)
     none is =
         let here : prefix_len is_space (b ∷ xs) ≡ 0 = ap (λ x. cond x (1 + prefix_len is_space xs) 0) is in
-        let above_here : 32 < b = subst (λ m. 32 < get_or (b ∷ xs) m 0) here above in
+        let no_here : is_blank b ≡ false = subst (λ m. is_blank (get_or (b ∷ xs) m 0) ≡ false) here no_more in
         let other_here : (b == 92) ≡ false = subst (λ m. (get_or (b ∷ xs) m 0 == 92) ≡ false) here other in
-        (λ i. if no_blank b above_here i || (false && b == 10) || (other_here i && ends_join xs)
+        (λ i. if no_here i || (false && b == 10) || (other_here i && ends_join xs)
         then suc (blank_len (b == 92 || (false && not (b == 10))) xs) else 0)
         ∙ sym here
 
@@ -70,17 +70,31 @@ above : (a b : Bool) → (a && b) ≡ true → a ≡ true
 above true b is = refl
 above false b is = is
 
+-- a byte that ends a blank is none, and no `\`
+Ends : ℕ → Type 0
+Ends b = (is_blank b ≡ false) × ((b == 92) ≡ false)
+
+ends_known : (b : ℕ) → ends_blank b ≡ true → Ends b
+unfolding Ends
+ends_known b is =
+    ⊎_elim
+    (λ mark. (no_blank b (ltb-true 32 b (above _ _ mark)), not_back _ _ mark))
+    (λ no. subst Ends (sym (eqb-true b 10 (sym (ap (λ x. x || b == 10) no) ∙ is))) (refl, refl))
+    (cases_Bool (nat_lt 32 b && not (b == 92)))
+
 -- where the run ends among the bytes that are looked at together
 pub spaces_are : (text : List ℕ) (run : ℕ) → 16 ≤ length text → run ≡ prefix_len is_space (take 16 text) → run < 16
     → ends_blank (get_or text run 0) ≡ true → run ≡ blank_len false text
+unfolding Ends
 spaces_are text run long is short ends =
     let all : prefix_len is_space (take 16 text) ≡ prefix_len is_space text =
     short_run is_space 16 text (length-chunk 0 16 text long) (omega (arith, is)) in
     let ends_there : ends_blank (get_or text (prefix_len is_space text) 0) ≡ true =
     subst (λ m. ends_blank (get_or text m 0) ≡ true) (is ∙ all) ends in
+    let known_there : Ends (get_or text (prefix_len is_space text) 0) =
+    ends_known (get_or text (prefix_len is_space text) 0) ends_there in
     is ∙ all
-    ∙ sym (run_is text (ltb-true 32 (get_or text (prefix_len is_space text) 0) (above _ _ ends_there))
-    (not_back _ _ ends_there))
+    ∙ sym (run_is text known_there.0 known_there.1)
 
 -- no space and no tab is a line feed
 pub no_feed_in : (text : List ℕ) (len n : ℕ) → len ≤ prefix_len is_space (take n text)

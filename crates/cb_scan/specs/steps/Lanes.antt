@@ -2,7 +2,7 @@
 use Rattle.std.specs.Prelude.{ℕ, Bool, ◌==◌, ◌||◌, ◌&&◌, not, nat_lt, if◌then◌else◌}
 use Rattle.std.specs.Int.{w64, trailing_zeros}
 use Rattle.cb_scan.specs.declared.lex.lanes.TheConstants.{LANES}
-use Rattle.cb_scan.specs.Bytes.{backslash, space, tab}
+use Rattle.cb_scan.specs.Bytes.{backslash, line_feed, space, tab}
 
 -- the place of the lowest bit that is set, or the number of lanes
 abbrev pub first_set : ℕ → ℕ
@@ -14,4 +14,4 @@ is_space b = b == space || b == tab
 
 -- no blank goes on with this byte, and no join begins with it
 abbrev pub ends_blank : ℕ → Bool
-ends_blank b = nat_lt space b && not (b == backslash)
+ends_blank b = (nat_lt space b && not (b == backslash)) || b == line_feed

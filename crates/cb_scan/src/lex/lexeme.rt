@@ -161,7 +161,7 @@ fn blank_len(text: &[u8]) -> usize
     ensures within { result ≤ length text.now }
 {
     match text {
-        [b' ', next, ..] if ends_blank(*next) => 1,
+        [b' ' | b'\r', next, ..] if ends_blank(*next) => 1,
         _ if text.len() >= LANES => spaces_len(text),
         _ => blanks_len(text),
     }
@@ -172,7 +172,7 @@ fn blank_len(text: &[u8]) -> usize
 fn ends_blank(byte: u8) -> bool
     ensures { result ≡ ends_blank byte }
 {
-    byte > b' ' && byte != b'\\'
+    (byte > b' ' && byte != b'\\') || byte == b'\n'
 }
 
 /// The same, many bytes at a time: an indentation is seldom longer, and mostly made of spaces and
