@@ -341,7 +341,7 @@ impl Shelf {
     {
         TagRows {
             archive: &self.archive,
-            entries: self.defs.range(&self.archive, name),
+            entries: self.defs.with_key(&self.archive, name),
         }
     }
 
@@ -369,7 +369,7 @@ impl Shelf {
     pub fn uses(&self, name: &[u8]) -> FactRows<'_>
         ensures { facts_left result ≡ uses_of name.now (files self.now) }
     {
-        let found = self.uses.range(&self.archive, name);
+        let found = self.uses.with_key(&self.archive, name);
         FactRows::new(FactSort::Uses, &self.archive, found)
     }
 
@@ -377,7 +377,7 @@ impl Shelf {
     pub fn calling(&self, name: &[u8]) -> FactRows<'_>
         ensures { facts_left result ≡ calls_of name.now (files self.now) }
     {
-        let found = self.callees.range(&self.archive, name);
+        let found = self.callees.with_key(&self.archive, name);
         FactRows::new(FactSort::Callees, &self.archive, found)
     }
 
@@ -385,7 +385,7 @@ impl Shelf {
     pub fn called_by(&self, name: &[u8]) -> FactRows<'_>
         ensures { facts_left result ≡ calls_in name.now (files self.now) }
     {
-        let found = self.callers.range(&self.archive, name);
+        let found = self.callers.with_key(&self.archive, name);
         FactRows::new(FactSort::Callers, &self.archive, found)
     }
 }

@@ -92,5 +92,5 @@ fn range_of<'a, O: EntryOrder>(
     if !index.is_in_order(archive) {
         return Err(Fail::from("out of order"));
     }
-    Ok(index.range(archive, key))
+    Ok(index.with_key(archive, key))
 }
