@@ -1,6 +1,7 @@
 //! Tests on short texts, with the facts worked out by hand.
 mod keys;
 mod model;
+mod rows;
 mod shelf;
 mod shelves;
 mod sorts;
