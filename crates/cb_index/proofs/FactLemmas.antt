@@ -1,6 +1,6 @@
 -- The rows of the uses and calls that are shown.
-use Rattle.std.proofs.Common.{◌≡◌, ◌∙◌, ◌≤◌, ◌<◌, ◌+◌, ◌-◌, ℕ, zero, suc, Bool, true, false, List, [], ◌∷◌, ◌++◌, Some, None, refl, sym, ap, subst, length, map, take, drop, filter, get_or, min, arith, zero-add}
-use Rattle.std.proofs.lemmas.Bool.{true≢false, false≢true}
+use Rattle.std.proofs.Common.{◌≡◌, ◌∙◌, ◌≤◌, ◌+◌, ◌-◌, ℕ, zero, suc, Bool, true, false, List, [], ◌∷◌, ◌++◌, Some, None, refl, sym, ap, length, map, take, drop, filter, get_or, min, arith, zero-add}
+use Rattle.std.proofs.lemmas.Bool.{false≢true}
 use Rattle.std.proofs.lemmas.Bool.Decides.{Decides-eqb}
 use Rattle.std.proofs.lemmas.List.{drop-drop, length-append, length-drop, map-append}
 use Rattle.std.proofs.lemmas.List.Concat.{flat_map-append}
@@ -24,7 +24,7 @@ use Rattle.cb_scan.proofs.FactsWithin.{facts_lie}
 use Rattle.cb_scan.proofs.KeyLaws.{holds_of_postings, items_with_are}
 use Rattle.cb_index.specs.Archived.{Archived, name_of}
 use Rattle.cb_index.specs.Bytes.{bytes_at, cut}
-use Rattle.cb_index.specs.Entries.{Keyer, entries_from, has_key, key_of}
+use Rattle.cb_index.specs.Entries.{Keyer, entries_from, has_key}
 use Rattle.cb_index.specs.Files.{AreAscending, File, IsThere, files_of}
 use Rattle.cb_index.specs.Held.{Prefixer, all_entries, entries_of}
 use Rattle.cb_index.specs.Orders.{callee_key, callee_prefixes, callee_span, caller_key, caller_prefixes, caller_span, first_item, use_key, use_prefixes, use_span}

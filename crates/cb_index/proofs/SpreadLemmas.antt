@@ -1,5 +1,5 @@
 -- The rows that entries are spread out into.
-use Rattle.std.proofs.Common.{◌≡◌, ◌∙◌, ◌+◌, ℕ, zero, suc, Bool, true, false, List, [], ◌∷◌, ◌++◌, Some, None, refl, sym, ap, length, map, filter, get_or, arith, zero-add}
+use Rattle.std.proofs.Common.{◌≡◌, ◌∙◌, ℕ, suc, Bool, true, false, List, [], ◌∷◌, ◌++◌, Some, None, refl, sym, ap, length, map, filter, get_or, arith, zero-add}
 use Rattle.std.proofs.lemmas.List.{length-map}
 use Rattle.std.proofs.lemmas.List.Concat.{flat_map-append}
 use Rattle.std.proofs.lemmas.List.Elements.{filter-append}
@@ -12,24 +12,21 @@ use Rattle.cb_scan.specs.declared.facts.Def.{Def}
 use Rattle.cb_scan.specs.declared.facts.Use.{Use}
 use Rattle.cb_scan.specs.Definitions.{facts_of}
 use Rattle.cb_scan.specs.FactKeys.{keys_of, keys_of_facts}
-use Rattle.cb_scan.specs.Keys.{AllNumbered, Posting, items_by_key, items_of, key_prefix, numbers_with, postings}
+use Rattle.cb_scan.specs.Keys.{AllNumbered, items_by_key, key_prefix, numbers_with, postings}
 use Rattle.cb_scan.specs.lex.Tokens.{bytes_of}
 use Rattle.cb_scan.proofs.FactsWithin.{facts_lie}
 use Rattle.cb_scan.proofs.KeyLaws.{holds_of_postings, items_with_are}
 use Rattle.cb_index.specs.Archived.{Archived, name_of}
-use Rattle.cb_index.specs.Bytes.{bytes_at}
 use Rattle.cb_index.specs.Entries.{Keyer, entries_from, has_key}
-use Rattle.cb_index.specs.Files.{AreAscending, IsThere, call_count, def_count, use_count}
+use Rattle.cb_index.specs.Files.{IsThere, call_count, def_count, use_count}
 use Rattle.cb_index.specs.Held.{Prefixer, all_entries, entries_of}
-use Rattle.cb_index.specs.Orders.{callee_key, callee_prefixes, callee_span, caller_key, caller_prefixes, caller_span, def_key, def_prefix, def_prefixes, first_item, no_prefix, tag_key, use_key, use_prefixes, use_span}
+use Rattle.cb_index.specs.Orders.{callee_key, callee_prefixes, caller_key, caller_prefixes, def_prefix, def_prefixes, first_item, no_prefix, use_key, use_prefixes}
 use Rattle.cb_index.specs.RowOrders.{Counter, callee_item_key, caller_item_key, row_under, rows_with, use_item_key}
-use Rattle.cb_index.specs.Shelved.{IsIndexOf}
 use Rattle.cb_index.specs.Spreads.{SpreadsInto}
 use Rattle.cb_index.specs.steps.Found.{keys_for, posting_items}
 use Rattle.cb_index.specs.steps.Spread.{items_in_text, rows_at, rows_in}
 use Rattle.cb_index.specs.declared.entry.Entry.{Entry}
 use Rattle.cb_index.specs.declared.entry.Shown.{Shown}
-use Rattle.cb_index.specs.declared.row.Row.{Row}
 use Rattle.cb_index.specs.declared.rows.FactSort.{FactSort}
 use Rattle.cb_index.specs.declared.rows.FactSort.TheVariants.{Uses, Callees, Callers}
 use Rattle.cb_index.proofs.FactLemmas.{Suffix, callee_numbered, caller_numbered, postings_from, use_numbered}

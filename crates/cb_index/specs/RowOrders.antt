@@ -70,8 +70,7 @@ abbrev pub use_start : Placer
 use_start None item = 0
 use_start (Some text) item = start_of (use_span (facts_of text) item)
 
--- ---- calls by the called name and by the name that calls, which both go by the place of the called
--- name
+-- ---- calls by the called name and by the name that calls; both go by the place of the called name
 abbrev pub callee_item_key : Keyer
 callee_item_key None file item = []
 callee_item_key (Some text) file item = bytes_at text (callee_span (facts_of text) item)

@@ -14,7 +14,8 @@ use Rattle.cb_index.specs.declared.rows.FactSort.{FactSort}
 
 -- the entries of an index that have a key, spread out, are the rows of the files that have it, by
 -- file name and then by item
-abbrev pub SpreadsInto : Keyer → Prefixer → (List ℕ → ℕ) → Option FactSort → Keyer → Counter → Type 0
+abbrev pub SpreadsInto : Keyer → Prefixer → (List ℕ → ℕ) → Option FactSort → Keyer → Counter
+    → Type 0
 SpreadsInto keyer prefixer prefix sort item_keyer count =
     (a : Archived) (shown : List Shown) (key : List ℕ) (es : List Entry)
     → AllByRecursion (IsThere a) shown → AreAscending a shown → IsIndexOf keyer prefixer a shown es

@@ -33,7 +33,8 @@ pub trait EntryOrder {
 
     /// The order of the keys of two entries by their bytes.
     fn compare_keys(archive: &Archive, a: Entry, b: Entry) -> Ordering
-        ensures { result ≡ slice_cmp nat_cmp (key_of keyer archive.now a) (key_of keyer archive.now b) };
+        ensures { result
+            ≡ slice_cmp nat_cmp (key_of keyer archive.now a) (key_of keyer archive.now b) };
 
     /// The order of a key and that of an entry by their bytes.
     fn compare_key(archive: &Archive, key: &[u8], entry: Entry) -> Ordering
@@ -51,7 +52,8 @@ pub trait EntryOrder {
     fn append(archive: &Archive, shown: Shown, entries: &mut Vec<Entry>)
         requires { vec_len entries.old + length (prefixes_of prefixer archive.now shown.version)
             ≤ vec_capacity entries.old }
-        ensures entries { entries.new.items ≡ entries.old.items ++ entries_of prefixer archive.now shown }
+        ensures entries { entries.new.items
+            ≡ entries.old.items ++ entries_of prefixer archive.now shown }
         ensures room { vec_capacity entries.old ≤ vec_capacity entries.new };
 }
 

@@ -205,7 +205,8 @@ impl<O: EntryOrder> Sorted<O> {
     /// Puts the entries of a version under a name between the others, in the room that is there. It
     /// takes no memory, and moves each entry once.
     pub fn put_all(&mut self, archive: &Archive, shown: Shown)
-        requires order { self.old.entries ≡ in_order (sort_key O.keyer archive.now) self.old.entries }
+        requires order { self.old.entries
+            ≡ in_order (sort_key O.keyer archive.now) self.old.entries }
         requires room { length self.old.entries
             + length (prefixes_of O.prefixer archive.now shown.version) ≤ self.old.room }
         ensures entries { self.new.entries ≡ in_order (sort_key O.keyer archive.now)
@@ -255,8 +256,8 @@ impl<O: EntryOrder> Sorted<O> {
         );
     }
 
-    /// Takes away the entries of all versions under many names, in one pass. It takes no memory, and
-    /// the room stays.
+    /// Takes away the entries of all versions under many names, in one pass. It takes no memory,
+    /// and the room stays.
     pub(crate) fn take_names(&mut self, names: &[u32])
         requires { IsStrictlyIncreasing names.now }
         ensures entries { self.new.entries

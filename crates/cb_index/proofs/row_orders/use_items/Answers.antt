@@ -1,8 +1,8 @@
-use Rattle.std.proofs.Common.{◌≡◌, ◌∙◌, ℕ, List, length, map, ap}
+use Rattle.std.proofs.Common.{◌∙◌, ℕ, List, length, map, ap}
 use Rattle.std.proofs.lemmas.List.{length-map}
 use Rattle.cb_scan.specs.declared.facts.Use.{Use}
 use Rattle.cb_scan.specs.Definitions.{facts_of}
-use Rattle.cb_scan.specs.FactKeys.{keys_of, keys_of_facts}
+use Rattle.cb_scan.specs.FactKeys.{keys_of_facts}
 use Rattle.cb_scan.specs.Keys.{items_by_key}
 use Rattle.cb_scan.specs.lex.Tokens.{bytes_of}
 use Rattle.cb_scan.proofs.KeyLaws.{item_count}
