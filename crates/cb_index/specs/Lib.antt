@@ -5,6 +5,8 @@ pub mod Files
 pub mod Held
 pub mod Names
 pub mod Orders
+pub mod RowOrders
 pub mod Rows
 pub mod Shelved
+pub mod Spreads
 pub mod steps

@@ -132,8 +132,8 @@ impl Archive {
         number
     }
 
-    /// Keeps a source, the facts of its text and their keys under the number that is answered: the count of
-    /// versions before.
+    /// Keeps a source, the facts of its text and their keys under the number that is answered: the
+    /// count of versions before.
     pub fn push_version(&mut self, source: Source, facts: Facts, keys: FactKeys) -> u32
         requires room { length self.old.texts < self.old.version_room }
         requires facts { facts ≡ facts_of source }
