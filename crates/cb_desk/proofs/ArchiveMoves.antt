@@ -155,12 +155,14 @@ module _ (a b : Archived) (n v : ℕ) (agree : Agree a b n v) where
     back_same w (t ∷ ts) few low is =
         let few_then : t.names ≤ n = let x = is.2 in omega (arith, x, few) in
         let low_then : t.versions ≤ v = let x = is.3 in omega (arith, x, low) in
-        let then : AreThere a (other a t w) = (kept_back r a (other a t w) ts is.4).there in
-        ( kept_same w is.0 few low
-        , turn_same t w is.0.there few low then few_then low_then is.1
-        , is.2, is.3
-        , subst (λ x. LeadsBack r b x ts) (sym (other_same t w is.0.there few low then few_then low_then))
-          (back_same (other a t w) ts few_then low_then is.4))
+        let then : AreThere a (other a t w) = (kept_back r a (other a t w) ts is.4).there in (
+          kept_same w is.0 few low,
+          turn_same t w is.0.there few low then few_then low_then is.1,
+          is.2,
+          is.3,
+          subst (λ x. LeadsBack r b x ts) (sym (other_same t w is.0.there few low then few_then low_then))
+              (back_same (other a t w) ts few_then low_then is.4),
+        )
 
     pub walk_same : (w : Numbered) (ts : List Turn) → w.names ≤ n → w.versions ≤ v → LeadsBack r a w ts
         → worlds_in b (walk b w ts) ≡ worlds_in a (walk a w ts)
@@ -192,13 +194,15 @@ module _ (a b : Archived) (names : b.names ≡ a.names) (texts : b.texts ≡ a.t
     unfolding LeadsOn
     on_moved w [] is = kept_moved w is
     on_moved w (t ∷ ts) is =
-        let then = (kept_on r a (other a t w) ts is.4).there in
-        ( kept_moved w is.0
-        , turn_same a b (length a.names) (length a.texts) agree_all t w is.0.there is.0.there.names is.0.there.versions then then.names then.versions is.1
-        , is.2, is.3
-        , subst (λ x. LeadsOn r b x ts)
-          (sym (other_same a b (length a.names) (length a.texts) agree_all t w is.0.there is.0.there.names is.0.there.versions then then.names then.versions))
-          (on_moved (other a t w) ts is.4))
+        let then = (kept_on r a (other a t w) ts is.4).there in (
+          kept_moved w is.0,
+          turn_same a b (length a.names) (length a.texts) agree_all t w is.0.there is.0.there.names is.0.there.versions then then.names then.versions is.1,
+          is.2,
+          is.3,
+          subst (λ x. LeadsOn r b x ts)
+              (sym (other_same a b (length a.names) (length a.texts) agree_all t w is.0.there is.0.there.names is.0.there.versions then then.names then.versions))
+              (on_moved (other a t w) ts is.4),
+        )
 
     pub walk_on_moved : (w : Numbered) (ts : List Turn) → LeadsOn r a w ts → worlds_in b (walk b w ts) ≡ worlds_in a (walk a w ts)
     unfolding LeadsOn
@@ -208,7 +212,7 @@ module _ (a b : Archived) (names : b.names ≡ a.names) (texts : b.texts ≡ a.t
         ap (λ x. world_in b x ∷ worlds_in b (walk b x ts))
         (other_same a b (length a.names) (length a.texts) agree_all t w is.0.there is.0.there.names is.0.there.versions then then.names then.versions)
         ∙ (λ i. world_same a b (length a.names) (length a.texts) agree_all (other a t w) then then.names then.versions i
-            ∷ walk_on_moved (other a t w) ts is.4 i)
+        ∷ walk_on_moved (other a t w) ts is.4 i)
 
 -- the timeline stays where only room changes
 module _ (k l : Kept) (records : List Turn) (done : ℕ) (now : l.now ≡ k.now) (names : l.archive.names ≡ k.archive.names)
@@ -227,11 +231,11 @@ module _ (k l : Kept) (records : List Turn) (done : ℕ) (now : l.now ≡ k.now)
   same_timeline =
       ap (λ w. line l.archive (turns_back before) w (turns_on before)) now
       ∙ (λ i. record {
-          past = walk_same k.archive l.archive (length k.archive.names) (length k.archive.texts) (agree_all k.archive l.archive names texts) k.rooms k.now
-              (turns_back before) present_there.names present_there.versions is.back i;
-          present = world_same k.archive l.archive (length k.archive.names) (length k.archive.texts) (agree_all k.archive l.archive names texts) k.now
-              present_there present_there.names present_there.versions i;
-          future = walk_on_moved k.archive l.archive names texts k.rooms k.now (turns_on before) is.on i;
+        past = walk_same k.archive l.archive (length k.archive.names) (length k.archive.texts) (agree_all k.archive l.archive names texts) k.rooms k.now
+            (turns_back before) present_there.names present_there.versions is.back i;
+        present = world_same k.archive l.archive (length k.archive.names) (length k.archive.texts) (agree_all k.archive l.archive names texts) k.now
+            present_there present_there.names present_there.versions i;
+        future = walk_on_moved k.archive l.archive names texts k.rooms k.now (turns_on before) is.on i;
       })
 
   pub same_recorded : IsRecorded after_room

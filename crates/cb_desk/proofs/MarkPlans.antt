@@ -44,19 +44,20 @@ module _ (a : Archived) where
       → map (place_in a) (toggled_numbers a p ms) ≡ toggled (place_in a p) (map (place_in a) ms)
   toggled_places p ms =
       (elim (list_any (λ m. same_place (place_in a p) (place_in a m)) ms) as (λ b. map (place_in a) (cond b (filter (λ m. not (same_place (place_in a p) (place_in a m))) ms)
-          (put (λ m. place_key (place_in a m)) p ms))
+      (put (λ m. place_key (place_in a m)) p ms))
       ≡ cond b (filter (λ q. not (same_place (place_in a p) q)) (map (place_in a) ms)) (put place_key (place_in a p) (map (place_in a) ms)))
       [ true ↦ filtered_places (λ q. not (same_place (place_in a p) q)) ms | false ↦ put_places p ms ])
       ∙ ap (λ b. cond b (filter (λ q. not (same_place (place_in a p) q)) (map (place_in a) ms)) (put place_key (place_in a p) (map (place_in a) ms)))
-        (any_places (same_place (place_in a p)) ms)
+      (any_places (same_place (place_in a p)) ms)
 
   pub toggled_below : (n : ℕ) (p : NumberedPlace) (ms : List NumberedPlace) → p.name < n → AllByRecursion (λ (q : NumberedPlace). q.name < n) ms
       → AllByRecursion (λ (q : NumberedPlace). q.name < n) (toggled_numbers a p ms)
   toggled_below n p ms here all =
       elim (list_any (λ m. same_place (place_in a p) (place_in a m)) ms) as (λ b. AllByRecursion (λ (q : NumberedPlace). q.name < n)
-      (cond b (filter (λ m. not (same_place (place_in a p) (place_in a m))) ms) (put (λ m. place_key (place_in a m)) p ms)))
-      [ true ↦ all-filter (λ (q : NumberedPlace). q.name < n) (λ m. not (same_place (place_in a p) (place_in a m))) ms all
-      | false ↦ all-put (λ m. place_key (place_in a m)) (λ (q : NumberedPlace). q.name < n) p ms here all ]
+      (cond b (filter (λ m. not (same_place (place_in a p) (place_in a m))) ms) (put (λ m. place_key (place_in a m)) p ms))) [
+        | true ↦ all-filter (λ (q : NumberedPlace). q.name < n) (λ m. not (same_place (place_in a p) (place_in a m))) ms all
+        | false ↦ all-put (λ m. place_key (place_in a m)) (λ (q : NumberedPlace). q.name < n) p ms here all
+      ]
 
 -- ---- the lines that hold a text
 module _ (a : Archived) (text : List ℕ) where

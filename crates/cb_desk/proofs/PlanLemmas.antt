@@ -48,10 +48,10 @@ module _ (k l : Kept) (records : List Turn) (done : ℕ) (p : Planned) (within :
         ∙ ap (λ bs. line l.archive bs k.now (turns_on to)) back_is
         ∙ ap (line l.archive (turns_back from) k.now) on_is
         ∙ (λ i. record {
-            past = walk_same k.archive l.archive k.now.names k.now.versions agree k.rooms k.now (turns_back from) (omega arith) (omega arith) is.back i;
-            present = world_same k.archive l.archive k.now.names k.now.versions agree k.now
-                (kept_back k.rooms k.archive k.now (turns_back from) is.back).there (omega arith) (omega arith) i;
-            future = leads.world i ∷ [];
+          past = walk_same k.archive l.archive k.now.names k.now.versions agree k.rooms k.now (turns_back from) (omega arith) (omega arith) is.back i;
+          present = world_same k.archive l.archive k.now.names k.now.versions agree k.now
+              (kept_back k.rooms k.archive k.now (turns_back from) is.back).there (omega arith) (omega arith) i;
+          future = leads.world i ∷ [];
         })
 
     pub next_recorded : HasRoomFor k.rooms k.archive k.now p → IsValidWorld v → length (timeline_in from).past < MOST_CHANGES → IsRecorded to

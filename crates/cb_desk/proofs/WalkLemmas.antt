@@ -101,15 +101,23 @@ module _ (r : Rooms) (a : Archived) (w : Numbered) (t : Turn) (bs os : List Turn
 
   pub on_after_undo : LeadsBack r a w (t ∷ bs) → LeadsOn r a w os → LeadsOn r a next (turned t w ∷ os)
   unfolding LeadsBack LeadsOn
-  on_after_undo back on =
-      (kept_back r a next bs back.4, turns_back_again a t w back.1, back.2, back.3,
-       subst (λ x. LeadsOn r a x os) (sym (back_again a t w back.1)) on)
+  on_after_undo back on = (
+    kept_back r a next bs back.4,
+    turns_back_again a t w back.1,
+    back.2,
+    back.3,
+    subst (λ x. LeadsOn r a x os) (sym (back_again a t w back.1)) on,
+  )
 
   pub back_after_redo : LeadsOn r a w (t ∷ os) → LeadsBack r a w bs → LeadsBack r a next (turned t w ∷ bs)
   unfolding LeadsBack LeadsOn
-  back_after_redo on back =
-      (kept_on r a next os on.4, turns_back_again a t w on.1, on.2, on.3,
-       subst (λ x. LeadsBack r a x bs) (sym (back_again a t w on.1)) back)
+  back_after_redo on back = (
+    kept_on r a next os on.4,
+    turns_back_again a t w on.1,
+    on.2,
+    on.3,
+    subst (λ x. LeadsBack r a x bs) (sym (back_again a t w on.1)) back,
+  )
 
 -- ---- undo and redo, over one list of records
 

@@ -58,11 +58,7 @@ fn put_places(places: &[NumberedPlace], into: &mut Vec<NumberedPlace>)
 }
 
 /// Writes what edits make of a list into one that has room for it.
-pub(crate) fn edit_into(
-    edits: &[Edit],
-    places: &[NumberedPlace],
-    into: &mut Vec<NumberedPlace>,
-)
+pub(crate) fn edit_into(edits: &[Edit], places: &[NumberedPlace], into: &mut Vec<NumberedPlace>)
     requires { length (edited edits.now places.now) ≤ vec_capacity into.old }
     ensures items { into.new.items ≡ edited edits.now places.now }
     ensures room { vec_capacity into.old ≤ vec_capacity into.new }
@@ -95,11 +91,7 @@ enum Step {
 
 /// What is done first, if anything is left. Of two places that differ the old one is taken out if
 /// its file is gone or if more old places than new ones are left.
-fn first_step(
-    gone: Option<u32>,
-    olds: &[NumberedPlace],
-    news: &[NumberedPlace],
-) -> Option<Step>
+fn first_step(gone: Option<u32>, olds: &[NumberedPlace], news: &[NumberedPlace]) -> Option<Step>
     ensures { MatchOption result (IsDifference [] olds.now news.now) (λ step. IsFirstStep step olds.now news.now) }
 {
     match (olds.first(), news.first()) {
@@ -138,12 +130,20 @@ pub(crate) fn difference(
                 news = without_first(news);
             }
             Step::Take(place) => {
-                edits.push(Edit { kept, place, is_put: false })?;
+                edits.push(Edit {
+                    kept,
+                    place,
+                    is_put: false,
+                })?;
                 kept = 0;
                 olds = without_first(olds);
             }
             Step::Put(place) => {
-                edits.push(Edit { kept, place, is_put: true })?;
+                edits.push(Edit {
+                    kept,
+                    place,
+                    is_put: true,
+                })?;
                 kept = 0;
                 news = without_first(news);
             }
@@ -170,7 +170,14 @@ pub(crate) fn push_edits(
     ensures { IfOk result (λ edits. IsDifference edits.items places.now (places.now ++ place ∷ [])) }
 {
     let kept = places.len();
-    one_edit(alloc, Edit { kept, place, is_put: true })
+    one_edit(
+        alloc,
+        Edit {
+            kept,
+            place,
+            is_put: true,
+        },
+    )
 }
 
 /// The edits that take the last place out, if there is one.
@@ -178,7 +185,14 @@ pub(crate) fn pop_edits(alloc: Global, places: &[NumberedPlace]) -> Result<Vec<E
     ensures { IfOk result (λ edits. IsDifference edits.items places.now (take (length places.now - 1) places.now)) }
 {
     match places.split_last() {
-        Some((last, rest)) => one_edit(alloc, Edit { kept: rest.len(), place: *last, is_put: false }),
+        Some((last, rest)) => one_edit(
+            alloc,
+            Edit {
+                kept: rest.len(),
+                place: *last,
+                is_put: false,
+            },
+        ),
         None => Ok(Vec::new(alloc)),
     }
 }

@@ -51,7 +51,8 @@ impl PlaceList {
         ensures places { self.new.places ≡ self.old.places }
         ensures room { self.old.room ≤ self.new.room }
     {
-        self.places.reserve(count.saturating_sub(self.places.len()))?;
+        self.places
+            .reserve(count.saturating_sub(self.places.len()))?;
         self.spare.reserve(count.saturating_sub(self.spare.len()))?;
         Ok(())
     }

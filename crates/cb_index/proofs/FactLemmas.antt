@@ -1,6 +1,6 @@
 -- The rows of the uses and calls that are shown.
-use Rattle.std.proofs.Common.{◌≡◌, ◌∙◌, ◌≤◌, ◌<◌, ◌+◌, ◌-◌, ℕ, zero, suc, Bool, true, false, List, [], ◌∷◌, ◌++◌, Some, None, refl, sym, ap, subst, length, map, take, drop, filter, get_or, min, arith, zero-add}
-use Rattle.std.proofs.lemmas.Bool.{true≢false, false≢true}
+use Rattle.std.proofs.Common.{◌≡◌, ◌∙◌, ◌≤◌, ◌+◌, ◌-◌, ℕ, zero, suc, Bool, true, false, List, [], ◌∷◌, ◌++◌, Some, None, refl, sym, ap, length, map, take, drop, filter, get_or, min, arith, zero-add}
+use Rattle.std.proofs.lemmas.Bool.{false≢true}
 use Rattle.std.proofs.lemmas.Bool.Decides.{Decides-eqb}
 use Rattle.std.proofs.lemmas.List.{drop-drop, length-append, length-drop, map-append}
 use Rattle.std.proofs.lemmas.List.Concat.{flat_map-append}
@@ -24,7 +24,7 @@ use Rattle.cb_scan.proofs.FactsWithin.{facts_lie}
 use Rattle.cb_scan.proofs.KeyLaws.{holds_of_postings, items_with_are}
 use Rattle.cb_index.specs.Archived.{Archived, name_of}
 use Rattle.cb_index.specs.Bytes.{bytes_at, cut}
-use Rattle.cb_index.specs.Entries.{Keyer, entries_from, has_key, key_of}
+use Rattle.cb_index.specs.Entries.{Keyer, entries_from, has_key}
 use Rattle.cb_index.specs.Files.{AreAscending, File, IsThere, files_of}
 use Rattle.cb_index.specs.Held.{Prefixer, all_entries, entries_of}
 use Rattle.cb_index.specs.Orders.{callee_key, callee_prefixes, callee_span, caller_key, caller_prefixes, caller_span, first_item, use_key, use_prefixes, use_span}
@@ -71,11 +71,11 @@ prefix_and_key key other =
     and_same (nat_eq (key_prefix key) (key_prefix other)) (bytes_eq key other)
     (λ is. (Decides-eqb (key_prefix key) (key_prefix other)).1 (ap key_prefix ((bytes_eq-Decides key other).0 is)))
 
-module _ (fact : ℕ → Fact) (item_key : ℕ → List ℕ) (key items starts : List ℕ) where
+module _ {Y : Type 0} (fact : ℕ → Y) (item_key : ℕ → List ℕ) (key items starts : List ℕ) where
   -- the facts of a posting and its key, by its number
-  record Suffix (number at : ℕ) (ps : List Posting) : Type 0 where
-    starts_are : (k : ℕ) → get_or starts (number + k) 0 ≡ get_or (starts_from at ps) k 0
-    rest : drop at items ≡ items_of ps
+  pub record Suffix (number at : ℕ) (ps : List Posting) : Type 0 where
+    pub starts_are : (k : ℕ) → get_or starts (number + k) 0 ≡ get_or (starts_from at ps) k 0
+    pub rest : drop at items ≡ items_of ps
 
   next_suffix : (number at : ℕ) (p : Posting) (ps : List Posting) → Suffix number at (p ∷ ps)
       → Suffix (suc number) (at + length p.items) ps
@@ -106,7 +106,7 @@ module _ (fact : ℕ → Fact) (item_key : ℕ → List ℕ) (key items starts :
         first_of (i ∷ is) some all = all.0
 
   -- entries that have the key give the facts of its postings
-  module _ (give : Entry → List Fact) (has : Entry → Bool) (name version : ℕ)
+  module _ (give : Entry → List Y) (has : Entry → Bool) (name version : ℕ)
       (gives : (prefix number : ℕ) → give (record { prefix = prefix; name = name; version = version; number = number })
       ≡ map fact (part items (get_or starts number 0) (get_or starts (suc number) 0)))
       (tests : (prefix number : ℕ) → has (record { prefix = prefix; name = name; version = version; number = number })
@@ -117,7 +117,7 @@ module _ (fact : ℕ → Fact) (item_key : ℕ → List ℕ) (key items starts :
     kept_postings true e es p ps here later = (λ i. here i ++ later i) ∙ sym (map-append fact p.items (items_of ps))
     kept_postings false e es p ps here later = later
 
-    postings_from : (number at : ℕ) (ps : List Posting) → Suffix number at ps
+    pub postings_from : (number at : ℕ) (ps : List Posting) → Suffix number at ps
         → AllByRecursion (HoldsOf (λ i k. item_key i ≡ k)) ps
         → flat_map give (filter has (entries_from number name version (map (λ (p : Posting). key_prefix p.key) ps)))
         ≡ map fact (items_with key ps)
@@ -190,7 +190,7 @@ module _ (a : Archived) (s : Shown) (text : List ℕ) (there : slice_get a.texts
   abbrev file : File
   file = record { name = name_of a s.name; bytes = text }
 
-  use_numbered : (n : ℕ) (us : List Use) → drop n (facts_of text).uses ≡ us
+  pub use_numbered : (n : ℕ) (us : List Use) → drop n (facts_of text).uses ≡ us
       → AllByRecursion (λ (u : Use). IsWithin text u.name × IsScopeWithin text u.scope) us
       → AllNumbered (λ i k. bytes_at text (use_span (facts_of text) i) ≡ k) n (map (λ (u : Use). bytes_of text u.name) us)
   use_numbered n [] is within = tt
@@ -232,10 +232,10 @@ module _ (a : Archived) (s : Shown) (text : List ℕ) (there : slice_get a.texts
         ap (fact_of_call (name_of a s.name) text) found_call
         ∙ (λ i. record (call_in file c) { name = cut_is text c.callee within.0 i; scope = Some (cut_is text c.caller within.1 i) })
 
-  abbrev CallsWithin : List Call → Type 0
+  abbrev pub CallsWithin : List Call → Type 0
   CallsWithin cs = AllByRecursion (λ (c : Call). IsWithin text c.callee × IsWithin text c.caller) cs
 
-  callee_numbered : (n : ℕ) (cs : List Call) → drop n (facts_of text).calls ≡ cs → CallsWithin cs
+  pub callee_numbered : (n : ℕ) (cs : List Call) → drop n (facts_of text).calls ≡ cs → CallsWithin cs
       → AllNumbered (λ i k. bytes_at text (callee_span (facts_of text) i) ≡ k) n (map (λ (c : Call). bytes_of text c.callee) cs)
   callee_numbered n [] is within = tt
   callee_numbered n (c ∷ cs) is within = (
@@ -243,7 +243,7 @@ module _ (a : Archived) (s : Shown) (text : List ℕ) (there : slice_get a.texts
     callee_numbered (suc n) cs (next_call n c cs is) within.1,
   )
 
-  caller_numbered : (n : ℕ) (cs : List Call) → drop n (facts_of text).calls ≡ cs → CallsWithin cs
+  pub caller_numbered : (n : ℕ) (cs : List Call) → drop n (facts_of text).calls ≡ cs → CallsWithin cs
       → AllNumbered (λ i k. bytes_at text (caller_span (facts_of text) i) ≡ k) n (map (λ (c : Call). bytes_of text c.caller) cs)
   caller_numbered n [] is within = tt
   caller_numbered n (c ∷ cs) is within = (

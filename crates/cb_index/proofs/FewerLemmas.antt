@@ -1,9 +1,8 @@
 -- A version has no more entries than facts.
-use Rattle.std.proofs.Common.{◌≡◌, ◌≤◌, ℕ, List, Some, None, subst, length, map, arith}
+use Rattle.std.proofs.Common.{◌≤◌, ℕ, List, Some, None, subst, length, map, arith}
 use Rattle.std.proofs.lemmas.List.{length-map}
 use Rattle.std.specs.Prelude.{Option}
 use Rattle.cb_scan.specs.declared.facts.Call.{Call}
-use Rattle.cb_scan.specs.declared.facts.Def.{Def}
 use Rattle.cb_scan.specs.declared.facts.Use.{Use}
 use Rattle.cb_scan.specs.Definitions.{facts_of}
 use Rattle.cb_scan.specs.FactKeys.{keys_of_facts}

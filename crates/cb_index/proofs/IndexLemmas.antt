@@ -1,23 +1,21 @@
 -- What an index holds while versions come and go.
 use Rattle.std.proofs.Common.{◌≡◌, ◌∙◌, ◌≤◌, ◌<◌, ◌+◌, ℕ, suc, Bool, true, false, List, [], ◌∷◌, ◌++◌, refl, sym, ap, subst, length, map, drop, drop-cons, filter, get_or, arith}
-use Rattle.std.proofs.lemmas.Bool.Decides.{nat_tests}
 use Rattle.std.proofs.lemmas.Cmp.{nat_cmp_total, nat_list_cmp_total, tied_itself}
 use Rattle.std.proofs.lemmas.List.Elements.{filter-append}
 use Rattle.std.proofs.lemmas.List.{length-append}
 use Rattle.std.proofs.lemmas.List.Sums.{sum_by-append}
-use Rattle.std.specs.Prelude.{cond, nat_eq, not, slice_get, sum_by, Option}
+use Rattle.std.specs.Prelude.{cond, not, slice_get, sum_by, Option}
 use Rattle.std.specs.Cmp.{nat_cmp_is}
 use Rattle.std.specs.Cmp.Lexicographic.{slice_cmp}
-use Rattle.std.specs.List.{AllByRecursion, flat_map}
+use Rattle.std.specs.List.{AllByRecursion}
 use Rattle.std.specs.Ordering.{is_gt, nat_cmp, ordering_then}
-use Rattle.std.specs.declared.cmp.Ordering.{Ordering}
-use Rattle.std.specs.declared.cmp.Ordering.TheVariants.{Less, Equal, Greater}
-use Rattle.cb_scan.specs.Order.{AreOrdered, goes_first, in_order, put}
+use Rattle.std.specs.declared.cmp.Ordering.TheVariants.{Less, Equal}
+use Rattle.cb_scan.specs.Order.{AreOrdered, in_order, put}
 use Rattle.cb_scan.proofs.FunctionsRise.{all_implied}
-use Rattle.cb_scan.proofs.OrderLemmas.{in_order_sum, put_sum}
+use Rattle.cb_scan.proofs.OrderLemmas.{in_order_sum}
 use Rattle.cb_scan.proofs.WithinLemmas.{all-append}
 use Rattle.cb_index.specs.Archived.{Archived, name_of}
-use Rattle.cb_index.specs.Entries.{Keyer, entries_from, file_key, key_of, numbers, sort_key}
+use Rattle.cb_index.specs.Entries.{Keyer, entries_from, file_key, numbers, sort_key}
 use Rattle.cb_index.specs.Files.{AreAscending, shown_name, total}
 use Rattle.cb_index.specs.Held.{Prefixer, all_entries, entries_of, prefixes_of}
 use Rattle.cb_index.specs.Shelved.{IsIndexOf}

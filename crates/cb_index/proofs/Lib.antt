@@ -10,3 +10,5 @@ pub mod MergeLemmas
 pub mod NameLemmas
 pub mod RangeLemmas
 pub mod RowLemmas
+pub mod RowOrderLemmas
+pub mod SpreadLemmas

@@ -1,5 +1,5 @@
 -- The part of a sorted list that has a key.
-use Rattle.std.proofs.Common.{◌≡◌, ◌∙◌, ◌≤◌, ◌<◌, ◌+◌, ℕ, zero, suc, Bool, true, false, List, [], ◌∷◌, refl, sym, ap, subst, length, take, drop, filter, get_or, arith}
+use Rattle.std.proofs.Common.{◌≡◌, ◌∙◌, ◌≤◌, ◌<◌, ℕ, zero, suc, Bool, true, false, List, [], ◌∷◌, refl, sym, ap, subst, length, take, drop, filter, get_or, arith}
 use Rattle.std.proofs.lemmas.Bool.{true≢false, false≢true}
 use Rattle.std.proofs.lemmas.Bool.Decides.{nat_tests}
 use Rattle.std.proofs.lemmas.Cmp.{nat_cmp_total, nat_list_cmp_total, on_total, then_total, upto}
@@ -10,14 +10,13 @@ use Rattle.std.specs.Cmp.Lexicographic.{slice_cmp}
 use Rattle.std.specs.List.{AllByRecursion, AllWithin}
 use Rattle.std.specs.List.Sorted.{IsPartitionPoint, IsPartitionedBy}
 use Rattle.std.specs.Ordering.{is_eq, is_gt, is_lt, nat_cmp, on, ordering_reverse, ordering_then, then_cmp}
-use Rattle.std.specs.Str.{bytes_eq}
 use Rattle.std.specs.declared.cmp.Ordering.{Ordering}
 use Rattle.std.specs.declared.cmp.Ordering.TheVariants.{Less, Equal, Greater}
 use Rattle.cb_scan.specs.Order.{goes_first, in_order}
 use Rattle.cb_scan.proofs.KeyOrder.{then_assoc}
 use Rattle.cb_scan.proofs.OrderLemmas.{Sorted, goes_itself, in_order_sorted}
-use Rattle.cb_index.specs.Archived.{Archived, name_of}
-use Rattle.cb_index.specs.Entries.{Keyer, bytes_key, file_key, has_key, key_cmp, key_of, sort_key}
+use Rattle.cb_index.specs.Archived.{Archived}
+use Rattle.cb_index.specs.Entries.{Keyer, file_key, has_key, key_cmp, key_of, sort_key}
 use Rattle.cb_index.specs.declared.entry.Entry.{Entry}
 use Rattle.cb_index.proofs.EntryLemmas.{bytes_cmp}
 

@@ -42,7 +42,8 @@ entries_from number name version (p ∷ ps) =
 
 -- a key with its prefix against an entry
 abbrev pub key_cmp : Keyer → Archived → ℕ → List ℕ → Entry → Ordering
-key_cmp keyer a prefix key e = ordering_then (nat_cmp prefix e.prefix) (slice_cmp nat_cmp key (key_of keyer a e))
+key_cmp keyer a prefix key e =
+    ordering_then (nat_cmp prefix e.prefix) (slice_cmp nat_cmp key (key_of keyer a e))
 
 -- whether an entry has the key
 abbrev pub has_key : Keyer → Archived → ℕ → List ℕ → Entry → Bool

@@ -31,11 +31,13 @@ IsThere a s = (s.name < length a.names) × (s.version < length a.texts)
 
 -- the file names ascend strictly in the order of their bytes
 abbrev pub AreAscending : Archived → List Shown → Type 0
-AreAscending a shown = AreOrdered (λ (s t : Shown). slice_cmp nat_cmp (name_of a s.name) (name_of a t.name) ≡ Less) shown
+AreAscending a shown =
+    AreOrdered (λ (s t : Shown). slice_cmp nat_cmp (name_of a s.name) (name_of a t.name) ≡ Less) shown
 
 -- no two of these have one file name
 abbrev pub AreApart : Archived → List Shown → Type 0
-AreApart a shown = AreOrdered (λ (s t : Shown). bytes_eq (name_of a s.name) (name_of a t.name) ≡ false) shown
+AreApart a shown =
+    AreOrdered (λ (s t : Shown). bytes_eq (name_of a s.name) (name_of a t.name) ≡ false) shown
 
 -- whether a file of the name of this version is among those that are shown
 abbrev pub is_shown : Archived → List Shown → Shown → Bool

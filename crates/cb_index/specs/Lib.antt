@@ -6,6 +6,8 @@ pub mod Held
 pub mod Includes
 pub mod Names
 pub mod Orders
+pub mod RowOrders
 pub mod Rows
 pub mod Shelved
+pub mod Spreads
 pub mod steps

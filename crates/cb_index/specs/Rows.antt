@@ -14,8 +14,8 @@ use Rattle.cb_tags.specs.TagLines.{Tag}
 use Rattle.cb_tags.specs.TagNames.{tag_name}
 use Rattle.cb_index.specs.Files.{File}
 
--- a use or a call: the name of its file, its own name, the name around it, its line, from 1, and the
--- text of that line
+-- a use or a call: the name of its file, its own name, the name around it, its line, from 1, and
+-- the text of that line
 pub record Fact : Type 0 where
   pub file : List ℕ
   pub name : List ℕ
@@ -42,7 +42,9 @@ file_tags f = map (tag_in f) (facts_of f.bytes).defs
 
 -- those of a name
 abbrev pub file_tags_named : List ℕ → File → List Tag
-file_tags_named name f = map (tag_in f) (filter (λ (d : Def). bytes_eq name (bytes_of f.bytes d.name)) (facts_of f.bytes).defs)
+file_tags_named name f =
+    map (tag_in f) (filter (λ (d : Def). bytes_eq name (bytes_of f.bytes d.name))
+    (facts_of f.bytes).defs)
 
 -- the tags of a name in all files, by file and place
 unfoldable pub tags_named : List ℕ → List File → List Tag
@@ -81,15 +83,21 @@ call_in f c = record {
 
 -- the uses of a name in a file, by place
 abbrev pub file_uses_of : List ℕ → File → List Fact
-file_uses_of name f = map (use_in f) (filter (λ (u : Use). bytes_eq name (bytes_of f.bytes u.name)) (facts_of f.bytes).uses)
+file_uses_of name f =
+    map (use_in f) (filter (λ (u : Use). bytes_eq name (bytes_of f.bytes u.name))
+    (facts_of f.bytes).uses)
 
 -- the calls of a name in a file, by place
 abbrev pub file_calls_of : List ℕ → File → List Fact
-file_calls_of name f = map (call_in f) (filter (λ (c : Call). bytes_eq name (bytes_of f.bytes c.callee)) (facts_of f.bytes).calls)
+file_calls_of name f =
+    map (call_in f) (filter (λ (c : Call). bytes_eq name (bytes_of f.bytes c.callee))
+    (facts_of f.bytes).calls)
 
 -- the calls that stand in what has that name, by place
 abbrev pub file_calls_in : List ℕ → File → List Fact
-file_calls_in name f = map (call_in f) (filter (λ (c : Call). bytes_eq name (bytes_of f.bytes c.caller)) (facts_of f.bytes).calls)
+file_calls_in name f =
+    map (call_in f) (filter (λ (c : Call). bytes_eq name (bytes_of f.bytes c.caller))
+    (facts_of f.bytes).calls)
 
 -- the same in all files, by file and place
 unfoldable pub uses_of : List ℕ → List File → List Fact

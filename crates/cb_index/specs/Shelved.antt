@@ -1,5 +1,5 @@
 -- What a shelf keeps and shows.
-use Rattle.std.specs.Prelude.{ℕ, ◌≡◌, ◌≤◌, ◌<◌, ◌+◌, false, List, length, map, slice_get}
+use Rattle.std.specs.Prelude.{ℕ, ◌≡◌, ◌≤◌, ◌<◌, ◌+◌, false, List, length, slice_get}
 use Rattle.std.specs.List.{AllByRecursion, list_any}
 use Rattle.std.specs.Str.{bytes_eq}
 use Rattle.cb_scan.specs.Definitions.{facts_of}
@@ -42,11 +42,15 @@ with_facts f = record { name = f.name; bytes = f.bytes; facts = facts_of f.bytes
 pub record CanShow (s : Shelved) (name version : ℕ) : Type 0 where
   pub name_there : name < length s.archive.names
   pub version_there : version < length s.archive.texts
-  pub other : list_any (λ (t : Shown). bytes_eq (name_of s.archive name) (name_of s.archive t.name)) s.shown ≡ false
+  pub other : list_any (λ (t : Shown). bytes_eq (name_of s.archive name)
+      (name_of s.archive t.name)) s.shown ≡ false
   pub entries : length s.shown < s.entry_room
-  pub defs : total def_count s.archive s.shown + def_count (slice_get s.archive.texts version) ≤ s.def_room
-  pub uses : total use_count s.archive s.shown + use_count (slice_get s.archive.texts version) ≤ s.use_room
-  pub calls : total call_count s.archive s.shown + call_count (slice_get s.archive.texts version) ≤ s.call_room
+  pub defs : total def_count s.archive s.shown
+      + def_count (slice_get s.archive.texts version) ≤ s.def_room
+  pub uses : total use_count s.archive s.shown
+      + use_count (slice_get s.archive.texts version) ≤ s.use_room
+  pub calls : total call_count s.archive s.shown
+      + call_count (slice_get s.archive.texts version) ≤ s.call_room
 
 -- versions can be shown together: their numbers are there, no two of them have one file name, no
 -- file of such a name is shown, and there is room for all
@@ -70,10 +74,12 @@ pub record KeepsRoom (old new : Shelved) : Type 0 where
 
 -- an index holds the entries of all that is shown, in order
 abbrev pub IsIndexOf : Keyer → Prefixer → Archived → List Shown → List Entry → Type 0
-IsIndexOf keyer prefixer a shown es = es ≡ in_order (sort_key keyer a) (all_entries prefixer a shown)
+IsIndexOf keyer prefixer a shown es =
+    es ≡ in_order (sort_key keyer a) (all_entries prefixer a shown)
 
 -- the five indexes hold what is shown, whose numbers are there, by file name
-pub record AreKept (a : Archived) (shown : List Shown) (in_defs in_tags in_uses in_callees in_callers : List Entry) : Type 0 where
+pub record AreKept (a : Archived) (shown : List Shown)
+    (in_defs in_tags in_uses in_callees in_callers : List Entry) : Type 0 where
   pub there : AllByRecursion (IsThere a) shown
   pub ascending : AreAscending a shown
   pub defs : IsIndexOf def_key def_prefixes a shown in_defs

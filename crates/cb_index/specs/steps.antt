@@ -1,3 +1,5 @@
 pub mod Found
 pub mod Includes
 pub mod Left
+pub mod RowsLeft
+pub mod Spread

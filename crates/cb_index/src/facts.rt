@@ -28,7 +28,7 @@ pub struct FactRows<'a> {
     posting: Option<Posting<'a>>,
 }
 
-fn keys_for(sort: FactSort, keys: &FactKeys) -> &KeyList
+pub(crate) fn keys_for(sort: FactSort, keys: &FactKeys) -> &KeyList
     ensures { result.now ≡ keys_for sort keys.now }
 {
     match sort {
@@ -39,7 +39,7 @@ fn keys_for(sort: FactSort, keys: &FactKeys) -> &KeyList
 }
 
 /// The items of a posting.
-fn posting_items(keys: &KeyList, number: u32) -> &[u32]
+pub(crate) fn posting_items(keys: &KeyList, number: u32) -> &[u32]
     ensures { result.now ≡ posting_items keys.now number }
 {
     let items = keys.items();

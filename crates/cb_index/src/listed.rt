@@ -19,8 +19,10 @@ fn place_for(archive: &Archive, name: u32, shown: &[Shown]) -> usize
     requires { AreAscending archive.now shown.now }
     ensures bound { result ≤ length shown.now }
     ensures parted { IsPartitionPoint
-        (λ s. is_gt (slice_cmp nat_cmp (name_of archive.now name) (name_of archive.now s.name)) ≡ true)
-        (λ s. is_gt (slice_cmp nat_cmp (name_of archive.now name) (name_of archive.now s.name)) ≡ false)
+        (λ s. is_gt (slice_cmp nat_cmp (name_of archive.now name)
+        (name_of archive.now s.name)) ≡ true)
+        (λ s. is_gt (slice_cmp nat_cmp (name_of archive.now name)
+        (name_of archive.now s.name)) ≡ false)
         shown.now result }
 {
     shown.partition_point(
@@ -88,7 +90,8 @@ fn sort_shown(archive: &Archive, shown: &mut [Shown])
 pub(crate) fn put_all_shown(archive: &Archive, news: &[Shown], shown: &mut Vec<Shown>)
     requires apart { AreApart archive.now (shown.old.items ++ news.now) }
     requires room { length shown.old.items + length news.now ≤ vec_capacity shown.old }
-    ensures items { shown.new.items ≡ in_order (shown_name archive.now) (shown.old.items ++ news.now) }
+    ensures items { shown.new.items
+        ≡ in_order (shown_name archive.now) (shown.old.items ++ news.now) }
     ensures room { vec_capacity shown.old ≤ vec_capacity shown.new }
 {
     if shown.extend_from_slice(news).is_err() {

@@ -42,9 +42,11 @@ fn put_before(entries: &mut [Entry], at: usize, end: usize, by: usize, one: Entr
 /// others, as many as there are new ones, are overwritten.
 fn merge<O: EntryOrder>(archive: &Archive, news: &[Entry], held: usize, entries: &mut [Entry])
     requires news { news.now ≡ in_order (sort_key O.keyer archive.now) news.now }
-    requires held { take held entries.old ≡ in_order (sort_key O.keyer archive.now) (take held entries.old) }
+    requires held { take held entries.old
+        ≡ in_order (sort_key O.keyer archive.now) (take held entries.old) }
     requires room { length entries.old ≡ held + length news.now }
-    ensures { entries.new ≡ in_order (sort_key O.keyer archive.now) (take held entries.old ++ news.now) }
+    ensures { entries.new
+        ≡ in_order (sort_key O.keyer archive.now) (take held entries.old ++ news.now) }
 {
     let mut end = held;
     let mut left = news.len();

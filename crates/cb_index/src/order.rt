@@ -7,15 +7,17 @@ ghost use Rattle.cb_index.specs.Held.{entries_of, prefixes_of};
 
 use crate::archive::Archive;
 use crate::entry::{Entry, Shown};
+use crate::rows::FactSort;
 use std::cmp::Ordering;
 
 /// An order of the entries of versions. Entries are compared by prefix, key, file name and then by
 /// their own numbers. Key and name are looked up in the archive; so what is pushed there changes
 /// nothing of the order of entries that are held. Of one key in one file the numbers go by place.
 pub trait EntryOrder {
-    ghost use Rattle.std.specs.Prelude.{ℕ, List};
+    ghost use Rattle.std.specs.Prelude.{ℕ, List, Option};
     ghost use Rattle.cb_index.specs.Entries.{Keyer};
     ghost use Rattle.cb_index.specs.Held.{Prefixer};
+    ghost use Rattle.cb_index.specs.declared.rows.FactSort.{FactSort};
 
     ghost keyer: { Keyer };
 
@@ -23,9 +25,16 @@ pub trait EntryOrder {
 
     ghost prefix_of: { List ℕ → ℕ };
 
+    ghost sort: { Option FactSort };
+
+    /// The facts whose postings are entries; none where each definition is one.
+    fn sort() -> Option<FactSort>
+        ensures { result ≡ sort };
+
     /// The order of the keys of two entries by their bytes.
     fn compare_keys(archive: &Archive, a: Entry, b: Entry) -> Ordering
-        ensures { result ≡ slice_cmp nat_cmp (key_of keyer archive.now a) (key_of keyer archive.now b) };
+        ensures { result
+            ≡ slice_cmp nat_cmp (key_of keyer archive.now a) (key_of keyer archive.now b) };
 
     /// The order of a key and that of an entry by their bytes.
     fn compare_key(archive: &Archive, key: &[u8], entry: Entry) -> Ordering
@@ -43,7 +52,8 @@ pub trait EntryOrder {
     fn append(archive: &Archive, shown: Shown, entries: &mut Vec<Entry>)
         requires { vec_len entries.old + length (prefixes_of prefixer archive.now shown.version)
             ≤ vec_capacity entries.old }
-        ensures entries { entries.new.items ≡ entries.old.items ++ entries_of prefixer archive.now shown }
+        ensures entries { entries.new.items
+            ≡ entries.old.items ++ entries_of prefixer archive.now shown }
         ensures room { vec_capacity entries.old ≤ vec_capacity entries.new };
 }
 

@@ -9,6 +9,7 @@ use crate::archive::{Archive, Version};
 use crate::bytes::{bytes_at, number_at};
 use crate::entry::{Entry, Shown};
 use crate::order::EntryOrder;
+use crate::rows::FactSort;
 use cb_scan::{Def, Facts, KeyList, Span, key_prefix};
 use cb_tags::{compare_tag_key, compare_tag_names};
 use std::cmp::Ordering;
@@ -38,7 +39,7 @@ fn first_item(keys: &KeyList, number: u32) -> u32
     )
 }
 
-fn use_span(facts: &Facts, item: u32) -> Option<Span>
+pub(crate) fn use_span(facts: &Facts, item: u32) -> Option<Span>
     ensures { result ≡ use_span facts.now item }
 {
     match facts.uses().get(item as usize) {
@@ -47,7 +48,7 @@ fn use_span(facts: &Facts, item: u32) -> Option<Span>
     }
 }
 
-fn callee_span(facts: &Facts, item: u32) -> Option<Span>
+pub(crate) fn callee_span(facts: &Facts, item: u32) -> Option<Span>
     ensures { result ≡ callee_span facts.now item }
 {
     match facts.calls().get(item as usize) {
@@ -56,7 +57,7 @@ fn callee_span(facts: &Facts, item: u32) -> Option<Span>
     }
 }
 
-fn caller_span(facts: &Facts, item: u32) -> Option<Span>
+pub(crate) fn caller_span(facts: &Facts, item: u32) -> Option<Span>
     ensures { result ≡ caller_span facts.now item }
 {
     match facts.calls().get(item as usize) {
@@ -65,7 +66,7 @@ fn caller_span(facts: &Facts, item: u32) -> Option<Span>
     }
 }
 
-fn def_span(facts: &Facts, item: u32) -> Option<Span>
+pub(crate) fn def_span(facts: &Facts, item: u32) -> Option<Span>
     ensures { result ≡ def_span facts.now item }
 {
     match facts.defs().get(item as usize) {
@@ -109,12 +110,20 @@ fn use_key(archive: &Archive, entry: Entry) -> &[u8]
 impl EntryOrder for UsesByName {
     ghost use Rattle.cb_scan.specs.Keys.{key_prefix};
     ghost use Rattle.cb_index.specs.Orders.{use_key, use_prefixes};
+    ghost use Rattle.std.specs.Prelude.{Some};
+    ghost use Rattle.cb_index.specs.declared.rows.FactSort.TheVariants.{Uses};
 
     ghost keyer = { use_key };
 
     ghost prefixer = { use_prefixes };
 
     ghost prefix_of = { key_prefix };
+
+    ghost sort = { Some Uses };
+
+    fn sort() -> Option<FactSort> {
+        Some(FactSort::Uses)
+    }
 
     fn compare_keys(archive: &Archive, a: Entry, b: Entry) -> Ordering {
         use_key(archive, a).cmp(use_key(archive, b))
@@ -158,12 +167,20 @@ fn callee_key(archive: &Archive, entry: Entry) -> &[u8]
 impl EntryOrder for CallsByCallee {
     ghost use Rattle.cb_scan.specs.Keys.{key_prefix};
     ghost use Rattle.cb_index.specs.Orders.{callee_key, callee_prefixes};
+    ghost use Rattle.std.specs.Prelude.{Some};
+    ghost use Rattle.cb_index.specs.declared.rows.FactSort.TheVariants.{Callees};
 
     ghost keyer = { callee_key };
 
     ghost prefixer = { callee_prefixes };
 
     ghost prefix_of = { key_prefix };
+
+    ghost sort = { Some Callees };
+
+    fn sort() -> Option<FactSort> {
+        Some(FactSort::Callees)
+    }
 
     fn compare_keys(archive: &Archive, a: Entry, b: Entry) -> Ordering {
         callee_key(archive, a).cmp(callee_key(archive, b))
@@ -207,12 +224,20 @@ fn caller_key(archive: &Archive, entry: Entry) -> &[u8]
 impl EntryOrder for CallsByCaller {
     ghost use Rattle.cb_scan.specs.Keys.{key_prefix};
     ghost use Rattle.cb_index.specs.Orders.{caller_key, caller_prefixes};
+    ghost use Rattle.std.specs.Prelude.{Some};
+    ghost use Rattle.cb_index.specs.declared.rows.FactSort.TheVariants.{Callers};
 
     ghost keyer = { caller_key };
 
     ghost prefixer = { caller_prefixes };
 
     ghost prefix_of = { key_prefix };
+
+    ghost sort = { Some Callers };
+
+    fn sort() -> Option<FactSort> {
+        Some(FactSort::Callers)
+    }
 
     fn compare_keys(archive: &Archive, a: Entry, b: Entry) -> Ordering {
         caller_key(archive, a).cmp(caller_key(archive, b))
@@ -256,7 +281,7 @@ fn def_key(archive: &Archive, entry: Entry) -> &[u8]
 }
 
 /// The definitions of a version.
-fn defs_of(version: &Version) -> &[Def]
+pub(crate) fn defs_of(version: &Version) -> &[Def]
     ensures value { result.now ≡ (facts_of version.now).defs }
     ensures few { length result.now < 2 ^ 32 }
 {
@@ -302,12 +327,19 @@ fn append_defs(defs: &[Def], shown: Shown, entries: &mut Vec<Entry>)
 
 impl EntryOrder for DefsByName {
     ghost use Rattle.cb_index.specs.Orders.{def_key, def_prefixes, no_prefix};
+    ghost use Rattle.std.specs.Prelude.{None};
 
     ghost keyer = { def_key };
 
     ghost prefixer = { def_prefixes };
 
     ghost prefix_of = { no_prefix };
+
+    ghost sort = { None };
+
+    fn sort() -> Option<FactSort> {
+        None
+    }
 
     fn compare_keys(archive: &Archive, a: Entry, b: Entry) -> Ordering {
         def_key(archive, a).cmp(def_key(archive, b))
@@ -334,12 +366,19 @@ impl EntryOrder for DefsByName {
 
 impl EntryOrder for DefsByTagName {
     ghost use Rattle.cb_index.specs.Orders.{def_prefixes, no_prefix, tag_key};
+    ghost use Rattle.std.specs.Prelude.{None};
 
     ghost keyer = { tag_key };
 
     ghost prefixer = { def_prefixes };
 
     ghost prefix_of = { no_prefix };
+
+    ghost sort = { None };
+
+    fn sort() -> Option<FactSort> {
+        None
+    }
 
     fn compare_keys(archive: &Archive, a: Entry, b: Entry) -> Ordering {
         let a_file = archive.name(a.name);

@@ -27,7 +27,7 @@ pub struct FactRow<'a> {
 
 /// What is looked up in the key lists.
 #[derive(Clone, Copy, Debug, PartialEq, Eq)]
-pub(crate) enum FactSort {
+pub enum FactSort {
     /// Uses by name.
     Uses,
     /// Calls by the called name.

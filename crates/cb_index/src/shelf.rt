@@ -179,7 +179,8 @@ impl Shelf {
 
     /// Keeps the first versions and names alone, so many of each.
     pub fn truncate(&mut self, versions: u32, names: u32)
-        requires { AllByRecursion (λ (s : Shown). (s.version < versions) × (s.name < names)) self.old.shown }
+        requires { AllByRecursion (λ (s : Shown). (s.version < versions) × (s.name < names))
+            self.old.shown }
         ensures texts { self.new.archive.texts ≡ take versions self.old.archive.texts }
         ensures names { self.new.archive.names ≡ take names self.old.archive.names }
         ensures shown { self.new.shown ≡ self.old.shown }
@@ -258,8 +259,8 @@ impl Shelf {
         self.turns = self.turns.saturating_add(1);
     }
 
-    /// Shows versions together, each under its name, in the room that is there. Each index is put in
-    /// order once. It takes no memory.
+    /// Shows versions together, each under its name, in the room that is there. Each index is put
+    /// in order once. It takes no memory.
     pub fn show_all(&mut self, news: &[Shown])
         requires { CanShowAll self.old news.now }
         ensures shown { self.new.shown
@@ -279,7 +280,8 @@ impl Shelf {
 
     /// Hides what is shown under a name. It takes no memory.
     pub fn hide(&mut self, name: u32)
-        ensures shown { self.new.shown ≡ filter (λ (s : Shown). not (nat_eq s.name name)) self.old.shown }
+        ensures shown { self.new.shown
+            ≡ filter (λ (s : Shown). not (nat_eq s.name name)) self.old.shown }
         ensures archive { self.new.archive ≡ self.old.archive }
         ensures turns { self.new.turns ≡ min (self.old.turns + 1) (2 ^ 64 - 1) }
         ensures room { KeepsRoom self.old self.new }
@@ -337,7 +339,7 @@ impl Shelf {
     {
         TagRows {
             archive: &self.archive,
-            entries: self.defs.range(&self.archive, name),
+            entries: self.defs.with_key(&self.archive, name),
         }
     }
 
@@ -365,7 +367,7 @@ impl Shelf {
     pub fn uses(&self, name: &[u8]) -> FactRows<'_>
         ensures { facts_left result ≡ uses_of name.now (files self.now) }
     {
-        let found = self.uses.range(&self.archive, name);
+        let found = self.uses.with_key(&self.archive, name);
         FactRows::new(FactSort::Uses, &self.archive, found)
     }
 
@@ -373,7 +375,7 @@ impl Shelf {
     pub fn calling(&self, name: &[u8]) -> FactRows<'_>
         ensures { facts_left result ≡ calls_of name.now (files self.now) }
     {
-        let found = self.callees.range(&self.archive, name);
+        let found = self.callees.with_key(&self.archive, name);
         FactRows::new(FactSort::Callees, &self.archive, found)
     }
 
@@ -381,7 +383,7 @@ impl Shelf {
     pub fn called_by(&self, name: &[u8]) -> FactRows<'_>
         ensures { facts_left result ≡ calls_in name.now (files self.now) }
     {
-        let found = self.callers.range(&self.archive, name);
+        let found = self.callers.with_key(&self.archive, name);
         FactRows::new(FactSort::Callers, &self.archive, found)
     }
 }

@@ -7,6 +7,8 @@ ghost use Rattle.cb_scan.specs.Order.{goes_first, in_order};
 ghost use Rattle.cb_index.specs.Entries.{has_key, is_of, key_cmp, sort_key};
 ghost use Rattle.cb_index.specs.Held.{all_entries, entries_of, prefixes_of};
 ghost use Rattle.cb_index.specs.Names.{is_among, names_of};
+ghost use Rattle.cb_index.specs.steps.RowsLeft.{rows_left};
+ghost use Rattle.cb_index.specs.steps.Spread.{rows_in};
 ghost use Rattle.cb_index.specs.declared.entry.Entry.{Entry};
 
 use crate::archive::Archive;
@@ -15,6 +17,7 @@ use crate::memory::OutOfMemory;
 use crate::merge::put_between;
 use crate::names::Names;
 use crate::order::{EntryOrder, compare};
+use crate::range::Rows;
 use std::alloc::Global;
 use std::cmp::Ordering;
 use std::marker::{Model, PhantomData};
@@ -202,7 +205,8 @@ impl<O: EntryOrder> Sorted<O> {
     /// Puts the entries of a version under a name between the others, in the room that is there. It
     /// takes no memory, and moves each entry once.
     pub fn put_all(&mut self, archive: &Archive, shown: Shown)
-        requires order { self.old.entries ≡ in_order (sort_key O.keyer archive.now) self.old.entries }
+        requires order { self.old.entries
+            ≡ in_order (sort_key O.keyer archive.now) self.old.entries }
         requires room { length self.old.entries
             + length (prefixes_of O.prefixer archive.now shown.version) ≤ self.old.room }
         ensures entries { self.new.entries ≡ in_order (sort_key O.keyer archive.now)
@@ -268,8 +272,17 @@ impl<O: EntryOrder> Sorted<O> {
         );
     }
 
+    /// The rows of a key, by file name and then by item.
+    pub fn range<'a>(&'a self, archive: &'a Archive, key: &[u8]) -> Rows<'a>
+        requires { self.now.entries ≡ in_order (sort_key O.keyer archive.now) self.now.entries }
+        ensures { rows_left result ≡ rows_in O.sort archive.now (filter
+            (has_key O.keyer archive.now (O.prefix_of key.now) key.now) self.now.entries) }
+    {
+        Rows::new(O::sort(), archive, self.with_key(archive, key))
+    }
+
     /// The entries that have the key, in order.
-    pub fn range(&self, archive: &Archive, key: &[u8]) -> &[Entry]
+    pub(crate) fn with_key(&self, archive: &Archive, key: &[u8]) -> &[Entry]
         requires { self.now.entries ≡ in_order (sort_key O.keyer archive.now) self.now.entries }
         ensures { result.now ≡ filter
             (has_key O.keyer archive.now (O.prefix_of key.now) key.now) self.now.entries }

@@ -1,6 +1,8 @@
 //! Tests on short texts, with the facts worked out by hand.
 mod keys;
+mod memory;
 mod model;
+mod rows;
 mod shelf;
 mod shelves;
 mod sorts;
@@ -92,5 +94,5 @@ fn range_of<'a, O: EntryOrder>(
     if !index.is_in_order(archive) {
         return Err(Fail::from("out of order"));
     }
-    Ok(index.range(archive, key))
+    Ok(index.with_key(archive, key))
 }

@@ -1,3 +1,4 @@
+pub mod BlankRun
 pub mod Blocks
 pub mod Bodies
 pub mod BodyLemmas
@@ -24,6 +25,7 @@ pub mod LineTable
 pub mod LinedPieces
 pub mod Literals
 pub mod MacroLines
+pub mod Merging
 pub mod OldStyleLemmas
 pub mod OrderLemmas
 pub mod PieceLists

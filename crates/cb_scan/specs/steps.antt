@@ -1,3 +1,4 @@
+pub mod Ascending
 pub mod Cut
 pub mod Directives
 pub mod Functions

@@ -129,7 +129,10 @@ fn nth_held(archive: &Archive, shown: &[Shown], text: &[u8], n: u64) -> Option<N
     let mut rest = shown;
     while let Some((file, more)) = rest.split_first() {
         match nth_line(archive.source(file.version), &finder, passed) {
-            Ok(line) => return Some(NumberedPlace { name: file.name, line }),
+            Ok(line) => return Some(NumberedPlace {
+                name: file.name,
+                line,
+            }),
             Err(count) => passed -= count,
         }
         rest = more;
@@ -149,7 +152,12 @@ impl Present {
             (λ (p : NumberedPlace). p.name < self.now.now.names) made.items) }
     {
         match &self.wanted {
-            Some(text) => held_numbers(alloc, self.shelf.archive(), self.shelf.shown(), text.as_slice()),
+            Some(text) => held_numbers(
+                alloc,
+                self.shelf.archive(),
+                self.shelf.shown(),
+                text.as_slice(),
+            ),
             None => Ok(Vec::new(alloc)),
         }
     }

@@ -20,7 +20,14 @@ use Rattle.cb_index.specs.declared.rows.FactSort.TheVariants.{Uses, Callees, Cal
 
 -- ---- definitions
 abbrev pub no_tag : List ℕ → Tag
-no_tag file = record { name = []; file = file; line = 0; text = []; kind = kind.Function; local = false }
+no_tag file = record {
+  name = [];
+  file = file;
+  line = 0;
+  text = [];
+  kind = kind.Function;
+  local = false;
+}
 
 abbrev pub tag_of_def : List ℕ → List ℕ → Option Def → Tag
 tag_of_def file text None = no_tag file
@@ -79,11 +86,13 @@ keys_for Callers k = k.callers
 
 -- the items of a posting, cut at the end of the list
 abbrev pub part : List ℕ → ℕ → ℕ → List ℕ
-part items start end = slice_range items (min start (min end (length items))) (min end (length items))
+part items start end =
+    slice_range items (min start (min end (length items))) (min end (length items))
 
 abbrev pub posting_items : ItemsByKey → ℕ → List ℕ
 posting_items keys number =
-    part keys.items (slice_index_or keys.starts number 0) (slice_index_or keys.starts (suc number) 0)
+    part keys.items (slice_index_or keys.starts number 0)
+    (slice_index_or keys.starts (suc number) 0)
 
 abbrev pub facts_in_text : FactSort → List ℕ → ℕ → Option (List ℕ) → List Fact
 facts_in_text sort file number None = []

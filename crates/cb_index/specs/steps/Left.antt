@@ -46,11 +46,13 @@ shown_file t = record { name = t.0.now; bytes = t.1.now; facts = t.2.now }
 -- a file and those after it, if its version is there
 abbrev pub file_or_end : List ℕ → Option (List ℕ) → List ShownFile → List ShownFile
 file_or_end name None rest = []
-file_or_end name (Some text) rest = record { name = name; bytes = text; facts = facts_of text } ∷ rest
+file_or_end name (Some text) rest =
+    record { name = name; bytes = text; facts = facts_of text } ∷ rest
 
 abbrev pub entries_in : Archived → List Shown → List ShownFile
 entries_in a [] = []
-entries_in a (s ∷ shown) = file_or_end (name_of a s.name) (slice_get a.texts s.version) (entries_in a shown)
+entries_in a (s ∷ shown) =
+    file_or_end (name_of a s.name) (slice_get a.texts s.version) (entries_in a shown)
 
 abbrev pub entries_left : Entries → List ShownFile
 entries_left e = entries_in e.archive.now e.shown.now

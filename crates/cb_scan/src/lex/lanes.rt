@@ -1,8 +1,8 @@
-//! The bytes of a name, many at a time.
+//! The bytes of a name or of a blank, many at a time.
 ghost use Rattle.std.specs.Prelude.{◌≡◌, ◌≤◌, length, take};
 ghost use Rattle.std.specs.List.{prefix_len};
 ghost use Rattle.cb_scan.specs.lex.Lexeme.{is_word};
-ghost use Rattle.cb_scan.specs.steps.Lanes.{first_set};
+ghost use Rattle.cb_scan.specs.steps.Lanes.{first_set, is_space};
 
 use std::simd::prelude::*;
 
@@ -33,5 +33,16 @@ pub(crate) fn word_run(text: &[u8]) -> usize
     let stops = from_a.simd_ge(u8x16::splat(26))
         & from_0.simd_ge(u8x16::splat(10))
         & bytes.simd_ne(u8x16::splat(b'_'));
+    first_set(stops.to_bitmask())
+}
+
+/// How many of the first bytes of a text are spaces and tabs, up to the number of lanes.
+#[inline]
+pub(crate) fn space_run(text: &[u8]) -> usize
+    requires { LANES ≤ length text.now }
+    ensures { result ≡ prefix_len is_space (take LANES text.now) }
+{
+    let bytes = u8x16::from_slice(text);
+    let stops = bytes.simd_ne(u8x16::splat(b' ')) & bytes.simd_ne(u8x16::splat(b'\t'));
     first_set(stops.to_bitmask())
 }

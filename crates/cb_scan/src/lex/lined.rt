@@ -1,11 +1,12 @@
 //! The pieces of a text with their lines. No line feed is counted twice.
-ghost use Rattle.std.specs.Prelude.{◌≡◌, ◌≤◌, ◌<◌, false, length, map, count_by};
+ghost use Rattle.std.specs.Prelude.{◌≡◌, ◌≤◌, ◌<◌, false, true, length, map, take, count_by};
 ghost use Rattle.cb_scan.specs.declared.source.TheConstants.{MOST_BYTES};
 ghost use Rattle.std.specs.Iterator.{YieldsFirst, item_count};
 ghost use Rattle.std.specs.List.{AllByRecursion};
 ghost use Rattle.cb_scan.specs.steps.Cut.{pieces};
 ghost use Rattle.cb_scan.specs.steps.Lined.{is_feed, lined, Within, holds_feeds};
 
+use crate::lex::lanes::{LANES, space_run};
 use crate::lex::piece::{Class, Piece, first_piece};
 use memchr::memchr_iter;
 use std::marker::Model;
@@ -65,6 +66,30 @@ fn feeds_in(class: Class, bytes: &[u8]) -> u32
     }
 }
 
+/// Whether the first bytes of a text are few, and spaces and tabs alone.
+#[inline]
+fn are_spaces(text: &[u8], len: usize) -> bool
+    ensures { result ≡ true → count_by is_feed (take len text.now) ≡ 0 }
+{
+    text.len() >= LANES && len <= space_run(text)
+}
+
+/// How many line feeds the first bytes of a text hold, which are a piece. An indentation is looked at
+/// as its length was found.
+#[inline]
+fn feeds_at(class: Class, text: &[u8], len: usize) -> u32
+    requires within { len ≤ length text.now }
+    requires none { holds_feeds class ≡ false → count_by is_feed (take len text.now) ≡ 0 }
+    requires small { length text.now ≤ MOST_BYTES }
+    ensures { result ≡ count_by is_feed (take len text.now) }
+{
+    if class == Class::Blank && len > 1 && are_spaces(text, len) {
+        0
+    } else {
+        feeds_in(class, &text[..len])
+    }
+}
+
 /// The pieces of a text with their lines.
 pub(crate) fn lined_pieces(text: &[u8]) -> LinedPieces<'_>
     requires { length text.now ≤ MOST_BYTES }
@@ -98,7 +123,7 @@ impl<'a> Iterator for LinedPieces<'a> {
             piece,
             line: self.line,
         };
-        self.line += feeds_in(piece.class, &rest[..len]);
+        self.line += feeds_at(piece.class, rest, len);
         self.at = piece.span.end;
         Some(lined)
     }

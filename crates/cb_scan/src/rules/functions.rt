@@ -2,7 +2,7 @@
 ghost use Rattle.std.specs.Prelude.{◌≡◌, ◌+◌, ◌<◌, ◌≤◌, ◌^◌, false};
 ghost use Rattle.cb_scan.specs.Bytes.{close_brace, open_brace, semicolon};
 ghost use Rattle.cb_scan.specs.lex.Tokens.{is_mark};
-ghost use Rattle.cb_scan.specs.steps.Functions.{before_after, called, closed, counts, found, left_open, next, next_body, next_depth, next_open, start, stops};
+ghost use Rattle.cb_scan.specs.steps.Functions.{before_after, called, closed, counts, found, grown, left_open, next, next_body, next_depth, next_open, start, stops};
 
 use crate::facts::{Call, Def};
 use crate::lex::piece::Span;
@@ -119,6 +119,19 @@ impl Machine {
         }
     }
 
+    /// The head goes on with a token. Deeper in braces only the last token counts, since a stop comes
+    /// before the depth is 0 again.
+    #[inline(always)]
+    fn grow(&mut self, token: &Token)
+        ensures { self.new ≡ record self.old { head = grown self.old token.now } }
+    {
+        if self.depth == 0 {
+            self.head.add(token);
+        } else {
+            self.head.last = Some(*token);
+        }
+    }
+
     /// After a brace or a `;`.
     #[tactic(auto, unfolding(crate::specs::steps::Functions::next))]
     fn turn(&mut self, token: &Token)
@@ -130,13 +143,13 @@ impl Machine {
         let is_stop = self.stops(token, depth);
         let body = self.next_body(token, depth);
         let opened = self.next_open(token, is_stop);
-        self.depth = depth;
         self.before = before_after(self.before, token);
         if is_stop {
             self.head = Head::new();
         } else {
-            self.head.add(token);
+            self.grow(token);
         }
+        self.depth = depth;
         self.opened = opened;
         self.body = body;
     }
@@ -151,7 +164,7 @@ impl Machine {
         ensures same { self.new.depth ≡ self.old.depth }
     {
         self.before = before_after(self.before, token);
-        self.head.add(token);
+        self.grow(token);
         if self.depth == 0 {
             self.body = None;
         }

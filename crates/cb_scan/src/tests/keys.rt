@@ -19,13 +19,14 @@ fn facts_go_by_key(rt: HostRuntime) -> Result<(), Fail> {
     assert_eq!(rt; defs.items(), [0, 2, 3, 1].as_slice());
     assert_eq!(rt; defs.starts(), [0, 1, 2, 3, 4].as_slice());
     assert_eq!(rt;
-        defs.prefixes()[..],
+        defs.prefixes(),
         [
             0x5457_4943_4500_0000,
             0x6164_6400_0000_0000,
             0x6d61_696e_0000_0000,
             0x776f_7264_0000_0000
         ]
+        .as_slice()
     );
     // TWICE once, add twice
     let callees = keys.callees();

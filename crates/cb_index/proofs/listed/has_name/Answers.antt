@@ -1,6 +1,5 @@
-use Rattle.std.proofs.Common.{◌≡◌, ◌∙◌, sym, length}
+use Rattle.std.proofs.Common.{◌∙◌, sym, length}
 use Rattle.std.specs.Str.{bytes_eq}
-use Rattle.cb_index.specs.Archived.{name_of}
 use Rattle.cb_index.specs.declared.entry.Shown.{Shown}
 use Rattle.cb_index.proofs.ListedLemmas.{here_is, none_here, not_below}
 use Rattle.cb_index.proofs.listed.has_name.Goals as goal

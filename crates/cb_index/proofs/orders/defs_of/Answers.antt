@@ -2,7 +2,7 @@ use Rattle.std.proofs.Common.{◌≡◌, ◌<◌, ◌∙◌, ℕ, List, length, 
 use Rattle.std.proofs.lemmas.List.{length-map}
 use Rattle.cb_scan.specs.declared.facts.Def.{Def}
 use Rattle.cb_scan.specs.Definitions.{facts_of}
-use Rattle.cb_scan.specs.FactKeys.{keys_of, keys_of_facts}
+use Rattle.cb_scan.specs.FactKeys.{keys_of_facts}
 use Rattle.cb_scan.specs.Keys.{items_by_key}
 use Rattle.cb_scan.specs.lex.Tokens.{bytes_of}
 use Rattle.cb_scan.proofs.KeyLaws.{item_count}

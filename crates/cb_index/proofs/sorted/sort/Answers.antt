@@ -1,5 +1,5 @@
 -- What is sorted and has the same elements is the list in order.
-use Rattle.std.proofs.Common.{rules, ◌≡◌, ap, sym}
+use Rattle.std.proofs.Common.{rules, sym}
 use Rattle.std.proofs.lemmas.Cmp.{nat_list_cmp_total}
 use Rattle.std.proofs.lemmas.List.MinMax.{ranks_by}
 use Rattle.std.proofs.lemmas.Fn.{always_returns_same}

@@ -6,9 +6,11 @@ use Rattle.cb_desk.proofs.history.History.redo.Goals as goal
 
 pub returns-then-self-len : goal.returns-then-self-len
 returns-then-self-len c =
-    let all : c.self.inside.done ≡ length c.self.inside.records.items = search rules in
-    (ap (λ h. redone (timeline_in h)) (sym c.self.view_is)
-    ∙ redo_nothing (record { kept = c.self.inside.present; records = c.self.inside.records.items; done = c.self.inside.done }) all, refl)
+    let all : c.self.inside.done ≡ length c.self.inside.records.items = search rules in (
+      ap (λ h. redone (timeline_in h)) (sym c.self.view_is)
+          ∙ redo_nothing (record { kept = c.self.inside.present; records = c.self.inside.records.items; done = c.self.inside.done }) all,
+      refl,
+    )
 
 pub turn-requires-clause-turn : goal.turn-requires-clause-turn
 turn-requires-clause-turn c =

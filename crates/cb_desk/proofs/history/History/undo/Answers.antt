@@ -42,7 +42,7 @@ pub returns : goal.returns
 returns c =
     let some : 1 ≤ c.self.inside.done = grind (arith, c.if-self-eq0.false) in
     let from : IsRecorded (record { kept = c.self.inside.present; records = c.self.inside.records.items; done = c.self.inside.done - 1 + 1 }) =
-        rw (← one_more c.self.inside.done some) c.self.invariant in
+    rw (← one_more c.self.inside.done some) c.self.invariant in
     ap (λ h. undone (timeline_in h)) (sym c.self.view_is)
     ∙ ap (λ n. undone (timeline_in (record { kept = c.self.inside.present; records = c.self.inside.records.items; done = n }))) (one_more c.self.inside.done some)
     ∙ undo_is c.self.inside.present c.self.inside.records.items (c.self.inside.done - 1) c.index_mut.result.now

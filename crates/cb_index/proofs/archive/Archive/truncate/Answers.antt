@@ -1,4 +1,4 @@
-use Rattle.std.proofs.Common.{◌≡◌, ◌∙◌, map, take, sym, ap}
+use Rattle.std.proofs.Common.{◌∙◌, map, take, sym, ap}
 use Rattle.std.proofs.lemmas.List.{take-map}
 use Rattle.cb_index.proofs.archive.Archive.truncate.Goals as goal
 

@@ -1,8 +1,7 @@
-use Rattle.std.proofs.Common.{◌≡◌, ◌∙◌, ◌≤◌, ◌+◌, ◌++◌, false, refl, sym, ap, subst, length}
-use Rattle.std.specs.List.{AllByRecursion, list_any}
+use Rattle.std.proofs.Common.{◌∙◌, ◌++◌, refl, sym, ap, subst}
 use Rattle.std.proofs.Math.Nat.{le_trans, min-le_left, min-le_right}
 use Rattle.cb_scan.specs.Order.{in_order}
-use Rattle.cb_index.specs.Files.{AreApart, IsThere, call_count, def_count, is_shown, shown_name, total, use_count}
+use Rattle.cb_index.specs.Files.{call_count, def_count, shown_name, use_count}
 use Rattle.cb_index.specs.Orders.{callee_key, callee_prefixes, caller_key, caller_prefixes, def_key, def_prefixes, tag_key, use_key, use_prefixes}
 use Rattle.cb_index.specs.Shelved.{CanShowAll, Shelved}
 use Rattle.cb_index.proofs.FewerLemmas.{fewer_callees, fewer_callers, fewer_defs, fewer_uses}

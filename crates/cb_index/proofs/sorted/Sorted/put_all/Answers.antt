@@ -1,8 +1,8 @@
-use Rattle.std.proofs.Common.{◌≡◌, ◌∙◌, ◌≤◌, ◌+◌, ◌++◌, sym, ap, length, arith}
+use Rattle.std.proofs.Common.{◌≡◌, ◌∙◌, ◌++◌, sym, ap, length, arith}
 use Rattle.std.proofs.Math.Nat.{min-le_left}
 use Rattle.std.specs.Prelude.{min, vec_capacity}
 use Rattle.cb_scan.specs.Order.{in_order}
-use Rattle.cb_index.specs.Entries.{entries_from, sort_key}
+use Rattle.cb_index.specs.Entries.{sort_key}
 use Rattle.cb_index.specs.Held.{Held, entries_of, prefixes_of}
 use Rattle.cb_index.proofs.EntryLemmas.{sort_exact}
 use Rattle.cb_index.proofs.IndexLemmas.{length_from}

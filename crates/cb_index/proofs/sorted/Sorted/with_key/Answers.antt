@@ -1,4 +1,4 @@
-use Rattle.std.proofs.Common.{◌≡◌, ◌∙◌, ◌≤◌, ◌-◌, true, false, List, sym, ap, subst, filter, take, drop, length}
+use Rattle.std.proofs.Common.{◌≡◌, ◌∙◌, ◌≤◌, true, false, sym, ap, subst, filter, take, length}
 use Rattle.std.proofs.lemmas.List.{take_rest}
 use Rattle.std.specs.Prelude.{not}
 use Rattle.std.specs.List.Sorted.{IsPartitionedBy, IsPartitionPoint}
@@ -6,7 +6,7 @@ use Rattle.std.specs.Ordering.{is_gt, is_lt}
 use Rattle.cb_scan.specs.Order.{in_order}
 use Rattle.cb_index.specs.Entries.{has_key, key_cmp, sort_key}
 use Rattle.cb_index.proofs.RangeLemmas.{range_is, rest_parted}
-use Rattle.cb_index.proofs.sorted.Sorted.range.Goals as goal
+use Rattle.cb_index.proofs.sorted.Sorted.with_key.Goals as goal
 
 -- the entries after those below the key are parted by its end
 pub upto-requires : goal.upto-requires
