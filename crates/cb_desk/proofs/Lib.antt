@@ -37,3 +37,5 @@ pub mod WalkLemmas
 pub mod ArchiveMoves
 pub mod PlanLemmas
 pub mod PlacePlans
+pub mod ShownMoves
+pub mod FilePlans

@@ -10,7 +10,10 @@ ghost use Rattle.cb_desk.specs.steps.Plans.{HasRoomFor};
 ghost use Rattle.cb_desk.specs.steps.Records.{AreThere, Fits, IsTurn, KeepsRooms, hidden, kept_wanted, no_numbers, other, other_wanted, turned, without};
 ghost use Rattle.cb_desk.specs.steps.Texts.{bytes_if, bytes_if_other};
 
+mod files;
+mod moved;
 mod places;
+mod refusals;
 
 use crate::edits::{Edit, turn_edits};
 use crate::place_list::PlaceList;
