@@ -40,3 +40,5 @@ pub mod PlanLemmas
 pub mod PlacePlans
 pub mod MarkPlans
 pub mod TagPlans
+pub mod ShownMoves
+pub mod FilePlans

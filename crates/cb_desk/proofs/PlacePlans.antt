@@ -42,7 +42,7 @@ edited_length (e ∷ es) ps =
     drop_one (x ∷ xs) = omega arith
 
 -- ---- a list that is in order
-put_first : {X : Type 0} (key : X → List ℕ) (x : X) (xs : List X) → AllByRecursion (λ y. goes_first key x y ≡ true) xs → put key x xs ≡ x ∷ xs
+pub put_first : {X : Type 0} (key : X → List ℕ) (x : X) (xs : List X) → AllByRecursion (λ y. goes_first key x y ≡ true) xs → put key x xs ≡ x ∷ xs
 unfolding put
 put_first key x [] all = refl
 put_first key x (y ∷ ys) all = ap (λ b. cond b (x ∷ y ∷ ys) (y ∷ put key x ys)) all.0

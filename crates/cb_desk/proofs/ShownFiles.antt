@@ -1,5 +1,5 @@
 -- The files that a shelf shows.
-use Rattle.std.proofs.Common.{◌≡◌, ◌∙◌, sym, ap, refl, subst, ℕ, ◌<◌, ◌≤◌, Bool, true, false, cond, List, [], ◌∷◌, length, map, Option, Some, None, Less, nat_cmp}
+use Rattle.std.proofs.Common.{◌≡◌, ◌∙◌, sym, ap, refl, subst, ℕ, ◌<◌, ◌≤◌, Bool, true, false, cond, List, [], ◌∷◌, length, map, Option, Some, None, is_some, Less, nat_cmp}
 use Rattle.std.specs.Cmp.Lexicographic.{slice_cmp}
 use Rattle.std.specs.List.{AllByRecursion}
 use Rattle.std.specs.List.Sorted.{IsStrictlySortedBy}
@@ -43,3 +43,10 @@ text-found files name f is = ap (option_map (λ (g : File). g.bytes)) is ∙ by_
         ≡ cond b (Some (text_of_file files name)) None
     by_cases true = refl
     by_cases false = refl
+
+-- whether a file was found
+pub found_is : {X : Type 0} (g : X → File) (r : Option X) (b : Bool) (f : File) → option_map g r ≡ cond b (Some f) None → is_some r ≡ b
+found_is g None true f is = cc
+found_is g None false f is = refl
+found_is g (Some x) true f is = refl
+found_is g (Some x) false f is = cc

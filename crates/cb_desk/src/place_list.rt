@@ -57,6 +57,18 @@ impl PlaceList {
         Ok(())
     }
 
+    /// Makes room for so many places more.
+    pub(crate) fn reserve_more(&mut self, more: usize) -> Result<(), AllocError>
+        ensures value { OnOk result (length self.old.places + more ≤ self.new.room) }
+        ensures places { self.new.places ≡ self.old.places }
+        ensures room { self.old.room ≤ self.new.room }
+    {
+        match self.places.len().checked_add(more) {
+            Some(count) => self.reserve(count),
+            None => Err(AllocError),
+        }
+    }
+
     /// Makes edits, in the room that is there. It takes no memory.
     pub(crate) fn edit(&mut self, edits: &[Edit])
         requires { length (edited edits.now self.old.places) ≤ self.old.room }

@@ -8,16 +8,22 @@ ghost use Rattle.std.specs.List.Sorted.{IsStrictlyIncreasing};
 ghost use Rattle.cb_desk.specs.steps.Edits.{turned_edits, edited};
 ghost use Rattle.cb_desk.specs.steps.Plans.{HasRoomFor};
 ghost use Rattle.cb_desk.specs.steps.Records.{AreThere, Fits, IsTurn, KeepsRooms, hidden, kept_wanted, no_numbers, other, other_wanted, turned, without};
+ghost use Rattle.cb_desk.specs.steps.Room.{IsRoomFor};
 ghost use Rattle.cb_desk.specs.steps.Texts.{bytes_if, bytes_if_other};
 
+mod counts;
+mod files;
 mod marks;
+mod moved;
 mod places;
+mod refusals;
 
 use crate::edits::{Edit, turn_edits};
 use crate::place_list::PlaceList;
 use crate::plan::Plan;
 use crate::record::Record;
-use cb_index::{Shelf, Shown, Version};
+use cb_index::{Room, Shelf, Shown, Version};
+use counts::{Counts, with_versions};
 use std::alloc::{AllocError, Global};
 use std::marker::Model;
 use std::mem;
@@ -165,6 +171,33 @@ impl Present {
         turn_places(&mut self.frames, &mut way.frames);
         mem::swap(&mut self.names, &mut way.names);
         mem::swap(&mut self.versions, &mut way.versions);
+    }
+
+    /// The room for what a plan brings, for all that is shown and for all that it shows, if its
+    /// numbers are.
+    fn room_for(&self, plan: &Plan) -> Option<Room>
+        requires { AreThere self.now.archive self.now.now }
+        ensures { MatchOption result ⊤ (IsRoomFor self.now plan.now) }
+    {
+        let archive = self.shelf.archive();
+        let shown = self.shelf.shown();
+        let shows = plan.record.shows.as_slice();
+        let news = plan.versions.as_slice();
+        let none = Counts {
+            defs: 0,
+            uses: 0,
+            calls: 0,
+        };
+        let now = with_versions(archive, self.versions, news, shown, none)?;
+        let all = with_versions(archive, self.versions, news, shows, now)?;
+        Some(Room {
+            versions: sum(self.versions, plan.versions.len())?,
+            names: sum(self.names, plan.names.len())?,
+            entries: sum(u32::try_from(shown.len()).ok()?, shows.len())?,
+            defs: all.defs,
+            uses: all.uses,
+            calls: all.calls,
+        })
     }
 
     /// Makes room for the world that a plan leads to, and for what it brings.

@@ -255,7 +255,7 @@ module _ (a : Archived) (stays : ℕ → Bool) where
   abbrev entry_stays : Entry → Bool
   entry_stays e = stays e.name
 
-  ascending_filter : (p : Shown → Bool) (shown : List Shown) → AreAscending a shown → AreAscending a (filter p shown)
+  pub ascending_filter : (p : Shown → Bool) (shown : List Shown) → AreAscending a shown → AreAscending a (filter p shown)
   unfolding AreOrdered
   ascending_filter p [] up = tt
   ascending_filter p (s ∷ shown) up =

@@ -65,7 +65,7 @@ module _ (a : Archived) (s t : Shown) where
           ap (λ p. not (is_gt p)) (sym shown_cmp ∙ ap (λ p. ordering_then p (Names (numbers s) (numbers t))) is ∙ sym is)
 
 -- ---- names that are apart
-bytes_other : (x y : List ℕ) → Names x y ≡ Less → bytes_eq x y ≡ false
+pub bytes_other : (x y : List ℕ) → Names x y ≡ Less → bytes_eq x y ≡ false
 bytes_other x y less = sym (is_eq-slice_cmp x y) ∙ ap is_eq less
 
 pub other_turned : (x y : List ℕ) → bytes_eq x y ≡ false → bytes_eq y x ≡ false

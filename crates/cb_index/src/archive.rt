@@ -50,7 +50,8 @@ impl Version {
         &self.source
     }
 
-    pub(crate) fn facts(&self) -> &Facts
+    /// The facts of its text.
+    pub fn facts(&self) -> &Facts
         ensures { result.now ≡ facts_of self.now }
     {
         &self.facts

@@ -1,14 +1,8 @@
-use Rattle.std.proofs.Common.{◌≡◌, ◌≢◌, ◌∙◌, sym, ap, refl, nat_cmp, Ordering, Less, Equal, Greater}
+use Rattle.std.proofs.Common.{◌≡◌, ◌∙◌, sym, ap, nat_cmp, Equal}
 use Rattle.std.specs.Cmp.Lexicographic.{slice_cmp}
 use Rattle.std.specs.Ordering.{ordering_then}
-use Rattle.cb_desk.proofs.PlaceOrder.{cmp-places}
+use Rattle.cb_desk.proofs.PlaceOrder.{cmp-places, first-decides}
 use Rattle.cb_desk.proofs.marks.compare.Goals as goal
-
--- an order that is not equal decides
-first-decides : (o p : Ordering) → o ≢ Equal → ordering_then o p ≡ o
-first-decides Less p other = refl
-first-decides Equal p other = absurd (other refl)
-first-decides Greater p other = refl
 
 pub returns-in-Equal : goal.returns-in-Equal
 returns-in-Equal c =
