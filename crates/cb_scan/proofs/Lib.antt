@@ -8,7 +8,7 @@ pub mod Cuts
 pub mod DeclarationLemmas
 pub mod FactsFew
 pub mod FactsWithin
-pub mod FeedsCounted
+pub mod FeedLanes
 pub mod FunctionLemmas
 pub mod FunctionsRise
 pub mod GatherLemmas
