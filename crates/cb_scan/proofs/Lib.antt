@@ -7,7 +7,7 @@ pub mod CodeLines
 pub mod Cuts
 pub mod DeclarationLemmas
 pub mod FactsWithin
-pub mod FeedsCounted
+pub mod FeedLanes
 pub mod FunctionLemmas
 pub mod FunctionsRise
 pub mod GatherLemmas

@@ -1,5 +1,7 @@
 //! What one pass over a text gathers, list by list.
-ghost use Rattle.std.specs.Prelude.{◌≡◌, ◌≤◌, ◌<◌, ◌+◌, ◌++◌, ◌^◌, [], length, IfOk};
+ghost use Rattle.std.specs.Prelude.{◌≡◌, ◌≤◌, ◌<◌, ◌+◌, ◌++◌, ◌^◌, [], false, length, IfOk};
+ghost use Rattle.cb_scan.specs.Bytes.{close_brace, open_brace, open_paren, semicolon};
+ghost use Rattle.cb_scan.specs.lex.Tokens.{is_mark};
 ghost use Rattle.cb_scan.specs.declared.source.TheConstants.{MOST_BYTES};
 ghost use Rattle.std.specs.Option.{option_to_list};
 ghost use Rattle.cb_scan.specs.steps.Directives.{include_out, macro_call_out, macro_out, next_stage, range_finish, use_out};
@@ -13,7 +15,7 @@ use crate::rules::directives::Stage;
 use crate::rules::functions::Machine;
 use crate::rules::scope::Range;
 use crate::rules::structures::Naming;
-use crate::rules::typedefs::{Declaration, take_token};
+use crate::rules::typedefs::{Declaration, pass_token, take_token};
 use std::alloc::{AllocError, Global};
 
 /// The state of the pass over the code: depth, head and body, the typedef that is open, and the
@@ -105,7 +107,39 @@ impl CodeLists {
         }
     }
 
-    /// A token of the code, which moves the state of the pass.
+    /// A token that is none of the marks that can give something or end a declaration.
+    fn pass(&mut self, state: &mut CodeState, token: &Token) -> Result<(), AllocError>
+        requires nested { nesting_of state.old.declared + 1 < 2 ^ 32 }
+        requires no_open_brace { is_mark open_brace token.now.role ≡ false }
+        requires no_close_brace { is_mark close_brace token.now.role ≡ false }
+        requires no_semicolon { is_mark semicolon token.now.role ≡ false }
+        requires no_open_paren { is_mark open_paren token.now.role ≡ false }
+        ensures machine { IfOk result (λ _. state.new.machine ≡ next state.old.machine token.now) }
+        ensures same { IfOk result (λ _. state.new.machine.depth ≡ state.old.machine.depth) }
+        ensures declared { IfOk result
+            (λ _. state.new.declared
+            ≡ next_declaration state.old.machine state.old.declared token.now) }
+        ensures nested { IfOk result
+            (λ _. nesting_of state.new.declared ≤ nesting_of state.old.declared + 1) }
+        ensures naming { IfOk result (λ _. state.new.naming ≡ next_naming state.old.naming token.now) }
+        ensures pending { IfOk result
+            (λ _. self.new.pending.items ≡ next_pending state.old.machine state.old.declared
+            self.old.pending.items token.now) }
+        ensures others { IfOk result
+            (λ _. self.new ≡ record self.old { pending = self.new.pending }) }
+    {
+        pass_token(
+            &state.machine,
+            &mut state.declared,
+            token,
+            &mut self.pending,
+        )?;
+        state.machine.go_on(token);
+        state.naming.next(token);
+        Ok(())
+    }
+
+    /// A token of the code, which moves the state of the pass. Most are passed over.
     pub(crate) fn add(&mut self, state: &mut CodeState, token: &Token) -> Result<(), AllocError>
         requires deep { state.old.machine.depth + 1 < 2 ^ 32 }
         requires nested { nesting_of state.old.declared + 1 < 2 ^ 32 }
@@ -137,6 +171,9 @@ impl CodeLists {
             (λ _. self.new.structures.items ≡ self.old.structures.items
             ++ option_to_list (structure_found state.old.naming token.now)) }
     {
+        if !matches!(token.role, Role::Mark(b'{' | b'}' | b';' | b'(')) {
+            return self.pass(state, token);
+        }
         self.find(state, token)?;
         take_token(
             &state.machine,

@@ -6,9 +6,8 @@ ghost use Rattle.std.specs.List.{AllByRecursion};
 ghost use Rattle.cb_scan.specs.steps.Cut.{pieces};
 ghost use Rattle.cb_scan.specs.steps.Lined.{is_feed, lined, Within, holds_feeds};
 
-use crate::lex::lanes::{LANES, space_run};
+use crate::lex::lanes::{LANES, feed_lanes, space_run};
 use crate::lex::piece::{Class, Piece, first_piece};
-use memchr::memchr_iter;
 use std::marker::Model;
 
 /// A piece and the line of its first byte, from 1.
@@ -42,12 +41,26 @@ impl<'a> Model for LinedPieces<'a> {
         × (s.line ≡ line_of s.text.now s.at) };
 }
 
-/// How many of the bytes are line feeds, many looked at together.
+/// How many of the bytes are line feeds, one byte after the other.
+fn feeds_of(bytes: &[u8]) -> u32
+    requires { length bytes.now ≤ MOST_BYTES }
+    ensures { result ≡ count_by is_feed bytes.now }
+{
+    bytes.iter().filter(|byte| **byte == b'\n').count() as u32
+}
+
+/// The same, many bytes at a time.
 fn feeds_among(bytes: &[u8]) -> u32
     requires { length bytes.now ≤ MOST_BYTES }
     ensures { result ≡ count_by is_feed bytes.now }
 {
-    memchr_iter(b'\n', bytes).count() as u32
+    let mut count = 0;
+    let mut rest = bytes;
+    while rest.len() >= LANES {
+        count += feed_lanes(rest);
+        rest = &rest[LANES..];
+    }
+    count + feeds_of(rest)
 }
 
 /// How many line feeds the bytes of a piece hold: pieces that can hold none are not looked at
@@ -62,7 +75,7 @@ fn feeds_in(class: Class, bytes: &[u8]) -> u32
         (Class::Name | Class::Number | Class::Byte, _) => 0,
         (Class::LineNote | Class::BlockNote, _) => feeds_among(bytes),
         (_, [byte]) => u32::from(*byte == b'\n'),
-        _ => bytes.iter().filter(|byte| **byte == b'\n').count() as u32,
+        _ => feeds_of(bytes),
     }
 }
 

@@ -156,7 +156,7 @@ impl Machine {
 
     /// After any other token: then the depth stays.
     #[tactic(auto, unfolding(crate::specs::steps::Functions::next))]
-    fn go_on(&mut self, token: &Token)
+    pub(crate) fn go_on(&mut self, token: &Token)
         requires no_open_brace { is_mark open_brace token.now.role ≡ false }
         requires no_close_brace { is_mark close_brace token.now.role ≡ false }
         requires no_semicolon { is_mark semicolon token.now.role ≡ false }
