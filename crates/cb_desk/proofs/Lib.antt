@@ -4,6 +4,7 @@ pub mod Counting
 pub mod DefinitionPlaces
 pub mod Distinct
 pub mod EditLemmas
+pub mod FeedsCounted
 pub mod FilesApart
 pub mod FoundRows
 pub mod Fresh

@@ -56,20 +56,34 @@ fn one_file_is_shown_and_hidden(rt: HostRuntime) -> Result<(), Fail> {
     Ok(())
 }
 
+/// `two_files`, of which `files` are shown one after another.
+fn shown_in_turn(alloc: Global, files: &[Shown]) -> Result<Shelf, Fail> {
+    let mut shelf = two_files(alloc)?;
+    for file in files {
+        show(&mut shelf, file.name, file.version)?;
+    }
+    Ok(shelf)
+}
+
 #[test]
-fn two_files_are_shown_in_either_order(rt: HostRuntime) -> Result<(), Fail> {
-    let mut shelf = two_files(rt.alloc())?;
-    show(&mut shelf, 0, 0)?;
-    show(&mut shelf, 1, 1)?;
-    shows_both(&rt, &shelf)?;
+fn the_second_file_is_shown_last(rt: HostRuntime) -> Result<(), Fail> {
+    let shelf = shown_in_turn(rt.alloc(), &[one(0, 0), one(1, 1)])?;
+    shows_both(&rt, &shelf)
+}
+
+#[test]
+fn the_second_file_is_shown_first(rt: HostRuntime) -> Result<(), Fail> {
+    let shelf = shown_in_turn(rt.alloc(), &[one(1, 1), one(0, 0)])?;
+    shows_both(&rt, &shelf)
+}
+
+#[test]
+fn a_file_is_hidden_and_shown_again(rt: HostRuntime) -> Result<(), Fail> {
+    let mut shelf = shown_in_turn(rt.alloc(), &[one(0, 0), one(1, 1)])?;
     shelf.hide(1);
     show(&mut shelf, 1, 1)?;
-    shows_both(&rt, &shelf)?;
     assert_eq!(rt; shelf.turns(), 4);
-    let mut other = two_files(rt.alloc())?;
-    show(&mut other, 1, 1)?;
-    show(&mut other, 0, 0)?;
-    shows_both(&rt, &other)
+    shows_both(&rt, &shelf)
 }
 
 #[test]
