@@ -43,3 +43,4 @@ pub mod MarkPlans
 pub mod TagPlans
 pub mod ShownMoves
 pub mod FilePlans
+pub mod RoomLemmas

@@ -211,8 +211,13 @@ impl Present {
         ensures now { self.new.now ≡ self.old.now }
         ensures rooms { KeepsRooms self.old.rooms self.new.rooms }
     {
-        let _names = sum(self.names, plan.names.len());
-        Err(AllocError)
+        let room = self.room_for(plan).ok_or(AllocError)?;
+        match self.shelf.reserve(&room) {
+            Ok(()) => {}
+            Err(_) => return Err(AllocError),
+        }
+        self.marks.reserve_more(plan.record.marks.len())?;
+        self.frames.reserve_more(plan.record.frames.len())
     }
 
     /// Drops from the archive what only later worlds use, and keeps new names and versions, in the
