@@ -8,6 +8,7 @@ pub mod LookBack
 pub mod MarkedLines
 pub mod Plans
 pub mod Records
+pub mod Replaced
 pub mod Room
 pub mod Scans
 pub mod Search

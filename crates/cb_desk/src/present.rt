@@ -17,6 +17,8 @@ mod marks;
 mod moved;
 mod places;
 mod refusals;
+pub(crate) mod renewal;
+mod replacement;
 
 use crate::edits::{Edit, turn_edits};
 use crate::place_list::PlaceList;
