@@ -2,14 +2,11 @@ pub mod AnswerRows
 pub mod BytesEqual
 pub mod Counting
 pub mod DefinitionPlaces
-pub mod Distinct
+pub mod EqualRows
 pub mod EditLemmas
 pub mod FeedsCounted
-pub mod FilesApart
-pub mod FoundRows
 pub mod Fresh
 pub mod Gaps
-pub mod Groups
 pub mod HeldRows
 pub mod LineTexts
 pub mod LookBackLemmas
@@ -26,7 +23,6 @@ pub mod Replays
 pub mod RowsFew
 pub mod ShownFiles
 pub mod StepsValid
-pub mod Swaps
 pub mod TagOrder
 pub mod TextLines
 pub mod TextRowsApart

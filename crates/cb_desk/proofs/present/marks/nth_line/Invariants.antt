@@ -1,6 +1,6 @@
 use Rattle.std.proofs.Common.{◌≡◌, ◌≤◌, ◌++◌, length}
 use Rattle.cb_desk.specs.Search.{lines_with}
-use Rattle.cb_desk.proofs.marks.nth_line.Given as goal
+use Rattle.cb_desk.proofs.present.marks.nth_line.Given as goal
 
 abbrev pub invariant-loop-line : goal.invariant-loop-line
 invariant-loop-line l = record {
