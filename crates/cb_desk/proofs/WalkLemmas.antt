@@ -1,8 +1,8 @@
 -- Records lead back and on.
-use Rattle.std.proofs.Common.{◌≡◌, ◌∙◌, sym, ap, refl, subst, ℕ, ◌+◌, ◌-◌, ◌<◌, ◌≤◌, Bool, true, false, List, [], ◌∷◌, ◌++◌, take, drop, length, map, get_or, slice_set, reverse, Option, Some, None, Ok, Err, add-one, arith}
+use Rattle.std.proofs.Common.{◌≡◌, ◌∙◌, sym, ap, refl, subst, ℕ, ◌+◌, ◌-◌, ◌<◌, ◌≤◌, Bool, true, false, List, [], ◌∷◌, ◌++◌, take, drop, length, map, get_or, slice_set, reverse, Option, Some, None, Ok, Err, add-one, arith, length-take-le}
 use Rattle.std.specs.Prelude.{not}
 use Rattle.std.proofs.Math.Seq.{drop-cons}
-use Rattle.std.proofs.lemmas.List.{reverse-append, take_more, take_more_set, take-set, drop-set, drop-set-lt, drop_all, length-set}
+use Rattle.std.proofs.lemmas.List.{reverse-append, take_more, take_more_set, take-set, drop-set, drop-set-lt, drop_all, length-map, length-reverse, length-set}
 use Rattle.std.specs.List.Sorted.{IsStrictlySortedBy}
 use Rattle.cb_scan.specs.Order.{in_order}
 use Rattle.cb_index.specs.Archived.{Archived}
@@ -287,3 +287,15 @@ nothing_recorded k is = record {
       there = record { shown = tt; marks = tt; frames = tt; names = omega arith; versions = omega arith };
       fits = record { files = omega arith; defs = omega arith; uses = omega arith; calls = omega arith; marks = omega arith; frames = omega arith };
     })
+
+-- as many worlds are the past as records lead back
+walk_length : (a : Archived) (w : Numbered) (ts : List Turn) → length (walk a w ts) ≡ length ts
+walk_length a w [] = refl
+walk_length a w (t ∷ ts) = ap (λ n. n + 1) (walk_length a (other a t w) ts)
+
+pub past_length : (h : Recorded) → h.done ≤ length h.records → length (timeline_in h).past ≡ h.done
+past_length h within =
+    length-map (walk h.kept.archive h.kept.now (turns_back h)) (world_in h.kept.archive)
+    ∙ walk_length h.kept.archive h.kept.now (turns_back h)
+    ∙ length-reverse (take h.done h.records)
+    ∙ length-take-le h.done h.records within

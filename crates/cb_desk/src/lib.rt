@@ -33,7 +33,7 @@ mod tags;
 #[cfg(test)]
 mod tests;
 
-pub use answers::{Files, Rows};
+pub use answers::{Files, Rows, TagRows};
 pub use change::Change;
 pub use places::Places;
 pub use refusal::Refusal;

@@ -9,8 +9,8 @@ use std::alloc::{AllocError, Global};
 
 /// The version of a source, which is scanned.
 fn scanned_source(alloc: Global, meter: &mut Meter, source: Source) -> Result<Version, AllocError>
-    ensures value { IfOk result (λ version. version ≡ source.entry) }
-    ensures meter { CountsUpTo (length source.entry) meter.old meter.new result }
+    ensures value { IfOk result (λ version. version ≡ source) }
+    ensures meter { CountsUpTo (length source) meter.old meter.new result }
 {
     let _counted = meter.read();
     let Ok(facts) = scan(alloc, meter, &source) else {
@@ -29,8 +29,8 @@ pub(crate) fn scanned(
     text: Vec<u8>,
 ) -> Result<Version, AllocError>
     requires { length text.items ≤ MOST_BYTES }
-    ensures value { IfOk result (λ version. version ≡ text.entry.items) }
-    ensures meter { CountsUpTo (length text.entry.items) meter.old meter.new result }
+    ensures value { IfOk result (λ version. version ≡ text.items) }
+    ensures meter { CountsUpTo (length text.items) meter.old meter.new result }
 {
     let _counted = meter.read();
     let Ok(source) = Source::new(alloc, text) else {

@@ -1,7 +1,6 @@
 //! The state of a session.
 ghost use Rattle.std.specs.Prelude.{◌≡◌, ◌≢◌, [], IfErr};
 ghost use Rattle.std.specs.Option.{option_copied};
-ghost use Rattle.cb_index.specs.steps.Left.{tags_left};
 ghost use Rattle.cb_desk.specs.Answer.{answer};
 ghost use Rattle.cb_desk.specs.Desk.{Counts, CountsUpTo, bytes_in, scanned};
 ghost use Rattle.cb_desk.specs.Models.{step_of};
@@ -10,8 +9,7 @@ ghost use Rattle.cb_desk.specs.Timeline.{Changes, Moves, new_timeline, redone, u
 ghost use Rattle.cb_desk.specs.World.{IsValidWorld, text_named};
 
 use crate::history::History;
-use crate::{Change, Field, Files, Format, Places, Refusal, Rows};
-use cb_index::TagRows;
+use crate::{Change, Field, Files, Format, Places, Refusal, Rows, TagRows};
 use cb_scan::{Meter, Source, scan};
 use std::alloc::{AllocError, Global};
 use std::marker::Model;
@@ -173,7 +171,7 @@ impl Desk {
 
     /// All definitions of the present world as tags, in the order of a format.
     pub fn tag_rows(&self, format: Format) -> TagRows<'_>
-        ensures { tags_left result ≡ tags format self.now.timeline.present }
+        ensures { result ≡ tags format self.now.timeline.present }
     {
         self.history.present().tag_rows(format)
     }

@@ -75,8 +75,8 @@ impl Present {
         requires kept { IsKept self.now.rooms self.now.archive self.now.now }
         requires accepted { load_refusal (world_in self.now.archive self.now.now) name.now bytes.items ≡ None }
         ensures plan { IfOk result (λ p. IsPlan self.now p
-            (loaded (world_in self.now.archive self.now.now) name.now bytes.entry.items)) }
-        ensures meter { CountsUpTo (length bytes.entry.items) meter.old meter.new result }
+            (loaded (world_in self.now.archive self.now.now) name.now bytes.items)) }
+        ensures meter { CountsUpTo (length bytes.items) meter.old meter.new result }
     {
         let _counted = meter.read();
         let version = scanned(alloc, meter, bytes)?;

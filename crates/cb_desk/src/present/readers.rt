@@ -2,18 +2,16 @@
 ghost use Rattle.std.specs.Prelude.{◌≡◌, ◌≢◌, [], map};
 ghost use Rattle.std.specs.Option.{option_copied};
 ghost use Rattle.cb_index.specs.Files.{files_of};
-ghost use Rattle.cb_index.specs.steps.Left.{tags_left};
 ghost use Rattle.cb_desk.specs.Answer.{answer};
 ghost use Rattle.cb_desk.specs.Tags.{tags};
 ghost use Rattle.cb_desk.specs.World.{AreValidFiles, text_named};
 ghost use Rattle.cb_desk.specs.steps.Records.{place_in, world_in};
 
-use crate::answers::{Files, Rows, source, tag_rows};
+use crate::answers::{Files, Rows, TagRows, source, tag_rows};
 use crate::places::Places;
 use crate::present::Present;
 use crate::rows::Field;
 use crate::tags::Format;
-use cb_index::TagRows;
 use cb_scan::Source;
 
 impl Present {
@@ -74,7 +72,7 @@ impl Present {
     /// All definitions as tags, in the order of a format.
     #[tactic(auto, unfolding(crate::specs::Tags::tags))]
     pub(crate) fn tag_rows(&self, format: Format) -> TagRows<'_>
-        ensures { tags_left result ≡ tags format (world_in self.now.archive self.now.now) }
+        ensures { result ≡ tags format (world_in self.now.archive self.now.now) }
     {
         tag_rows(&self.shelf, format)
     }
