@@ -50,7 +50,8 @@ class Session:
     """A program in line mode: commands go in, replies come out."""
 
     def __init__(self, words, folder):
-        self.process = subprocess.Popen(words, cwd=folder, stdin=subprocess.PIPE, stdout=subprocess.PIPE, bufsize=0)
+        self.process = subprocess.Popen(words, cwd=folder, stdin=subprocess.PIPE, stdout=subprocess.PIPE,
+                                        stderr=subprocess.DEVNULL, bufsize=0)
         self.read()
 
     def read(self):
