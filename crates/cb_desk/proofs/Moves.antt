@@ -6,7 +6,7 @@ use Rattle.cb_desk.specs.declared.refusal.Refusal.{Refusal}
 use Rattle.cb_desk.specs.declared.refusal.Refusal.TheVariants.{HistoryFull, OutOfMemory}
 use Rattle.cb_desk.specs.World.{World, IsValidWorld}
 use Rattle.cb_desk.specs.Step.{Step, refusal_of, after, step}
-use Rattle.cb_desk.specs.Timeline.{Timeline, IsValidTimeline, moved_on, advanced, changed, back_to, undone, on_to, redone, judged, Changes}
+use Rattle.cb_desk.specs.Timeline.{Timeline, IsValidTimeline, moved_on, advanced, changed, back_to, undone, on_to, redone, judged, Changes, Moves}
 use Rattle.cb_desk.specs.Laws.{UndoTakesBack, RedoTakesBack}
 use Rattle.cb_desk.proofs.StepsValid.{step_keeps_valid}
 
@@ -95,6 +95,12 @@ on-valid (w ∷ ws) t u e valid h =
 pub redo_keeps_valid : (t u : Timeline) → IsValidTimeline t → redone t ≡ Ok u → IsValidTimeline u
 unfolding redone
 redo_keeps_valid t u valid h = on-valid t.future t u refl valid h
+
+-- ---- what moves as meant stays valid
+pub moves-keep-valid : (meant : Result Timeline Refusal) (t u : Timeline) (r : Result (Unit {0}) Refusal) → IsValidTimeline t
+    → ((v : Timeline) → meant ≡ Ok v → IsValidTimeline v) → Moves meant t u r → IsValidTimeline u
+moves-keep-valid meant t u (Ok x) valid keeps moves = keeps u moves
+moves-keep-valid meant t u (Err r) valid keeps moves = subst IsValidTimeline (sym moves.1) valid
 
 -- ---- changes as they are judged and done
 

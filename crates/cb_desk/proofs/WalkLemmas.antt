@@ -11,7 +11,7 @@ use Rattle.cb_index.specs.declared.entry.Shown.{Shown}
 use Rattle.cb_desk.specs.declared.edits.Edit.{Edit}
 use Rattle.cb_desk.specs.declared.spot.NumberedPlace.{NumberedPlace}
 use Rattle.cb_desk.specs.declared.refusal.Refusal.TheVariants.{NothingToUndo, NothingToRedo}
-use Rattle.cb_desk.specs.Timeline.{Timeline, undone, redone}
+use Rattle.cb_desk.specs.Timeline.{IsValidTimeline, Timeline, new_timeline, undone, redone}
 use Rattle.cb_desk.specs.World.{IsValidWorld, empty_world}
 use Rattle.cb_desk.specs.steps.Edits.{edited, turned_edit, turned_edits}
 use Rattle.cb_desk.specs.steps.Records.{AreThere, Fits, IsTurn, Kept, KeepsRooms, Numbered, no_numbers, Rooms, Turn, kept_wanted, other, other_wanted, turned, without, world_in}
@@ -268,18 +268,16 @@ empty_is_valid : IsValidWorld empty_world
 unfolding IsStrictlySortedBy
 empty_is_valid = record { files = record { names = tt; sizes = tt; count = omega arith; ascending = tt }; marks = refl; frames = tt }
 
+pub new_valid : IsValidTimeline new_timeline
+new_valid = record { before = tt; now = empty_is_valid; later = tt; bounded = omega arith }
+
 pub nothing_recorded : (k : Kept) → k.now ≡ no_numbers → IsRecorded (record { kept = k; records = []; done = 0 })
 unfolding LeadsBack LeadsOn
 nothing_recorded k is = record {
   within = omega arith;
   back = none;
   on = none;
-  valid = rw is (record {
-    before = tt;
-    now = empty_is_valid;
-    later = tt;
-    bounded = omega arith;
-  });
+  valid = rw is new_valid;
 }
   where
     none : IsKept k.rooms k.archive k.now
