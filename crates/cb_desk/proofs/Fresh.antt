@@ -4,7 +4,7 @@ use Rattle.std.specs.List.{AllByRecursion, list_any}
 use Rattle.std.proofs.lemmas.Bool.{false≢true}
 use Rattle.cb_desk.specs.Answer.{AnswerRow, row_eq, distinct}
 use Rattle.cb_desk.specs.steps.LookBack.{fresh}
-use Rattle.cb_desk.proofs.Distinct.{row_same, row_itself}
+use Rattle.cb_desk.proofs.EqualRows.{row_same, row_itself}
 
 -- equality of rows goes both ways
 row-eq-turned : (r q : AnswerRow) → row_eq r q ≡ row_eq q r

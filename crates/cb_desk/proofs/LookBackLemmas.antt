@@ -1,23 +1,48 @@
 -- A row is equal to one before it if it is equal to one of its group.
-use Rattle.std.proofs.Common.{◌≡◌, ◌≢◌, ◌∙◌, sym, ap, refl, subst, ℕ, zero, suc, ◌+◌, ◌-◌, ◌≤◌, ◌<◌, Bool, true, false, not, ◌||◌, List, [], ◌∷◌, ◌++◌, length, length-append, length-drop, take, drop, add-one, arith, Ordering, Less, Equal, Greater, nat_cmp}
+use Rattle.std.proofs.Common.{◌≡◌, ◌≢◌, ◌∙◌, sym, ap, refl, subst, ℕ, zero, suc, ◌+◌, ◌-◌, ◌≤◌, ◌<◌, Bool, true, false, not, ◌||◌, ◌&&◌, bytes_eq, List, [], ◌∷◌, ◌++◌, length, length-append, length-drop, take, drop, add-one, arith, Ordering, Less, Equal, Greater, nat_cmp}
 use Rattle.std.specs.Cmp.Lexicographic.{slice_cmp}
 use Rattle.std.specs.List.{AllByRecursion, list_any}
 use Rattle.std.specs.Ordering.{is_gt, ordering_reverse}
 use Rattle.std.proofs.lemmas.Bool.{false_from_ne_true, false≢true}
+use Rattle.std.proofs.lemmas.Bool.Decides.{Decides-eqb}
+use Rattle.std.proofs.lemmas.Slice.Eq.{bytes_eq-Decides}
 use Rattle.std.proofs.lemmas.Cmp.{nat_list_cmp_total, tied_itself}
 use Rattle.std.proofs.lemmas.List.{drop-take}
 use Rattle.cb_scan.proofs.KeyOrder.{same_bytes}
 use Rattle.cb_desk.specs.Answer.{AnswerRow, row_eq}
-use Rattle.cb_desk.specs.steps.Collects.{alike, IsTextedLike}
-use Rattle.cb_desk.specs.steps.LookBack.{HaveLineTexts, IsGrouped, row_key}
-use Rattle.cb_desk.proofs.Distinct.{row_same}
-use Rattle.cb_desk.proofs.Groups.{all-take, alike-equal, any-behind}
-use Rattle.cb_desk.proofs.FilesApart.{all-middle}
+use Rattle.cb_desk.specs.steps.LookBack.{HaveLineTexts, IsGrouped, IsTextedLike, alike, row_key}
+use Rattle.cb_desk.proofs.EqualRows.{and-left, and-right, row_same}
 use Rattle.cb_desk.proofs.TextRowsApart.{not-below}
 use Rattle.cb_desk.proofs.Valid.{all-along, all-join}
 
 abbrev Keys : List ℕ → List ℕ → Ordering
 Keys = slice_cmp nat_cmp
+
+-- ---- rows among others
+all-take : {X : Type 0} (P : X → Type 0) (n : ℕ) (xs : List X) → AllByRecursion P xs → AllByRecursion P (take n xs)
+all-take P zero xs all = tt
+all-take P (suc n) [] all = tt
+all-take P (suc n) (x ∷ xs) all = (all.0, all-take P n xs all.1)
+
+all-middle : {X : Type 0} (P : X → Type 0) (xs : List X) (y : X) (zs : List X) → AllByRecursion P (xs ++ y ∷ zs) → P y
+all-middle P [] y zs all = all.0
+all-middle P (x ∷ xs) y zs all = all-middle P xs y zs all.1
+
+-- where none of the first rows is equal, an equal one is among the others
+any-behind : (q : AnswerRow) (rows : List AnswerRow) (n : ℕ) → AllByRecursion (λ r. row_eq q r ≡ false) (take n rows) → list_any (row_eq q) (drop n rows) ≡ list_any (row_eq q) rows
+any-behind q rows zero none = refl
+any-behind q [] (suc n) none = refl
+any-behind q (r ∷ rows) (suc n) none = any-behind q rows n none.1 ∙ rw none.0 refl
+
+-- rows that are equal but for their texts are equal where they have one text
+alike-equal : (q r : AnswerRow) → IsTextedLike q r → row_eq q r ≡ alike q r
+alike-equal q r same =
+    (elim (alike q r) as (λ b. alike q r ≡ b → b && bytes_eq q.text r.text ≡ b) [
+      | true ↦ λ h.
+          let both = and-left _ _ h in
+          (bytes_eq-Decides q.text r.text).1 (sym (same (sym ((bytes_eq-Decides q.file r.file).0 (and-left _ _ both))) (sym ((Decides-eqb q.line r.line).0 (and-right _ _ h)))))
+      | false ↦ λ h. refl
+    ]) refl
 
 -- ---- the next of a list
 take-next : {X : Type 0} (n : ℕ) (xs : List X) (y : X) (ys : List X) → drop n xs ≡ y ∷ ys → take (suc n) xs ≡ take n xs ++ y ∷ []

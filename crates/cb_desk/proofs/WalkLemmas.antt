@@ -1,8 +1,8 @@
 -- Records lead back and on.
-use Rattle.std.proofs.Common.{◌≡◌, ◌∙◌, sym, ap, refl, subst, ℕ, ◌+◌, ◌-◌, ◌<◌, ◌≤◌, Bool, true, false, List, [], ◌∷◌, ◌++◌, take, drop, length, map, get_or, slice_set, reverse, Option, Some, None, Ok, Err, add-one, arith}
+use Rattle.std.proofs.Common.{◌≡◌, ◌∙◌, sym, ap, refl, subst, ℕ, ◌+◌, ◌-◌, ◌<◌, ◌≤◌, Bool, true, false, List, [], ◌∷◌, ◌++◌, take, drop, length, map, get_or, slice_set, reverse, Option, Some, None, Ok, Err, add-one, arith, length-take-le}
 use Rattle.std.specs.Prelude.{not}
 use Rattle.std.proofs.Math.Seq.{drop-cons}
-use Rattle.std.proofs.lemmas.List.{reverse-append, take_more, take_more_set, take-set, drop-set, drop-set-lt, drop_all, length-set}
+use Rattle.std.proofs.lemmas.List.{reverse-append, take_more, take_more_set, take-set, drop-set, drop-set-lt, drop_all, length-map, length-reverse, length-set}
 use Rattle.std.specs.List.Sorted.{IsStrictlySortedBy}
 use Rattle.cb_scan.specs.Order.{in_order}
 use Rattle.cb_index.specs.Archived.{Archived}
@@ -11,7 +11,7 @@ use Rattle.cb_index.specs.declared.entry.Shown.{Shown}
 use Rattle.cb_desk.specs.declared.edits.Edit.{Edit}
 use Rattle.cb_desk.specs.declared.spot.NumberedPlace.{NumberedPlace}
 use Rattle.cb_desk.specs.declared.refusal.Refusal.TheVariants.{NothingToUndo, NothingToRedo}
-use Rattle.cb_desk.specs.Timeline.{Timeline, undone, redone}
+use Rattle.cb_desk.specs.Timeline.{IsValidTimeline, Timeline, new_timeline, undone, redone}
 use Rattle.cb_desk.specs.World.{IsValidWorld, empty_world}
 use Rattle.cb_desk.specs.steps.Edits.{edited, turned_edit, turned_edits}
 use Rattle.cb_desk.specs.steps.Records.{AreThere, Fits, IsTurn, Kept, KeepsRooms, Numbered, no_numbers, Rooms, Turn, kept_wanted, other, other_wanted, turned, without, world_in}
@@ -268,18 +268,16 @@ empty_is_valid : IsValidWorld empty_world
 unfolding IsStrictlySortedBy
 empty_is_valid = record { files = record { names = tt; sizes = tt; count = omega arith; ascending = tt }; marks = refl; frames = tt }
 
+pub new_valid : IsValidTimeline new_timeline
+new_valid = record { before = tt; now = empty_is_valid; later = tt; bounded = omega arith }
+
 pub nothing_recorded : (k : Kept) → k.now ≡ no_numbers → IsRecorded (record { kept = k; records = []; done = 0 })
 unfolding LeadsBack LeadsOn
 nothing_recorded k is = record {
   within = omega arith;
   back = none;
   on = none;
-  valid = rw is (record {
-    before = tt;
-    now = empty_is_valid;
-    later = tt;
-    bounded = omega arith;
-  });
+  valid = rw is new_valid;
 }
   where
     none : IsKept k.rooms k.archive k.now
@@ -287,3 +285,15 @@ nothing_recorded k is = record {
       there = record { shown = tt; marks = tt; frames = tt; names = omega arith; versions = omega arith };
       fits = record { files = omega arith; defs = omega arith; uses = omega arith; calls = omega arith; marks = omega arith; frames = omega arith };
     })
+
+-- as many worlds are the past as records lead back
+walk_length : (a : Archived) (w : Numbered) (ts : List Turn) → length (walk a w ts) ≡ length ts
+walk_length a w [] = refl
+walk_length a w (t ∷ ts) = ap (λ n. n + 1) (walk_length a (other a t w) ts)
+
+pub past_length : (h : Recorded) → h.done ≤ length h.records → length (timeline_in h).past ≡ h.done
+past_length h within =
+    length-map (walk h.kept.archive h.kept.now (turns_back h)) (world_in h.kept.archive)
+    ∙ walk_length h.kept.archive h.kept.now (turns_back h)
+    ∙ length-reverse (take h.done h.records)
+    ∙ length-take-le h.done h.records within

@@ -1,7 +1,5 @@
 pub mod Asked
-pub mod Collects
 pub mod Edits
-pub mod Found
 pub mod Held
 pub mod Lent
 pub mod LookBack
@@ -9,11 +7,8 @@ pub mod MarkedLines
 pub mod Plans
 pub mod Records
 pub mod Room
-pub mod Scans
 pub mod Search
 pub mod Shared
-pub mod TextRows
 pub mod Texts
 pub mod TextsLeft
 pub mod Walks
-pub mod Worlds

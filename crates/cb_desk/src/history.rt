@@ -1,12 +1,13 @@
 //! The present world, and the records that lead back and on from it.
-ghost use Rattle.std.specs.Prelude.{◌≡◌, ◌<◌, [], ◌∷◌, length, MatchResult};
+ghost use Rattle.std.specs.Prelude.{◌≡◌, ◌<◌, [], ◌∷◌, length, nat_le, MatchResult};
 ghost use Rattle.cb_desk.specs.declared.limits.TheConstants.{MOST_CHANGES};
 ghost use Rattle.cb_desk.specs.World.{World, IsValidWorld};
 ghost use Rattle.cb_desk.specs.steps.Plans.{IsPlan};
-ghost use Rattle.cb_desk.specs.Timeline.{Moves, moved_on, new_timeline, redone, undone};
-ghost use Rattle.cb_desk.specs.steps.Walks.{timeline_in};
+ghost use Rattle.cb_desk.specs.Timeline.{IsValidTimeline, Moves, moved_on, new_timeline, redone, undone};
+ghost use Rattle.cb_desk.specs.steps.Walks.{IsKept, timeline_in};
 
 use crate::Refusal;
+use crate::limits::MOST_CHANGES;
 use crate::plan::Plan;
 use crate::present::Present;
 use crate::record::Record;
@@ -37,13 +38,30 @@ impl Model for History {
 impl History {
     /// The world without a file, with no past and no future. It takes no memory.
     pub(crate) fn new(alloc: Global) -> History
-        ensures { timeline_in result ≡ new_timeline }
+        ensures timeline { timeline_in result ≡ new_timeline }
+        ensures turns { result.kept.turns ≡ 0 }
     {
         History {
             present: Present::new(alloc),
             records: Vec::new(alloc),
             done: 0,
         }
+    }
+
+    /// The present world.
+    pub(crate) fn present(&self) -> &Present
+        ensures value { result.now ≡ self.now.kept }
+        ensures kept { IsKept self.now.kept.rooms self.now.kept.archive self.now.kept.now }
+        ensures valid { IsValidTimeline (timeline_in self.now) }
+    {
+        &self.present
+    }
+
+    /// Whether the past is as long as it may be.
+    pub(crate) fn is_full(&self) -> bool
+        ensures { result ≡ nat_le MOST_CHANGES (length (timeline_in self.now).past) }
+    {
+        self.done >= MOST_CHANGES
     }
 
     /// Takes the last change back.

@@ -11,12 +11,15 @@ ghost use Rattle.cb_desk.specs.steps.Records.{AreThere, Fits, IsTurn, KeepsRooms
 ghost use Rattle.cb_desk.specs.steps.Room.{IsRoomFor};
 ghost use Rattle.cb_desk.specs.steps.Texts.{bytes_if, bytes_if_other};
 
+mod changes;
 mod counts;
 mod files;
 mod marks;
 mod moved;
 mod places;
+mod readers;
 mod refusals;
+mod replace;
 
 use crate::edits::{Edit, turn_edits};
 use crate::place_list::PlaceList;

@@ -108,21 +108,26 @@ fn load_text(
 }
 
 /// Whether the tags of the present files are these, in this order: name, file, line and kind.
-fn has_tags(
-    desk: &Desk,
-    alloc: Global,
-    format: Format,
-    tags: &[(&[u8], &[u8], u32, Kind)],
-) -> Result<bool, Refusal> {
-    let rows = desk.tag_rows(alloc, format)?;
-    let shown = rows.rows();
-    let mut same = shown.len() == tags.len();
-    for (row, (name, file, line, kind)) in shown.iter().zip(tags) {
+fn has_tags(desk: &Desk, format: Format, tags: &[(&[u8], &[u8], u32, Kind)]) -> bool {
+    let rows = desk.tag_rows(format);
+    let mut same = rows.len() == tags.len();
+    for (row, (name, file, line, kind)) in rows.zip(tags) {
         if row.name != *name || row.file != *file || row.line != *line || row.kind != *kind {
             same = false;
         }
     }
-    Ok(same)
+    same
+}
+
+/// Whether the tags of the present files are these, in this order.
+fn are_tags(desk: &Desk, format: Format, tags: &[TagRow<'_>]) -> bool {
+    let mut rows = desk.tag_rows(format);
+    for tag in tags {
+        if rows.next() != Some(*tag) {
+            return false;
+        }
+    }
+    rows.next().is_none()
 }
 
 /// Nine lines with a definition of each kind, and `main`.
@@ -166,14 +171,8 @@ fn tags_show_their_definitions(rt: HostRuntime) -> Result<(), AllocError> {
         kind: Kind::Typedef,
         local: false,
     };
-    match desk.tag_rows(alloc, Format::Plain) {
-        Ok(rows) => assert!(rt; rows.rows() == [main, twice, add, word].as_slice()),
-        Err(refusal) => assert!(rt; refusal == Refusal::OutOfMemory),
-    }
-    match desk.tag_rows(alloc, Format::Extended) {
-        Ok(rows) => assert!(rt; rows.rows() == [twice, add, main, word].as_slice()),
-        Err(refusal) => assert!(rt; refusal == Refusal::OutOfMemory),
-    }
+    assert!(rt; are_tags(&desk, Format::Plain, &[main, twice, add, word]));
+    assert!(rt; are_tags(&desk, Format::Extended, &[twice, add, main, word]));
     Ok(())
 }
 
@@ -181,8 +180,8 @@ fn tags_show_their_definitions(rt: HostRuntime) -> Result<(), AllocError> {
 fn tags_of_one_key_go_by_file_and_place(rt: HostRuntime) -> Result<(), AllocError> {
     let alloc = rt.alloc();
     let mut desk = Desk::new(alloc);
-    assert!(rt; has_tags(&desk, alloc, Format::Plain, &[]) == Ok(true));
-    assert!(rt; has_tags(&desk, alloc, Format::Extended, &[]) == Ok(true));
+    assert!(rt; has_tags(&desk, Format::Plain, &[]));
+    assert!(rt; has_tags(&desk, Format::Extended, &[]));
     let both = b"int Mm(void) {}\nint f(void) {}\nint main(void) {}\n";
     assert!(rt; load_text(&mut desk, alloc, b"m.c", both)? == Ok(()));
     assert!(rt;
@@ -207,8 +206,8 @@ fn tags_of_one_key_go_by_file_and_place(rt: HostRuntime) -> Result<(), AllocErro
         (b"main", b"d/m.c", 1, Kind::Function),
         (b"main", b"m.c", 3, Kind::Function),
     ];
-    assert!(rt; has_tags(&desk, alloc, Format::Plain, &plain) == Ok(true));
-    assert!(rt; has_tags(&desk, alloc, Format::Extended, &extended) == Ok(true));
+    assert!(rt; has_tags(&desk, Format::Plain, &plain));
+    assert!(rt; has_tags(&desk, Format::Extended, &extended));
     Ok(())
 }
 
@@ -221,8 +220,8 @@ fn equal_tags_all_stay(rt: HostRuntime) -> Result<(), AllocError> {
         (b"f".as_slice(), b"a.c".as_slice(), 1, Kind::Function),
         (b"f", b"a.c", 1, Kind::Function),
     ];
-    assert!(rt; has_tags(&desk, alloc, Format::Plain, &twice) == Ok(true));
-    assert!(rt; has_tags(&desk, alloc, Format::Extended, &twice) == Ok(true));
+    assert!(rt; has_tags(&desk, Format::Plain, &twice));
+    assert!(rt; has_tags(&desk, Format::Extended, &twice));
     Ok(())
 }
 

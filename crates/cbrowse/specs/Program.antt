@@ -49,11 +49,10 @@ output_text false format ts = tags_text format ts
 abbrev pub tags_output : (listing : Bool) → Format → World → List ℕ
 tags_output listing format w = output_text listing format (tags (output_format listing format) w)
 
--- the whole text was written and handed on; or the writer failed, and a prefix was written; or memory was refused, and nothing was
+-- the whole text was written and handed on; or the writer failed, and a prefix was written
 abbrev pub WritesText : List ℕ → Writer → Writer → Ended → Type 0
 WritesText text old new Done = (new.failed ≡ false) × Appends old.bytes new.bytes text
 WritesText text old new (Fault Write) = (new.failed ≡ true) × AppendsPrefix old.bytes new.bytes text
-WritesText text old new (Fault Memory) = new ≡ old
 WritesText text old new _ = ⊥
 
 -- ---- a job over a session

@@ -1,8 +1,9 @@
 -- Rows of which equal ones are left out by looking back.
-use Rattle.std.specs.Prelude.{◌≡◌, ℕ, ◌≤◌, ◌<◌, ◌^◌, false, List, [], ◌∷◌, ◌++◌, length, take, drop, if◌then◌else◌}
+use Rattle.std.specs.Prelude.{◌≡◌, ℕ, ◌≤◌, ◌<◌, ◌^◌, ◌==◌, ◌&&◌, Bool, false, List, [], ◌∷◌, ◌++◌, length, take, drop, if◌then◌else◌}
 use Rattle.std.specs.Cmp.Lexicographic.{slice_cmp}
 use Rattle.std.specs.List.{AllByRecursion, list_any}
 use Rattle.std.specs.Ordering.{is_gt, nat_cmp}
+use Rattle.std.specs.Str.{bytes_eq}
 use Rattle.std.specs.declared.cmp.Ordering.TheVariants.{Less}
 use Rattle.cb_desk.specs.Answer.{AnswerRow, row_eq}
 use Rattle.cb_desk.specs.World.{place_key}
@@ -15,6 +16,14 @@ fresh seen [] = []
 fresh seen (r ∷ rs) =
     let later = fresh (seen ++ r ∷ []) rs in
     if list_any (row_eq r) seen then later else r ∷ later
+
+-- two rows are equal but for their texts
+abbrev pub alike : AnswerRow → AnswerRow → Bool
+alike r q = bytes_eq r.file q.file && bytes_eq r.function q.function && r.line == q.line
+
+-- a row has the text of another if it is of the same file and on the same line
+abbrev pub IsTextedLike : AnswerRow → AnswerRow → Type 0
+IsTextedLike q r = r.file ≡ q.file → r.line ≡ q.line → r.text ≡ q.text
 
 -- the rows of one line of a file have one text
 abbrev pub HaveLineTexts : List AnswerRow → Type 0

@@ -5,7 +5,6 @@ use Rattle.std.specs.Cmp.Lexicographic.{slice_cmp}
 use Rattle.std.specs.Global.{Global}
 use Rattle.std.specs.declared.rc.Rc.{Rc}
 use Rattle.cb_desk.specs.declared.files.stored.StoredFile.{StoredFile}
-use Rattle.cb_desk.specs.declared.marks.WantedText.{WantedText}
 use Rattle.cb_desk.specs.World.{File, has_file, text_of_file}
 
 -- the files that shared ones are
@@ -19,8 +18,3 @@ file_named files name = if has_file files name then Some (record { name = name; 
 -- a shared file has a lower name
 unfoldable pub is_below : List ℕ → Rc StoredFile Global → Bool
 is_below name shared = is_lt (slice_cmp nat_cmp shared.value.name name)
-
--- the text that a shared one is
-abbrev pub text_of : Option (Rc WantedText Global) → Option (List ℕ)
-text_of None = None
-text_of (Some shared) = Some shared.value

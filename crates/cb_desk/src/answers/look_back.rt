@@ -6,9 +6,8 @@ ghost use Rattle.std.specs.Ordering.{nat_cmp};
 ghost use Rattle.cb_desk.specs.Answer.{distinct, row_eq};
 ghost use Rattle.cb_desk.specs.Models.{row_of};
 ghost use Rattle.cb_desk.specs.World.{place_key};
-ghost use Rattle.cb_desk.specs.steps.Collects.{alike};
 ghost use Rattle.cb_desk.specs.steps.Lent.{found_left};
-ghost use Rattle.cb_desk.specs.steps.LookBack.{HaveLineTexts, IsLookBack, news_left, row_key, seen};
+ghost use Rattle.cb_desk.specs.steps.LookBack.{HaveLineTexts, IsLookBack, alike, news_left, row_key, seen};
 
 use crate::answers::found::FoundRows;
 use crate::rows::RefRow;

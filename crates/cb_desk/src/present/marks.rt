@@ -1,5 +1,5 @@
 //! Marks in the numbers of an archive, and the plans that change them.
-ghost use Rattle.std.specs.Prelude.{◌≡◌, ◌≢◌, ◌≤◌, ◌<◌, ◌++◌, ⊤, [], length, map, not, IfOk, MatchOption, Some};
+ghost use Rattle.std.specs.Prelude.{◌≡◌, ◌≢◌, ◌≤◌, ◌<◌, ◌++◌, ⊤, [], length, map, not, slice_get, IfOk, MatchOption, MatchResult, Some};
 ghost use Rattle.std.specs.Option.{option_map};
 ghost use Rattle.std.specs.Cmp.Lexicographic.{slice_cmp};
 ghost use Rattle.std.specs.List.{AllByRecursion, list_any, prefix_len};
@@ -8,13 +8,13 @@ ghost use Rattle.cb_index.specs.Files.{IsThere};
 ghost use Rattle.cb_scan.specs.Order.{goes_first};
 ghost use Rattle.cb_desk.specs.Marks.{all_marked, toggled_at, wanted_places};
 ghost use Rattle.cb_desk.specs.Places.{nth, same_place};
+ghost use Rattle.cb_desk.specs.Search.{lines_with};
 ghost use Rattle.cb_desk.specs.World.{IsAscending, place_key};
 ghost use Rattle.cb_desk.specs.declared.spot.NumberedPlace.{NumberedPlace};
 ghost use Rattle.cb_desk.specs.steps.Plans.{IsPlan};
 ghost use Rattle.cb_desk.specs.steps.Records.{held_by, held_numbers, place_in, toggled_numbers, world_in};
 ghost use Rattle.cb_desk.specs.steps.Walks.{IsKept};
 
-use crate::marks::nth_line;
 use crate::plan::Plan;
 use crate::present::Present;
 use crate::search::TextLines;
@@ -113,6 +113,22 @@ fn held_numbers(
         rest = more;
     }
     Ok(made)
+}
+
+/// The line of a text that is the nth to hold a pattern, counted from 0; else how many there are.
+fn nth_line(source: &Source, finder: &Finder<'_>, n: u64) -> Result<u32, u64>
+    requires { finder.now ≢ [] }
+    ensures { MatchResult result (λ line. slice_get (lines_with finder.now source.now) n ≡ Some line)
+        (λ count. (count ≡ length (lines_with finder.now source.now)) × (count ≤ n)) }
+{
+    let mut passed = 0;
+    for line in TextLines::new(source, finder) {
+        if passed == n {
+            return Ok(line);
+        }
+        passed += 1;
+    }
+    Err(passed)
 }
 
 /// The nth line of some files that holds a text, by file and line, counted from 1.

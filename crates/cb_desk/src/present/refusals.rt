@@ -1,15 +1,39 @@
-//! Why a file can't be loaded, taken away or renamed.
+//! Why a change is refused, kind by kind.
 ghost use Rattle.std.specs.Prelude.{◌≡◌};
+ghost use Rattle.std.specs.Option.{option_map};
 ghost use Rattle.cb_index.specs.Files.{files_of};
 ghost use Rattle.cb_desk.specs.Files.{load_refusal, rename_refusal, unload_refusal};
-ghost use Rattle.cb_desk.specs.World.{has_file};
-ghost use Rattle.cb_desk.specs.steps.Records.{world_in};
+ghost use Rattle.cb_desk.specs.Marks.{mark_all_refusal, mark_refusal, want_refusal};
+ghost use Rattle.cb_desk.specs.Stack.{pop_refusal, push_refusal};
+ghost use Rattle.cb_desk.specs.World.{has_file, is_short};
+ghost use Rattle.cb_desk.specs.steps.Records.{place_in, world_in};
 
 use crate::Refusal;
 use crate::answers::shown_as;
-use crate::limits::{MOST_BYTES, MOST_FILES};
+use crate::limits::{MOST_BYTES, MOST_FILES, MOST_TEXT};
 use crate::present::Present;
+use crate::spot::NumberedPlace;
 use cb_tags::is_file_name;
+
+/// Whether a text keeps the limit and lies in one line.
+pub(super) fn is_short(text: &[u8]) -> bool
+    ensures { result ≡ is_short text.now }
+{
+    text.len() <= MOST_TEXT && !text.contains(&b'\n')
+}
+
+/// Why a text can't be wanted, if it can't: the lowest refusal that applies.
+pub(super) fn want_refusal(text: &[u8]) -> Option<Refusal>
+    ensures { result ≡ want_refusal text.now }
+{
+    if text.is_empty() {
+        Some(Refusal::NoPattern)
+    } else if is_short(text) {
+        None
+    } else {
+        Some(Refusal::BadText)
+    }
+}
 
 impl Present {
     /// Whether there is a file of that name.
@@ -57,6 +81,50 @@ impl Present {
             Some(Refusal::NoSuchFile)
         } else if self.has_file(new) {
             Some(Refusal::FileExists)
+        } else {
+            None
+        }
+    }
+
+    /// Why a place can't be marked, if it can't.
+    pub(crate) fn mark_refusal(&self, place: Option<NumberedPlace>) -> Option<Refusal>
+        ensures { result ≡ mark_refusal self.now.now.wanted (option_map (place_in self.now.archive) place) }
+    {
+        if self.wanted.is_none() {
+            return Some(Refusal::NothingWanted);
+        }
+        match place {
+            Some(_) => None,
+            None => Some(Refusal::NoSuchLine),
+        }
+    }
+
+    /// Why nothing can be marked, if nothing can.
+    pub(crate) fn mark_all_refusal(&self) -> Option<Refusal>
+        ensures { result ≡ mark_all_refusal self.now.now.wanted }
+    {
+        match self.wanted {
+            Some(_) => None,
+            None => Some(Refusal::NothingWanted),
+        }
+    }
+
+    /// Why no frame can be put on the stack, if none can: there is no such place.
+    pub(crate) fn push_refusal(&self, place: Option<NumberedPlace>) -> Option<Refusal>
+        ensures { result ≡ push_refusal (option_map (place_in self.now.archive) place) }
+    {
+        match place {
+            Some(_) => None,
+            None => Some(Refusal::NoSuchDefinition),
+        }
+    }
+
+    /// Why no frame can be taken away, if none can.
+    pub(crate) fn pop_refusal(&self) -> Option<Refusal>
+        ensures { result ≡ pop_refusal (world_in self.now.archive self.now.now).frames }
+    {
+        if self.frames.as_slice().is_empty() {
+            Some(Refusal::StackEmpty)
         } else {
             None
         }

@@ -1,6 +1,6 @@
 //! Each public call once, with all the memory that it asks for. Expected rows and frames are worked
 //! out by hand.
-use super::load_text;
+use super::{NINE_LINES, are_tags, load_text};
 use crate::{Change, Desk, Field, Format, RefRow, Refusal};
 use cb_scan::Kind;
 use cb_tags::TagRow;
@@ -39,18 +39,18 @@ fn is_row(shown: &RefRow<'_>, row: &RefRow<'_>) -> bool {
 }
 
 /// Whether the rows of the definitions of a name are these, in this order.
-fn finds(desk: &Desk, alloc: Global, pattern: &[u8], rows: &[RefRow<'_>]) -> Result<bool, Refusal> {
+fn finds(desk: &Desk, pattern: &[u8], rows: &[RefRow<'_>]) -> bool {
     if pattern.is_empty() {
-        return Ok(false);
+        return false;
     }
-    let list = desk.rows(alloc, Field::Definition, pattern)?;
-    let mut same = list.len() == rows.len() && list.rows().len() == rows.len();
-    for (found, row) in list.iter().zip(rows) {
+    let list = desk.rows(Field::Definition, pattern);
+    let mut same = list.count_left() == rows.len();
+    for (found, row) in list.zip(rows) {
         if !is_row(&found, row) {
             same = false;
         }
     }
-    Ok(same)
+    same
 }
 
 #[test]
@@ -62,8 +62,8 @@ fn the_rows_of_a_definition_have_file_name_line_and_text(rt: HostRuntime) -> Res
         row_of_f(b"b.c", 1, b"#define f(x) x"),
         row_of_f(b"b.c", 3, b"int f(void) {"),
     ];
-    assert!(rt; finds(&desk, alloc, b"f", &rows) == Ok(true));
-    assert!(rt; finds(&desk, alloc, b"none", &[]) == Ok(true));
+    assert!(rt; finds(&desk, b"f", &rows));
+    assert!(rt; finds(&desk, b"none", &[]));
     Ok(())
 }
 
@@ -73,7 +73,7 @@ fn equal_rows_are_one_row(rt: HostRuntime) -> Result<(), Refusal> {
     let mut desk = Desk::new(alloc);
     assert!(rt; load_text(&mut desk, alloc, b"a.c", b"int f(){}int f(){}")? == Ok(()));
     let row = row_of_f(b"a.c", 1, b"int f(){}int f(){}");
-    assert!(rt; finds(&desk, alloc, b"f", &[row]) == Ok(true));
+    assert!(rt; finds(&desk, b"f", &[row]));
     Ok(())
 }
 
@@ -86,7 +86,7 @@ fn equal_texts_on_two_lines_are_two_rows(rt: HostRuntime) -> Result<(), Refusal>
         row_of_f(b"a.c", 1, b"int f(){}"),
         row_of_f(b"a.c", 2, b"int f(){}"),
     ];
-    assert!(rt; finds(&desk, alloc, b"f", &rows) == Ok(true));
+    assert!(rt; finds(&desk, b"f", &rows));
     Ok(())
 }
 
@@ -126,15 +126,35 @@ fn the_tags_of_a_world_are_whole_rows(rt: HostRuntime) -> Result<(), Refusal> {
         kind: Kind::Function,
         local: false,
     };
-    let plain = desk.tag_rows(alloc, Format::Plain)?;
-    assert!(rt; plain.rows() == [static_f, macro_f, f, other].as_slice());
-    let extended = desk.tag_rows(alloc, Format::Extended)?;
-    assert_eq!(rt; extended.len(), 4);
-    let mut shown = extended.iter();
-    for row in [static_f, macro_f, f, other] {
-        assert!(rt; shown.next() == Some(row));
-    }
-    assert!(rt; shown.next() == None);
+    assert!(rt; are_tags(&desk, Format::Plain, &[static_f, macro_f, f, other]));
+    assert!(rt; are_tags(&desk, Format::Extended, &[static_f, macro_f, f, other]));
+    assert_eq!(rt; desk.tag_rows(Format::Extended).len(), 4);
+    Ok(())
+}
+
+#[test]
+fn the_meter_counts_what_is_scanned(rt: HostRuntime) -> Result<(), Refusal> {
+    let alloc = rt.alloc();
+    let mut desk = Desk::new(alloc);
+    assert_eq!(rt; desk.meter(), 0);
+    assert!(rt; load_text(&mut desk, alloc, b"a.c", NINE_LINES)? == Ok(()));
+    assert_eq!(rt; desk.meter(), 175);
+    assert!(rt; desk.change(alloc, Change::Want(b"add")) == Ok(()));
+    assert!(rt; desk.change(alloc, Change::Mark(1)) == Ok(()));
+    assert!(rt; desk.change(alloc, Change::Mark(3)) == Ok(()));
+    assert!(rt; desk.change(alloc, Change::Replace(b"bad\n")) == Err(Refusal::BadText));
+    assert_eq!(rt; desk.meter(), 175);
+    assert!(rt; desk.change(alloc, Change::Replace(b"sum")) == Ok(()));
+    assert_eq!(rt; desk.meter(), 350);
+    assert!(rt; desk.undo() == Ok(()));
+    assert_eq!(rt; desk.meter(), 350);
+    assert!(rt; desk.redo() == Ok(()));
+    assert!(rt; desk.undo() == Ok(()));
+    assert_eq!(rt; desk.meter(), 350);
+    assert!(rt; finds(&desk, b"none", &[]));
+    assert_eq!(rt; desk.meter(), 350);
+    assert!(rt; desk.rebuild(alloc) == Ok(()));
+    assert_eq!(rt; desk.meter(), 525);
     Ok(())
 }
 

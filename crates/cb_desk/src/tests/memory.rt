@@ -4,7 +4,7 @@
 use super::marks::marked_files;
 use super::moves::{has_frames, two_files};
 use super::{load_text_or_refused, shows};
-use crate::{Change, Desk, Field, Format, Refusal};
+use crate::{Change, Desk, Refusal};
 use std::alloc::Global;
 use std::process::Abort;
 
@@ -76,53 +76,6 @@ fn rebuild_meets_a_refusal(rt: &impl Abort, alloc: Global) -> bool {
             assert!(rt; refusal == Refusal::OutOfMemory);
             assert!(rt; is_as_before(&mut desk));
             assert!(rt; desk.rebuild(alloc) == Ok(()));
-            true
-        }
-    }
-}
-
-/// Asks for the definitions of a name. Where memory refuses it, it is answered the next time.
-fn rows_meet_a_refusal(rt: &impl Abort, alloc: Global) -> bool {
-    let Ok(desk) = two_files(alloc) else {
-        return true;
-    };
-    match desk.rows(alloc, Field::Definition, b"add") {
-        Ok(rows) => {
-            assert_eq!(rt; rows.len(), 1);
-            false
-        }
-        Err(refusal) => {
-            assert!(rt; refusal == Refusal::OutOfMemory);
-            let found = desk
-                .rows(alloc, Field::Definition, b"add")
-                .map_or(0, |rows| rows.len());
-            assert_eq!(rt; found, 1);
-            true
-        }
-    }
-}
-
-/// More than twenty functions, so that the sort of their tags takes memory.
-const FUNCTIONS: &[u8] =
-    b"t(){}s(){}r(){}q(){}p(){}o(){}n(){}m(){}l(){}k(){}j(){}i(){}h(){}g(){}f(){}e(){}d(){}c(){}b(){}a(){}main(){}\n";
-
-/// Asks for the tags. Where memory refuses them, they are answered the next time.
-fn tags_meet_a_refusal(rt: &impl Abort, alloc: Global) -> bool {
-    let mut desk = Desk::new(alloc);
-    if load_text_or_refused(&mut desk, alloc, b"a.c", FUNCTIONS) != Ok(()) {
-        return true;
-    }
-    match desk.tag_rows(alloc, Format::Plain) {
-        Ok(rows) => {
-            assert_eq!(rt; rows.len(), 21);
-            false
-        }
-        Err(refusal) => {
-            assert!(rt; refusal == Refusal::OutOfMemory);
-            let found = desk
-                .tag_rows(alloc, Format::Plain)
-                .map_or(0, |rows| rows.len());
-            assert_eq!(rt; found, 21);
             true
         }
     }
@@ -321,24 +274,4 @@ fn no_refusal_of_rebuild(rt: HostRuntime) {
         !rebuild_meets_a_refusal(&rt, rt.alloc()),
         "memory was refused"
     );
-}
-
-#[test]
-fn refused_growth_of_rows(rt: HostRuntime) {
-    let _refused = rows_meet_a_refusal(&rt, rt.alloc());
-}
-
-#[test]
-fn no_refusal_of_rows(rt: HostRuntime) {
-    assert!(rt; !rows_meet_a_refusal(&rt, rt.alloc()), "memory was refused");
-}
-
-#[test]
-fn refused_growth_of_tag_rows(rt: HostRuntime) {
-    let _refused = tags_meet_a_refusal(&rt, rt.alloc());
-}
-
-#[test]
-fn no_refusal_of_tag_rows(rt: HostRuntime) {
-    assert!(rt; !tags_meet_a_refusal(&rt, rt.alloc()), "memory was refused");
 }

@@ -11,18 +11,14 @@ fn is_row(shown: &RefRow<'_>, row: &Row<'_>) -> bool {
     shown.file == row.0 && shown.function == row.1 && shown.line == row.2 && shown.text == row.3
 }
 
-/// Whether the rows that answer a question are these, in this order. A desk without memory to spare
-/// answers so too.
-fn answers(desk: &Desk, alloc: Global, field: Field, pattern: &[u8], rows: &[Row<'_>]) -> bool {
+/// Whether the rows that answer a question are these, in this order.
+fn answers(desk: &Desk, field: Field, pattern: &[u8], rows: &[Row<'_>]) -> bool {
     if pattern.is_empty() {
         return false;
     }
-    let list = match desk.rows(alloc, field, pattern) {
-        Ok(list) => list,
-        Err(refusal) => return refusal == Refusal::OutOfMemory,
-    };
-    let mut same = list.len() == rows.len();
-    for (found, row) in list.iter().zip(rows) {
+    let list = desk.rows(field, pattern);
+    let mut same = list.count_left() == rows.len();
+    for (found, row) in list.zip(rows) {
         if !is_row(&found, row) {
             same = false;
         }
@@ -48,19 +44,19 @@ fn each_field_of_one_file(rt: HostRuntime) -> Result<(), AllocError> {
     let twice: Row<'_> = (b"a.c", b"TWICE", 2, TWICE);
     let main: Row<'_> = (b"a.c", b"main", 8, CALLS);
     let add: Row<'_> = (b"a.c", b"add", 4, b"static int add(int a, int b) {");
-    assert!(rt; answers(&desk, alloc, Field::Symbol, b"add", &[twice, add, main]));
-    assert!(rt; answers(&desk, alloc, Field::Symbol, b"x", &[twice]));
-    assert!(rt; answers(&desk, alloc, Field::Definition, b"add", &[add]));
+    assert!(rt; answers(&desk, Field::Symbol, b"add", &[twice, add, main]));
+    assert!(rt; answers(&desk, Field::Symbol, b"x", &[twice]));
+    assert!(rt; answers(&desk, Field::Definition, b"add", &[add]));
     let called: [Row<'_>; 2] = [(b"a.c", b"add", 8, CALLS), (b"a.c", b"TWICE", 8, CALLS)];
-    assert!(rt; answers(&desk, alloc, Field::Called, b"main", &called));
-    assert!(rt; answers(&desk, alloc, Field::Calling, b"add", &[twice, main]));
+    assert!(rt; answers(&desk, Field::Called, b"main", &called));
+    assert!(rt; answers(&desk, Field::Calling, b"add", &[twice, main]));
     let text: [Row<'_>; 1] = [(b"a.c", b"<unknown>", 3, b"typedef unsigned long word;")];
-    assert!(rt; answers(&desk, alloc, Field::Text, b"long", &text));
+    assert!(rt; answers(&desk, Field::Text, b"long", &text));
     let file: [Row<'_>; 1] = [(b"a.c", b"<unknown>", 1, b"<unknown>")];
-    assert!(rt; answers(&desk, alloc, Field::File, b".", &file));
-    assert!(rt; answers(&desk, alloc, Field::File, b"a.h", &[]));
+    assert!(rt; answers(&desk, Field::File, b".", &file));
+    assert!(rt; answers(&desk, Field::File, b"a.h", &[]));
     let header: [Row<'_>; 1] = [(b"a.c", b"<global>", 1, b"#include \"a.h\"")];
-    assert!(rt; answers(&desk, alloc, Field::Including, b"a.h", &header));
+    assert!(rt; answers(&desk, Field::Including, b"a.h", &header));
     Ok(())
 }
 
@@ -74,8 +70,8 @@ fn names_are_compared_whole(rt: HostRuntime) -> Result<(), AllocError> {
         Field::Called,
         Field::Calling,
     ] {
-        assert!(rt; answers(&desk, alloc, field, b"ad", &[]));
-        assert!(rt; answers(&desk, alloc, field, b"adds", &[]));
+        assert!(rt; answers(&desk, field, b"ad", &[]));
+        assert!(rt; answers(&desk, field, b"adds", &[]));
     }
     Ok(())
 }
@@ -91,10 +87,10 @@ fn a_header_is_the_pattern_or_ends_in_it_behind_a_slash(rt: HostRuntime) -> Resu
         (b"x.c", b"<global>", 3, b"#include \"d/b.h\""),
         (b"x.c", b"f", 5, b"#include <d/e/b.h>"),
     ];
-    assert!(rt; answers(&desk, alloc, Field::Including, b"b.h", &rows));
+    assert!(rt; answers(&desk, Field::Including, b"b.h", &rows));
     let longer: [Row<'_>; 1] = [(b"x.c", b"f", 5, b"#include <d/e/b.h>")];
-    assert!(rt; answers(&desk, alloc, Field::Including, b"e/b.h", &longer));
-    assert!(rt; answers(&desk, alloc, Field::Including, b"/b.h", &[]));
+    assert!(rt; answers(&desk, Field::Including, b"e/b.h", &longer));
+    assert!(rt; answers(&desk, Field::Including, b"/b.h", &[]));
     Ok(())
 }
 
@@ -104,7 +100,7 @@ fn equal_rows_that_are_not_neighbours_are_one_row(rt: HostRuntime) -> Result<(),
     let line = b"int f(void) { a(); b(); a(); }";
     let desk = desk_with(alloc, b"f.c", line)?;
     let rows: [Row<'_>; 2] = [(b"f.c", b"a", 1, line), (b"f.c", b"b", 1, line)];
-    assert!(rt; answers(&desk, alloc, Field::Called, b"f", &rows));
+    assert!(rt; answers(&desk, Field::Called, b"f", &rows));
     Ok(())
 }
 
@@ -120,7 +116,7 @@ fn rows_of_equal_texts_on_two_lines_or_in_two_files_stay(
         (b"b.c", b"<global>", 1, b"x;x;"),
         (b"b.c", b"<global>", 2, b"x;x;"),
     ];
-    assert!(rt; answers(&desk, alloc, Field::Symbol, b"x", &rows));
+    assert!(rt; answers(&desk, Field::Symbol, b"x", &rows));
     Ok(())
 }
 
@@ -133,9 +129,9 @@ fn files_are_found_by_a_part_of_their_name(rt: HostRuntime) -> Result<(), AllocE
         (b"by.h", b"<unknown>", 1, b"<unknown>"),
         (b"lib/y.c", b"<unknown>", 1, b"<unknown>"),
     ];
-    assert!(rt; answers(&desk, alloc, Field::File, b"y.", &rows));
-    assert!(rt; answers(&desk, alloc, Field::File, b"/", &rows[1..]));
-    assert!(rt; answers(&desk, alloc, Field::File, b"z", &[]));
+    assert!(rt; answers(&desk, Field::File, b"y.", &rows));
+    assert!(rt; answers(&desk, Field::File, b"/", &rows[1..]));
+    assert!(rt; answers(&desk, Field::File, b"z", &[]));
     Ok(())
 }
 
@@ -167,20 +163,11 @@ fn a_rebuild_leaves_answers_and_timeline(rt: HostRuntime) -> Result<(), AllocErr
     assert!(rt; desk.undo() == Ok(()));
     let rebuilt = desk.rebuild(alloc);
     assert!(rt; rebuilt == Ok(()) || rebuilt == Err(Refusal::OutOfMemory));
-    assert!(rt;
-        answers(
-            &desk,
-            alloc,
-            Field::Symbol,
-            b"x",
-            &[(b"a.c", b"TWICE", 2, TWICE)]
-        )
-    );
+    assert!(rt; answers(&desk, Field::Symbol, b"x", &[(b"a.c", b"TWICE", 2, TWICE)]));
     assert!(rt; desk.redo() == Ok(()));
     assert!(rt;
         answers(
             &desk,
-            alloc,
             Field::Definition,
             b"f",
             &[(b"b.c", b"f", 1, b"f(){}")]

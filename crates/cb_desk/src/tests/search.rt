@@ -1,7 +1,7 @@
 //! The lines that hold a text. Expected lines are counted by hand.
 use super::load_text;
 use crate::search::TextLines;
-use crate::{Desk, Refusal};
+use crate::{Desk, Field, Refusal};
 use cb_scan::{ScanError, Source};
 use memchr::memmem::Finder;
 use std::alloc::{AllocError, Global};
@@ -74,7 +74,7 @@ fn rows_of_a_text_go_by_file_and_line(rt: HostRuntime) -> Result<(), AllocError>
         (2, b"b.c", 1, b"int ab;"),
         (1, b"b.c", 3, b"ab ab"),
     ];
-    let mut found = desk.text_rows(b"ab");
+    let mut found = desk.rows(Field::Text, b"ab");
     for (left, file, line, text) in rows {
         assert_eq!(rt; found.count_left(), left);
         let Some(row) = found.next() else {
@@ -86,7 +86,7 @@ fn rows_of_a_text_go_by_file_and_line(rt: HostRuntime) -> Result<(), AllocError>
     }
     assert_eq!(rt; found.count_left(), 0);
     assert!(rt; found.next().is_none());
-    assert_eq!(rt; desk.text_rows(b"ab").count(), 3);
-    assert_eq!(rt; desk.text_rows(b"abc").count_left(), 0);
+    assert_eq!(rt; desk.rows(Field::Text, b"ab").count(), 3);
+    assert_eq!(rt; desk.rows(Field::Text, b"abc").count_left(), 0);
     Ok(())
 }

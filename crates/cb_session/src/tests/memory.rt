@@ -9,16 +9,14 @@ use cb_tags::Sink;
 use std::alloc::Global;
 use std::process::Abort;
 
-/// A command of each kind that takes memory, and two that show what it left.
+/// Two changes, which take memory, and commands that show what they left.
 const INPUT: &[u8] = b":load f.c 16\nint f(void) {\n}\n1f\n:tags\n:tag f\n:stack\n:undo\n";
 
-/// The output of a run over it: with ample memory first, and then with each of the first four
-/// commands refused.
-const OUTPUTS: [&[u8]; 5] = [
+/// The output of a run over it: with ample memory first, and then with each of the two changes
+/// refused.
+const OUTPUTS: [&[u8]; 3] = [
     b">> cscope: done\n>> cscope: 1 lines\nf.c f 1 int f(void) {\n>> cscope: 1 lines\nf\tf.c\t/^int f(void) {$/\n>> cscope: done\n>> cscope: 1 lines\nf.c <unknown> 1 int f(void) {\n>> cscope: done\n>> ",
     b">> cscope: refused: out of memory\n>> cscope: 0 lines\n>> cscope: 0 lines\n>> cscope: refused: no such definition\n>> cscope: 0 lines\n>> cscope: refused: nothing to undo\n>> ",
-    b">> cscope: done\n>> cscope: refused: out of memory\n>> cscope: 1 lines\nf\tf.c\t/^int f(void) {$/\n>> cscope: done\n>> cscope: 1 lines\nf.c <unknown> 1 int f(void) {\n>> cscope: done\n>> ",
-    b">> cscope: done\n>> cscope: 1 lines\nf.c f 1 int f(void) {\n>> cscope: refused: out of memory\n>> cscope: done\n>> cscope: 1 lines\nf.c <unknown> 1 int f(void) {\n>> cscope: done\n>> ",
     b">> cscope: done\n>> cscope: 1 lines\nf.c f 1 int f(void) {\n>> cscope: 1 lines\nf\tf.c\t/^int f(void) {$/\n>> cscope: refused: out of memory\n>> cscope: 0 lines\n>> cscope: done\n>> ",
 ];
 

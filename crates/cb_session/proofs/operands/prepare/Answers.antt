@@ -7,9 +7,9 @@ use Rattle.cb_session.proofs.operands.prepare.Goals as goal
 
 pub overflow_add-place : goal.overflow_add-place
 overflow_add-place c =
-    let bounded = c.desk.invariant.1.bounded in
-    let same = ap (λ t. length t.past) c.desk.view_is in
-    let grown = past_grows _ _ _ _ _ tt c.loop-operand.invariant.placed c.in-Ok.ensures in
+    let bounded = c.desk.invariant.bounded in
+    let same = ap (λ d. length d.timeline.past) c.desk.view_is in
+    let grown = past_grows _ _ _ _ _ tt c.loop-operand.invariant.placed c.in-Ok.ensures.timeline in
     let low : c.loop-operand.place + 1 ≤ 65536 = omega (arith, bounded, same, grown) in
     search (rules, low)
 
@@ -20,15 +20,15 @@ loop-operand-preserved c =
     let counted = c.loop-operand.invariant.counted in
     let fewer = c.in-Some.ensures.steps.1 in
     record {
-      goes = goes_on _ _ _ _ _ _ _ (file_of_operand c.in-Some.operand) _ tt c.loop-operand.invariant.goes first c.as_slice.ensures.value c.in-Ok.ensures;
-      placed = past_grows _ _ _ _ _ tt c.loop-operand.invariant.placed c.in-Ok.ensures;
+      goes = goes_on _ _ _ _ _ _ _ (file_of_operand c.in-Some.operand) _ tt c.loop-operand.invariant.goes first c.as_slice.ensures.value c.in-Ok.ensures.timeline;
+      placed = past_grows _ _ _ _ _ tt c.loop-operand.invariant.placed c.in-Ok.ensures.timeline;
       counted = omega (arith, one_less, counted, fewer);
     }
 
 pub returns-in-Err : goal.returns-in-Err
 returns-in-Err c =
     let first = ap (map file_of_operand) c.in-Some.ensures.steps.0 in
-    stops _ _ _ _ _ _ _ (file_of_operand c.in-Some.operand) _ _ c.loop-operand.invariant.goes first c.as_slice.ensures.value c.in-Err.ensures
+    stops _ _ _ _ _ _ _ (file_of_operand c.in-Some.operand) _ _ c.loop-operand.invariant.goes first c.as_slice.ensures.value c.in-Err.ensures.timeline
 
 pub returns : goal.returns
 returns c =

@@ -1,7 +1,7 @@
 use Rattle.std.proofs.Common.{◌≡◌, take}
 use Rattle.std.specs.List.{list_any}
 use Rattle.cb_desk.specs.Models.{row_of}
-use Rattle.cb_desk.specs.steps.Collects.{alike}
+use Rattle.cb_desk.specs.steps.LookBack.{alike}
 use Rattle.cb_desk.specs.steps.Lent.{found_left}
 use Rattle.cb_desk.proofs.answers.look_back.has_like.Given as goal
 
