@@ -44,3 +44,4 @@ pub mod TagPlans
 pub mod ShownMoves
 pub mod FilePlans
 pub mod RoomLemmas
+pub mod TurnsCounted

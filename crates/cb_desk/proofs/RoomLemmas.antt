@@ -1,5 +1,5 @@
 -- There is room for the world that a plan leads to.
-use Rattle.std.proofs.Common.{◌≡◌, ◌∙◌, ◌≤◌, ◌+◌, ℕ, List, [], ◌∷◌, ◌++◌, refl, ap, length, filter, not, cond, arith, true, false, length-append, Bool}
+use Rattle.std.proofs.Common.{◌≡◌, ◌∙◌, ◌≤◌, ◌+◌, ℕ, List, [], ◌∷◌, ◌++◌, refl, length, filter, not, cond, arith, true, false, length-append, Bool}
 use Rattle.std.specs.Prelude.{Err, Ok, OnOk, Option, Result, slice_get}
 use Rattle.cb_index.specs.Archived.{Archived}
 use Rattle.cb_index.specs.Files.{call_count, def_count, shown_name, total, use_count}
@@ -8,7 +8,7 @@ use Rattle.cb_index.specs.declared.entry.Shown.{Shown}
 use Rattle.cb_index.specs.declared.room.Room.{Room}
 use Rattle.cb_index.proofs.InOrderLemmas.{length_in_order}
 use Rattle.cb_desk.specs.steps.Plans.{HasRoomFor, Keeps, Planned}
-use Rattle.cb_desk.specs.steps.Records.{Fits, Kept, Rooms, other, without}
+use Rattle.cb_desk.specs.steps.Records.{Kept, Rooms, other, without}
 use Rattle.cb_desk.specs.steps.Room.{IsRoomFor, texts_with, with_texts}
 use Rattle.cb_desk.proofs.PlacePlans.{edited_length}
 use Rattle.cb_desk.proofs.TurnLemmas.{total_append, total_in_order}

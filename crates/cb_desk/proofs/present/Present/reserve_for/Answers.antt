@@ -1,4 +1,4 @@
-use Rattle.std.proofs.Common.{rules, ◌≡◌, ◌≤◌, ◌+◌, length}
+use Rattle.std.proofs.Common.{rules, ◌≤◌, ◌+◌, length}
 use Rattle.cb_desk.specs.steps.Room.{IsRoomFor}
 use Rattle.cb_desk.proofs.RoomLemmas.{has_room, on_ok_along}
 use Rattle.cb_desk.proofs.present.Present.reserve_for.Goals as goal
