@@ -12,7 +12,8 @@ use Rattle.cb_index.proofs.InOrderLemmas.{in_order_cong}
 use Rattle.cb_index.proofs.KeptLemmas.{get_or_front, get_or_left, slice_get_front, slice_get_left}
 use Rattle.cb_desk.specs.declared.spot.NumberedPlace.{NumberedPlace}
 use Rattle.cb_desk.specs.Timeline.{IsValidTimeline}
-use Rattle.cb_desk.specs.steps.Records.{AreThere, Fits, IsTurn, Kept, KeepsRooms, Numbered, Rooms, Turn, other, place_in, without, world_in}
+use Rattle.cb_desk.specs.Turns.{touched}
+use Rattle.cb_desk.specs.steps.Records.{AreThere, Fits, IsFew, IsTurn, Kept, KeepsRooms, Numbered, Rooms, Turn, other, place_in, without, world_in}
 use Rattle.cb_desk.specs.steps.Walks.{IsKept, IsRecorded, LeadsBack, LeadsOn, Recorded, timeline_in, turns_back, turns_on, walk, worlds_in}
 use Rattle.cb_desk.proofs.TurnLemmas.{all_from_order}
 use Rattle.cb_desk.proofs.WalkLemmas.{back_more, kept_back, kept_on, line, on_more}
@@ -128,6 +129,17 @@ module _ (a b : Archived) (n v : ℕ) (agree : Agree a b n v) where
     pub other_same : other b t w ≡ other a t w
     other_same = ap (λ xs. record (other a t w) { shown = xs }) (order_same (without t.hides w.shown ++ t.shows) below_then)
 
+    few_same : IsFew a t w → IsFew b t w
+    few_same is =
+        let now : world_in b w ≡ world_in a w = world_same w there few low in
+        let next : world_in b (other b t w) ≡ world_in a (other a t w) = ap (world_in b) other_same ∙ world_same (other a t w) then few_then low_then in
+        record {
+          on = let e : length (touched (world_in b w) (world_in b (other b t w))) ≡ length (touched (world_in a w) (world_in a (other a t w))) = (λ i. length (touched (now i) (next i))) in
+              let fits = is.on in omega (arith, e, fits);
+          back = let e : length (touched (world_in b (other b t w)) (world_in b w)) ≡ length (touched (world_in a (other a t w)) (world_in a w)) = (λ i. length (touched (next i) (now i))) in
+              let fits = is.back in omega (arith, e, fits);
+        }
+
     pub turn_same : IsTurn a t w → IsTurn b t w
     turn_same is =
         let below : AllByRecursion Below (without t.hides w.shown ++ t.hides) =
@@ -142,6 +154,7 @@ module _ (a b : Archived) (n v : ℕ) (agree : Agree a b n v) where
           others = ap (λ (x : Numbered). without t.shows x.shown) other_same ∙ is.others;
           marks = is.marks;
           frames = is.frames;
+          few = few_same is.few;
         }
 
   -- ---- all turns that lead back

@@ -21,12 +21,13 @@ use Rattle.cb_desk.specs.Places.{is_in, renamed_place, renamed_places, without_p
 use Rattle.cb_desk.specs.World.{File, Place, World, has_file, place_key}
 use Rattle.cb_desk.specs.steps.Edits.{IsDifference, edited, turned_edits}
 use Rattle.cb_desk.specs.steps.Plans.{IsAmong, IsPlan, Keeps, LeadsTo, Planned, is_of, key_then, name_then, places_without, renumbered}
-use Rattle.cb_desk.specs.steps.Records.{AreThere, IsTurn, Kept, Numbered, Turn, other, other_wanted, place_in, without, world_in}
+use Rattle.cb_desk.specs.steps.Records.{AreThere, IsFew, IsTurn, Kept, Numbered, Turn, other, other_wanted, place_in, without, world_in}
 use Rattle.cb_desk.specs.steps.Walks.{IsKept}
 use Rattle.cb_desk.proofs.ArchiveMoves.{Agree, agree_kept, apart_same, below_places, below_shown, files_same, order_same, places_same}
 use Rattle.cb_desk.proofs.PlacePlans.{settled, without_none}
 use Rattle.cb_desk.proofs.Placed.{map-filter}
 use Rattle.cb_desk.proofs.ShownMoves.{Hides, IsOther, Shows, all_among, file_put, files_without, hides_none, hides_one, number_below, number_itself, order_more, shows_none, shows_one, text_shown}
+use Rattle.cb_desk.proofs.TurnLemmas.{few_small}
 use Rattle.cb_desk.proofs.Valid.{all-filter, all-join}
 
 abbrev Places : List NumberedPlace → ℕ → Type 0
@@ -102,6 +103,7 @@ module _ (k : Kept) (p : Planned) (kept : IsKept k.rooms k.archive k.now) (ascen
 
   module _ (marks frames : List NumberedPlace) (fs : List File) (ms gs : List Place)
       (hides : Hides a k.now.shown p.turn.hides) (shows : Shows a (without p.turn.hides k.now.shown) p.turn.shows)
+      (few : IsFew a p.turn k.now)
       (below : AllByRecursion (λ (s : Shown). (s.name < p.turn.names) × (s.version < p.turn.versions)) p.turn.shows)
       (wanted : p.turn.wanted ≡ None) (names : p.turn.names ≡ n + length p.names) (versions : p.turn.versions ≡ v + length p.texts)
       (are_marks : IsDifference p.turn.marks k.now.marks marks) (are_frames : IsDifference p.turn.frames k.now.frames frames)
@@ -124,6 +126,7 @@ module _ (k : Kept) (p : Planned) (kept : IsKept k.rooms k.archive k.now) (ascen
         others = shows.taken;
         marks = ap (edited (turned_edits p.turn.marks)) are_marks.on ∙ are_marks.back;
         frames = ap (edited (turned_edits p.turn.frames)) are_frames.on ∙ are_frames.back;
+        few = few;
       };
       there = record {
         shown = all_in_order (shown_name a) (λ (s : Shown). (s.name < p.turn.names) × (s.version < p.turn.versions))
@@ -179,7 +182,7 @@ module _ (k : Kept) (p : Planned) (h : Shown) (marks frames : List Edit) (kept :
       let hides = hides_one a k.now.shown h among.0 among.1 (up k planned kept ascending a keeps) in
       let below = all-filter _ (λ (s : Shown). not (is_among (names_of (h ∷ [])) s.name)) k.now.shown (all_below k planned kept ascending a keeps) in
       file_leads k planned kept ascending a keeps (places_without k.archive name k.now.marks) (places_without k.archive name k.now.frames) _ _ _
-      hides (shows_none a rest hides.left) tt refl (omega arith) (omega arith) are_marks are_frames
+      hides (shows_none a rest hides.left) (few_small a planned.turn k.now (omega arith)) tt refl (omega arith) (omega arith) are_marks are_frames
       (all-filter _ _ k.now.marks kept.there.marks) (all-filter _ _ k.now.frames kept.there.frames)
       (ap (λ l. files_of a (in_order (shown_name a) l)) (append-nil rest)
       ∙ ap (files_of a) (settled (shown_name a) rest (ascending_sorted a rest hides.left))
@@ -220,7 +223,7 @@ module _ (k : Kept) (p : Planned) (name text : List ℕ) (kept : IsKept k.rooms 
       let other : AllByRecursion (IsOther a new) rest = subst (AllByRecursion (IsOther a new)) (sym same)
       (others_from k planned_load kept ascending a keeps new name named k.now.shown all fresh) in
       file_leads k planned_load kept ascending a keeps k.now.marks k.now.frames _ _ _
-      hides (shows_one a rest new hides.left other) ((omega (arith, one_name), omega (arith, one_version)), tt) refl
+      hides (shows_one a rest new hides.left other) (few_small a planned_load.turn k.now (omega arith)) ((omega (arith, one_name), omega (arith, one_version)), tt) refl
       (omega (arith, one_name)) (omega (arith, one_version)) (record { on = refl; back = refl }) (record { on = refl; back = refl })
       (more_named k.now.marks kept.there.marks) (more_named k.now.frames kept.there.frames)
       (ap (files_of a) (order_more a rest new hides.left other) ∙ file_put a rest new hides.left
@@ -321,7 +324,7 @@ module _ (k : Kept) (p : Planned) (h : Shown) (new_bytes : List ℕ) (marks fram
         let below = all-filter _ (λ (s : Shown). not (is_among (names_of (h ∷ [])) s.name)) k.now.shown all in
         file_leads k planned_rename kept ascending a keeps
         (in_order (key_then k.archive k.now.names new_bytes) (map renumber k.now.marks)) (map renumber k.now.frames) _ _ _
-        hides (shows_one a rest moved hides.left other) ((omega (arith, one_name), there.1), tt) refl
+        hides (shows_one a rest moved hides.left other) (few_small a planned_rename.turn k.now (omega arith)) ((omega (arith, one_name), there.1), tt) refl
         (omega (arith, one_name)) (omega arith) are_marks are_frames
         (all_in_order (key_then k.archive k.now.names new_bytes) _ (map renumber k.now.marks) (all_named k.now.marks kept.there.marks))
         (all_named k.now.frames kept.there.frames)

@@ -40,3 +40,5 @@ pub mod MarkPlans
 pub mod TagPlans
 pub mod ShownMoves
 pub mod FilePlans
+pub mod RoomLemmas
+pub mod TurnsCounted

@@ -18,6 +18,7 @@ use Rattle.cb_desk.specs.steps.Edits.{IsDifference, edited, turned_edits}
 use Rattle.cb_desk.specs.steps.Plans.{AreEdits, IsPlan, Keeps, LeadsTo, Planned, with_places}
 use Rattle.cb_desk.specs.steps.Records.{AreThere, Fits, IsTurn, Kept, KeepsRooms, Numbered, Turn, other, other_wanted, place_in, without, world_in}
 use Rattle.cb_desk.specs.steps.Walks.{IsKept}
+use Rattle.cb_desk.proofs.TurnLemmas.{few_small}
 use Rattle.cb_desk.proofs.WalkLemmas.{kept_more}
 use Rattle.cb_desk.proofs.ArchiveMoves.{Agree, agree_kept, apart_same, below_places, below_shown, files_same, order_same, places_same, total_same}
 
@@ -101,6 +102,7 @@ module _ (k : Kept) (p : Planned) (wanted : Option (Option (List ℕ))) (marks f
         others = ap (without []) shown_same;
         marks = are_marks.back;
         frames = are_frames.back;
+        few = few_small a the_turn k.now (omega arith);
       };
       there = record {
         shown = subst (AllByRecursion (λ (s : Shown). (s.name < k.now.names) × (s.version < k.now.versions))) (sym shown_same) all_below;

@@ -11,7 +11,7 @@ use Rattle.cb_index.specs.Shelved.{CanShowAll, Shelved}
 use Rattle.cb_index.specs.declared.entry.Shown.{Shown}
 use Rattle.cb_index.proofs.InOrderLemmas.{length_in_order}
 use Rattle.cb_index.proofs.ListedLemmas.{other_turned}
-use Rattle.cb_desk.specs.steps.Records.{AreThere, Fits, IsTurn, Kept, Numbered, Rooms, Turn, hidden, other, without}
+use Rattle.cb_desk.specs.steps.Records.{AreThere, Fits, IsFew, IsTurn, Kept, Numbered, Rooms, Turn, hidden, other, without}
 
 -- ---- what holds of a list in order
 module _ {X : Type 0} (key : X → List ℕ) (P : X → Type 0) where
@@ -89,6 +89,10 @@ module _ (a : Archived) where
 
   pub none_is_shown : (xs ys : List Shown) → AreApart a (xs ++ ys) → list_any (is_shown a xs) ys ≡ false
   none_is_shown xs ys apart = none_of xs ys (across xs ys apart)
+
+-- ---- few files are hidden and shown
+pub few_small : (a : Archived) (t : Turn) (w : Numbered) → length t.hides + length t.shows ≤ 2 → IsFew a t w
+few_small a t w small = record { on = omega (arith, small); back = omega (arith, small) }
 
 -- ---- a turn can be made
 module _ (s : Shelved) (t : Turn) (w : Numbered) (rooms : Rooms) (same : w.shown ≡ s.shown) where

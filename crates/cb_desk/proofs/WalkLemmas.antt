@@ -12,6 +12,7 @@ use Rattle.cb_desk.specs.declared.edits.Edit.{Edit}
 use Rattle.cb_desk.specs.declared.spot.NumberedPlace.{NumberedPlace}
 use Rattle.cb_desk.specs.declared.refusal.Refusal.TheVariants.{NothingToUndo, NothingToRedo}
 use Rattle.cb_desk.specs.Timeline.{IsValidTimeline, Timeline, new_timeline, undone, redone}
+use Rattle.cb_desk.specs.Turns.{touched}
 use Rattle.cb_desk.specs.World.{IsValidWorld, empty_world}
 use Rattle.cb_desk.specs.steps.Edits.{edited, turned_edit, turned_edits}
 use Rattle.cb_desk.specs.steps.Records.{AreThere, Fits, IsTurn, Kept, KeepsRooms, Numbered, no_numbers, Rooms, Turn, kept_wanted, other, other_wanted, turned, without, world_in}
@@ -57,6 +58,10 @@ module _ (a : Archived) (t : Turn) (w : Numbered) (is : IsTurn a t w) where
     others = ap (λ xs. without t.hides xs) shown_again ∙ sym is.others;
     marks = ap (λ es. edited es (edited (turned_edits t.marks) (edited t.marks w.marks))) (turned_twice t.marks) ∙ ap (λ xs. edited t.marks xs) is.marks;
     frames = ap (λ es. edited es (edited (turned_edits t.frames) (edited t.frames w.frames))) (turned_twice t.frames) ∙ ap (λ xs. edited t.frames xs) is.frames;
+    few = record {
+      on = let e = ap (λ x. length (touched (world_in a then) (world_in a x))) back_again in let few = is.few.back in omega (arith, e, few);
+      back = let e = ap (λ x. length (touched (world_in a x) (world_in a then))) back_again in let few = is.few.on in omega (arith, e, few);
+    };
   }
 
 -- ---- more room

@@ -15,5 +15,6 @@ pub mod StepExamples
 pub mod Survivors
 pub mod Tags
 pub mod Timeline
+pub mod Turns
 pub mod World
 pub mod steps

@@ -4,6 +4,7 @@ ghost use Rattle.cb_desk.specs.declared.limits.TheConstants.{MOST_CHANGES};
 ghost use Rattle.cb_desk.specs.World.{World, IsValidWorld};
 ghost use Rattle.cb_desk.specs.steps.Plans.{IsPlan};
 ghost use Rattle.cb_desk.specs.Timeline.{IsValidTimeline, Moves, moved_on, new_timeline, redone, undone};
+ghost use Rattle.cb_desk.specs.Turns.{Turns};
 ghost use Rattle.cb_desk.specs.steps.Walks.{IsKept, timeline_in};
 
 use crate::Refusal;
@@ -66,7 +67,9 @@ impl History {
 
     /// Takes the last change back.
     pub(crate) fn undo(&mut self) -> Result<(), Refusal>
-        ensures { Moves (undone (timeline_in self.old)) (timeline_in self.old) (timeline_in self.new) result }
+        ensures timeline { Moves (undone (timeline_in self.old)) (timeline_in self.old) (timeline_in self.new) result }
+        ensures turns { Turns (timeline_in self.old).present (timeline_in self.new).present
+            self.old.kept.turns self.new.kept.turns result }
     {
         if self.done == 0 {
             return Err(Refusal::NothingToUndo);
@@ -78,7 +81,9 @@ impl History {
 
     /// Makes the last change that was taken back again.
     pub(crate) fn redo(&mut self) -> Result<(), Refusal>
-        ensures { Moves (redone (timeline_in self.old)) (timeline_in self.old) (timeline_in self.new) result }
+        ensures timeline { Moves (redone (timeline_in self.old)) (timeline_in self.old) (timeline_in self.new) result }
+        ensures turns { Turns (timeline_in self.old).present (timeline_in self.new).present
+            self.old.kept.turns self.new.kept.turns result }
     {
         if self.done == self.records.len() {
             return Err(Refusal::NothingToRedo);
@@ -91,9 +96,10 @@ impl History {
     /// Makes the world that a plan leads to the only one to come.
     fn set_next(&mut self, plan: Plan) -> Result<(), AllocError>
         requires { (v : World) × IsPlan self.old.kept plan v × IsValidWorld v × (length (timeline_in self.old).past < MOST_CHANGES) }
-        ensures { (v : World) → IsPlan self.old.kept plan v
+        ensures timeline { (v : World) → IsPlan self.old.kept plan v
             → MatchResult result (λ _. timeline_in self.new ≡ record (timeline_in self.old) { future = v ∷ [] })
             (λ _. timeline_in self.new ≡ timeline_in self.old) }
+        ensures turns { self.new.kept.turns ≡ self.old.kept.turns }
     {
         self.records.reserve(1)?;
         self.present.reserve_for(&plan)?;
@@ -108,8 +114,10 @@ impl History {
     /// Goes to the world that a plan leads to. The future is gone.
     pub(crate) fn go(&mut self, plan: Plan) -> Result<(), AllocError>
         requires { (v : World) × IsPlan self.old.kept plan v × IsValidWorld v × (length (timeline_in self.old).past < MOST_CHANGES) }
-        ensures { (v : World) → IsPlan self.old.kept plan v
+        ensures timeline { (v : World) → IsPlan self.old.kept plan v
             → MatchResult result (λ _. timeline_in self.new ≡ moved_on (timeline_in self.old) v) (λ _. timeline_in self.new ≡ timeline_in self.old) }
+        ensures turns { Turns (timeline_in self.old).present (timeline_in self.new).present
+            self.old.kept.turns self.new.kept.turns result }
     {
         self.set_next(plan)?;
         if self.redo().is_err() {

@@ -5,6 +5,7 @@ ghost use Rattle.cb_index.specs.Files.{shown_name};
 ghost use Rattle.cb_index.specs.Names.{names_of};
 ghost use Rattle.cb_index.specs.Shelved.{CanShowAll, KeepsRoom};
 ghost use Rattle.std.specs.List.Sorted.{IsStrictlyIncreasing};
+ghost use Rattle.cb_desk.specs.Desk.{counted};
 ghost use Rattle.cb_desk.specs.steps.Edits.{turned_edits, edited};
 ghost use Rattle.cb_desk.specs.steps.Plans.{HasRoomFor};
 ghost use Rattle.cb_desk.specs.steps.Records.{AreThere, Fits, IsTurn, KeepsRooms, hidden, kept_wanted, no_numbers, other, other_wanted, turned, without};
@@ -80,8 +81,12 @@ fn turn_shown(shelf: &mut Shelf, hides: &mut Vec<Shown>, shows: &mut Vec<Shown>)
     ensures archive { shelf.new.archive ≡ shelf.old.archive }
     ensures hides { hides.new.items ≡ shows.old.items }
     ensures shows { shows.new.items ≡ hides.old.items }
+    ensures turns { shelf.new.turns ≡ counted shelf.old.turns (length hides.old.items + length shows.old.items) }
+    ensures rise { shelf.old.turns ≤ shelf.new.turns }
     ensures room { KeepsRoom shelf.old shelf.new }
 {
+    // The count is a `u64`, so that it does not fall where it stops.
+    let _turns = shelf.turns();
     shelf.hide_all(hides.as_slice());
     shelf.show_all(shows.as_slice());
     mem::swap(hides, shows);
@@ -114,6 +119,7 @@ fn keep_names(shelf: &mut Shelf, names: Vec<Vec<u8>>)
     ensures names { shelf.new.archive.names ≡ shelf.old.archive.names ++ map (λ n. n.items) names.items }
     ensures texts { shelf.new.archive.texts ≡ shelf.old.archive.texts }
     ensures shown { shelf.new.shown ≡ shelf.old.shown }
+    ensures turns { shelf.new.turns ≡ shelf.old.turns }
     ensures room { KeepsRoom shelf.old shelf.new }
 {
     for name in names {
@@ -127,6 +133,7 @@ fn keep_versions(shelf: &mut Shelf, versions: Vec<Version>)
     ensures texts { shelf.new.archive.texts ≡ shelf.old.archive.texts ++ versions.items }
     ensures names { shelf.new.archive.names ≡ shelf.old.archive.names }
     ensures shown { shelf.new.shown ≡ shelf.old.shown }
+    ensures turns { shelf.new.turns ≡ shelf.old.turns }
     ensures room { KeepsRoom shelf.old shelf.new }
 {
     for version in versions {
@@ -166,6 +173,8 @@ impl Present {
         ensures now { self.new.now ≡ other self.old.archive way.old self.old.now }
         ensures way { way.new ≡ turned way.old self.old.now }
         ensures archive { self.new.archive ≡ self.old.archive }
+        ensures turns { self.new.turns ≡ counted self.old.turns (length way.old.hides + length way.old.shows) }
+        ensures rise { self.old.turns ≤ self.new.turns }
         ensures rooms { KeepsRooms self.old.rooms self.new.rooms }
     {
         turn_shown(&mut self.shelf, &mut way.hides, &mut way.shows);
@@ -212,10 +221,16 @@ impl Present {
         ensures same_names { self.new.archive.names ≡ self.old.archive.names }
         ensures same_texts { self.new.archive.texts ≡ self.old.archive.texts }
         ensures now { self.new.now ≡ self.old.now }
+        ensures turns { self.new.turns ≡ self.old.turns }
         ensures rooms { KeepsRooms self.old.rooms self.new.rooms }
     {
-        let _names = sum(self.names, plan.names.len());
-        Err(AllocError)
+        let room = self.room_for(plan).ok_or(AllocError)?;
+        match self.shelf.reserve(&room) {
+            Ok(()) => {}
+            Err(_) => return Err(AllocError),
+        }
+        self.marks.reserve_more(plan.record.marks.len())?;
+        self.frames.reserve_more(plan.record.frames.len())
     }
 
     /// Drops from the archive what only later worlds use, and keeps new names and versions, in the
@@ -229,6 +244,7 @@ impl Present {
         ensures texts { self.new.archive.texts
             ≡ take self.old.now.versions self.old.archive.texts ++ versions.items }
         ensures now { self.new.now ≡ self.old.now }
+        ensures turns { self.new.turns ≡ self.old.turns }
         ensures rooms { KeepsRooms self.old.rooms self.new.rooms }
     {
         self.shelf.truncate(self.versions, self.names);

@@ -6,6 +6,7 @@ ghost use Rattle.cb_desk.specs.Desk.{Counts, CountsUpTo, bytes_in, scanned};
 ghost use Rattle.cb_desk.specs.Models.{step_of};
 ghost use Rattle.cb_desk.specs.Tags.{tags};
 ghost use Rattle.cb_desk.specs.Timeline.{Changes, Moves, new_timeline, redone, undone};
+ghost use Rattle.cb_desk.specs.Turns.{Turns};
 ghost use Rattle.cb_desk.specs.World.{IsValidWorld, text_named};
 
 use crate::history::History;
@@ -67,6 +68,7 @@ impl Desk {
     pub fn change(&mut self, alloc: Global, change: Change<'_>) -> Result<(), Refusal>
         ensures timeline { Changes (step_of change.entry) self.old.timeline self.new.timeline result }
         ensures meter { Counts (scanned self.old.timeline.present (step_of change.entry)) self.old.meter self.new.meter result }
+        ensures turns { Turns self.old.timeline.present self.new.timeline.present self.old.turns self.new.turns result }
     {
         // A growth can fail only after all is judged. All growths come before the first move.
         let _counted = self.meter.read();
@@ -87,6 +89,7 @@ impl Desk {
     pub fn undo(&mut self) -> Result<(), Refusal>
         ensures timeline { Moves (undone self.old.timeline) self.old.timeline self.new.timeline result }
         ensures meter { self.new.meter ≡ self.old.meter }
+        ensures turns { Turns self.old.timeline.present self.new.timeline.present self.old.turns self.new.turns result }
     {
         self.history.undo()
     }
@@ -95,6 +98,7 @@ impl Desk {
     pub fn redo(&mut self) -> Result<(), Refusal>
         ensures timeline { Moves (redone self.old.timeline) self.old.timeline self.new.timeline result }
         ensures meter { self.new.meter ≡ self.old.meter }
+        ensures turns { Turns self.old.timeline.present self.new.timeline.present self.old.turns self.new.turns result }
     {
         self.history.redo()
     }

@@ -1,5 +1,5 @@
 -- Worlds in numbers, and what leads from one to another.
-use Rattle.std.specs.Prelude.{◌≡◌, ◌≤◌, ◌<◌, ℕ, List, [], ◌∷◌, ◌++◌, false, length, map, filter, not, nat_eq, Option, None, Some, slice_index_or, if◌then◌else◌}
+use Rattle.std.specs.Prelude.{◌≡◌, ◌≤◌, ◌<◌, ◌+◌, ◌*◌, ℕ, List, [], ◌∷◌, ◌++◌, false, length, map, filter, not, nat_eq, Option, None, Some, slice_index_or, if◌then◌else◌}
 use Rattle.std.specs.List.{AllByRecursion, flat_map, list_any}
 use Rattle.std.specs.List.Sorted.{IsStrictlyIncreasing}
 use Rattle.cb_scan.specs.Order.{in_order, put}
@@ -13,6 +13,7 @@ use Rattle.cb_desk.specs.declared.spot.NumberedPlace.{NumberedPlace}
 use Rattle.cb_desk.specs.steps.Edits.{edited, turned_edits}
 use Rattle.cb_desk.specs.Places.{same_place}
 use Rattle.cb_desk.specs.Search.{lines_with}
+use Rattle.cb_desk.specs.Turns.{touched}
 use Rattle.cb_desk.specs.World.{Place, World, place_key}
 
 -- a world in numbers: what is shown of an archive, by file name; and how many names and versions of
@@ -89,6 +90,15 @@ turned t w = record {
 
 -- ---- when a turn can be made, and made back
 
+-- files are hidden and shown at most twice, and twice more for each that differs or has a mark
+abbrev pub AreFew : Turn → World → World → Type 0
+AreFew t v w = length t.hides + length t.shows ≤ 2 + 2 * length (touched v w)
+
+-- on the way there and back
+pub record IsFew (a : Archived) (t : Turn) (w : Numbered) : Type 0 where
+  pub on : AreFew t (world_in a w) (world_in a (other a t w))
+  pub back : AreFew t (world_in a (other a t w)) (world_in a w)
+
 -- the turn leads to its other world and back: what is hidden is shown now, what is shown then is
 -- not shown now, and no two files that are shown have one name
 pub record IsTurn (a : Archived) (t : Turn) (w : Numbered) : Type 0 where
@@ -100,6 +110,7 @@ pub record IsTurn (a : Archived) (t : Turn) (w : Numbered) : Type 0 where
   pub others : without t.shows (other a t w).shown ≡ without t.hides w.shown
   pub marks : edited (turned_edits t.marks) (edited t.marks w.marks) ≡ w.marks
   pub frames : edited (turned_edits t.frames) (edited t.frames w.frames) ≡ w.frames
+  pub few : IsFew a t w
 
 -- numbers are below those that the world uses, which are there
 pub record AreThere (a : Archived) (w : Numbered) : Type 0 where

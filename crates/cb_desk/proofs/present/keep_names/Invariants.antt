@@ -10,5 +10,6 @@ invariant-loop-name l = record {
   fits : length l.shelf.archive.names + length (into_iter_items l.name-iterator) ≤ l.shelf.archive.name_room;
   texts : l.shelf.archive.texts ≡ l.initial.shelf.archive.texts;
   shown : l.shelf.shown ≡ l.initial.shelf.shown;
+  turns : l.shelf.turns ≡ l.initial.shelf.turns;
   room : KeepsRoom l.initial.shelf l.shelf;
 }

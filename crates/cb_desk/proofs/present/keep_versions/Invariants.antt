@@ -9,5 +9,6 @@ invariant-loop-version l = record {
   fits : length l.shelf.archive.texts + length (into_iter_items l.version-iterator) ≤ l.shelf.archive.version_room;
   names : l.shelf.archive.names ≡ l.initial.shelf.archive.names;
   shown : l.shelf.shown ≡ l.initial.shelf.shown;
+  turns : l.shelf.turns ≡ l.initial.shelf.turns;
   room : KeepsRoom l.initial.shelf l.shelf;
 }

@@ -18,8 +18,8 @@ invariant_of-self-in_err-reserve_for c =
     (same_recorded c.self.inside.present c.reserve_for.new.self c.self.inside.records.items c.self.inside.done c.reserve_for.ensures.now
     c.reserve_for.ensures.same_names c.reserve_for.ensures.same_texts c.reserve_for.ensures.rooms c.self.invariant)
 
-pub returns-in_err-reserve_for : goal.returns-in_err-reserve_for
-returns-in_err-reserve_for c v plan =
+pub returns-in_err-reserve_for-clause-timeline : goal.returns-in_err-reserve_for-clause-timeline
+returns-in_err-reserve_for-clause-timeline c v plan =
     refused_as _ _ c.from_residual-in_err-reserve_for.result c.from_residual-in_err-reserve_for.ensures.0
     (ap (λ ts. timeline_in (record { kept = c.reserve_for.new.self; records = ts; done = c.self.inside.done })) c.reserve.ensures.items
     ∙ same_timeline c.self.inside.present c.reserve_for.new.self c.self.inside.records.items c.self.inside.done c.reserve_for.ensures.now
@@ -53,8 +53,8 @@ invariant_of-self-2 c =
     (room_moved k m c.args.plan c.reserve_for.ensures.now c.reserve_for.ensures.same_names c.reserve_for.ensures.same_texts (search rules))
     c.requires.2 (subst (λ t. length t.past < MOST_CHANGES) (sym same) c.requires.3))
 
-pub returns : goal.returns
-returns c v leads =
+pub returns-clause-timeline : goal.returns-clause-timeline
+returns-clause-timeline c v leads =
     let k = c.self.inside.present in
     let m = c.reserve_for.new.self in
     let records = c.self.inside.records.items in
