@@ -43,3 +43,9 @@ pub mod MarkPlans
 pub mod TagPlans
 pub mod ShownMoves
 pub mod FilePlans
+pub mod ShownRenewed
+pub mod FilesReplaced
+pub mod ReplacePlans
+pub mod MarksFound
+pub mod Counted
+pub mod LinesThen

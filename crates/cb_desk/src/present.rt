@@ -17,7 +17,10 @@ mod marks;
 mod moved;
 mod places;
 mod refusals;
+mod remaining;
 pub(crate) mod renewal;
+mod replace;
+mod replaced;
 mod replacement;
 
 use crate::edits::{Edit, turn_edits};
