@@ -1,7 +1,8 @@
 //! The replacement of the wanted text on the marked lines.
 ghost use Rattle.std.specs.Prelude.{◌≡◌, ◌≤◌, true, length, None, Some, IfOk};
 ghost use Rattle.cb_scan.specs.Bytes.{line_feed};
-ghost use Rattle.cb_desk.specs.Marks.{replace_refusal, replaced_files, with_files};
+ghost use Rattle.cb_desk.specs.Desk.{CountsUpTo, bytes_in, new_texts};
+ghost use Rattle.cb_desk.specs.Marks.{replace_refusal, replaced_files, replaced_on_marks, with_files};
 ghost use Rattle.cb_desk.specs.World.{IsValidWorld, is_short};
 ghost use Rattle.cb_desk.specs.steps.Plans.{IsPlan};
 ghost use Rattle.cb_desk.specs.steps.Records.{world_in};
@@ -13,9 +14,10 @@ use crate::edits::difference;
 use crate::limits::MOST_TEXT;
 use crate::plan::Plan;
 use crate::present::renewal::{new_versions, old_versions, sorted_renewals};
-use crate::present::replaced::{NewTexts, Replacing};
+use crate::present::replaced::{NewTexts, Replacing, new_texts};
 use crate::present::{Present, sum};
 use crate::record::Record;
+use cb_scan::Meter;
 use std::alloc::{AllocError, Global};
 
 /// Whether a text keeps the limit and lies in one line.
@@ -105,5 +107,30 @@ impl Present {
                 versions,
             },
         })
+    }
+
+    /// The plan to put another text in place of the wanted one on the marked lines. The new contents
+    /// are scanned, and no other files.
+    pub(crate) fn plan_replace(
+        &self,
+        alloc: Global,
+        meter: &mut Meter,
+        text: &[u8],
+    ) -> Result<Plan, AllocError>
+        requires kept { IsKept self.now.rooms self.now.archive self.now.now }
+        requires valid { IsValidWorld (world_in self.now.archive self.now.now) }
+        requires accepted { replace_refusal (world_in self.now.archive self.now.now) text.now ≡ None }
+        ensures plan { IfOk result (λ p. IsPlan self.now p (replaced_on_marks (world_in self.now.archive self.now.now)
+            self.now.now.wanted text.now)) }
+        ensures meter { CountsUpTo (bytes_in (new_texts (world_in self.now.archive self.now.now) text.now))
+            meter.old meter.new result }
+    {
+        let _counted = meter.read();
+        let Some(wanted) = &self.wanted else {
+            return Err(AllocError);
+        };
+        let replacing = self.replacing(wanted.as_slice(), text);
+        let texts = new_texts(alloc, meter, replacing, self.shelf.shown())?;
+        self.plan_renewed(alloc, replacing, texts)
     }
 }
