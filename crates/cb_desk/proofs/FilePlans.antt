@@ -30,7 +30,7 @@ use Rattle.cb_desk.proofs.ShownMoves.{Hides, IsOther, Shows, all_among, file_put
 use Rattle.cb_desk.proofs.TurnLemmas.{few_small}
 use Rattle.cb_desk.proofs.Valid.{all-filter, all-join}
 
-abbrev Places : List NumberedPlace → ℕ → Type 0
+abbrev pub Places : List NumberedPlace → ℕ → Type 0
 Places ps n = AllByRecursion (λ (p : NumberedPlace). p.name < n) ps
 
 -- ---- an archive that has what is new behind what the present world uses
@@ -42,10 +42,10 @@ module _ (k : Kept) (p : Planned) (kept : IsKept k.rooms k.archive k.now) (ascen
   abbrev v : ℕ
   v = k.now.versions
 
-  agree : Agree k.archive a n v
+  pub agree : Agree k.archive a n v
   agree = agree_kept k.archive a n v p.names p.texts kept.there.names kept.there.versions keeps.names keeps.texts
 
-  all_below : AllByRecursion (λ (s : Shown). (s.name < n) × (s.version < v)) k.now.shown
+  pub all_below : AllByRecursion (λ (s : Shown). (s.name < n) × (s.version < v)) k.now.shown
   all_below = below_shown k.archive a n v agree k.now kept.there (omega arith) (omega arith)
 
   in_place : in_order (shown_name a) k.now.shown ≡ k.now.shown
@@ -54,7 +54,7 @@ module _ (k : Kept) (p : Planned) (kept : IsKept k.rooms k.archive k.now) (ascen
       ∙ settled (shown_name k.archive) k.now.shown (ascending_sorted k.archive k.now.shown ascending)
 
   -- the names of what is shown ascend in it
-  up : AreAscending a k.now.shown
+  pub up : AreAscending a k.now.shown
   up =
       subst (AreAscending a) in_place
       (ascending_in_order a k.now.shown
@@ -101,11 +101,11 @@ module _ (k : Kept) (p : Planned) (kept : IsKept k.rooms k.archive k.now) (ascen
       split true y e = cc
       split false y e = (refl, e)
 
-  module _ (marks frames : List NumberedPlace) (fs : List File) (ms gs : List Place)
+  module _ (marks frames : List NumberedPlace) (fs : List File) (next : Option (List ℕ)) (ms gs : List Place)
       (hides : Hides a k.now.shown p.turn.hides) (shows : Shows a (without p.turn.hides k.now.shown) p.turn.shows)
       (few : IsFew a p.turn k.now)
       (below : AllByRecursion (λ (s : Shown). (s.name < p.turn.names) × (s.version < p.turn.versions)) p.turn.shows)
-      (wanted : p.turn.wanted ≡ None) (names : p.turn.names ≡ n + length p.names) (versions : p.turn.versions ≡ v + length p.texts)
+      (wanted : other_wanted p.turn.wanted k.now.wanted ≡ next) (names : p.turn.names ≡ n + length p.names) (versions : p.turn.versions ≡ v + length p.texts)
       (are_marks : IsDifference p.turn.marks k.now.marks marks) (are_frames : IsDifference p.turn.frames k.now.frames frames)
       (marks_named : Places marks p.turn.names) (frames_named : Places frames p.turn.names)
       (files_are : files_of a (in_order (shown_name a) (without p.turn.hides k.now.shown ++ p.turn.shows)) ≡ fs)
@@ -115,7 +115,7 @@ module _ (k : Kept) (p : Planned) (kept : IsKept k.rooms k.archive k.now) (ascen
         all_implied (λ (s : Shown). (s.name < n) × (s.version < v)) (λ (s : Shown). (s.name < p.turn.names) × (s.version < p.turn.versions))
         (λ s is. (omega (arith, is.0, names), omega (arith, is.1, versions))) k.now.shown all_below
 
-    pub file_leads : LeadsTo k p (record { files = fs; wanted = k.now.wanted; marks = ms; frames = gs }) a
+    pub file_leads : LeadsTo k p (record { files = fs; wanted = next; marks = ms; frames = gs }) a
     file_leads = record {
       turn = record {
         hides_rise = hides.rise;
@@ -139,7 +139,7 @@ module _ (k : Kept) (p : Planned) (kept : IsKept k.rooms k.archive k.now) (ascen
       };
       world = λ i. record {
         files = files_are i;
-        wanted = ap (λ w. other_wanted w k.now.wanted) wanted i;
+        wanted = wanted i;
         marks = (ap (map (place_in a)) are_marks.on ∙ marks_are) i;
         frames = (ap (map (place_in a)) are_frames.on ∙ frames_are) i;
       };
@@ -148,7 +148,7 @@ module _ (k : Kept) (p : Planned) (kept : IsKept k.rooms k.archive k.now) (ascen
     }
 
   -- places of the present world are the same places in it
-  same_places : (ps : List NumberedPlace) → Places ps n → map (place_in a) ps ≡ map (place_in k.archive) ps
+  pub same_places : (ps : List NumberedPlace) → Places ps n → map (place_in a) ps ≡ map (place_in k.archive) ps
   same_places ps named = places_same k.archive a n v agree ps named
 
   same_without : (name : List ℕ) (ps : List NumberedPlace) → Places ps n
@@ -181,7 +181,7 @@ module _ (k : Kept) (p : Planned) (h : Shown) (marks frames : List Edit) (kept :
       let rest = without (h ∷ []) k.now.shown in
       let hides = hides_one a k.now.shown h among.0 among.1 (up k planned kept ascending a keeps) in
       let below = all-filter _ (λ (s : Shown). not (is_among (names_of (h ∷ [])) s.name)) k.now.shown (all_below k planned kept ascending a keeps) in
-      file_leads k planned kept ascending a keeps (places_without k.archive name k.now.marks) (places_without k.archive name k.now.frames) _ _ _
+      file_leads k planned kept ascending a keeps (places_without k.archive name k.now.marks) (places_without k.archive name k.now.frames) _ _ _ _
       hides (shows_none a rest hides.left) (few_small a planned.turn k.now (omega arith)) tt refl (omega arith) (omega arith) are_marks are_frames
       (all-filter _ _ k.now.marks kept.there.marks) (all-filter _ _ k.now.frames kept.there.frames)
       (ap (λ l. files_of a (in_order (shown_name a) l)) (append-nil rest)
@@ -222,7 +222,7 @@ module _ (k : Kept) (p : Planned) (name text : List ℕ) (kept : IsKept k.rooms 
       let hides = hides_none a k.now.shown (up k planned_load kept ascending a keeps) in
       let other : AllByRecursion (IsOther a new) rest = subst (AllByRecursion (IsOther a new)) (sym same)
       (others_from k planned_load kept ascending a keeps new name named k.now.shown all fresh) in
-      file_leads k planned_load kept ascending a keeps k.now.marks k.now.frames _ _ _
+      file_leads k planned_load kept ascending a keeps k.now.marks k.now.frames _ _ _ _
       hides (shows_one a rest new hides.left other) (few_small a planned_load.turn k.now (omega arith)) ((omega (arith, one_name), omega (arith, one_version)), tt) refl
       (omega (arith, one_name)) (omega (arith, one_version)) (record { on = refl; back = refl }) (record { on = refl; back = refl })
       (more_named k.now.marks kept.there.marks) (more_named k.now.frames kept.there.frames)
@@ -323,7 +323,7 @@ module _ (k : Kept) (p : Planned) (h : Shown) (new_bytes : List ℕ) (marks fram
         all-filter _ _ k.now.shown (others_from k planned_rename kept ascending a keeps moved new_bytes named k.now.shown all fresh) in
         let below = all-filter _ (λ (s : Shown). not (is_among (names_of (h ∷ [])) s.name)) k.now.shown all in
         file_leads k planned_rename kept ascending a keeps
-        (in_order (key_then k.archive k.now.names new_bytes) (map renumber k.now.marks)) (map renumber k.now.frames) _ _ _
+        (in_order (key_then k.archive k.now.names new_bytes) (map renumber k.now.marks)) (map renumber k.now.frames) _ _ _ _
         hides (shows_one a rest moved hides.left other) (few_small a planned_rename.turn k.now (omega arith)) ((omega (arith, one_name), there.1), tt) refl
         (omega (arith, one_name)) (omega arith) are_marks are_frames
         (all_in_order (key_then k.archive k.now.names new_bytes) _ (map renumber k.now.marks) (all_named k.now.marks kept.there.marks))

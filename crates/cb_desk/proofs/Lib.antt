@@ -42,3 +42,9 @@ pub mod ShownMoves
 pub mod FilePlans
 pub mod RoomLemmas
 pub mod TurnsCounted
+pub mod ShownRenewed
+pub mod FilesReplaced
+pub mod ReplacePlans
+pub mod MarksFound
+pub mod Counted
+pub mod LinesThen

@@ -22,7 +22,7 @@ use Rattle.cb_desk.proofs.Valid.{all-filter, all-along, all-both, all-passed}
 
 -- ---- names
 -- of two places in order the first one's file does not come after the other's
-abbrev NotAfter : List ℕ → List ℕ → Type 0
+abbrev pub NotAfter : List ℕ → List ℕ → Type 0
 NotAfter a b = slice_cmp nat_cmp a b ≢ Greater
 
 then-not-after : (o p : Ordering) → ordering_then o p ≡ Less → o ≢ Greater
@@ -30,10 +30,10 @@ then-not-after Less p e k = cc
 then-not-after Equal p e k = cc
 then-not-after Greater p e k = cc
 
-not-after : (p q : Place) → slice_cmp nat_cmp (place_key p) (place_key q) ≡ Less → NotAfter p.file q.file
+pub not-after : (p q : Place) → slice_cmp nat_cmp (place_key p) (place_key q) ≡ Less → NotAfter p.file q.file
 not-after p q less = then-not-after _ (nat_cmp p.line q.line) (sym (cmp-places p.file q.file p.line q.line) ∙ less)
 
-less-apart : (a b : List ℕ) → slice_cmp nat_cmp a b ≡ Less → bytes_eq b a ≡ false
+pub less-apart : (a b : List ℕ) → slice_cmp nat_cmp a b ≡ Less → bytes_eq b a ≡ false
 less-apart a b less =
     (elim (bytes_eq b a) as (λ e. bytes_eq b a ≡ e → e ≡ false) [
       | true ↦ λ h. let same : slice_cmp nat_cmp a a ≡ Less = subst (λ n. slice_cmp nat_cmp a n ≡ Less) (same-name b a h) less in let equal = name-equal a in cc
@@ -41,7 +41,7 @@ less-apart a b less =
     ]) refl
 
 -- a name that does not come before another and is not that name comes after it
-strictly : (a b : List ℕ) → NotAfter a b → bytes_eq b a ≡ false → slice_cmp nat_cmp a b ≡ Less
+pub strictly : (a b : List ℕ) → NotAfter a b → bytes_eq b a ≡ false → slice_cmp nat_cmp a b ≡ Less
 strictly a b low other = by_cases (slice_cmp nat_cmp a b) refl
   where
     by_cases : (o : Ordering) → slice_cmp nat_cmp a b ≡ o → slice_cmp nat_cmp a b ≡ Less
@@ -49,7 +49,7 @@ strictly a b low other = by_cases (slice_cmp nat_cmp a b) refl
     by_cases Equal e = let same = is_eq-slice_cmp a b in let yes_eq : bytes_eq a b ≡ true = sym same ∙ ap is_eq e in let back : bytes_eq b a ≡ true = ap (bytes_eq b) (same-name a b yes_eq) ∙ name-same b in cc
     by_cases Greater e = absurd (low e)
 
-less-then : (a b c : List ℕ) → slice_cmp nat_cmp a b ≡ Less → NotAfter b c → slice_cmp nat_cmp a c ≡ Less
+pub less-then : (a b c : List ℕ) → slice_cmp nat_cmp a b ≡ Less → NotAfter b c → slice_cmp nat_cmp a c ≡ Less
 less-then a b c less low = by_cases (slice_cmp nat_cmp b c) refl
   where
     by_cases : (o : Ordering) → slice_cmp nat_cmp b c ≡ o → slice_cmp nat_cmp a c ≡ Less
@@ -58,7 +58,7 @@ less-then a b c less low = by_cases (slice_cmp nat_cmp b c) refl
     by_cases Greater e = absurd (low e)
 
 -- ---- marks of the first file
-none-left : (name : List ℕ) (marks : List Place) → AllByRecursion (λ p. is_in name p ≡ false) marks → filter (is_in name) marks ≡ []
+pub none-left : (name : List ℕ) (marks : List Place) → AllByRecursion (λ p. is_in name p ≡ false) marks → filter (is_in name) marks ≡ []
 none-left name [] all = refl
 none-left name (p ∷ marks) all = rw all.0 (none-left name marks all.1)
 
@@ -166,7 +166,7 @@ filter-join p (x ∷ xs) ys =
       | false ↦ filter-join p xs ys
     ]
 
-append-nothing : (xs : List Place) → xs ++ [] ≡ xs
+pub append-nothing : (xs : List Place) → xs ++ [] ≡ xs
 append-nothing [] = refl
 append-nothing (x ∷ xs) = ap (λ l. x ∷ l) (append-nothing xs)
 
@@ -185,7 +185,7 @@ lines-later name p (q ∷ mine) here all less =
     let by_line : ordering_then (slice_cmp nat_cmp p.file q.file) (nat_cmp p.line q.line) ≡ Less = sym (cmp-places p.file q.file p.line q.line) ∙ less.0 in
     (ap (λ o. ordering_then o (nat_cmp p.line q.line)) (sym (ap (slice_cmp nat_cmp p.file) same ∙ name-equal p.file)) ∙ by_line, lines-later name p mine here all.1 less.1)
 
-lines-strict : (name : List ℕ) (mine rest : List Place) → AllByRecursion (λ q. is_in name q ≡ true) mine → AreAscending (mine ++ rest) → IsStrictlySortedBy nat_cmp (map (λ q. q.line) mine)
+pub lines-strict : (name : List ℕ) (mine rest : List Place) → AllByRecursion (λ q. is_in name q ≡ true) mine → AreAscending (mine ++ rest) → IsStrictlySortedBy nat_cmp (map (λ q. q.line) mine)
 unfolding IsStrictlySortedBy
 lines-strict name [] rest all up = tt
 lines-strict name (p ∷ mine) rest all up = (lines-later name p mine all.0 all.1 (front-part _ mine rest up.0), lines-strict name mine rest all.1 up.1)

@@ -58,11 +58,11 @@ module _ (a : Archived) where
   abbrev pub IsOther : Shown → Shown → Type 0
   IsOther s t = bytes_eq (name_of a s.name) (name_of a t.name) ≡ false
 
-  abbrev After : Shown → Shown → Type 0
+  abbrev pub After : Shown → Shown → Type 0
   After s t = slice_cmp nat_cmp (name_of a s.name) (name_of a t.name) ≡ Less
 
   -- names of other bytes have other numbers
-  number_other : (s t : Shown) → IsOther s t → nat_eq t.name s.name ≡ false
+  pub number_other : (s t : Shown) → IsOther s t → nat_eq t.name s.name ≡ false
   number_other s t other =
       ⊎_elim
       (λ is. absurd (true≢false (sym ((bytes_eq-Decides (name_of a s.name) (name_of a t.name)).1 (ap (name_of a) (sym (number_same t.name s.name is)))) ∙ other)))
@@ -80,7 +80,7 @@ module _ (a : Archived) where
   untouched h (t ∷ ss) all =
       ap (λ b. cond b (t ∷ without (h ∷ []) ss) (without (h ∷ []) ss)) (stays h t all.0) ∙ ap (λ l. t ∷ l) (untouched h ss all.1)
 
-  all_other : (s : Shown) (ss : List Shown) → AllByRecursion (After s) ss → AllByRecursion (IsOther s) ss
+  pub all_other : (s : Shown) (ss : List Shown) → AllByRecursion (After s) ss → AllByRecursion (IsOther s) ss
   all_other s [] all = tt
   all_other s (t ∷ ss) all = (bytes_other (name_of a s.name) (name_of a t.name) all.0, all_other s ss all.1)
 

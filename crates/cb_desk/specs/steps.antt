@@ -6,6 +6,7 @@ pub mod LookBack
 pub mod MarkedLines
 pub mod Plans
 pub mod Records
+pub mod Replaced
 pub mod Room
 pub mod Search
 pub mod Shared

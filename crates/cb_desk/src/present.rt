@@ -20,7 +20,11 @@ mod moved;
 mod places;
 mod readers;
 mod refusals;
+mod remaining;
+pub(crate) mod renewal;
 mod replace;
+mod replaced;
+mod replacement;
 
 use crate::edits::{Edit, turn_edits};
 use crate::place_list::PlaceList;

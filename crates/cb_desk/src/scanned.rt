@@ -8,7 +8,11 @@ use cb_scan::{FactKeys, Meter, Source, scan};
 use std::alloc::{AllocError, Global};
 
 /// The version of a source, which is scanned.
-fn scanned_source(alloc: Global, meter: &mut Meter, source: Source) -> Result<Version, AllocError>
+pub(crate) fn scanned_source(
+    alloc: Global,
+    meter: &mut Meter,
+    source: Source,
+) -> Result<Version, AllocError>
     ensures value { IfOk result (λ version. version ≡ source) }
     ensures meter { CountsUpTo (length source) meter.old meter.new result }
 {
