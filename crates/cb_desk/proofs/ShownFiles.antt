@@ -11,7 +11,7 @@ use Rattle.cb_index.specs.Shelved.{with_facts}
 use Rattle.cb_index.specs.declared.entry.Shown.{Shown}
 use Rattle.cb_desk.specs.World.{File, IsAscending, has_file, text_named, text_of_file}
 use Rattle.cb_desk.specs.steps.Lent.{without_facts}
-use Rattle.cb_desk.specs.steps.Shared.{file_named}
+use Rattle.cb_desk.specs.steps.Named.{file_named}
 
 -- without their facts they are the files
 pub bare-files : (fs : List File) → map without_facts (map with_facts fs) ≡ fs

@@ -10,7 +10,7 @@ use Rattle.cb_desk.specs.Answer.{defines}
 use Rattle.cb_desk.specs.Places.{nth}
 use Rattle.cb_desk.specs.Stack.{places, places_in}
 use Rattle.cb_desk.specs.World.{File, Place, has_file, is_named, text_of_file}
-use Rattle.cb_desk.specs.steps.Shared.{file_named}
+use Rattle.cb_desk.specs.steps.Named.{file_named}
 use Rattle.cb_desk.proofs.Valid.{all-along, all-join}
 
 -- what holds of all holds of each

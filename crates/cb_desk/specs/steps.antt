@@ -9,7 +9,7 @@ pub mod Records
 pub mod Replaced
 pub mod Room
 pub mod Search
-pub mod Shared
+pub mod Named
 pub mod Texts
 pub mod TextsLeft
 pub mod Walks

@@ -10,7 +10,7 @@ ghost use Rattle.cb_index.specs.Files.{IsThere, file_of as shown_file};
 ghost use Rattle.cb_index.specs.Shelved.{files};
 ghost use Rattle.cb_desk.specs.Models.{file_of};
 ghost use Rattle.cb_desk.specs.World.{IsAscending, text_named};
-ghost use Rattle.cb_desk.specs.steps.Shared.{file_named};
+ghost use Rattle.cb_desk.specs.steps.Named.{file_named};
 
 use cb_index::{Entries, Shelf, Shown};
 use cb_scan::Source;

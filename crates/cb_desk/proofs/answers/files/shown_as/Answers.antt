@@ -3,7 +3,7 @@ use Rattle.std.proofs.lemmas.List.Sorted.{IsPartitionPoint-from_clause}
 use Rattle.std.specs.Str.{bytes_eq}
 use Rattle.cb_index.specs.Files.{AreAscending, file_of, files_of}
 use Rattle.cb_index.specs.declared.entry.Shown.{Shown}
-use Rattle.cb_desk.specs.steps.Shared.{file_named}
+use Rattle.cb_desk.specs.steps.Named.{file_named}
 use Rattle.cb_desk.proofs.NamedFile.{below, found-at, none-at, none-there, parted}
 use Rattle.cb_desk.proofs.ShownFiles.{files-ascend, none-named}
 use Rattle.cb_desk.proofs.answers.files.shown_as.Goals as goal
