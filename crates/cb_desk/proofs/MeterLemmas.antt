@@ -2,7 +2,9 @@
 use Rattle.std.proofs.Common.{◌≡◌, ◌∙◌, sym, ap, subst, ℕ, ◌+◌, ◌-◌, ◌^◌, ◌≤◌, Bool, true, false, nat_le, refl, arith, Result, Ok, Err}
 use Rattle.std.specs.Prelude.{min}
 use Rattle.std.proofs.Math.Nat.{le-min, min-eq_left, min-eq_right, min-le_left}
-use Rattle.cb_desk.specs.Desk.{CountsUpTo, IsBetween, counted}
+use Rattle.cb_desk.specs.declared.refusal.Refusal.{Refusal}
+use Rattle.cb_desk.specs.declared.refusal.Refusal.TheVariants.{UnknownCommand, LineTooLong, BadCount, InputEnded, BadName, NoSuchFile, FileExists, BadText, TooLarge, TooManyFiles, NoPattern, NoSuchDefinition, NoSuchLine, NothingWanted, NothingMarked, StackEmpty, NothingToUndo, NothingToRedo, HistoryFull, OutOfMemory, NoSuchField}
+use Rattle.cb_desk.specs.Desk.{Counts, CountsUpTo, IsBetween, counted}
 
 one_of : (x y : ℕ) (P : Type 0) → (x ≤ y → P) → (y ≤ x → P) → P
 one_of x y P low high =
@@ -78,3 +80,27 @@ module _ (m : ℕ) (small : m ≤ 2 ^ 64 - 1) where
     least = is.least;
     most = let low = more greatest m a (a + b) (omega arith) in let most = is.most in omega (arith, low, most);
   }
+
+  -- a call that is refused scans nothing
+  pub refused_counts : (n : ℕ) (r : Refusal) → Counts n m m (Err r)
+  refused_counts n UnknownCommand = refl
+  refused_counts n LineTooLong = refl
+  refused_counts n BadCount = refl
+  refused_counts n InputEnded = refl
+  refused_counts n BadName = refl
+  refused_counts n NoSuchFile = refl
+  refused_counts n FileExists = refl
+  refused_counts n BadText = refl
+  refused_counts n TooLarge = refl
+  refused_counts n TooManyFiles = refl
+  refused_counts n NoPattern = refl
+  refused_counts n NoSuchDefinition = refl
+  refused_counts n NoSuchLine = refl
+  refused_counts n NothingWanted = refl
+  refused_counts n NothingMarked = refl
+  refused_counts n StackEmpty = refl
+  refused_counts n NothingToUndo = refl
+  refused_counts n NothingToRedo = refl
+  refused_counts n HistoryFull = refl
+  refused_counts n OutOfMemory = none_between n
+  refused_counts n NoSuchField = refl

@@ -1,5 +1,5 @@
 -- Records lead back and on.
-use Rattle.std.proofs.Common.{◌≡◌, ◌∙◌, sym, ap, refl, subst, ℕ, ◌+◌, ◌-◌, ◌<◌, ◌≤◌, Bool, true, false, List, [], ◌∷◌, ◌++◌, take, drop, length, map, get_or, slice_set, reverse, Option, Some, None, Ok, Err, add-one, arith, length-take-le}
+use Rattle.std.proofs.Common.{◌≡◌, ◌∙◌, sym, ap, refl, subst, ℕ, suc, ◌+◌, ◌-◌, ◌<◌, ◌≤◌, Bool, true, false, List, [], ◌∷◌, ◌++◌, take, drop, length, map, get_or, slice_set, reverse, Option, Some, None, Ok, Err, add-one, arith, length-take-le}
 use Rattle.std.specs.Prelude.{not}
 use Rattle.std.proofs.Math.Seq.{drop-cons}
 use Rattle.std.proofs.lemmas.List.{reverse-append, take_more, take_more_set, take-set, drop-set, drop-set-lt, drop_all, length-map, length-reverse, length-set}
@@ -294,7 +294,7 @@ nothing_recorded k is = record {
 -- as many worlds are the past as records lead back
 walk_length : (a : Archived) (w : Numbered) (ts : List Turn) → length (walk a w ts) ≡ length ts
 walk_length a w [] = refl
-walk_length a w (t ∷ ts) = ap (λ n. n + 1) (walk_length a (other a t w) ts)
+walk_length a w (t ∷ ts) = ap suc (walk_length a (other a t w) ts)
 
 pub past_length : (h : Recorded) → h.done ≤ length h.records → length (timeline_in h).past ≡ h.done
 past_length h within =
