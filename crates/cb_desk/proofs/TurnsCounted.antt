@@ -1,10 +1,9 @@
 -- How many files a turn hides and shows.
-use Rattle.std.proofs.Common.{◌≡◌, ◌∙◌, ◌≤◌, ◌+◌, ◌-◌, ◌*◌, ◌^◌, ℕ, Bool, true, false, List, [], ◌∷◌, ◌++◌, refl, sym, ap, subst, length, map, filter, not, ◌||◌, cond, arith, length-append, ⊎_elim}
-use Rattle.std.proofs.Math.Nat.{le-min, min-eq_left, min-eq_right, min-le_left, min-le_right}
-use Rattle.std.proofs.lemmas.Bool.{cases_Bool, true≢false}
-use Rattle.std.proofs.lemmas.Bool.Decides.{nat_tests}
+use Rattle.std.proofs.Common.{◌≡◌, ◌∙◌, ◌≤◌, ◌+◌, ◌-◌, ◌*◌, ◌^◌, ℕ, Bool, true, false, List, [], ◌∷◌, ◌++◌, refl, sym, ap, subst, length, map, filter, not, ◌||◌, cond, arith, length-append}
+use Rattle.std.proofs.Math.Nat.{le-min, min-le_left, min-le_right}
+use Rattle.std.proofs.lemmas.Bool.{true≢false}
 use Rattle.std.proofs.lemmas.Slice.Eq.{bytes_eq-Decides}
-use Rattle.std.specs.Prelude.{min, nat_le, ◌&&◌, Result, Ok, Err, IsErr, is_err}
+use Rattle.std.specs.Prelude.{min, ◌&&◌, Result, Ok, Err, IsErr, is_err}
 use Rattle.std.specs.List.{AllByRecursion, list_any}
 use Rattle.cb_scan.proofs.FunctionsRise.{all_implied}
 use Rattle.cb_index.specs.Archived.{Archived}
@@ -15,40 +14,15 @@ use Rattle.cb_index.proofs.InOrderLemmas.{length_in_order}
 use Rattle.cb_desk.specs.Desk.{counted, is_marked}
 use Rattle.cb_desk.specs.Places.{is_in}
 use Rattle.cb_desk.specs.Turns.{AreTurnsOf, Turns, differing, is_touched, is_unchanged, only_in_second, same_file, touched}
-use Rattle.cb_desk.specs.World.{File, World, has_file, is_named}
-use Rattle.cb_desk.specs.steps.Records.{IsFew, IsTurn, Kept, Numbered, Turn, other, without, world_in}
+use Rattle.cb_desk.specs.World.{File, Place, World, has_file, is_named}
+use Rattle.cb_desk.specs.steps.Records.{IsFew, IsTurn, Kept, Numbered, Turn, other, place_in, without, world_in}
 
--- ---- counts up to a limit
-module _ (limit : ℕ) where
-  capped_twice : (m a b : ℕ) → min (min (m + a) limit + b) limit ≡ min (m + (a + b)) limit
-  capped_twice m a b =
-      ⊎_elim (λ is. below (grind (arith, nat_tests, is))) (λ isnt. above (grind (arith, nat_tests, isnt))) (cases_Bool (nat_le (m + a) limit))
-    where
-      below : m + a ≤ limit → min (min (m + a) limit + b) limit ≡ min (m + (a + b)) limit
-      below fits =
-          let e : m + a + b ≡ m + (a + b) = omega arith in
-          ap (λ x. min (x + b) limit) (min-eq_left fits) ∙ ap (λ x. min x limit) e
-
-      above : limit ≤ m + a → min (min (m + a) limit + b) limit ≡ min (m + (a + b)) limit
-      above over =
-          let more : limit ≤ m + (a + b) = omega (arith, over) in
-          let past : limit ≤ limit + b = omega arith in
-          ap (λ x. min (x + b) limit) (min-eq_right over) ∙ min-eq_right past ∙ sym (min-eq_right more)
-
-  capped_more : (m a b : ℕ) → a ≤ b → min (m + a) limit ≤ min (m + b) limit
-  capped_more m a b more = le-min (let x = min-le_left (m + a) limit in omega (arith, x, more)) (min-le_right (m + a) limit)
-
-  capped_rises : (m a : ℕ) → m ≤ limit → m ≤ min (m + a) limit
-  capped_rises m a fits = le-min (omega arith) fits
-
-pub counted_twice : (m a b : ℕ) → counted (counted m a) b ≡ counted m (a + b)
-counted_twice m a b = capped_twice (2 ^ 64 - 1) m a b
+-- more is counted of more, up to the limit
+capped_more : (limit m a b : ℕ) → a ≤ b → min (m + a) limit ≤ min (m + b) limit
+capped_more limit m a b more = le-min (let x = min-le_left (m + a) limit in omega (arith, x, more)) (min-le_right (m + a) limit)
 
 pub counted_more : (m a b : ℕ) → a ≤ b → counted m a ≤ counted m b
 counted_more m a b more = capped_more (2 ^ 64 - 1) m a b more
-
-pub counted_rises : (m a : ℕ) → m ≤ 2 ^ 64 - 1 → m ≤ counted m a
-counted_rises m a fits = capped_rises (2 ^ 64 - 1) m a fits
 
 -- ---- tests
 either : (b c : Bool) → c ≡ true → (b || c) ≡ true
@@ -206,6 +180,28 @@ module _ (a : Archived) (t : Turn) (w : Numbered) (names : map (λ (f : File). f
       first : (b c : Bool) → b ≡ true → (b || c) ≡ true
       first true c is = refl
       first false c is = absurd (true≢false (sym is))
+
+-- the same where marks are counted in another archive, in which the world is the same
+module _ (b : Archived) where
+  marked_shown : (marks : List Place) (ss : List Shown)
+      → length (filter (is_marked marks) (files_of b ss)) ≡ length (filter (λ s. is_marked marks (file_of b s)) ss)
+  marked_shown marks [] = refl
+  marked_shown marks (s ∷ ss) =
+      let later = marked_shown marks ss in
+      elim (is_marked marks (file_of b s))
+      as (λ x. length (cond x (file_of b s ∷ filter (is_marked marks) (files_of b ss)) (filter (is_marked marks) (files_of b ss)))
+      ≡ length (cond x (s ∷ filter (λ r. is_marked marks (file_of b r)) ss) (filter (λ r. is_marked marks (file_of b r)) ss)))
+      [ true ↦ omega (arith, later) | false ↦ later ]
+
+  abbrev marked_in : Numbered → ℕ
+  marked_in w = length (filter (λ s. is_marked (map (place_in b) w.marks) (file_of b s)) w.shown)
+
+  pub few_renewed : (a : Archived) (t : Turn) (w : Numbered) → world_in a w ≡ world_in b w → length t.hides ≡ marked_in w → length t.shows ≡ marked_in w
+      → map (λ (f : File). f.name) (files_of a (other a t w).shown) ≡ map (λ (f : File). f.name) (files_of b w.shown) → IsFew a t w
+  few_renewed a t w world hides shows names =
+      let all : length (filter (is_marked (world_in a w).marks) (world_in a w).files) ≡ marked_in w =
+      ap (λ v. length (filter (is_marked v.marks) v.files)) world ∙ marked_shown (map (place_in b) w.marks) w.shown in
+      few_marked a t w (names ∙ sym (ap (λ v. map (λ (f : File). f.name) v.files) world)) (omega (arith, hides, all)) (omega (arith, shows, all))
 
 -- ---- the count of turns
 module _ (k l : Kept) (t : Turn) (is : IsTurn k.archive t k.now) (archive : l.archive ≡ k.archive) (now : l.now ≡ other k.archive t k.now)
