@@ -3,12 +3,13 @@ use Rattle.std.proofs.Common.{◌≡◌, ◌∙◌, ◌≤◌, ◌<◌, ◌+◌,
 use Rattle.std.proofs.Math.Seq.{get_or-append_seam}
 use Rattle.std.proofs.lemmas.List.{length-map}
 use Rattle.std.proofs.lemmas.List.Elements.{All-from_recursion, recursion_from_All}
-use Rattle.std.proofs.lemmas.List.Sorted.{All-permutation}
+use Rattle.std.proofs.lemmas.List.Sorted.{All-permutation, length_permutation}
 use Rattle.std.specs.List.{AllByRecursion}
 use Rattle.std.specs.List.Sorted.{IsNonDecreasingBy, IsPermutation}
 use Rattle.std.specs.Prelude.{slice_index_or}
+use Rattle.cb_scan.specs.Order.{in_order}
 use Rattle.cb_index.specs.Archived.{Archived, name_of}
-use Rattle.cb_index.specs.Files.{AreAscending, file_of, files_of}
+use Rattle.cb_index.specs.Files.{AreAscending, file_of, files_of, shown_name}
 use Rattle.cb_index.specs.declared.entry.Shown.{Shown}
 use Rattle.cb_desk.specs.declared.edits.Edit.{Edit}
 use Rattle.cb_desk.specs.declared.present.renewal.Renewal.{Renewal}
@@ -18,14 +19,15 @@ use Rattle.cb_desk.specs.Places.{is_place_of}
 use Rattle.cb_desk.specs.World.{File}
 use Rattle.cb_desk.specs.steps.Edits.{IsDifference}
 use Rattle.cb_desk.specs.steps.Plans.{IsPlan, Keeps, LeadsTo, Planned}
-use Rattle.cb_desk.specs.steps.Records.{Kept, Turn, place_in, world_in}
+use Rattle.cb_desk.specs.steps.Records.{IsFew, Kept, Turn, place_in, without, world_in}
 use Rattle.cb_desk.specs.steps.Replaced.{file_then, files_changed, files_then, has_mark, new_of, old_of, remaining, renewals, texts_of}
 use Rattle.cb_desk.specs.steps.Walks.{IsKept}
-use Rattle.cb_desk.proofs.ArchiveMoves.{Agree, Below}
+use Rattle.cb_desk.proofs.ArchiveMoves.{Agree, Below, world_same}
 use Rattle.cb_desk.proofs.FilePlans.{Places, agree, all_below, file_leads, same_places, up}
 use Rattle.cb_desk.proofs.FilesReplaced.{unmarked_then, world_replaced}
 use Rattle.cb_desk.proofs.Placed.{map-filter}
 use Rattle.cb_desk.proofs.ShownRenewed.{hides_renewed, renewed, shown_then, shows_renewed}
+use Rattle.cb_desk.proofs.TurnsCounted.{few_renewed}
 use Rattle.cb_desk.proofs.Valid.{all-filter}
 
 -- texts stand in an archive under the numbers from one on
@@ -57,6 +59,16 @@ names_below : (names versions : ℕ) (ss : List Shown) → AllByRecursion (λ (s
     → AllByRecursion (λ (s : Shown). s.name < names) ss
 names_below names versions [] all = tt
 names_below names versions (s ∷ ss) all = (all.0.0, names_below names versions ss all.1)
+
+count_renewals : (n : ℕ) (ss : List Shown) → length (renewals n ss) ≡ length ss
+count_renewals n [] = refl
+count_renewals n (s ∷ ss) = omega (arith, count_renewals (n + 1) ss)
+
+-- files keep their names
+names_kept : (a : Archived) (marks : List NumberedPlace) (old new : List ℕ) (ss : List Shown)
+    → map (λ (f : File). f.name) (files_then a marks old new ss) ≡ map (λ (f : File). f.name) (files_of a ss)
+names_kept a marks old new [] = refl
+names_kept a marks old new (s ∷ ss) = ap (λ ns. name_of a s.name ∷ ns) (names_kept a marks old new ss)
 
 module _ (b a : Archived) (n v : ℕ) (same : Agree b a n v) (marks : List NumberedPlace) (old new : List ℕ) where
   -- the files of what is shown then are those with the replacement made
@@ -133,6 +145,20 @@ module _ (k : Kept) (p : Planned) (old new : List ℕ) (rs : List Renewal) (mark
         same_places k planned kept ascending a keeps (remaining k.archive then k.now.frames) (all-filter _ _ k.now.frames kept.there.frames)
         ∙ map-filter (place_in k.archive) (is_place_of then) k.now.frames
 
+    files_are : files_of a (in_order (shown_name a) (without (map old_of rs) k.now.shown ++ map new_of rs)) ≡ then
+    files_are =
+        ap (files_of a) (shown_then a k.now.shown (up k planned kept ascending a keeps) (has_mark k.archive k.now.marks) k.now.versions rs same level)
+        ∙ renewed_files k.archive a k.now.names k.now.versions (agree k planned kept ascending a keeps) k.now.marks old new
+        k.now.versions k.now.shown below_now held
+
+    few : IsFew a planned.turn k.now
+    few =
+        let many : length rs ≡ length marked = length_permutation (renewals k.now.versions marked) rs same ∙ count_renewals k.now.versions marked in
+        few_renewed k.archive a planned.turn k.now
+        (world_same k.archive a k.now.names k.now.versions (agree k planned kept ascending a keeps) k.now kept.there (omega arith) (omega arith))
+        (length-map rs old_of ∙ many) (length-map rs new_of ∙ many)
+        (ap (map (λ (f : File). f.name)) files_are ∙ names_kept k.archive k.now.marks old new k.now.shown)
+
     replace_leads : LeadsTo k planned (with_files (world_in k.archive k.now) then) a
     replace_leads =
         let ups = up k planned kept ascending a keeps in
@@ -140,12 +166,9 @@ module _ (k : Kept) (p : Planned) (old new : List ℕ) (rs : List Renewal) (mark
         file_leads k planned kept ascending a keeps [] (remaining k.archive then k.now.frames) then None [] _
         (hides_renewed a k.now.shown ups passes k.now.versions rs same level)
         (shows_renewed a k.now.shown ups passes k.now.versions rs same level)
-        below_then refl (omega arith) (count ∙ ap (λ ts. k.now.versions + length ts) texts) are_marks are_frames
+        few below_then refl (omega arith) (count ∙ ap (λ ts. k.now.versions + length ts) texts) are_marks are_frames
         tt (all-filter _ _ k.now.frames kept.there.frames)
-        (ap (files_of a) (shown_then a k.now.shown ups passes k.now.versions rs same level)
-        ∙ renewed_files k.archive a k.now.names k.now.versions (agree k planned kept ascending a keeps) k.now.marks old new
-        k.now.versions k.now.shown below_now held)
-        refl frames_same
+        files_are refl frames_same
 
   pub replace_planned : IsPlan k p (with_files (world_in k.archive k.now) (replaced_files old new (world_in k.archive k.now)))
   replace_planned =
