@@ -13,7 +13,6 @@ pub mod LookBackLemmas
 pub mod MarkedLines
 pub mod MarksAlong
 pub mod MarksValid
-pub mod MeterLemmas
 pub mod Moves
 pub mod NamedFile
 pub mod PlaceLemmas
