@@ -2,7 +2,8 @@
 use Rattle.std.proofs.Common.{◌≡◌, ◌∙◌, ◌≤◌, ◌+◌, ◌==◌, refl, sym, ap, ℕ, suc, Bool, true, false, List, [], ◌∷◌, ◌++◌, length, map, filter, not, ◌||◌, cond, arith, append_assoc, Option, None, Some}
 use Rattle.std.proofs.lemmas.Bool.{true≢false}
 use Rattle.std.proofs.lemmas.List.{map-append}
-use Rattle.std.specs.List.{AllByRecursion, list_any}
+use Rattle.std.specs.List.{AllByRecursion, flat_map, list_any}
+use Rattle.bstr.specs.Text.{lines_of}
 use Rattle.cb_scan.specs.Lines.{lines}
 use Rattle.cb_index.specs.Archived.{Archived}
 use Rattle.cb_index.specs.Files.{file_of, files_of}
@@ -11,13 +12,22 @@ use Rattle.cb_desk.specs.declared.spot.NumberedPlace.{NumberedPlace}
 use Rattle.cb_desk.specs.Desk.{bytes_in, is_marked, new_texts}
 use Rattle.cb_desk.specs.Marks.{is_too_large, marked_lines, replaced_file, replaced_files}
 use Rattle.cb_desk.specs.Places.{is_in}
-use Rattle.cb_desk.specs.Replacement.{replaced_text}
+use Rattle.cb_desk.specs.Replacement.{marked_from, replaced_if_marked, replaced_text}
 use Rattle.cb_desk.specs.World.{File, Place}
 use Rattle.cb_desk.specs.steps.Records.{Numbered, world_in}
 use Rattle.cb_desk.specs.steps.Replaced.{file_then, files_changed, files_then, has_mark, line_counts, places_in, texts_of}
-use Rattle.cb_desk.proofs.MarksAlong.{unmarked-text}
+use Rattle.cb_desk.proofs.MarkedLines.{bytes-of, first-part}
 
 -- ---- files without a mark
+nothing_marked : (old new : List ℕ) (first : ℕ) (ls : List (List ℕ)) → flat_map (replaced_if_marked old new) (marked_from [] first ls) ≡ first-part (marked_from [] first ls)
+nothing_marked old new first [] = refl
+nothing_marked old new first (l ∷ ls) = ap (λ bs. l ++ bs) (nothing_marked old new (first + 1) ls)
+
+-- a text without a marked line stays
+pub unmarked_text : (old new text : List ℕ) → replaced_text old new [] text ≡ text
+unfolding replaced_text
+unmarked_text old new text = nothing_marked old new 1 (lines_of text) ∙ bytes-of [] text
+
 none_in : (name : List ℕ) (marks : List Place) → list_any (is_in name) marks ≡ false → marked_lines name marks ≡ []
 none_in name [] none = refl
 none_in name (m ∷ marks) none =
@@ -40,7 +50,7 @@ marked_any name (m ∷ marks) =
 pub unmarked_file : (old new : List ℕ) (marks : List Place) (f : File) → is_marked marks f ≡ false → replaced_file old new marks f ≡ f
 unmarked_file old new marks f none =
     ap (λ ns. record f { bytes = replaced_text old new ns f.bytes }) (none_in f.name marks none)
-    ∙ ap (λ bs. record f { bytes = bs }) (unmarked-text old new f.bytes)
+    ∙ ap (λ bs. record f { bytes = bs }) (unmarked_text old new f.bytes)
 
 -- ---- in numbers
 module _ (a : Archived) (marks : List NumberedPlace) (old new : List ℕ) where

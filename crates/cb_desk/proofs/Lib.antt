@@ -11,7 +11,6 @@ pub mod HeldRows
 pub mod LineTexts
 pub mod LookBackLemmas
 pub mod MarkedLines
-pub mod MarksAlong
 pub mod MarksValid
 pub mod MeterLemmas
 pub mod Moves

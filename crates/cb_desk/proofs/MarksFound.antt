@@ -6,6 +6,7 @@ use Rattle.std.proofs.lemmas.Map.Text.{is_eq-slice_cmp}
 use Rattle.std.specs.Cmp.Lexicographic.{slice_cmp}
 use Rattle.std.specs.List.{AllByRecursion, AllWithin, prefix_len}
 use Rattle.std.specs.List.Sorted.{IsPartitionedBy, IsStrictlySortedBy}
+use Rattle.std.specs.Ordering.{ordering_then}
 use Rattle.cb_index.specs.Archived.{Archived, name_of}
 use Rattle.cb_desk.specs.declared.spot.NumberedPlace.{NumberedPlace}
 use Rattle.cb_desk.specs.Marks.{marked_lines}
@@ -13,12 +14,48 @@ use Rattle.cb_desk.specs.Places.{is_in}
 use Rattle.cb_desk.specs.World.{AreAscending, Place, place_key}
 use Rattle.cb_desk.specs.steps.Records.{place_in}
 use Rattle.cb_desk.specs.steps.Replaced.{places_in}
-use Rattle.cb_desk.proofs.MarksAlong.{NotAfter, append-nothing, less-apart, less-then, lines-strict, none-left, not-after, strictly}
-use Rattle.cb_desk.proofs.PlaceLemmas.{same-name}
+use Rattle.cb_desk.proofs.PlaceLemmas.{name-same, same-name}
+use Rattle.cb_desk.proofs.PlaceOrder.{cmp-places, name-equal}
 use Rattle.cb_desk.proofs.Placed.{less-from}
 use Rattle.cb_desk.proofs.Valid.{all-passed}
 
 -- ---- names
+-- of two places in order the first one's file does not come after the other's
+abbrev NotAfter : List ℕ → List ℕ → Type 0
+NotAfter a b = slice_cmp nat_cmp a b ≢ Greater
+
+then_not_after : (o p : Ordering) → ordering_then o p ≡ Less → o ≢ Greater
+then_not_after Less p e k = cc
+then_not_after Equal p e k = cc
+then_not_after Greater p e k = cc
+
+not_after : (p q : Place) → slice_cmp nat_cmp (place_key p) (place_key q) ≡ Less → NotAfter p.file q.file
+not_after p q less = then_not_after _ (nat_cmp p.line q.line) (sym (cmp-places p.file q.file p.line q.line) ∙ less)
+
+less_apart : (a b : List ℕ) → slice_cmp nat_cmp a b ≡ Less → bytes_eq b a ≡ false
+less_apart a b less =
+    (elim (bytes_eq b a) as (λ e. bytes_eq b a ≡ e → e ≡ false) [
+      | true ↦ λ h. let same : slice_cmp nat_cmp a a ≡ Less = subst (λ n. slice_cmp nat_cmp a n ≡ Less) (same-name b a h) less in let equal = name-equal a in cc
+      | false ↦ λ h. refl
+    ]) refl
+
+-- a name that does not come before another and is not that name comes after it
+strictly : (a b : List ℕ) → NotAfter a b → bytes_eq b a ≡ false → slice_cmp nat_cmp a b ≡ Less
+strictly a b low other = by_cases (slice_cmp nat_cmp a b) refl
+  where
+    by_cases : (o : Ordering) → slice_cmp nat_cmp a b ≡ o → slice_cmp nat_cmp a b ≡ Less
+    by_cases Less e = e
+    by_cases Equal e = let same = is_eq-slice_cmp a b in let yes_eq : bytes_eq a b ≡ true = sym same ∙ ap is_eq e in let back : bytes_eq b a ≡ true = ap (bytes_eq b) (same-name a b yes_eq) ∙ name-same b in cc
+    by_cases Greater e = absurd (low e)
+
+less_then : (a b c : List ℕ) → slice_cmp nat_cmp a b ≡ Less → NotAfter b c → slice_cmp nat_cmp a c ≡ Less
+less_then a b c less low = by_cases (slice_cmp nat_cmp b c) refl
+  where
+    by_cases : (o : Ordering) → slice_cmp nat_cmp b c ≡ o → slice_cmp nat_cmp a c ≡ Less
+    by_cases Less e = nat_list_cmp_total.trans a b c less e
+    by_cases Equal e = let same = is_eq-slice_cmp b c in let yes_eq : bytes_eq b c ≡ true = sym same ∙ ap is_eq e in subst (λ n. slice_cmp nat_cmp a n ≡ Less) (same-name b c yes_eq) less
+    by_cases Greater e = absurd (low e)
+
 lower_differs : (o : Ordering) → is_lt o ≡ true → is_eq o ≡ false
 lower_differs Less e = refl
 lower_differs Equal e = cc
@@ -45,6 +82,24 @@ no_lower x y isnt after = turned (slice_cmp nat_cmp x y) refl
         cc
     turned Greater e =
         let back = nat_list_cmp_total.antisymm x y in cc
+
+-- ---- marks of one file
+none_left : (name : List ℕ) (marks : List Place) → AllByRecursion (λ p. is_in name p ≡ false) marks → filter (is_in name) marks ≡ []
+none_left name [] all = refl
+none_left name (p ∷ marks) all = rw all.0 (none_left name marks all.1)
+
+lines_later : (name : List ℕ) (p : Place) (mine : List Place) → is_in name p ≡ true → AllByRecursion (λ q. is_in name q ≡ true) mine → AllByRecursion (λ q. slice_cmp nat_cmp (place_key p) (place_key q) ≡ Less) mine → AllByRecursion (λ m. nat_cmp p.line m ≡ Less) (map (λ q. q.line) mine)
+lines_later name p [] here all less = tt
+lines_later name p (q ∷ mine) here all less =
+    let same : q.file ≡ p.file = same-name q.file name all.0 ∙ sym (same-name p.file name here) in
+    let by_line : ordering_then (slice_cmp nat_cmp p.file q.file) (nat_cmp p.line q.line) ≡ Less = sym (cmp-places p.file q.file p.line q.line) ∙ less.0 in
+    (ap (λ o. ordering_then o (nat_cmp p.line q.line)) (sym (ap (slice_cmp nat_cmp p.file) same ∙ name-equal p.file)) ∙ by_line, lines_later name p mine here all.1 less.1)
+
+lines_strict : (name : List ℕ) (mine : List Place) → AllByRecursion (λ q. is_in name q ≡ true) mine → AreAscending mine
+    → IsStrictlySortedBy nat_cmp (map (λ q. q.line) mine)
+unfolding IsStrictlySortedBy
+lines_strict name [] all up = tt
+lines_strict name (p ∷ mine) all up = (lines_later name p mine all.0 all.1 up.0, lines_strict name mine all.1 up.1)
 
 -- ---- lists
 all_from : {X : Type 0} (P : X → Type 0) (xs : List X) (i : ℕ) → AllWithin P xs i (length xs) → AllByRecursion P (drop i xs)
@@ -79,7 +134,7 @@ module _ (a : Archived) (name : List ℕ) where
   marks_parted (m ∷ ms) up zero (suc j) d le within is =
       let later = all_at (Later (place_in a m)) ms j d up.0 (omega (arith, within)) in
       ap is_lt (lower_first (name_of a m.name) (name_of a (get_or ms j d).name) name
-      (not-after (place_in a m) (place_in a (get_or ms j d)) later) (less-from _ is))
+      (not_after (place_in a m) (place_in a (get_or ms j d)) later) (less-from _ is))
   marks_parted (m ∷ ms) up (suc i) zero d le within is = absurd (omega (arith, le))
   marks_parted (m ∷ ms) up (suc i) (suc j) d le within is = marks_parted ms up.1 i j d (omega (arith, le)) (omega (arith, within)) is
 
@@ -104,8 +159,8 @@ module _ (a : Archived) (name : List ℕ) where
       → AllByRecursion (Later (place_in a m)) (places_in a ms) → AllByRecursion (λ q. is_in name q ≡ false) (places_in a ms)
   all_out m [] above all = tt
   all_out m (n ∷ ms) above all = (
-    less-apart name (name_of a n.name)
-        (less-then name (name_of a m.name) (name_of a n.name) above (not-after (place_in a m) (place_in a n) all.0)),
+    less_apart name (name_of a n.name)
+        (less_then name (name_of a m.name) (name_of a n.name) above (not_after (place_in a m) (place_in a n) all.0)),
     all_out m ms above all.1,
   )
 
@@ -128,7 +183,7 @@ module _ (a : Archived) (name : List ℕ) where
       by_test false is later =
           let higher : slice_cmp nat_cmp name (name_of a m.name) ≡ Less =
           strictly name (name_of a m.name) (no_lower (name_of a m.name) name above.0) is in
-          rw is (ap (map (λ (p : Place). p.line)) (sym (none-left name (places_in a ms) (all_out m ms higher up.0))))
+          rw is (ap (map (λ (p : Place). p.line)) (sym (none_left name (places_in a ms) (all_out m ms higher up.0))))
 
   -- the marks of the file
   module _ (ms : List NumberedPlace) (up : AreAscending (places_in a ms)) (i : ℕ) (within : i ≤ length ms)
@@ -141,6 +196,5 @@ module _ (a : Archived) (name : List ℕ) where
   -- their lines ascend
   pub lines_rise : (places : List Place) → AreAscending places → IsStrictlySortedBy nat_cmp (marked_lines name places)
   lines_rise places up =
-      lines-strict name (filter (is_in name) places) [] (all-passed (is_in name) places)
-      (subst AreAscending (sym (append-nothing (filter (is_in name) places)))
-      (IsStrictlySortedBy-filter (λ (p q : Place). slice_cmp nat_cmp (place_key p) (place_key q)) (is_in name) places up))
+      lines_strict name (filter (is_in name) places) (all-passed (is_in name) places)
+      (IsStrictlySortedBy-filter (λ (p q : Place). slice_cmp nat_cmp (place_key p) (place_key q)) (is_in name) places up)
