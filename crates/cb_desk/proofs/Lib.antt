@@ -12,7 +12,6 @@ pub mod LineTexts
 pub mod LookBackLemmas
 pub mod MarkedLines
 pub mod MarksValid
-pub mod MeterLemmas
 pub mod Moves
 pub mod NamedFile
 pub mod PlaceLemmas
