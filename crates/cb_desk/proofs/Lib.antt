@@ -1,6 +1,5 @@
 pub mod AnswerRows
 pub mod BytesEqual
-pub mod Counting
 pub mod DefinitionPlaces
 pub mod EqualRows
 pub mod EditLemmas
@@ -26,7 +25,6 @@ pub mod TagOrder
 pub mod TextLines
 pub mod TextRowsApart
 pub mod TextRowsFew
-pub mod Texts
 pub mod Unindented
 pub mod Valid
 pub mod TurnLemmas
