@@ -4,7 +4,7 @@ use Rattle.cb_index.specs.Files.{file_of, files_of}
 use Rattle.cb_desk.specs.Files.{renamed}
 use Rattle.cb_desk.specs.steps.Plans.{IsPlan}
 use Rattle.cb_desk.specs.steps.Records.{world_in}
-use Rattle.cb_desk.specs.steps.Shared.{file_named}
+use Rattle.cb_desk.specs.steps.Named.{file_named}
 use Rattle.cb_desk.proofs.PlacePlans.{ok_along}
 use Rattle.cb_desk.proofs.TagPlans.{has_that_name}
 use Rattle.cb_desk.proofs.present.Present.plan_to_rename.Goals as goal
