@@ -1,16 +1,16 @@
-use Rattle.std.proofs.Common.{rules, ◌≡◌, ◌≤◌, ◌-◌, ◌^◌, ◌∙◌, ap, arith, length, nat_le, refl, subst, sym, Err, ℕ}
+use Rattle.std.proofs.Common.{rules, ◌≡◌, ◌≤◌, ◌<◌, ◌-◌, ◌^◌, ◌∙◌, ap, arith, length, nat_le, refl, subst, sym, Err, ℕ}
 use Rattle.cb_desk.specs.declared.limits.TheConstants.{MOST_CHANGES}
 use Rattle.cb_desk.specs.declared.refusal.Refusal.TheVariants.{OutOfMemory}
 use Rattle.cb_desk.specs.Desk.{DeskState, counted, scanned}
 use Rattle.cb_desk.specs.Models.{step_of}
 use Rattle.cb_desk.specs.Step.{after}
-use Rattle.cb_desk.specs.Timeline.{Timeline, moved_on}
+use Rattle.cb_desk.specs.Timeline.{IsValidTimeline, Timeline, moved_on}
 use Rattle.cb_desk.specs.World.{IsValidWorld, World}
 use Rattle.cb_desk.specs.steps.Plans.{IsPlan}
 use Rattle.cb_desk.specs.steps.Records.{Kept, world_in}
 use Rattle.cb_desk.specs.steps.Walks.{timeline_in}
 use Rattle.cb_desk.proofs.Counted.{refused_after, refused_between, refused_counts}
-use Rattle.cb_desk.proofs.Moves.{refused, full, no-memory, valid-after, done}
+use Rattle.cb_desk.proofs.Moves.{refused, full, moved_on-valid, no-memory, valid-after, done}
 use Rattle.cb_desk.proofs.state.Desk.change.Goals as goal
 
 abbrev world_of : Kept → World
@@ -104,3 +104,25 @@ returns-clause-meter c =
     ap world_of c.present-present.ensures.value ∙ ap (λ (d : DeskState). d.timeline.present) c.self.view_is in
     let meter : c.self.inside.meter ≡ c.args.self.now.meter = ap (λ (d : DeskState). d.meter) c.self.view_is in
     rw (← meter, ← same) c.in_ok-plan.ensures.meter
+
+pub invariant_of-self-in_err-go : goal.invariant_of-self-in_err-go
+invariant_of-self-in_err-go c =
+    let w = world_of c.present-present.result.now in
+    let s = step_of c.args.change in
+    let plan = subst (λ (k : Kept). IsPlan k c.in_ok-plan.plan (after w s)) c.present-present.ensures.value c.in_ok-plan.ensures.plan in
+    subst IsValidTimeline (sym (c.in_err-go.ensures.timeline (after w s) plan)) c.self.invariant
+
+pub invariant_of-self-2 : goal.invariant_of-self-2
+invariant_of-self-2 c =
+    let h = c.self.inside.history in
+    let w = world_of c.present-present.result.now in
+    let s = step_of c.args.change in
+    let own : w ≡ world_of h.kept = ap world_of c.present-present.ensures.value in
+    let same = own ∙ ap (λ (d : DeskState). d.timeline.present) c.self.view_is in
+    let plan = subst (λ (k : Kept). IsPlan k c.in_ok-plan.plan (after w s)) c.present-present.ensures.value c.in_ok-plan.ensures.plan in
+    let valid : IsValidWorld w = subst IsValidWorld (sym own) c.present-present.ensures.valid.now in
+    let next = valid-after c.args.self.now.timeline s w same _ c.refusal_of.ensures c.in_default.not-Some (after w s) valid refl in
+    let long = c.is_full.ensures in
+    let is_short = c.if-is_full.false in
+    let short : length (timeline_in h).past < MOST_CHANGES = grind (arith, long, is_short) in
+    subst IsValidTimeline (sym (c.in_ok-go.ensures.timeline (after w s) plan)) (moved_on-valid (timeline_in h) (after w s) c.self.invariant next short)
