@@ -5,6 +5,7 @@ A person runs this by hand; no gate does, and nothing here passes or fails by it
 
     make && bench/scan.py
     bench/scan.py --cbrowse PATH      or: CBROWSE=PATH bench/scan.py
+    bench/scan.py --folder FOLDER --before PATH
 
 What is counted. `:load` takes the bytes over and finds where the lines begin, but does not scan; each query scans every
 loaded file afresh. So a session that loads one file and then asks `1NoSuchName` N times scans that file N times. Taken
@@ -23,6 +24,11 @@ Inputs, made anew and the same in each run, of at most 10,000, 100,000 and 1,000
 have), cut at the end of a line: ordinary code with includes, macros, typedefs, comments, strings and functions; one `{`
 after another; names; `#define` lines; CR LF alone; a comment that is never closed.
 
+With --folder one row more is of the C files in a folder, at most 4,096 of them that are no larger than a file may be: one
+session loads them all and asks N times, and a session that loads them and asks once is taken away. `ctags` takes the same
+files in one run. With --before the row also has the MB/s of another cbrowse, and those of this one as a multiple of it;
+runs of the programs take turns, so that other work on the machine slows each of them alike.
+
 Columns: MB/s of cbrowse; time per byte as a multiple of that at 10 KB (1.0 is linear); at 1 MB the MB/s of ctags and of
 cscope, each with the MB/s of cbrowse as a multiple of it.
 """
@@ -38,6 +44,8 @@ from measure import PATIENCE, installed, keep_to_one_core, processor_time, words
 SIZES = [("10 KB", 10_000), ("100 KB", 100_000), ("1 MB", 1_000_000)]
 SCANNED = 10_000_000  # bytes scanned by one session
 RUNS = 15
+MOST_BYTES, MOST_FILES = 1_000_000, 4_096  # of a session
+REAL_TIMES, REAL_RUNS = 3, 5
 
 QUERY = b"1NoSuchName\n"
 
@@ -170,6 +178,38 @@ def other_speed(words, folder, text):
     return speed(len(text), lambda: run("text.c"), lambda: run("empty.c"))
 
 
+def real_texts(folder):
+    """The C files of a folder and the folders in it, as many and as large as a session takes."""
+    paths = sorted(path for path in folder.rglob("*.[ch]") if path.is_file() and path.stat().st_size <= MOST_BYTES)
+    return [path.read_bytes() for path in paths[:MOST_FILES]]
+
+
+def real_row(programs, ctags, folder, texts):
+    """Speeds on real files: of each program that scans them in a session, and of ctags, runs taking turns."""
+    size = sum(len(text) for text in texts)
+    load = b"".join(b":load %d.c %d\n%s" % (number, len(text), text) for number, text in enumerate(texts))
+    sources = folder / "real"
+    sources.mkdir()
+    for number, text in enumerate(texts):
+        (sources / f"{number}.c").write_bytes(text)
+    (folder / "list").write_text("".join(f"real/{number}.c\n" for number in range(len(texts))))
+    best = {}
+
+    def note(key, seconds):
+        best[key] = min(best.get(key, seconds), seconds)
+
+    for _ in range(REAL_RUNS):
+        for program in programs:
+            note((program, "one"), processor_time([program, "line"], folder, load + QUERY))
+            note((program, "all"), processor_time([program, "line"], folder, load + QUERY * (1 + REAL_TIMES)))
+        if ctags:
+            note("ctags", processor_time(ctags + ["-L", "list"], folder))
+    speeds = [size * REAL_TIMES / (best[program, "all"] - best[program, "one"]) / 1e6 for program in programs]
+    if ctags:
+        speeds.append(size / best["ctags"] / 1e6)
+    return size, speeds
+
+
 def others():
     """The other programs that are installed, by name."""
     found = {}
@@ -182,9 +222,21 @@ def others():
 
 def main():
     options = argparse.ArgumentParser(description=__doc__, formatter_class=argparse.RawDescriptionHelpFormatter)
-    cbrowse = words_given(options).cbrowse
+    options.add_argument("--folder", type=pathlib.Path, help="a folder with C files to scan too")
+    options.add_argument("--before", help="another cbrowse to scan them with")
+    given = words_given(options)
+    cbrowse = given.cbrowse
     keep_to_one_core()
     found = others()
+    if given.folder:
+        texts = real_texts(given.folder)
+        programs = [cbrowse] + [str(pathlib.Path(given.before).resolve())] * bool(given.before)
+        with tempfile.TemporaryDirectory() as place:
+            size, speeds = real_row(programs, found.get("ctags"), pathlib.Path(place), texts)
+        names = ["cbrowse"] + ["before"] * bool(given.before) + ["ctags"] * ("ctags" in found)
+        print(f"{len(texts)} real files, {size / 1e6:.1f} MB: " + ", ".join(
+            f"{name} {speed:.1f} MB/s" + (f" (times {speeds[0] / speed:.2f})" if name != "cbrowse" else "")
+            for name, speed in zip(names, speeds)), flush=True)
     row = "{:<18}{:>8}{:>12}{:>12}" + "{:>12}{:>8}" * len(found)
     print(row.format("input", "size", "cbrowse", "per byte", *(word for name in found for word in (name, "times"))))
     with tempfile.TemporaryDirectory() as place:

@@ -1,5 +1,6 @@
 pub mod Counting
 pub mod Distinct
+pub mod FeedsCounted
 pub mod FilesApart
 pub mod FoundRows
 pub mod Gaps

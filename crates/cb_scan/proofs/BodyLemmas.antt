@@ -19,9 +19,9 @@ use Rattle.cb_scan.specs.rules.Functions.{close_from, function_at, functions}
 use Rattle.cb_scan.specs.rules.Scope.{function_range}
 use Rattle.cb_scan.specs.lex.Tokens.{is_mark, is_name_token}
 use Rattle.cb_scan.specs.rules.Uses.{call_at, call_of, calls_of_function, function_calls, is_call}
-use Rattle.cb_scan.specs.steps.Functions.{counts, start, found, is_after_linkage, next, next_body, next_depth, ends_all, closed, called, call_before, range_to, ranges_from, calls_from, function_here}
-use Rattle.cb_scan.specs.steps.Heads.{add, empty_head}
-use Rattle.cb_scan.proofs.FunctionLemmas.{step, depth_next, stops_is, found_is}
+use Rattle.cb_scan.specs.steps.Functions.{counts, start, found, is_after_linkage, next, next_body, next_depth, ends_all, closed, called, call_before, range_to, ranges_from, calls_from, function_here, grown}
+use Rattle.cb_scan.specs.steps.Heads.{empty_head}
+use Rattle.cb_scan.proofs.FunctionLemmas.{last_grown, step, depth_next, stops_is, found_is}
 use Rattle.cb_scan.proofs.Bodies.{last_at, InBody, close_step, close_end, close_bound, only_mark, no_name, and_left, and_right, stays_deep, place_of, open_calls, pending, def_name, ranges_here, calls_here, none_here, found_names, either}
 
 -- ---- one token
@@ -300,7 +300,7 @@ in_body_next : (text : List ℕ) (ts : List Token) (k : ℕ) (m : Machine) → k
 unfolding next
 in_body_next text ts k m within here = record {
   at = step ts k m here.at within;
-  last_is = (λ i. (if stops_is ts k m here.at i then empty_head else add m.head (token_at ts k)).last)
+  last_is = (λ i. (if stops_is ts k m here.at i then empty_head else grown m (token_at ts k)).last)
       ∙ last_of (is_stop ts k);
   deep = ⊎_elim (λ flat. subst Deep (sym (body_outside text ts k m within here flat)) (opened flat))
       (λ deep. by_end deep) (cases_Bool (depth ts k == 0));
@@ -309,10 +309,10 @@ in_body_next text ts k m within here = record {
     Deep : Option Span → Type 0
     Deep o = MatchOption o (Unit {0}) (λ _. 0 < depth ts (suc k))
 
-    last_of : (b : Bool) → (if b then empty_head else add m.head (token_at ts k)).last
+    last_of : (b : Bool) → (if b then empty_head else grown m (token_at ts k)).last
         ≡ (if b then None else Some (token_at ts k))
     last_of true = refl
-    last_of false = refl
+    last_of false = last_grown m (token_at ts k)
 
     opened : (depth ts k == 0) ≡ true
         → MatchOption (option_map def_name (found m (token_at ts k))) (Unit {0}) (λ _. 0 < depth ts (suc k))
@@ -431,7 +431,7 @@ module _ (text : List ℕ) (ts : List Token) where
   start_in_body : InBody ts 0 start
   unfolding depth head_start
   start_in_body = record {
-    at = record { depth_is = refl; linkage_is = refl; extern_is = refl; head_is = refl; empty_is = refl; opened_is = refl };
+    at = record { depth_is = refl; linkage_is = refl; extern_is = refl; head_is = λ _. refl; empty_is = refl; opened_is = refl };
     last_is = refl;
     deep = tt;
   }

@@ -37,7 +37,7 @@ use Rattle.cb_scan.proofs.StructureLemmas.{all_structures, structure_name}
 use Rattle.cb_scan.proofs.TypedefsWithin.{SpanWithin, at_any, all_typedefs}
 
 -- ---- order
-all_put : {X : Type 0} (key : X → List ℕ) (Q : X → Type 0) (x : X) (ys : List X) → Q x → AllByRecursion Q ys
+pub all_put : {X : Type 0} (key : X → List ℕ) (Q : X → Type 0) (x : X) (ys : List X) → Q x → AllByRecursion Q ys
     → AllByRecursion Q (put key x ys)
 unfolding put
 all_put key Q x [] q a = (q, tt)
@@ -45,7 +45,7 @@ all_put key Q x (y ∷ ys) q a =
     elim (goes_first key x y) as (λ b. AllByRecursion Q (cond b (x ∷ y ∷ ys) (y ∷ put key x ys)))
     [ true ↦ (q, a) | false ↦ (a.0, all_put key Q x ys q a.1) ]
 
-all_in_order : {X : Type 0} (key : X → List ℕ) (Q : X → Type 0) (xs : List X) → AllByRecursion Q xs
+pub all_in_order : {X : Type 0} (key : X → List ℕ) (Q : X → Type 0) (xs : List X) → AllByRecursion Q xs
     → AllByRecursion Q (in_order key xs)
 unfolding in_order
 all_in_order key Q [] a = tt

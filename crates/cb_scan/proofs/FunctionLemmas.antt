@@ -1,5 +1,5 @@
 -- The one pass finds the functions that depth, stops and heads define.
-use Rattle.std.proofs.Common.{◌≡◌, ◌∙◌, ℕ, zero, suc, ◌+◌, ◌<◌, ◌≤◌, Bool, true, false, List, [], ◌∷◌, ◌++◌, Option, Some, None, refl, sym, ap, subst, fold, length, take, drop, map, arith, length-drop, add-one, length-take-le}
+use Rattle.std.proofs.Common.{◌≡◌, ◌∙◌, ℕ, zero, suc, ◌+◌, ◌<◌, ◌≤◌, Bool, true, false, List, [], ◌∷◌, ◌++◌, Option, Some, None, refl, sym, ap, subst, fold, length, take, drop, map, ◌-◌, arith, length-drop, add-one, length-take-le}
 use Rattle.std.proofs.Math.Seq.{take-suc}
 use Rattle.std.proofs.lemmas.List.{drop-append-le, drop_all, drop_more, map-append}
 use Rattle.std.proofs.lemmas.List.Sums.{fold-append}
@@ -15,14 +15,14 @@ use Rattle.cb_scan.specs.declared.lex.token.Role.TheVariants.{Word, Mark, Str, O
 use Rattle.cb_scan.specs.declared.lex.token.WordKind.TheVariants.{Name, Define, Include, Typedef, Static, Struct, Union, Enum, Reserved}
 use Rattle.cb_scan.specs.declared.lex.token.WordKind.TheVariants as kind
 use Rattle.std.proofs.Math.Bool.{and-false}
-use Rattle.std.proofs.lemmas.Bool.{eq-eqb, eqb-true, false_from_ne_true}
+use Rattle.std.proofs.lemmas.Bool.{eq-eqb, eqb-true, false_from_ne_true, false≢true, true≢false}
 use Rattle.cb_scan.specs.lex.Tokens.{is_mark, is_extern, is_str}
 use Rattle.cb_scan.specs.rules.Depth.{depth, head_start, is_counted, is_stop, token_at, no_token, follows_linkage, depth_after}
 use Rattle.cb_scan.specs.rules.Functions.{function_at, function_from, functions, signature}
 use Rattle.cb_scan.specs.rules.Heads.{Signature, defined_name, head, signed}
 use Rattle.cb_scan.specs.rules.OldStyle.{old_signature}
 use Rattle.cb_scan.specs.Definitions.{function_def}
-use Rattle.cb_scan.specs.steps.Functions.{start, next, next_depth, stops, found, function_here, defs_from, is_after_linkage, is_after_extern}
+use Rattle.cb_scan.specs.steps.Functions.{start, next, next_depth, stops, found, function_here, grown, defs_from, is_after_linkage, is_after_extern}
 use Rattle.cb_scan.specs.steps.Heads.{add, defined, empty_head, next_opened}
 use Rattle.cb_scan.proofs.HeadLemmas.{defined_of, signature_def}
 use Rattle.cb_scan.proofs.OldStyleLemmas.{opened_next}
@@ -37,7 +37,7 @@ pub record IsAt (ts : List Token) (k : ℕ) (m : Machine) : Type 0 where
   pub depth_is : m.depth ≡ depth ts k
   pub linkage_is : is_after_linkage m.before ≡ follows_linkage ts k
   pub extern_is : is_after_extern m.before ≡ follows_extern ts k
-  pub head_is : m.head ≡ fold add empty_head (head ts k)
+  pub head_is : (depth ts k == 0) ≡ true → m.head ≡ fold add empty_head (head ts k)
   pub empty_is : is_none m.head.last ≡ (head_start ts k == k)
   pub opened_is : m.opened ≡ option_map signature_def (old_signature ts k)
 
@@ -105,6 +105,35 @@ head_goes_on ts k false within =
     ∙ ap (fold add empty_head) (sym (drop-append-le (head_start ts k) (take k ts) (token_at ts k ∷ []) long))
     ∙ ap (λ l. fold add empty_head (drop (head_start ts k) l)) (sym (take-suc ts k no_token within))
 
+-- a token that is no stop and after which the depth is 0 was at depth 0
+some_true : (x e y : Bool) → e ≡ true → (x || e || y) ≡ true
+some_true true e y is = refl
+some_true false e y is = ap (λ z. z || y) is
+
+flat_before : (x y c b l : Bool) (d : ℕ)
+    → (x || (b && (if c then d + 1 else (if b then (if l then 0 else d - 1) else d)) == 0) || y) ≡ false
+    → ((if c then d + 1 else (if b then (if l then 0 else d - 1) else d)) == 0) ≡ true → (d == 0) ≡ true
+flat_before x y true b l d goes_on flat = let none : d + 1 ≡ 0 = eqb-true (d + 1) 0 flat in absurd (omega arith)
+flat_before x y false false l d goes_on flat = flat
+flat_before x y false true l d goes_on flat =
+    absurd (true≢false (sym (some_true x ((if l then 0 else d - 1) == 0) y flat) ∙ goes_on))
+
+-- a `;` that is a stop is at depth 0
+flat_at_semicolon : (r : Role) (a b c : Bool)
+    → ((is_mark 59 r && a) || (is_mark 125 r && b) || (is_mark 123 r && c)) ≡ true → is_mark 59 r ≡ true → a ≡ true
+flat_at_semicolon (Word w) a b c stop semi = absurd (false≢true semi)
+flat_at_semicolon Str a b c stop semi = absurd (false≢true semi)
+flat_at_semicolon Other a b c stop semi = absurd (false≢true semi)
+flat_at_semicolon (Mark x) true b c stop semi = refl
+flat_at_semicolon (Mark x) false b c stop semi =
+    absurd (false≢true (subst (λ y. ((y == 59 && false) || (y == 125 && b) || (y == 123 && c)) ≡ true)
+    (eqb-true x 59 semi) stop))
+
+-- whatever the depth, the last token is kept
+pub last_grown : (m : Machine) (t : Token) → (grown m t).last ≡ Some t
+last_grown m t = elim (m.depth == 0) as (λ b. (if b then add m.head t else record m.head { last = Some t }).last ≡ Some t)
+    [ true ↦ refl | false ↦ refl ]
+
 module _ (ts : List Token) (k : ℕ) (m : Machine) (at : IsAt ts k m) where
   pub depth_next : next_depth m (token_at ts k) ≡ depth ts (suc k)
   unfolding depth
@@ -119,31 +148,55 @@ module _ (ts : List Token) (k : ℕ) (m : Machine) (at : IsAt ts k m) where
 
   -- a token later
   pub step : k < length ts → IsAt ts (suc k) (next m (token_at ts k))
-  unfolding next head_start
+  unfolding depth next head_start
   step within = record {
     depth_is = depth_next;
     linkage_is = linkage_after m.before (token_at ts k).role ∙ ap (λ b. b && is_str (token_at ts k).role) at.extern_is
         ∙ follows_after ts k;
     extern_is = extern_after m.before (token_at ts k).role;
-    head_is = (λ i. if stops_is i then empty_head else add (at.head_is i) (token_at ts k))
-        ∙ head_goes_on ts k (is_stop ts k) within;
-    empty_is = (λ i. is_none (if stops_is i then empty_head else add m.head (token_at ts k)).last)
+    head_is = λ flat. (λ i. if stops_is i then empty_head else grown m (token_at ts k))
+        ∙ head_after (is_stop ts k) refl flat;
+    empty_is = (λ i. is_none (if stops_is i then empty_head else grown m (token_at ts k)).last)
         ∙ by_stop (is_stop ts k);
     opened_is = (λ i. if stops_is i then (if is_mark 59 (token_at ts k).role
-        then next_opened (at.head_is i) (at.opened_is i) else None) else at.opened_is i) ∙ opened_next ts k;
+        then next_opened m.head (at.opened_is i) else None) else at.opened_is i)
+        ∙ head_at_stop (is_stop ts k) (is_mark 59 (token_at ts k).role) refl refl ∙ opened_next ts k;
   }
     where
-      by_stop : (b : Bool) → is_none (if b then empty_head else add m.head (token_at ts k)).last
+      -- the head counts at depth 0 alone
+      head_after : (b : Bool) → is_stop ts k ≡ b → (depth ts (suc k) == 0) ≡ true
+          → (if b then empty_head else grown m (token_at ts k))
+          ≡ fold add empty_head (drop (if b then suc k else head_start ts k) (take (suc k) ts))
+      head_after true is flat = head_goes_on ts k true within
+      head_after false is flat =
+          let before : (depth ts k == 0) ≡ true = flat_before _ _ (is_counted ts k)
+          (is_mark 125 (token_at ts k).role) (token_at ts k).starts_line (depth ts k) is flat in
+          (λ i. if (ap (λ d. d == 0) at.depth_is ∙ before) i then add (at.head_is before i) (token_at ts k)
+          else record m.head { last = Some (token_at ts k) })
+          ∙ head_goes_on ts k false within
+
+      head_at_stop : (s b : Bool) → is_stop ts k ≡ s → is_mark 59 (token_at ts k).role ≡ b
+          → (if s then (if b then next_opened m.head (option_map signature_def (old_signature ts k)) else None)
+          else option_map signature_def (old_signature ts k))
+          ≡ (if s then (if b then next_opened (fold add empty_head (head ts k))
+          (option_map signature_def (old_signature ts k)) else None)
+          else option_map signature_def (old_signature ts k))
+      head_at_stop true true stop semi = ap (λ h. next_opened h (option_map signature_def (old_signature ts k)))
+          (at.head_is (flat_at_semicolon (token_at ts k).role _ _ _ stop semi))
+      head_at_stop true false stop semi = refl
+      head_at_stop false b stop semi = refl
+
+      by_stop : (b : Bool) → is_none (if b then empty_head else grown m (token_at ts k)).last
           ≡ ((if b then suc k else head_start ts k) == suc k)
       by_stop true = sym (eq-eqb (suc k) (suc k) refl)
-      by_stop false = sym (false_from_ne_true (head_start ts k == suc k)
+      by_stop false = ap is_none (last_grown m (token_at ts k)) ∙ sym (false_from_ne_true (head_start ts k == suc k)
           (λ e. let equal : head_start ts k ≡ suc k =
           eqb-true (head_start ts k) (suc k) e in absurd (omega (arith, head_start_le ts k))))
 
-  -- the function that a `{` opens here
-  here_is : function_here m ≡ option_map signature_def (signature ts k)
-  here_is =
-      (λ i. if at.empty_is i then at.opened_is i else (ap defined at.head_is ∙ defined_of (head ts k)) i)
+  -- the function that a `{` at depth 0 opens here
+  here_is : (depth ts k == 0) ≡ true → function_here m ≡ option_map signature_def (signature ts k)
+  here_is flat =
+      (λ i. if at.empty_is i then at.opened_is i else (ap defined (at.head_is flat) ∙ defined_of (head ts k)) i)
       ∙ elim (head_start ts k == k) as (λ b. (if b then option_map signature_def (old_signature ts k)
       else option_map signature_def (signed (head ts k) (defined_name (head ts k))))
       ≡ option_map signature_def (if b then old_signature ts k else signed (head ts k) (defined_name (head ts k))))
@@ -153,15 +206,20 @@ module _ (ts : List Token) (k : ℕ) (m : Machine) (at : IsAt ts k m) where
   pub found_is : option_to_list (found m (token_at ts k)) ≡ map function_def (function_at ts k)
   found_is =
       (λ i. option_to_list (if (is_mark 123 (token_at ts k).role && not (at.linkage_is i)) && at.depth_is i == 0
-      then here_is i else None))
-      ∙ defs_at (is_counted ts k && depth ts k == 0) (signature ts k)
+      then function_here m else None))
+      ∙ by_depth (is_counted ts k) (depth ts k == 0) refl
     where
-      defs_at : (b : Bool) (o : Option Signature)
-          → option_to_list (if b then option_map signature_def o else None)
-          ≡ map function_def (if b then function_from ts k o else [])
-      defs_at true None = refl
-      defs_at true (Some s) = refl
-      defs_at false o = refl
+      one : (o : Option Signature)
+          → option_to_list (option_map signature_def o) ≡ map function_def (function_from ts k o)
+      one None = refl
+      one (Some s) = refl
+
+      by_depth : (c flat : Bool) → (depth ts k == 0) ≡ flat
+          → option_to_list (if c && flat then function_here m else None)
+          ≡ map function_def (if c && flat then function_from ts k (signature ts k) else [])
+      by_depth true true is = ap option_to_list (here_is is) ∙ one (signature ts k)
+      by_depth true false is = refl
+      by_depth false flat is = refl
 
 -- the pass from token k on finds the functions from there on
 from : (ts : List Token) (k : ℕ) (m : Machine) (rest : List Token) → drop k ts ≡ rest → IsAt ts k m
@@ -185,4 +243,4 @@ from ts k m (t ∷ rest) left at =
 pub defs_from_start : (ts : List Token) → defs_from start ts ≡ map function_def (functions ts)
 unfolding depth head_start
 defs_from_start ts = from ts 0 start ts refl
-    (record { depth_is = refl; linkage_is = refl; extern_is = refl; head_is = refl; empty_is = refl; opened_is = refl })
+    (record { depth_is = refl; linkage_is = refl; extern_is = refl; head_is = λ _. refl; empty_is = refl; opened_is = refl })

@@ -1,3 +1,4 @@
+pub mod BlankRun
 pub mod Blocks
 pub mod Bodies
 pub mod BodyLemmas
@@ -6,7 +7,7 @@ pub mod CodeLines
 pub mod Cuts
 pub mod DeclarationLemmas
 pub mod FactsWithin
-pub mod FeedsCounted
+pub mod FeedLanes
 pub mod FunctionLemmas
 pub mod FunctionsRise
 pub mod GatherLemmas
@@ -14,11 +15,16 @@ pub mod HeadLemmas
 pub mod InOrder
 pub mod IncludeLines
 pub mod Lengths
+pub mod KeyLaws
+pub mod KeyOrder
+pub mod KeyPlaces
+pub mod KeyPostings
 pub mod LineLemmas
 pub mod LineTable
 pub mod LinedPieces
 pub mod Literals
 pub mod MacroLines
+pub mod Merging
 pub mod OldStyleLemmas
 pub mod OrderLemmas
 pub mod PieceLists

@@ -58,7 +58,7 @@ module _ (a b c : List ℕ) where
       by_cases Equal e is = (bytes_eq-Decides a b).0 (sym (is_eq-slice_cmp a b) ∙ ap is_eq e)
       by_cases Greater e is = absurd (false≢true is)
 
-  first_trans : not (is_gt (Keys a b)) ≡ true → not (is_gt (Keys b c)) ≡ true → not (is_gt (Keys a c)) ≡ true
+  pub first_trans : not (is_gt (Keys a b)) ≡ true → not (is_gt (Keys b c)) ≡ true → not (is_gt (Keys a c)) ≡ true
   first_trans ab bc = by_cases (Keys a b) (Keys b c) refl refl ab bc
     where
       by_cases : (o p : Ordering) → Keys a b ≡ o → Keys b c ≡ p → not (is_gt o) ≡ true → not (is_gt p) ≡ true
@@ -91,7 +91,7 @@ Sorted key [] = Unit {0}
 Sorted key (x ∷ xs) = AllByRecursion (λ y. goes_first key x y ≡ true) xs × Sorted key xs
 
 module _ {X : Type 0} (key : X → List ℕ) where
-  all_first : (x y : X) (ys : List X) → goes_first key x y ≡ true → AllByRecursion (λ z. goes_first key y z ≡ true) ys
+  pub all_first : (x y : X) (ys : List X) → goes_first key x y ≡ true → AllByRecursion (λ z. goes_first key y z ≡ true) ys
       → AllByRecursion (λ z. goes_first key x z ≡ true) ys
   all_first x y [] le a = tt
   all_first x y (z ∷ zs) le a = (first_trans (key x) (key y) (key z) le a.0, all_first x y zs le a.1)
@@ -121,7 +121,7 @@ module _ {X : Type 0} (key : X → List ℕ) where
   in_order_sorted (x ∷ xs) = put_sorted x (in_order key xs) (in_order_sorted xs)
 
   -- the elements stay, each as often
-  put_sum : (f : X → ℕ) (x : X) (ys : List X) → sum_by f (put key x ys) ≡ f x + sum_by f ys
+  pub put_sum : (f : X → ℕ) (x : X) (ys : List X) → sum_by f (put key x ys) ≡ f x + sum_by f ys
   unfolding put
   put_sum f x [] = sum_by-cons f x []
   put_sum f x (y ∷ ys) =
@@ -131,7 +131,7 @@ module _ {X : Type 0} (key : X → List ℕ) where
       ]
       ∙ ap (λ n. f x + n) (sym (sum_by-cons f y ys))
 
-  in_order_sum : (f : X → ℕ) (xs : List X) → sum_by f (in_order key xs) ≡ sum_by f xs
+  pub in_order_sum : (f : X → ℕ) (xs : List X) → sum_by f (in_order key xs) ≡ sum_by f xs
   unfolding in_order
   in_order_sum f [] = refl
   in_order_sum f (x ∷ xs) =
@@ -174,7 +174,7 @@ module _ {X : Type 0} (key : X → List ℕ) where
       one_there false is = refl
 
   module _ (exact : (x y : X) → key x ≡ key y → x ≡ y) where
-    unique : (xs ys : List X) → Sorted key xs → Sorted key ys → ((f : X → ℕ) → sum_by f xs ≡ sum_by f ys) → xs ≡ ys
+    pub unique : (xs ys : List X) → Sorted key xs → Sorted key ys → ((f : X → ℕ) → sum_by f xs ≡ sum_by f ys) → xs ≡ ys
     unique [] [] s t same = refl
     unique [] (y ∷ ys) s t same = absurd (omega (arith, same (λ _. 1), sum_by-cons (λ (_ : X). 1) y ys))
     unique (x ∷ xs) [] s t same = absurd (omega (arith, same (λ _. 1), sum_by-cons (λ (_ : X). 1) x xs))

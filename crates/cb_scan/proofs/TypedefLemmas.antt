@@ -14,11 +14,11 @@ use Rattle.cb_scan.specs.Definitions.{typedef_def}
 use Rattle.cb_scan.specs.rules.Depth.{depth, head_start, is_stop, token_at, no_token}
 use Rattle.cb_scan.specs.lex.Tokens.{is_mark, is_typedef}
 use Rattle.cb_scan.specs.rules.Typedefs.{begins_typedef, ends_declaration, taken, taken_at, typedef_at, typedef_names, typedef_stop, typedefs}
-use Rattle.cb_scan.specs.steps.Functions.{next, start}
-use Rattle.cb_scan.specs.steps.Heads.{add, empty_head}
+use Rattle.cb_scan.specs.steps.Functions.{grown, next, start}
+use Rattle.cb_scan.specs.steps.Heads.{empty_head}
 use Rattle.cb_scan.specs.steps.Typedefs.{after, all_names, begins, declaration_start, ends, name_of, names_out, next_declaration, next_pending, parts_at, takes, typedef_defs_from, typedefs_from}
 use Rattle.cb_scan.proofs.DeclarationLemmas.{names_after, names_from, names_of_typedef}
-use Rattle.cb_scan.proofs.FunctionLemmas.{IsAt, step, stops_is}
+use Rattle.cb_scan.proofs.FunctionLemmas.{IsAt, last_grown, step, stops_is}
 
 -- ---- where a declaration begins
 
@@ -48,14 +48,14 @@ at_head_next : (ts : List Token) (k : ℕ) (m : Machine) → k < length ts → A
 unfolding next head_start
 at_head_next ts k m within here = record {
   at = step ts k m here.at within;
-  empty_is = (λ i. is_none (if stops_is ts k m here.at i then empty_head else add m.head (token_at ts k)).last)
+  empty_is = (λ i. is_none (if stops_is ts k m here.at i then empty_head else grown m (token_at ts k)).last)
       ∙ by_stop (is_stop ts k);
 }
   where
-    by_stop : (b : Bool) → is_none (if b then empty_head else add m.head (token_at ts k)).last
+    by_stop : (b : Bool) → is_none (if b then empty_head else grown m (token_at ts k)).last
         ≡ ((if b then suc k else head_start ts k) == suc k)
     by_stop true = same (suc k)
-    by_stop false = before (head_start ts k) k (start_le ts k)
+    by_stop false = ap is_none (last_grown m (token_at ts k)) ∙ before (head_start ts k) k (start_le ts k)
 
 -- ---- the typedef that is open
 
@@ -268,7 +268,7 @@ pub typedefs_from_start : (ts : List Token) → typedefs_from start None [] ts �
 unfolding depth head_start
 typedefs_from_start ts =
     typedefs_are ts 0 start None [] ts refl
-    (record { at = record { depth_is = refl; linkage_is = refl; extern_is = refl; head_is = refl; empty_is = refl; opened_is = refl }; empty_is = refl })
+    (record { at = record { depth_is = refl; linkage_is = refl; extern_is = refl; head_is = λ _. refl; empty_is = refl; opened_is = refl }; empty_is = refl })
 
 -- the same as definitions
 defs_are : (m : Machine) (s : Option Declaration) (pending ts : List Token)

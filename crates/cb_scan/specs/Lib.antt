@@ -1,5 +1,7 @@
 pub mod Bytes
 pub mod Definitions
+pub mod FactKeys
+pub mod Keys
 pub mod Lines
 pub mod Order
 pub mod TextFacts

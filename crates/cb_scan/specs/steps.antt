@@ -1,10 +1,13 @@
+pub mod Ascending
 pub mod Cut
 pub mod Directives
 pub mod Functions
 pub mod Heads
+pub mod Keys
 pub mod Lanes
 pub mod LineStarts
 pub mod Lined
+pub mod Places
 pub mod Quote
 pub mod Scopes
 pub mod Structures

@@ -7,6 +7,7 @@
 
 mod facts;
 mod gather;
+mod keys;
 pub mod laws;
 mod lex;
 mod meter;
@@ -15,6 +16,9 @@ mod scanner;
 mod source;
 
 pub use facts::{Call, Def, Facts, Include, Kind, Use};
+pub use keys::facts::FactKeys;
+pub use keys::list::KeyList;
+pub use keys::place::key_prefix;
 pub use lex::cut::pieces;
 pub use lex::name::is_name;
 pub use lex::piece::{Class, Piece, Pieces, Span};

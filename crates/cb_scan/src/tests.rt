@@ -3,6 +3,7 @@ mod calls;
 mod files;
 mod functions;
 mod includes;
+mod keys;
 mod lines;
 mod macros;
 mod memory;

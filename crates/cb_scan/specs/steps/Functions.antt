@@ -7,6 +7,7 @@ use Rattle.cb_scan.specs.declared.rules.functions.Machine.{Machine}
 use Rattle.cb_scan.specs.declared.rules.functions.Before.{Before}
 use Rattle.cb_scan.specs.declared.rules.functions.Before.TheVariants.{Anything, Extern, Linkage}
 use Rattle.cb_scan.specs.declared.lex.piece.Span.{Span}
+use Rattle.cb_scan.specs.declared.rules.heads.Head.{Head}
 use Rattle.cb_scan.specs.declared.rules.scope.Range.{Range}
 use Rattle.cb_scan.specs.declared.lex.token.Token.{Token}
 use Rattle.cb_scan.specs.rules.Uses.{call_of, is_call}
@@ -68,12 +69,17 @@ next_open m t =
     if stops m t then (if is_mark semicolon t.role then next_opened m.head m.opened else None)
     else m.opened
 
+-- the head after a token that is no stop: deeper in braces only the last token counts, since a stop
+-- comes before the depth is 0 again
+abbrev pub grown : Machine → Token → Head
+grown m t = if m.depth == 0 then add m.head t else record m.head { last = Some t }
+
 -- the state after the token
 unfoldable pub next : Machine → Token → Machine
 next m t = record {
   depth = next_depth m t;
   before = before_after m.before t;
-  head = if stops m t then empty_head else add m.head t;
+  head = if stops m t then empty_head else grown m t;
   opened = next_open m t;
   body = next_body m t;
 }

@@ -1,5 +1,5 @@
 -- The scopes of places that come in order, range by range.
-use Rattle.std.specs.Prelude.{ℕ, nat_le, nat_lt, List, [], ◌∷◌, Option, Some, None, if◌then◌else◌}
+use Rattle.std.specs.Prelude.{◌≡◌, ◌≤◌, ◌<◌, ℕ, nat_le, nat_lt, List, [], ◌∷◌, Option, Some, None, if◌then◌else◌}
 use Rattle.std.specs.Option.{option_map_or}
 use Rattle.cb_scan.specs.declared.facts.Include.{Include}
 use Rattle.cb_scan.specs.declared.facts.Use.{Use}
@@ -21,6 +21,22 @@ first_around place (r ∷ rs) = if nat_le r.name.start place then Some r.name el
 abbrev pub around : List Range → List Range → ℕ → Option Span
 around functions macros place =
     option_map_or (λ name. Some name) (first_around place macros) (first_around place functions)
+
+-- ranges of functions and of macros
+pub record Ranges : Type 0 where
+  pub functions : List Range
+  pub macros : List Range
+
+-- at the places from one up to another, ranges give what they give at the first
+abbrev pub Stays : ℕ → ℕ → List Range → Type 0
+Stays from until rs = (q : ℕ) → from ≤ q → q < until
+    → (reached q rs ≡ rs) × (first_around q rs ≡ first_around from rs)
+
+-- the places from one up to another have the scope, and none of the ranges ends by them
+abbrev pub Keeps : List Range → List Range → ℕ → ℕ → Option Span → Type 0
+Keeps functions macros from until scope = (q : ℕ) → from ≤ q → q < until
+    → (reached q functions ≡ functions) × (reached q macros ≡ macros)
+    × (around functions macros q ≡ scope)
 
 -- elements with their scopes, by their places
 abbrev pub scoped : {A B : Type 0} → (A → ℕ) → (A → Option Span → B) → List Range → List Range

@@ -1,8 +1,9 @@
-//! The bytes of a name, many at a time.
-ghost use Rattle.std.specs.Prelude.{◌≡◌, ◌≤◌, length, take};
+//! The bytes of a name, of a blank or of a comment, many at a time.
+ghost use Rattle.std.specs.Prelude.{◌≡◌, ◌≤◌, length, take, count_by};
 ghost use Rattle.std.specs.List.{prefix_len};
 ghost use Rattle.cb_scan.specs.lex.Lexeme.{is_word};
-ghost use Rattle.cb_scan.specs.steps.Lanes.{first_set};
+ghost use Rattle.cb_scan.specs.steps.Lanes.{first_set, is_space};
+ghost use Rattle.cb_scan.specs.steps.Lined.{is_feed};
 
 use std::simd::prelude::*;
 
@@ -34,4 +35,25 @@ pub(crate) fn word_run(text: &[u8]) -> usize
         & from_0.simd_ge(u8x16::splat(10))
         & bytes.simd_ne(u8x16::splat(b'_'));
     first_set(stops.to_bitmask())
+}
+
+/// How many of the first bytes of a text are spaces and tabs, up to the number of lanes.
+#[inline]
+pub(crate) fn space_run(text: &[u8]) -> usize
+    requires { LANES ≤ length text.now }
+    ensures { result ≡ prefix_len is_space (take LANES text.now) }
+{
+    let bytes = u8x16::from_slice(text);
+    let stops = bytes.simd_ne(u8x16::splat(b' ')) & bytes.simd_ne(u8x16::splat(b'\t'));
+    first_set(stops.to_bitmask())
+}
+
+/// How many of the first bytes of a text are line feeds, of as many as there are lanes.
+#[inline]
+pub(crate) fn feed_lanes(text: &[u8]) -> u32
+    requires { LANES ≤ length text.now }
+    ensures { result ≡ count_by is_feed (take LANES text.now) }
+{
+    let feeds = u8x16::from_slice(text).simd_eq(u8x16::splat(b'\n'));
+    feeds.to_bitmask().count_ones()
 }

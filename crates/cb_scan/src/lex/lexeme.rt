@@ -2,6 +2,7 @@
 ghost use Rattle.std.specs.Prelude.{◌≡◌, ◌<◌, ◌≤◌, false, ◌==◌, length};
 ghost use Rattle.std.specs.List.{prefix_len};
 ghost use Rattle.cb_scan.specs.lex.Lexeme.{is_digit, is_letter, is_word, goes_on, first_is};
+ghost use Rattle.cb_scan.specs.steps.Lanes.{ends_blank};
 ghost use Rattle.cb_scan.specs.steps.Cut.{
   begins,
   ends_join,
@@ -18,7 +19,7 @@ ghost use Rattle.cb_scan.specs.steps.Cut.{
   length_in,
 };
 
-use crate::lex::lanes::{LANES, word_run};
+use crate::lex::lanes::{LANES, space_run, word_run};
 use crate::lex::piece::Class;
 use memchr::memmem;
 
@@ -55,15 +56,18 @@ fn ends_join(text: &[u8]) -> bool
     matches!(text, [b'\n', ..] | [b'\r', b'\n', ..])
 }
 
-/// A letter or `_`. Small letters are asked for first, since most are.
+/// A letter or `_`. Small letters are asked for first, since most are, and then whether the byte is
+/// below all letters.
 #[inline]
 pub(crate) fn is_letter(byte: u8) -> bool
     ensures { result ≡ is_letter byte }
 {
     if byte >= b'a' {
         byte <= b'z'
+    } else if byte < b'A' {
+        false
     } else {
-        matches!(byte, b'A'..=b'Z' | b'_')
+        byte <= b'Z' || byte == b'_'
     }
 }
 
@@ -150,8 +154,46 @@ fn number_len(text: &[u8]) -> usize
     text.len()
 }
 
+/// How many bytes of blanks and of joined lines a text begins with. Most are a lone space.
 #[tactic(auto, unfolding(crate::specs::steps::Cut::blank_len))]
 fn blank_len(text: &[u8]) -> usize
+    ensures value { result ≡ blank_len false text.now }
+    ensures within { result ≤ length text.now }
+{
+    match text {
+        [b' ' | b'\r', next, ..] if ends_blank(*next) => 1,
+        _ if text.len() >= LANES => spaces_len(text),
+        _ => blanks_len(text),
+    }
+}
+
+/// No blank goes on with the byte, and no join begins with it.
+#[inline]
+fn ends_blank(byte: u8) -> bool
+    ensures { result ≡ ends_blank byte }
+{
+    (byte > b' ' && byte != b'\\') || byte == b'\n'
+}
+
+/// The same, many bytes at a time: an indentation is seldom longer, and mostly made of spaces and
+/// tabs.
+#[inline]
+fn spaces_len(text: &[u8]) -> usize
+    requires { LANES ≤ length text.now }
+    ensures value { result ≡ blank_len false text.now }
+    ensures within { result ≤ length text.now }
+{
+    let run = space_run(text);
+    if run < LANES && ends_blank(text[run]) {
+        run
+    } else {
+        blanks_len(text)
+    }
+}
+
+/// The same, one byte after the other.
+#[tactic(auto, unfolding(crate::specs::steps::Cut::blank_len))]
+fn blanks_len(text: &[u8]) -> usize
     ensures value { result ≡ blank_len false text.now }
     ensures within { result ≤ length text.now }
 {

@@ -1,13 +1,13 @@
 //! The pieces of a text with their lines. No line feed is counted twice.
-ghost use Rattle.std.specs.Prelude.{◌≡◌, ◌≤◌, ◌<◌, false, length, map, count_by};
+ghost use Rattle.std.specs.Prelude.{◌≡◌, ◌≤◌, ◌<◌, false, true, length, map, take, count_by};
 ghost use Rattle.cb_scan.specs.declared.source.TheConstants.{MOST_BYTES};
 ghost use Rattle.std.specs.Iterator.{YieldsFirst, item_count};
 ghost use Rattle.std.specs.List.{AllByRecursion};
 ghost use Rattle.cb_scan.specs.steps.Cut.{pieces};
 ghost use Rattle.cb_scan.specs.steps.Lined.{is_feed, lined, Within, holds_feeds};
 
+use crate::lex::lanes::{LANES, feed_lanes, space_run};
 use crate::lex::piece::{Class, Piece, first_piece};
-use memchr::memchr_iter;
 use std::marker::Model;
 
 /// A piece and the line of its first byte, from 1.
@@ -41,26 +41,65 @@ impl<'a> Model for LinedPieces<'a> {
         × (s.line ≡ line_of s.text.now s.at) };
 }
 
-/// How many of the bytes are line feeds, many looked at together.
+/// How many of the bytes are line feeds, one byte after the other.
+fn feeds_of(bytes: &[u8]) -> u32
+    requires { length bytes.now ≤ MOST_BYTES }
+    ensures { result ≡ count_by is_feed bytes.now }
+{
+    bytes.iter().filter(|byte| **byte == b'\n').count() as u32
+}
+
+/// The same, many bytes at a time.
 fn feeds_among(bytes: &[u8]) -> u32
     requires { length bytes.now ≤ MOST_BYTES }
     ensures { result ≡ count_by is_feed bytes.now }
 {
-    memchr_iter(b'\n', bytes).count() as u32
+    let mut count = 0;
+    let mut rest = bytes;
+    while rest.len() >= LANES {
+        count += feed_lanes(rest);
+        rest = &rest[LANES..];
+    }
+    count + feeds_of(rest)
 }
 
 /// How many line feeds the bytes of a piece hold: pieces that can hold none are not looked at
-/// again, and those that are often long many bytes at a time.
+/// again, a lone byte at once, and those that are often long many bytes at a time.
 #[inline]
 fn feeds_in(class: Class, bytes: &[u8]) -> u32
     requires none { holds_feeds class ≡ false → count_by is_feed bytes.now ≡ 0 }
     requires small { length bytes.now ≤ MOST_BYTES }
     ensures { result ≡ count_by is_feed bytes.now }
 {
-    match class {
-        Class::Name | Class::Number | Class::Byte => 0,
-        Class::LineNote | Class::BlockNote => feeds_among(bytes),
-        _ => bytes.iter().filter(|byte| **byte == b'\n').count() as u32,
+    match (class, bytes) {
+        (Class::Name | Class::Number | Class::Byte, _) => 0,
+        (Class::LineNote | Class::BlockNote, _) => feeds_among(bytes),
+        (_, [byte]) => u32::from(*byte == b'\n'),
+        _ => feeds_of(bytes),
+    }
+}
+
+/// Whether the first bytes of a text are few, and spaces and tabs alone.
+#[inline]
+fn are_spaces(text: &[u8], len: usize) -> bool
+    ensures { result ≡ true → count_by is_feed (take len text.now) ≡ 0 }
+{
+    text.len() >= LANES && len <= space_run(text)
+}
+
+/// How many line feeds the first bytes of a text hold, which are a piece. An indentation is looked at
+/// as its length was found.
+#[inline]
+fn feeds_at(class: Class, text: &[u8], len: usize) -> u32
+    requires within { len ≤ length text.now }
+    requires none { holds_feeds class ≡ false → count_by is_feed (take len text.now) ≡ 0 }
+    requires small { length text.now ≤ MOST_BYTES }
+    ensures { result ≡ count_by is_feed (take len text.now) }
+{
+    if class == Class::Blank && len > 1 && are_spaces(text, len) {
+        0
+    } else {
+        feeds_in(class, &text[..len])
     }
 }
 
@@ -97,7 +136,7 @@ impl<'a> Iterator for LinedPieces<'a> {
             piece,
             line: self.line,
         };
-        self.line += feeds_in(piece.class, &rest[..len]);
+        self.line += feeds_at(piece.class, rest, len);
         self.at = piece.span.end;
         Some(lined)
     }

@@ -117,6 +117,7 @@ impl Head {
     }
 
     /// One more token.
+    #[inline(always)]
     pub(crate) fn add(&mut self, token: &Token)
         ensures { self.new ≡ add self.old token.now }
     {

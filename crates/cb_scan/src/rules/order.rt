@@ -1,6 +1,9 @@
 //! Facts in the order of their places.
-ghost use Rattle.std.specs.Prelude.{◌≡◌, ◌+◌, ◌++◌, ◌<◌, ◌^◌, length, IfOk};
+ghost use Rattle.std.specs.Prelude.{◌≡◌, ◌+◌, ◌++◌, ◌<◌, ◌≤◌, ◌^◌, length, nat_lt, IfOk};
+ghost use Rattle.std.specs.List.{prefix_len};
+ghost use Rattle.cb_scan.specs.declared.facts.Call.{Call};
 ghost use Rattle.cb_scan.specs.Order.{call_key, def_key, in_order, kind_rank};
+ghost use Rattle.cb_scan.specs.steps.Ascending.{ascend_from};
 
 use crate::facts::{Call, Def, Kind};
 use std::alloc::{AllocError, Global};
@@ -56,10 +59,28 @@ fn order_defs(defs: &mut [Def])
     );
 }
 
-/// Puts calls in the order of their places.
+/// Whether the places of calls ascend.
+fn ascend(calls: &[Call]) -> bool
+    ensures { result ≡ ascend_from 0 calls.now }
+{
+    let mut place: u64 = 0;
+    for call in calls {
+        let start = u64::from(call.callee.start);
+        if start < place {
+            return false;
+        }
+        place = start + 1;
+    }
+    true
+}
+
+/// Puts calls in the order of their places. Those that are in order are left as they are.
 fn order_calls(calls: &mut [Call])
     ensures { calls.new ≡ in_order call_key calls.old }
 {
+    if ascend(calls) {
+        return;
+    }
     calls.sort_unstable_by_key(
         |call: &Call| -> [u32; 5]
             ensures { result ≡ call_key call.now }
@@ -84,6 +105,36 @@ fn joined<T: Copy>(
     all.extend_from_slice(second)?;
     all.extend_from_slice(third)?;
     all.extend_from_slice(fourth)?;
+    Ok(all)
+}
+
+/// How many calls come first that begin before a place.
+fn count_before(calls: &[Call], place: u32) -> usize
+    ensures value { result ≡ prefix_len (λ (c : Call). nat_lt c.callee.start place) calls.now }
+    ensures within { result ≤ length calls.now }
+{
+    calls
+        .iter()
+        .take_while(|call| call.callee.start < place)
+        .count()
+}
+
+/// Two lists as one: before each call of the first go those of the second that begin before it. Each
+/// list is in order, and so is the one list.
+fn merged(alloc: Global, first: &[Call], second: &[Call]) -> Result<Vec<Call>, AllocError>
+    requires { length first.now + length second.now < 2 ^ 64 }
+    ensures { IfOk result
+        (λ all. in_order call_key all.items ≡ in_order call_key (first.now ++ second.now)) }
+{
+    let mut all = Vec::with_capacity(alloc, first.len() + second.len())?;
+    let mut rest = second;
+    for call in first {
+        let before = count_before(rest, call.callee.start);
+        all.extend_from_slice(&rest[..before])?;
+        all.push(*call)?;
+        rest = &rest[before..];
+    }
+    all.extend_from_slice(rest)?;
     Ok(all)
 }
 
@@ -112,7 +163,7 @@ pub(crate) fn ordered_calls(
 ) -> Result<Vec<Call>, AllocError>
     ensures { IfOk result (λ calls. calls.items ≡ in_order call_key (functions.now ++ macros.now)) }
 {
-    let mut calls = joined(alloc, functions, macros, &[], &[])?;
+    let mut calls = merged(alloc, functions, macros)?;
     order_calls(calls.as_mut_slice());
     Ok(calls)
 }

@@ -40,23 +40,26 @@ fn begun(token: &Token) -> Naming
 }
 
 impl Naming {
-    /// After a token of the code.
+    /// After a token of the code. Mostly nothing has begun, and nothing does.
     pub(crate) fn next(&mut self, token: &Token)
         ensures { self.new ≡ next_naming self.old token.now }
     {
-        if !token.is_word() {
-            *self = Naming::Nothing;
-            return;
+        match *self {
+            Naming::Nothing => {
+                if let Some(kind) = keyword_kind(token.role) {
+                    *self = Naming::Keyword(kind);
+                }
+            }
+            Naming::Keyword(kind) if token.is_name() => {
+                *self = Naming::Named(Def {
+                    name: token.span,
+                    kind,
+                    line: token.line,
+                    local: false,
+                });
+            }
+            _ => *self = begun(token),
         }
-        *self = match *self {
-            Naming::Keyword(kind) if token.is_name() => Naming::Named(Def {
-                name: token.span,
-                kind,
-                line: token.line,
-                local: false,
-            }),
-            _ => begun(token),
-        };
     }
 
     /// The structure, union or enumeration whose `{` is the token, if one is.

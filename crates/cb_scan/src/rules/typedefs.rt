@@ -1,6 +1,6 @@
 //! The names that typedefs define: a small state beside that of the functions, which every token of
 //! the code moves.
-ghost use Rattle.std.specs.Prelude.{◌≡◌, ◌+◌, ◌<◌, ◌≤◌, ◌^◌, ◌++◌, map, IfOk, Some};
+ghost use Rattle.std.specs.Prelude.{◌≡◌, ◌+◌, ◌<◌, ◌≤◌, ◌^◌, ◌++◌, false, map, IfOk, Some};
 ghost use Rattle.std.specs.Option.{option_to_list};
 ghost use Rattle.cb_scan.specs.Definitions.{typedef_def};
 ghost use Rattle.cb_scan.specs.rules.Typedefs.{nesting_after};
@@ -204,6 +204,29 @@ fn go_on(
     Ok(())
 }
 
+/// A token that ends no typedef: the names that are held back, and the typedef that is open after it.
+pub(crate) fn pass_token(
+    machine: &Machine,
+    state: &mut Option<Declaration>,
+    token: &Token,
+    pending: &mut Vec<Token>,
+) -> Result<(), AllocError>
+    requires open { ends machine.now token.now ≡ false }
+    requires nested { nesting_of state.old + 1 < 2 ^ 32 }
+    ensures state { IfOk result (λ _. state.new ≡ next_declaration machine.now state.old token.now) }
+    ensures small { IfOk result (λ _. nesting_of state.new ≤ nesting_of state.old + 1) }
+    ensures held { IfOk result (λ _. pending.new.items
+        ≡ next_pending machine.now state.old pending.old.items token.now) }
+{
+    if begins(machine, token) {
+        pending.clear();
+        *state = Some(Declaration::start());
+    } else if let Some(open) = state {
+        go_on(machine, open, token, pending)?;
+    }
+    Ok(())
+}
+
 /// One token of the code: what it defines, the names that are held back, and the typedef that is
 /// open after it.
 pub(crate) fn take_token(
@@ -225,11 +248,8 @@ pub(crate) fn take_token(
         define_all(state, pending, out)?;
         pending.clear();
         *state = None;
-    } else if begins(machine, token) {
-        pending.clear();
-        *state = Some(Declaration::start());
-    } else if let Some(open) = state {
-        go_on(machine, open, token, pending)?;
+        Ok(())
+    } else {
+        pass_token(machine, state, token, pending)
     }
-    Ok(())
 }

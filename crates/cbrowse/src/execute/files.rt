@@ -1,11 +1,11 @@
 //! The files of the program: operands that are read, and a tags file that is written.
-ghost use Rattle.std.specs.Prelude.{◌≡◌, IfOk, IfErr, MatchResult, map, string_bytes};
+ghost use Rattle.std.specs.Prelude.{◌≡◌, ◌≤◌, IfOk, IfErr, MatchResult, length, map, string_bytes};
 ghost use Rattle.cbrowse.specs.Program.{EndsIntoFile, StopsReading};
 
 use crate::execute::finish::Finish;
 use cb_session::{Ended, Fault, Operand, Operands};
 use std::alloc::{AllocError, Global};
-use std::fs;
+use std::fs::{self, OpenFile};
 use std::io::{self, BufWriter, ErrorKind, Read};
 use std::rt::Files;
 
@@ -22,11 +22,36 @@ fn path_of(alloc: Global, folder: &str, name: &str) -> Result<String, AllocError
     Ok(path)
 }
 
-/// The first bytes of a file.
+/// Reads until the bytes are full or the end comes: how many were read, and whether it came. Reading
+/// that was interrupted is left to the caller.
+fn fill<F: Read>(file: &mut F, bytes: &mut [u8]) -> io::Result<(usize, bool)>
+    ensures { IfOk result (λ r. r.0 ≤ length bytes.new) }
+{
+    let mut at = 0;
+    while at < bytes.len() {
+        match file.read(&mut bytes[at..]) {
+            Ok(0) => return Ok((at, true)),
+            Ok(count) => at += count,
+            Err(error) if error.kind() == ErrorKind::Interrupted => return Ok((at, false)),
+            Err(error) => return Err(error),
+        }
+    }
+    Ok((at, false))
+}
+
+/// The first bytes of a file. They are read into one buffer of its size, with a byte to spare that
+/// shows its end; where it has grown since, or has no size, what is left is read as it comes.
 fn read_file<R: Files + AllocGlobal>(rt: &R, path: &str) -> io::Result<Vec<u8>> {
-    let mut bytes = Vec::new(rt.alloc());
     let file = fs::open(rt, path)?;
-    file.take(MOST_READ).read_to_end(&mut bytes)?;
+    let size = file.metadata()?.len().min(MOST_READ) as usize;
+    let mut bytes = Vec::new(rt.alloc());
+    bytes.resize(size + 1, 0)?;
+    let mut file = file.take(MOST_READ);
+    let (count, ended) = fill(&mut file, bytes.as_mut_slice())?;
+    bytes.truncate(count);
+    if !ended {
+        file.read_to_end(&mut bytes)?;
+    }
     Ok(bytes)
 }
 

@@ -1,5 +1,5 @@
 use Rattle.std.proofs.Common.{◌∙◌, ap, length}
-use Rattle.cb_scan.proofs.FeedsCounted.{places-counted}
+use Rattle.cb_desk.proofs.FeedsCounted.{places-counted}
 use Rattle.cb_desk.proofs.search.feeds_in.Goals as goal
 
 pub returns : goal.returns

@@ -5,6 +5,6 @@ use Rattle.cb_scan.proofs.rules.scope.scoped_includes.Given as goal
 
 abbrev pub invariant-loop-include : goal.invariant-loop-include
 invariant-loop-include l =
-    l.includes.items ++ scoped include_place include_with l.around.functions.now l.around.macros.now
+    l.includes.items ++ scoped include_place include_with l.scopes.functions l.scopes.macros
     (drop l.include-index l.found)
     ≡ scoped include_place include_with l.ranges.functions.now l.ranges.macros.now l.found

@@ -11,8 +11,8 @@ returns-then-is_empty-clause-steps c =
     (eqb-true _ _ (sym c.is_empty.ensures ∙ c.if-is_empty.true)) in
     (none, none)
 
-pub feeds_in-requires-clause-none : goal.feeds_in-requires-clause-none
-feeds_in-requires-clause-none c =
+pub feeds_at-requires-clause-none : goal.feeds_at-requires-clause-none
+feeds_at-requires-clause-none c =
     let text = c.self.inside.text.now in
     let place = c.self.inside.at in
     let rest = take (length text - place) (drop place text) in
@@ -25,8 +25,8 @@ overflow_add-self c =
     let inv = c.self.invariant in
     let piece = c.first_piece-piece.ensures in
     let end = c.first_piece-piece.result.span.end in
-    let after = line_after text c.self.inside.at end c.self.inside.line c.feeds_in.result inv.1
-    (omega arith) piece.within inv.2 c.feeds_in.ensures in
+    let after = line_after text c.self.inside.at end c.self.inside.line c.feeds_at.result inv.1
+    (omega arith) piece.within inv.2 c.feeds_at.ensures in
     let small = line-small text end after.0 in
     omega arith
 
@@ -36,8 +36,8 @@ invariant_of-self c =
     let inv = c.self.invariant in
     let piece = c.first_piece-piece.ensures in
     let end = c.first_piece-piece.result.span.end in
-    let after = line_after text c.self.inside.at end c.self.inside.line c.feeds_in.result inv.1
-    (omega arith) piece.within inv.2 c.feeds_in.ensures in
+    let after = line_after text c.self.inside.at end c.self.inside.line c.feeds_at.result inv.1
+    (omega arith) piece.within inv.2 c.feeds_at.ensures in
     (inv.0, after.0, after.1)
 
 pub returns-clause-steps : goal.returns-clause-steps

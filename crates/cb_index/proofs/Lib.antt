@@ -1,0 +1,13 @@
+pub mod EntryLemmas
+pub mod FactLemmas
+pub mod FewerLemmas
+pub mod InOrderLemmas
+pub mod IndexLemmas
+pub mod KeptLemmas
+pub mod ListedLemmas
+pub mod MergeLemmas
+pub mod NameLemmas
+pub mod RangeLemmas
+pub mod RowLemmas
+pub mod RowOrderLemmas
+pub mod SpreadLemmas

@@ -1,0 +1,238 @@
+-- The list of the versions that are shown.
+use Rattle.std.proofs.Common.{◌≡◌, ◌∙◌, ◌≤◌, ◌<◌, ◌+◌, ℕ, zero, suc, Bool, true, false, List, [], ◌∷◌, ◌++◌, refl, sym, ap, subst, length, get_or, arith, ⊎_elim}
+use Rattle.std.proofs.lemmas.Bool.{and_parts, cases_Bool, true≢false, false≢true}
+use Rattle.std.proofs.lemmas.Bool.Decides.{nat_tests}
+use Rattle.std.proofs.lemmas.Cmp.{nat_list_cmp_total, tied_itself}
+use Rattle.std.proofs.lemmas.Map.Text.{is_eq-slice_cmp}
+use Rattle.std.proofs.lemmas.Slice.Eq.{bytes_eq-Decides}
+use Rattle.std.specs.Prelude.{nat_lt, not, ◌||◌, ◌&&◌}
+use Rattle.std.specs.Cmp.Lexicographic.{slice_cmp}
+use Rattle.std.specs.List.{AllAdjacentBelow, AllByRecursion, AllWithin, list_all, list_any}
+use Rattle.std.specs.Ordering.{is_eq, is_gt, is_lt, nat_cmp, ordering_then}
+use Rattle.std.specs.Str.{bytes_eq}
+use Rattle.std.specs.declared.cmp.Ordering.{Ordering}
+use Rattle.std.specs.declared.cmp.Ordering.TheVariants.{Less, Equal, Greater}
+use Rattle.cb_scan.specs.Order.{AreOrdered, goes_first, in_order}
+use Rattle.cb_scan.proofs.FactsWithin.{all_in_order}
+use Rattle.cb_scan.proofs.FunctionsRise.{all_implied}
+use Rattle.cb_scan.proofs.KeyOrder.{both_equal, ended, same_number}
+use Rattle.cb_scan.proofs.WithinLemmas.{all-append}
+use Rattle.cb_index.specs.Archived.{Archived, name_of}
+use Rattle.cb_index.specs.Entries.{sort_key}
+use Rattle.cb_index.specs.Files.{AreApart, AreAscending, IsThere, is_shown, shown_key, shown_name}
+use Rattle.cb_index.specs.Held.{all_entries}
+use Rattle.cb_index.specs.Orders.{callee_key, callee_prefixes, caller_key, caller_prefixes, def_key, def_prefixes, tag_key, use_key, use_prefixes}
+use Rattle.cb_index.specs.Shelved.{AreKept}
+use Rattle.cb_index.specs.declared.entry.Entry.{Entry}
+use Rattle.cb_index.specs.declared.entry.Shown.{Shown}
+use Rattle.cb_index.proofs.InOrderLemmas.{in_order_agree}
+use Rattle.cb_index.proofs.IndexLemmas.{indexed_each}
+use Rattle.cb_index.proofs.KeptLemmas.{After, ascending_put, before_all, others, split_or, strict}
+
+abbrev Names : List ℕ → List ℕ → Ordering
+Names = slice_cmp nat_cmp
+
+abbrev numbers : Shown → List ℕ
+numbers s = s.name ∷ s.version ∷ []
+
+-- ---- two versions
+module _ (a : Archived) (s t : Shown) where
+  pub shown_cmp : ordering_then (Names (name_of a s.name) (name_of a t.name)) (Names (numbers s) (numbers t))
+      ≡ Names (shown_key a s) (shown_key a t)
+  shown_cmp = sym (ended (name_of a s.name) (name_of a t.name) (numbers s) (numbers t))
+
+  -- no two versions are equal in order
+  pub shown_exact : shown_key a s ≡ shown_key a t → s ≡ t
+  shown_exact same =
+      let tied : Names (shown_key a s) (shown_key a t) ≡ Equal =
+      subst (λ x. Names (shown_key a s) x ≡ Equal) same (tied_itself nat_list_cmp_total (shown_key a s)) in
+      let first = both_equal (Names (name_of a s.name) (name_of a t.name)) (Names (numbers s) (numbers t)) (shown_cmp ∙ tied) in
+      let name = both_equal (nat_cmp s.name t.name) _ first.1 in
+      let version = both_equal (nat_cmp s.version t.version) _ name.1 in
+      λ i. record { name = same_number s.name t.name name.0 i; version = same_number s.version t.version version.0 i }
+
+  -- of two that have not one file name the numbers say nothing
+  name_settles : bytes_eq (name_of a s.name) (name_of a t.name) ≡ false → goes_first (shown_key a) s t ≡ goes_first (shown_name a) s t
+  name_settles other = by_order (Names (name_of a s.name) (name_of a t.name)) refl
+    where
+      by_order : (o : Ordering) → Names (name_of a s.name) (name_of a t.name) ≡ o
+          → goes_first (shown_key a) s t ≡ goes_first (shown_name a) s t
+      by_order Less is =
+          ap (λ p. not (is_gt p)) (sym shown_cmp ∙ ap (λ p. ordering_then p (Names (numbers s) (numbers t))) is ∙ sym is)
+      by_order Equal is =
+          absurd (true≢false (sym (sym (is_eq-slice_cmp (name_of a s.name) (name_of a t.name)) ∙ ap is_eq is) ∙ other))
+      by_order Greater is =
+          ap (λ p. not (is_gt p)) (sym shown_cmp ∙ ap (λ p. ordering_then p (Names (numbers s) (numbers t))) is ∙ sym is)
+
+-- ---- names that are apart
+bytes_other : (x y : List ℕ) → Names x y ≡ Less → bytes_eq x y ≡ false
+bytes_other x y less = sym (is_eq-slice_cmp x y) ∙ ap is_eq less
+
+other_turned : (x y : List ℕ) → bytes_eq x y ≡ false → bytes_eq y x ≡ false
+other_turned x y isnt =
+    ⊎_elim (λ is. absurd (true≢false (sym ((bytes_eq-Decides x y).1 (sym ((bytes_eq-Decides y x).0 is))) ∙ isnt))) (λ is. is)
+    (cases_Bool (bytes_eq y x))
+
+module _ (a : Archived) where
+  abbrev IsApart : Shown → Shown → Type 0
+  IsApart s t = bytes_eq (name_of a s.name) (name_of a t.name) ≡ false
+
+  all_settled : (s : Shown) (shown : List Shown) → AllByRecursion (IsApart s) shown
+      → AllByRecursion (λ (t : Shown). goes_first (shown_key a) s t ≡ goes_first (shown_name a) s t) shown
+  all_settled s [] apart = tt
+  all_settled s (t ∷ shown) apart = (name_settles a s t apart.0, all_settled s shown apart.1)
+
+  settled : (shown : List Shown) → AreApart a shown
+      → AreOrdered (λ (s t : Shown). goes_first (shown_key a) s t ≡ goes_first (shown_name a) s t) shown
+  unfolding AreOrdered
+  settled [] apart = tt
+  settled (s ∷ shown) apart = (all_settled s shown apart.0, settled shown apart.1)
+
+  -- they are in one order by name alone and with their numbers
+  pub order_by_name : (shown : List Shown) → AreApart a shown → in_order (shown_key a) shown ≡ in_order (shown_name a) shown
+  order_by_name shown apart = in_order_agree (shown_key a) (shown_name a) shown (settled shown apart)
+
+  -- in order their names ascend
+  pub ascending_in_order : (shown : List Shown) → AreApart a shown → AreAscending a (in_order (shown_name a) shown)
+  unfolding in_order AreOrdered
+  ascending_in_order [] apart = tt
+  ascending_in_order (s ∷ shown) apart =
+      ascending_put a s (in_order (shown_name a) shown) (all_in_order (shown_name a) (IsApart s) shown apart.0)
+      (ascending_in_order shown apart.1)
+
+  -- ---- old and new ones
+  later_apart : (s : Shown) (shown : List Shown) → AllByRecursion (After a s s) shown → AllByRecursion (IsApart s) shown
+  later_apart s [] up = tt
+  later_apart s (t ∷ shown) up = (bytes_other (name_of a s.name) (name_of a t.name) up.0, later_apart s shown up.1)
+
+  pub ascending_apart : (shown : List Shown) → AreAscending a shown → AreApart a shown
+  unfolding AreOrdered
+  ascending_apart [] up = tt
+  ascending_apart (s ∷ shown) up = (later_apart s shown up.0, ascending_apart shown up.1)
+
+  none_shown : (old news : List Shown) → list_any (is_shown a old) news ≡ false → AllByRecursion (λ n. AllByRecursion (IsApart n) old) news
+  none_shown old [] none = tt
+  none_shown old (n ∷ news) none =
+      let parts = split_or a n (is_shown a old n) (list_any (is_shown a old) news) none in
+      (others a n old parts.0, none_shown old news parts.1)
+
+  apart_append : (old news : List Shown) → AreApart a old → AreApart a news
+      → AllByRecursion (λ n. AllByRecursion (IsApart n) old) news → AreApart a (old ++ news)
+  unfolding AreOrdered
+  apart_append [] news front back across = back
+  apart_append (s ∷ old) news front back across = (
+    all-append (IsApart s) old news front.0
+        (all_implied (λ n. AllByRecursion (IsApart n) (s ∷ old)) (IsApart s) (λ n is. other_turned (name_of a n.name) (name_of a s.name) is.0) news across),
+    apart_append old news front.1 back
+        (all_implied (λ n. AllByRecursion (IsApart n) (s ∷ old)) (λ n. AllByRecursion (IsApart n) old) (λ n is. is.1) news across),
+  )
+
+  -- no file name stands twice among those that are shown and those that can be
+  pub apart_both : (old news : List Shown) → AreAscending a old → AreApart a news → list_any (is_shown a old) news ≡ false
+      → AreApart a (old ++ news)
+  apart_both old news up apart none = apart_append old news (ascending_apart old up) apart (none_shown old news none)
+
+-- ---- whether a file is shown
+pub not_below : (n m : ℕ) → m ≤ n → nat_lt n m ≡ false
+not_below n m past = grind (arith, nat_tests)
+
+greater_other : (x y : List ℕ) → is_gt (Names x y) ≡ true → bytes_eq x y ≡ false
+greater_other x y above = by_order (Names x y) refl above
+  where
+    by_order : (o : Ordering) → Names x y ≡ o → is_gt o ≡ true → bytes_eq x y ≡ false
+    by_order Less is gt = absurd (false≢true gt)
+    by_order Equal is gt = absurd (false≢true gt)
+    by_order Greater is gt = sym (is_eq-slice_cmp x y) ∙ ap is_eq is
+
+module _ (a : Archived) (s : Shown) where
+  abbrev is_here : Shown → Bool
+  is_here t = bytes_eq (name_of a s.name) (name_of a t.name)
+
+  abbrev is_above : Shown → Bool
+  is_above t = is_gt (Names (name_of a s.name) (name_of a t.name))
+
+  none_after : (shown : List Shown) → AllByRecursion (After a s s) shown → list_any is_here shown ≡ false
+  none_after [] up = refl
+  none_after (t ∷ shown) up =
+      ap (λ b. b || list_any is_here shown) (bytes_other (name_of a s.name) (name_of a t.name) up.0) ∙ none_after shown up.1
+
+  -- what stands at the place of a name settles whether the name is there
+  pub here_is : (n : ℕ) (shown : List Shown) (d : Shown) → n < length shown → AreAscending a shown
+      → AllWithin (λ t. is_above t ≡ true) shown 0 n → AllWithin (λ t. is_above t ≡ false) shown n (length shown)
+      → is_here (get_or shown n d) ≡ list_any is_here shown
+  unfolding AreOrdered
+  here_is n [] d within up before after = absurd (omega (arith, within))
+  here_is zero (t ∷ shown) d within up before after =
+      ⊎_elim (λ is. is ∙ sym (ap (λ b. b || list_any is_here shown) is))
+      (λ isnt.
+      let less = strict a s (name_of a s.name) (name_of a t.name) (ap not (after 0 t (omega arith) (omega arith))) isnt in
+      isnt ∙ sym (ap (λ b. b || list_any is_here shown) isnt ∙ none_after shown (before_all a s t shown less up.0)))
+      (cases_Bool (is_here t))
+  here_is (suc n) (t ∷ shown) d within up before after =
+      here_is n shown d (omega (arith, within)) up.1
+      (λ k e low below. before (suc k) e (omega arith) (omega (arith, below)))
+      (λ k e low below. after (suc k) e (omega (arith, low)) (omega (arith, below)))
+      ∙ sym (ap (λ b. b || list_any is_here shown)
+      (greater_other (name_of a s.name) (name_of a t.name) (before 0 t (omega arith) (omega arith))))
+
+  -- where all go before the name it is not there
+  pub none_here : (n : ℕ) (shown : List Shown) → length shown ≤ n → AllWithin (λ t. is_above t ≡ true) shown 0 n
+      → list_any is_here shown ≡ false
+  none_here n [] past before = refl
+  none_here zero (t ∷ shown) past before = absurd (omega (arith, past))
+  none_here (suc n) (t ∷ shown) past before =
+      ap (λ b. b || list_any is_here shown)
+      (greater_other (name_of a s.name) (name_of a t.name) (before 0 t (omega arith) (omega arith)))
+      ∙ none_here n shown (omega (arith, past)) (λ k e low below. before (suc k) e (omega arith) (omega (arith, below)))
+
+-- ---- numbers that are there
+module _ (a : Archived) where
+  pub there_if : (shown : List Shown)
+      → list_all (λ (s : Shown). nat_lt s.name (length a.names) && nat_lt s.version (length a.texts)) shown ≡ true
+      → AllByRecursion (IsThere a) shown
+  there_if [] all = tt
+  there_if (s ∷ shown) all =
+      let parts = and_parts (nat_lt s.name (length a.names) && nat_lt s.version (length a.texts)) _ all in
+      let here = and_parts (nat_lt s.name (length a.names)) (nat_lt s.version (length a.texts)) parts.0 in
+      ((less s.name (length a.names) here.0, less s.version (length a.texts) here.1), there_if shown parts.1)
+    where
+      less : (x y : ℕ) → nat_lt x y ≡ true → x < y
+      less x y is = grind (arith, nat_tests)
+
+  -- neighbours whose names ascend
+  pub ascending_if : (shown : List Shown)
+      → AllAdjacentBelow (λ (s t : Shown). true ≡ is_lt (Names (name_of a s.name) (name_of a t.name))) shown (length shown)
+      → AreAscending a shown
+  unfolding AreOrdered
+  ascending_if [] up = tt
+  ascending_if (s ∷ []) up = (tt, tt)
+  ascending_if (s ∷ t ∷ shown) up =
+      let later : AreAscending a (t ∷ shown) = ascending_if (t ∷ shown) (λ k d below. let step : suc k + 1 ≡ suc (k + 1) = omega arith in
+      subst (λ m. true ≡ is_lt (Names (name_of a (get_or (t ∷ shown) k d).name) (name_of a (get_or (s ∷ t ∷ shown) m d).name)))
+      step (up (suc k) d (omega (arith, below)))) in
+      let first = less_if (Names (name_of a s.name) (name_of a t.name)) (sym (up 0 s (omega arith))) in
+      ((first, before_all a s t shown first later.0), later)
+    where
+      less_if : (o : Ordering) → is_lt o ≡ true → o ≡ Less
+      less_if Less is = refl
+      less_if Equal is = absurd (false≢true is)
+      less_if Greater is = absurd (false≢true is)
+
+-- ---- many versions are shown
+module _ (a : Archived) (shown news : List Shown) (d t u c e : List Entry) where
+  pub kept_each : AllByRecursion (IsThere a) news → AreApart a (shown ++ news) → AreKept a shown d t u c e
+      → AreKept a (in_order (shown_name a) (shown ++ news))
+      (in_order (sort_key def_key a) (d ++ all_entries def_prefixes a news))
+      (in_order (sort_key tag_key a) (t ++ all_entries def_prefixes a news))
+      (in_order (sort_key use_key a) (u ++ all_entries use_prefixes a news))
+      (in_order (sort_key callee_key a) (c ++ all_entries callee_prefixes a news))
+      (in_order (sort_key caller_key a) (e ++ all_entries caller_prefixes a news))
+  kept_each there apart kept = record {
+    there = all_in_order (shown_name a) (IsThere a) (shown ++ news) (all-append (IsThere a) shown news kept.there there);
+    ascending = ascending_in_order a (shown ++ news) apart;
+    defs = indexed_each def_key def_prefixes a shown news d kept.defs;
+    tags = indexed_each tag_key def_prefixes a shown news t kept.tags;
+    uses = indexed_each use_key use_prefixes a shown news u kept.uses;
+    callees = indexed_each callee_key callee_prefixes a shown news c kept.callees;
+    callers = indexed_each caller_key caller_prefixes a shown news e kept.callers;
+  }

@@ -1,0 +1,294 @@
+-- The rows of the definitions that are shown.
+use Rattle.std.proofs.Common.{◌≡◌, ◌∙◌, ℕ, zero, suc, Bool, true, false, List, [], ◌∷◌, ◌++◌, Some, None, refl, sym, ap, subst, length, map, drop, filter, get_or, min}
+use Rattle.std.proofs.lemmas.Bool.{false≢true}
+use Rattle.std.proofs.lemmas.Bool.Decides.{Decides-eqb}
+use Rattle.std.proofs.lemmas.Cmp.{nat_cmp_total, nat_list_cmp_total, tied_itself}
+use Rattle.std.proofs.lemmas.List.{map-append}
+use Rattle.std.proofs.lemmas.List.Elements.{filter-append}
+use Rattle.std.proofs.lemmas.Option.{slice_get-get_or}
+use Rattle.std.proofs.lemmas.Slice.Eq.{bytes_eq-Decides}
+use Rattle.std.proofs.Math.Nat.{min-eq_left}
+use Rattle.std.specs.Prelude.{cond, nat_eq, not, slice_get, slice_range, sum_by, Option, ◌&&◌}
+use Rattle.std.specs.Cmp.Lexicographic.{slice_cmp}
+use Rattle.std.specs.List.{AllByRecursion, flat_map}
+use Rattle.std.specs.Option.{option_map}
+use Rattle.std.specs.Ordering.{is_gt, nat_cmp, ordering_then}
+use Rattle.std.specs.Str.{bytes_eq}
+use Rattle.std.specs.declared.cmp.Ordering.{Ordering}
+use Rattle.std.specs.declared.cmp.Ordering.TheVariants.{Less, Equal, Greater}
+use Rattle.cb_scan.specs.declared.facts.Def.{Def}
+use Rattle.cb_scan.specs.declared.lex.piece.Span.{Span}
+use Rattle.cb_scan.specs.Definitions.{IsWithin, facts_of}
+use Rattle.cb_scan.specs.lex.Tokens.{bytes_of}
+use Rattle.cb_scan.specs.Order.{AreOrdered, goes_first, in_order}
+use Rattle.cb_scan.proofs.FactsWithin.{facts_lie}
+use Rattle.cb_scan.proofs.OrderLemmas.{in_order_sum}
+use Rattle.cb_scan.proofs.WithinLemmas.{all-append}
+use Rattle.cb_tags.specs.TagLines.{Tag}
+use Rattle.cb_tags.specs.TagNames.{tag_name}
+use Rattle.cb_index.specs.Archived.{Archived, name_of}
+use Rattle.cb_index.specs.Bytes.{bytes_at, cut}
+use Rattle.cb_index.specs.Entries.{Keyer, entries_from, file_key, has_key, key_of, sort_key}
+use Rattle.cb_index.specs.Files.{AreAscending, File, IsThere, file_of, files_of}
+use Rattle.cb_index.specs.Held.{Prefixer, all_entries, entries_of}
+use Rattle.cb_index.specs.Orders.{def_key, def_prefix, def_prefixes, tag_key}
+use Rattle.cb_index.specs.Rows.{file_tags, file_tags_named, tag_in, tags_by_name, tags_by_tag_name, tags_named}
+use Rattle.cb_index.specs.Shelved.{IsIndexOf, with_facts}
+use Rattle.cb_index.specs.steps.Found.{tag_at, tag_in_text, tag_of_def}
+use Rattle.cb_index.specs.steps.Left.{entries_in, file_or_end}
+use Rattle.cb_index.specs.declared.entry.Entry.{Entry}
+use Rattle.cb_index.specs.declared.entry.Shown.{Shown}
+use Rattle.cb_index.proofs.EntryLemmas.{bytes_cmp, sort_exact}
+use Rattle.cb_index.proofs.InOrderLemmas.{filter_kept, in_order_agree, map_in_order, same_order}
+use Rattle.cb_index.proofs.IndexLemmas.{ComesFirst, all_ordered}
+
+-- ---- an index is in order
+pub again : (keyer : Keyer) (prefixer : Prefixer) (a : Archived) (shown : List Shown) (es : List Entry)
+    → IsIndexOf keyer prefixer a shown es → es ≡ in_order (sort_key keyer a) es
+again keyer prefixer a shown es is =
+    is ∙ same_order (sort_key keyer a) (sort_exact keyer a) (all_entries prefixer a shown) es
+    (λ f. sym (in_order_sum (sort_key keyer a) f (all_entries prefixer a shown)) ∙ sym (ap (sum_by f) is))
+
+-- ---- the bytes of a span that lies in the text
+pub cut_is : (text : List ℕ) (span : Span) → IsWithin text span → cut text span ≡ bytes_of text span
+cut_is text span within =
+    let end : min span.end (length text) ≡ span.end = min-eq_left within.1 in
+    let start : min span.start (min span.end (length text)) ≡ span.start = ap (min span.start) end ∙ min-eq_left within.0 in
+    λ i. slice_range text (start i) (end i)
+
+-- ---- the place where a rest of a list begins
+pub at_front : {X : Type 0} (n : ℕ) (xs : List X) → slice_get xs n ≡ slice_get (drop n xs) 0
+at_front zero xs = refl
+at_front (suc n) [] = refl
+at_front (suc n) (x ∷ xs) = at_front n xs
+
+pub drop_next : {X : Type 0} (n : ℕ) (xs : List X) → drop (suc n) xs ≡ drop 1 (drop n xs)
+drop_next zero xs = refl
+drop_next (suc n) [] = refl
+drop_next (suc n) (x ∷ xs) = drop_next n xs
+
+-- ---- entries of one key
+module _ {X : Type 0} (R Q : X → X → Type 0) (P : X → Type 0) (imply : (x y : X) → P x → P y → R x y → Q x y) where
+  all_both : (x : X) → P x → (ys : List X) → AllByRecursion P ys → AllByRecursion (R x) ys → AllByRecursion (Q x) ys
+  all_both x px [] p r = tt
+  all_both x px (y ∷ ys) p r = (imply x y px p.0 r.0, all_both x px ys p.1 r.1)
+
+  pub ordered_with : (xs : List X) → AllByRecursion P xs → AreOrdered R xs → AreOrdered Q xs
+  unfolding AreOrdered
+  ordered_with [] p r = tt
+  ordered_with (x ∷ xs) p r = (all_both x p.0 xs p.1 r.0, ordered_with xs p.1 r.1)
+
+all_any : {X : Type 0} (xs : List X) → AllByRecursion (λ (_ : X). Unit {0}) xs
+all_any [] = tt
+all_any (x ∷ xs) = (tt, all_any xs)
+
+split_and : (b c : Bool) → (b && c) ≡ true → (b ≡ true) × (c ≡ true)
+split_and true c is = (refl, is)
+split_and false c is = absurd (false≢true is)
+
+module _ (keyer : Keyer) (a : Archived) where
+  ordered_cmp : (e f : Entry) → nat_cmp e.prefix f.prefix ≡ Equal
+      → slice_cmp nat_cmp (sort_key keyer a e) (sort_key keyer a f)
+      ≡ ordering_then (slice_cmp nat_cmp (key_of keyer a e) (key_of keyer a f)) (slice_cmp nat_cmp (file_key a e) (file_key a f))
+  unfolding sort_key
+  ordered_cmp e f same = λ i. ordering_then (same i) (sym (bytes_cmp keyer a e f) i)
+
+  -- entries of one key go by file and number
+  one_key : (prefix : ℕ) (key : List ℕ) (e f : Entry) → ComesFirst a e f → has_key keyer a prefix key e ≡ true
+      → has_key keyer a prefix key f ≡ true → goes_first (sort_key keyer a) e f ≡ true
+  one_key prefix key e f first has_e has_f =
+      let in_e = split_and (nat_eq prefix e.prefix) (bytes_eq key (key_of keyer a e)) has_e in
+      let in_f = split_and (nat_eq prefix f.prefix) (bytes_eq key (key_of keyer a f)) has_f in
+      let prefixes : e.prefix ≡ f.prefix =
+      sym ((Decides-eqb prefix e.prefix).0 in_e.0) ∙ (Decides-eqb prefix f.prefix).0 in_f.0 in
+      let keys : key_of keyer a e ≡ key_of keyer a f =
+      sym ((bytes_eq-Decides key (key_of keyer a e)).0 in_e.1) ∙ (bytes_eq-Decides key (key_of keyer a f)).0 in_f.1 in
+      let prefix_tied : nat_cmp e.prefix f.prefix ≡ Equal =
+      subst (λ n. nat_cmp e.prefix n ≡ Equal) prefixes (tied_itself nat_cmp_total e.prefix) in
+      let key_tied : slice_cmp nat_cmp (key_of keyer a e) (key_of keyer a f) ≡ Equal =
+      subst (λ k. slice_cmp nat_cmp (key_of keyer a e) k ≡ Equal) keys (tied_itself nat_list_cmp_total (key_of keyer a e)) in
+      ap (λ o. not (is_gt o)) (ordered_cmp e f prefix_tied
+      ∙ ap (λ o. ordering_then o (slice_cmp nat_cmp (file_key a e) (file_key a f))) key_tied) ∙ first
+
+  -- entries with one prefix go by key
+  by_key : (e f : Entry) → e.prefix ≡ 0 → f.prefix ≡ 0 → ComesFirst a e f
+      → goes_first (sort_key keyer a) e f ≡ goes_first (key_of keyer a) e f
+  by_key e f no_e no_f first =
+      let prefix_tied : nat_cmp e.prefix f.prefix ≡ Equal = λ i. nat_cmp (no_e i) (no_f i) in
+      ap (λ o. not (is_gt o)) (ordered_cmp e f prefix_tied)
+      ∙ settled (slice_cmp nat_cmp (key_of keyer a e) (key_of keyer a f)) (slice_cmp nat_cmp (file_key a e) (file_key a f)) first
+    where
+      settled : (o p : Ordering) → not (is_gt p) ≡ true → not (is_gt (ordering_then o p)) ≡ not (is_gt o)
+      settled Less p is = refl
+      settled Equal p is = is
+      settled Greater p is = refl
+
+  module _ (prefixer : Prefixer) (shown : List Shown) (up : AreAscending a shown) where
+    -- the entries of a key in an index are those of the versions, one after the other
+    pub kept_key : (prefix : ℕ) (key : List ℕ) (es : List Entry) → IsIndexOf keyer prefixer a shown es
+        → filter (has_key keyer a prefix key) es ≡ filter (has_key keyer a prefix key) (all_entries prefixer a shown)
+    kept_key prefix key es is =
+        ap (filter (has_key keyer a prefix key)) is
+        ∙ filter_kept (sort_key keyer a) (has_key keyer a prefix key) (all_entries prefixer a shown)
+        (ordered_with (ComesFirst a)
+        (λ e f. has_key keyer a prefix key e ≡ true → has_key keyer a prefix key f ≡ true → goes_first (sort_key keyer a) e f ≡ true)
+        (λ (_ : Entry). Unit {0}) (λ e f _ _ first. one_key prefix key e f first)
+        (all_entries prefixer a shown) (all_any (all_entries prefixer a shown)) (all_ordered a prefixer shown up))
+
+    -- an index whose prefixes are 0 goes by key
+    pub kept_order : AllByRecursion (λ (e : Entry). e.prefix ≡ 0) (all_entries prefixer a shown) → (es : List Entry)
+        → IsIndexOf keyer prefixer a shown es → es ≡ in_order (key_of keyer a) (all_entries prefixer a shown)
+    kept_order none es is =
+        is ∙ in_order_agree (sort_key keyer a) (key_of keyer a) (all_entries prefixer a shown)
+        (ordered_with (ComesFirst a) (λ e f. goes_first (sort_key keyer a) e f ≡ goes_first (key_of keyer a) e f)
+        (λ (e : Entry). e.prefix ≡ 0) by_key (all_entries prefixer a shown) none (all_ordered a prefixer shown up))
+
+-- ---- the tags of definitions
+no_prefixes_from : (number name version : ℕ) (defs : List Def)
+    → AllByRecursion (λ (e : Entry). e.prefix ≡ 0) (entries_from number name version (map def_prefix defs))
+unfolding def_prefix
+no_prefixes_from number name version [] = tt
+no_prefixes_from number name version (d ∷ defs) = (refl, no_prefixes_from (suc number) name version defs)
+
+no_prefixes_of : (name version : ℕ) (text : Option (List ℕ))
+    → AllByRecursion (λ (e : Entry). e.prefix ≡ 0) (entries_from 0 name version (def_prefixes text))
+no_prefixes_of name version None = tt
+no_prefixes_of name version (Some text) = no_prefixes_from 0 name version (facts_of text).defs
+
+no_prefixes : (a : Archived) (shown : List Shown) → AllByRecursion (λ (e : Entry). e.prefix ≡ 0) (all_entries def_prefixes a shown)
+no_prefixes a [] = tt
+no_prefixes a (s ∷ shown) =
+    all-append (λ (e : Entry). e.prefix ≡ 0) (entries_of def_prefixes a s) (all_entries def_prefixes a shown)
+    (no_prefixes_of s.name s.version (slice_get a.texts s.version)) (no_prefixes a shown)
+
+-- the name of a tag is the key of its entry
+found_name : (file text : List ℕ) (d : Option Def) → bytes_at text (option_map (λ (x : Def). x.name) d) ≡ (tag_of_def file text d).name
+found_name file text None = refl
+found_name file text (Some d) = refl
+
+key_name : (file : List ℕ) (number : ℕ) (text : Option (List ℕ)) → def_key text file number ≡ (tag_in_text file number text).name
+key_name file number None = refl
+key_name file number (Some text) = found_name file text (slice_get (facts_of text).defs number)
+
+found_file : (file text : List ℕ) (d : Option Def) → file ≡ (tag_of_def file text d).file
+found_file file text None = refl
+found_file file text (Some d) = refl
+
+key_file : (file : List ℕ) (number : ℕ) (text : Option (List ℕ)) → file ≡ (tag_in_text file number text).file
+key_file file number None = refl
+key_file file number (Some text) = found_file file text (slice_get (facts_of text).defs number)
+
+pub key_is_name : (a : Archived) (e : Entry) → key_of def_key a e ≡ (tag_at a e).name
+key_is_name a e = key_name (name_of a e.name) e.number (slice_get a.texts e.version)
+
+pub key_is_tag_name : (a : Archived) (e : Entry) → key_of tag_key a e ≡ tag_name (tag_at a e).name (tag_at a e).file
+key_is_tag_name a e =
+    λ i. tag_name (key_name (name_of a e.name) e.number (slice_get a.texts e.version) i)
+    (key_file (name_of a e.name) e.number (slice_get a.texts e.version) i)
+
+all_of : {X : Type 0} (P : X → Type 0) → ((x : X) → P x) → (xs : List X) → AllByRecursion P xs
+all_of P holds [] = tt
+all_of P holds (x ∷ xs) = (holds x, all_of P holds xs)
+
+-- a part that is kept or not, on both sides
+module _ {X Y Z : Type 0} (f : X → Z) (g : Y → Z) where
+  pub kept_or_not : (b : Bool) (x : X) (xs : List X) (y : Y) (ys : List Y) → f x ≡ g y → map f xs ≡ map g ys
+      → map f (cond b (x ∷ xs) xs) ≡ map g (cond b (y ∷ ys) ys)
+  kept_or_not true x xs y ys here later = λ i. here i ∷ later i
+  kept_or_not false x xs y ys here later = later
+
+module _ (a : Archived) (s : Shown) (text : List ℕ) (there : slice_get a.texts s.version ≡ Some text) where
+  abbrev file : File
+  file = record { name = name_of a s.name; bytes = text }
+
+  abbrev entry : ℕ → Def → Entry
+  entry n d = record { prefix = def_prefix d; name = s.name; version = s.version; number = n }
+
+  module _ (n : ℕ) (d : Def) (rest : List Def) (is : drop n (facts_of text).defs ≡ d ∷ rest) (within : IsWithin text d.name) where
+    found_def : slice_get (facts_of text).defs n ≡ Some d
+    found_def = at_front n (facts_of text).defs ∙ ap (λ l. slice_get l 0) is
+
+    tag_is : tag_at a (entry n d) ≡ tag_in file d
+    tag_is =
+        ap (tag_in_text (name_of a s.name) n) there ∙ ap (tag_of_def (name_of a s.name) text) found_def
+        ∙ (λ i. record (tag_in file d) { name = cut_is text d.name within i })
+
+    key_is : key_of def_key a (entry n d) ≡ bytes_of text d.name
+    key_is =
+        ap (λ o. def_key o (name_of a s.name) n) there
+        ∙ ap (λ o. bytes_at text (option_map (λ (x : Def). x.name) o)) found_def ∙ cut_is text d.name within
+
+  tags_from : (n : ℕ) (defs : List Def) → drop n (facts_of text).defs ≡ defs → AllByRecursion (λ (d : Def). IsWithin text d.name) defs
+      → map (tag_at a) (entries_from n s.name s.version (map def_prefix defs)) ≡ map (tag_in file) defs
+  tags_from n [] is within = refl
+  tags_from n (d ∷ defs) is within =
+      λ i. tag_is n d defs is within.0 i
+      ∷ tags_from (suc n) defs (drop_next n (facts_of text).defs ∙ ap (drop 1) is) within.1 i
+
+  tags_named_from : (name : List ℕ) (n : ℕ) (defs : List Def) → drop n (facts_of text).defs ≡ defs
+      → AllByRecursion (λ (d : Def). IsWithin text d.name) defs
+      → map (tag_at a) (filter (has_key def_key a 0 name) (entries_from n s.name s.version (map def_prefix defs)))
+      ≡ map (tag_in file) (filter (λ (d : Def). bytes_eq name (bytes_of text d.name)) defs)
+  unfolding def_prefix
+  tags_named_from name n [] is within = refl
+  tags_named_from name n (d ∷ defs) is within =
+      let later = tags_named_from name (suc n) defs (drop_next n (facts_of text).defs ∙ ap (drop 1) is) within.1 in
+      let kept = filter (has_key def_key a 0 name) (entries_from (suc n) s.name s.version (map def_prefix defs)) in
+      ap (λ k. map (tag_at a) (cond (bytes_eq name k) (entry n d ∷ kept) kept)) (key_is n d defs is within.0)
+      ∙ kept_or_not (tag_at a) (tag_in file) (bytes_eq name (bytes_of text d.name)) (entry n d) kept d
+      (filter (λ (x : Def). bytes_eq name (bytes_of text x.name)) defs) (tag_is n d defs is within.0) later
+
+module _ (a : Archived) where
+  all_tags : (shown : List Shown) → AllByRecursion (IsThere a) shown
+      → map (tag_at a) (all_entries def_prefixes a shown) ≡ flat_map file_tags (files_of a shown)
+  all_tags [] all = refl
+  all_tags (s ∷ shown) all =
+      let text = get_or a.texts s.version [] in
+      let there : slice_get a.texts s.version ≡ Some text = slice_get-get_or a.texts s.version [] all.0.1 in
+      map-append (tag_at a) (entries_of def_prefixes a s) (all_entries def_prefixes a shown)
+      ∙ (λ i. (ap (λ o. map (tag_at a) (entries_from 0 s.name s.version (def_prefixes o))) there
+      ∙ tags_from a s text there 0 (facts_of text).defs refl (facts_lie text).defs) i ++ all_tags shown all.1 i)
+
+  all_tags_named : (name : List ℕ) (shown : List Shown) → AllByRecursion (IsThere a) shown
+      → map (tag_at a) (filter (has_key def_key a 0 name) (all_entries def_prefixes a shown))
+      ≡ flat_map (file_tags_named name) (files_of a shown)
+  all_tags_named name [] all = refl
+  all_tags_named name (s ∷ shown) all =
+      let text = get_or a.texts s.version [] in
+      let there : slice_get a.texts s.version ≡ Some text = slice_get-get_or a.texts s.version [] all.0.1 in
+      let has = has_key def_key a 0 name in
+      ap (map (tag_at a)) (filter-append has (entries_of def_prefixes a s) (all_entries def_prefixes a shown))
+      ∙ map-append (tag_at a) (filter has (entries_of def_prefixes a s)) (filter has (all_entries def_prefixes a shown))
+      ∙ (λ i. (ap (λ o. map (tag_at a) (filter has (entries_from 0 s.name s.version (def_prefixes o)))) there
+      ∙ tags_named_from a s text there name 0 (facts_of text).defs refl (facts_lie text).defs) i ++ all_tags_named name shown all.1 i)
+
+  module _ (shown : List Shown) (all : AllByRecursion (IsThere a) shown) (up : AreAscending a shown) (es : List Entry) where
+    pub rows_by_name : IsIndexOf def_key def_prefixes a shown es → map (tag_at a) es ≡ tags_by_name (files_of a shown)
+    unfolding tags_by_name
+    rows_by_name is =
+        ap (map (tag_at a)) (kept_order def_key a def_prefixes shown up (no_prefixes a shown) es is)
+        ∙ map_in_order (key_of def_key a) (λ (t : Tag). t.name) (tag_at a) (all_entries def_prefixes a shown)
+        (all_of (λ e. key_of def_key a e ≡ (tag_at a e).name) (key_is_name a) (all_entries def_prefixes a shown))
+        ∙ ap (in_order (λ (t : Tag). t.name)) (all_tags shown all)
+
+    pub rows_by_tag_name : IsIndexOf tag_key def_prefixes a shown es → map (tag_at a) es ≡ tags_by_tag_name (files_of a shown)
+    unfolding tags_by_tag_name
+    rows_by_tag_name is =
+        ap (map (tag_at a)) (kept_order tag_key a def_prefixes shown up (no_prefixes a shown) es is)
+        ∙ map_in_order (key_of tag_key a) (λ (t : Tag). tag_name t.name t.file) (tag_at a) (all_entries def_prefixes a shown)
+        (all_of (λ e. key_of tag_key a e ≡ tag_name (tag_at a e).name (tag_at a e).file) (key_is_tag_name a) (all_entries def_prefixes a shown))
+        ∙ ap (in_order (λ (t : Tag). tag_name t.name t.file)) (all_tags shown all)
+
+    pub rows_named : (name : List ℕ) → IsIndexOf def_key def_prefixes a shown es
+        → map (tag_at a) (filter (has_key def_key a 0 name) es) ≡ tags_named name (files_of a shown)
+    unfolding tags_named
+    rows_named name is =
+        ap (map (tag_at a)) (kept_key def_key a def_prefixes shown up 0 name es is) ∙ all_tags_named name shown all
+
+-- ---- the files that are shown
+pub entries_are : (a : Archived) (shown : List Shown) → AllByRecursion (IsThere a) shown
+    → entries_in a shown ≡ map with_facts (files_of a shown)
+entries_are a [] all = refl
+entries_are a (s ∷ shown) all =
+    ap (λ o. file_or_end (name_of a s.name) o (entries_in a shown)) (slice_get-get_or a.texts s.version [] all.0.1)
+    ∙ ap (λ l. with_facts (file_of a s) ∷ l) (entries_are a shown all.1)

@@ -1,0 +1,18 @@
+use Rattle.cb_index.specs.Orders.{def_key, tag_key}
+use Rattle.cb_index.proofs.SpreadLemmas.{callees_spread, callers_spread, defs_spread, uses_spread}
+use Rattle.cb_index.proofs.laws.ranges_have_the_rows_of_their_keys.Goals as goal
+
+pub returns-clause-defs : goal.returns-clause-defs
+returns-clause-defs c = defs_spread def_key
+
+pub returns-clause-tags : goal.returns-clause-tags
+returns-clause-tags c = defs_spread tag_key
+
+pub returns-clause-uses : goal.returns-clause-uses
+returns-clause-uses c = uses_spread
+
+pub returns-clause-callees : goal.returns-clause-callees
+returns-clause-callees c = callees_spread
+
+pub returns-clause-callers : goal.returns-clause-callers
+returns-clause-callers c = callers_spread

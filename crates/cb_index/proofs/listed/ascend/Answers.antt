@@ -1,0 +1,18 @@
+use Rattle.std.proofs.Common.{rules, ◌≡◌, subst}
+use Rattle.std.proofs.lemmas.Fn.{always_returns_same}
+use Rattle.std.specs.Cmp.Lexicographic.{slice_cmp}
+use Rattle.std.specs.List.{IsAllAdjacentAnswer}
+use Rattle.std.specs.Ordering.{is_lt, nat_cmp}
+use Rattle.cb_index.specs.Archived.{name_of}
+use Rattle.cb_index.specs.declared.entry.Shown.{Shown}
+use Rattle.cb_index.proofs.ListedLemmas.{ascending_apart, ascending_if}
+use Rattle.cb_index.proofs.listed.ascend.Goals as goal
+
+-- each name is below the next, so no two are one
+pub returns : goal.returns
+returns c is =
+    let a = c.args.archive.now in
+    ascending_apart a c.args.news.now (ascending_if a c.args.news.now
+    (subst (IsAllAdjacentAnswer (λ (s t : Shown) b. b ≡ is_lt (slice_cmp nat_cmp (name_of a s.name) (name_of a t.name))) c.args.news.now) is
+    (c.is_sorted_by.ensures.cases (λ s t. is_lt (slice_cmp nat_cmp (name_of a s.name) (name_of a t.name)))
+    (always_returns_same _ _ _ (λ x r q k. (search (rules, k), search (rules, k)))))))

@@ -1,0 +1,11 @@
+use Rattle.std.proofs.Common.{◌≡◌, ◌≤◌, ◌+◌, ◌-◌, ◌++◌, length, drop, vec_len, vec_capacity}
+use Rattle.cb_index.specs.Entries.{entries_from}
+use Rattle.cb_index.proofs.orders.append_postings.Given as goal
+
+abbrev pub invariant-loop-i : goal.invariant-loop-i
+invariant-loop-i l = record {
+  entries : l.entries.items ++ entries_from l.i l.shown.name l.shown.version ((drop l.i l.prefixes))
+      ≡ l.initial.entries.items ++ entries_from 0 l.shown.name l.shown.version (l.prefixes);
+  room : vec_len l.entries + (length l.prefixes - l.i) ≤ vec_capacity l.entries;
+  grown : vec_capacity l.initial.entries ≤ vec_capacity l.entries;
+}

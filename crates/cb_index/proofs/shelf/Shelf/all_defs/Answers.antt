@@ -1,0 +1,13 @@
+use Rattle.std.proofs.Common.{◌∙◌, ap, map}
+use Rattle.cb_index.specs.Rows.{tags_by_name}
+use Rattle.cb_index.specs.Shelved.{Shelved, files}
+use Rattle.cb_index.specs.steps.Found.{tag_at}
+use Rattle.cb_index.proofs.RowLemmas.{rows_by_name}
+use Rattle.cb_index.proofs.shelf.Shelf.all_defs.Goals as goal
+
+pub returns : goal.returns
+returns c =
+    ap (map (tag_at c.self.inside.archive)) c.entries.ensures
+    ∙ rows_by_name c.self.inside.archive c.self.inside.shown.items c.self.invariant.there c.self.invariant.ascending
+    c.self.inside.defs.entries c.self.invariant.defs
+    ∙ ap (λ (s : Shelved). tags_by_name (files s)) c.self.view_is

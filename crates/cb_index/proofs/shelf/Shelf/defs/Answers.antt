@@ -1,0 +1,18 @@
+use Rattle.std.proofs.Common.{◌∙◌, ap, map}
+use Rattle.cb_index.specs.Orders.{def_key, def_prefixes}
+use Rattle.cb_index.specs.Rows.{tags_named}
+use Rattle.cb_index.specs.Shelved.{Shelved, files}
+use Rattle.cb_index.specs.steps.Found.{tag_at}
+use Rattle.cb_index.proofs.RowLemmas.{again, rows_named}
+use Rattle.cb_index.proofs.shelf.Shelf.defs.Goals as goal
+
+pub with_key-requires : goal.with_key-requires
+with_key-requires c =
+    again def_key def_prefixes c.self.inside.archive c.self.inside.shown.items c.self.inside.defs.entries c.self.invariant.defs
+
+pub returns : goal.returns
+returns c =
+    ap (map (tag_at c.self.inside.archive)) c.with_key.ensures
+    ∙ rows_named c.self.inside.archive c.self.inside.shown.items c.self.invariant.there c.self.invariant.ascending
+    c.self.inside.defs.entries c.args.name.now c.self.invariant.defs
+    ∙ ap (λ (s : Shelved). tags_named c.args.name.now (files s)) c.self.view_is

@@ -1,0 +1,54 @@
+-- Entries and their order.
+use Rattle.std.specs.Prelude.{ℕ, suc, Bool, ◌&&◌, nat_eq, List, [], ◌∷◌, ◌++◌, map, Option, slice_get}
+use Rattle.std.specs.Cmp.Lexicographic.{slice_cmp}
+use Rattle.std.specs.Ordering.{nat_cmp, ordering_then}
+use Rattle.std.specs.Str.{bytes_eq}
+use Rattle.std.specs.declared.cmp.Ordering.{Ordering}
+use Rattle.cb_index.specs.Archived.{Archived, name_of}
+use Rattle.cb_index.specs.declared.entry.Entry.{Entry}
+
+-- what an order reads of an entry: from the text of its version (if it is there), the name of its
+-- file and its number, its key
+abbrev pub Keyer : Type 0
+Keyer = Option (List ℕ) → List ℕ → ℕ → List ℕ
+
+-- the key of an entry
+abbrev pub key_of : Keyer → Archived → Entry → List ℕ
+key_of keyer a e = keyer (slice_get a.texts e.version) (name_of a e.name) e.number
+
+-- the numbers of an entry; of one version its own numbers go by place
+abbrev pub numbers : Entry → List ℕ
+numbers e = e.name ∷ e.version ∷ e.number ∷ []
+
+-- what orders entries of one key: the file name, then the numbers of the entry. A 0 ends the name,
+-- and no byte is 0 in it
+abbrev pub file_key : Archived → Entry → List ℕ
+file_key a e = map suc (name_of a e.name) ++ 0 ∷ numbers e
+
+-- those of one prefix: the key goes before
+abbrev pub bytes_key : Keyer → Archived → Entry → List ℕ
+bytes_key keyer a e = map suc (key_of keyer a e) ++ 0 ∷ file_key a e
+
+-- what entries are compared by, number by number
+unfoldable pub sort_key : Keyer → Archived → Entry → List ℕ
+sort_key keyer a e = e.prefix ∷ bytes_key keyer a e
+
+-- entries of a version under a name with these prefixes, numbered from a number on
+abbrev pub entries_from : ℕ → ℕ → ℕ → List ℕ → List Entry
+entries_from number name version [] = []
+entries_from number name version (p ∷ ps) =
+    record { prefix = p; name = name; version = version; number = number }
+    ∷ entries_from (suc number) name version ps
+
+-- a key with its prefix against an entry
+abbrev pub key_cmp : Keyer → Archived → ℕ → List ℕ → Entry → Ordering
+key_cmp keyer a prefix key e =
+    ordering_then (nat_cmp prefix e.prefix) (slice_cmp nat_cmp key (key_of keyer a e))
+
+-- whether an entry has the key
+abbrev pub has_key : Keyer → Archived → ℕ → List ℕ → Entry → Bool
+has_key keyer a prefix key e = nat_eq prefix e.prefix && bytes_eq key (key_of keyer a e)
+
+-- whether an entry is one of the version under the name
+abbrev pub is_of : ℕ → ℕ → Entry → Bool
+is_of name version e = nat_eq e.name name && nat_eq e.version version

@@ -1,0 +1,78 @@
+-- The files that are shown.
+use Rattle.std.specs.Prelude.{ℕ, suc, Bool, false, ◌≡◌, ◌<◌, ◌+◌, List, [], ◌∷◌, ◌++◌, Option, Some, None, length, map, slice_get, slice_index_or}
+use Rattle.std.specs.Cmp.Lexicographic.{slice_cmp}
+use Rattle.std.specs.List.{list_any}
+use Rattle.std.specs.Ordering.{nat_cmp}
+use Rattle.std.specs.Str.{bytes_eq}
+use Rattle.std.specs.declared.cmp.Ordering.TheVariants.{Less}
+use Rattle.cb_scan.specs.Definitions.{facts_of}
+use Rattle.cb_scan.specs.Order.{AreOrdered}
+use Rattle.cb_index.specs.Archived.{Archived, name_of}
+use Rattle.cb_index.specs.declared.counted.Counted.{Counted}
+use Rattle.cb_index.specs.declared.counted.Counted.TheVariants.{Defs, Uses, Calls}
+use Rattle.cb_index.specs.declared.entry.Shown.{Shown}
+
+-- a file: its name and its bytes
+pub record File : Type 0 where
+  pub name : List ℕ
+  pub bytes : List ℕ
+
+-- the file that a version under a name is
+abbrev pub file_of : Archived → Shown → File
+file_of a s = record { name = name_of a s.name; bytes = slice_index_or a.texts s.version [] }
+
+-- the files of these versions under these names
+abbrev pub files_of : Archived → List Shown → List File
+files_of a shown = map (file_of a) shown
+
+-- the name and the version are there
+abbrev pub IsThere : Archived → Shown → Type 0
+IsThere a s = (s.name < length a.names) × (s.version < length a.texts)
+
+-- the file names ascend strictly in the order of their bytes
+abbrev pub AreAscending : Archived → List Shown → Type 0
+AreAscending a shown =
+    AreOrdered (λ (s t : Shown). slice_cmp nat_cmp (name_of a s.name) (name_of a t.name) ≡ Less) shown
+
+-- no two of these have one file name
+abbrev pub AreApart : Archived → List Shown → Type 0
+AreApart a shown =
+    AreOrdered (λ (s t : Shown). bytes_eq (name_of a s.name) (name_of a t.name) ≡ false) shown
+
+-- whether a file of the name of this version is among those that are shown
+abbrev pub is_shown : Archived → List Shown → Shown → Bool
+is_shown a shown s = list_any (λ (t : Shown). bytes_eq (name_of a s.name) (name_of a t.name)) shown
+
+-- the name by which a version is shown
+abbrev pub shown_name : Archived → Shown → List ℕ
+shown_name a s = name_of a s.name
+
+-- the same with the numbers of the version behind. A 0 ends the name, and no byte is 0 in it
+abbrev pub shown_key : Archived → Shown → List ℕ
+shown_key a s = map suc (name_of a s.name) ++ 0 ∷ s.name ∷ s.version ∷ []
+
+-- ---- how many facts there are
+
+-- the definitions, uses and calls of a text, if it is there
+abbrev pub def_count : Option (List ℕ) → ℕ
+def_count None = 0
+def_count (Some text) = length (facts_of text).defs
+
+abbrev pub use_count : Option (List ℕ) → ℕ
+use_count None = 0
+use_count (Some text) = length (facts_of text).uses
+
+abbrev pub call_count : Option (List ℕ) → ℕ
+call_count None = 0
+call_count (Some text) = length (facts_of text).calls
+
+-- what is counted
+abbrev pub count_for : Counted → Option (List ℕ) → ℕ
+count_for Defs = def_count
+count_for Uses = use_count
+count_for Calls = call_count
+
+-- the number of facts that are shown
+abbrev pub total : (Option (List ℕ) → ℕ) → Archived → List Shown → ℕ
+total count a [] = 0
+total count a (s ∷ shown) = count (slice_get a.texts s.version) + total count a shown

@@ -1,0 +1,12 @@
+pub mod Archived
+pub mod Bytes
+pub mod Entries
+pub mod Files
+pub mod Held
+pub mod Names
+pub mod Orders
+pub mod RowOrders
+pub mod Rows
+pub mod Shelved
+pub mod Spreads
+pub mod steps

@@ -1,0 +1,89 @@
+-- What a shelf keeps and shows.
+use Rattle.std.specs.Prelude.{ℕ, ◌≡◌, ◌≤◌, ◌<◌, ◌+◌, false, List, length, slice_get}
+use Rattle.std.specs.List.{AllByRecursion, list_any}
+use Rattle.std.specs.Str.{bytes_eq}
+use Rattle.cb_scan.specs.Definitions.{facts_of}
+use Rattle.cb_scan.specs.Order.{in_order}
+use Rattle.cb_scan.specs.TextFacts.{TextFacts}
+use Rattle.cb_index.specs.Archived.{Archived, name_of}
+use Rattle.cb_index.specs.Entries.{Keyer, sort_key}
+use Rattle.cb_index.specs.Files.{AreApart, AreAscending, File, IsThere, call_count, def_count, files_of, is_shown, total, use_count}
+use Rattle.cb_index.specs.Held.{Prefixer, all_entries}
+use Rattle.cb_index.specs.Orders.{callee_key, callee_prefixes, caller_key, caller_prefixes, def_key, def_prefixes, tag_key, use_key, use_prefixes}
+use Rattle.cb_index.specs.declared.entry.Entry.{Entry}
+use Rattle.cb_index.specs.declared.entry.Shown.{Shown}
+
+-- the archive, what is shown of it, by file name, how often that changed, and for how many entries,
+-- definitions, uses and calls there is room
+pub record Shelved : Type 0 where
+  pub archive : Archived
+  pub shown : List Shown
+  pub turns : ℕ
+  pub entry_room : ℕ
+  pub def_room : ℕ
+  pub use_room : ℕ
+  pub call_room : ℕ
+
+-- the files that are shown, by name
+abbrev pub files : Shelved → List File
+files s = files_of s.archive s.shown
+
+-- a file that is shown, and what is found in it
+pub record ShownFile : Type 0 where
+  pub name : List ℕ
+  pub bytes : List ℕ
+  pub facts : TextFacts
+
+abbrev pub with_facts : File → ShownFile
+with_facts f = record { name = f.name; bytes = f.bytes; facts = facts_of f.bytes }
+
+-- a version can be shown under a name: both are there, no file of that name is shown, and there is
+-- room
+pub record CanShow (s : Shelved) (name version : ℕ) : Type 0 where
+  pub name_there : name < length s.archive.names
+  pub version_there : version < length s.archive.texts
+  pub other : list_any (λ (t : Shown). bytes_eq (name_of s.archive name)
+      (name_of s.archive t.name)) s.shown ≡ false
+  pub entries : length s.shown < s.entry_room
+  pub defs : total def_count s.archive s.shown
+      + def_count (slice_get s.archive.texts version) ≤ s.def_room
+  pub uses : total use_count s.archive s.shown
+      + use_count (slice_get s.archive.texts version) ≤ s.use_room
+  pub calls : total call_count s.archive s.shown
+      + call_count (slice_get s.archive.texts version) ≤ s.call_room
+
+-- versions can be shown together: their numbers are there, no two of them have one file name, no
+-- file of such a name is shown, and there is room for all
+pub record CanShowAll (s : Shelved) (news : List Shown) : Type 0 where
+  pub there : AllByRecursion (IsThere s.archive) news
+  pub apart : AreApart s.archive news
+  pub other : list_any (is_shown s.archive s.shown) news ≡ false
+  pub entries : length s.shown + length news ≤ s.entry_room
+  pub defs : total def_count s.archive s.shown + total def_count s.archive news ≤ s.def_room
+  pub uses : total use_count s.archive s.shown + total use_count s.archive news ≤ s.use_room
+  pub calls : total call_count s.archive s.shown + total call_count s.archive news ≤ s.call_room
+
+-- the room is as large as before
+pub record KeepsRoom (old new : Shelved) : Type 0 where
+  pub names : old.archive.name_room ≤ new.archive.name_room
+  pub versions : old.archive.version_room ≤ new.archive.version_room
+  pub entries : old.entry_room ≤ new.entry_room
+  pub defs : old.def_room ≤ new.def_room
+  pub uses : old.use_room ≤ new.use_room
+  pub calls : old.call_room ≤ new.call_room
+
+-- an index holds the entries of all that is shown, in order
+abbrev pub IsIndexOf : Keyer → Prefixer → Archived → List Shown → List Entry → Type 0
+IsIndexOf keyer prefixer a shown es =
+    es ≡ in_order (sort_key keyer a) (all_entries prefixer a shown)
+
+-- the five indexes hold what is shown, whose numbers are there, by file name
+pub record AreKept (a : Archived) (shown : List Shown)
+    (in_defs in_tags in_uses in_callees in_callers : List Entry) : Type 0 where
+  pub there : AllByRecursion (IsThere a) shown
+  pub ascending : AreAscending a shown
+  pub defs : IsIndexOf def_key def_prefixes a shown in_defs
+  pub tags : IsIndexOf tag_key def_prefixes a shown in_tags
+  pub uses : IsIndexOf use_key use_prefixes a shown in_uses
+  pub callees : IsIndexOf callee_key callee_prefixes a shown in_callees
+  pub callers : IsIndexOf caller_key caller_prefixes a shown in_callers

@@ -1,0 +1,4 @@
+pub mod Found
+pub mod Left
+pub mod RowsLeft
+pub mod Spread

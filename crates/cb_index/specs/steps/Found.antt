@@ -1,0 +1,107 @@
+-- The rows of entries, as they are looked up.
+use Rattle.std.specs.Prelude.{ℕ, suc, min, false, List, [], Option, Some, None, length, map, slice_get, slice_index_or, slice_range}
+use Rattle.std.specs.List.{flat_map}
+use Rattle.std.specs.Option.{option_map}
+use Rattle.cb_scan.specs.declared.facts.Call.{Call}
+use Rattle.cb_scan.specs.declared.facts.Def.{Def}
+use Rattle.cb_scan.specs.declared.facts.Use.{Use}
+use Rattle.cb_scan.specs.declared.facts.Kind.TheVariants as kind
+use Rattle.cb_scan.specs.Definitions.{facts_of}
+use Rattle.cb_scan.specs.FactKeys.{KeysOfFacts, keys_of}
+use Rattle.cb_scan.specs.Keys.{ItemsByKey}
+use Rattle.cb_scan.specs.Lines.{line_text}
+use Rattle.cb_tags.specs.TagLines.{Tag}
+use Rattle.cb_index.specs.Archived.{Archived, name_of}
+use Rattle.cb_index.specs.Bytes.{cut}
+use Rattle.cb_index.specs.Rows.{Fact}
+use Rattle.cb_index.specs.declared.entry.Entry.{Entry}
+use Rattle.cb_index.specs.declared.rows.FactSort.{FactSort}
+use Rattle.cb_index.specs.declared.rows.FactSort.TheVariants.{Uses, Callees, Callers}
+
+-- ---- definitions
+abbrev pub no_tag : List ℕ → Tag
+no_tag file = record {
+  name = [];
+  file = file;
+  line = 0;
+  text = [];
+  kind = kind.Function;
+  local = false;
+}
+
+abbrev pub tag_of_def : List ℕ → List ℕ → Option Def → Tag
+tag_of_def file text None = no_tag file
+tag_of_def file text (Some d) = record {
+  name = cut text d.name;
+  file = file;
+  line = d.line;
+  text = line_text text d.line;
+  kind = d.kind;
+  local = d.local;
+}
+
+abbrev pub tag_in_text : List ℕ → ℕ → Option (List ℕ) → Tag
+tag_in_text file number None = no_tag file
+tag_in_text file number (Some text) = tag_of_def file text (slice_get (facts_of text).defs number)
+
+-- the tag of an entry
+abbrev pub tag_at : Archived → Entry → Tag
+tag_at a e = tag_in_text (name_of a e.name) e.number (slice_get a.texts e.version)
+
+-- ---- uses and calls
+abbrev pub no_fact : List ℕ → Fact
+no_fact file = record { file = file; name = []; scope = None; line = 0; text = [] }
+
+abbrev pub fact_of_use : List ℕ → List ℕ → Option Use → Fact
+fact_of_use file text None = no_fact file
+fact_of_use file text (Some u) = record {
+  file = file;
+  name = cut text u.name;
+  scope = option_map (cut text) u.scope;
+  line = u.line;
+  text = line_text text u.line;
+}
+
+abbrev pub fact_of_call : List ℕ → List ℕ → Option Call → Fact
+fact_of_call file text None = no_fact file
+fact_of_call file text (Some c) = record {
+  file = file;
+  name = cut text c.callee;
+  scope = Some (cut text c.caller);
+  line = c.line;
+  text = line_text text c.line;
+}
+
+-- the fact of an item
+abbrev pub fact_at : FactSort → List ℕ → List ℕ → ℕ → Fact
+fact_at Uses file text item = fact_of_use file text (slice_get (facts_of text).uses item)
+fact_at Callees file text item = fact_of_call file text (slice_get (facts_of text).calls item)
+fact_at Callers file text item = fact_of_call file text (slice_get (facts_of text).calls item)
+
+-- the key list of a sort
+abbrev pub keys_for : FactSort → KeysOfFacts → ItemsByKey
+keys_for Uses k = k.uses
+keys_for Callees k = k.callees
+keys_for Callers k = k.callers
+
+-- the items of a posting, cut at the end of the list
+abbrev pub part : List ℕ → ℕ → ℕ → List ℕ
+part items start end =
+    slice_range items (min start (min end (length items))) (min end (length items))
+
+abbrev pub posting_items : ItemsByKey → ℕ → List ℕ
+posting_items keys number =
+    part keys.items (slice_index_or keys.starts number 0)
+    (slice_index_or keys.starts (suc number) 0)
+
+abbrev pub facts_in_text : FactSort → List ℕ → ℕ → Option (List ℕ) → List Fact
+facts_in_text sort file number None = []
+facts_in_text sort file number (Some text) =
+    map (fact_at sort file text) (posting_items (keys_for sort (keys_of text)) number)
+
+-- the facts of an entry
+abbrev pub facts_at : FactSort → Archived → Entry → List Fact
+facts_at sort a e = facts_in_text sort (name_of a e.name) e.number (slice_get a.texts e.version)
+
+abbrev pub facts_in : FactSort → Archived → List Entry → List Fact
+facts_in sort a es = flat_map (facts_at sort a) es

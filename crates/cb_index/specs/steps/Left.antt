@@ -1,0 +1,58 @@
+-- What iterators still give.
+use Rattle.std.specs.Prelude.{ℕ, List, [], ◌∷◌, ◌++◌, Option, Some, None, map, slice_get}
+use Rattle.std.specs.Borrow.{Bor}
+use Rattle.std.specs.Option.{option_map}
+use Rattle.cb_scan.specs.Definitions.{facts_of}
+use Rattle.cb_scan.specs.TextFacts.{TextFacts}
+use Rattle.cb_tags.specs.TagLines.{Tag}
+use Rattle.cb_index.specs.Archived.{Archived, name_of}
+use Rattle.cb_index.specs.Rows.{Fact}
+use Rattle.cb_index.specs.Shelved.{ShownFile}
+use Rattle.cb_index.specs.steps.Found.{fact_at, facts_in, tag_at}
+use Rattle.cb_index.specs.declared.entries.Entries.{Entries}
+use Rattle.cb_index.specs.declared.entry.Shown.{Shown}
+use Rattle.cb_index.specs.declared.rows.FactRow.{FactRow}
+use Rattle.cb_index.specs.declared.facts.FactRows.{FactRows}
+use Rattle.cb_index.specs.declared.facts.Posting.{Posting}
+use Rattle.cb_index.specs.declared.tags.TagRows.{TagRows}
+
+-- what a row says
+abbrev pub fact_of : FactRow → Fact
+fact_of r = record {
+  file = r.file.now;
+  name = r.name.now;
+  scope = option_map (λ s. s.now) r.scope;
+  line = r.line;
+  text = r.text.now;
+}
+
+abbrev pub tags_left : TagRows → List Tag
+tags_left r = map (tag_at r.archive.now) r.entries.now
+
+abbrev pub posting_left : Posting → List Fact
+posting_left p = map (fact_at p.sort p.file.now p.version.now) p.items.now
+
+abbrev pub posting_left_if : Option Posting → List Fact
+posting_left_if None = []
+posting_left_if (Some p) = posting_left p
+
+abbrev pub facts_left : FactRows → List Fact
+facts_left r = posting_left_if r.posting ++ facts_in r.sort r.archive.now r.entries.now
+
+-- a file that is lent
+abbrev pub shown_file : Bor (List ℕ) × Bor (List ℕ) × Bor TextFacts → ShownFile
+shown_file t = record { name = t.0.now; bytes = t.1.now; facts = t.2.now }
+
+-- a file and those after it, if its version is there
+abbrev pub file_or_end : List ℕ → Option (List ℕ) → List ShownFile → List ShownFile
+file_or_end name None rest = []
+file_or_end name (Some text) rest =
+    record { name = name; bytes = text; facts = facts_of text } ∷ rest
+
+abbrev pub entries_in : Archived → List Shown → List ShownFile
+entries_in a [] = []
+entries_in a (s ∷ shown) =
+    file_or_end (name_of a s.name) (slice_get a.texts s.version) (entries_in a shown)
+
+abbrev pub entries_left : Entries → List ShownFile
+entries_left e = entries_in e.archive.now e.shown.now

@@ -1,0 +1,16 @@
+-- What an iterator of rows still gives.
+use Rattle.std.specs.Prelude.{List, [], ◌++◌, Option, Some, None, map}
+use Rattle.cb_index.specs.steps.Spread.{row_of, rows_in}
+use Rattle.cb_index.specs.declared.range.EntryRows.{EntryRows}
+use Rattle.cb_index.specs.declared.range.Rows.{Rows}
+use Rattle.cb_index.specs.declared.row.Row.{Row}
+
+abbrev pub entry_rows : EntryRows → List Row
+entry_rows r = map (row_of r.entry) r.items.now
+
+abbrev pub entry_rows_if : Option EntryRows → List Row
+entry_rows_if None = []
+entry_rows_if (Some r) = entry_rows r
+
+abbrev pub rows_left : Rows → List Row
+rows_left r = entry_rows_if r.first ++ rows_in r.sort r.archive.now r.entries.now

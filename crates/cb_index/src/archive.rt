@@ -1,0 +1,216 @@
+//! The names and versions that indexes speak of.
+ghost use Rattle.std.specs.Prelude.{◌≡◌, ◌<◌, ◌≤◌, ◌+◌, ◌^◌, ◌++◌, ◌∷◌, [], length, map, take, IfErr, IfOk, OnOk, OnErr, slice_get, slice_index_or};
+ghost use Rattle.std.specs.Option.{option_copied};
+ghost use Rattle.cb_scan.specs.Definitions.{facts_of};
+ghost use Rattle.cb_scan.specs.FactKeys.{keys_of};
+ghost use Rattle.cb_index.specs.Archived.{name_of};
+
+use crate::memory::OutOfMemory;
+use cb_scan::{FactKeys, Facts, Source};
+use std::alloc::Global;
+use std::marker::Model;
+
+/// A source with the facts of its text, and the same facts by their keys.
+#[derive(Debug, Drop)]
+pub(crate) struct Version {
+    source: Source,
+    facts: Facts,
+    keys: FactKeys,
+}
+
+impl Model for Version {
+    ghost use Rattle.std.specs.Prelude.{List, ℕ, ◌≡◌};
+    ghost use Rattle.cb_scan.specs.Definitions.{facts_of};
+    ghost use Rattle.cb_scan.specs.FactKeys.{keys_of};
+
+    ghost Value = { List ℕ };
+
+    ghost view = { λ v. v.source };
+
+    ghost invariant = { λ v. (v.facts ≡ facts_of v.source) × (v.keys ≡ keys_of v.source) };
+}
+
+impl Version {
+    fn new(source: Source, facts: Facts, keys: FactKeys) -> Version
+        requires facts { facts ≡ facts_of source }
+        requires keys { keys ≡ keys_of source }
+        ensures { result ≡ source }
+    {
+        Version {
+            source,
+            facts,
+            keys,
+        }
+    }
+
+    pub(crate) fn source(&self) -> &Source
+        ensures { result.now ≡ self.now }
+    {
+        &self.source
+    }
+
+    pub(crate) fn facts(&self) -> &Facts
+        ensures { result.now ≡ facts_of self.now }
+    {
+        &self.facts
+    }
+
+    pub(crate) fn keys(&self) -> &FactKeys
+        ensures { result.now ≡ keys_of self.now }
+    {
+        &self.keys
+    }
+}
+
+/// File names and versions of texts with their facts, each under a number, from 0.
+#[derive(Debug, Drop)]
+pub struct Archive {
+    names: Vec<Vec<u8>>,
+    versions: Vec<Version>,
+}
+
+impl Model for Archive {
+    ghost use Rattle.std.specs.Prelude.{map, min, vec_capacity};
+    ghost use Rattle.cb_index.specs.Archived.{Archived};
+
+    ghost Value = { Archived };
+
+    ghost view = { λ a. record {
+      names = map (λ n. n.items) a.names.items;
+      texts = a.versions.items;
+      name_room = min (vec_capacity a.names) 4294967295;
+      version_room = min (vec_capacity a.versions) 4294967295;
+    } };
+}
+
+impl Archive {
+    /// An archive that keeps nothing. It takes no memory.
+    pub fn new(alloc: Global) -> Archive
+        ensures names { result.names ≡ [] }
+        ensures texts { result.texts ≡ [] }
+    {
+        Archive {
+            names: Vec::new(alloc),
+            versions: Vec::new(alloc),
+        }
+    }
+
+    /// Makes room for so many names and versions in all. What is kept stays, also where memory is
+    /// refused.
+    pub fn reserve(&mut self, names: u32, versions: u32) -> Result<(), OutOfMemory>
+        ensures names { OnOk result (names ≤ self.new.name_room) }
+        ensures versions { OnOk result (versions ≤ self.new.version_room) }
+        ensures same_names { self.new.names ≡ self.old.names }
+        ensures same_texts { self.new.texts ≡ self.old.texts }
+        ensures name_room { self.old.name_room ≤ self.new.name_room }
+        ensures version_room { self.old.version_room ≤ self.new.version_room }
+    {
+        let more_names = (names as usize).saturating_sub(self.names.len());
+        if self.names.reserve(more_names).is_err() {
+            return Err(OutOfMemory);
+        }
+        let more_versions = (versions as usize).saturating_sub(self.versions.len());
+        match self.versions.reserve(more_versions) {
+            Ok(()) => Ok(()),
+            Err(_) => Err(OutOfMemory),
+        }
+    }
+
+    /// Keeps a name under the number that is answered: the count of names before.
+    pub fn push_name(&mut self, name: Vec<u8>) -> u32
+        requires { length self.old.names < self.old.name_room }
+        ensures value { result ≡ length self.old.names }
+        ensures names { self.new.names ≡ self.old.names ++ name.items ∷ [] }
+        ensures texts { self.new.texts ≡ self.old.texts }
+        ensures room { self.old.name_room ≤ self.new.name_room }
+        ensures version_room { self.new.version_room ≡ self.old.version_room }
+    {
+        let number = self.names.len() as u32;
+        if self.names.push(name).is_err() {
+            unreachable!()
+        }
+        number
+    }
+
+    /// Keeps a source, the facts of its text and their keys under the number that is answered: the
+    /// count of versions before.
+    pub fn push_version(&mut self, source: Source, facts: Facts, keys: FactKeys) -> u32
+        requires room { length self.old.texts < self.old.version_room }
+        requires facts { facts ≡ facts_of source }
+        requires keys { keys ≡ keys_of source }
+        ensures value { result ≡ length self.old.texts }
+        ensures texts { self.new.texts ≡ self.old.texts ++ source ∷ [] }
+        ensures names { self.new.names ≡ self.old.names }
+        ensures room { self.old.version_room ≤ self.new.version_room }
+        ensures name_room { self.new.name_room ≡ self.old.name_room }
+    {
+        let number = self.versions.len() as u32;
+        if self
+            .versions
+            .push(Version::new(source, facts, keys))
+            .is_err()
+        {
+            unreachable!()
+        }
+        number
+    }
+
+    /// Keeps the first versions and names alone, so many of each.
+    pub fn truncate(&mut self, versions: u32, names: u32)
+        ensures texts { self.new.texts ≡ take versions self.old.texts }
+        ensures names { self.new.names ≡ take names self.old.names }
+        ensures name_room { self.new.name_room ≡ self.old.name_room }
+        ensures version_room { self.new.version_room ≡ self.old.version_room }
+    {
+        self.versions.truncate(versions as usize);
+        self.names.truncate(names as usize);
+    }
+
+    /// How many names are kept.
+    pub fn name_count(&self) -> usize
+        ensures { result ≡ length self.now.names }
+    {
+        self.names.len()
+    }
+
+    /// How many versions are kept.
+    pub fn version_count(&self) -> usize
+        ensures { result ≡ length self.now.texts }
+    {
+        self.versions.len()
+    }
+
+    /// The name under a number; empty where there is none.
+    pub fn name(&self, name: u32) -> &[u8]
+        ensures { result.now ≡ name_of self.now name }
+    {
+        if (name as usize) < self.names.len() {
+            self.names[name as usize].as_slice()
+        } else {
+            &[]
+        }
+    }
+
+    /// The source under a number.
+    pub fn source(&self, version: u32) -> &Source
+        requires { version < length self.now.texts }
+        ensures { result.now ≡ slice_index_or self.now.texts version [] }
+    {
+        self.versions[version as usize].source()
+    }
+
+    /// The facts of the source under a number.
+    pub fn facts(&self, version: u32) -> &Facts
+        requires { version < length self.now.texts }
+        ensures { result.now ≡ facts_of (slice_index_or self.now.texts version []) }
+    {
+        self.versions[version as usize].facts()
+    }
+
+    /// The version under a number, if it is there.
+    pub(crate) fn version(&self, version: u32) -> Option<&Version>
+        ensures { option_copied result ≡ slice_get self.now.texts version }
+    {
+        self.versions.get(version as usize)
+    }
+}

@@ -1,0 +1,48 @@
+//! Versions of files and sorted indexes of their facts.
+//!
+//! An [`Archive`] keeps file names and versions, each under a number. A [`Sorted`] keeps entries of
+//! the versions under names in one of five orders. The crate stands on `cb_scan` (facts and their
+//! keys) and `cb_tags` (tag names). The layer above uses the contracts of [`Sorted`]: its entries
+//! are those that were put and not taken, in order, and a range has exactly the entries of a key.
+#![tactic(auto)]
+
+mod archive;
+mod bytes;
+mod counted;
+mod entries;
+mod entry;
+mod facts;
+pub mod laws;
+mod listed;
+mod memory;
+mod merge;
+mod names;
+mod order;
+mod orders;
+mod range;
+mod room;
+mod row;
+mod row_orders;
+mod rows;
+mod shelf;
+mod sorted;
+mod tags;
+
+pub use archive::Archive;
+pub use entries::Entries;
+pub use entry::{Entry, Shown};
+pub use facts::FactRows;
+pub use memory::OutOfMemory;
+pub use names::are_rising;
+pub use order::EntryOrder;
+pub use orders::{CallsByCallee, CallsByCaller, DefsByName, DefsByTagName, UsesByName};
+pub use range::Rows;
+pub use room::Room;
+pub use row::{Row, RowOrder};
+pub use rows::{FactRow, FactSort};
+pub use shelf::Shelf;
+pub use sorted::Sorted;
+pub use tags::TagRows;
+
+#[cfg(test)]
+mod tests;

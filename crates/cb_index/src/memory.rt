@@ -1,0 +1,5 @@
+//! Why room cannot be made.
+
+/// A growth was refused.
+#[derive(Clone, Copy, Debug, PartialEq, Eq)]
+pub struct OutOfMemory;

@@ -1,0 +1,135 @@
+//! The rows of entries, one after another.
+ghost use Rattle.std.specs.Prelude.{◌≡◌, ◌++◌, ◌∷◌, [], MatchOption};
+ghost use Rattle.std.specs.Iterator.{YieldsFirst, item_count};
+ghost use Rattle.cb_index.specs.steps.Spread.{items_at, rows_in};
+ghost use Rattle.cb_index.specs.steps.RowsLeft.{entry_rows, entry_rows_if, rows_left};
+
+use crate::archive::Archive;
+use crate::entry::Entry;
+use crate::facts::{keys_for, posting_items};
+use crate::row::Row;
+use crate::rows::FactSort;
+use std::slice;
+
+/// The rows of one entry that are still to come.
+#[derive(Clone, Copy)]
+pub(crate) struct EntryRows<'a> {
+    entry: Entry,
+    items: &'a [u32],
+}
+
+/// Rows. They take no memory.
+#[derive(Clone, Copy)]
+pub struct Rows<'a> {
+    sort: Option<FactSort>,
+    archive: &'a Archive,
+    entries: &'a [Entry],
+    first: Option<EntryRows<'a>>,
+}
+
+/// The items of an entry: of a definition its number, of a posting those of its key list.
+fn items_of<'a>(sort: Option<FactSort>, archive: &'a Archive, entry: &'a Entry) -> &'a [u32]
+    ensures { result.now ≡ items_at sort archive.now entry.now }
+{
+    match sort {
+        Some(sort) => match archive.version(entry.version) {
+            Some(version) => posting_items(keys_for(sort, version.keys()), entry.number),
+            None => &[],
+        },
+        None => slice::from_ref(&entry.number),
+    }
+}
+
+/// The first row of an entry, and what is left after it.
+fn next_row<'a>(first: Option<EntryRows<'a>>) -> Option<(Row, EntryRows<'a>)>
+    ensures { MatchOption result (entry_rows_if first.entry ≡ [])
+        (λ r. entry_rows_if first.entry ≡ r.0 ∷ entry_rows r.1) }
+{
+    let first = first?;
+    let (item, rest) = first.items.split_first()?;
+    let row = Row {
+        name: first.entry.name,
+        version: first.entry.version,
+        item: *item,
+    };
+    Some((
+        row,
+        EntryRows {
+            entry: first.entry,
+            items: rest,
+        },
+    ))
+}
+
+/// A row, what is left of its entry, and the entries after that.
+#[derive(Clone, Copy)]
+struct Step<'a> {
+    row: Row,
+    first: EntryRows<'a>,
+    entries: &'a [Entry],
+}
+
+/// The first row of some entries.
+fn first_row<'a>(
+    sort: Option<FactSort>,
+    archive: &'a Archive,
+    entries: &'a [Entry],
+) -> Option<Step<'a>>
+    ensures { MatchOption result (rows_in sort archive.now entries.now ≡ [])
+        (λ r. rows_in sort archive.now entries.now
+        ≡ r.row ∷ (entry_rows r.first ++ rows_in sort archive.now r.entries.now)) }
+{
+    let mut left = entries;
+    while let Some((entry, rest)) = left.split_first() {
+        left = rest;
+        let here = EntryRows {
+            entry: *entry,
+            items: items_of(sort, archive, entry),
+        };
+        if let Some((row, first)) = next_row(Some(here)) {
+            return Some(Step {
+                row,
+                first,
+                entries: left,
+            });
+        }
+    }
+    None
+}
+
+impl<'a> Rows<'a> {
+    pub(crate) fn new(
+        sort: Option<FactSort>,
+        archive: &'a Archive,
+        entries: &'a [Entry],
+    ) -> Rows<'a>
+        ensures { rows_left result ≡ rows_in sort archive.now entries.now }
+    {
+        Rows {
+            sort,
+            archive,
+            entries,
+            first: None,
+        }
+    }
+}
+
+impl<'a> Iterator for Rows<'a> {
+    type Item = Row;
+
+    ghost next_gives = { YieldsFirst rows_left };
+
+    ghost remaining = { item_count rows_left };
+
+    fn next(&mut self) -> Option<Row> {
+        if let Some((row, first)) = next_row(self.first) {
+            self.first = Some(first);
+            return Some(row);
+        }
+        self.first = None;
+        let found = first_row(self.sort, self.archive, self.entries)?;
+        self.first = Some(found.first);
+        self.entries = found.entries;
+        Some(found.row)
+    }
+}

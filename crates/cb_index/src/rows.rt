@@ -1,0 +1,156 @@
+//! The rows that entries stand for.
+ghost use Rattle.std.specs.Prelude.{◌≡◌};
+ghost use Rattle.std.specs.Option.{option_copied};
+ghost use Rattle.cb_scan.specs.Lines.{line_text};
+ghost use Rattle.cb_tags.specs.TagLines.{tag_of};
+ghost use Rattle.cb_index.specs.steps.Found.{fact_at, fact_of_call, fact_of_use, no_fact, no_tag, tag_at, tag_of_def};
+ghost use Rattle.cb_index.specs.steps.Left.{fact_of};
+
+use crate::archive::{Archive, Version};
+use crate::bytes::bytes_at;
+use crate::entry::Entry;
+use cb_scan::{Call, Def, Kind, Source, Use};
+use cb_tags::TagRow;
+
+/// A use or a call. Of a call the name is the called one, and the scope the one that calls.
+#[derive(Clone, Copy, Debug)]
+pub struct FactRow<'a> {
+    pub file: &'a [u8],
+    pub name: &'a [u8],
+    /// The name of the function or macro around it.
+    pub scope: Option<&'a [u8]>,
+    /// From 1.
+    pub line: u32,
+    /// The whole shown line.
+    pub text: &'a [u8],
+}
+
+/// What is looked up in the key lists.
+#[derive(Clone, Copy, Debug, PartialEq, Eq)]
+pub enum FactSort {
+    /// Uses by name.
+    Uses,
+    /// Calls by the called name.
+    Callees,
+    /// Calls by the name that calls.
+    Callers,
+}
+
+/// A line of a text, without its end; no bytes where there is none. Lines count from 1.
+fn shown_line(source: &Source, line: u32) -> &[u8]
+    ensures { result.now ≡ line_text source.now line }
+{
+    match source.line(line) {
+        Some(text) => text,
+        None => b"",
+    }
+}
+
+fn no_tag(file: &[u8]) -> TagRow<'_>
+    ensures { tag_of result ≡ no_tag file.now }
+{
+    TagRow {
+        name: b"",
+        file,
+        line: 0,
+        text: b"",
+        kind: Kind::Function,
+        local: false,
+    }
+}
+
+fn tag_of_def<'a>(file: &'a [u8], source: &'a Source, def: Option<&Def>) -> TagRow<'a>
+    ensures { tag_of result ≡ tag_of_def file.now source.now (option_copied def.entry) }
+{
+    match def {
+        Some(def) => TagRow {
+            name: bytes_at(source.bytes(), Some(def.name)),
+            file,
+            line: def.line,
+            text: shown_line(source, def.line),
+            kind: def.kind,
+            local: def.local,
+        },
+        None => no_tag(file),
+    }
+}
+
+/// The tag of a definition.
+pub(crate) fn tag_at(archive: &Archive, entry: Entry) -> TagRow<'_>
+    ensures { tag_of result ≡ tag_at archive.now entry }
+{
+    let file = archive.name(entry.name);
+    match archive.version(entry.version) {
+        Some(version) => {
+            let def = version.facts().defs().get(entry.number as usize);
+            tag_of_def(file, version.source(), def)
+        }
+        None => no_tag(file),
+    }
+}
+
+fn no_fact(file: &[u8]) -> FactRow<'_>
+    ensures { fact_of result ≡ no_fact file.now }
+{
+    FactRow {
+        file,
+        name: b"",
+        scope: None,
+        line: 0,
+        text: b"",
+    }
+}
+
+fn fact_of_use<'a>(file: &'a [u8], source: &'a Source, found: Option<&Use>) -> FactRow<'a>
+    ensures { fact_of result ≡ fact_of_use file.now source.now (option_copied found.entry) }
+{
+    match found {
+        Some(found) => {
+            let scope = match found.scope {
+                Some(scope) => Some(bytes_at(source.bytes(), Some(scope))),
+                None => None,
+            };
+            FactRow {
+                file,
+                name: bytes_at(source.bytes(), Some(found.name)),
+                scope,
+                line: found.line,
+                text: shown_line(source, found.line),
+            }
+        }
+        None => no_fact(file),
+    }
+}
+
+fn fact_of_call<'a>(file: &'a [u8], source: &'a Source, found: Option<&Call>) -> FactRow<'a>
+    ensures { fact_of result ≡ fact_of_call file.now source.now (option_copied found.entry) }
+{
+    match found {
+        Some(found) => FactRow {
+            file,
+            name: bytes_at(source.bytes(), Some(found.callee)),
+            scope: Some(bytes_at(source.bytes(), Some(found.caller))),
+            line: found.line,
+            text: shown_line(source, found.line),
+        },
+        None => no_fact(file),
+    }
+}
+
+/// The row of an item.
+pub(crate) fn fact_at<'a>(
+    sort: FactSort,
+    file: &'a [u8],
+    version: &'a Version,
+    item: u32,
+) -> FactRow<'a>
+    ensures { fact_of result ≡ fact_at sort file.now version.now item }
+{
+    let facts = version.facts();
+    let source = version.source();
+    match sort {
+        FactSort::Uses => fact_of_use(file, source, facts.uses().get(item as usize)),
+        FactSort::Callees => fact_of_call(file, source, facts.calls().get(item as usize)),
+        FactSort::Callers => fact_of_call(file, source, facts.calls().get(item as usize)),
+    }
+}

@@ -1,0 +1,393 @@
+//! Versions that are shown under file names, and what is found in them.
+ghost use Rattle.std.specs.Prelude.{◌≡◌, ◌+◌, ◌-◌, ◌*◌, ◌^◌, ◌≤◌, ◌<◌, ◌++◌, ◌∷◌, [], true, false, min, not, nat_eq, length, map, filter, take, drop, vec_capacity, OnOk};
+ghost use Rattle.std.specs.List.{AllByRecursion, list_any};
+ghost use Rattle.std.specs.List.Sorted.{IsStrictlyIncreasing};
+ghost use Rattle.std.specs.Cmp.Lexicographic.{slice_cmp};
+ghost use Rattle.std.specs.Ordering.{is_gt, nat_cmp};
+ghost use Rattle.std.specs.Str.{bytes_eq};
+ghost use Rattle.cb_scan.specs.Definitions.{facts_of};
+ghost use Rattle.cb_scan.specs.FactKeys.{keys_of};
+ghost use Rattle.cb_scan.specs.Order.{goes_first, in_order, put};
+ghost use Rattle.cb_index.specs.Archived.{name_of};
+ghost use Rattle.cb_index.specs.Files.{AreAscending, shown_name};
+ghost use Rattle.cb_index.specs.Names.{is_among};
+ghost use Rattle.cb_index.specs.Rows.{calls_in, calls_of, tags_by_name, tags_by_tag_name, tags_named, uses_of};
+ghost use Rattle.cb_index.specs.Shelved.{CanShow, CanShowAll, KeepsRoom, files, with_facts};
+ghost use Rattle.cb_index.specs.declared.entry.Shown.{Shown};
+ghost use Rattle.cb_index.specs.steps.Left.{entries_left, facts_left, tags_left};
+
+use crate::archive::Archive;
+use crate::counted::{Counted, has_room, has_room_for};
+use crate::entries::Entries;
+use crate::entry::Shown;
+use crate::facts::FactRows;
+use crate::listed::{are_there, ascend, has_any_name, has_name, put_all_shown, put_shown};
+use crate::memory::OutOfMemory;
+use crate::names::Names;
+use crate::orders::{CallsByCallee, CallsByCaller, DefsByName, DefsByTagName, UsesByName};
+use crate::room::Room;
+use crate::rows::FactSort;
+use crate::sorted::Sorted;
+use crate::tags::TagRows;
+use cb_scan::{FactKeys, Facts, Source};
+use std::alloc::Global;
+use std::cmp::Ordering;
+use std::marker::Model;
+
+/// An archive, the versions that are shown of it, each under a file name, and five indexes of what
+/// is found in these. No two versions are shown under one file name. Only `reserve` takes memory.
+#[derive(Drop)]
+pub struct Shelf {
+    archive: Archive,
+    shown: Vec<Shown>,
+    defs: Sorted<DefsByName>,
+    tags: Sorted<DefsByTagName>,
+    uses: Sorted<UsesByName>,
+    callees: Sorted<CallsByCallee>,
+    callers: Sorted<CallsByCaller>,
+    turns: u64,
+}
+
+impl Model for Shelf {
+    ghost use Rattle.std.specs.Prelude.{min, vec_capacity};
+    ghost use Rattle.cb_index.specs.Shelved.{AreKept, Shelved};
+
+    ghost Value = { Shelved };
+
+    ghost view = { λ s. record {
+      archive = s.archive;
+      shown = s.shown.items;
+      turns = s.turns;
+      entry_room = vec_capacity s.shown;
+      def_room = min s.defs.room s.tags.room;
+      use_room = s.uses.room;
+      call_room = min s.callees.room s.callers.room;
+    } };
+
+    ghost invariant = { λ s. AreKept s.archive s.shown.items s.defs.entries s.tags.entries
+        s.uses.entries s.callees.entries s.callers.entries };
+}
+
+impl Shelf {
+    /// A shelf that keeps and shows nothing. It takes no memory.
+    pub fn new(alloc: Global) -> Shelf
+        ensures names { result.archive.names ≡ [] }
+        ensures texts { result.archive.texts ≡ [] }
+        ensures shown { result.shown ≡ [] }
+        ensures turns { result.turns ≡ 0 }
+    {
+        Shelf {
+            archive: Archive::new(alloc),
+            shown: Vec::new(alloc),
+            defs: Sorted::new(alloc),
+            tags: Sorted::new(alloc),
+            uses: Sorted::new(alloc),
+            callees: Sorted::new(alloc),
+            callers: Sorted::new(alloc),
+            turns: 0,
+        }
+    }
+
+    /// What is kept.
+    pub fn archive(&self) -> &Archive
+        ensures { result.now ≡ self.now.archive }
+    {
+        &self.archive
+    }
+
+    /// What is shown, by file name.
+    pub fn shown(&self) -> &[Shown]
+        ensures { result.now ≡ self.now.shown }
+    {
+        self.shown.as_slice()
+    }
+
+    /// How often something was shown or hidden, up to the greatest number.
+    pub fn turns(&self) -> u64
+        ensures { result ≡ self.now.turns }
+    {
+        self.turns
+    }
+
+    /// Makes room for so many of each in all. What is kept and shown stays, also where memory is
+    /// refused.
+    pub fn reserve(&mut self, room: &Room) -> Result<(), OutOfMemory>
+        ensures names { OnOk result (room.now.names ≤ self.new.archive.name_room) }
+        ensures versions { OnOk result (room.now.versions ≤ self.new.archive.version_room) }
+        ensures entries { OnOk result (room.now.entries ≤ self.new.entry_room) }
+        ensures defs { OnOk result (room.now.defs ≤ self.new.def_room) }
+        ensures uses { OnOk result (room.now.uses ≤ self.new.use_room) }
+        ensures calls { OnOk result (room.now.calls ≤ self.new.call_room) }
+        ensures same_names { self.new.archive.names ≡ self.old.archive.names }
+        ensures same_texts { self.new.archive.texts ≡ self.old.archive.texts }
+        ensures same_shown { self.new.shown ≡ self.old.shown }
+        ensures same_turns { self.new.turns ≡ self.old.turns }
+        ensures room { KeepsRoom self.old self.new }
+    {
+        match self.archive.reserve(room.names, room.versions) {
+            Ok(()) => {}
+            Err(_) => return Err(OutOfMemory),
+        }
+        let more = (room.entries as usize).saturating_sub(self.shown.len());
+        match self.shown.reserve(more) {
+            Ok(()) => {}
+            Err(_) => return Err(OutOfMemory),
+        }
+        match self.defs.reserve(room.defs) {
+            Ok(()) => {}
+            Err(_) => return Err(OutOfMemory),
+        }
+        match self.tags.reserve(room.defs) {
+            Ok(()) => {}
+            Err(_) => return Err(OutOfMemory),
+        }
+        match self.uses.reserve(room.uses) {
+            Ok(()) => {}
+            Err(_) => return Err(OutOfMemory),
+        }
+        match self.callees.reserve(room.calls) {
+            Ok(()) => {}
+            Err(_) => return Err(OutOfMemory),
+        }
+        self.callers.reserve(room.calls)
+    }
+
+    /// Keeps a name under the number that is answered: the count of names before.
+    pub fn push_name(&mut self, name: Vec<u8>) -> u32
+        requires { length self.old.archive.names < self.old.archive.name_room }
+        ensures value { result ≡ length self.old.archive.names }
+        ensures names { self.new.archive.names ≡ self.old.archive.names ++ name.items ∷ [] }
+        ensures texts { self.new.archive.texts ≡ self.old.archive.texts }
+        ensures shown { self.new.shown ≡ self.old.shown }
+        ensures turns { self.new.turns ≡ self.old.turns }
+        ensures room { KeepsRoom self.old self.new }
+    {
+        self.archive.push_name(name)
+    }
+
+    /// Keeps a source, the facts of its text and their keys under the number that is answered: the
+    /// count of versions before.
+    pub fn push_version(&mut self, source: Source, facts: Facts, keys: FactKeys) -> u32
+        requires room { length self.old.archive.texts < self.old.archive.version_room }
+        requires facts { facts ≡ facts_of source }
+        requires keys { keys ≡ keys_of source }
+        ensures value { result ≡ length self.old.archive.texts }
+        ensures texts { self.new.archive.texts ≡ self.old.archive.texts ++ source ∷ [] }
+        ensures names { self.new.archive.names ≡ self.old.archive.names }
+        ensures shown { self.new.shown ≡ self.old.shown }
+        ensures turns { self.new.turns ≡ self.old.turns }
+        ensures room { KeepsRoom self.old self.new }
+    {
+        self.archive.push_version(source, facts, keys)
+    }
+
+    /// Keeps the first versions and names alone, so many of each.
+    pub fn truncate(&mut self, versions: u32, names: u32)
+        requires { AllByRecursion (λ (s : Shown). (s.version < versions) × (s.name < names))
+            self.old.shown }
+        ensures texts { self.new.archive.texts ≡ take versions self.old.archive.texts }
+        ensures names { self.new.archive.names ≡ take names self.old.archive.names }
+        ensures shown { self.new.shown ≡ self.old.shown }
+        ensures turns { self.new.turns ≡ self.old.turns }
+        ensures room { KeepsRoom self.old self.new }
+    {
+        self.archive.truncate(versions, names);
+    }
+
+    /// Whether a version can be shown under a name: both are there, no file of that name is shown,
+    /// and there is room.
+    pub fn can_show(&self, name: u32, version: u32) -> bool
+        ensures { result ≡ true → CanShow self.now name version }
+    {
+        if (name as usize) >= self.archive.name_count() {
+            return false;
+        }
+        if (version as usize) >= self.archive.version_count() {
+            return false;
+        }
+        let shown = self.shown.as_slice();
+        if has_name(&self.archive, name, shown) || shown.len() >= self.shown.capacity() {
+            return false;
+        }
+        let def_room = self.defs.room().min(self.tags.room());
+        let call_room = self.callees.room().min(self.callers.room());
+        has_room(Counted::Defs, &self.archive, shown, version, def_room)
+            && has_room(
+                Counted::Uses,
+                &self.archive,
+                shown,
+                version,
+                self.uses.room(),
+            )
+            && has_room(Counted::Calls, &self.archive, shown, version, call_room)
+    }
+
+    /// Whether versions can be shown together: their numbers are there, no file of one of their
+    /// names is shown, and there is room for all. It asks for file names that ascend.
+    pub fn can_show_all(&self, news: &[Shown]) -> bool
+        ensures { result ≡ true → CanShowAll self.now news.now }
+    {
+        let shown = self.shown.as_slice();
+        if !are_there(&self.archive, news) || !ascend(&self.archive, news) {
+            return false;
+        }
+        if has_any_name(&self.archive, news, shown) {
+            return false;
+        }
+        if news.len() > self.shown.capacity() - shown.len() {
+            return false;
+        }
+        let def_room = self.defs.room().min(self.tags.room());
+        let call_room = self.callees.room().min(self.callers.room());
+        has_room_for(Counted::Defs, &self.archive, shown, news, def_room)
+            && has_room_for(Counted::Uses, &self.archive, shown, news, self.uses.room())
+            && has_room_for(Counted::Calls, &self.archive, shown, news, call_room)
+    }
+
+    /// Shows a version under a name, in the room that is there. It takes no memory.
+    pub fn show(&mut self, name: u32, version: u32)
+        requires { CanShow self.old name version }
+        ensures shown { self.new.shown ≡ put (shown_name self.old.archive)
+            (record { name = name; version = version }) self.old.shown }
+        ensures archive { self.new.archive ≡ self.old.archive }
+        ensures turns { self.new.turns ≡ min (self.old.turns + 1) (2 ^ 64 - 1) }
+        ensures room { KeepsRoom self.old self.new }
+    {
+        let one = Shown { name, version };
+        put_shown(&self.archive, one, &mut self.shown);
+        self.defs.put_all(&self.archive, one);
+        self.tags.put_all(&self.archive, one);
+        self.uses.put_all(&self.archive, one);
+        self.callees.put_all(&self.archive, one);
+        self.callers.put_all(&self.archive, one);
+        self.turns = self.turns.saturating_add(1);
+    }
+
+    /// Shows versions together, each under its name, in the room that is there. Each index is put
+    /// in order once. It takes no memory.
+    pub fn show_all(&mut self, news: &[Shown])
+        requires { CanShowAll self.old news.now }
+        ensures shown { self.new.shown
+            ≡ in_order (shown_name self.old.archive) (self.old.shown ++ news.now) }
+        ensures archive { self.new.archive ≡ self.old.archive }
+        ensures turns { self.new.turns ≡ min (self.old.turns + length news.now) (2 ^ 64 - 1) }
+        ensures room { KeepsRoom self.old self.new }
+    {
+        put_all_shown(&self.archive, news, &mut self.shown);
+        self.defs.put_each(&self.archive, news);
+        self.tags.put_each(&self.archive, news);
+        self.uses.put_each(&self.archive, news);
+        self.callees.put_each(&self.archive, news);
+        self.callers.put_each(&self.archive, news);
+        self.turns = self.turns.saturating_add(news.len() as u64);
+    }
+
+    /// Hides what is shown under a name. It takes no memory.
+    pub fn hide(&mut self, name: u32)
+        ensures shown { self.new.shown
+            ≡ filter (λ (s : Shown). not (nat_eq s.name name)) self.old.shown }
+        ensures archive { self.new.archive ≡ self.old.archive }
+        ensures turns { self.new.turns ≡ min (self.old.turns + 1) (2 ^ 64 - 1) }
+        ensures room { KeepsRoom self.old self.new }
+    {
+        self.shown.retain(
+            |s: &Shown| -> bool
+                ensures { result ≡ not (nat_eq s.now.name name) }
+            { s.name != name },
+        );
+        self.defs.take_name(name);
+        self.tags.take_name(name);
+        self.uses.take_name(name);
+        self.callees.take_name(name);
+        self.callers.take_name(name);
+        self.turns = self.turns.saturating_add(1);
+    }
+
+    /// Hides what is shown under many names, each number below the next, in one pass of each index.
+    /// It takes no memory.
+    pub fn hide_all(&mut self, names: &[u32])
+        requires { IsStrictlyIncreasing names.now }
+        ensures shown { self.new.shown
+            ≡ filter (λ (s : Shown). not (is_among names.now s.name)) self.old.shown }
+        ensures archive { self.new.archive ≡ self.old.archive }
+        ensures turns { self.new.turns ≡ min (self.old.turns + length names.now) (2 ^ 64 - 1) }
+        ensures room { KeepsRoom self.old self.new }
+    {
+        let hidden = Names { numbers: names };
+        self.shown.retain(
+            |s: &Shown| -> bool
+                ensures { result ≡ not (is_among hidden.entry.numbers.now s.now.name) }
+            { !hidden.has(s.name) },
+        );
+        self.defs.take_names(names);
+        self.tags.take_names(names);
+        self.uses.take_names(names);
+        self.callees.take_names(names);
+        self.callers.take_names(names);
+        self.turns = self.turns.saturating_add(names.len() as u64);
+    }
+
+    /// The files that are shown, by name, each with what is found in it.
+    pub fn entries(&self) -> Entries<'_>
+        ensures { entries_left result ≡ map with_facts (files self.now) }
+    {
+        Entries {
+            archive: &self.archive,
+            shown: self.shown.as_slice(),
+        }
+    }
+
+    /// The definitions of a name, by file and place.
+    pub fn defs(&self, name: &[u8]) -> TagRows<'_>
+        ensures { tags_left result ≡ tags_named name.now (files self.now) }
+    {
+        TagRows {
+            archive: &self.archive,
+            entries: self.defs.with_key(&self.archive, name),
+        }
+    }
+
+    /// All definitions, by name.
+    pub fn all_defs(&self) -> TagRows<'_>
+        ensures { tags_left result ≡ tags_by_name (files self.now) }
+    {
+        TagRows {
+            archive: &self.archive,
+            entries: self.defs.entries(),
+        }
+    }
+
+    /// All definitions, by the names that a plain tags file has for them.
+    pub fn tags(&self) -> TagRows<'_>
+        ensures { tags_left result ≡ tags_by_tag_name (files self.now) }
+    {
+        TagRows {
+            archive: &self.archive,
+            entries: self.tags.entries(),
+        }
+    }
+
+    /// The uses of a name, by file and place.
+    pub fn uses(&self, name: &[u8]) -> FactRows<'_>
+        ensures { facts_left result ≡ uses_of name.now (files self.now) }
+    {
+        let found = self.uses.with_key(&self.archive, name);
+        FactRows::new(FactSort::Uses, &self.archive, found)
+    }
+
+    /// The calls of a name, by file and place.
+    pub fn calling(&self, name: &[u8]) -> FactRows<'_>
+        ensures { facts_left result ≡ calls_of name.now (files self.now) }
+    {
+        let found = self.callees.with_key(&self.archive, name);
+        FactRows::new(FactSort::Callees, &self.archive, found)
+    }
+
+    /// The calls that stand in what has that name, by file and place.
+    pub fn called_by(&self, name: &[u8]) -> FactRows<'_>
+        ensures { facts_left result ≡ calls_in name.now (files self.now) }
+    {
+        let found = self.callers.with_key(&self.archive, name);
+        FactRows::new(FactSort::Callers, &self.archive, found)
+    }
+}

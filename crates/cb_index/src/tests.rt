@@ -1,0 +1,98 @@
+//! Tests on short texts, with the facts worked out by hand.
+mod keys;
+mod memory;
+mod model;
+mod rows;
+mod shelf;
+mod shelves;
+mod sorts;
+
+use crate::archive::Archive;
+use crate::entry::{Entry, Shown};
+use crate::order::EntryOrder;
+use crate::sorted::Sorted;
+use cb_scan::{FactKeys, Meter, Source, scan};
+use std::alloc::Global;
+use std::test::Fail;
+
+/// An include, a macro, a typedef and two functions.
+const FIRST: &[u8] =
+    b"#include \"a.h\"\n#define TWICE(x) ((x) + add(x, 0))\ntypedef unsigned long word;\nstatic int add(int a, int b) {\n\treturn a + b;\n}\nint main(void) {\n\treturn add(1, 2) / TWICE(3);\n}\n";
+
+/// One function.
+const SECOND: &[u8] = b"int main(void) {\n\treturn 0;\n}\n";
+
+/// Names that share their first eight bytes.
+const THIRD: &[u8] =
+    b"int sqlite3_open(void) { }\nint sqlite3_(void) { }\nint sqlite3_close(void) { }\n";
+
+/// Keeps a text under a name.
+fn keep(alloc: Global, archive: &mut Archive, name: &[u8], text: &[u8]) -> Result<Shown, Fail> {
+    let source = Source::new(alloc, text.to_vec(alloc)?)?;
+    let facts = scan(alloc, &mut Meter::new(), &source)?;
+    let keys = FactKeys::new(alloc, &source, &facts)?;
+    let name = name.to_vec(alloc)?;
+    if archive.name_count() >= 1000 || archive.version_count() >= 1000 {
+        return Err(Fail::from("too many"));
+    }
+    match archive.reserve(1000, 1000) {
+        Ok(()) => {}
+        Err(_) => return Err(Fail::from("no memory")),
+    }
+    Ok(Shown {
+        name: archive.push_name(name),
+        version: archive.push_version(source, facts, keys),
+    })
+}
+
+/// Three files in an archive: `z/b.c`, `m.c` and `s.c`.
+fn three_files(alloc: Global) -> Result<(Archive, [Shown; 3]), Fail> {
+    let mut archive = Archive::new(alloc);
+    let first = keep(alloc, &mut archive, b"z/b.c", FIRST)?;
+    let second = keep(alloc, &mut archive, b"m.c", SECOND)?;
+    let third = keep(alloc, &mut archive, b"s.c", THIRD)?;
+    Ok((archive, [first, second, third]))
+}
+
+/// An index of these versions, put one after the other.
+fn index_of<O: EntryOrder>(
+    alloc: Global,
+    archive: &Archive,
+    shown: &[Shown],
+) -> Result<Sorted<O>, Fail> {
+    let mut index: Sorted<O> = Sorted::new(alloc);
+    for one in shown {
+        put(archive, *one, &mut index)?;
+    }
+    Ok(index)
+}
+
+/// Puts a version, after making room for it.
+fn put<O: EntryOrder>(archive: &Archive, one: Shown, index: &mut Sorted<O>) -> Result<(), Fail> {
+    let count = index.count(archive, one);
+    let held = index.entries().len();
+    if count > 1000 || held > 1000 {
+        return Err(Fail::from("too many"));
+    }
+    match index.reserve((held + count) as u64) {
+        Ok(()) => {}
+        Err(_) => return Err(Fail::from("no memory")),
+    }
+    if !index.is_in_order(archive) {
+        return Err(Fail::from("out of order"));
+    }
+    index.put_all(archive, one);
+    Ok(())
+}
+
+/// The entries of a key.
+fn range_of<'a, O: EntryOrder>(
+    archive: &Archive,
+    index: &'a Sorted<O>,
+    key: &[u8],
+) -> Result<&'a [Entry], Fail> {
+    if !index.is_in_order(archive) {
+        return Err(Fail::from("out of order"));
+    }
+    Ok(index.with_key(archive, key))
+}

@@ -1,0 +1,177 @@
+//! What a shelf shows, on files whose facts are worked out by hand.
+use super::shelves::{
+    empty_shelf, has_facts, has_tags, hide_all, keep_name, keep_version, show, show_all,
+};
+use crate::entry::Shown;
+use crate::names::are_rising;
+use crate::shelf::Shelf;
+use std::alloc::Global;
+use std::process::Abort;
+use std::test::Fail;
+
+/// A function whose name is the tag name of `main` in `b.c`.
+const OTHER: &[u8] = b"int Mb(void) {\n}\n";
+
+/// The version `version` under the name `name`.
+fn one(name: u32, version: u32) -> Shown {
+    Shown { name, version }
+}
+
+/// `z/b.c` and `m.c`, kept under the numbers 0 and 1 and not shown yet.
+fn two_files(alloc: Global) -> Result<Shelf, Fail> {
+    let mut shelf = empty_shelf(alloc)?;
+    keep_name(alloc, &mut shelf, b"z/b.c")?;
+    keep_name(alloc, &mut shelf, b"m.c")?;
+    keep_version(alloc, &mut shelf, super::FIRST)?;
+    keep_version(alloc, &mut shelf, OTHER)?;
+    Ok(shelf)
+}
+
+fn shows_both(rt: &impl Abort, shelf: &Shelf) -> Result<(), Fail> {
+    let tags: [&[u8]; 5] = [b"Mb", b"main", b"TWICE", b"add", b"word"];
+    has_tags(rt, shelf.tags(), &tags)?;
+    let names: [&[u8]; 5] = [b"Mb", b"TWICE", b"add", b"main", b"word"];
+    has_tags(rt, shelf.all_defs(), &names)?;
+    let one: [&[u8]; 1] = [b"add"];
+    has_tags(rt, shelf.defs(b"add"), &one)?;
+    let adds: [&[u8]; 2] = [b"add", b"add"];
+    has_facts(rt, shelf.calling(b"add"), &adds, &[2, 8])?;
+    let called: [&[u8]; 2] = [b"add", b"TWICE"];
+    has_facts(rt, shelf.called_by(b"main"), &called, &[8, 8])?;
+    let uses: [&[u8]; 3] = [b"x", b"x", b"x"];
+    has_facts(rt, shelf.uses(b"x"), &uses, &[2, 2, 2])
+}
+
+#[test]
+fn one_file_is_shown_and_hidden(rt: HostRuntime) -> Result<(), Fail> {
+    let mut shelf = empty_shelf(rt.alloc())?;
+    let name = keep_name(rt.alloc(), &mut shelf, b"a.c")?;
+    let version = keep_version(rt.alloc(), &mut shelf, super::FIRST)?;
+    show(&mut shelf, name, version)?;
+    let tags: [&[u8]; 4] = [b"main", b"TWICE", b"add", b"word"];
+    has_tags(&rt, shelf.tags(), &tags)?;
+    shelf.hide(name);
+    has_tags(&rt, shelf.tags(), &[])?;
+    assert_eq!(rt; shelf.turns(), 2);
+    Ok(())
+}
+
+/// `two_files`, of which `files` are shown one after another.
+fn shown_in_turn(alloc: Global, files: &[Shown]) -> Result<Shelf, Fail> {
+    let mut shelf = two_files(alloc)?;
+    for file in files {
+        show(&mut shelf, file.name, file.version)?;
+    }
+    Ok(shelf)
+}
+
+#[test]
+fn the_second_file_is_shown_last(rt: HostRuntime) -> Result<(), Fail> {
+    let shelf = shown_in_turn(rt.alloc(), &[one(0, 0), one(1, 1)])?;
+    shows_both(&rt, &shelf)
+}
+
+#[test]
+fn the_second_file_is_shown_first(rt: HostRuntime) -> Result<(), Fail> {
+    let shelf = shown_in_turn(rt.alloc(), &[one(1, 1), one(0, 0)])?;
+    shows_both(&rt, &shelf)
+}
+
+#[test]
+fn a_file_is_hidden_and_shown_again(rt: HostRuntime) -> Result<(), Fail> {
+    let mut shelf = shown_in_turn(rt.alloc(), &[one(0, 0), one(1, 1)])?;
+    shelf.hide(1);
+    show(&mut shelf, 1, 1)?;
+    assert_eq!(rt; shelf.turns(), 4);
+    shows_both(&rt, &shelf)
+}
+
+#[test]
+fn files_are_shown_and_hidden_together(rt: HostRuntime) -> Result<(), Fail> {
+    let mut shelf = two_files(rt.alloc())?;
+    show_all(&mut shelf, &[one(1, 1), one(0, 0)])?;
+    assert_eq!(rt; shelf.turns(), 2);
+    hide_all(&mut shelf, &[0, 1])?;
+    has_tags(&rt, shelf.tags(), &[])?;
+    has_facts(&rt, shelf.uses(b"x"), &[], &[])?;
+    assert_eq!(rt; shelf.turns(), 4);
+    Ok(())
+}
+
+#[test]
+fn files_beside_others_are_shown_together(rt: HostRuntime) -> Result<(), Fail> {
+    let mut shelf = two_files(rt.alloc())?;
+    show(&mut shelf, 0, 0)?;
+    show_all(&mut shelf, &[one(1, 1)])?;
+    shows_both(&rt, &shelf)
+}
+
+#[test]
+fn files_beside_others_are_hidden_together(rt: HostRuntime) -> Result<(), Fail> {
+    let mut shelf = two_files(rt.alloc())?;
+    show_all(&mut shelf, &[one(1, 1), one(0, 0)])?;
+    hide_all(&mut shelf, &[1])?;
+    assert!(rt; shelf.shown() == [one(0, 0)].as_slice());
+    has_tags(&rt, shelf.defs(b"main"), &[b"main".as_slice()])?;
+    hide_all(&mut shelf, &[])?;
+    assert_eq!(rt; shelf.turns(), 3);
+    Ok(())
+}
+
+#[test]
+fn numbers_rise(rt: HostRuntime) -> Result<(), Fail> {
+    assert!(rt; are_rising(&[]) && are_rising(&[3]) && are_rising(&[0, 1, 7]));
+    assert!(rt; !are_rising(&[1, 0]) && !are_rising(&[2, 2]) && !are_rising(&[0, 5, 5]));
+    Ok(())
+}
+
+#[test]
+fn names_of_many_files_ascend(rt: HostRuntime) -> Result<(), Fail> {
+    let shelf = two_files(rt.alloc())?;
+    assert!(rt; shelf.can_show_all(&[]));
+    assert!(rt; shelf.can_show_all(&[one(1, 1), one(0, 0)]));
+    assert!(rt; !shelf.can_show_all(&[one(0, 0), one(1, 1)]));
+    assert!(rt; !shelf.can_show_all(&[one(0, 0), one(0, 0)]));
+    Ok(())
+}
+
+#[test]
+fn numbers_of_many_files_are_there(rt: HostRuntime) -> Result<(), Fail> {
+    let shelf = two_files(rt.alloc())?;
+    assert!(rt; !shelf.can_show_all(&[one(2, 0)]));
+    assert!(rt; !shelf.can_show_all(&[one(0, 2)]));
+    Ok(())
+}
+
+#[test]
+fn many_files_beside_one_of_their_names(rt: HostRuntime) -> Result<(), Fail> {
+    let mut shelf = two_files(rt.alloc())?;
+    show(&mut shelf, 0, 1)?;
+    assert!(rt; shelf.can_show_all(&[one(1, 1)]));
+    assert!(rt; !shelf.can_show_all(&[one(1, 1), one(0, 0)]));
+    Ok(())
+}
+
+#[test]
+fn a_file_is_shown_once(rt: HostRuntime) -> Result<(), Fail> {
+    let mut shelf = two_files(rt.alloc())?;
+    show(&mut shelf, 0, 0)?;
+    assert!(rt; !shelf.can_show(0, 1));
+    assert!(rt; !shelf.can_show(2, 1));
+    assert!(rt; !shelf.can_show(1, 2));
+    assert!(rt; shelf.can_show(1, 1));
+    keep_name(rt.alloc(), &mut shelf, b"z/b.c")?;
+    assert!(rt; !shelf.can_show(2, 1));
+    shelf.hide(0);
+    assert!(rt; shelf.can_show(2, 1));
+    Ok(())
+}
+
+#[test]
+fn names_and_versions_have_the_count_before_as_their_number(rt: HostRuntime) -> Result<(), Fail> {
+    let mut shelf = two_files(rt.alloc())?;
+    assert_eq!(rt; keep_name(rt.alloc(), &mut shelf, b"q.h")?, 2);
+    assert_eq!(rt; keep_version(rt.alloc(), &mut shelf, b"")?, 2);
+    assert_eq!(rt; shelf.turns(), 0);
+    Ok(())
+}

@@ -1,0 +1,123 @@
+//! Shelves for tests, and comparisons of what they show.
+use crate::entry::Shown;
+use crate::facts::FactRows;
+use crate::names::are_rising;
+use crate::room::Room;
+use crate::shelf::Shelf;
+use crate::tags::TagRows;
+use cb_scan::{FactKeys, Meter, Source, scan};
+use std::alloc::Global;
+use std::process::Abort;
+use std::test::Fail;
+
+/// More than any of these tests needs.
+const ROOM: Room = Room {
+    versions: 1000,
+    names: 1000,
+    entries: 100,
+    defs: 10_000,
+    uses: 10_000,
+    calls: 10_000,
+};
+
+fn make_room(shelf: &mut Shelf) -> Result<(), Fail> {
+    match shelf.reserve(&ROOM) {
+        Ok(()) => Ok(()),
+        Err(_) => Err(Fail::from("no memory")),
+    }
+}
+
+pub(super) fn empty_shelf(alloc: Global) -> Result<Shelf, Fail> {
+    let mut shelf = Shelf::new(alloc);
+    make_room(&mut shelf)?;
+    Ok(shelf)
+}
+
+/// Keeps a name.
+pub(super) fn keep_name(alloc: Global, shelf: &mut Shelf, name: &[u8]) -> Result<u32, Fail> {
+    let name = name.to_vec(alloc)?;
+    if shelf.archive().name_count() >= 1000 {
+        return Err(Fail::from("too many names"));
+    }
+    match shelf.reserve(&ROOM) {
+        Ok(()) => {}
+        Err(_) => return Err(Fail::from("no memory")),
+    }
+    Ok(shelf.push_name(name))
+}
+
+/// Keeps a text and its facts.
+pub(super) fn keep_version(alloc: Global, shelf: &mut Shelf, text: &[u8]) -> Result<u32, Fail> {
+    let source = Source::new(alloc, text.to_vec(alloc)?)?;
+    let facts = scan(alloc, &mut Meter::new(), &source)?;
+    let keys = FactKeys::new(alloc, &source, &facts)?;
+    if shelf.archive().version_count() >= 1000 {
+        return Err(Fail::from("too many versions"));
+    }
+    match shelf.reserve(&ROOM) {
+        Ok(()) => {}
+        Err(_) => return Err(Fail::from("no memory")),
+    }
+    Ok(shelf.push_version(source, facts, keys))
+}
+
+/// Shows a version where it can be shown.
+pub(super) fn show(shelf: &mut Shelf, name: u32, version: u32) -> Result<(), Fail> {
+    if !shelf.can_show(name, version) {
+        return Err(Fail::from("cannot be shown"));
+    }
+    shelf.show(name, version);
+    Ok(())
+}
+
+/// Shows versions together where they can be shown. Their file names ascend.
+pub(super) fn show_all(shelf: &mut Shelf, news: &[Shown]) -> Result<(), Fail> {
+    if !shelf.can_show_all(news) {
+        return Err(Fail::from("cannot be shown together"));
+    }
+    shelf.show_all(news);
+    Ok(())
+}
+
+/// Hides what is shown under names whose numbers rise.
+pub(super) fn hide_all(shelf: &mut Shelf, names: &[u32]) -> Result<(), Fail> {
+    if !are_rising(names) {
+        return Err(Fail::from("numbers that do not rise"));
+    }
+    shelf.hide_all(names);
+    Ok(())
+}
+
+/// The tags have these names.
+pub(super) fn has_tags(rt: &impl Abort, rows: TagRows<'_>, names: &[&[u8]]) -> Result<(), Fail> {
+    let mut rows = rows;
+    for name in names {
+        match rows.next() {
+            Some(row) => assert_eq!(rt; row.name, *name),
+            None => return Err(Fail::from("too few tags")),
+        }
+    }
+    assert!(rt; rows.next().is_none());
+    Ok(())
+}
+
+/// The facts have these names and lines.
+pub(super) fn has_facts(
+    rt: &impl Abort,
+    rows: FactRows<'_>,
+    names: &[&[u8]],
+    lines: &[u32],
+) -> Result<(), Fail> {
+    let mut rows = rows;
+    for (i, name) in names.iter().enumerate() {
+        match rows.next() {
+            Some(row) => {
+                assert_eq!(rt; row.name, *name);
+                assert!(rt; lines.get(i) == Some(&row.line));
+            }
+            None => return Err(Fail::from("too few facts")),
+        }
+    }
+    assert!(rt; rows.next().is_none());
+    Ok(())
+}
