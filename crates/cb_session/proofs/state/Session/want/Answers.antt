@@ -3,8 +3,8 @@ use Rattle.cb_session.proofs.Outcomes.{Does-want, wanted-some}
 use Rattle.cb_session.proofs.state.Session.want.Goals as goal
 use Rattle.cb_session.proofs.state.Session.want.Goals.{in-Ok, in-Err}
 
-pub put_rows-requires : goal.put_rows-requires
-put_rows-requires g c = let done = c.in-Ok.ensures.timeline in wanted-some _ done.0 _ _ done.1
+pub rows-requires : goal.rows-requires
+rows-requires g c = let done = c.in-Ok.ensures.timeline in wanted-some _ done.0 _ _ done.1
 
 pub returns : goal.returns
 returns g c =
