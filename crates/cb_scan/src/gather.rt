@@ -1,13 +1,13 @@
 //! What one pass over a text gathers, list by list.
 ghost use Rattle.std.specs.Prelude.{◌≡◌, ◌≤◌, ◌<◌, ◌+◌, ◌++◌, ◌^◌, [], false, length, IfOk};
-ghost use Rattle.cb_scan.specs.Bytes.{close_brace, open_brace, open_paren, semicolon};
+ghost use Rattle.cb_scan.specs.Bytes.{close_brace, open_brace, open_paren};
 ghost use Rattle.cb_scan.specs.lex.Tokens.{is_mark};
 ghost use Rattle.cb_scan.specs.declared.source.TheConstants.{MOST_BYTES};
 ghost use Rattle.std.specs.Option.{option_to_list};
 ghost use Rattle.cb_scan.specs.steps.Directives.{include_out, macro_call_out, macro_out, next_stage, range_finish, use_out};
 ghost use Rattle.cb_scan.specs.steps.Functions.{called, closed, found, left_open, next};
 ghost use Rattle.cb_scan.specs.steps.Structures.{next_naming, structure_found};
-ghost use Rattle.cb_scan.specs.steps.Typedefs.{nesting_of, next_declaration, next_pending, typedefs_out};
+ghost use Rattle.cb_scan.specs.steps.Typedefs.{ends, nesting_of, next_declaration, next_pending, typedefs_out};
 
 use crate::facts::{Call, Def, Include};
 use crate::lex::token::{Role, Token};
@@ -78,8 +78,7 @@ impl CodeLists {
         }
     }
 
-    /// What a token of the code gives at once, in the state of the pass before it. Most tokens are
-    /// none of the marks that can give something.
+    /// What a brace gives at once, in the state of the pass before it.
     fn find(&mut self, state: &CodeState, token: &Token) -> Result<(), AllocError>
         ensures functions { IfOk result
             (λ _. self.new.functions.items ≡ self.old.functions.items
@@ -87,14 +86,14 @@ impl CodeLists {
         ensures ranges { IfOk result
             (λ _. self.new.ranges.items ≡ self.old.ranges.items
             ++ option_to_list (closed state.now.machine token.now)) }
-        ensures calls { IfOk result
-            (λ _. self.new.calls.items ≡ self.old.calls.items
-            ++ option_to_list (called state.now.machine token.now)) }
         ensures structures { IfOk result
             (λ _. self.new.structures.items ≡ self.old.structures.items
             ++ option_to_list (structure_found state.now.naming token.now)) }
-        ensures pending { IfOk result (λ _. self.new.pending ≡ self.old.pending) }
-        ensures typedefs { IfOk result (λ _. self.new.typedefs ≡ self.old.typedefs) }
+        ensures others { IfOk result (λ _. self.new ≡ record self.old {
+          functions = self.new.functions;
+          ranges = self.new.ranges;
+          structures = self.new.structures;
+        }) }
     {
         match token.role {
             Role::Mark(b'{') => {
@@ -102,18 +101,16 @@ impl CodeLists {
                 push_some(&mut self.structures, state.naming.found(token))
             }
             Role::Mark(b'}') => push_some(&mut self.ranges, state.machine.closed(token)),
-            Role::Mark(b'(') => push_some(&mut self.calls, state.machine.called(token)),
             _ => Ok(()),
         }
     }
 
-    /// A token that is none of the marks that can give something or end a declaration.
+    /// A token that is no brace and ends no declaration.
     fn pass(&mut self, state: &mut CodeState, token: &Token) -> Result<(), AllocError>
         requires nested { nesting_of state.old.declared + 1 < 2 ^ 32 }
         requires no_open_brace { is_mark open_brace token.now.role ≡ false }
         requires no_close_brace { is_mark close_brace token.now.role ≡ false }
-        requires no_semicolon { is_mark semicolon token.now.role ≡ false }
-        requires no_open_paren { is_mark open_paren token.now.role ≡ false }
+        requires no_end { ends state.old.machine token.now ≡ false }
         ensures machine { IfOk result (λ _. state.new.machine ≡ next state.old.machine token.now) }
         ensures same { IfOk result (λ _. state.new.machine.depth ≡ state.old.machine.depth) }
         ensures declared { IfOk result
@@ -135,6 +132,50 @@ impl CodeLists {
             &mut self.pending,
         )?;
         state.machine.go_on(token);
+        state.naming.next(token);
+        Ok(())
+    }
+
+    /// A brace, or a `;` outside of braces.
+    fn turn(&mut self, state: &mut CodeState, token: &Token) -> Result<(), AllocError>
+        requires no_open_paren { is_mark open_paren token.now.role ≡ false }
+        requires deep { state.old.machine.depth + 1 < 2 ^ 32 }
+        requires nested { nesting_of state.old.declared + 1 < 2 ^ 32 }
+        ensures machine { IfOk result (λ _. state.new.machine ≡ next state.old.machine token.now) }
+        ensures deep { IfOk result
+            (λ _. state.new.machine.depth ≤ state.old.machine.depth + 1) }
+        ensures declared { IfOk result
+            (λ _. state.new.declared
+            ≡ next_declaration state.old.machine state.old.declared token.now) }
+        ensures nested { IfOk result
+            (λ _. nesting_of state.new.declared ≤ nesting_of state.old.declared + 1) }
+        ensures naming { IfOk result (λ _. state.new.naming ≡ next_naming state.old.naming token.now) }
+        ensures functions { IfOk result
+            (λ _. self.new.functions.items ≡ self.old.functions.items
+            ++ option_to_list (found state.old.machine token.now)) }
+        ensures ranges { IfOk result
+            (λ _. self.new.ranges.items ≡ self.old.ranges.items
+            ++ option_to_list (closed state.old.machine token.now)) }
+        ensures calls { IfOk result (λ _. self.new.calls.items ≡ self.old.calls.items) }
+        ensures pending { IfOk result
+            (λ _. self.new.pending.items ≡ next_pending state.old.machine state.old.declared
+            self.old.pending.items token.now) }
+        ensures typedefs { IfOk result
+            (λ _. self.new.typedefs.items ≡ self.old.typedefs.items
+            ++ typedefs_out state.old.machine state.old.declared self.old.pending.items token.now) }
+        ensures structures { IfOk result
+            (λ _. self.new.structures.items ≡ self.old.structures.items
+            ++ option_to_list (structure_found state.old.naming token.now)) }
+    {
+        self.find(state, token)?;
+        take_token(
+            &state.machine,
+            &mut state.declared,
+            token,
+            &mut self.pending,
+            &mut self.typedefs,
+        )?;
+        state.machine.next(token);
         state.naming.next(token);
         Ok(())
     }
@@ -171,20 +212,15 @@ impl CodeLists {
             (λ _. self.new.structures.items ≡ self.old.structures.items
             ++ option_to_list (structure_found state.old.naming token.now)) }
     {
-        if !matches!(token.role, Role::Mark(b'{' | b'}' | b';' | b'(')) {
-            return self.pass(state, token);
+        match token.role {
+            Role::Mark(b'{' | b'}') => self.turn(state, token),
+            Role::Mark(b';') if state.machine.depth == 0 => self.turn(state, token),
+            Role::Mark(b'(') => {
+                push_some(&mut self.calls, state.machine.called(token))?;
+                self.pass(state, token)
+            }
+            _ => self.pass(state, token),
         }
-        self.find(state, token)?;
-        take_token(
-            &state.machine,
-            &mut state.declared,
-            token,
-            &mut self.pending,
-            &mut self.typedefs,
-        )?;
-        state.machine.next(token);
-        state.naming.next(token);
-        Ok(())
     }
 
     /// The end of the text, in the state of the pass there.

@@ -1,8 +1,9 @@
 //! The one pass that finds functions: a small state that every token of the code moves.
 ghost use Rattle.std.specs.Prelude.{◌≡◌, ◌+◌, ◌<◌, ◌≤◌, ◌^◌, false};
-ghost use Rattle.cb_scan.specs.Bytes.{close_brace, open_brace, semicolon};
+ghost use Rattle.cb_scan.specs.Bytes.{close_brace, open_brace};
 ghost use Rattle.cb_scan.specs.lex.Tokens.{is_mark};
 ghost use Rattle.cb_scan.specs.steps.Functions.{before_after, called, closed, counts, found, grown, left_open, next, next_body, next_depth, next_open, start, stops};
+ghost use Rattle.cb_scan.specs.steps.Typedefs.{ends};
 
 use crate::facts::{Call, Def};
 use crate::lex::piece::Span;
@@ -132,7 +133,7 @@ impl Machine {
         }
     }
 
-    /// After a brace or a `;`.
+    /// After a brace, or a `;` outside of braces.
     #[tactic(auto, unfolding(crate::specs::steps::Functions::next))]
     fn turn(&mut self, token: &Token)
         requires { self.old.depth + 1 < 2 ^ 32 }
@@ -154,12 +155,12 @@ impl Machine {
         self.body = body;
     }
 
-    /// After any other token: then the depth stays.
+    /// After any other token: then the depth stays. Deeper in braces a `;` is one of them.
     #[tactic(auto, unfolding(crate::specs::steps::Functions::next))]
     pub(crate) fn go_on(&mut self, token: &Token)
         requires no_open_brace { is_mark open_brace token.now.role ≡ false }
         requires no_close_brace { is_mark close_brace token.now.role ≡ false }
-        requires no_semicolon { is_mark semicolon token.now.role ≡ false }
+        requires no_end { ends self.old token.now ≡ false }
         ensures value { self.new ≡ next self.old token.now }
         ensures same { self.new.depth ≡ self.old.depth }
     {
@@ -177,7 +178,8 @@ impl Machine {
         ensures small { self.new.depth ≤ self.old.depth + 1 }
     {
         match token.role {
-            Role::Mark(b'{' | b'}' | b';') => self.turn(token),
+            Role::Mark(b'{' | b'}') => self.turn(token),
+            Role::Mark(b';') if self.depth == 0 => self.turn(token),
             _ => self.go_on(token),
         }
     }
