@@ -43,11 +43,7 @@ fn put_tag<W: Write>(out: &mut Sink<W>, format: Format, row: &TagRow<'_>) -> Res
 }
 
 /// Writes the lines of rows, one after another.
-fn put_tags<W: Write>(
-    out: &mut Sink<W>,
-    format: Format,
-    rows: TagRows<'_>,
-) -> Result<(), Fault>
+fn put_tags<W: Write>(out: &mut Sink<W>, format: Format, rows: TagRows<'_>) -> Result<(), Fault>
     ensures { Puts out.old out.new result (flat_map (tag_line format) rows.entry) }
 {
     for row in rows {
@@ -98,10 +94,7 @@ pub(crate) fn put_tags_reply<W: Write>(
 }
 
 /// Writes the reply that shows a listing.
-pub(crate) fn put_listing_reply<W: Write>(
-    out: &mut Sink<W>,
-    tags: TagRows<'_>,
-) -> Result<(), Fault>
+pub(crate) fn put_listing_reply<W: Write>(out: &mut Sink<W>, tags: TagRows<'_>) -> Result<(), Fault>
     ensures { Puts out.old out.new result (listing_reply tags.entry) }
 {
     put_count(out, tags.len() as u128)?;

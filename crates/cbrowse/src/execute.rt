@@ -72,12 +72,7 @@ fn write_tags<W: Write>(listing: bool, format: Format, desk: &Desk, out: &mut Si
 }
 
 /// Writes the rows that answer a question, and hands them on.
-fn write_rows<W: Write>(
-    field: Field,
-    pattern: &[u8],
-    desk: &Desk,
-    out: &mut Sink<W>,
-) -> Ended
+fn write_rows<W: Write>(field: Field, pattern: &[u8], desk: &Desk, out: &mut Sink<W>) -> Ended
     requires { pattern.now ≢ [] }
     ensures { WritesText (flat_map row_line (answer desk.now.timeline.present field pattern.now)) out.old out.new result }
 {
