@@ -14,7 +14,8 @@ use Rattle.cb_desk.specs.declared.spot.NumberedPlace.{NumberedPlace}
 use Rattle.cb_desk.specs.Timeline.{IsValidTimeline}
 use Rattle.cb_desk.specs.Turns.{touched}
 use Rattle.cb_desk.specs.steps.Records.{AreThere, Fits, IsFew, IsTurn, Kept, KeepsRooms, Numbered, Rooms, Turn, other, place_in, without, world_in}
-use Rattle.cb_desk.specs.steps.Walks.{IsKept, IsRecorded, LeadsBack, LeadsOn, Recorded, timeline_in, turns_back, turns_on, walk, worlds_in}
+use Rattle.cb_desk.specs.steps.Walks.{IsKept, IsNext, IsRecorded, LeadsBack, LeadsOn, Recorded, timeline_in, turns_back, turns_on, walk, worlds_in}
+use Rattle.cb_desk.proofs.AllUsed.{all_used}
 use Rattle.cb_desk.proofs.TurnLemmas.{all_from_order}
 use Rattle.cb_desk.proofs.WalkLemmas.{back_more, kept_back, kept_on, line, on_more}
 
@@ -164,17 +165,16 @@ module _ (a b : Archived) (n v : ℕ) (agree : Agree a b n v) where
 
     pub back_same : (w : Numbered) (ts : List Turn) → w.names ≤ n → w.versions ≤ v → LeadsBack r a w ts → LeadsBack r b w ts
     unfolding LeadsBack
-    back_same w [] few low is = kept_same w is few low
+    back_same w [] few low is = (kept_same w is.0 few low, is.1)
     back_same w (t ∷ ts) few low is =
-        let few_then : t.names ≤ n = let x = is.2 in omega (arith, x, few) in
-        let low_then : t.versions ≤ v = let x = is.3 in omega (arith, x, low) in
-        let then : AreThere a (other a t w) = (kept_back r a (other a t w) ts is.4).there in (
+        let few_then : t.names ≤ n = let x = is.2.names in omega (arith, x, few) in
+        let low_then : t.versions ≤ v = let x = is.2.versions in omega (arith, x, low) in
+        let then : AreThere a (other a t w) = (kept_back r a (other a t w) ts is.3).there in (
           kept_same w is.0 few low,
           turn_same t w is.0.there few low then few_then low_then is.1,
-          is.2,
-          is.3,
+          subst (λ x. IsNext x w) (sym (other_same t w is.0.there few low then few_then low_then)) is.2,
           subst (λ x. LeadsBack r b x ts) (sym (other_same t w is.0.there few low then few_then low_then))
-              (back_same (other a t w) ts few_then low_then is.4),
+              (back_same (other a t w) ts few_then low_then is.3),
         )
 
     pub walk_same : (w : Numbered) (ts : List Turn) → w.names ≤ n → w.versions ≤ v → LeadsBack r a w ts
@@ -182,11 +182,11 @@ module _ (a b : Archived) (n v : ℕ) (agree : Agree a b n v) where
     unfolding LeadsBack
     walk_same w [] few low is = refl
     walk_same w (t ∷ ts) few low is =
-        let few_then : t.names ≤ n = let x = is.2 in omega (arith, x, few) in
-        let low_then : t.versions ≤ v = let x = is.3 in omega (arith, x, low) in
-        let then : AreThere a (other a t w) = (kept_back r a (other a t w) ts is.4).there in
+        let few_then : t.names ≤ n = let x = is.2.names in omega (arith, x, few) in
+        let low_then : t.versions ≤ v = let x = is.2.versions in omega (arith, x, low) in
+        let then : AreThere a (other a t w) = (kept_back r a (other a t w) ts is.3).there in
         ap (λ x. world_in b x ∷ worlds_in b (walk b x ts)) (other_same t w is.0.there few low then few_then low_then)
-        ∙ (λ i. world_same (other a t w) then few_then low_then i ∷ walk_same (other a t w) ts few_then low_then is.4 i)
+        ∙ (λ i. world_same (other a t w) then few_then low_then i ∷ walk_same (other a t w) ts few_then low_then is.3 i)
 
 -- ---- only the room of an archive changes
 module _ (a b : Archived) (names : b.names ≡ a.names) (texts : b.texts ≡ a.texts) where
@@ -205,27 +205,31 @@ module _ (a b : Archived) (names : b.names ≡ a.names) (texts : b.texts ≡ a.t
 
     pub on_moved : (w : Numbered) (ts : List Turn) → LeadsOn r a w ts → LeadsOn r b w ts
     unfolding LeadsOn
-    on_moved w [] is = kept_moved w is
+    on_moved w [] is = (kept_moved w is.0, record {
+      names = is.1.names ∙ sym (ap length names);
+      versions = is.1.versions ∙ sym (ap length texts);
+    })
     on_moved w (t ∷ ts) is =
-        let then = (kept_on r a (other a t w) ts is.4).there in (
+        let then = (kept_on r a (other a t w) ts is.3).there in (
           kept_moved w is.0,
           turn_same a b (length a.names) (length a.texts) agree_all t w is.0.there is.0.there.names is.0.there.versions then then.names then.versions is.1,
-          is.2,
-          is.3,
+          subst (λ x. IsNext w x)
+              (sym (other_same a b (length a.names) (length a.texts) agree_all t w is.0.there is.0.there.names is.0.there.versions then then.names then.versions))
+              is.2,
           subst (λ x. LeadsOn r b x ts)
               (sym (other_same a b (length a.names) (length a.texts) agree_all t w is.0.there is.0.there.names is.0.there.versions then then.names then.versions))
-              (on_moved (other a t w) ts is.4),
+              (on_moved (other a t w) ts is.3),
         )
 
     pub walk_on_moved : (w : Numbered) (ts : List Turn) → LeadsOn r a w ts → worlds_in b (walk b w ts) ≡ worlds_in a (walk a w ts)
     unfolding LeadsOn
     walk_on_moved w [] is = refl
     walk_on_moved w (t ∷ ts) is =
-        let then = (kept_on r a (other a t w) ts is.4).there in
+        let then = (kept_on r a (other a t w) ts is.3).there in
         ap (λ x. world_in b x ∷ worlds_in b (walk b x ts))
         (other_same a b (length a.names) (length a.texts) agree_all t w is.0.there is.0.there.names is.0.there.versions then then.names then.versions)
         ∙ (λ i. world_same a b (length a.names) (length a.texts) agree_all (other a t w) then then.names then.versions i
-        ∷ walk_on_moved (other a t w) ts is.4 i)
+        ∷ walk_on_moved (other a t w) ts is.3 i)
 
 -- the timeline stays where only room changes
 module _ (k l : Kept) (records : List Turn) (done : ℕ) (now : l.now ≡ k.now) (names : l.archive.names ≡ k.archive.names)
@@ -251,15 +255,22 @@ module _ (k l : Kept) (records : List Turn) (done : ℕ) (now : l.now ≡ k.now)
         future = walk_on_moved k.archive l.archive names texts k.rooms k.now (turns_on before) is.on i;
       })
 
+  leads_back : LeadsBack l.rooms l.archive l.now (turns_back after_room)
+  leads_back = subst (λ w. LeadsBack l.rooms l.archive w (turns_back before)) (sym now)
+        (back_more k.rooms l.rooms l.archive k.now (turns_back before) rooms
+        (back_same k.archive l.archive (length k.archive.names) (length k.archive.texts) (agree_all k.archive l.archive names texts) k.rooms k.now
+        (turns_back before) present_there.names present_there.versions is.back))
+
+  leads_on : LeadsOn l.rooms l.archive l.now (turns_on after_room)
+  leads_on = subst (λ w. LeadsOn l.rooms l.archive w (turns_on before)) (sym now)
+        (on_more k.rooms l.rooms l.archive k.now (turns_on before) rooms
+        (on_moved k.archive l.archive names texts k.rooms k.now (turns_on before) is.on))
+
   pub same_recorded : IsRecorded after_room
   same_recorded = record {
     within = is.within;
-    back = subst (λ w. LeadsBack l.rooms l.archive w (turns_back before)) (sym now)
-        (back_more k.rooms l.rooms l.archive k.now (turns_back before) rooms
-        (back_same k.archive l.archive (length k.archive.names) (length k.archive.texts) (agree_all k.archive l.archive names texts) k.rooms k.now
-        (turns_back before) present_there.names present_there.versions is.back));
-    on = subst (λ w. LeadsOn l.rooms l.archive w (turns_on before)) (sym now)
-        (on_more k.rooms l.rooms l.archive k.now (turns_on before) rooms
-        (on_moved k.archive l.archive names texts k.rooms k.now (turns_on before) is.on));
+    used = all_used after_room leads_back leads_on;
+    back = leads_back;
+    on = leads_on;
     valid = subst IsValidTimeline (sym same_timeline) is.valid;
   }

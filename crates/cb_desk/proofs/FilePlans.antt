@@ -1,7 +1,7 @@
 -- Plans that change the files.
 use Rattle.std.proofs.Common.{◌≡◌, ◌∙◌, ◌≤◌, ◌<◌, ◌+◌, ℕ, Bool, true, false, List, [], ◌∷◌, ◌++◌, refl, sym, ap, subst, length, map, take, filter, not, cond, arith, append-nil, length-append, length-take-le, Option, Some, None}
 use Rattle.std.proofs.Math.Seq.{get_or-append_seam}
-use Rattle.std.specs.Prelude.{slice_get, slice_index_or, ◌||◌}
+use Rattle.std.specs.Prelude.{nat_eq, slice_get, slice_index_or, ◌||◌}
 use Rattle.std.specs.List.{AllByRecursion}
 use Rattle.std.specs.Str.{bytes_eq}
 use Rattle.cb_scan.specs.Order.{in_order}
@@ -22,7 +22,8 @@ use Rattle.cb_desk.specs.World.{File, Place, World, has_file, place_key}
 use Rattle.cb_desk.specs.steps.Edits.{IsDifference, edited, turned_edits}
 use Rattle.cb_desk.specs.steps.Plans.{IsAmong, IsPlan, Keeps, LeadsTo, Planned, is_of, key_then, name_then, places_without, renumbered}
 use Rattle.cb_desk.specs.steps.Records.{AreThere, IsFew, IsTurn, Kept, Numbered, Turn, other, other_wanted, place_in, without, world_in}
-use Rattle.cb_desk.specs.steps.Walks.{IsKept}
+use Rattle.cb_desk.specs.steps.Walks.{IsKept, shows_name, shows_version}
+use Rattle.cb_desk.proofs.AllUsed.{any_shown, none_new, only_new}
 use Rattle.cb_desk.proofs.ArchiveMoves.{Agree, agree_kept, apart_same, below_places, below_shown, files_same, order_same, places_same}
 use Rattle.cb_desk.proofs.PlacePlans.{settled, without_none}
 use Rattle.cb_desk.proofs.Placed.{map-filter}
@@ -108,6 +109,8 @@ module _ (k : Kept) (p : Planned) (kept : IsKept k.rooms k.archive k.now) (ascen
       (wanted : other_wanted p.turn.wanted k.now.wanted ≡ next) (names : p.turn.names ≡ n + length p.names) (versions : p.turn.versions ≡ v + length p.texts)
       (are_marks : IsDifference p.turn.marks k.now.marks marks) (are_frames : IsDifference p.turn.frames k.now.frames frames)
       (marks_named : Places marks p.turn.names) (frames_named : Places frames p.turn.names)
+      (all_names : (m : ℕ) → n ≤ m → m < p.turn.names → shows_name m p.turn.shows ≡ true)
+      (all_versions : (m : ℕ) → v ≤ m → m < p.turn.versions → shows_version m p.turn.shows ≡ true)
       (files_are : files_of a (in_order (shown_name a) (without p.turn.hides k.now.shown ++ p.turn.shows)) ≡ fs)
       (marks_are : map (place_in a) marks ≡ ms) (frames_are : map (place_in a) frames ≡ gs) where
     all_then : AllByRecursion (λ (s : Shown). (s.name < p.turn.names) × (s.version < p.turn.versions)) k.now.shown
@@ -143,8 +146,15 @@ module _ (k : Kept) (p : Planned) (kept : IsKept k.rooms k.archive k.now) (ascen
         marks = (ap (map (place_in a)) are_marks.on ∙ marks_are) i;
         frames = (ap (map (place_in a)) are_frames.on ∙ frames_are) i;
       };
-      names = omega (arith, names);
-      versions = omega (arith, versions);
+      next = record {
+        names = omega (arith, names);
+        versions = omega (arith, versions);
+        all_names = λ m above below. any_shown (λ (s : Shown). nat_eq s.name m) (shown_name a) (without p.turn.hides k.now.shown) p.turn.shows
+            (all_names m above below);
+        all_versions = λ m above below. any_shown (λ (s : Shown). nat_eq s.version m) (shown_name a) (without p.turn.hides k.now.shown) p.turn.shows
+            (all_versions m above below);
+      };
+      all = record { names = omega (arith, names, name_count); versions = omega (arith, versions, text_count) };
     }
 
   -- places of the present world are the same places in it
@@ -184,6 +194,8 @@ module _ (k : Kept) (p : Planned) (h : Shown) (marks frames : List Edit) (kept :
       file_leads k planned kept ascending a keeps (places_without k.archive name k.now.marks) (places_without k.archive name k.now.frames) _ _ _ _
       hides (shows_none a rest hides.left) (few_small a planned.turn k.now (omega arith)) tt refl (omega arith) (omega arith) are_marks are_frames
       (all-filter _ _ k.now.marks kept.there.marks) (all-filter _ _ k.now.frames kept.there.frames)
+      (λ m above below. none_new k.now.names k.now.names m (shows_name m [] ≡ true) refl above below)
+      (λ m above below. none_new k.now.versions k.now.versions m (shows_version m [] ≡ true) refl above below)
       (ap (λ l. files_of a (in_order (shown_name a) l)) (append-nil rest)
       ∙ ap (files_of a) (settled (shown_name a) rest (ascending_sorted a rest hides.left))
       ∙ files_same k.archive a k.now.names k.now.versions (agree k planned kept ascending a keeps) rest below
@@ -226,6 +238,8 @@ module _ (k : Kept) (p : Planned) (name text : List ℕ) (kept : IsKept k.rooms 
       hides (shows_one a rest new hides.left other) (few_small a planned_load.turn k.now (omega arith)) ((omega (arith, one_name), omega (arith, one_version)), tt) refl
       (omega (arith, one_name)) (omega (arith, one_version)) (record { on = refl; back = refl }) (record { on = refl; back = refl })
       (more_named k.now.marks kept.there.marks) (more_named k.now.frames kept.there.frames)
+      (λ m above below. only_new k.now.names number m one_name above below)
+      (λ m above below. only_new k.now.versions version m one_version above below)
       (ap (files_of a) (order_more a rest new hides.left other) ∙ file_put a rest new hides.left
       ∙ (λ i. with_file (record { name = named i; bytes = new_text k planned_load kept ascending a keeps text [] refl i })
       ((ap (files_of a) same ∙ files_same k.archive a k.now.names k.now.versions (agree k planned_load kept ascending a keeps) k.now.shown all) i)))
@@ -328,6 +342,8 @@ module _ (k : Kept) (p : Planned) (h : Shown) (new_bytes : List ℕ) (marks fram
         (omega (arith, one_name)) (omega arith) are_marks are_frames
         (all_in_order (key_then k.archive k.now.names new_bytes) _ (map renumber k.now.marks) (all_named k.now.marks kept.there.marks))
         (all_named k.now.frames kept.there.frames)
+        (λ m above below. only_new k.now.names number m one_name above below)
+        (λ m above below. none_new k.now.versions k.now.versions m (shows_version m (moved ∷ []) ≡ true) refl above below)
         (ap (files_of a) (order_more a rest moved hides.left other) ∙ file_put a rest moved hides.left
         ∙ (λ i. with_file (record {
           name = named i;

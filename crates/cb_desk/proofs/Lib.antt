@@ -28,6 +28,7 @@ pub mod TextRowsFew
 pub mod Unindented
 pub mod Valid
 pub mod TurnLemmas
+pub mod AllUsed
 pub mod WalkLemmas
 pub mod ArchiveMoves
 pub mod PlanLemmas

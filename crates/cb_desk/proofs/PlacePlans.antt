@@ -1,5 +1,5 @@
 -- Plans that leave the files as they are.
-use Rattle.std.proofs.Common.{◌≡◌, ◌∙◌, ◌≤◌, ◌<◌, ◌+◌, ◌-◌, ℕ, zero, suc, Bool, true, false, List, [], ◌∷◌, ◌++◌, refl, sym, ap, subst, length, map, take, drop, filter, not, arith, append-nil, length-append, take-append-drop}
+use Rattle.std.proofs.Common.{◌≡◌, ◌∙◌, ◌≤◌, ◌<◌, ◌+◌, ◌-◌, ℕ, zero, suc, Bool, true, false, List, [], ◌∷◌, ◌++◌, refl, sym, ap, subst, length, map, take, drop, filter, not, arith, append-nil, length-append, length-take-le, take-append-drop}
 use Rattle.std.specs.Prelude.{Option, None, Result, Ok, Err, IfOk, cond}
 use Rattle.std.specs.List.{AllByRecursion}
 use Rattle.cb_scan.specs.Order.{AreOrdered, goes_first, in_order, put}
@@ -17,7 +17,8 @@ use Rattle.cb_desk.specs.World.{World}
 use Rattle.cb_desk.specs.steps.Edits.{IsDifference, edited, turned_edits}
 use Rattle.cb_desk.specs.steps.Plans.{AreEdits, IsPlan, Keeps, LeadsTo, Planned, with_places}
 use Rattle.cb_desk.specs.steps.Records.{AreThere, Fits, IsTurn, Kept, KeepsRooms, Numbered, Turn, other, other_wanted, place_in, without, world_in}
-use Rattle.cb_desk.specs.steps.Walks.{IsKept}
+use Rattle.cb_desk.specs.steps.Walks.{IsKept, shows_name, shows_version}
+use Rattle.cb_desk.proofs.AllUsed.{none_new}
 use Rattle.cb_desk.proofs.TurnLemmas.{few_small}
 use Rattle.cb_desk.proofs.WalkLemmas.{kept_more}
 use Rattle.cb_desk.proofs.ArchiveMoves.{Agree, agree_kept, apart_same, below_places, below_shown, files_same, order_same, places_same, total_same}
@@ -117,8 +118,20 @@ module _ (k : Kept) (p : Planned) (wanted : Option (Option (List ℕ))) (marks f
         marks = places_same k.archive a k.now.names k.now.versions agree (edited marks k.now.marks) are_marks.named i;
         frames = places_same k.archive a k.now.names k.now.versions agree (edited frames k.now.frames) are_frames.named i;
       };
-      names = omega arith;
-      versions = omega arith;
+      next = record {
+        names = omega arith;
+        versions = omega arith;
+        all_names = λ n above below. none_new k.now.names k.now.names n (shows_name n then.shown ≡ true) refl above below;
+        all_versions = λ v above below. none_new k.now.versions k.now.versions v (shows_version v then.shown ≡ true) refl above below;
+      };
+      all = record {
+        names = let e = ap length keeps.names ∙ length-append (take k.now.names k.archive.names) p.names in
+            let t = length-take-le k.now.names k.archive.names kept.there.names in
+            let none = ap length names in omega (arith, e, t, none);
+        versions = let e = ap length keeps.texts ∙ length-append (take k.now.versions k.archive.texts) p.texts in
+            let t = length-take-le k.now.versions k.archive.texts kept.there.versions in
+            let none = ap length texts in omega (arith, e, t, none);
+      };
     }
 
   pub places_planned : IsPlan k p (with_places k.archive k.now wanted marks frames)

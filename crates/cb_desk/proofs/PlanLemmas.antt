@@ -11,7 +11,8 @@ use Rattle.cb_desk.specs.Timeline.{Timeline, IsValidTimeline, Moves, moved_on, r
 use Rattle.cb_desk.specs.World.{World, IsValidWorld}
 use Rattle.cb_desk.specs.steps.Plans.{HasRoomFor, IsPlan, Keeps, LeadsTo, Planned}
 use Rattle.cb_desk.specs.steps.Records.{AreThere, Fits, IsTurn, Kept, KeepsRooms, Numbered, Turn, other, world_in}
-use Rattle.cb_desk.specs.steps.Walks.{IsKept, IsRecorded, LeadsBack, LeadsOn, Recorded, timeline_in, turns_back, turns_on, walk, worlds_in}
+use Rattle.cb_desk.specs.steps.Walks.{IsKept, IsNext, IsRecorded, LeadsBack, LeadsOn, Recorded, UsesAll, timeline_in, turns_back, turns_on, walk, worlds_in}
+use Rattle.cb_desk.proofs.AllUsed.{all_used}
 use Rattle.cb_desk.proofs.ArchiveMoves.{Agree, agree_kept, back_same, kept_same, walk_same, world_same}
 use Rattle.cb_desk.proofs.WalkLemmas.{back_more, kept_back, kept_more, line}
 
@@ -62,11 +63,16 @@ module _ (k l : Kept) (records : List Turn) (done : ℕ) (p : Planned) (within :
         (back_same k.archive l.archive k.now.names k.now.versions agree k.rooms k.now (turns_back from) (omega arith) (omega arith) is.back) in
         let then : IsKept l.rooms l.archive (other l.archive p.turn k.now) =
         kept_more k.rooms l.rooms l.archive (other l.archive p.turn k.now) rooms (record { there = leads.there; fits = fits l.archive keeps }) in
+        let leads_back : LeadsBack l.rooms l.archive l.now (turns_back to) =
+        subst (λ bs. LeadsBack l.rooms l.archive l.now bs) (sym back_is) (subst (λ w. LeadsBack l.rooms l.archive w (turns_back from)) (sym now) back) in
+        let leads_on : LeadsOn l.rooms l.archive l.now (turns_on to) =
+        subst (λ os. LeadsOn l.rooms l.archive l.now os) (sym on_is) (subst (λ w. LeadsOn l.rooms l.archive w (p.turn ∷ [])) (sym now)
+        (kept_back l.rooms l.archive k.now (turns_back from) back, leads.turn, leads.next, (then, leads.all))) in
         record {
           within = let e = length-append (take done records) (p.turn ∷ []) in omega (arith, e, long);
-          back = subst (λ bs. LeadsBack l.rooms l.archive l.now bs) (sym back_is) (subst (λ w. LeadsBack l.rooms l.archive w (turns_back from)) (sym now) back);
-          on = subst (λ os. LeadsOn l.rooms l.archive l.now os) (sym on_is) (subst (λ w. LeadsOn l.rooms l.archive w (p.turn ∷ [])) (sym now)
-              (kept_back l.rooms l.archive k.now (turns_back from) back, leads.turn, leads.names, leads.versions, then));
+          used = all_used to leads_back leads_on;
+          back = leads_back;
+          on = leads_on;
           valid = subst IsValidTimeline (sym next_is) (record {
             before = is.valid.before;
             now = is.valid.now;
@@ -113,8 +119,8 @@ plan_moved k l p v now names texts plan a keeps =
       turn = subst (λ w. IsTurn a p.turn w) (sym now) leads.turn;
       there = subst (λ w. AreThere a (other a p.turn w)) (sym now) leads.there;
       world = ap (λ w. world_in a (other a p.turn w)) now ∙ leads.world;
-      names = subst (λ w. w.names ≤ p.turn.names) (sym now) leads.names;
-      versions = subst (λ w. w.versions ≤ p.turn.versions) (sym now) leads.versions;
+      next = subst (λ w. IsNext w (other a p.turn w)) (sym now) leads.next;
+      all = subst (λ w. UsesAll a (other a p.turn w)) (sym now) leads.all;
     }
 
 -- and so does room

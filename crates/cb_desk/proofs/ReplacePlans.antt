@@ -1,12 +1,15 @@
 -- The plan of a replacement.
-use Rattle.std.proofs.Common.{◌≡◌, ◌∙◌, ◌≤◌, ◌<◌, ◌+◌, ℕ, Bool, true, false, List, [], ◌∷◌, ◌++◌, refl, sym, ap, subst, length, map, take, filter, cond, arith, append_assoc, length-append, length-take-le, Option, Some, None}
+use Rattle.std.proofs.Common.{◌≡◌, ◌∙◌, ◌≤◌, ◌<◌, ◌+◌, ℕ, Bool, true, false, List, [], ◌∷◌, ◌++◌, refl, sym, ap, subst, length, map, take, filter, cond, arith, append_assoc, length-append, length-take-le, Option, Some, None, ⊎_elim}
+use Rattle.std.proofs.Math.Bool.{or-true}
+use Rattle.std.proofs.lemmas.Bool.{cases_lt}
+use Rattle.std.proofs.lemmas.Bool.Decides.{nat_tests}
 use Rattle.std.proofs.Math.Seq.{get_or-append_seam}
 use Rattle.std.proofs.lemmas.List.{length-map}
 use Rattle.std.proofs.lemmas.List.Elements.{All-from_recursion, recursion_from_All}
-use Rattle.std.proofs.lemmas.List.Sorted.{All-permutation, length_permutation}
-use Rattle.std.specs.List.{AllByRecursion}
+use Rattle.std.proofs.lemmas.List.Sorted.{All-permutation, length_permutation, list_any-IsPermutation}
+use Rattle.std.specs.List.{AllByRecursion, list_any}
 use Rattle.std.specs.List.Sorted.{IsNonDecreasingBy, IsPermutation}
-use Rattle.std.specs.Prelude.{slice_index_or}
+use Rattle.std.specs.Prelude.{nat_eq, slice_index_or, ◌||◌}
 use Rattle.cb_scan.specs.Order.{in_order}
 use Rattle.cb_index.specs.Archived.{Archived, name_of}
 use Rattle.cb_index.specs.Files.{AreAscending, file_of, files_of, shown_name}
@@ -21,11 +24,12 @@ use Rattle.cb_desk.specs.steps.Edits.{IsDifference}
 use Rattle.cb_desk.specs.steps.Plans.{IsPlan, Keeps, LeadsTo, Planned}
 use Rattle.cb_desk.specs.steps.Records.{IsFew, Kept, Turn, place_in, without, world_in}
 use Rattle.cb_desk.specs.steps.Replaced.{file_then, files_changed, files_then, has_mark, new_of, old_of, remaining, renewals, texts_of}
-use Rattle.cb_desk.specs.steps.Walks.{IsKept}
+use Rattle.cb_desk.specs.steps.Walks.{IsKept, shows_name, shows_version}
+use Rattle.cb_desk.proofs.AllUsed.{none_new}
 use Rattle.cb_desk.proofs.ArchiveMoves.{Agree, Below, world_same}
 use Rattle.cb_desk.proofs.FilePlans.{Places, agree, all_below, file_leads, same_places, up}
 use Rattle.cb_desk.proofs.FilesReplaced.{unmarked_then, world_replaced}
-use Rattle.cb_desk.proofs.Placed.{map-filter}
+use Rattle.cb_desk.proofs.Placed.{list_any-map, map-filter}
 use Rattle.cb_desk.proofs.ShownRenewed.{hides_renewed, renewed, shown_then, shows_renewed}
 use Rattle.cb_desk.proofs.TurnsCounted.{few_renewed}
 use Rattle.cb_desk.proofs.Valid.{all-filter}
@@ -59,6 +63,18 @@ names_below : (names versions : ℕ) (ss : List Shown) → AllByRecursion (λ (s
     → AllByRecursion (λ (s : Shown). s.name < names) ss
 names_below names versions [] all = tt
 names_below names versions (s ∷ ss) all = (all.0.0, names_below names versions ss all.1)
+
+-- each new number is that of a renewal
+new_numbers : (m first : ℕ) (ss : List Shown) → first ≤ m → m < first + length ss
+    → list_any (λ (r : Renewal). nat_eq r.new m) (renewals first ss) ≡ true
+new_numbers m first [] above below = absurd (omega (arith, above, below))
+new_numbers m first (s ∷ ss) above below =
+    ⊎_elim (λ here. ap (λ b. b || list_any (λ (r : Renewal). nat_eq r.new m) (renewals (first + 1) ss)) (is_first here))
+    (λ later. ap (λ b. nat_eq first m || b) (new_numbers m (first + 1) ss later (omega (arith, below))) ∙ or-true (nat_eq first m))
+    (cases_lt m (first + 1))
+  where
+    is_first : m < first + 1 → nat_eq first m ≡ true
+    is_first here = let same : first ≡ m = omega (arith, above, here) in grind (arith, nat_tests, same)
 
 count_renewals : (n : ℕ) (ss : List Shown) → length (renewals n ss) ≡ length ss
 count_renewals n [] = refl
@@ -159,6 +175,13 @@ module _ (k : Kept) (p : Planned) (old new : List ℕ) (rs : List Renewal) (mark
         (length-map rs old_of ∙ many) (length-map rs new_of ∙ many)
         (ap (map (λ (f : File). f.name)) files_are ∙ names_kept k.archive k.now.marks old new k.now.shown)
 
+    new_shown : (m : ℕ) → k.now.versions ≤ m → m < versions → shows_version m (map new_of rs) ≡ true
+    new_shown m above below =
+        let few : versions ≡ k.now.versions + length marked = let e = ap length texts in omega (arith, count, e, news_long) in
+        list_any-map (λ (s : Shown). nat_eq s.version m) new_of rs
+        ∙ sym (list_any-IsPermutation (λ (r : Renewal). nat_eq r.new m) (renewals k.now.versions marked) rs same)
+        ∙ new_numbers m k.now.versions marked above (omega (arith, below, few))
+
     replace_leads : LeadsTo k planned (with_files (world_in k.archive k.now) then) a
     replace_leads =
         let ups = up k planned kept ascending a keeps in
@@ -168,6 +191,8 @@ module _ (k : Kept) (p : Planned) (old new : List ℕ) (rs : List Renewal) (mark
         (shows_renewed a k.now.shown ups passes k.now.versions rs same level)
         few below_then refl (omega arith) (count ∙ ap (λ ts. k.now.versions + length ts) texts) are_marks are_frames
         tt (all-filter _ _ k.now.frames kept.there.frames)
+        (λ m above below. none_new k.now.names k.now.names m (shows_name m (map new_of rs) ≡ true) refl above below)
+        new_shown
         files_are refl frames_same
 
   pub replace_planned : IsPlan k p (with_files (world_in k.archive k.now) (replaced_files old new (world_in k.archive k.now)))

@@ -16,7 +16,8 @@ use Rattle.cb_desk.specs.Turns.{touched}
 use Rattle.cb_desk.specs.World.{IsValidWorld, empty_world}
 use Rattle.cb_desk.specs.steps.Edits.{edited, turned_edit, turned_edits}
 use Rattle.cb_desk.specs.steps.Records.{AreThere, Fits, IsTurn, Kept, KeepsRooms, Numbered, no_numbers, Rooms, Turn, kept_wanted, other, other_wanted, turned, without, world_in}
-use Rattle.cb_desk.specs.steps.Walks.{IsKept, IsRecorded, LeadsBack, LeadsOn, Recorded, timeline_in, turns_back, turns_on, walk, worlds_in}
+use Rattle.cb_desk.specs.steps.Walks.{IsKept, IsNext, IsRecorded, LeadsBack, LeadsOn, Recorded, timeline_in, turns_back, turns_on, walk, worlds_in}
+use Rattle.cb_desk.proofs.AllUsed.{all_used}
 use Rattle.cb_desk.proofs.Moves.{undo_keeps_valid, redo_keeps_valid}
 
 -- ---- a turn and the turn back
@@ -80,23 +81,23 @@ kept_more r s a w more is = record { there = is.there; fits = fits_more r s a w 
 
 pub back_more : (r s : Rooms) (a : Archived) (w : Numbered) (ts : List Turn) → KeepsRooms r s → LeadsBack r a w ts → LeadsBack s a w ts
 unfolding LeadsBack
-back_more r s a w [] more is = kept_more r s a w more is
-back_more r s a w (t ∷ ts) more is = (kept_more r s a w more is.0, is.1, is.2, is.3, back_more r s a (other a t w) ts more is.4)
+back_more r s a w [] more is = (kept_more r s a w more is.0, is.1)
+back_more r s a w (t ∷ ts) more is = (kept_more r s a w more is.0, is.1, is.2, back_more r s a (other a t w) ts more is.3)
 
 pub on_more : (r s : Rooms) (a : Archived) (w : Numbered) (ts : List Turn) → KeepsRooms r s → LeadsOn r a w ts → LeadsOn s a w ts
 unfolding LeadsOn
-on_more r s a w [] more is = kept_more r s a w more is
-on_more r s a w (t ∷ ts) more is = (kept_more r s a w more is.0, is.1, is.2, is.3, on_more r s a (other a t w) ts more is.4)
+on_more r s a w [] more is = (kept_more r s a w more is.0, is.1)
+on_more r s a w (t ∷ ts) more is = (kept_more r s a w more is.0, is.1, is.2, on_more r s a (other a t w) ts more is.3)
 
 -- ---- the present is within reach
 pub kept_back : (r : Rooms) (a : Archived) (w : Numbered) (ts : List Turn) → LeadsBack r a w ts → IsKept r a w
 unfolding LeadsBack
-kept_back r a w [] is = is
+kept_back r a w [] is = is.0
 kept_back r a w (t ∷ ts) is = is.0
 
 pub kept_on : (r : Rooms) (a : Archived) (w : Numbered) (ts : List Turn) → LeadsOn r a w ts → IsKept r a w
 unfolding LeadsOn
-kept_on r a w [] is = is
+kept_on r a w [] is = is.0
 kept_on r a w (t ∷ ts) is = is.0
 
 -- ---- undo and redo, over the records that lead back and on
@@ -107,20 +108,18 @@ module _ (r : Rooms) (a : Archived) (w : Numbered) (t : Turn) (bs os : List Turn
   pub on_after_undo : LeadsBack r a w (t ∷ bs) → LeadsOn r a w os → LeadsOn r a next (turned t w ∷ os)
   unfolding LeadsBack LeadsOn
   on_after_undo back on = (
-    kept_back r a next bs back.4,
+    kept_back r a next bs back.3,
     turns_back_again a t w back.1,
-    back.2,
-    back.3,
+    subst (λ x. IsNext next x) (sym (back_again a t w back.1)) back.2,
     subst (λ x. LeadsOn r a x os) (sym (back_again a t w back.1)) on,
   )
 
   pub back_after_redo : LeadsOn r a w (t ∷ os) → LeadsBack r a w bs → LeadsBack r a next (turned t w ∷ bs)
   unfolding LeadsBack LeadsOn
   back_after_redo on back = (
-    kept_on r a next os on.4,
+    kept_on r a next os on.3,
     turns_back_again a t w on.1,
-    on.2,
-    on.3,
+    subst (λ x. IsNext x next) (sym (back_again a t w on.1)) on.2,
     subst (λ x. LeadsBack r a x bs) (sym (back_again a t w on.1)) back,
   )
 
@@ -159,7 +158,7 @@ module _ (k : Kept) (records : List Turn) (d : ℕ) (t : Turn) (within : d < len
 
     pub undo_kept : IsKept k.rooms k.archive after_it
     unfolding LeadsBack
-    undo_kept = kept_back k.rooms k.archive after_it (turns_back redo_from) undo_can.4
+    undo_kept = kept_back k.rooms k.archive after_it (turns_back redo_from) undo_can.3
 
   module _ (is : IsRecorded redo_from) where
     redo_can : LeadsOn k.rooms k.archive k.now (t ∷ turns_on undo_from)
@@ -171,7 +170,7 @@ module _ (k : Kept) (records : List Turn) (d : ℕ) (t : Turn) (within : d < len
 
     pub redo_kept : IsKept k.rooms k.archive after_it
     unfolding LeadsOn
-    redo_kept = kept_on k.rooms k.archive after_it (turns_on undo_from) redo_can.4
+    redo_kept = kept_on k.rooms k.archive after_it (turns_on undo_from) redo_can.3
 
   module _ (l : Kept) (u : Turn) (archive : l.archive ≡ k.archive) (now : l.now ≡ other k.archive t k.now) (turn : u ≡ turned t k.now)
       (rooms : KeepsRooms k.rooms l.rooms) where
@@ -215,14 +214,22 @@ module _ (k : Kept) (records : List Turn) (d : ℕ) (t : Turn) (within : d < len
     undo_is is =
         undo_leaves ∙ sym (ap (λ u. Ok u) (undo_lands ∙ ap undo_lands_at (back_again k.archive t k.now (undo_turn is))))
 
-    pub undo_recorded : IsRecorded undo_from → IsRecorded undo_to
+    undo_leads_back : IsRecorded undo_from → LeadsBack undo_to.kept.rooms undo_to.kept.archive undo_to.kept.now (turns_back undo_to)
     unfolding LeadsBack
+    undo_leads_back is = rw (undo_back, archive, now) (back_more k.rooms l.rooms k.archive after_it (turns_back redo_from) rooms (undo_can is).3)
+
+    undo_leads_on : IsRecorded undo_from → LeadsOn undo_to.kept.rooms undo_to.kept.archive undo_to.kept.now (turns_on undo_to)
+    undo_leads_on is =
+        rw (undo_on, archive, now, turn)
+        (on_more k.rooms l.rooms k.archive after_it (turned t k.now ∷ turns_on undo_from) rooms
+        (on_after_undo k.rooms k.archive k.now t (turns_back redo_from) (turns_on undo_from) (undo_can is) is.on))
+
+    pub undo_recorded : IsRecorded undo_from → IsRecorded undo_to
     undo_recorded is = record {
       within = rw (length-set records d u) (omega (arith, within));
-      back = rw (undo_back, archive, now) (back_more k.rooms l.rooms k.archive after_it (turns_back redo_from) rooms (undo_can is).4);
-      on = rw (undo_on, archive, now, turn)
-          (on_more k.rooms l.rooms k.archive after_it (turned t k.now ∷ turns_on undo_from) rooms
-          (on_after_undo k.rooms k.archive k.now t (turns_back redo_from) (turns_on undo_from) (undo_can is) is.on));
+      used = all_used undo_to (undo_leads_back is) (undo_leads_on is);
+      back = undo_leads_back is;
+      on = undo_leads_on is;
       valid = undo_keeps_valid (timeline_in undo_from) (timeline_in undo_to) is.valid (undo_is is);
     }
 
@@ -248,14 +255,22 @@ module _ (k : Kept) (records : List Turn) (d : ℕ) (t : Turn) (within : d < len
     redo_is is =
         redo_leaves ∙ sym (ap (λ u. Ok u) (redo_lands ∙ ap redo_lands_at (back_again k.archive t k.now (redo_turn is))))
 
-    pub redo_recorded : IsRecorded redo_from → IsRecorded redo_to
+    redo_leads_back : IsRecorded redo_from → LeadsBack redo_to.kept.rooms redo_to.kept.archive redo_to.kept.now (turns_back redo_to)
+    redo_leads_back is =
+        rw (redo_back, archive, now, turn)
+        (back_more k.rooms l.rooms k.archive after_it (turned t k.now ∷ turns_back redo_from) rooms
+        (back_after_redo k.rooms k.archive k.now t (turns_back redo_from) (turns_on undo_from) (redo_can is) is.back))
+
+    redo_leads_on : IsRecorded redo_from → LeadsOn redo_to.kept.rooms redo_to.kept.archive redo_to.kept.now (turns_on redo_to)
     unfolding LeadsOn
+    redo_leads_on is = rw (redo_on, archive, now) (on_more k.rooms l.rooms k.archive after_it (turns_on undo_from) rooms (redo_can is).3)
+
+    pub redo_recorded : IsRecorded redo_from → IsRecorded redo_to
     redo_recorded is = record {
       within = rw (length-set records d u) (omega (arith, within));
-      back = rw (redo_back, archive, now, turn)
-          (back_more k.rooms l.rooms k.archive after_it (turned t k.now ∷ turns_back redo_from) rooms
-          (back_after_redo k.rooms k.archive k.now t (turns_back redo_from) (turns_on undo_from) (redo_can is) is.back));
-      on = rw (redo_on, archive, now) (on_more k.rooms l.rooms k.archive after_it (turns_on undo_from) rooms (redo_can is).4);
+      used = all_used redo_to (redo_leads_back is) (redo_leads_on is);
+      back = redo_leads_back is;
+      on = redo_leads_on is;
       valid = redo_keeps_valid (timeline_in redo_from) (timeline_in redo_to) is.valid (redo_is is);
     }
 
@@ -276,12 +291,14 @@ empty_is_valid = record { files = record { names = tt; sizes = tt; count = omega
 pub new_valid : IsValidTimeline new_timeline
 new_valid = record { before = tt; now = empty_is_valid; later = tt; bounded = omega arith }
 
-pub nothing_recorded : (k : Kept) → k.now ≡ no_numbers → IsRecorded (record { kept = k; records = []; done = 0 })
+pub nothing_recorded : (k : Kept) → k.now ≡ no_numbers → k.archive.names ≡ [] → k.archive.texts ≡ []
+    → IsRecorded (record { kept = k; records = []; done = 0 })
 unfolding LeadsBack LeadsOn
-nothing_recorded k is = record {
+nothing_recorded k is names texts = record {
   within = omega arith;
-  back = none;
-  on = none;
+  used = all_used (record { kept = k; records = []; done = 0 }) no_past no_future;
+  back = no_past;
+  on = no_future;
   valid = rw is new_valid;
 }
   where
@@ -289,6 +306,15 @@ nothing_recorded k is = record {
     none = rw is (record {
       there = record { shown = tt; marks = tt; frames = tt; names = omega arith; versions = omega arith };
       fits = record { files = omega arith; defs = omega arith; uses = omega arith; calls = omega arith; marks = omega arith; frames = omega arith };
+    })
+
+    no_past : LeadsBack k.rooms k.archive k.now []
+    no_past = (none, record { names = ap (λ (w : Numbered). w.names) is; versions = ap (λ (w : Numbered). w.versions) is })
+
+    no_future : LeadsOn k.rooms k.archive k.now []
+    no_future = (none, record {
+      names = ap (λ (w : Numbered). w.names) is ∙ sym (ap length names);
+      versions = ap (λ (w : Numbered). w.versions) is ∙ sym (ap length texts);
     })
 
 -- as many worlds are the past as records lead back

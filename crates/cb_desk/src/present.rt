@@ -1,5 +1,5 @@
 //! The present world in memory, in the numbers of an archive.
-ghost use Rattle.std.specs.Prelude.{◌≡◌, ◌≤◌, ◌+◌, ◌++◌, ⊤, length, map, take, MatchOption, OnOk};
+ghost use Rattle.std.specs.Prelude.{◌≡◌, ◌≤◌, ◌+◌, ◌++◌, [], ⊤, length, map, take, MatchOption, OnOk};
 ghost use Rattle.cb_scan.specs.Order.{in_order};
 ghost use Rattle.cb_index.specs.Files.{shown_name};
 ghost use Rattle.cb_index.specs.Names.{names_of};
@@ -157,6 +157,8 @@ impl Present {
     /// The world without a file. It takes no memory.
     pub(crate) fn new(alloc: Global) -> Present
         ensures now { result.now ≡ no_numbers }
+        ensures names { result.archive.names ≡ [] }
+        ensures texts { result.archive.texts ≡ [] }
         ensures turns { result.turns ≡ 0 }
     {
         Present {

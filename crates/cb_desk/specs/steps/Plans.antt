@@ -8,6 +8,7 @@ use Rattle.cb_desk.specs.declared.edits.Edit.{Edit}
 use Rattle.cb_desk.specs.declared.spot.NumberedPlace.{NumberedPlace}
 use Rattle.cb_desk.specs.steps.Edits.{edited, turned_edits}
 use Rattle.cb_desk.specs.steps.Records.{AreThere, Fits, IsTurn, Kept, Numbered, Rooms, Turn, other, other_wanted, place_in, world_in}
+use Rattle.cb_desk.specs.steps.Walks.{IsNext, UsesAll}
 use Rattle.cb_desk.specs.World.{World, place_key}
 
 -- new names and texts, and the turn
@@ -21,13 +22,13 @@ pub record Keeps (old : Archived) (w : Numbered) (p : Planned) (new : Archived) 
   pub names : new.names ≡ take w.names old.names ++ p.names
   pub texts : new.texts ≡ take w.versions old.texts ++ p.texts
 
--- the turn leads to that world in such an archive
+-- the turn leads to that world in such an archive, and the world uses all of it
 pub record LeadsTo (k : Kept) (p : Planned) (v : World) (a : Archived) : Type 0 where
   pub turn : IsTurn a p.turn k.now
   pub there : AreThere a (other a p.turn k.now)
   pub world : world_in a (other a p.turn k.now) ≡ v
-  pub names : k.now.names ≤ p.turn.names
-  pub versions : k.now.versions ≤ p.turn.versions
+  pub next : IsNext k.now (other a p.turn k.now)
+  pub all : UsesAll a (other a p.turn k.now)
 
 -- the turn leads to that world in every such archive
 abbrev pub IsPlan : Kept → Planned → World → Type 0
