@@ -2,7 +2,7 @@
 ghost use Rattle.std.specs.Prelude.{◌≡◌};
 ghost use Rattle.std.specs.Option.{option_map};
 ghost use Rattle.cb_index.specs.Files.{files_of};
-ghost use Rattle.cb_desk.specs.Files.{load_refusal, rename_refusal, unload_refusal};
+ghost use Rattle.cb_desk.specs.Files.{load_refusal, reload_refusal, rename_refusal, unload_refusal};
 ghost use Rattle.cb_desk.specs.Marks.{mark_all_refusal, mark_refusal, want_refusal};
 ghost use Rattle.cb_desk.specs.Stack.{pop_refusal, push_refusal};
 ghost use Rattle.cb_desk.specs.World.{has_file, is_short};
@@ -55,6 +55,19 @@ impl Present {
             Some(Refusal::TooLarge)
         } else if self.shelf.shown().len() >= MOST_FILES {
             Some(Refusal::TooManyFiles)
+        } else {
+            None
+        }
+    }
+
+    /// Why the file can't have these bytes, if it can't: the lowest refusal that applies.
+    pub(crate) fn reload_refusal(&self, name: &[u8], bytes: &[u8]) -> Option<Refusal>
+        ensures { result ≡ reload_refusal (world_in self.now.archive self.now.now) name.now bytes.now }
+    {
+        if !self.has_file(name) {
+            Some(Refusal::NoSuchFile)
+        } else if bytes.len() > MOST_BYTES {
+            Some(Refusal::TooLarge)
         } else {
             None
         }
