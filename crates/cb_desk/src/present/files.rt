@@ -124,20 +124,20 @@ impl Present {
     pub(crate) fn plan_reload(
         &self,
         alloc: Global,
-        old: Shown,
+        file: Shown,
         version: Version,
     ) -> Result<Plan, AllocError>
         requires kept { IsKept self.now.rooms self.now.archive self.now.now }
-        requires among { IsAmong self.now.now.shown old }
+        requires among { IsAmong self.now.now.shown file }
         ensures { IfOk result (λ p. IsPlan self.now p (reloaded (world_in self.now.archive self.now.now)
-            (name_of self.now.archive old.name) version)) }
+            (name_of self.now.archive file.name) version)) }
     {
         let _shown = self.shelf.shown();
         let archive = self.shelf.archive();
-        let marks = edits_without(alloc, archive, old.name, self.marks.as_slice())?;
-        let frames = edits_without(alloc, archive, old.name, self.frames.as_slice())?;
+        let marks = edits_without(alloc, archive, file.name, self.marks.as_slice())?;
+        let frames = edits_without(alloc, archive, file.name, self.frames.as_slice())?;
         let new = Shown {
-            name: old.name,
+            name: file.name,
             version: self.versions,
         };
         let versions = sum(self.versions, 1).ok_or(AllocError)?;
@@ -145,7 +145,7 @@ impl Present {
             names: Vec::new(alloc),
             versions: only_one(alloc, version)?,
             record: Record {
-                hides: only_one(alloc, old)?,
+                hides: only_one(alloc, file)?,
                 shows: only_one(alloc, new)?,
                 wanted: None,
                 marks,
