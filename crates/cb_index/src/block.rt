@@ -1,6 +1,5 @@
 //! A part of the entries of an index.
-ghost use Rattle.std.specs.Prelude.{◌≡◌, ◌<◌, ◌≤◌, ◌++◌, ◌∷◌, suc, true, false, length, take, drop};
-ghost use Rattle.std.specs.Prelude.{IfOk, []};
+ghost use Rattle.std.specs.Prelude.{◌≡◌, ◌<◌, ◌≤◌, ◌++◌, ◌∷◌, [], suc, true, false, length, take, drop, IfOk};
 
 use crate::entry::Entry;
 use crate::memory::OutOfMemory;
@@ -93,8 +92,10 @@ impl Block {
         requires { length self.old ≡ 256 }
         ensures lower { self.new ≡ take 128 self.old }
         ensures upper { upper.new ≡ drop 128 self.old }
+        ensures lower_count { length self.new ≡ 128 }
+        ensures upper_count { length upper.new ≡ 128 }
     {
-        upper.fill(&self.entries.as_slice()[HALF..]);
+        upper.fill(self.entries.as_slice().split_at(HALF).1);
         self.entries.truncate(HALF);
     }
 

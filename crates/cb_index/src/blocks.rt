@@ -1,6 +1,6 @@
 //! Entries kept in blocks.
-ghost use Rattle.std.specs.Prelude.{◌≡◌, ◌<◌, ◌≤◌, ◌+◌, ◌*◌, ◌++◌, ◌∷◌, [], suc, true, false, length, take, drop, OnOk};
-ghost use Rattle.std.specs.List.{AllByRecursion};
+ghost use Rattle.std.specs.Prelude.{◌≡◌, ◌<◌, ◌≤◌, ◌+◌, ◌*◌, ◌++◌, ◌∷◌, [], suc, true, false, length, take, drop, slice_index_or, vec_capacity, OnOk};
+ghost use Rattle.std.specs.List.{AllByRecursion, insert};
 ghost use Rattle.cb_index.specs.Blocks.{IsFilled, IsPlace, before, joined};
 
 use crate::block::Block;
@@ -33,6 +33,19 @@ impl Model for Blocks {
 
     ghost invariant = { λ b. AreBlocks b.used.items (length b.used.items + length b.spare.items)
         (vec_capacity b.used) (vec_capacity b.spare) };
+}
+
+/// Inserts in the room that is there.
+fn insert_block(blocks: &mut Vec<Block>, at: usize, block: Block)
+    requires place { at ≤ length blocks.old.items }
+    requires room { length blocks.old.items < vec_capacity blocks.old }
+    ensures items { blocks.new.items ≡ insert blocks.old.items at block }
+    ensures len { length blocks.new.items ≡ length blocks.old.items + 1 }
+    ensures room { vec_capacity blocks.old ≤ vec_capacity blocks.new }
+{
+    if blocks.insert(at, block).is_err() {
+        unreachable!()
+    }
 }
 
 impl Blocks {
@@ -79,9 +92,7 @@ impl Blocks {
         if self.spare.reserve(count + 1 - self.spare.len()).is_err() {
             return Err(OutOfMemory);
         }
-        if self.spare.push(block).is_err() {
-            unreachable!()
-        }
+        self.spare.push_reserved(block);
         Ok(())
     }
 
@@ -91,11 +102,13 @@ impl Blocks {
         ensures used { self.new.used ≡ self.old.used }
         ensures count { self.old.count ≤ self.new.count }
     {
-        while self.count() < n {
+        let mut count = self.count();
+        while count < n {
             match self.grow() {
                 Ok(()) => {}
                 Err(_) => return Err(OutOfMemory),
             }
+            count += 1;
         }
         Ok(())
     }
@@ -112,9 +125,7 @@ impl Blocks {
             None => return false,
         };
         block.fill(&[one]);
-        if self.used.push(block).is_err() {
-            unreachable!()
-        }
+        self.used.push_reserved(block);
         true
     }
 
@@ -122,6 +133,7 @@ impl Blocks {
     fn put_split(&mut self, place: Place, one: Entry) -> bool
         requires block { place.block < length self.old.used }
         requires place { IsPlace self.old.used place.block place.at }
+        requires full { length (slice_index_or self.old.used place.block []) ≡ 256 }
         ensures put { result ≡ true → joined self.new.used
             ≡ take (before self.old.used place.block place.at) (joined self.old.used)
             ++ one ∷ drop (before self.old.used place.block place.at) (joined self.old.used) }
@@ -132,11 +144,24 @@ impl Blocks {
             Some(block) => block,
             None => return false,
         };
-        self.used[place.block].insert_split(place.at, one, &mut upper);
-        if self.used.insert(place.block + 1, upper).is_err() {
-            unreachable!()
-        }
+        let block = &mut self.used[place.block];
+        block.insert_split(place.at, one, &mut upper);
+        insert_block(&mut self.used, place.block + 1, upper);
         true
+    }
+
+    /// Puts an entry into a block that is not full.
+    fn put_in(&mut self, place: Place, one: Entry)
+        requires block { place.block < length self.old.used }
+        requires place { IsPlace self.old.used place.block place.at }
+        requires room { length (slice_index_or self.old.used place.block []) < 256 }
+        ensures put { joined self.new.used
+            ≡ take (before self.old.used place.block place.at) (joined self.old.used)
+            ++ one ∷ drop (before self.old.used place.block place.at) (joined self.old.used) }
+        ensures count { self.new.count ≡ self.old.count }
+    {
+        let block = &mut self.used[place.block];
+        block.insert(place.at, one);
     }
 
     /// Puts an entry at a place; not where a block is wanted and none is left.
@@ -154,7 +179,7 @@ impl Blocks {
         if self.used[place.block].is_full() {
             return self.put_split(place, one);
         }
-        self.used[place.block].insert(place.at, one);
+        self.put_in(place, one);
         true
     }
 
@@ -167,12 +192,12 @@ impl Blocks {
             ++ drop (suc (before self.old.used place.block place.at)) (joined self.old.used) }
         ensures count { self.new.count ≡ self.old.count }
     {
-        self.used[place.block].remove(place.at);
-        if self.used[place.block].entries().is_empty() {
+        let block = &mut self.used[place.block];
+        block.remove(place.at);
+        let emptied = block.entries().is_empty();
+        if emptied {
             let block = self.used.remove(place.block);
-            if self.spare.push(block).is_err() {
-                unreachable!()
-            }
+            self.spare.push_reserved(block);
         }
     }
 
@@ -182,9 +207,7 @@ impl Blocks {
         ensures count { self.new.count ≡ self.old.count }
     {
         while let Some(block) = self.used.pop() {
-            if self.spare.push(block).is_err() {
-                unreachable!()
-            }
+            self.spare.push_reserved(block);
         }
     }
 
@@ -203,9 +226,7 @@ impl Blocks {
                 None => unreachable!(),
             };
             block.fill(now);
-            if self.used.push(block).is_err() {
-                unreachable!()
-            }
+            self.used.push_reserved(block);
             left = later;
         }
     }

@@ -3,7 +3,7 @@ ghost use Rattle.std.specs.Prelude.{◌≡◌, ◌++◌, ◌∷◌, [], MatchOpt
 ghost use Rattle.std.specs.Iterator.{YieldsFirstBy, item_count};
 ghost use Rattle.cb_index.specs.steps.Found.{facts_at, facts_in, keys_for, posting_items};
 ghost use Rattle.cb_index.specs.steps.Left.{fact_of, facts_left, posting_left, posting_left_if};
-ghost use Rattle.cb_index.specs.steps.Runs.{entries_in};
+ghost use Rattle.cb_index.specs.steps.Runs.{run_entries};
 
 use crate::archive::{Archive, Version};
 use crate::bytes::number_at;
@@ -92,9 +92,9 @@ struct Step<'a> {
 
 /// The first row of some entries.
 fn first_row<'a>(sort: FactSort, archive: &'a Archive, entries: Run<'a>) -> Option<Step<'a>>
-    ensures { MatchOption result (facts_in sort archive.now (entries_in entries.entry) ≡ [])
-        (λ r. facts_in sort archive.now (entries_in entries.entry)
-        ≡ fact_of r.row ∷ (posting_left r.posting ++ facts_in sort archive.now (entries_in r.entries))) }
+    ensures { MatchOption result (facts_in sort archive.now (run_entries entries.entry) ≡ [])
+        (λ r. facts_in sort archive.now (run_entries entries.entry)
+        ≡ fact_of r.row ∷ (posting_left r.posting ++ facts_in sort archive.now (run_entries r.entries))) }
 {
     let mut left = entries;
     while let Some((entry, rest)) = left.split_first() {
@@ -112,7 +112,7 @@ fn first_row<'a>(sort: FactSort, archive: &'a Archive, entries: Run<'a>) -> Opti
 
 impl<'a> FactRows<'a> {
     pub(crate) fn new(sort: FactSort, archive: &'a Archive, entries: Run<'a>) -> FactRows<'a>
-        ensures { facts_left result ≡ facts_in sort archive.now (entries_in entries.entry) }
+        ensures { facts_left result ≡ facts_in sort archive.now (run_entries entries.entry) }
     {
         FactRows {
             sort,

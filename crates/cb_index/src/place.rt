@@ -43,6 +43,7 @@ fn compare_key<O: EntryOrder>(archive: &Archive, prefix: u64, key: &[u8], entry:
 }
 
 /// Whether an entry stands ahead of a bound.
+#[tactic(auto, unfolding(crate::specs::steps::Bounds::is_ahead))]
 fn is_ahead<O: EntryOrder>(archive: &Archive, bound: Bound<'_>, entry: Entry) -> bool
     ensures { result ≡ is_ahead O.keyer archive.now bound.entry entry }
 {
@@ -59,7 +60,7 @@ fn is_ahead<O: EntryOrder>(archive: &Archive, bound: Bound<'_>, entry: Entry) ->
 
 /// How many entries stand ahead of a bound.
 fn count_ahead<O: EntryOrder>(archive: &Archive, bound: Bound<'_>, entries: &[Entry]) -> usize
-    requires { IsPartitionedBy (is_ahead O.keyer archive.now bound.entry) entries.now }
+    requires { IsPartitionedBy (is_ahead O.keyer archive.now bound) entries.now }
     ensures bound { result ≤ length entries.now }
     ensures parted { IsPartitionPoint
         (λ e. is_ahead O.keyer archive.now bound.entry e ≡ true)
@@ -73,6 +74,7 @@ fn count_ahead<O: EntryOrder>(archive: &Archive, bound: Bound<'_>, entries: &[En
 }
 
 /// Whether the first entry of a block stands ahead of a bound.
+#[tactic(auto, unfolding(crate::specs::Blocks::head_is))]
 fn begins_ahead<O: EntryOrder>(archive: &Archive, bound: Bound<'_>, block: &Block) -> bool
     ensures { result ≡ head_is (is_ahead O.keyer archive.now bound.entry) block.now }
 {
@@ -84,7 +86,7 @@ fn begins_ahead<O: EntryOrder>(archive: &Archive, bound: Bound<'_>, block: &Bloc
 
 /// How many blocks begin ahead of a bound.
 fn count_begun<O: EntryOrder>(archive: &Archive, bound: Bound<'_>, blocks: &[Block]) -> usize
-    requires { IsPartitionedBy (head_is (is_ahead O.keyer archive.now bound.entry)) blocks.now }
+    requires { IsPartitionedBy (head_is (is_ahead O.keyer archive.now bound)) blocks.now }
     ensures bound { result ≤ length blocks.now }
     ensures parted { IsPartitionPoint
         (λ b. head_is (is_ahead O.keyer archive.now bound.entry) b ≡ true)

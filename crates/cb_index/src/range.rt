@@ -3,7 +3,7 @@ ghost use Rattle.std.specs.Prelude.{◌≡◌, ◌++◌, ◌∷◌, [], MatchOpt
 ghost use Rattle.std.specs.Iterator.{YieldsFirst, item_count};
 ghost use Rattle.cb_index.specs.steps.Spread.{items_at, rows_in};
 ghost use Rattle.cb_index.specs.steps.RowsLeft.{entry_rows, entry_rows_if, rows_left};
-ghost use Rattle.cb_index.specs.steps.Runs.{entries_in};
+ghost use Rattle.cb_index.specs.steps.Runs.{run_entries};
 
 use crate::archive::Archive;
 use crate::entry::Entry;
@@ -73,9 +73,9 @@ struct Step<'a> {
 
 /// The first row of some entries.
 fn first_row<'a>(sort: Option<FactSort>, archive: &'a Archive, entries: Run<'a>) -> Option<Step<'a>>
-    ensures { MatchOption result (rows_in sort archive.now (entries_in entries.entry) ≡ [])
-        (λ r. rows_in sort archive.now (entries_in entries.entry)
-        ≡ r.row ∷ (entry_rows r.first ++ rows_in sort archive.now (entries_in r.entries))) }
+    ensures { MatchOption result (rows_in sort archive.now (run_entries entries.entry) ≡ [])
+        (λ r. rows_in sort archive.now (run_entries entries.entry)
+        ≡ r.row ∷ (entry_rows r.first ++ rows_in sort archive.now (run_entries r.entries))) }
 {
     let mut left = entries;
     while let Some((entry, rest)) = left.split_first() {
@@ -97,7 +97,7 @@ fn first_row<'a>(sort: Option<FactSort>, archive: &'a Archive, entries: Run<'a>)
 
 impl<'a> Rows<'a> {
     pub(crate) fn new(sort: Option<FactSort>, archive: &'a Archive, entries: Run<'a>) -> Rows<'a>
-        ensures { rows_left result ≡ rows_in sort archive.now (entries_in entries.entry) }
+        ensures { rows_left result ≡ rows_in sort archive.now (run_entries entries.entry) }
     {
         Rows {
             sort,

@@ -16,12 +16,12 @@ pub(crate) struct Run<'a> {
 }
 
 impl<'a> Run<'a> {
-    ghost use Rattle.cb_index.specs.steps.Runs.{entries_in};
+    ghost use Rattle.cb_index.specs.steps.Runs.{run_entries};
 
     /// All entries of blocks.
     pub(crate) fn whole(blocks: &'a [Block]) -> Run<'a>
         requires { length (joined blocks.now) < 2 ^ 64 }
-        ensures { entries_in result ≡ joined blocks.now }
+        ensures { run_entries result ≡ joined blocks.now }
     {
         Run {
             first: &[],
@@ -30,40 +30,46 @@ impl<'a> Run<'a> {
         }
     }
 
+    /// The entries of these, one after another.
+    fn parts(first: &'a [Entry], blocks: &'a [Block], last: &'a [Entry]) -> Run<'a>
+        requires { length (first.now ++ (joined blocks.now ++ last.now)) < 2 ^ 64 }
+        ensures { run_entries result ≡ first.now ++ (joined blocks.now ++ last.now) }
+    {
+        Run {
+            first,
+            blocks,
+            last,
+        }
+    }
+
     /// The entries from a place up to another one.
     pub(crate) fn between(blocks: &'a [Block], from: Place, to: Place) -> Run<'a>
         requires fits { length (joined blocks.now) < 2 ^ 64 }
         requires from { IsPlace blocks.now from.block from.at }
         requires to { IsPlace blocks.now to.block to.at }
-        ensures { entries_in result ≡ drop (before blocks.now from.block from.at)
+        ensures { run_entries result ≡ drop (before blocks.now from.block from.at)
             (take (before blocks.now to.block to.at) (joined blocks.now)) }
     {
-        if blocks.is_empty() || to.block < from.block {
-            return Run {
-                first: &[],
-                blocks: &[],
-                last: &[],
-            };
+        if blocks.is_empty() {
+            return Run::whole(blocks);
         }
-        let last = &blocks[to.block].entries()[..to.at];
+        if to.block < from.block {
+            return Run::whole(&[]);
+        }
+        let last = blocks[to.block].entries().split_at(to.at).0;
         if from.block == to.block {
-            return Run {
-                first: &last[from.at.min(to.at)..],
-                blocks: &[],
-                last: &[],
-            };
+            let first = last.split_at(from.at.min(to.at)).1;
+            return Run::parts(first, &[], &[]);
         }
-        Run {
-            first: &blocks[from.block].entries()[from.at..],
-            blocks: &blocks[from.block + 1..to.block],
-            last,
-        }
+        let first = blocks[from.block].entries().split_at(from.at).1;
+        let whole = blocks.split_at(to.block).0.split_at(from.block + 1).1;
+        Run::parts(first, whole, last)
     }
 
     /// The first entry, and the others.
     pub(crate) fn split_first(self) -> Option<(&'a Entry, Run<'a>)>
-        ensures { MatchOption result (entries_in self.entry ≡ [])
-            (λ r. entries_in self.entry ≡ r.0.now ∷ entries_in r.1) }
+        ensures { MatchOption result (run_entries self.entry ≡ [])
+            (λ r. run_entries self.entry ≡ r.0.now ∷ run_entries r.1) }
     {
         if let Some((entry, first)) = self.first.split_first() {
             return Some((
@@ -102,10 +108,11 @@ impl<'a> Run<'a> {
 
     /// How many entries there are.
     pub(crate) fn len(&self) -> usize
-        ensures { result ≡ length (entries_in self.now) }
+        ensures { result ≡ length (run_entries self.now) }
     {
         let mut count = self.first.len() + self.last.len();
-        for block in self.blocks {
+        let blocks = self.blocks;
+        for block in blocks {
             count += block.entries().len();
         }
         count

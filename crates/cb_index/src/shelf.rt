@@ -291,19 +291,21 @@ impl Shelf {
         ensures turns { self.new.turns ≡ min (self.old.turns + 1) (2 ^ 64 - 1) }
         ensures room { KeepsRoom self.old self.new }
     {
-        if let Some(one) = shown_under(name, self.shown.as_slice()) {
-            self.shown.retain(
-                |s: &Shown| -> bool
-                    ensures { result ≡ not (nat_eq s.now.name name) }
-                { s.name != name },
-            );
-            self.defs.take_all(&self.archive, one);
-            self.tags.take_all(&self.archive, one);
-            self.uses.take_all(&self.archive, one);
-            self.callees.take_all(&self.archive, one);
-            self.callers.take_all(&self.archive, one);
-        }
         self.turns = self.turns.saturating_add(1);
+        let one = match shown_under(name, self.shown.as_slice()) {
+            Some(one) => one,
+            None => return,
+        };
+        self.shown.retain(
+            |s: &Shown| -> bool
+                ensures { result ≡ not (nat_eq s.now.name name) }
+            { s.name != name },
+        );
+        self.defs.take_all(&self.archive, one);
+        self.tags.take_all(&self.archive, one);
+        self.uses.take_all(&self.archive, one);
+        self.callees.take_all(&self.archive, one);
+        self.callers.take_all(&self.archive, one);
     }
 
     /// Hides what is shown under the names of many files, the number of each name below that of the

@@ -9,7 +9,7 @@ ghost use Rattle.cb_index.specs.Entries.{has_key, sort_key};
 ghost use Rattle.cb_index.specs.Held.{all_entries, entries_of, prefixes_of};
 ghost use Rattle.cb_index.specs.Names.{is_among, names_of};
 ghost use Rattle.cb_index.specs.steps.RowsLeft.{rows_left};
-ghost use Rattle.cb_index.specs.steps.Runs.{entries_in};
+ghost use Rattle.cb_index.specs.steps.Runs.{run_entries};
 ghost use Rattle.cb_index.specs.steps.Spread.{rows_in};
 ghost use Rattle.cb_index.specs.declared.entry.Entry.{Entry};
 
@@ -70,8 +70,8 @@ fn sort<O: EntryOrder>(archive: &Archive, entries: &mut [Entry])
 
 /// Whether entries are in order.
 fn ascend<O: EntryOrder>(archive: &Archive, entries: Run<'_>) -> bool
-    ensures { result ≡ true → entries_in entries.entry
-        ≡ in_order (sort_key O.keyer archive.now) (entries_in entries.entry) }
+    ensures { result ≡ true → run_entries entries.entry
+        ≡ in_order (sort_key O.keyer archive.now) (run_entries entries.entry) }
 {
     let (mut last, mut left) = match entries.split_first() {
         Some((entry, rest)) => (*entry, rest),
@@ -132,6 +132,17 @@ fn take_one<O: EntryOrder>(archive: &Archive, one: Entry, blocks: &mut Blocks)
     });
 }
 
+/// Puts entries behind others, in the room that is there.
+fn extend(entries: &mut Vec<Entry>, more: &[Entry])
+    requires { length entries.old.items + length more.now ≤ vec_capacity entries.old }
+    ensures items { entries.new.items ≡ entries.old.items ++ more.now }
+    ensures room { vec_capacity entries.old ≤ vec_capacity entries.new }
+{
+    if entries.extend_from_slice(more).is_err() {
+        unreachable!()
+    }
+}
+
 /// Puts all entries behind others, in the room that is there, and empties the blocks.
 fn lift(blocks: &mut Blocks, entries: &mut Vec<Entry>)
     requires { length entries.old.items + length (joined blocks.old.used)
@@ -141,10 +152,9 @@ fn lift(blocks: &mut Blocks, entries: &mut Vec<Entry>)
     ensures used { blocks.new.used ≡ [] }
     ensures count { blocks.new.count ≡ blocks.old.count }
 {
-    for block in blocks.used() {
-        if entries.extend_from_slice(block.entries()).is_err() {
-            unreachable!()
-        }
+    let used = blocks.used();
+    for block in used {
+        extend(entries, block.entries());
     }
     blocks.clear();
 }
@@ -180,9 +190,7 @@ fn put_rest<O: EntryOrder>(archive: &Archive, news: &mut Vec<Entry>, blocks: &mu
 {
     while let Some(one) = news.pop() {
         if !try_put::<O>(archive, one, blocks) {
-            if news.push(one).is_err() {
-                unreachable!()
-            }
+            news.push_reserved(one);
             sort_in::<O>(archive, news, blocks);
             return;
         }
@@ -236,7 +244,7 @@ impl<O: EntryOrder> Sorted<O> {
 
     /// The entries, in order.
     pub(crate) fn entries(&self) -> Run<'_>
-        ensures { entries_in result ≡ self.now.entries }
+        ensures { run_entries result ≡ self.now.entries }
     {
         let _room = self.scratch.capacity();
         Run::whole(self.blocks.used())
@@ -363,7 +371,7 @@ impl<O: EntryOrder> Sorted<O> {
     /// The entries that have the key, in order.
     pub(crate) fn with_key(&self, archive: &Archive, key: &[u8]) -> Run<'_>
         requires { self.now.entries ≡ in_order (sort_key O.keyer archive.now) self.now.entries }
-        ensures { entries_in result ≡ filter
+        ensures { run_entries result ≡ filter
             (has_key O.keyer archive.now (O.prefix_of key.now) key.now) self.now.entries }
     {
         let _room = self.scratch.capacity();

@@ -4,5 +4,5 @@ use Rattle.cb_index.specs.Blocks.{joined}
 use Rattle.cb_index.specs.declared.entry.Entry.{Entry}
 use Rattle.cb_index.specs.declared.run.Run.{Run}
 
-abbrev pub entries_in : Run → List Entry
-entries_in r = r.first.now ++ (joined r.blocks.now ++ r.last.now)
+abbrev pub run_entries : Run → List Entry
+run_entries r = r.first.now ++ (joined r.blocks.now ++ r.last.now)

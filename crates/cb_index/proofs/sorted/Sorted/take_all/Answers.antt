@@ -1,0 +1,4 @@
+use Rattle.cb_index.proofs.sorted.Sorted.take_all.Goals as goal
+
+pub invariant_of-self : goal.invariant_of-self
+invariant_of-self g c = ?
