@@ -123,7 +123,6 @@ module _ (a : Archived) (name : ℕ) where
 
   -- nothing goes where nothing is shown under the name
   pub none_under : (shown : List Shown) → shown_under name shown ≡ None → filter (λ (s : Shown). not (nat_eq s.name name)) shown ≡ shown
-  unfolding shown_under
   none_under [] is = refl
   none_under (s ∷ shown) is = by_test (nat_eq s.name name) refl (none_under shown)
     where
@@ -158,7 +157,7 @@ module _ (a : Archived) (name : ℕ) where
     out_sum : (shown : List Shown) (one : Shown) → shown_under name shown ≡ Some one → AreAscending a shown
         → sum_by f (all_entries prefixer a shown)
         ≡ sum_by f (entries_of prefixer a one) + sum_by f (all_entries prefixer a (filter (λ (s : Shown). not (nat_eq s.name name)) shown))
-    unfolding shown_under AreOrdered
+    unfolding AreOrdered
     out_sum [] one is up = absurd (none-some one is)
     out_sum (s ∷ shown) one is up = by_test (nat_eq s.name name) refl (λ under. out_sum shown one under up.1)
       where
@@ -168,7 +167,8 @@ module _ (a : Archived) (name : ℕ) where
             → sum_by f (all_entries prefixer a (s ∷ shown))
             ≡ sum_by f (entries_of prefixer a one) + sum_by f (all_entries prefixer a (filter is_other (s ∷ shown)))
         by_test true eq rest =
-            let same : s ≡ one = some-injective s one (sym (ap (λ b. cond b (Some s) (shown_under name shown)) eq) ∙ is) in
+            let first : Some s ≡ Some one = sym (ap (λ b. cond b (Some s) (shown_under name shown)) eq) ∙ is in
+            let same : s ≡ one = some-injective s one first in
             sum_by-append f (entries_of prefixer a s) (all_entries prefixer a shown)
             ∙ (λ i. sum_by f (entries_of prefixer a (same i)) + sum_by f (all_entries prefixer a
             (sym (later_stay s ((Decides-eqb s.name name).0 eq) shown up.0) i)))

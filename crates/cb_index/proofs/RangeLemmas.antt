@@ -5,6 +5,7 @@ use Rattle.std.proofs.lemmas.Bool.Decides.{nat_tests}
 use Rattle.std.proofs.lemmas.Cmp.{nat_cmp_total, nat_list_cmp_total, on_total, then_total, upto}
 use Rattle.std.proofs.lemmas.Map.Text.{is_eq-slice_cmp}
 use Rattle.std.specs.Prelude.{cond, not, nat_eq, ◌&&◌}
+use Rattle.std.specs.Borrow.{Bor}
 use Rattle.std.specs.Cmp.{IsTotalOrder}
 use Rattle.std.specs.Cmp.Lexicographic.{slice_cmp}
 use Rattle.std.specs.List.{AllByRecursion}
@@ -227,3 +228,13 @@ module _ (keyer : Keyer) (a : Archived) (one : Entry) where
       → AllByRecursion (λ e. is_ahead keyer a (Behind one) e ≡ false) es → true ≡ false
   unfolding is_ahead
   behind_some rest es is none = some_ahead (sort_key keyer a) rest es one is none
+
+-- ---- the entries of a key lie between its bounds
+module _ (keyer : Keyer) (a : Archived) (prefix : ℕ) (key : Bor (List ℕ)) where
+  pub key_between : (m n : ℕ) (es : List Entry) → AllByRecursion (λ e. is_ahead keyer a (Before prefix key) e ≡ true) (take m es)
+      → AllByRecursion (λ e. is_ahead keyer a (Before prefix key) e ≡ false) (drop m es)
+      → AllByRecursion (λ e. is_ahead keyer a (After prefix key) e ≡ true) (take n es)
+      → AllByRecursion (λ e. is_ahead keyer a (After prefix key) e ≡ false) (drop n es)
+      → drop m (take n es) ≡ filter (has_key keyer a prefix key.now) es
+  unfolding is_ahead
+  key_between m n es above low mid high = between_is keyer a prefix key.now m n es above low mid high

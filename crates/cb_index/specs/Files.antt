@@ -44,7 +44,7 @@ abbrev pub is_shown : Archived → List Shown → Shown → Bool
 is_shown a shown s = list_any (λ (t : Shown). bytes_eq (name_of a s.name) (name_of a t.name)) shown
 
 -- what is shown under the number of a name
-unfoldable pub shown_under : ℕ → List Shown → Option Shown
+abbrev pub shown_under : ℕ → List Shown → Option Shown
 shown_under name [] = None
 shown_under name (s ∷ shown) = if nat_eq s.name name then Some s else shown_under name shown
 

@@ -53,12 +53,15 @@ impl<O> Model for Sorted<O> {
       room = min (vec_capacity s.scratch) (128 * s.blocks.count);
     } };
 
-    ghost invariant = { λ s. length (joined s.blocks.used) ≤ vec_capacity s.scratch };
+    ghost invariant = { λ s. (length (joined s.blocks.used) ≤ vec_capacity s.scratch)
+        × (length (joined s.blocks.used) ≤ 128 * s.blocks.count) };
 }
 
 /// Puts entries in order.
-fn sort<O: EntryOrder>(archive: &Archive, entries: &mut [Entry])
-    ensures { entries.new ≡ in_order (sort_key O.keyer archive.now) entries.old }
+fn sort<O: EntryOrder>(archive: &Archive, entries: &mut Vec<Entry>)
+    ensures items { entries.new.items
+        ≡ in_order (sort_key O.keyer archive.now) entries.old.items }
+    ensures room { vec_capacity entries.new ≡ vec_capacity entries.old }
 {
     entries.sort_unstable_by(
         |a: &Entry, b: &Entry| -> Ordering
@@ -171,7 +174,7 @@ fn sort_in<O: EntryOrder>(archive: &Archive, more: &mut Vec<Entry>, blocks: &mut
     ensures count { blocks.new.count ≡ blocks.old.count }
 {
     lift(blocks, more);
-    sort::<O>(archive, more.as_mut_slice());
+    sort::<O>(archive, more);
     blocks.deal(more.as_slice());
 }
 

@@ -55,8 +55,8 @@ take_all-requires-5 c =
     )
 
 -- the indexes hold what is still shown
-pub invariant_of-self : goal.invariant_of-self
-invariant_of-self c =
+pub invariant_of-self-2 : goal.invariant_of-self-2
+invariant_of-self-2 c =
     let a = c.self.inside.archive in
     let stays = is_other a c.args.name in
     let shown = c.self.inside.shown.items in
