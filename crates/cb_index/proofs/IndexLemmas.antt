@@ -7,7 +7,6 @@ use Rattle.std.proofs.lemmas.List.Elements.{filter-append}
 use Rattle.std.proofs.lemmas.List.{length-append}
 use Rattle.std.proofs.lemmas.List.Sums.{sum_by-append}
 use Rattle.std.proofs.lemmas.Option.{none-some}
-use Rattle.std.proofs.Math.Option.{some-injective}
 use Rattle.std.specs.Prelude.{cond, nat_eq, not, slice_get, sum_by, Option}
 use Rattle.std.specs.Cmp.{nat_cmp_is}
 use Rattle.std.specs.Cmp.Lexicographic.{slice_cmp}
@@ -149,6 +148,10 @@ module _ (a : Archived) (name : ℕ) where
       by_test false eq later =
           ap (λ b. cond (not b) (t ∷ filter is_other shown) (filter is_other shown)) eq ∙ ap (λ l. t ∷ l) later
 
+  abbrev shown_or : Shown → Option Shown → Shown
+  shown_or d None = d
+  shown_or d (Some s) = s
+
   module _ (prefixer : Prefixer) (f : Entry → ℕ) where
     size : Shown → ℕ
     size s = sum_by f (entries_of prefixer a s)
@@ -168,7 +171,7 @@ module _ (a : Archived) (name : ℕ) where
             ≡ sum_by f (entries_of prefixer a one) + sum_by f (all_entries prefixer a (filter is_other (s ∷ shown)))
         by_test true eq rest =
             let first : Some s ≡ Some one = sym (ap (λ b. cond b (Some s) (shown_under name shown)) eq) ∙ is in
-            let same : s ≡ one = some-injective s one first in
+            let same : s ≡ one = ap (shown_or s) first in
             sum_by-append f (entries_of prefixer a s) (all_entries prefixer a shown)
             ∙ (λ i. sum_by f (entries_of prefixer a (same i)) + sum_by f (all_entries prefixer a
             (sym (later_stay s ((Decides-eqb s.name name).0 eq) shown up.0) i)))

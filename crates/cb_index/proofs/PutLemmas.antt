@@ -78,3 +78,8 @@ module _ {X : Type 0} (key : X → List ℕ) where
 
   pub parts_length : (xs a b : List X) → xs ≡ in_order key (a ++ b) → length xs ≡ length a + length b
   parts_length xs a b is = ap length is ∙ length_in_order key (a ++ b) ∙ length-append a b
+
+-- nothing is in order
+pub none_in_order : {X : Type 0} (key : X → List ℕ) (xs : List X) → xs ≡ [] → xs ≡ in_order key xs
+unfolding in_order
+none_in_order key xs none = none ∙ sym (ap (in_order key) none)

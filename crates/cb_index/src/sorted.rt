@@ -3,7 +3,7 @@ ghost use Rattle.std.specs.Prelude.{◌≡◌, ◌+◌, ◌*◌, ◌≤◌, ◌+
 ghost use Rattle.std.specs.Cmp.Lexicographic.{slice_cmp};
 ghost use Rattle.std.specs.Ordering.{nat_cmp};
 ghost use Rattle.std.specs.List.Sorted.{IsStrictlyIncreasing};
-ghost use Rattle.cb_scan.specs.Order.{in_order};
+ghost use Rattle.cb_scan.specs.Order.{goes_first, in_order};
 ghost use Rattle.cb_index.specs.Blocks.{joined};
 ghost use Rattle.cb_index.specs.Entries.{has_key, sort_key};
 ghost use Rattle.cb_index.specs.Held.{all_entries, entries_of, prefixes_of};
@@ -71,6 +71,13 @@ fn sort<O: EntryOrder>(archive: &Archive, entries: &mut Vec<Entry>)
     );
 }
 
+/// Whether an entry does not go behind another.
+fn goes_first<O: EntryOrder>(archive: &Archive, a: Entry, b: Entry) -> bool
+    ensures { result ≡ goes_first (sort_key O.keyer archive.now) a b }
+{
+    compare::<O>(archive, a, b) != Ordering::Greater
+}
+
 /// Whether entries are in order.
 fn ascend<O: EntryOrder>(archive: &Archive, entries: Run<'_>) -> bool
     ensures { result ≡ true → run_entries entries.entry
@@ -81,7 +88,7 @@ fn ascend<O: EntryOrder>(archive: &Archive, entries: Run<'_>) -> bool
         None => return true,
     };
     while let Some((entry, rest)) = left.split_first() {
-        if compare::<O>(archive, last, *entry) == Ordering::Greater {
+        if !goes_first::<O>(archive, last, *entry) {
             return false;
         }
         last = *entry;

@@ -1,6 +1,6 @@
 use Rattle.std.proofs.Common.{rules, ◌≡◌, ◌≤◌, ◌∙◌, ◌+◌, List, [], ◌∷◌, ◌++◌, sym, ap, subst, length, vec_capacity, arith}
 use Rattle.cb_scan.specs.Order.{in_order}
-use Rattle.cb_index.specs.Blocks.{Parted, joined}
+use Rattle.cb_index.specs.Blocks.{joined}
 use Rattle.cb_index.specs.Entries.{sort_key}
 use Rattle.cb_index.proofs.EntryLemmas.{sort_exact}
 use Rattle.cb_index.proofs.PutLemmas.{again_in_order, parts_same, put_done, put_next}
@@ -30,7 +30,7 @@ sort_in-requires-clause-room g c =
     let key = sort_key g.O.EntryOrder.keyer c.args.archive.now in
     let items : c.push_reserved.new.self.items ≡ c.loop-one.news.items = search rules in
     let held : joined c.try_put.new.blocks.used ≡ joined c.loop-one.blocks.used =
-    ap (λ (p : Parted). joined p.used) (c.try_put.ensures.stays (search rules)) in
+    ap joined (c.try_put.ensures.stays (search rules)) in
     let size = parts_same key (joined c.loop-one.blocks.used) c.loop-one.news.items (joined c.args.blocks.now.used) c.args.news.now.items
     c.loop-one.invariant.same in
     let news : length c.push_reserved.new.self.items ≡ length c.loop-one.news.items = ap length items in
@@ -42,7 +42,7 @@ sort_in-requires-clause-blocks g c =
     let key = sort_key g.O.EntryOrder.keyer c.args.archive.now in
     let items : c.push_reserved.new.self.items ≡ c.loop-one.news.items = search rules in
     let held : joined c.try_put.new.blocks.used ≡ joined c.loop-one.blocks.used =
-    ap (λ (p : Parted). joined p.used) (c.try_put.ensures.stays (search rules)) in
+    ap joined (c.try_put.ensures.stays (search rules)) in
     let size = parts_same key (joined c.loop-one.blocks.used) c.loop-one.news.items (joined c.args.blocks.now.used) c.args.news.now.items
     c.loop-one.invariant.same in
     let news : length c.push_reserved.new.self.items ≡ length c.loop-one.news.items = ap length items in

@@ -10,7 +10,7 @@ pub returns-then-to-from : goal.returns-then-to-from
 returns-then-to-from c =
     let bs = c.args.blocks.now in
     let low : c.args.to.block < length bs = omega (arith, c.requires.from.0, c.if-to-from.true) in
-    c.whole-2.ensures ∙ turned_between bs c.args.to.block c.args.to.at c.args.from.block c.args.from.at c.if-to-from.true low c.requires.to.1
+    c.whole-then-to-from.ensures ∙ turned_between bs c.args.to.block c.args.to.at c.args.from.block c.args.from.at c.if-to-from.true low c.requires.to.1
 
 -- in one block
 pub returns-then-from-to : goal.returns-then-from-to
@@ -24,7 +24,7 @@ returns-then-from-to c =
     c.entries.ensures.value ∙ c.index-blocks-to.is ∙ get_or_any bs k c.index-blocks-to.result [] low in
     c.parts.ensures
     ∙ ap (λ l. l ++ (joined [] ++ []))
-    (c.split_at-2.ensures.back ∙ (λ i. drop (c.min.ensures i) (c.split_at.ensures.front i)) ∙ ap (λ b. drop (min f t) (take t b)) here)
+    (c.split_at-then-from-to.ensures.back ∙ (λ i. drop (c.min.ensures i) (c.split_at.ensures.front i)) ∙ ap (λ b. drop (min f t) (take t b)) here)
     ∙ inside_between bs k f t low c.requires.to.1
     ∙ ap (λ n. drop (before bs n f) (take (before bs k t) (joined bs))) (sym c.if-from-to.true)
 
