@@ -136,7 +136,7 @@ impl Present {
         let archive = self.shelf.archive();
         let marks = edits_without(alloc, archive, file.name, self.marks.as_slice())?;
         let frames = edits_without(alloc, archive, file.name, self.frames.as_slice())?;
-        let new = Shown {
+        let changed = Shown {
             name: file.name,
             version: self.versions,
         };
@@ -146,7 +146,7 @@ impl Present {
             versions: only_one(alloc, version)?,
             record: Record {
                 hides: only_one(alloc, file)?,
-                shows: only_one(alloc, new)?,
+                shows: only_one(alloc, changed)?,
                 wanted: None,
                 marks,
                 frames,
