@@ -14,14 +14,14 @@ returns-in-Refused g c = Does-refused _ _ _ _ _ _ (ap request_of c.in-Refused.is
 
 pub returns-in-Query : goal.returns-in-Query
 returns-in-Query g c =
-    Does-query _ _ _ _ _ _ _ _ _ c.self-in-Query.view_is (ap request_of c.in-Command.is ∙ ap command_of c.in-Query.is) c.rows.ensures c.put_rows.ensures
+    Does-query _ _ _ _ _ _ _ _ _ c.self.view_is (ap request_of c.in-Command.is ∙ ap command_of c.in-Query.is) c.rows.ensures c.put_rows.ensures
 
 pub returns-in-Change : goal.returns-in-Change
 returns-in-Change g c = Does-asked _ _ _ _ _ _ _ (ap request_of c.in-Command.is ∙ ap command_of c.in-Change.is) c.change.ensures
 
 pub returns-in-Rebuild : goal.returns-in-Rebuild
 returns-in-Rebuild g c =
-    Does-rebuild _ _ _ _ _ _ _ _ c.self.view_is (ap request_of c.in-Command.is ∙ ap command_of c.in-Rebuild.is) c.rebuild.ensures.timeline c.rebuild.ensures.memory c.put_move.ensures
+    Does-rebuild _ _ _ _ _ _ _ _ c.self-in-Rebuild.view_is (ap request_of c.in-Command.is ∙ ap command_of c.in-Rebuild.is) c.rebuild.ensures.timeline c.rebuild.ensures.memory c.put_move.ensures
 
 pub returns-in-Undo : goal.returns-in-Undo
 returns-in-Undo g c =
