@@ -101,10 +101,11 @@ class Draw:
         other, word, number = self.random.choice(NAMES), self.random.choice(WORDS), self.random.choice([1, 1, 2, 3, 17])
         text = self.text()
         return self.random.choices(
-            [b":load %s %d\n%s" % (other, len(text), text), b":drop %s\n" % some, b":rename %s %s\n" % (some, other),
+            [b":load %s %d\n%s" % (other, len(text), text), b":reload %s %d\n%s" % (some, len(text), text),
+             b":drop %s\n" % some, b":rename %s %s\n" % (some, other),
              b"5%s\n" % word, b":mark %d\n" % number, b":markall\n", b":to %s\n" % self.random.choice(WORDS + [b""]),
              b":tag %s %d\n" % (word, number), b":pop\n"],
-            [20 if len(names) < 30 else 3, 4, 4, 6, 10, 3, 4, 6, 3])[0]
+            [20 if len(names) < 30 else 3, 6, 4, 4, 6, 10, 3, 4, 6, 3])[0]
 
     def other(self):
         """A command that changes nothing."""

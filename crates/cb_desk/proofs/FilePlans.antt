@@ -16,7 +16,7 @@ use Rattle.cb_index.proofs.KeptLemmas.{ascending_sorted}
 use Rattle.cb_index.proofs.ListedLemmas.{ascending_apart, ascending_in_order, other_turned}
 use Rattle.cb_desk.specs.declared.edits.Edit.{Edit}
 use Rattle.cb_desk.specs.declared.spot.NumberedPlace.{NumberedPlace}
-use Rattle.cb_desk.specs.Files.{loaded, renamed, unloaded, with_file, without_file}
+use Rattle.cb_desk.specs.Files.{loaded, reloaded, renamed, unloaded, with_file, without_file}
 use Rattle.cb_desk.specs.Places.{is_in, renamed_place, renamed_places, without_places}
 use Rattle.cb_desk.specs.World.{File, Place, World, has_file, place_key}
 use Rattle.cb_desk.specs.steps.Edits.{IsDifference, edited, turned_edits}
@@ -27,7 +27,7 @@ use Rattle.cb_desk.proofs.AllUsed.{any_shown, none_new, only_new}
 use Rattle.cb_desk.proofs.ArchiveMoves.{Agree, agree_kept, apart_same, below_places, below_shown, files_same, order_same, places_same}
 use Rattle.cb_desk.proofs.PlacePlans.{settled, without_none}
 use Rattle.cb_desk.proofs.Placed.{map-filter}
-use Rattle.cb_desk.proofs.ShownMoves.{Hides, IsOther, Shows, all_among, file_put, files_without, hides_none, hides_one, number_below, number_itself, order_more, shows_none, shows_one, text_shown}
+use Rattle.cb_desk.proofs.ShownMoves.{Hides, IsOther, Shows, all_among, file_put, files_without, hides_none, hides_one, number_below, number_itself, order_more, others, shows_none, shows_one, text_shown}
 use Rattle.cb_desk.proofs.TurnLemmas.{few_small}
 use Rattle.cb_desk.proofs.Valid.{all-filter, all-join}
 
@@ -251,6 +251,54 @@ module _ (k : Kept) (p : Planned) (name text : List ℕ) (kept : IsKept k.rooms 
 
   pub load_planned : IsPlan k p (loaded (world_in k.archive k.now) name text)
   load_planned = subst (λ q. IsPlan k q (loaded (world_in k.archive k.now) name text)) (sym is_planned_load) load_leads
+
+-- ---- a file has other bytes
+module _ (k : Kept) (p : Planned) (h : Shown) (text : List ℕ) (marks frames : List Edit) (kept : IsKept k.rooms k.archive k.now)
+    (ascending : AreAscending k.archive k.now.shown) (among : IsAmong k.now.shown h)
+    (names : p.names ≡ []) (texts : p.texts ≡ text ∷ []) (version : ℕ)
+    (turn : p.turn ≡ record { hides = h ∷ []; shows = record { name = h.name; version = k.now.versions } ∷ []; wanted = None; marks = marks; frames = frames; names = k.now.names; versions = version })
+    (one_version : version ≡ k.now.versions + 1)
+    (are_marks : IsDifference marks k.now.marks (places_without k.archive (name_of k.archive h.name) k.now.marks))
+    (are_frames : IsDifference frames k.now.frames (places_without k.archive (name_of k.archive h.name) k.now.frames)) where
+  abbrev reloaded_name : List ℕ
+  reloaded_name = name_of k.archive h.name
+
+  abbrev changed : Shown
+  changed = record { name = h.name; version = k.now.versions }
+
+  abbrev planned_reload : Planned
+  planned_reload = record {
+    names = [];
+    texts = text ∷ [];
+    turn = record { hides = h ∷ []; shows = changed ∷ []; wanted = None; marks = marks; frames = frames; names = k.now.names; versions = version };
+  }
+
+  is_planned_reload : p ≡ planned_reload
+  is_planned_reload = λ i. record { names = names i; texts = texts i; turn = turn i }
+
+  reload_leads : IsPlan k planned_reload (reloaded (world_in k.archive k.now) reloaded_name text)
+  reload_leads a keeps =
+      let rest = without (h ∷ []) k.now.shown in
+      let all = all_below k planned_reload kept ascending a keeps in
+      let up_now = up k planned_reload kept ascending a keeps in
+      let same = agree k planned_reload kept ascending a keeps in
+      let hides = hides_one a k.now.shown h among.0 among.1 up_now in
+      let there : (h.name < k.now.names) × (h.version < k.now.versions) =
+      all_among (λ (s : Shown). (s.name < k.now.names) × (s.version < k.now.versions)) k.now.shown h among.0 among.1 all in
+      let other : AllByRecursion (IsOther a changed) rest = others a k.now.shown h among.0 among.1 up_now in
+      let below = all-filter _ (λ (s : Shown). not (is_among (names_of (h ∷ [])) s.name)) k.now.shown all in
+      file_leads k planned_reload kept ascending a keeps (places_without k.archive reloaded_name k.now.marks) (places_without k.archive reloaded_name k.now.frames) _ _ _ _
+      hides (shows_one a rest changed hides.left other) (few_small a planned_reload.turn k.now (omega arith)) ((there.0, omega (arith, one_version)), tt) refl
+      (omega arith) (omega (arith, one_version)) are_marks are_frames
+      (all-filter _ _ k.now.marks kept.there.marks) (all-filter _ _ k.now.frames kept.there.frames)
+      (ap (files_of a) (order_more a rest changed hides.left other) ∙ file_put a rest changed hides.left
+      ∙ (λ i. with_file (record { name = same.names h.name there.0 i; bytes = new_text k planned_reload kept ascending a keeps text [] refl i })
+      ((files_same k.archive a k.now.names k.now.versions same rest below ∙ files_without k.archive k.now.shown h among.0 among.1 ascending) i)))
+      (same_without k planned_reload kept ascending a keeps reloaded_name k.now.marks kept.there.marks)
+      (same_without k planned_reload kept ascending a keeps reloaded_name k.now.frames kept.there.frames)
+
+  pub reload_planned : IsPlan k p (reloaded (world_in k.archive k.now) reloaded_name text)
+  reload_planned = subst (λ q. IsPlan k q (reloaded (world_in k.archive k.now) reloaded_name text)) (sym is_planned_reload) reload_leads
 
 -- ---- a file gets another name
 module _ (k : Kept) (p : Planned) (h : Shown) (new_bytes : List ℕ) (marks frames : List Edit) (kept : IsKept k.rooms k.archive k.now)

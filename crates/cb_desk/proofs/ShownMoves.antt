@@ -97,7 +97,7 @@ module _ (a : Archived) where
   not_shown s (t ∷ ss) all = ap (λ b. b || is_shown a ss s) all.0 ∙ not_shown s ss all.1
 
   -- ---- one is hidden
-  others : (ss : List Shown) (h : Shown) (i : ℕ) → slice_get ss i ≡ Some h → AreAscending a ss → AllByRecursion (IsOther h) (without (h ∷ []) ss)
+  pub others : (ss : List Shown) (h : Shown) (i : ℕ) → slice_get ss i ≡ Some h → AreAscending a ss → AllByRecursion (IsOther h) (without (h ∷ []) ss)
   unfolding AreOrdered
   others [] h i is up = cc
   others (t ∷ ss) h zero is up =

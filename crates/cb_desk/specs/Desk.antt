@@ -6,7 +6,7 @@ use Rattle.cb_desk.specs.declared.refusal.Refusal.{Refusal}
 use Rattle.cb_desk.specs.declared.refusal.Refusal.TheVariants.{OutOfMemory}
 use Rattle.cb_desk.specs.Marks.{replaced_file}
 use Rattle.cb_desk.specs.Places.{is_in}
-use Rattle.cb_desk.specs.Step.{Step, load, unload, rename, want, mark, mark_all, replace, tag, pop}
+use Rattle.cb_desk.specs.Step.{Step, load, reload, unload, rename, want, mark, mark_all, replace, tag, pop}
 use Rattle.cb_desk.specs.Timeline.{Timeline}
 use Rattle.cb_desk.specs.World.{File, Place, World}
 
@@ -39,10 +39,11 @@ replaced_with_marks (Some old) w text = map (replaced_file old text w.marks) (fi
 abbrev pub new_texts : World → List ℕ → List File
 new_texts w text = replaced_with_marks w.wanted w text
 
--- the bytes that an accepted change scans: those that are loaded, or the new contents of the files
--- with a mark
+-- the bytes that an accepted change scans: those that are loaded or reloaded, or the new contents of
+-- the files with a mark
 abbrev pub scanned : World → Step → ℕ
 scanned w (load name bytes) = length bytes
+scanned w (reload name bytes) = length bytes
 scanned w (unload name) = 0
 scanned w (rename old new) = 0
 scanned w (want text) = 0

@@ -3,6 +3,7 @@ mod marks;
 mod memory;
 mod moves;
 mod queries;
+mod reloads;
 mod search;
 
 use super::*;

@@ -1,3 +1,4 @@
+pub mod Blocks
 pub mod Loading
 pub mod Outcomes
 pub mod Patterns

@@ -7,11 +7,11 @@ use Rattle.cb_desk.specs.declared.rows.Field.{Field}
 use Rattle.cb_desk.specs.declared.rows.Field.TheVariants.{Text}
 use Rattle.cb_session.specs.declared.input.Fault.{Fault}
 use Rattle.cb_desk.specs.Timeline.{Timeline, Moves, Changes, judged, changed, undone, redone}
-use Rattle.cb_desk.specs.Step.{Step, step, load, unload, rename, want, mark, mark_all, replace, tag, pop}
+use Rattle.cb_desk.specs.Step.{Step, step, load, reload, unload, rename, want, mark, mark_all, replace, tag, pop}
 use Rattle.cb_desk.specs.World.{World}
 use Rattle.std.specs.Borrow.{Bor}
 use Rattle.cb_desk.specs.declared.change.Change.{Change}
-use Rattle.cb_desk.specs.declared.change.Change.TheVariants.{Load, Unload, Rename, Want, Mark, MarkAll, Replace, Tag as TagOf, Pop}
+use Rattle.cb_desk.specs.declared.change.Change.TheVariants.{Load, Reload, Unload, Rename, Want, Mark, MarkAll, Replace, Tag as TagOf, Pop}
 use Rattle.cb_desk.specs.Models.{step_of}
 use Rattle.cb_desk.specs.Answer.{AnswerRow, answer}
 use Rattle.cb_tags.specs.TagLines.{Tag}
@@ -99,6 +99,7 @@ Does-marks t desk e out out' result same h p =
 -- a change that replies by its line alone
 plain-change : (s : Step) (w : World) → ((text : List ℕ) → s ≡ want text → ⊥) → change_reply s w ≡ done_line
 plain-change (load name bytes) w other = refl
+plain-change (reload name bytes) w other = refl
 plain-change (unload name) w other = refl
 plain-change (rename from to) w other = refl
 plain-change (want text) w other = absurd (other text refl)
@@ -111,6 +112,7 @@ plain-change pop w other = refl
 -- a change that is no want is no step that is one
 pub other-step : (c : Change) → ((text : Bor (List ℕ)) → c ≡ Want text → ⊥) → (text : List ℕ) → step_of c ≡ want text → ⊥
 other-step (Load name bytes) other text e = cc
+other-step (Reload name bytes) other text e = cc
 other-step (Unload name) other text e = cc
 other-step (Rename from to) other text e = cc
 other-step (Want t) other text e = other t refl

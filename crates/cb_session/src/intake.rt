@@ -3,7 +3,7 @@ ghost use Rattle.std.specs.Prelude.{◌≡◌, ◌<◌, ◌≤◌, List, ◌∷�
 ghost use Rattle.cb_session.specs.declared.limits.TheConstants.{MOST_LINE};
 ghost use Rattle.cb_session.specs.steps.Lines.{line_of_length};
 
-use crate::block::read_load;
+use crate::block::read_change;
 use crate::limits::MOST_LINE;
 use crate::line::{Asked, line_asks};
 use crate::{Fault, Feed, Input, Limits};
@@ -56,8 +56,8 @@ impl Intake {
         Ok(Intake { line })
     }
 
-    /// Reads one command with its block. Memory is taken for the block of a `:load` with a good
-    /// count alone.
+    /// Reads one command with its block. Memory is taken for the block of a `:load` or a `:reload`
+    /// with a good count alone.
     pub fn read<R: BufRead>(
         &mut self,
         alloc: Global,
@@ -74,7 +74,9 @@ impl Intake {
             LineRead::Long => Ok(Input::Refused(Refusal::LineTooLong)),
             LineRead::Line => match line_asks(self.line.as_slice()) {
                 Asked::Whole(input) => Ok(input),
-                Asked::Block(name, count) => read_load(alloc, name, count, feed),
+                Asked::Block(purpose, name, count) => {
+                    read_change(alloc, purpose, name, count, feed)
+                }
             },
         }
     }

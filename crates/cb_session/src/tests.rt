@@ -6,6 +6,7 @@ mod marks;
 mod memory;
 mod operands;
 mod queries;
+mod reloads;
 mod tags;
 
 use crate::{Ended, Fault, Feed, Limits, Session, put_row};

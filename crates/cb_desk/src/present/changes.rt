@@ -2,7 +2,7 @@
 ghost use Rattle.std.specs.Prelude.{◌≡◌, ◌<◌, ⊤, length, None, IfOk, MatchOption};
 ghost use Rattle.std.specs.Option.{option_map};
 ghost use Rattle.cb_desk.specs.Desk.{CountsUpTo, scanned};
-ghost use Rattle.cb_desk.specs.Files.{load_refusal, loaded, rename_refusal, renamed, unload_refusal, unloaded};
+ghost use Rattle.cb_desk.specs.Files.{load_refusal, loaded, reload_refusal, reloaded, rename_refusal, renamed, unload_refusal, unloaded};
 ghost use Rattle.cb_desk.specs.Marks.{mark_refusal, toggled_at};
 ghost use Rattle.cb_desk.specs.Models.{step_of};
 ghost use Rattle.cb_desk.specs.Stack.{push_refusal, pushed};
@@ -53,6 +53,7 @@ impl Present {
     {
         match change {
             Change::Load(name, bytes) => self.load_refusal(name, bytes.as_slice()),
+            Change::Reload(name, bytes) => self.reload_refusal(name, bytes.as_slice()),
             Change::Unload(name) => self.unload_refusal(name),
             Change::Rename(old, new) => self.rename_refusal(old, new),
             Change::Want(text) => want_refusal(text),
@@ -81,6 +82,29 @@ impl Present {
         let _counted = meter.read();
         let version = scanned(alloc, meter, bytes)?;
         self.plan_load(alloc, name, version)
+    }
+
+    /// The plan to give the file of that name other bytes, without its marks and frames. They are
+    /// scanned.
+    fn plan_to_reload(
+        &self,
+        alloc: Global,
+        meter: &mut Meter,
+        name: &[u8],
+        bytes: Vec<u8>,
+    ) -> Result<Plan, AllocError>
+        requires kept { IsKept self.now.rooms self.now.archive self.now.now }
+        requires accepted { reload_refusal (world_in self.now.archive self.now.now) name.now bytes.items ≡ None }
+        ensures plan { IfOk result (λ p. IsPlan self.now p
+            (reloaded (world_in self.now.archive self.now.now) name.now bytes.items)) }
+        ensures meter { CountsUpTo (length bytes.items) meter.old meter.new result }
+    {
+        let _counted = meter.read();
+        let Some(shown) = shown_as(&self.shelf, name) else {
+            unreachable!()
+        };
+        let version = scanned(alloc, meter, bytes)?;
+        self.plan_reload(alloc, shown, version)
     }
 
     /// The plan to take the file of that name away, with its marks and frames.
@@ -153,6 +177,7 @@ impl Present {
         let _counted = meter.read();
         match change {
             Change::Load(name, bytes) => self.plan_to_load(alloc, meter, name, bytes),
+            Change::Reload(name, bytes) => self.plan_to_reload(alloc, meter, name, bytes),
             Change::Unload(name) => self.plan_to_unload(alloc, name),
             Change::Rename(old, new) => self.plan_to_rename(alloc, old, new),
             Change::Want(text) => self.plan_want(alloc, text),

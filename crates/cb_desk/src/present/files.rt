@@ -2,7 +2,7 @@
 ghost use Rattle.std.specs.Prelude.{◌≡◌, ◌∷◌, [], false, IfOk};
 ghost use Rattle.cb_index.specs.Archived.{name_of};
 ghost use Rattle.cb_index.specs.Files.{files_of};
-ghost use Rattle.cb_desk.specs.Files.{loaded, renamed, unloaded};
+ghost use Rattle.cb_desk.specs.Files.{loaded, reloaded, renamed, unloaded};
 ghost use Rattle.cb_desk.specs.World.{has_file};
 ghost use Rattle.cb_desk.specs.steps.Edits.{IsDifference};
 ghost use Rattle.cb_desk.specs.steps.Plans.{IsAmong, IsPlan, places_without};
@@ -115,6 +115,42 @@ impl Present {
                 marks: Vec::new(alloc),
                 frames: Vec::new(alloc),
                 names,
+                versions,
+            },
+        })
+    }
+
+    /// The plan to give a file another version, without its marks and frames.
+    pub(crate) fn plan_reload(
+        &self,
+        alloc: Global,
+        file: Shown,
+        version: Version,
+    ) -> Result<Plan, AllocError>
+        requires kept { IsKept self.now.rooms self.now.archive self.now.now }
+        requires among { IsAmong self.now.now.shown file }
+        ensures { IfOk result (λ p. IsPlan self.now p (reloaded (world_in self.now.archive self.now.now)
+            (name_of self.now.archive file.name) version)) }
+    {
+        let _shown = self.shelf.shown();
+        let archive = self.shelf.archive();
+        let marks = edits_without(alloc, archive, file.name, self.marks.as_slice())?;
+        let frames = edits_without(alloc, archive, file.name, self.frames.as_slice())?;
+        let changed = Shown {
+            name: file.name,
+            version: self.versions,
+        };
+        let versions = sum(self.versions, 1).ok_or(AllocError)?;
+        Ok(Plan {
+            names: Vec::new(alloc),
+            versions: only_one(alloc, version)?,
+            record: Record {
+                hides: only_one(alloc, file)?,
+                shows: only_one(alloc, changed)?,
+                wanted: None,
+                marks,
+                frames,
+                names: self.names,
                 versions,
             },
         })

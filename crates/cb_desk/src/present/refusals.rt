@@ -1,11 +1,12 @@
 //! Why a change is refused, kind by kind.
-ghost use Rattle.std.specs.Prelude.{◌≡◌};
+ghost use Rattle.std.specs.Prelude.{◌≡◌, length, nat_lt};
 ghost use Rattle.std.specs.Option.{option_map};
 ghost use Rattle.cb_index.specs.Files.{files_of};
-ghost use Rattle.cb_desk.specs.Files.{load_refusal, rename_refusal, unload_refusal};
+ghost use Rattle.cb_desk.specs.Files.{load_refusal, reload_refusal, rename_refusal, unload_refusal};
 ghost use Rattle.cb_desk.specs.Marks.{mark_all_refusal, mark_refusal, want_refusal};
 ghost use Rattle.cb_desk.specs.Stack.{pop_refusal, push_refusal};
 ghost use Rattle.cb_desk.specs.World.{has_file, is_short};
+ghost use Rattle.cb_desk.specs.declared.limits.TheConstants.{MOST_BYTES};
 ghost use Rattle.cb_desk.specs.steps.Records.{place_in, world_in};
 
 use crate::Refusal;
@@ -20,6 +21,13 @@ pub(super) fn is_short(text: &[u8]) -> bool
     ensures { result ≡ is_short text.now }
 {
     text.len() <= MOST_TEXT && !text.contains(&b'\n')
+}
+
+/// Whether a text has more bytes than a file may have.
+fn is_large(bytes: &[u8]) -> bool
+    ensures { result ≡ nat_lt MOST_BYTES (length bytes.now) }
+{
+    bytes.len() > MOST_BYTES
 }
 
 /// Why a text can't be wanted, if it can't: the lowest refusal that applies.
@@ -51,10 +59,23 @@ impl Present {
             Some(Refusal::BadName)
         } else if self.has_file(name) {
             Some(Refusal::FileExists)
-        } else if bytes.len() > MOST_BYTES {
+        } else if is_large(bytes) {
             Some(Refusal::TooLarge)
         } else if self.shelf.shown().len() >= MOST_FILES {
             Some(Refusal::TooManyFiles)
+        } else {
+            None
+        }
+    }
+
+    /// Why the file can't have these bytes, if it can't: the lowest refusal that applies.
+    pub(crate) fn reload_refusal(&self, name: &[u8], bytes: &[u8]) -> Option<Refusal>
+        ensures { result ≡ reload_refusal (world_in self.now.archive self.now.now) name.now bytes.now }
+    {
+        if !self.has_file(name) {
+            Some(Refusal::NoSuchFile)
+        } else if is_large(bytes) {
+            Some(Refusal::TooLarge)
         } else {
             None
         }

@@ -6,7 +6,7 @@ use crate::{Change, Desk, Refusal};
 use std::alloc::{AllocError, Global};
 
 /// Whether the marks are these, by file and line.
-fn has_marks(desk: &Desk, marks: &[(&[u8], u32)]) -> bool {
+pub(crate) fn has_marks(desk: &Desk, marks: &[(&[u8], u32)]) -> bool {
     let mut shown = desk.marks();
     for (name, line) in marks {
         match shown.next() {
@@ -18,7 +18,7 @@ fn has_marks(desk: &Desk, marks: &[(&[u8], u32)]) -> bool {
 }
 
 /// Whether that text is wanted.
-fn wants(desk: &Desk, text: &[u8]) -> bool {
+pub(crate) fn wants(desk: &Desk, text: &[u8]) -> bool {
     match desk.wanted() {
         Some(wanted) => wanted == text,
         None => false,
@@ -226,6 +226,12 @@ fn a_history_of_marks_has_an_end(rt: HostRuntime) -> Result<(), Refusal> {
     }
     assert!(rt; desk.change(alloc, Change::Mark(1)) == Err(Refusal::HistoryFull));
     assert!(rt; desk.change(alloc, Change::Mark(2)) == Err(Refusal::NoSuchLine));
+    assert!(rt;
+        desk.change(alloc, Change::Reload(b"x.c", Vec::new(alloc))) == Err(Refusal::HistoryFull)
+    );
+    assert!(rt;
+        desk.change(alloc, Change::Reload(b"y.c", Vec::new(alloc))) == Err(Refusal::NoSuchFile)
+    );
     assert!(rt; desk.undo() == Ok(()));
     assert!(rt; desk.change(alloc, Change::Mark(1)) == Ok(()));
     Ok(())

@@ -102,7 +102,8 @@ fn pop_meets_a_refusal(rt: &impl Abort, alloc: Global) -> bool {
     change_meets_a_refusal(rt, alloc, Change::Pop, Change::Pop)
 }
 
-/// Marked files with a future; whatever is refused, the marks stay, and redo goes on.
+/// Marked files with a future; whatever is refused, the marks stay, and redo goes on. Once the change
+/// is done, undo gives the marks back.
 fn marked_change_meets_a_refusal(
     rt: &impl Abort,
     alloc: Global,
@@ -112,7 +113,7 @@ fn marked_change_meets_a_refusal(
     let Ok(mut desk) = marked_with_a_future(alloc) else {
         return true;
     };
-    match desk.change(alloc, first) {
+    let refused = match desk.change(alloc, first) {
         Ok(()) => {
             assert!(rt; desk.redo() == Err(Refusal::NothingToRedo));
             false
@@ -125,7 +126,11 @@ fn marked_change_meets_a_refusal(
             assert!(rt; desk.change(alloc, again) == Ok(()));
             true
         }
-    }
+    };
+    assert!(rt; desk.undo() == Ok(()));
+    assert_eq!(rt; desk.marks().len(), 3);
+    assert!(rt; desk.redo() == Ok(()));
+    refused
 }
 
 /// Marked files, and a drop that was taken back.
@@ -150,6 +155,32 @@ fn mark_all_meets_a_refusal(rt: &impl Abort, alloc: Global) -> bool {
 
 fn replace_meets_a_refusal(rt: &impl Abort, alloc: Global) -> bool {
     marked_change_meets_a_refusal(rt, alloc, Change::Replace(b"sum"), Change::Replace(b"sum"))
+}
+
+/// Reloads the file that has all the marks.
+fn reload_meets_a_refusal(rt: &impl Abort, alloc: Global) -> bool {
+    let (Ok(first), Ok(again)) = (b"f(){}".to_vec(alloc), b"f(){}".to_vec(alloc)) else {
+        return true;
+    };
+    marked_change_meets_a_refusal(
+        rt,
+        alloc,
+        Change::Reload(b"a.c", first),
+        Change::Reload(b"a.c", again),
+    )
+}
+
+#[test]
+fn refused_growth_of_reload(rt: HostRuntime) {
+    let _refused = reload_meets_a_refusal(&rt, rt.alloc());
+}
+
+#[test]
+fn no_refusal_of_reload(rt: HostRuntime) {
+    assert!(rt;
+        !reload_meets_a_refusal(&rt, rt.alloc()),
+        "memory was refused"
+    );
 }
 
 #[test]

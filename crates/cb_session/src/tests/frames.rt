@@ -15,7 +15,7 @@ const M: &[u8] = b"int Mb(void) {\n}\n";
 pub(crate) const ONE: &[(&[u8], &[u8])] = &[(b"a.c", A)];
 
 /// Both.
-const TWO: &[(&[u8], &[u8])] = &[(b"a.c", A), (b"m.c", M)];
+pub(crate) const TWO: &[(&[u8], &[u8])] = &[(b"a.c", A), (b"m.c", M)];
 
 #[test]
 fn the_stack_is_shown_from_its_top_down(rt: HostRuntime) -> Result<(), Fail> {

@@ -20,27 +20,43 @@ const OUTPUTS: [&[u8]; 3] = [
     b">> cscope: done\n>> cscope: 1 lines\nf.c f 1 int f(void) {\n>> cscope: 1 lines\nf\tf.c\t/^int f(void) {$/\n>> cscope: refused: out of memory\n>> cscope: 0 lines\n>> cscope: done\n>> ",
 ];
 
-/// Runs the input. A refusal is one command's reply, or ends the run with a prefix of the output.
+/// A load and a reload, which take memory, what they left, and undo.
+const RELOADING: &[u8] = b":load f.c 2\n{}:reload f.c 16\nint f(void) {\n}\n1f\n:undo\n1f\n:redo\n";
+
+/// The output of a run over it: with ample memory first, and then with each of the two changes
+/// refused.
+const RELOADED: [&[u8]; 3] = [
+    b">> cscope: done\n>> cscope: done\n>> cscope: 1 lines\nf.c f 1 int f(void) {\n>> cscope: done\n>> cscope: 0 lines\n>> cscope: done\n>> ",
+    b">> cscope: refused: out of memory\n>> cscope: refused: no such file\n>> cscope: 0 lines\n>> cscope: refused: nothing to undo\n>> cscope: 0 lines\n>> cscope: refused: nothing to redo\n>> ",
+    b">> cscope: done\n>> cscope: refused: out of memory\n>> cscope: 0 lines\n>> cscope: done\n>> cscope: 0 lines\n>> cscope: done\n>> ",
+];
+
+/// Runs an input. A refusal is one command's reply, or ends the run with a prefix of the output.
 /// Whether memory was refused.
-fn run_meets_a_refusal(rt: &impl Abort, alloc: Global) -> bool {
+fn run_meets_a_refusal(
+    rt: &impl Abort,
+    alloc: Global,
+    input: &[u8],
+    outputs: &[&[u8]; 3],
+) -> bool {
     let Ok(mut written) = Vec::with_capacity(alloc, 4_096) else {
         return true;
     };
     let mut session = Session::new(alloc);
-    let mut feed = Feed::new(INPUT);
+    let mut feed = Feed::new(input);
     let ended = {
         let mut sink = Sink::new(&mut written);
         session.serve(alloc, &WIDE, &mut feed, &mut sink)
     };
     match ended {
         Ended::Done => {
-            let found = OUTPUTS.iter().any(|output| *output == written.as_slice());
+            let found = outputs.iter().any(|output| *output == written.as_slice());
             assert!(rt; found);
-            written.as_slice() != OUTPUTS[0]
+            written.as_slice() != outputs[0]
         }
         other => {
             assert!(rt; other == Ended::Fault(Fault::Memory));
-            assert!(rt; OUTPUTS[0].starts_with(written.as_slice()));
+            assert!(rt; outputs[0].starts_with(written.as_slice()));
             true
         }
     }
@@ -92,12 +108,28 @@ fn intake_meets_a_refusal(rt: &impl Abort, alloc: Global) -> bool {
 
 #[test]
 fn refused_growth_of_run(rt: HostRuntime) {
-    let _refused = run_meets_a_refusal(&rt, rt.alloc());
+    let _refused = run_meets_a_refusal(&rt, rt.alloc(), INPUT, &OUTPUTS);
 }
 
 #[test]
 fn no_refusal_of_run(rt: HostRuntime) {
-    assert!(rt; !run_meets_a_refusal(&rt, rt.alloc()), "memory was refused");
+    assert!(rt;
+        !run_meets_a_refusal(&rt, rt.alloc(), INPUT, &OUTPUTS),
+        "memory was refused"
+    );
+}
+
+#[test]
+fn refused_growth_of_reload(rt: HostRuntime) {
+    let _refused = run_meets_a_refusal(&rt, rt.alloc(), RELOADING, &RELOADED);
+}
+
+#[test]
+fn no_refusal_of_reload(rt: HostRuntime) {
+    assert!(rt;
+        !run_meets_a_refusal(&rt, rt.alloc(), RELOADING, &RELOADED),
+        "memory was refused"
+    );
 }
 
 #[test]

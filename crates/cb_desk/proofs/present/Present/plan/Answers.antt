@@ -1,6 +1,6 @@
 use Rattle.std.proofs.Common.{◌≡◌, ◌∙◌, ap, refl, subst}
 use Rattle.std.specs.Option.{option_map}
-use Rattle.cb_desk.specs.Files.{loaded}
+use Rattle.cb_desk.specs.Files.{loaded, reloaded}
 use Rattle.cb_desk.specs.Marks.{toggled_at}
 use Rattle.cb_desk.specs.Models.{step_of}
 use Rattle.cb_desk.specs.Step.{after, place_of}
@@ -11,6 +11,9 @@ use Rattle.cb_desk.proofs.present.Present.plan.Goals as goal
 
 pub returns-in-Load-clause-plan : goal.returns-in-Load-clause-plan
 returns-in-Load-clause-plan c = rw c.in-Load.is c.plan_to_load.ensures.plan
+
+pub returns-in-Reload-clause-plan : goal.returns-in-Reload-clause-plan
+returns-in-Reload-clause-plan c = rw c.in-Reload.is c.plan_to_reload.ensures.plan
 
 pub returns-in-Mark-clause-plan : goal.returns-in-Mark-clause-plan
 returns-in-Mark-clause-plan c =
