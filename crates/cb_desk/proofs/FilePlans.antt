@@ -291,6 +291,8 @@ module _ (k : Kept) (p : Planned) (h : Shown) (text : List ℕ) (marks frames : 
       hides (shows_one a rest changed hides.left other) (few_small a planned_reload.turn k.now (omega arith)) ((there.0, omega (arith, one_version)), tt) refl
       (omega arith) (omega (arith, one_version)) are_marks are_frames
       (all-filter _ _ k.now.marks kept.there.marks) (all-filter _ _ k.now.frames kept.there.frames)
+      (λ m above below. none_new k.now.names k.now.names m (shows_name m (changed ∷ []) ≡ true) refl above below)
+      (λ m above below. only_new k.now.versions version m one_version above below)
       (ap (files_of a) (order_more a rest changed hides.left other) ∙ file_put a rest changed hides.left
       ∙ (λ i. with_file (record { name = same.names h.name there.0 i; bytes = new_text k planned_reload kept ascending a keeps text [] refl i })
       ((files_same k.archive a k.now.names k.now.versions same rest below ∙ files_without k.archive k.now.shown h among.0 among.1 ascending) i)))
