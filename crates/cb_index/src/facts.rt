@@ -94,7 +94,8 @@ struct Step<'a> {
 fn first_row<'a>(sort: FactSort, archive: &'a Archive, entries: Run<'a>) -> Option<Step<'a>>
     ensures { MatchOption result (facts_in sort archive.now (run_entries entries.entry) ≡ [])
         (λ r. facts_in sort archive.now (run_entries entries.entry)
-        ≡ fact_of r.row ∷ (posting_left r.posting ++ facts_in sort archive.now (run_entries r.entries))) }
+        ≡ fact_of r.row
+        ∷ (posting_left r.posting ++ facts_in sort archive.now (run_entries r.entries))) }
 {
     let mut left = entries;
     while let Some((entry, rest)) = left.split_first() {

@@ -105,7 +105,8 @@ pub(crate) fn place_of<O: EntryOrder>(
     bound: Bound<'_>,
     blocks: &[Block],
 ) -> Place
-    requires order { joined blocks.now ≡ in_order (sort_key O.keyer archive.now) (joined blocks.now) }
+    requires order { joined blocks.now
+        ≡ in_order (sort_key O.keyer archive.now) (joined blocks.now) }
     requires filled { AllByRecursion IsFilled blocks.now }
     ensures place { IsPlace blocks.now result.block result.at }
     ensures ahead { AllByRecursion (λ e. is_ahead O.keyer archive.now bound.entry e ≡ true)

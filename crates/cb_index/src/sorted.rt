@@ -334,8 +334,8 @@ impl<O: EntryOrder> Sorted<O> {
         sort_in::<O>(archive, &mut self.scratch, &mut self.blocks);
     }
 
-    /// Takes away the entries of a version under a name, all of which are there. It takes no memory,
-    /// and the room stays.
+    /// Takes away the entries of a version under a name, all of which are there. It takes no
+    /// memory, and the room stays.
     pub fn take_all(&mut self, archive: &Archive, shown: Shown)
         requires { (rest : List Entry) × (self.old.entries ≡ in_order (sort_key O.keyer archive.now)
             (entries_of O.prefixer archive.now shown ++ rest)) }
