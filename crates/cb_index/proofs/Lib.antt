@@ -1,3 +1,4 @@
+pub mod BlockLemmas
 pub mod EntryLemmas
 pub mod FactLemmas
 pub mod FewerLemmas
@@ -6,9 +7,11 @@ pub mod IncludeLemmas
 pub mod IndexLemmas
 pub mod KeptLemmas
 pub mod ListedLemmas
-pub mod MergeLemmas
 pub mod NameLemmas
+pub mod PutLemmas
 pub mod RangeLemmas
 pub mod RowLemmas
 pub mod RowOrderLemmas
+pub mod RunLemmas
+pub mod SortedLemmas
 pub mod SpreadLemmas

@@ -7,6 +7,8 @@
 #![tactic(auto)]
 
 mod archive;
+mod block;
+mod blocks;
 mod bytes;
 mod counted;
 mod entries;
@@ -16,15 +18,16 @@ mod includes;
 pub mod laws;
 mod listed;
 mod memory;
-mod merge;
 mod names;
 mod order;
 mod orders;
+mod place;
 mod range;
 mod room;
 mod row;
 mod row_orders;
 mod rows;
+mod run;
 mod shelf;
 mod sorted;
 mod tags;

@@ -7,7 +7,7 @@ ghost use Rattle.std.specs.Ordering.{is_gt, is_lt, nat_cmp};
 ghost use Rattle.std.specs.Str.{bytes_eq};
 ghost use Rattle.cb_scan.specs.Order.{in_order, put};
 ghost use Rattle.cb_index.specs.Archived.{name_of};
-ghost use Rattle.cb_index.specs.Files.{AreApart, AreAscending, IsThere, is_shown, shown_key, shown_name};
+ghost use Rattle.cb_index.specs.Files.{AreApart, AreAscending, IsThere, is_shown, shown_key, shown_name, shown_under};
 ghost use Rattle.cb_index.specs.declared.entry.Shown.{Shown};
 
 use crate::archive::Archive;
@@ -108,6 +108,18 @@ pub(crate) fn has_name(archive: &Archive, name: u32, shown: &[Shown]) -> bool
 {
     let at = place_for(archive, name, shown);
     at < shown.len() && archive.name(name) == archive.name(shown[at].name)
+}
+
+/// What is shown under the number of a name.
+pub(crate) fn shown_under(name: u32, shown: &[Shown]) -> Option<Shown>
+    ensures { result ≡ shown_under name shown.now }
+{
+    for one in shown {
+        if one.name == name {
+            return Some(*one);
+        }
+    }
+    None
 }
 
 /// Whether a file of the name of one of these is shown.

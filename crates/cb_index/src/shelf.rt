@@ -19,7 +19,9 @@ use crate::counted::{Counted, has_room, has_room_for};
 use crate::entries::Entries;
 use crate::entry::Shown;
 use crate::facts::FactRows;
-use crate::listed::{are_there, ascend, has_any_name, has_name, put_all_shown, put_shown};
+use crate::listed::{
+    are_there, ascend, has_any_name, has_name, put_all_shown, put_shown, shown_under,
+};
 use crate::memory::OutOfMemory;
 use crate::names::Names;
 use crate::orders::{CallsByCallee, CallsByCaller, DefsByName, DefsByTagName, UsesByName};
@@ -30,6 +32,9 @@ use crate::tags::TagRows;
 use std::alloc::Global;
 use std::cmp::Ordering;
 use std::marker::Model;
+
+/// Files are hidden one after another where they are at most this part of what is shown.
+const FEW: usize = 8;
 
 /// An archive, the versions that are shown of it, each under a file name, and five indexes of what
 /// is found in these. No two versions are shown under one file name. Only `reserve` takes memory.
@@ -286,22 +291,45 @@ impl Shelf {
         ensures turns { self.new.turns ≡ min (self.old.turns + 1) (2 ^ 64 - 1) }
         ensures room { KeepsRoom self.old self.new }
     {
+        self.turns = self.turns.saturating_add(1);
+        let one = match shown_under(name, self.shown.as_slice()) {
+            Some(one) => one,
+            None => return,
+        };
         self.shown.retain(
             |s: &Shown| -> bool
                 ensures { result ≡ not (nat_eq s.now.name name) }
             { s.name != name },
         );
-        self.defs.take_name(name);
-        self.tags.take_name(name);
-        self.uses.take_name(name);
-        self.callees.take_name(name);
-        self.callers.take_name(name);
-        self.turns = self.turns.saturating_add(1);
+        self.defs.take_all(&self.archive, one);
+        self.tags.take_all(&self.archive, one);
+        self.uses.take_all(&self.archive, one);
+        self.callees.take_all(&self.archive, one);
+        self.callers.take_all(&self.archive, one);
     }
 
     /// Hides what is shown under the names of many files, the number of each name below that of the
-    /// next, in one pass of each index. It takes no memory.
+    /// next: one after another where they are few, else in one pass of each index. It takes no
+    /// memory.
     pub fn hide_all(&mut self, files: &[Shown])
+        requires { IsStrictlyIncreasing (names_of files.now) }
+        ensures shown { self.new.shown
+            ≡ filter (λ (s : Shown). not (is_among (names_of files.now) s.name)) self.old.shown }
+        ensures archive { self.new.archive ≡ self.old.archive }
+        ensures turns { self.new.turns ≡ min (self.old.turns + length files.now) (2 ^ 64 - 1) }
+        ensures room { KeepsRoom self.old self.new }
+    {
+        if files.len() <= self.shown.len() / FEW {
+            for file in files {
+                self.hide(file.name);
+            }
+        } else {
+            self.pass_over(files);
+        }
+    }
+
+    /// Hides what is shown under the names of many files in one pass of each index.
+    fn pass_over(&mut self, files: &[Shown])
         requires { IsStrictlyIncreasing (names_of files.now) }
         ensures shown { self.new.shown
             ≡ filter (λ (s : Shown). not (is_among (names_of files.now) s.name)) self.old.shown }

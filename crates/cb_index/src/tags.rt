@@ -5,15 +5,15 @@ ghost use Rattle.cb_tags.specs.TagLines.{tag_of};
 ghost use Rattle.cb_index.specs.steps.Left.{tags_left};
 
 use crate::archive::Archive;
-use crate::entry::Entry;
 use crate::rows::tag_at;
+use crate::run::Run;
 use cb_tags::TagRow;
 
 /// The tags of definitions. They take no memory.
 #[derive(Clone, Copy)]
 pub struct TagRows<'a> {
     pub(crate) archive: &'a Archive,
-    pub(crate) entries: &'a [Entry],
+    pub(crate) entries: Run<'a>,
 }
 
 impl<'a> TagRows<'a> {

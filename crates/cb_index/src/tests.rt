@@ -1,5 +1,6 @@
 //! Tests on short texts, with the facts worked out by hand.
 mod keys;
+mod many;
 mod memory;
 mod model;
 mod rows;
@@ -10,6 +11,7 @@ mod sorts;
 use crate::archive::{Archive, Version};
 use crate::entry::{Entry, Shown};
 use crate::order::EntryOrder;
+use crate::run::Run;
 use crate::sorted::Sorted;
 use cb_scan::{FactKeys, Meter, Source, scan};
 use std::alloc::Global;
@@ -85,14 +87,26 @@ fn put<O: EntryOrder>(archive: &Archive, one: Shown, index: &mut Sorted<O>) -> R
     Ok(())
 }
 
+/// The entries of a run.
+fn listed(alloc: Global, run: Run<'_>) -> Result<Vec<Entry>, Fail> {
+    let mut entries = Vec::new(alloc);
+    let mut left = run;
+    while let Some((entry, rest)) = left.split_first() {
+        entries.push(*entry)?;
+        left = rest;
+    }
+    Ok(entries)
+}
+
 /// The entries of a key.
-fn range_of<'a, O: EntryOrder>(
+fn range_of<O: EntryOrder>(
+    alloc: Global,
     archive: &Archive,
-    index: &'a Sorted<O>,
+    index: &Sorted<O>,
     key: &[u8],
-) -> Result<&'a [Entry], Fail> {
+) -> Result<Vec<Entry>, Fail> {
     if !index.is_in_order(archive) {
         return Err(Fail::from("out of order"));
     }
-    Ok(index.with_key(archive, key))
+    listed(alloc, index.with_key(archive, key))
 }

@@ -36,11 +36,21 @@ pub(super) fn empty_shelf(alloc: Global) -> Result<Shelf, Fail> {
 
 /// Keeps a name.
 pub(super) fn keep_name(alloc: Global, shelf: &mut Shelf, name: &[u8]) -> Result<u32, Fail> {
+    keep_name_in(alloc, shelf, name, &ROOM)
+}
+
+/// Keeps a name, in a room for 1000 names.
+pub(super) fn keep_name_in(
+    alloc: Global,
+    shelf: &mut Shelf,
+    name: &[u8],
+    room: &Room,
+) -> Result<u32, Fail> {
     let name = name.to_vec(alloc)?;
-    if shelf.archive().name_count() >= 1000 {
+    if shelf.archive().name_count() >= 1000 || room.names != 1000 {
         return Err(Fail::from("too many names"));
     }
-    match shelf.reserve(&ROOM) {
+    match shelf.reserve(room) {
         Ok(()) => {}
         Err(_) => return Err(Fail::from("no memory")),
     }
@@ -49,13 +59,23 @@ pub(super) fn keep_name(alloc: Global, shelf: &mut Shelf, name: &[u8]) -> Result
 
 /// Keeps a text and its facts.
 pub(super) fn keep_version(alloc: Global, shelf: &mut Shelf, text: &[u8]) -> Result<u32, Fail> {
+    keep_version_in(alloc, shelf, text, &ROOM)
+}
+
+/// Keeps a text and its facts, in a room for 1000 versions.
+pub(super) fn keep_version_in(
+    alloc: Global,
+    shelf: &mut Shelf,
+    text: &[u8],
+    room: &Room,
+) -> Result<u32, Fail> {
     let source = Source::new(alloc, text.to_vec(alloc)?)?;
     let facts = scan(alloc, &mut Meter::new(), &source)?;
     let keys = FactKeys::new(alloc, &source, &facts)?;
-    if shelf.archive().version_count() >= 1000 {
+    if shelf.archive().version_count() >= 1000 || room.versions != 1000 {
         return Err(Fail::from("too many versions"));
     }
-    match shelf.reserve(&ROOM) {
+    match shelf.reserve(room) {
         Ok(()) => {}
         Err(_) => return Err(Fail::from("no memory")),
     }

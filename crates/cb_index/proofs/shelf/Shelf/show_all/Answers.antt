@@ -8,6 +8,7 @@ use Rattle.cb_index.proofs.FewerLemmas.{fewer_callees, fewer_callers, fewer_defs
 use Rattle.cb_index.proofs.IndexLemmas.{each_fits}
 use Rattle.cb_index.proofs.KeptLemmas.{kept_moved}
 use Rattle.cb_index.proofs.ListedLemmas.{apart_both, kept_each}
+use Rattle.cb_index.proofs.RowLemmas.{again}
 use Rattle.cb_index.proofs.shelf.Shelf.show_all.Goals as goal
 
 -- no file name stands twice
@@ -20,38 +21,53 @@ put_all_shown-requires c =
 
 -- there is room for the entries where there is room for the facts
 pub put_each-requires : goal.put_each-requires
-put_each-requires c =
-    let asked = subst (λ (s : Shelved). CanShowAll s c.args.news.now) (sym c.self.view_is) c.requires in
-    each_fits def_prefixes def_count fewer_defs c.self.inside.archive def_key c.self.inside.shown.items c.args.news.now
-    c.self.inside.defs.entries c.self.inside.defs.room c.self.invariant.defs
-    (le_trans asked.defs (min-le_left c.self.inside.defs.room c.self.inside.tags.room))
+put_each-requires c = record {
+  order = again def_key def_prefixes c.self.inside.archive c.self.inside.shown.items c.self.inside.defs.entries c.self.invariant.defs;
+  room =
+      let asked = subst (λ (s : Shelved). CanShowAll s c.args.news.now) (sym c.self.view_is) c.requires in
+      each_fits def_prefixes def_count fewer_defs c.self.inside.archive def_key c.self.inside.shown.items c.args.news.now
+      c.self.inside.defs.entries c.self.inside.defs.room c.self.invariant.defs
+      (le_trans asked.defs (min-le_left c.self.inside.defs.room c.self.inside.tags.room));
+}
 
 pub put_each-requires-2 : goal.put_each-requires-2
-put_each-requires-2 c =
-    let asked = subst (λ (s : Shelved). CanShowAll s c.args.news.now) (sym c.self.view_is) c.requires in
-    each_fits def_prefixes def_count fewer_defs c.self.inside.archive tag_key c.self.inside.shown.items c.args.news.now
-    c.self.inside.tags.entries c.self.inside.tags.room c.self.invariant.tags
-    (le_trans asked.defs (min-le_right c.self.inside.defs.room c.self.inside.tags.room))
+put_each-requires-2 c = record {
+  order = again tag_key def_prefixes c.self.inside.archive c.self.inside.shown.items c.self.inside.tags.entries c.self.invariant.tags;
+  room =
+      let asked = subst (λ (s : Shelved). CanShowAll s c.args.news.now) (sym c.self.view_is) c.requires in
+      each_fits def_prefixes def_count fewer_defs c.self.inside.archive tag_key c.self.inside.shown.items c.args.news.now
+      c.self.inside.tags.entries c.self.inside.tags.room c.self.invariant.tags
+      (le_trans asked.defs (min-le_right c.self.inside.defs.room c.self.inside.tags.room));
+}
 
 pub put_each-requires-3 : goal.put_each-requires-3
-put_each-requires-3 c =
-    let asked = subst (λ (s : Shelved). CanShowAll s c.args.news.now) (sym c.self.view_is) c.requires in
-    each_fits use_prefixes use_count fewer_uses c.self.inside.archive use_key c.self.inside.shown.items c.args.news.now
-    c.self.inside.uses.entries c.self.inside.uses.room c.self.invariant.uses asked.uses
+put_each-requires-3 c = record {
+  order = again use_key use_prefixes c.self.inside.archive c.self.inside.shown.items c.self.inside.uses.entries c.self.invariant.uses;
+  room =
+      let asked = subst (λ (s : Shelved). CanShowAll s c.args.news.now) (sym c.self.view_is) c.requires in
+      each_fits use_prefixes use_count fewer_uses c.self.inside.archive use_key c.self.inside.shown.items c.args.news.now
+      c.self.inside.uses.entries c.self.inside.uses.room c.self.invariant.uses asked.uses;
+}
 
 pub put_each-requires-4 : goal.put_each-requires-4
-put_each-requires-4 c =
-    let asked = subst (λ (s : Shelved). CanShowAll s c.args.news.now) (sym c.self.view_is) c.requires in
-    each_fits callee_prefixes call_count fewer_callees c.self.inside.archive callee_key c.self.inside.shown.items c.args.news.now
-    c.self.inside.callees.entries c.self.inside.callees.room c.self.invariant.callees
-    (le_trans asked.calls (min-le_left c.self.inside.callees.room c.self.inside.callers.room))
+put_each-requires-4 c = record {
+  order = again callee_key callee_prefixes c.self.inside.archive c.self.inside.shown.items c.self.inside.callees.entries c.self.invariant.callees;
+  room =
+      let asked = subst (λ (s : Shelved). CanShowAll s c.args.news.now) (sym c.self.view_is) c.requires in
+      each_fits callee_prefixes call_count fewer_callees c.self.inside.archive callee_key c.self.inside.shown.items c.args.news.now
+      c.self.inside.callees.entries c.self.inside.callees.room c.self.invariant.callees
+      (le_trans asked.calls (min-le_left c.self.inside.callees.room c.self.inside.callers.room));
+}
 
 pub put_each-requires-5 : goal.put_each-requires-5
-put_each-requires-5 c =
-    let asked = subst (λ (s : Shelved). CanShowAll s c.args.news.now) (sym c.self.view_is) c.requires in
-    each_fits caller_prefixes call_count fewer_callers c.self.inside.archive caller_key c.self.inside.shown.items c.args.news.now
-    c.self.inside.callers.entries c.self.inside.callers.room c.self.invariant.callers
-    (le_trans asked.calls (min-le_right c.self.inside.callees.room c.self.inside.callers.room))
+put_each-requires-5 c = record {
+  order = again caller_key caller_prefixes c.self.inside.archive c.self.inside.shown.items c.self.inside.callers.entries c.self.invariant.callers;
+  room =
+      let asked = subst (λ (s : Shelved). CanShowAll s c.args.news.now) (sym c.self.view_is) c.requires in
+      each_fits caller_prefixes call_count fewer_callers c.self.inside.archive caller_key c.self.inside.shown.items c.args.news.now
+      c.self.inside.callers.entries c.self.inside.callers.room c.self.invariant.callers
+      (le_trans asked.calls (min-le_right c.self.inside.callees.room c.self.inside.callers.room));
+}
 
 -- the indexes hold what is shown now
 pub invariant_of-self : goal.invariant_of-self
