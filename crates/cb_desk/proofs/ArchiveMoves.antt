@@ -205,10 +205,13 @@ module _ (a b : Archived) (names : b.names ≡ a.names) (texts : b.texts ≡ a.t
 
     pub on_moved : (w : Numbered) (ts : List Turn) → LeadsOn r a w ts → LeadsOn r b w ts
     unfolding LeadsOn
-    on_moved w [] is = (kept_moved w is.0, record {
-      names = is.1.names ∙ sym (ap length names);
-      versions = is.1.versions ∙ sym (ap length texts);
-    })
+    on_moved w [] is = (
+      kept_moved w is.0,
+      record {
+        names = is.1.names ∙ sym (ap length names);
+        versions = is.1.versions ∙ sym (ap length texts);
+      },
+    )
     on_moved w (t ∷ ts) is =
         let then = (kept_on r a (other a t w) ts is.3).there in (
           kept_moved w is.0,
@@ -257,14 +260,14 @@ module _ (k l : Kept) (records : List Turn) (done : ℕ) (now : l.now ≡ k.now)
 
   leads_back : LeadsBack l.rooms l.archive l.now (turns_back after_room)
   leads_back = subst (λ w. LeadsBack l.rooms l.archive w (turns_back before)) (sym now)
-        (back_more k.rooms l.rooms l.archive k.now (turns_back before) rooms
-        (back_same k.archive l.archive (length k.archive.names) (length k.archive.texts) (agree_all k.archive l.archive names texts) k.rooms k.now
-        (turns_back before) present_there.names present_there.versions is.back))
+      (back_more k.rooms l.rooms l.archive k.now (turns_back before) rooms
+      (back_same k.archive l.archive (length k.archive.names) (length k.archive.texts) (agree_all k.archive l.archive names texts) k.rooms k.now
+      (turns_back before) present_there.names present_there.versions is.back))
 
   leads_on : LeadsOn l.rooms l.archive l.now (turns_on after_room)
   leads_on = subst (λ w. LeadsOn l.rooms l.archive w (turns_on before)) (sym now)
-        (on_more k.rooms l.rooms l.archive k.now (turns_on before) rooms
-        (on_moved k.archive l.archive names texts k.rooms k.now (turns_on before) is.on))
+      (on_more k.rooms l.rooms l.archive k.now (turns_on before) rooms
+      (on_moved k.archive l.archive names texts k.rooms k.now (turns_on before) is.on))
 
   pub same_recorded : IsRecorded after_room
   same_recorded = record {

@@ -312,10 +312,13 @@ nothing_recorded k is names texts = record {
     no_past = (none, record { names = ap (λ (w : Numbered). w.names) is; versions = ap (λ (w : Numbered). w.versions) is })
 
     no_future : LeadsOn k.rooms k.archive k.now []
-    no_future = (none, record {
-      names = ap (λ (w : Numbered). w.names) is ∙ sym (ap length names);
-      versions = ap (λ (w : Numbered). w.versions) is ∙ sym (ap length texts);
-    })
+    no_future = (
+      none,
+      record {
+        names = ap (λ (w : Numbered). w.names) is ∙ sym (ap length names);
+        versions = ap (λ (w : Numbered). w.versions) is ∙ sym (ap length texts);
+      },
+    )
 
 -- as many worlds are the past as records lead back
 walk_length : (a : Archived) (w : Numbered) (ts : List Turn) → length (walk a w ts) ≡ length ts

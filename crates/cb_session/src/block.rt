@@ -61,9 +61,7 @@ pub fn read_change<'a, R: BufRead>(
     ensures pattern { IfOk result (λ input. HasPattern (request_of input)) }
 {
     match read_block(alloc, count, feed)? {
-        Some(bytes) => Ok(Input::Command(Command::Change(change_with(
-            purpose, name, bytes,
-        )))),
+        Some(bytes) => Ok(Input::Command(Command::Change(change_with(purpose, name, bytes)))),
         None => Ok(Input::Refused(Refusal::InputEnded)),
     }
 }

@@ -33,12 +33,7 @@ const RELOADED: [&[u8]; 3] = [
 
 /// Runs an input. A refusal is one command's reply, or ends the run with a prefix of the output.
 /// Whether memory was refused.
-fn run_meets_a_refusal(
-    rt: &impl Abort,
-    alloc: Global,
-    input: &[u8],
-    outputs: &[&[u8]; 3],
-) -> bool {
+fn run_meets_a_refusal(rt: &impl Abort, alloc: Global, input: &[u8], outputs: &[&[u8]; 3]) -> bool {
     let Ok(mut written) = Vec::with_capacity(alloc, 4_096) else {
         return true;
     };
