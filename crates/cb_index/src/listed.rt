@@ -86,14 +86,19 @@ fn sort_shown(archive: &Archive, shown: &mut [Shown])
     );
 }
 
-/// Puts versions among those that are shown, by file name.
+/// Puts versions among those that are shown, by file name: one at its place, more by one sort.
 pub(crate) fn put_all_shown(archive: &Archive, news: &[Shown], shown: &mut Vec<Shown>)
+    requires ascending { AreAscending archive.now shown.old.items }
     requires apart { AreApart archive.now (shown.old.items ++ news.now) }
     requires room { length shown.old.items + length news.now ≤ vec_capacity shown.old }
     ensures items { shown.new.items
         ≡ in_order (shown_name archive.now) (shown.old.items ++ news.now) }
     ensures room { vec_capacity shown.old ≤ vec_capacity shown.new }
 {
+    if let [one] = news {
+        put_shown(archive, *one, shown);
+        return;
+    }
     if shown.extend_from_slice(news).is_err() {
         unreachable!()
     }

@@ -15,6 +15,7 @@ use Rattle.cb_index.proofs.shelf.Shelf.show_all.Goals as goal
 pub put_all_shown-requires : goal.put_all_shown-requires
 put_all_shown-requires c =
     let asked = subst (λ (s : Shelved). CanShowAll s c.args.news.now) (sym c.self.view_is) c.requires in record {
+      ascending = c.self.invariant.ascending;
       apart = apart_both c.self.inside.archive c.self.inside.shown.items c.args.news.now c.self.invariant.ascending asked.apart asked.other;
       room = asked.entries;
     }
