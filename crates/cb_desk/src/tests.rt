@@ -84,12 +84,21 @@ fn files_of_all_sizes_are_loaded(
     Ok(())
 }
 
+/// Loads beside a file that is there: some are refused, and some are done.
+fn loads_are_refused_and_done(
+    rt: &impl Abort,
+    alloc: Global,
+    desk: &mut Desk,
+) -> Result<(), AllocError> {
+    assert!(rt; load(desk, alloc, b"a.c", 3)? == Ok(()));
+    each_load_is_refused(rt, alloc, desk)?;
+    files_of_all_sizes_are_loaded(rt, alloc, desk)
+}
+
 #[test]
 fn the_lowest_refusal_of_a_load_is_answered(rt: HostRuntime) -> Result<(), AllocError> {
     let mut desk = Desk::new(rt.alloc());
-    assert!(rt; load(&mut desk, rt.alloc(), b"a.c", 3)? == Ok(()));
-    each_load_is_refused(&rt, rt.alloc(), &mut desk)?;
-    files_of_all_sizes_are_loaded(&rt, rt.alloc(), &mut desk)
+    loads_are_refused_and_done(&rt, rt.alloc(), &mut desk)
 }
 
 /// Three loads.
@@ -233,6 +242,8 @@ fn five_tags_go_by_file_and_place(rt: &impl Abort, desk: &Desk) {
 
 /// Two files with definitions of two names.
 fn load_two_names(rt: &impl Abort, alloc: Global, desk: &mut Desk) -> Result<(), AllocError> {
+    assert!(rt; has_tags(desk, Format::Plain, &[]));
+    assert!(rt; has_tags(desk, Format::Extended, &[]));
     let both = b"int Mm(void) {}\nint f(void) {}\nint main(void) {}\n";
     let other = b"int main(void) {}\n#define f(x) x\n";
     assert!(rt; load_text(desk, alloc, b"m.c", both)? == Ok(()));
@@ -243,8 +254,6 @@ fn load_two_names(rt: &impl Abort, alloc: Global, desk: &mut Desk) -> Result<(),
 #[test]
 fn tags_of_one_key_go_by_file_and_place(rt: HostRuntime) -> Result<(), AllocError> {
     let mut desk = Desk::new(rt.alloc());
-    assert!(rt; has_tags(&desk, Format::Plain, &[]));
-    assert!(rt; has_tags(&desk, Format::Extended, &[]));
     load_two_names(&rt, rt.alloc(), &mut desk)?;
     five_tags_go_by_file_and_place(&rt, &desk);
     Ok(())

@@ -34,6 +34,18 @@ fn desk_with(alloc: Global, name: &[u8], text: &[u8]) -> Result<Desk, AllocError
     Ok(desk)
 }
 
+/// One more file.
+fn one_more_is_loaded(
+    rt: &impl Abort,
+    alloc: Global,
+    desk: &mut Desk,
+    name: &[u8],
+    text: &[u8],
+) -> Result<(), AllocError> {
+    assert!(rt; load_text(desk, alloc, name, text)? == Ok(()));
+    Ok(())
+}
+
 const TWICE: &[u8] = b"#define TWICE(x) ((x) + add(x, 0))";
 
 const CALLS: &[u8] = b"return add(1, 2) / TWICE(3);";
@@ -145,9 +157,8 @@ fn three_rows_are_found(rt: &impl Abort, desk: &Desk) {
 fn rows_of_equal_texts_on_two_lines_or_in_two_files_stay(
     rt: HostRuntime,
 ) -> Result<(), AllocError> {
-    let alloc = rt.alloc();
-    let mut desk = desk_with(alloc, b"b.c", b"x;x;\nx;x;\n")?;
-    assert!(rt; load_text(&mut desk, alloc, b"a.c", b"x;x;\n")? == Ok(()));
+    let mut desk = desk_with(rt.alloc(), b"b.c", b"x;x;\nx;x;\n")?;
+    one_more_is_loaded(&rt, rt.alloc(), &mut desk, b"a.c", b"x;x;\n")?;
     three_rows_are_found(&rt, &desk);
     Ok(())
 }
@@ -165,9 +176,8 @@ fn two_files_are_found(rt: &impl Abort, desk: &Desk) {
 
 #[test]
 fn files_are_found_by_a_part_of_their_name(rt: HostRuntime) -> Result<(), AllocError> {
-    let alloc = rt.alloc();
-    let mut desk = desk_with(alloc, b"lib/y.c", b"")?;
-    assert!(rt; load_text(&mut desk, alloc, b"by.h", b"")? == Ok(()));
+    let mut desk = desk_with(rt.alloc(), b"lib/y.c", b"")?;
+    one_more_is_loaded(&rt, rt.alloc(), &mut desk, b"by.h", b"")?;
     two_files_are_found(&rt, &desk);
     Ok(())
 }

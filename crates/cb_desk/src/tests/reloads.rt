@@ -188,10 +188,19 @@ fn the_largest_reload_is_done(
     Ok(())
 }
 
+/// Reloads that are refused, and one that is done.
+fn reloads_are_refused_and_done(
+    rt: &impl Abort,
+    alloc: Global,
+    desk: &mut Desk,
+) -> Result<(), AllocError> {
+    each_reload_is_refused(rt, alloc, desk)?;
+    the_largest_reload_is_done(rt, alloc, desk)
+}
+
 #[test]
 fn the_lowest_refusal_of_a_reload_is_answered(rt: HostRuntime) -> Result<(), Refusal> {
     let mut desk = marked_with_a_future(rt.alloc())?;
-    each_reload_is_refused(&rt, rt.alloc(), &mut desk)?;
-    the_largest_reload_is_done(&rt, rt.alloc(), &mut desk)?;
+    reloads_are_refused_and_done(&rt, rt.alloc(), &mut desk)?;
     Ok(())
 }
