@@ -1,12 +1,18 @@
 //! Tests in which memory may be refused, each growth in turn, one a run. For each call that takes
 //! memory, `refused_growth_of_CALL` passes in each run, and `no_refusal_of_CALL` only in a run that
-//! refuses nothing.
+//! refuses nothing. The worked runs among them are in `refused`.
 use super::marks::marked_files;
 use super::moves::{has_frames, two_files};
 use super::{load_text_or_refused, shows};
 use crate::{Change, Desk, Refusal};
 use std::alloc::Global;
 use std::process::Abort;
+
+/// The call that a test is about begins here: `scripts/each-growth-refused.py` knows this size, and
+/// counts and refuses the growths that follow.
+pub(crate) fn begin(alloc: Global) {
+    let _ = Vec::<u8>::with_capacity(alloc, 70_001);
+}
 
 /// Two files, a frame, and a future: a load that was taken back.
 fn with_a_future(alloc: Global) -> Result<Desk, Refusal> {
@@ -40,6 +46,7 @@ fn change_meets_a_refusal(
     let Ok(mut desk) = with_a_future(alloc) else {
         return true;
     };
+    begin(alloc);
     match desk.change(alloc, first) {
         Ok(()) => false,
         Err(refusal) => {
@@ -70,6 +77,7 @@ fn rebuild_meets_a_refusal(rt: &impl Abort, alloc: Global) -> bool {
     let Ok(mut desk) = with_a_future(alloc) else {
         return true;
     };
+    begin(alloc);
     match desk.rebuild(alloc) {
         Ok(()) => false,
         Err(refusal) => {
@@ -113,6 +121,7 @@ fn marked_change_meets_a_refusal(
     let Ok(mut desk) = marked_with_a_future(alloc) else {
         return true;
     };
+    begin(alloc);
     let refused = match desk.change(alloc, first) {
         Ok(()) => {
             assert!(rt; desk.redo() == Err(Refusal::NothingToRedo));
@@ -134,7 +143,7 @@ fn marked_change_meets_a_refusal(
 }
 
 /// Marked files, and a drop that was taken back.
-fn marked_with_a_future(alloc: Global) -> Result<Desk, Refusal> {
+pub(crate) fn marked_with_a_future(alloc: Global) -> Result<Desk, Refusal> {
     let mut desk = marked_files(alloc)?;
     desk.change(alloc, Change::Unload(b"m.c"))?;
     desk.undo()?;

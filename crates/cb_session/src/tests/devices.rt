@@ -8,9 +8,9 @@ use std::test::Fail;
 
 /// A writer that takes so many bytes, two at a time at most, and then fails.
 #[derive(Drop)]
-struct Short {
-    taken: Vec<u8>,
-    room: usize,
+pub(super) struct Short {
+    pub(super) taken: Vec<u8>,
+    pub(super) room: usize,
 }
 
 impl Write for Short {
@@ -83,10 +83,10 @@ fn a_failed_flush_ends_the_run(rt: HostRuntime) {
 /// A reader that gives so many of its bytes one by one, and then fails; at its end it says so once,
 /// and then fails too.
 #[derive(Drop)]
-struct Broken<'a> {
-    bytes: &'a [u8],
-    left: usize,
-    ended: bool,
+pub(super) struct Broken<'a> {
+    pub(super) bytes: &'a [u8],
+    pub(super) left: usize,
+    pub(super) ended: bool,
 }
 
 impl Read for Broken<'_> {
