@@ -34,7 +34,7 @@ fn text(alloc: Global, file: u32) -> Result<Vec<u8>, Fail> {
 }
 
 /// A shelf that keeps all files and shows none, and the files by their names.
-fn filled_shelf(alloc: Global) -> Result<(Shelf, Vec<Shown>), Fail> {
+pub(super) fn filled_shelf(alloc: Global) -> Result<(Shelf, Vec<Shown>), Fail> {
     let mut shelf = Shelf::new(alloc);
     let mut files = Vec::new(alloc);
     for file in 100..100 + FILES {
@@ -65,7 +65,7 @@ fn each_uses(shelf: &Shelf, name: &[u8]) -> bool {
 }
 
 /// The indexes have what is shown.
-fn all_agree(rt: &impl Abort, shelf: &Shelf) {
+pub(super) fn all_agree(rt: &impl Abort, shelf: &Shelf) {
     let defs = shelf.shown().len().saturating_mul(FUNCTIONS);
     assert_eq!(rt; shelf.tags().len(), defs);
     assert_eq!(rt; shelf.all_defs().len(), defs);
@@ -81,7 +81,7 @@ fn next(seed: u64) -> u64 {
 }
 
 /// Hides a file that is shown, and shows one that is not.
-fn turn(shelf: &mut Shelf, file: Shown) -> Result<(), Fail> {
+pub(super) fn turn(shelf: &mut Shelf, file: Shown) -> Result<(), Fail> {
     if shelf.shown().iter().any(|s| s.name == file.name) {
         shelf.hide(file.name);
         return Ok(());

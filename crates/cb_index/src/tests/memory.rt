@@ -1,15 +1,26 @@
-//! Tests in which memory may be refused, each growth in turn, one a run. For each call that takes memory,
-//! `refused_growth_of_CALL` passes in each run, and `no_refusal_of_CALL` only in a run that refuses nothing.
-use super::FIRST;
+//! Tests in which memory may be refused, each growth in turn, one a run: `scripts/each-growth-refused.py`
+//! does that. For each call that takes memory, `refused_growth_of_CALL` passes in each run, and
+//! `no_refusal_of_CALL` only in a run that refuses nothing. `no_growth_of_CALL` may meet no growth.
+use super::many::{all_agree, filled_shelf, turn};
+use super::shelf::{one, shown_in_turn, shows_both};
+use super::shelves::{hide_all, show_all};
+use super::{FIRST, index_of, three_files};
 use crate::archive::Version;
 use crate::memory::OutOfMemory;
-use crate::orders::DefsByName;
+use crate::orders::UsesByName;
 use crate::room::Room;
 use crate::shelf::Shelf;
 use crate::sorted::Sorted;
 use cb_scan::{FactKeys, Meter, Source, scan};
 use std::alloc::Global;
 use std::process::Abort;
+use std::test::Fail;
+
+/// The call that a test is about begins here: `scripts/each-growth-refused.py` knows this size, and
+/// counts and refuses the growths that follow.
+fn begin(alloc: Global) {
+    let _ = Vec::<u8>::with_capacity(alloc, 70_001);
+}
 
 /// Room for one file.
 const ONE: Room = Room {
@@ -100,6 +111,7 @@ fn shelf_meets_a_refusal(rt: &impl Abort, alloc: Global) -> bool {
     if show_file(alloc, &mut shelf).is_none() {
         return true;
     }
+    begin(alloc);
     let refused = meets_a_refusal(rt, &mut shelf);
     assert_eq!(rt; tag_count(&shelf), 4);
     if refused {
@@ -109,16 +121,23 @@ fn shelf_meets_a_refusal(rt: &impl Abort, alloc: Global) -> bool {
     refused
 }
 
-/// Makes room in an index; on a refusal once more. Whether memory was refused.
-fn index_meets_a_refusal(rt: &impl Abort, alloc: Global) -> bool {
-    let mut index: Sorted<DefsByName> = Sorted::new(alloc);
+/// Makes more room in an index of three files; on a refusal once more. Whether memory was refused.
+fn index_meets_a_refusal(rt: &impl Abort, alloc: Global) -> Result<bool, Fail> {
+    let (archive, files) = three_files(alloc)?;
+    let mut index: Sorted<UsesByName> = index_of(alloc, &archive, &files)?;
+    let (held, room) = (index.entries().len(), index.room());
+    begin(alloc);
     match index.reserve(20_000) {
-        Ok(()) => false,
+        Ok(()) => Ok(false),
         Err(error) => {
             assert!(rt; error == OutOfMemory);
+            assert!(rt; index.room() >= room);
+            assert_eq!(rt; index.entries().len(), held);
             assert!(rt; index.reserve(20_000).is_ok());
             assert!(rt; index.room() >= 20_000);
-            true
+            assert_eq!(rt; index.entries().len(), held);
+            assert!(rt; index.is_in_order(&archive));
+            Ok(true)
         }
     }
 }
@@ -130,15 +149,59 @@ fn refused_growth_of_shelf_reserve(rt: HostRuntime) {
 
 #[test]
 fn no_refusal_of_shelf_reserve(rt: HostRuntime) {
-    assert!(rt; !shelf_meets_a_refusal(&rt, rt.alloc()));
+    assert!(rt;
+        !shelf_meets_a_refusal(&rt, rt.alloc()),
+        "memory was refused"
+    );
 }
 
 #[test]
-fn refused_growth_of_index_reserve(rt: HostRuntime) {
-    let _refused = index_meets_a_refusal(&rt, rt.alloc());
+fn refused_growth_of_index_reserve(rt: HostRuntime) -> Result<(), Fail> {
+    let _refused = index_meets_a_refusal(&rt, rt.alloc())?;
+    Ok(())
 }
 
 #[test]
-fn no_refusal_of_index_reserve(rt: HostRuntime) {
-    assert!(rt; !index_meets_a_refusal(&rt, rt.alloc()));
+fn no_refusal_of_index_reserve(rt: HostRuntime) -> Result<(), Fail> {
+    let refused = index_meets_a_refusal(&rt, rt.alloc())?;
+    assert!(rt; !refused, "memory was refused");
+    Ok(())
+}
+
+/// Files whose entries fill many blocks come and go, one by one, together, and a few beside many.
+#[test]
+fn no_growth_of_shows_and_hides(rt: HostRuntime) -> Result<(), Fail> {
+    let (mut shelf, files) = filled_shelf(rt.alloc())?;
+    begin(rt.alloc());
+    for file in files.as_slice() {
+        turn(&mut shelf, *file)?;
+    }
+    all_agree(&rt, &shelf);
+    for file in files.as_slice() {
+        turn(&mut shelf, *file)?;
+    }
+    show_all(&mut shelf, files.as_slice())?;
+    all_agree(&rt, &shelf);
+    if let Some(few) = files.get(10..14) {
+        hide_all(&mut shelf, few)?;
+        show_all(&mut shelf, few)?;
+    }
+    all_agree(&rt, &shelf);
+    hide_all(&mut shelf, files.as_slice())?;
+    all_agree(&rt, &shelf);
+    Ok(())
+}
+
+/// What a shelf lends of two files.
+#[test]
+fn no_growth_of_readers(rt: HostRuntime) -> Result<(), Fail> {
+    let shelf = shown_in_turn(rt.alloc(), &[one(0, 0), one(1, 1)])?;
+    begin(rt.alloc());
+    shows_both(&rt, &shelf)?;
+    let mut entries = shelf.entries();
+    assert!(rt; entries.next().is_some());
+    assert!(rt; entries.next().is_some());
+    assert!(rt; entries.next().is_none());
+    assert_eq!(rt; shelf.turns(), 2);
+    Ok(())
 }

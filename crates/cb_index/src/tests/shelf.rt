@@ -13,7 +13,7 @@ use std::test::Fail;
 const OTHER: &[u8] = b"int Mb(void) {\n}\n";
 
 /// The version `version` under the name `name`.
-fn one(name: u32, version: u32) -> Shown {
+pub(super) fn one(name: u32, version: u32) -> Shown {
     Shown { name, version }
 }
 
@@ -27,7 +27,7 @@ fn two_files(alloc: Global) -> Result<Shelf, Fail> {
     Ok(shelf)
 }
 
-fn shows_both(rt: &impl Abort, shelf: &Shelf) -> Result<(), Fail> {
+pub(super) fn shows_both(rt: &impl Abort, shelf: &Shelf) -> Result<(), Fail> {
     let tags: [&[u8]; 5] = [b"Mb", b"main", b"TWICE", b"add", b"word"];
     has_tags(rt, shelf.tags(), &tags)?;
     let names: [&[u8]; 5] = [b"Mb", b"TWICE", b"add", b"main", b"word"];
@@ -57,7 +57,7 @@ fn one_file_is_shown_and_hidden(rt: HostRuntime) -> Result<(), Fail> {
 }
 
 /// `two_files`, of which `files` are shown one after another.
-fn shown_in_turn(alloc: Global, files: &[Shown]) -> Result<Shelf, Fail> {
+pub(super) fn shown_in_turn(alloc: Global, files: &[Shown]) -> Result<Shelf, Fail> {
     let mut shelf = two_files(alloc)?;
     for file in files {
         show(&mut shelf, file.name, file.version)?;
