@@ -11,6 +11,7 @@ use super::*;
 use cb_scan::Kind;
 use cb_tags::TagRow;
 use std::alloc::{AllocError, Global};
+use std::process::Abort;
 
 /// Whether the present files have these names, in this order.
 fn shows(desk: &Desk, names: &[&[u8]]) -> bool {
@@ -35,11 +36,8 @@ fn load(
     Ok(desk.change(alloc, Change::Load(name, bytes)))
 }
 
-#[test]
-fn the_lowest_refusal_of_a_load_is_answered(rt: HostRuntime) -> Result<(), AllocError> {
-    let alloc = rt.alloc();
-    let mut desk = Desk::new(alloc);
-    assert!(rt; load(&mut desk, alloc, b"a.c", 3)? == Ok(()));
+fn refuse_loads(rt: &impl Abort, desk: &mut Desk, alloc: Global) -> Result<(), AllocError> {
+    assert!(rt; load(desk, alloc, b"a.c", 3)? == Ok(()));
     let cases = [
         (b"a.txt".as_slice(), 1, Refusal::BadName, 5, "bad name"),
         (
@@ -67,35 +65,44 @@ fn the_lowest_refusal_of_a_load_is_answered(rt: HostRuntime) -> Result<(), Alloc
         ),
     ];
     for (name, count, refusal, number, text) in cases {
-        assert!(rt; load(&mut desk, alloc, name, count)? == Err(refusal));
+        assert!(rt; load(desk, alloc, name, count)? == Err(refusal));
         assert_eq!(rt; refusal.number(), number);
         assert!(rt; refusal.text() == text);
-        assert!(rt; shows(&desk, &[b"a.c".as_slice()]));
+        assert!(rt; shows(desk, &[b"a.c".as_slice()]));
     }
-    assert!(rt; load(&mut desk, alloc, b"b.c", 1_000_000)? == Ok(()));
-    assert!(rt; load(&mut desk, alloc, b".h", 0)? == Ok(()));
-    assert!(rt; shows(&desk, &[b".h".as_slice(), b"a.c", b"b.c"]));
+    assert!(rt; load(desk, alloc, b"b.c", 1_000_000)? == Ok(()));
+    assert!(rt; load(desk, alloc, b".h", 0)? == Ok(()));
+    assert!(rt; shows(desk, &[b".h".as_slice(), b"a.c", b"b.c"]));
+    Ok(())
+}
+
+#[test]
+fn the_lowest_refusal_of_a_load_is_answered(rt: HostRuntime) -> Result<(), AllocError> {
+    let mut desk = Desk::new(rt.alloc());
+    refuse_loads(&rt, &mut desk, rt.alloc())
+}
+
+fn load_and_undo(rt: &impl Abort, desk: &mut Desk, alloc: Global) -> Result<(), AllocError> {
+    assert!(rt; shows(desk, &[]));
+    assert!(rt; load(desk, alloc, b"b.c", 1)? == Ok(()));
+    assert!(rt; load(desk, alloc, b"a.h", 2)? == Ok(()));
+    assert!(rt; load(desk, alloc, b"a.c", 3)? == Ok(()));
+    assert!(rt; shows(desk, &[b"a.c".as_slice(), b"a.h", b"b.c"]));
+    assert!(rt; desk.undo() == Ok(()));
+    assert!(rt; shows(desk, &[b"a.h".as_slice(), b"b.c"]));
+    assert!(rt; desk.undo() == Ok(()));
+    assert!(rt; desk.undo() == Ok(()));
+    assert!(rt; shows(desk, &[]));
+    assert!(rt; desk.undo() == Err(Refusal::NothingToUndo));
+    assert_eq!(rt; Refusal::NothingToUndo.number(), 17);
+    assert!(rt; Refusal::NothingToUndo.text() == "nothing to undo");
     Ok(())
 }
 
 #[test]
 fn undo_takes_loads_back_one_by_one(rt: HostRuntime) -> Result<(), AllocError> {
-    let alloc = rt.alloc();
-    let mut desk = Desk::new(alloc);
-    assert!(rt; shows(&desk, &[]));
-    assert!(rt; load(&mut desk, alloc, b"b.c", 1)? == Ok(()));
-    assert!(rt; load(&mut desk, alloc, b"a.h", 2)? == Ok(()));
-    assert!(rt; load(&mut desk, alloc, b"a.c", 3)? == Ok(()));
-    assert!(rt; shows(&desk, &[b"a.c".as_slice(), b"a.h", b"b.c"]));
-    assert!(rt; desk.undo() == Ok(()));
-    assert!(rt; shows(&desk, &[b"a.h".as_slice(), b"b.c"]));
-    assert!(rt; desk.undo() == Ok(()));
-    assert!(rt; desk.undo() == Ok(()));
-    assert!(rt; shows(&desk, &[]));
-    assert!(rt; desk.undo() == Err(Refusal::NothingToUndo));
-    assert_eq!(rt; Refusal::NothingToUndo.number(), 17);
-    assert!(rt; Refusal::NothingToUndo.text() == "nothing to undo");
-    Ok(())
+    let mut desk = Desk::new(rt.alloc());
+    load_and_undo(&rt, &mut desk, rt.alloc())
 }
 
 /// A load of a text.
@@ -136,11 +143,8 @@ fn are_tags(desk: &Desk, format: Format, tags: &[TagRow<'_>]) -> bool {
 const NINE_LINES: &[u8] =
     b"#include \"a.h\"\n#define TWICE(x) ((x) + add(x, 0))\ntypedef unsigned long word;\nstatic int add(int a, int b) {\n\treturn a + b;\n}\nint main(void) {\n\treturn add(1, 2) / TWICE(3);\n}\n";
 
-#[test]
-fn tags_show_their_definitions(rt: HostRuntime) -> Result<(), AllocError> {
-    let alloc = rt.alloc();
-    let mut desk = Desk::new(alloc);
-    assert!(rt; load_text(&mut desk, alloc, b"a.c", NINE_LINES)? == Ok(()));
+fn show_definitions(rt: &impl Abort, desk: &mut Desk, alloc: Global) -> Result<(), AllocError> {
+    assert!(rt; load_text(desk, alloc, b"a.c", NINE_LINES)? == Ok(()));
     let twice = TagRow {
         name: b"TWICE",
         file: b"a.c",
@@ -173,22 +177,25 @@ fn tags_show_their_definitions(rt: HostRuntime) -> Result<(), AllocError> {
         kind: Kind::Typedef,
         local: false,
     };
-    assert!(rt; are_tags(&desk, Format::Plain, &[main, twice, add, word]));
-    assert!(rt; are_tags(&desk, Format::Extended, &[twice, add, main, word]));
+    assert!(rt; are_tags(desk, Format::Plain, &[main, twice, add, word]));
+    assert!(rt; are_tags(desk, Format::Extended, &[twice, add, main, word]));
     Ok(())
 }
 
 #[test]
-fn tags_of_one_key_go_by_file_and_place(rt: HostRuntime) -> Result<(), AllocError> {
-    let alloc = rt.alloc();
-    let mut desk = Desk::new(alloc);
-    assert!(rt; has_tags(&desk, Format::Plain, &[]));
-    assert!(rt; has_tags(&desk, Format::Extended, &[]));
+fn tags_show_their_definitions(rt: HostRuntime) -> Result<(), AllocError> {
+    let mut desk = Desk::new(rt.alloc());
+    show_definitions(&rt, &mut desk, rt.alloc())
+}
+
+fn sort_tags(rt: &impl Abort, desk: &mut Desk, alloc: Global) -> Result<(), AllocError> {
+    assert!(rt; has_tags(desk, Format::Plain, &[]));
+    assert!(rt; has_tags(desk, Format::Extended, &[]));
     let both = b"int Mm(void) {}\nint f(void) {}\nint main(void) {}\n";
-    assert!(rt; load_text(&mut desk, alloc, b"m.c", both)? == Ok(()));
+    assert!(rt; load_text(desk, alloc, b"m.c", both)? == Ok(()));
     assert!(rt;
         load_text(
-            &mut desk,
+            desk,
             alloc,
             b"d/m.c",
             b"int main(void) {}\n#define f(x) x\n"
@@ -208,23 +215,32 @@ fn tags_of_one_key_go_by_file_and_place(rt: HostRuntime) -> Result<(), AllocErro
         (b"main", b"d/m.c", 1, Kind::Function),
         (b"main", b"m.c", 3, Kind::Function),
     ];
-    assert!(rt; has_tags(&desk, Format::Plain, &plain));
-    assert!(rt; has_tags(&desk, Format::Extended, &extended));
+    assert!(rt; has_tags(desk, Format::Plain, &plain));
+    assert!(rt; has_tags(desk, Format::Extended, &extended));
+    Ok(())
+}
+
+#[test]
+fn tags_of_one_key_go_by_file_and_place(rt: HostRuntime) -> Result<(), AllocError> {
+    let mut desk = Desk::new(rt.alloc());
+    sort_tags(&rt, &mut desk, rt.alloc())
+}
+
+fn keep_equal_tags(rt: &impl Abort, desk: &mut Desk, alloc: Global) -> Result<(), AllocError> {
+    assert!(rt; load_text(desk, alloc, b"a.c", b"f(){}f(){}")? == Ok(()));
+    let twice = [
+        (b"f".as_slice(), b"a.c".as_slice(), 1, Kind::Function),
+        (b"f", b"a.c", 1, Kind::Function),
+    ];
+    assert!(rt; has_tags(desk, Format::Plain, &twice));
+    assert!(rt; has_tags(desk, Format::Extended, &twice));
     Ok(())
 }
 
 #[test]
 fn equal_tags_all_stay(rt: HostRuntime) -> Result<(), AllocError> {
-    let alloc = rt.alloc();
-    let mut desk = Desk::new(alloc);
-    assert!(rt; load_text(&mut desk, alloc, b"a.c", b"f(){}f(){}")? == Ok(()));
-    let twice = [
-        (b"f".as_slice(), b"a.c".as_slice(), 1, Kind::Function),
-        (b"f", b"a.c", 1, Kind::Function),
-    ];
-    assert!(rt; has_tags(&desk, Format::Plain, &twice));
-    assert!(rt; has_tags(&desk, Format::Extended, &twice));
-    Ok(())
+    let mut desk = Desk::new(rt.alloc());
+    keep_equal_tags(&rt, &mut desk, rt.alloc())
 }
 
 /// A load of a text whose bytes may be refused too.
