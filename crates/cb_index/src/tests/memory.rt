@@ -5,7 +5,8 @@ use super::many::{all_agree, filled_shelf, turn};
 use super::shelf::{one, shown_in_turn, shows_both};
 use super::shelves::{hide_all, show_all};
 use super::{FIRST, index_of, three_files};
-use crate::archive::Version;
+use crate::archive::{Archive, Version};
+use crate::entry::Shown;
 use crate::memory::OutOfMemory;
 use crate::orders::UsesByName;
 use crate::room::Room;
@@ -121,14 +122,15 @@ fn shelf_meets_a_refusal(rt: &impl Abort, alloc: Global) -> bool {
     refused
 }
 
-/// Makes more room in an index of three files; on a refusal once more. Whether memory was refused.
-fn index_meets_a_refusal(rt: &impl Abort, alloc: Global) -> Result<bool, Fail> {
-    let (archive, files) = three_files(alloc)?;
-    let mut index: Sorted<UsesByName> = index_of(alloc, &archive, &files)?;
+/// Makes more room in an index; on a refusal once more. Whether memory was refused.
+fn reserve_meets_a_refusal(
+    rt: &impl Abort,
+    archive: &Archive,
+    index: &mut Sorted<UsesByName>,
+) -> bool {
     let (held, room) = (index.entries().len(), index.room());
-    begin(alloc);
     match index.reserve(20_000) {
-        Ok(()) => Ok(false),
+        Ok(()) => false,
         Err(error) => {
             assert!(rt; error == OutOfMemory);
             assert!(rt; index.room() >= room);
@@ -136,10 +138,18 @@ fn index_meets_a_refusal(rt: &impl Abort, alloc: Global) -> Result<bool, Fail> {
             assert!(rt; index.reserve(20_000).is_ok());
             assert!(rt; index.room() >= 20_000);
             assert_eq!(rt; index.entries().len(), held);
-            assert!(rt; index.is_in_order(&archive));
-            Ok(true)
+            assert!(rt; index.is_in_order(archive));
+            true
         }
     }
+}
+
+/// The same, for an index of three files.
+fn index_meets_a_refusal(rt: &impl Abort, alloc: Global) -> Result<bool, Fail> {
+    let (archive, files) = three_files(alloc)?;
+    let mut index: Sorted<UsesByName> = index_of(alloc, &archive, &files)?;
+    begin(alloc);
+    Ok(reserve_meets_a_refusal(rt, &archive, &mut index))
 }
 
 #[test]
@@ -168,27 +178,43 @@ fn no_refusal_of_index_reserve(rt: HostRuntime) -> Result<(), Fail> {
     Ok(())
 }
 
-/// Files whose entries fill many blocks come and go, one by one, together, and a few beside many.
+/// Files come and go one by one, together, and a few beside many.
+fn files_come_and_go(rt: &impl Abort, shelf: &mut Shelf, files: &[Shown]) -> Result<(), Fail> {
+    for file in files {
+        turn(shelf, *file)?;
+    }
+    all_agree(rt, shelf);
+    for file in files {
+        turn(shelf, *file)?;
+    }
+    show_all(shelf, files)?;
+    all_agree(rt, shelf);
+    if let Some(few) = files.get(10..14) {
+        hide_all(shelf, few)?;
+        show_all(shelf, few)?;
+    }
+    all_agree(rt, shelf);
+    hide_all(shelf, files)?;
+    all_agree(rt, shelf);
+    Ok(())
+}
+
+/// The entries of the files fill many blocks.
 #[test]
 fn no_growth_of_shows_and_hides(rt: HostRuntime) -> Result<(), Fail> {
     let (mut shelf, files) = filled_shelf(rt.alloc())?;
     begin(rt.alloc());
-    for file in files.as_slice() {
-        turn(&mut shelf, *file)?;
-    }
-    all_agree(&rt, &shelf);
-    for file in files.as_slice() {
-        turn(&mut shelf, *file)?;
-    }
-    show_all(&mut shelf, files.as_slice())?;
-    all_agree(&rt, &shelf);
-    if let Some(few) = files.get(10..14) {
-        hide_all(&mut shelf, few)?;
-        show_all(&mut shelf, few)?;
-    }
-    all_agree(&rt, &shelf);
-    hide_all(&mut shelf, files.as_slice())?;
-    all_agree(&rt, &shelf);
+    files_come_and_go(&rt, &mut shelf, files.as_slice())
+}
+
+/// Two files are there.
+fn lends_two_files(rt: &impl Abort, shelf: &Shelf) -> Result<(), Fail> {
+    shows_both(rt, shelf)?;
+    let mut entries = shelf.entries();
+    assert!(rt; entries.next().is_some());
+    assert!(rt; entries.next().is_some());
+    assert!(rt; entries.next().is_none());
+    assert_eq!(rt; shelf.turns(), 2);
     Ok(())
 }
 
@@ -197,11 +223,5 @@ fn no_growth_of_shows_and_hides(rt: HostRuntime) -> Result<(), Fail> {
 fn no_growth_of_readers(rt: HostRuntime) -> Result<(), Fail> {
     let shelf = shown_in_turn(rt.alloc(), &[one(0, 0), one(1, 1)])?;
     begin(rt.alloc());
-    shows_both(&rt, &shelf)?;
-    let mut entries = shelf.entries();
-    assert!(rt; entries.next().is_some());
-    assert!(rt; entries.next().is_some());
-    assert!(rt; entries.next().is_none());
-    assert_eq!(rt; shelf.turns(), 2);
-    Ok(())
+    lends_two_files(&rt, &shelf)
 }
