@@ -1,5 +1,5 @@
 -- What a change brings to the archive, and the turn to the new world.
-use Rattle.std.specs.Prelude.{◌≡◌, ◌≤◌, ◌<◌, ℕ, Bool, List, ◌++◌, map, take, filter, nat_eq, not, slice_get, Option, Some, if◌then◌else◌}
+use Rattle.std.specs.Prelude.{◌≡◌, ◌≤◌, ◌<◌, ◌+◌, ℕ, Bool, List, [], ◌∷◌, ◌++◌, map, take, filter, nat_eq, not, slice_get, Option, None, Some, if◌then◌else◌}
 use Rattle.std.specs.List.{AllByRecursion}
 use Rattle.std.specs.Str.{bytes_eq}
 use Rattle.cb_index.specs.Archived.{Archived, name_of}
@@ -60,6 +60,30 @@ with_marks a w wanted marks = record (world_in a w) { wanted = other_wanted want
 -- a version is one of those that are shown
 abbrev pub IsAmong : List Shown → Shown → Type 0
 IsAmong shown s = (i : ℕ) × (slice_get shown i ≡ Some s)
+
+-- the turn that shows a new file
+abbrev pub load_turn : Numbered → Turn
+load_turn w = record {
+  hides = [];
+  shows = record { name = w.names; version = w.versions } ∷ [];
+  wanted = None;
+  marks = [];
+  frames = [];
+  names = w.names + 1;
+  versions = w.versions + 1;
+}
+
+-- the turn that shows another version of a file
+abbrev pub reload_turn : Numbered → Shown → (marks frames : List Edit) → Turn
+reload_turn w file marks frames = record {
+  hides = file ∷ [];
+  shows = record { name = file.name; version = w.versions } ∷ [];
+  wanted = None;
+  marks = marks;
+  frames = frames;
+  names = w.names;
+  versions = w.versions + 1;
+}
 
 -- a place is in the file of that name
 abbrev pub is_of : Archived → List ℕ → NumberedPlace → Bool

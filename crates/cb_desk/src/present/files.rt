@@ -1,11 +1,11 @@
 //! Plans that change the files.
-ghost use Rattle.std.specs.Prelude.{◌≡◌, ◌∷◌, [], false, IfOk};
+ghost use Rattle.std.specs.Prelude.{◌≡◌, ◌∷◌, [], false, map, IfOk};
 ghost use Rattle.cb_index.specs.Archived.{name_of};
 ghost use Rattle.cb_index.specs.Files.{files_of};
 ghost use Rattle.cb_desk.specs.Files.{loaded, reloaded, renamed, unloaded};
 ghost use Rattle.cb_desk.specs.World.{has_file};
 ghost use Rattle.cb_desk.specs.steps.Edits.{IsDifference};
-ghost use Rattle.cb_desk.specs.steps.Plans.{IsAmong, IsPlan, places_without};
+ghost use Rattle.cb_desk.specs.steps.Plans.{IsAmong, IsPlan, load_turn, places_without, reload_turn};
 ghost use Rattle.cb_desk.specs.steps.Records.{world_in};
 ghost use Rattle.cb_desk.specs.steps.Walks.{IsKept};
 
@@ -59,6 +59,13 @@ fn only_one<T: Drop>(alloc: Global, one: T) -> Result<Vec<T>, AllocError>
     Ok(list)
 }
 
+/// A list of one copy.
+fn only_copy(alloc: Global, bytes: &[u8]) -> Result<Vec<Vec<u8>>, AllocError>
+    ensures { IfOk result (λ list. map (λ one. one.items) list.items ≡ bytes.now ∷ []) }
+{
+    only_one(alloc, Vec::from_slice(alloc, bytes)?)
+}
+
 impl Present {
     /// The plan to take a file away, with its marks and frames.
     pub(crate) fn plan_unload(&self, alloc: Global, hides: Shown) -> Result<Plan, AllocError>
@@ -86,6 +93,28 @@ impl Present {
         })
     }
 
+    /// The record that shows a new file.
+    fn load_record(&self, alloc: Global) -> Result<Record, AllocError>
+        ensures { IfOk result (λ r. r ≡ load_turn self.now.now) }
+    {
+        let new = Shown {
+            name: self.names,
+            version: self.versions,
+        };
+        let names = sum(self.names, 1).ok_or(AllocError)?;
+        let versions = sum(self.versions, 1).ok_or(AllocError)?;
+        let shows = only_one(alloc, new)?;
+        Ok(Record {
+            hides: Vec::new(alloc),
+            shows,
+            wanted: None,
+            marks: Vec::new(alloc),
+            frames: Vec::new(alloc),
+            names,
+            versions,
+        })
+    }
+
     /// The plan to load a file. No file of that name is shown.
     pub(crate) fn plan_load(
         &self,
@@ -99,24 +128,42 @@ impl Present {
             name.now version)) }
     {
         let _shown = self.shelf.shown();
-        let new = Shown {
-            name: self.names,
+        let versions = only_one(alloc, version)?;
+        let names = only_copy(alloc, name)?;
+        let record = self.load_record(alloc)?;
+        Ok(Plan {
+            names,
+            versions,
+            record,
+        })
+    }
+
+    /// The record that shows another version of a file, without its marks and frames.
+    fn reload_record(&self, alloc: Global, file: Shown) -> Result<Record, AllocError>
+        ensures turn { IfOk result (λ r. r ≡ reload_turn self.now.now file r.marks r.frames) }
+        ensures marks { IfOk result (λ r. IsDifference r.marks self.now.now.marks
+            (places_without self.now.archive (name_of self.now.archive file.name) self.now.now.marks)) }
+        ensures frames { IfOk result (λ r. IsDifference r.frames self.now.now.frames
+            (places_without self.now.archive (name_of self.now.archive file.name) self.now.now.frames)) }
+    {
+        let archive = self.shelf.archive();
+        let changed = Shown {
+            name: file.name,
             version: self.versions,
         };
-        let names = sum(self.names, 1).ok_or(AllocError)?;
         let versions = sum(self.versions, 1).ok_or(AllocError)?;
-        Ok(Plan {
-            names: only_one(alloc, Vec::from_slice(alloc, name)?)?,
-            versions: only_one(alloc, version)?,
-            record: Record {
-                hides: Vec::new(alloc),
-                shows: only_one(alloc, new)?,
-                wanted: None,
-                marks: Vec::new(alloc),
-                frames: Vec::new(alloc),
-                names,
-                versions,
-            },
+        let hides = only_one(alloc, file)?;
+        let shows = only_one(alloc, changed)?;
+        let marks = edits_without(alloc, archive, file.name, self.marks.as_slice())?;
+        let frames = edits_without(alloc, archive, file.name, self.frames.as_slice())?;
+        Ok(Record {
+            hides,
+            shows,
+            wanted: None,
+            marks,
+            frames,
+            names: self.names,
+            versions,
         })
     }
 
@@ -133,26 +180,12 @@ impl Present {
             (name_of self.now.archive file.name) version)) }
     {
         let _shown = self.shelf.shown();
-        let archive = self.shelf.archive();
-        let marks = edits_without(alloc, archive, file.name, self.marks.as_slice())?;
-        let frames = edits_without(alloc, archive, file.name, self.frames.as_slice())?;
-        let changed = Shown {
-            name: file.name,
-            version: self.versions,
-        };
-        let versions = sum(self.versions, 1).ok_or(AllocError)?;
+        let versions = only_one(alloc, version)?;
+        let record = self.reload_record(alloc, file)?;
         Ok(Plan {
             names: Vec::new(alloc),
-            versions: only_one(alloc, version)?,
-            record: Record {
-                hides: only_one(alloc, file)?,
-                shows: only_one(alloc, changed)?,
-                wanted: None,
-                marks,
-                frames,
-                names: self.names,
-                versions,
-            },
+            versions,
+            record,
         })
     }
 

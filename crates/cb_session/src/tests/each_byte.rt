@@ -1,9 +1,9 @@
 //! Two whole runs over devices that fail at each byte. The expected bytes are worked out by hand.
 use super::devices::{Broken, Short};
-use super::{WIDE, run};
+use super::{WIDE, joined, writes};
 use crate::{Ended, Fault, Feed, run as run_all};
 use cb_tags::Sink;
-use std::alloc::{AllocError, Global};
+use std::alloc::Global;
 use std::process::Abort;
 use std::test::Fail;
 
@@ -54,15 +54,6 @@ const REPLIES: [&[u8]; 17] = [
     b">> cscope: 6 lines\n!_TAG_FILE_FORMAT\t2\t/extended format; --format=1 will not append ;\" to lines/\n!_TAG_FILE_SORTED\t1\t/0=unsorted, 1=sorted, 2=foldcase/\nTWICE\ta.c\t/^#define TWICE(x) ((x) + add(x, 0))$/;\"\td\tline:2\nadd\ta.c\t/^static int add(int a, int b) {$/;\"\tf\tline:4\tfile:\nmain\ta.c\t/^int main(void) {$/;\"\tf\tline:7\nword\ta.c\t/^typedef unsigned long word;$/;\"\tt\tline:3\n",
     b">> ",
 ];
-
-/// The parts one after the other.
-fn joined(alloc: Global, parts: &[&[u8]]) -> Result<Vec<u8>, AllocError> {
-    let mut whole = Vec::new(alloc);
-    for part in parts {
-        whole.extend_from_slice(part)?;
-    }
-    Ok(whole)
-}
 
 /// A run into a writer that takes so many bytes has written these bytes of the output, and fails if
 /// there are more.
@@ -169,9 +160,7 @@ fn load_query_undo_with_the_input_cut_at_each_byte(rt: HostRuntime) {
     for (lengths, output, end) in cases {
         for length in lengths {
             let cut = &SHORT_INPUT[..SHORT_INPUT.len().min(length)];
-            let (written, ended) = run(rt.alloc(), &WIDE, cut);
-            assert_eq!(rt; written.as_slice(), output);
-            assert_eq!(rt; ended, end);
+            writes(&rt, rt.alloc(), &WIDE, cut, output, end);
         }
     }
 }
