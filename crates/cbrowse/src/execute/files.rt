@@ -6,7 +6,7 @@ use crate::execute::finish::Finish;
 use cb_session::{Ended, Fault, Operand, Operands};
 use std::alloc::{AllocError, Global};
 use std::fs::{self, OpenFile};
-use std::io::{self, BufWriter, ErrorKind, Read};
+use std::io::{self, BufWriter, ErrorKind, Read, Write};
 use std::rt::Files;
 
 /// One more than the most bytes of a file, so that a larger one is seen to be too large.
@@ -87,12 +87,35 @@ pub(crate) fn read_operands<R: Files + AllocGlobal>(
     Ok(operands)
 }
 
+/// A tags file. It is made or emptied once the memory of its writer is there, so that an old one
+/// survives where that is refused.
+#[derive(Drop)]
+pub(crate) struct TagsFile<F: Write> {
+    file: Option<F>,
+}
+
+impl<F: Write> Write for TagsFile<F> {
+    fn write(&mut self, buf: &[u8]) -> io::Result<usize> {
+        match &mut self.file {
+            Some(file) => file.write(buf),
+            None => Err(io::Error::from(ErrorKind::NotFound)),
+        }
+    }
+
+    fn flush(&mut self) -> io::Result<()> {
+        match &mut self.file {
+            Some(file) => file.flush(),
+            None => Err(io::Error::from(ErrorKind::NotFound)),
+        }
+    }
+}
+
 /// Makes or empties a tags file.
 pub(crate) fn make_file<R: Files + AllocGlobal>(
     rt: &R,
     folder: &str,
     name: &str,
-) -> Result<BufWriter<R::File>, Finish>
+) -> Result<BufWriter<TagsFile<R::File>>, Finish>
     ensures { IfErr result EndsIntoFile }
 {
     match open_new(rt, folder, name) {
@@ -106,8 +129,9 @@ fn open_new<R: Files + AllocGlobal>(
     rt: &R,
     folder: &str,
     name: &str,
-) -> io::Result<BufWriter<R::File>> {
+) -> io::Result<BufWriter<TagsFile<R::File>>> {
     let path = path_of(rt.alloc(), folder, name)?;
-    let file = fs::create(rt, path.as_str())?;
-    Ok(BufWriter::new(rt.alloc(), file)?)
+    let mut writer = BufWriter::new(rt.alloc(), TagsFile { file: None })?;
+    writer.get_mut().file = Some(fs::create(rt, path.as_str())?);
+    Ok(writer)
 }
