@@ -13,7 +13,7 @@ mod tags;
 use crate::{Ended, Fault, Feed, Limits, Session, put_row};
 use cb_desk::RefRow;
 use cb_tags::Sink;
-use std::alloc::Global;
+use std::alloc::{AllocError, Global};
 use std::process::Abort;
 use std::test::Fail;
 
@@ -57,6 +57,35 @@ fn writes(
     let (written, ended) = run(alloc, limits, input);
     assert_eq!(rt; written.as_slice(), output);
     assert_eq!(rt; ended, end);
+}
+
+/// The parts one after the other.
+fn joined(alloc: Global, parts: &[&[u8]]) -> Result<Vec<u8>, AllocError> {
+    let mut whole = Vec::new(alloc);
+    for part in parts {
+        whole.extend_from_slice(part)?;
+    }
+    Ok(whole)
+}
+
+/// A run over the joined parts of an input writes the joined parts of an output, and is done.
+fn writes_parts(
+    rt: &impl Abort,
+    alloc: Global,
+    input: &[&[u8]],
+    output: &[&[u8]],
+) -> Result<(), AllocError> {
+    let input = joined(alloc, input)?;
+    let output = joined(alloc, output)?;
+    writes(
+        rt,
+        alloc,
+        &WIDE,
+        input.as_slice(),
+        output.as_slice(),
+        Ended::Done,
+    );
+    Ok(())
 }
 
 /// A text of so many bytes `a`, and then another.

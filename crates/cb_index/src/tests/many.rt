@@ -99,13 +99,6 @@ pub(super) fn turn(shelf: &mut Shelf, file: Shown) -> Result<(), Fail> {
     show(shelf, file.name, file.version)
 }
 
-/// A shelf that keeps all files and shows none, and the files by their names.
-fn filled_shelf(alloc: Global) -> Result<(Shelf, Vec<Shown>), Fail> {
-    let mut shelf = Shelf::new(alloc);
-    let files = keep_files(alloc, &mut shelf)?;
-    Ok((shelf, files))
-}
-
 /// Shows or hides each of these files, and then many of them at random.
 fn turn_many(rt: &impl Abort, shelf: &mut Shelf, files: &[Shown]) -> Result<(), Fail> {
     for file in files {
@@ -124,10 +117,15 @@ fn turn_many(rt: &impl Abort, shelf: &mut Shelf, files: &[Shown]) -> Result<(), 
     Ok(())
 }
 
+fn turn_files(rt: &impl Abort, alloc: Global, shelf: &mut Shelf) -> Result<(), Fail> {
+    let files = keep_files(alloc, shelf)?;
+    turn_many(rt, shelf, files.as_slice())
+}
+
 #[test]
 fn files_come_and_go_in_many_blocks(rt: HostRuntime) -> Result<(), Fail> {
-    let (mut shelf, files) = filled_shelf(rt.alloc())?;
-    turn_many(&rt, &mut shelf, files.as_slice())
+    let mut shelf = Shelf::new(rt.alloc());
+    turn_files(&rt, rt.alloc(), &mut shelf)
 }
 
 /// Hides a few files together, and shows them again one after another.
@@ -155,8 +153,13 @@ fn turn_at_three_places(rt: &impl Abort, shelf: &mut Shelf, files: &[Shown]) -> 
     Ok(())
 }
 
+fn turn_few_files(rt: &impl Abort, alloc: Global, shelf: &mut Shelf) -> Result<(), Fail> {
+    let files = keep_files(alloc, shelf)?;
+    turn_at_three_places(rt, shelf, files.as_slice())
+}
+
 #[test]
 fn few_files_come_and_go_beside_many(rt: HostRuntime) -> Result<(), Fail> {
-    let (mut shelf, files) = filled_shelf(rt.alloc())?;
-    turn_at_three_places(&rt, &mut shelf, files.as_slice())
+    let mut shelf = Shelf::new(rt.alloc());
+    turn_few_files(&rt, rt.alloc(), &mut shelf)
 }

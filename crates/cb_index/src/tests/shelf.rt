@@ -5,6 +5,7 @@ use super::shelves::{
 use crate::entry::Shown;
 use crate::names::are_rising;
 use crate::shelf::Shelf;
+use crate::totals::Totals;
 use std::alloc::Global;
 use std::process::Abort;
 use std::test::Fail;
@@ -53,6 +54,29 @@ fn show_and_hide_one_file(rt: &impl Abort, alloc: Global, shelf: &mut Shelf) -> 
     has_tags(rt, shelf.tags(), &[])?;
     assert_eq!(rt; shelf.turns(), 2);
     Ok(())
+}
+
+/// Whether so many definitions, uses and calls are shown.
+fn has_totals(shelf: &Shelf, defs: u64, uses: u64, calls: u64) -> bool {
+    shelf.totals() == Totals { defs, uses, calls }
+}
+
+fn count_what_is_shown(rt: &impl Abort, alloc: Global, shelf: &mut Shelf) -> Result<(), Fail> {
+    show_in_turn(alloc, shelf, &[one(0, 0)])?;
+    assert!(rt; has_totals(shelf, 4, 14, 3));
+    show_all(shelf, &[one(1, 1)])?;
+    assert!(rt; has_totals(shelf, 5, 15, 3));
+    shelf.hide(0);
+    assert!(rt; has_totals(shelf, 1, 1, 0));
+    hide_all(shelf, &[one(1, 1)])?;
+    assert!(rt; has_totals(shelf, 0, 0, 0));
+    Ok(())
+}
+
+#[test]
+fn what_is_shown_is_counted(rt: HostRuntime) -> Result<(), Fail> {
+    let mut shelf = Shelf::new(rt.alloc());
+    count_what_is_shown(&rt, rt.alloc(), &mut shelf)
 }
 
 #[test]

@@ -1,4 +1,4 @@
-use Rattle.std.proofs.Common.{rules, ◌≡◌, ◌≤◌, ◌<◌, ◌+◌, ◌∙◌, ◌++◌, ◌∷◌, [], List, zero, suc, ap, sym, subst, refl, length, get_or, arith}
+use Rattle.std.proofs.Common.{rules, ◌≡◌, ◌≤◌, ◌<◌, ◌∙◌, ◌++◌, ◌∷◌, [], List, ap, sym, subst, refl, length, get_or, arith}
 use Rattle.cb_scan.specs.Order.{in_order}
 use Rattle.cb_index.specs.Files.{AreApart, shown_name}
 use Rattle.cb_index.specs.declared.entry.Shown.{Shown}
