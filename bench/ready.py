@@ -50,7 +50,7 @@ def ready(cbrowse, names, folder, out):
     beside = []
     if installed("cscope", "-V", "version"):
         (folder / "cscope.list").write_text("\n".join(names) + "\n")
-        cscope = ["cscope", "-b", "-i", "cscope.list", "-f", str(out / "cscope.out")]
+        cscope = ["cscope", "-b", "-u", "-i", "cscope.list", "-f", str(out / "cscope.out")]
         beside = [("cscope -b", best(cscope, folder)), ("cscope -b -q", best(cscope + ["-q"], folder))]
     put("ready", best([cbrowse, "line", "--"] + names, folder), beside)
 
@@ -77,7 +77,7 @@ def question(cbrowse, names, folder, out):
     name = lines[len(lines) // 2].split(b"\t")[0].decode()
     beside = []
     if shutil.which("cscope"):
-        build = ["cscope", "-b", "-i", "cscope.list", "-f", str(out / "again.out")]
+        build = ["cscope", "-b", "-u", "-i", "cscope.list", "-f", str(out / "again.out")]
         ask = ["cscope", "-d", "-L", "-1", name, "-f", str(out / "again.out")]
         beside = [("cscope -b and a query", best(build, folder) + best(ask, folder))]
     put(f"find 1 {name}", best([cbrowse, "find", "1", name, "--"] + names, folder), beside)

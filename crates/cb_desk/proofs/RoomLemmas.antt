@@ -1,17 +1,21 @@
 -- There is room for the world that a plan leads to.
-use Rattle.std.proofs.Common.{◌≡◌, ◌∙◌, ◌≤◌, ◌+◌, ℕ, List, [], ◌∷◌, ◌++◌, refl, length, filter, not, cond, arith, true, false, length-append, Bool}
+use Rattle.std.proofs.Common.{◌≡◌, ◌∙◌, ◌≤◌, ◌<◌, ◌+◌, ℕ, take, List, [], ◌∷◌, ◌++◌, refl, length, filter, not, cond, arith, true, false, length-append, Bool}
 use Rattle.std.specs.Prelude.{Err, Ok, OnOk, Option, Result, slice_get}
+use Rattle.cb_scan.proofs.FunctionsRise.{all_implied}
 use Rattle.cb_index.specs.Archived.{Archived}
 use Rattle.cb_index.specs.Files.{call_count, def_count, shown_name, total, use_count}
 use Rattle.cb_index.specs.Names.{is_among, names_of}
+use Rattle.cb_index.specs.Shelved.{AreTotals}
 use Rattle.cb_index.specs.declared.entry.Shown.{Shown}
 use Rattle.cb_index.specs.declared.room.Room.{Room}
+use Rattle.cb_index.specs.declared.totals.Totals.{Totals}
 use Rattle.cb_index.proofs.InOrderLemmas.{length_in_order}
+use Rattle.cb_index.proofs.KeptLemmas.{length_front}
+use Rattle.cb_index.proofs.TotalLemmas.{same_total, total_append, total_filter, total_front, total_in_order, total_more}
 use Rattle.cb_desk.specs.steps.Plans.{HasRoomFor, Keeps, Planned}
-use Rattle.cb_desk.specs.steps.Records.{Kept, Rooms, other, without}
+use Rattle.cb_desk.specs.steps.Records.{AreThere, Kept, Rooms, other, without}
 use Rattle.cb_desk.specs.steps.Room.{IsRoomFor, texts_with, with_texts}
 use Rattle.cb_desk.proofs.PlacePlans.{edited_length}
-use Rattle.cb_desk.proofs.TurnLemmas.{total_append, total_in_order}
 
 -- ---- what is left when some are hidden
 module _ (q : Shown → Bool) where
@@ -22,17 +26,36 @@ module _ (q : Shown → Bool) where
       elim (q s) as (λ b. length (cond b (s ∷ filter q ss) (filter q ss)) ≤ length (s ∷ ss))
       [ true ↦ omega (arith, later) | false ↦ omega (arith, later) ]
 
-  less_left : (count : Option (List ℕ) → ℕ) (a : Archived) (ss : List Shown) → total count a (filter q ss) ≤ total count a ss
-  less_left count a [] = omega arith
-  less_left count a (s ∷ ss) =
-      let later = less_left count a ss in
-      elim (q s) as (λ b. total count a (cond b (s ∷ filter q ss) (filter q ss)) ≤ total count a (s ∷ ss))
-      [ true ↦ omega (arith, later) | false ↦ omega (arith, later) ]
+-- what is shown has as many facts among the texts that the present world and a plan use
+pub shown_total : (count : Option (List ℕ) → ℕ) (k : Kept) (p : Planned) → AreThere k.archive k.now
+    → total count k.archive k.now.shown ≡ total count (with_texts (texts_with k p)) k.now.shown
+shown_total count k p there =
+    let front : Archived = with_texts (take k.now.versions k.archive.texts) in
+    total_front count k.archive front k.now.versions refl k.now.shown
+    (all_implied (λ (s : Shown). (s.name < k.now.names) × (s.version < k.now.versions)) (λ (s : Shown). s.version < k.now.versions)
+    (λ s at. at.1) k.now.shown there.shown)
+    ∙ total_more count front (with_texts (texts_with k p)) p.texts refl k.now.shown
+    (all_implied (λ (s : Shown). (s.name < k.now.names) × (s.version < k.now.versions)) (λ (s : Shown). s.version < length front.texts)
+    (λ s at. length_front k.now.versions k.archive.texts s.version at.1 (let some = there.versions in omega (arith, at.1, some)))
+    k.now.shown there.shown)
 
--- only the texts of an archive are counted
-same_total : (count : Option (List ℕ) → ℕ) (a b : Archived) → a.texts ≡ b.texts → (ss : List Shown) → total count a ss ≡ total count b ss
-same_total count a b texts [] = refl
-same_total count a b texts (s ∷ ss) = λ i. count (slice_get (texts i) s.version) + same_total count a b texts ss i
+-- the room that is asked for where the totals of what is shown are known
+pub room_asked : (k : Kept) (p : Planned) (r : Room) (now : Totals) → AreThere k.archive k.now
+    → AreTotals k.archive k.now.shown now
+    → r.names ≡ k.now.names + length p.names → r.versions ≡ k.now.versions + length p.texts
+    → r.entries ≡ length k.now.shown + length p.turn.shows
+    → r.defs ≡ now.defs + total def_count (with_texts (texts_with k p)) p.turn.shows
+    → r.uses ≡ now.uses + total use_count (with_texts (texts_with k p)) p.turn.shows
+    → r.calls ≡ now.calls + total call_count (with_texts (texts_with k p)) p.turn.shows
+    → IsRoomFor k p r
+room_asked k p r now there are names versions entries defs uses calls = record {
+  names = names;
+  versions = versions;
+  entries = entries;
+  defs = let e = are.defs ∙ shown_total def_count k p there in omega (arith, defs, e);
+  uses = let e = are.uses ∙ shown_total use_count k p there in omega (arith, uses, e);
+  calls = let e = are.calls ∙ shown_total call_count k p there in omega (arith, calls, e);
+}
 
 -- ---- room as a plan asks for it
 module _ (k : Kept) (p : Planned) (a : Archived) (keeps : Keeps k.archive k.now p a) where
@@ -42,7 +65,7 @@ module _ (k : Kept) (p : Planned) (a : Archived) (keeps : Keeps k.archive k.now 
   counted_then count room some =
       let left = without p.turn.hides k.now.shown in
       let all = total_in_order count a (shown_name a) (left ++ p.turn.shows) ∙ total_append count a left p.turn.shows in
-      let fewer = less_left (λ (s : Shown). not (is_among (names_of p.turn.hides) s.name)) count a k.now.shown in
+      let fewer = total_filter count a (λ (s : Shown). not (is_among (names_of p.turn.hides) s.name)) k.now.shown in
       let now = same_total count a (with_texts (texts_with k p)) keeps.texts k.now.shown in
       let more = same_total count a (with_texts (texts_with k p)) keeps.texts p.turn.shows in
       omega (arith, all, fewer, now, more, some)

@@ -11,6 +11,7 @@ use Rattle.cb_index.specs.Shelved.{CanShowAll, Shelved}
 use Rattle.cb_index.specs.declared.entry.Shown.{Shown}
 use Rattle.cb_index.proofs.InOrderLemmas.{length_in_order}
 use Rattle.cb_index.proofs.ListedLemmas.{other_turned}
+use Rattle.cb_index.proofs.TotalLemmas.{total_both}
 use Rattle.cb_desk.specs.steps.Records.{AreThere, Fits, IsFew, IsTurn, Kept, Numbered, Rooms, Turn, hidden, other, without}
 
 -- ---- what holds of a list in order
@@ -30,29 +31,6 @@ module _ {X : Type 0} (key : X → List ℕ) (P : X → Type 0) where
 pub all_parts : {X : Type 0} (P : X → Type 0) (xs ys : List X) → AllByRecursion P (xs ++ ys) → AllByRecursion P xs × AllByRecursion P ys
 all_parts P [] ys all = (tt, all)
 all_parts P (x ∷ xs) ys all = let later = all_parts P xs ys all.1 in ((all.0, later.0), later.1)
-
--- ---- how many facts are shown
-module _ (count : Option (List ℕ) → ℕ) (a : Archived) where
-  pub total_append : (xs ys : List Shown) → total count a (xs ++ ys) ≡ total count a xs + total count a ys
-  total_append [] ys = let e : 0 + total count a ys ≡ total count a ys = omega arith in sym e
-  total_append (s ∷ xs) ys = let e = total_append xs ys in omega (arith, e)
-
-  total_put : (key : Shown → List ℕ) (s : Shown) (ys : List Shown)
-      → total count a (put key s ys) ≡ count (slice_get a.texts s.version) + total count a ys
-  unfolding put
-  total_put key s [] = refl
-  total_put key s (t ∷ ys) =
-      elim (goes_first key s t) as (λ b. total count a (cond b (s ∷ t ∷ ys) (t ∷ put key s ys)) ≡ count (slice_get a.texts s.version) + total count a (t ∷ ys))
-      [ true ↦ refl | false ↦ let e = total_put key s ys in omega (arith, e) ]
-
-  pub total_in_order : (key : Shown → List ℕ) (xs : List Shown) → total count a (in_order key xs) ≡ total count a xs
-  unfolding in_order
-  total_in_order key [] = refl
-  total_in_order key (s ∷ xs) = total_put key s (in_order key xs) ∙ ap (λ n. count (slice_get a.texts s.version) + n) (total_in_order key xs)
-
-  pub total_both : (key : Shown → List ℕ) (xs ys : List Shown) (room : ℕ) → total count a (in_order key (xs ++ ys)) ≤ room
-      → total count a xs + total count a ys ≤ room
-  total_both key xs ys room fits = let e = total_in_order key (xs ++ ys) ∙ total_append xs ys in omega (arith, e, fits)
 
 -- ---- names that are apart
 module _ (a : Archived) where

@@ -31,7 +31,7 @@ use crate::place_list::PlaceList;
 use crate::plan::Plan;
 use crate::record::Record;
 use cb_index::{Room, Shelf, Shown, Version};
-use counts::{Counts, with_versions};
+use counts::with_versions;
 use std::alloc::{AllocError, Global};
 use std::marker::Model;
 use std::mem;
@@ -201,12 +201,7 @@ impl Present {
         let shown = self.shelf.shown();
         let shows = plan.record.shows.as_slice();
         let news = plan.versions.as_slice();
-        let none = Counts {
-            defs: 0,
-            uses: 0,
-            calls: 0,
-        };
-        let now = with_versions(archive, self.versions, news, shown, none)?;
+        let now = self.shelf.totals();
         let all = with_versions(archive, self.versions, news, shows, now)?;
         Some(Room {
             versions: sum(self.versions, plan.versions.len())?,

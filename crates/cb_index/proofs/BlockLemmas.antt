@@ -9,7 +9,7 @@ use Rattle.std.specs.List.Sorted.{IsPartitionPoint, IsPartitionedBy}
 use Rattle.cb_scan.proofs.WithinLemmas.{all-append}
 use Rattle.cb_index.specs.Blocks.{IsFilled, IsPlace, before, head_is, joined}
 use Rattle.cb_index.specs.declared.entry.Entry.{Entry}
-use Rattle.cb_index.proofs.SortedLemmas.{Parts, all_behind, all_right, all_upto, of_dropped, parts_ahead, parts_left, parts_places, parts_right}
+use Rattle.cb_index.proofs.SortedLemmas.{Parts, all_behind, all_upto, parts_left, parts_right}
 
 abbrev pub Lists : Type 0
 Lists = List (List Entry)

@@ -1,11 +1,11 @@
 -- The includes that are lent are those of the files.
 use Rattle.std.proofs.Common.{◌≡◌, List, [], ◌∷◌, ◌++◌, refl, map}
-use Rattle.std.specs.List.{AllByRecursion, flat_map}
+use Rattle.std.specs.List.{AllByRecursion}
 use Rattle.cb_scan.specs.declared.facts.Include.{Include}
 use Rattle.cb_scan.specs.Definitions.{IsScopeWithin, IsWithin, facts_of}
 use Rattle.cb_scan.proofs.FactsWithin.{facts_lie}
 use Rattle.cb_index.specs.Files.{File}
-use Rattle.cb_index.specs.Includes.{all_includes, file_includes, include_in}
+use Rattle.cb_index.specs.Includes.{all_includes, include_in}
 use Rattle.cb_index.specs.Shelved.{with_facts}
 use Rattle.cb_index.specs.steps.Includes.{include_at, includes_in}
 use Rattle.cb_index.proofs.FactLemmas.{scope_is}

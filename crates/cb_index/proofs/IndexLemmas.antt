@@ -5,7 +5,7 @@ use Rattle.std.proofs.lemmas.Bool.Decides.{Decides-eqb}
 use Rattle.std.proofs.lemmas.Cmp.{nat_cmp_total, nat_list_cmp_total, tied_itself}
 use Rattle.std.proofs.lemmas.List.Elements.{filter-append}
 use Rattle.std.proofs.lemmas.List.{length-append}
-use Rattle.std.proofs.lemmas.List.Sums.{sum_by-append}
+use Rattle.std.proofs.lemmas.List.Sums.{sum_by-append, sum_by-cons}
 use Rattle.std.proofs.lemmas.Option.{none-some}
 use Rattle.std.specs.Prelude.{cond, nat_eq, not, slice_get, sum_by, Option}
 use Rattle.std.specs.Cmp.{nat_cmp_is}
@@ -152,38 +152,29 @@ module _ (a : Archived) (name : ℕ) where
   shown_or d None = d
   shown_or d (Some s) = s
 
-  module _ (prefixer : Prefixer) (f : Entry → ℕ) where
-    size : Shown → ℕ
-    size s = sum_by f (entries_of prefixer a s)
-
-    -- the entries of what is shown under the name, and those of the others
-    out_sum : (shown : List Shown) (one : Shown) → shown_under name shown ≡ Some one → AreAscending a shown
-        → sum_by f (all_entries prefixer a shown)
-        ≡ sum_by f (entries_of prefixer a one) + sum_by f (all_entries prefixer a (filter (λ (s : Shown). not (nat_eq s.name name)) shown))
+  -- what is shown under the name, and the others
+  module _ (size : Shown → ℕ) where
+    pub out_sum : (shown : List Shown) (one : Shown) → shown_under name shown ≡ Some one → AreAscending a shown
+        → sum_by size shown ≡ size one + sum_by size (filter (λ (s : Shown). not (nat_eq s.name name)) shown)
     unfolding AreOrdered
     out_sum [] one is up = absurd (none-some one is)
     out_sum (s ∷ shown) one is up = by_test (nat_eq s.name name) refl (λ under. out_sum shown one under up.1)
       where
         by_test : (b : Bool) → nat_eq s.name name ≡ b
-            → (shown_under name shown ≡ Some one → sum_by f (all_entries prefixer a shown)
-            ≡ sum_by f (entries_of prefixer a one) + sum_by f (all_entries prefixer a (filter is_other shown)))
-            → sum_by f (all_entries prefixer a (s ∷ shown))
-            ≡ sum_by f (entries_of prefixer a one) + sum_by f (all_entries prefixer a (filter is_other (s ∷ shown)))
+            → (shown_under name shown ≡ Some one → sum_by size shown ≡ size one + sum_by size (filter is_other shown))
+            → sum_by size (s ∷ shown) ≡ size one + sum_by size (filter is_other (s ∷ shown))
         by_test true eq rest =
             let first : Some s ≡ Some one = sym (ap (λ b. cond b (Some s) (shown_under name shown)) eq) ∙ is in
             let same : s ≡ one = ap (shown_or s) first in
-            sum_by-append f (entries_of prefixer a s) (all_entries prefixer a shown)
-            ∙ (λ i. sum_by f (entries_of prefixer a (same i)) + sum_by f (all_entries prefixer a
-            (sym (later_stay s ((Decides-eqb s.name name).0 eq) shown up.0) i)))
-            ∙ ap (λ b. sum_by f (entries_of prefixer a one)
-            + sum_by f (all_entries prefixer a (cond (not b) (s ∷ filter is_other shown) (filter is_other shown)))) (sym eq)
+            sum_by-cons size s shown
+            ∙ (λ i. size (same i) + sum_by size (sym (later_stay s ((Decides-eqb s.name name).0 eq) shown up.0) i))
+            ∙ ap (λ b. size one + sum_by size (cond (not b) (s ∷ filter is_other shown) (filter is_other shown))) (sym eq)
         by_test false eq rest =
             let later = rest (sym (ap (λ b. cond b (Some s) (shown_under name shown)) eq) ∙ is) in
-            let whole = sum_by-append f (entries_of prefixer a s) (all_entries prefixer a shown) in
-            let kept = sum_by-append f (entries_of prefixer a s) (all_entries prefixer a (filter is_other shown)) in
-            let stays : sum_by f (all_entries prefixer a (filter is_other (s ∷ shown)))
-            ≡ sum_by f (all_entries prefixer a (s ∷ filter is_other shown)) =
-            ap (λ b. sum_by f (all_entries prefixer a (cond (not b) (s ∷ filter is_other shown) (filter is_other shown)))) eq in
+            let whole = sum_by-cons size s shown in
+            let kept = sum_by-cons size s (filter is_other shown) in
+            let stays : sum_by size (filter is_other (s ∷ shown)) ≡ sum_by size (s ∷ filter is_other shown) =
+            ap (λ b. sum_by size (cond (not b) (s ∷ filter is_other shown) (filter is_other shown))) eq in
             omega (arith, later, whole, kept, stays)
 
   -- an index has the entries of what is shown under the name, and those of the others
@@ -195,8 +186,12 @@ module _ (a : Archived) (name : ℕ) where
       is
       ∙ same_order (sort_key keyer a) (sort_exact keyer a) (all_entries prefixer a shown)
       (entries_of prefixer a one ++ all_entries prefixer a (filter (λ (s : Shown). not (nat_eq s.name name)) shown))
-      (λ f. out_sum prefixer f shown one under up
-      ∙ sym (sum_by-append f (entries_of prefixer a one) (all_entries prefixer a (filter is_other shown))))
+      (λ f.
+      let whole = sum_flat (entries_of prefixer a) f shown in
+      let left = sum_flat (entries_of prefixer a) f (filter is_other shown) in
+      let out = out_sum (λ s. sum_by f (entries_of prefixer a s)) shown one under up in
+      let both = sum_by-append f (entries_of prefixer a one) (all_entries prefixer a (filter is_other shown)) in
+      omega (arith, whole, left, out, both))
 
 -- ---- the archive changes elsewhere
 abbrev pub IsSame : Archived → Archived → Shown → Type 0

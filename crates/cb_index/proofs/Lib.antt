@@ -15,3 +15,4 @@ pub mod RowOrderLemmas
 pub mod RunLemmas
 pub mod SortedLemmas
 pub mod SpreadLemmas
+pub mod TotalLemmas

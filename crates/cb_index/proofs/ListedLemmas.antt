@@ -1,5 +1,5 @@
 -- The list of the versions that are shown.
-use Rattle.std.proofs.Common.{◌≡◌, ◌∙◌, ◌≤◌, ◌<◌, ◌+◌, ℕ, zero, suc, Bool, true, false, List, [], ◌∷◌, ◌++◌, refl, sym, ap, subst, length, get_or, cond, arith, ⊎_elim}
+use Rattle.std.proofs.Common.{◌≡◌, ◌∙◌, ◌≤◌, ◌<◌, ◌+◌, ℕ, zero, suc, Bool, true, false, List, [], ◌∷◌, ◌++◌, refl, sym, ap, append-nil, subst, length, get_or, cond, arith, ⊎_elim}
 use Rattle.std.proofs.lemmas.Bool.{and_parts, cases_Bool, true≢false, false≢true}
 use Rattle.std.proofs.lemmas.Bool.Decides.{nat_tests}
 use Rattle.std.proofs.lemmas.Cmp.{nat_list_cmp_total, tied_itself}
@@ -134,6 +134,19 @@ module _ (a : Archived) where
       → AreApart a (old ++ news)
   apart_both old news up apart none = apart_append old news (ascending_apart old up) apart (none_shown old news none)
 
+  still : (xs : List Shown) → Sorted (shown_name a) xs → in_order (shown_name a) xs ≡ xs
+  unfolding in_order AreOrdered put
+  still [] sorted = refl
+  still (x ∷ xs) sorted = ap (put (shown_name a) x) (still xs sorted.1) ∙ first_put x xs sorted.0
+    where
+      first_put : (x : Shown) (xs : List Shown) → AllByRecursion (λ y. goes_first (shown_name a) x y ≡ true) xs → put (shown_name a) x xs ≡ x ∷ xs
+      first_put x [] all = refl
+      first_put x (y ∷ ys) all = ap (λ b. cond b (x ∷ y ∷ ys) (y ∷ put (shown_name a) x ys)) all.0
+
+  -- none more leaves all as they are
+  pub none_more : (old : List Shown) → AreAscending a old → old ≡ in_order (shown_name a) (old ++ [])
+  none_more old up = sym (ap (in_order (shown_name a)) (append-nil old) ∙ still old (ascending_sorted a old up))
+
   -- one version more is in order where it is put
   module _ (old : List Shown) (s : Shown) (up : AreAscending a old) (apart : AreApart a (old ++ s ∷ [])) where
     from_last : (xs : List Shown) → AreApart a (xs ++ s ∷ []) → AllByRecursion (IsApart s) xs
@@ -155,15 +168,6 @@ module _ (a : Archived) where
         let one = sum_by-cons f s [] in
         let first = sum_by-cons f s old in
         omega (arith, both, one, first)
-
-    still : (xs : List Shown) → Sorted (shown_name a) xs → in_order (shown_name a) xs ≡ xs
-    unfolding in_order AreOrdered put
-    still [] sorted = refl
-    still (x ∷ xs) sorted = ap (put (shown_name a) x) (still xs sorted.1) ∙ first_put x xs sorted.0
-      where
-        first_put : (x : Shown) (xs : List Shown) → AllByRecursion (λ y. goes_first (shown_name a) x y ≡ true) xs → put (shown_name a) x xs ≡ x ∷ xs
-        first_put x [] all = refl
-        first_put x (y ∷ ys) all = ap (λ b. cond b (x ∷ y ∷ ys) (y ∷ put (shown_name a) x ys)) all.0
 
     pub put_last : put (shown_name a) s old ≡ in_order (shown_name a) (old ++ s ∷ [])
     unfolding in_order

@@ -5,7 +5,7 @@ use Rattle.std.proofs.lemmas.List.Sums.{sum_by-append, sum_by-cons, sum_by-take-
 use Rattle.std.specs.Prelude.{cond, sum_by}
 use Rattle.std.specs.List.{AllByRecursion, AllWithin}
 use Rattle.cb_scan.specs.Order.{goes_first, in_order, put}
-use Rattle.cb_scan.proofs.OrderLemmas.{Sorted, all_first, both_first, goes_itself, in_order_sorted, in_order_sum, other_first, unique}
+use Rattle.cb_scan.proofs.OrderLemmas.{Sorted, both_first, goes_itself, in_order_sorted, in_order_sum, other_first, unique}
 
 -- ---- from places to parts, and back
 module _ {X : Type 0} (P : X → Type 0) where

@@ -31,6 +31,7 @@ mod run;
 mod shelf;
 mod sorted;
 mod tags;
+mod totals;
 
 pub use archive::{Archive, Version};
 pub use entries::Entries;
@@ -48,6 +49,7 @@ pub use rows::{FactRow, FactSort};
 pub use shelf::Shelf;
 pub use sorted::Sorted;
 pub use tags::TagRows;
+pub use totals::Totals;
 
 #[cfg(test)]
 mod tests;

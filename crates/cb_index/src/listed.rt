@@ -86,7 +86,7 @@ fn sort_shown(archive: &Archive, shown: &mut [Shown])
     );
 }
 
-/// Puts versions among those that are shown, by file name: one at its place, more by one sort.
+/// Puts versions among those that are shown, by file name: none, one at its place, more by one sort.
 pub(crate) fn put_all_shown(archive: &Archive, news: &[Shown], shown: &mut Vec<Shown>)
     requires ascending { AreAscending archive.now shown.old.items }
     requires apart { AreApart archive.now (shown.old.items ++ news.now) }
@@ -95,6 +95,9 @@ pub(crate) fn put_all_shown(archive: &Archive, news: &[Shown], shown: &mut Vec<S
         ≡ in_order (shown_name archive.now) (shown.old.items ++ news.now) }
     ensures room { vec_capacity shown.old ≤ vec_capacity shown.new }
 {
+    if news.is_empty() {
+        return;
+    }
     if let [one] = news {
         put_shown(archive, *one, shown);
         return;

@@ -10,7 +10,7 @@ ghost use Rattle.cb_index.specs.Archived.{name_of};
 ghost use Rattle.cb_index.specs.Files.{AreAscending, IsThere, shown_name};
 ghost use Rattle.cb_index.specs.Names.{is_among, names_of};
 ghost use Rattle.cb_index.specs.Rows.{calls_in, calls_of, tags_by_name, tags_by_tag_name, tags_named, uses_of};
-ghost use Rattle.cb_index.specs.Shelved.{CanShow, CanShowAll, KeepsRoom, files, with_facts};
+ghost use Rattle.cb_index.specs.Shelved.{AreTotals, CanShow, CanShowAll, KeepsRoom, files, with_facts};
 ghost use Rattle.cb_index.specs.declared.entry.Shown.{Shown};
 ghost use Rattle.cb_index.specs.steps.Left.{entries_left, facts_left, tags_left};
 
@@ -29,6 +29,7 @@ use crate::room::Room;
 use crate::rows::FactSort;
 use crate::sorted::Sorted;
 use crate::tags::TagRows;
+use crate::totals::Totals;
 use std::alloc::Global;
 use std::cmp::Ordering;
 use std::marker::Model;
@@ -47,12 +48,13 @@ pub struct Shelf {
     uses: Sorted<UsesByName>,
     callees: Sorted<CallsByCallee>,
     callers: Sorted<CallsByCaller>,
+    totals: Totals,
     turns: u64,
 }
 
 impl Model for Shelf {
     ghost use Rattle.std.specs.Prelude.{min, vec_capacity};
-    ghost use Rattle.cb_index.specs.Shelved.{AreKept, Shelved};
+    ghost use Rattle.cb_index.specs.Shelved.{AreKept, AreTotals, Shelved};
 
     ghost Value = { Shelved };
 
@@ -67,7 +69,8 @@ impl Model for Shelf {
     } };
 
     ghost invariant = { λ s. AreKept s.archive s.shown.items s.defs.entries s.tags.entries
-        s.uses.entries s.callees.entries s.callers.entries };
+        s.uses.entries s.callees.entries s.callers.entries
+        × AreTotals s.archive s.shown.items s.totals };
 }
 
 impl Shelf {
@@ -86,6 +89,11 @@ impl Shelf {
             uses: Sorted::new(alloc),
             callees: Sorted::new(alloc),
             callers: Sorted::new(alloc),
+            totals: Totals {
+                defs: 0,
+                uses: 0,
+                calls: 0,
+            },
             turns: 0,
         }
     }
@@ -111,6 +119,13 @@ impl Shelf {
         ensures { result ≡ self.now.turns }
     {
         self.turns
+    }
+
+    /// How many facts of each kind all that is shown has.
+    pub fn totals(&self) -> Totals
+        ensures { AreTotals self.now.archive self.now.shown result }
+    {
+        self.totals
     }
 
     /// Makes room for so many of each in all. What is kept and shown stays, also where memory is
@@ -255,6 +270,8 @@ impl Shelf {
         ensures room { KeepsRoom self.old self.new }
     {
         let one = Shown { name, version };
+        let _rooms = (self.defs.room(), self.uses.room(), self.callees.room());
+        self.totals = self.totals.with(&self.archive, &[one]);
         put_shown(&self.archive, one, &mut self.shown);
         self.defs.put_all(&self.archive, one);
         self.tags.put_all(&self.archive, one);
@@ -274,6 +291,8 @@ impl Shelf {
         ensures turns { self.new.turns ≡ min (self.old.turns + length news.now) (2 ^ 64 - 1) }
         ensures room { KeepsRoom self.old self.new }
     {
+        let _rooms = (self.defs.room(), self.uses.room(), self.callees.room());
+        self.totals = self.totals.with(&self.archive, news);
         put_all_shown(&self.archive, news, &mut self.shown);
         self.defs.put_each(&self.archive, news);
         self.tags.put_each(&self.archive, news);
@@ -301,6 +320,7 @@ impl Shelf {
                 ensures { result ≡ not (nat_eq s.now.name name) }
             { s.name != name },
         );
+        self.totals = self.totals.without(&self.archive, one.version);
         self.defs.take_all(&self.archive, one);
         self.tags.take_all(&self.archive, one);
         self.uses.take_all(&self.archive, one);
@@ -343,6 +363,7 @@ impl Shelf {
                 ensures { result ≡ not (is_among (names_of hidden.entry.files.now) s.now.name) }
             { !hidden.has(s.name) },
         );
+        self.totals = self.totals.of_fewer(&self.archive, self.shown.as_slice());
         self.defs.take_names(files);
         self.tags.take_names(files);
         self.uses.take_names(files);

@@ -5,7 +5,7 @@ use Rattle.cb_index.specs.Archived.{Archived}
 use Rattle.cb_index.specs.Files.{call_count, def_count, total, use_count}
 use Rattle.cb_index.specs.declared.entry.Shown.{Shown}
 use Rattle.cb_index.specs.declared.room.Room.{Room}
-use Rattle.cb_desk.specs.declared.present.counts.Counts.{Counts}
+use Rattle.cb_index.specs.declared.totals.Totals.{Totals}
 use Rattle.cb_desk.specs.steps.Plans.{Planned}
 use Rattle.cb_desk.specs.steps.Records.{Kept}
 
@@ -13,14 +13,14 @@ use Rattle.cb_desk.specs.steps.Records.{Kept}
 abbrev pub with_texts : List (List ℕ) → Archived
 with_texts texts = record { names = []; texts = texts; name_room = 0; version_room = 0 }
 
--- counts with the facts of one version more
-pub record AreMore (facts : TextFacts) (before after : Counts) : Type 0 where
+-- totals with the facts of one version more
+pub record AreMore (facts : TextFacts) (before after : Totals) : Type 0 where
   pub defs : after.defs ≡ before.defs + length facts.defs
   pub uses : after.uses ≡ before.uses + length facts.uses
   pub calls : after.calls ≡ before.calls + length facts.calls
 
--- counts with the facts of some of these texts more
-pub record AreCounted (texts : List (List ℕ)) (shown : List Shown) (before after : Counts) : Type 0 where
+-- totals with the facts of some of these texts more
+pub record AreCounted (texts : List (List ℕ)) (shown : List Shown) (before after : Totals) : Type 0 where
   pub defs : after.defs ≡ before.defs + total def_count (with_texts texts) shown
   pub uses : after.uses ≡ before.uses + total use_count (with_texts texts) shown
   pub calls : after.calls ≡ before.calls + total call_count (with_texts texts) shown

@@ -4,16 +4,8 @@ ghost use Rattle.std.specs.Option.{option_copied, option_map};
 ghost use Rattle.cb_scan.specs.Definitions.{facts_of};
 ghost use Rattle.cb_desk.specs.steps.Room.{AreCounted, AreMore};
 
-use cb_index::{Archive, Shown, Version};
+use cb_index::{Archive, Shown, Totals, Version};
 use cb_scan::Facts;
-
-/// So many definitions, uses and calls.
-#[derive(Clone, Copy, Debug)]
-pub(crate) struct Counts {
-    pub(crate) defs: u64,
-    pub(crate) uses: u64,
-    pub(crate) calls: u64,
-}
 
 /// The facts of a version: one of the first that are kept, so many, or one that is new.
 fn facts_at<'a>(
@@ -32,34 +24,34 @@ fn facts_at<'a>(
     Some(new.facts())
 }
 
-/// The counts with facts added, if they are numbers.
-fn with_facts(counts: Counts, facts: &Facts) -> Option<Counts>
-    ensures { MatchOption result ⊤ (AreMore facts.now counts) }
+/// The totals with facts added, if they are numbers.
+fn with_facts(totals: Totals, facts: &Facts) -> Option<Totals>
+    ensures { MatchOption result ⊤ (AreMore facts.now totals) }
 {
-    Some(Counts {
-        defs: counts.defs.checked_add(facts.defs().len() as u64)?,
-        uses: counts.uses.checked_add(facts.uses().len() as u64)?,
-        calls: counts.calls.checked_add(facts.calls().len() as u64)?,
+    Some(Totals {
+        defs: totals.defs.checked_add(facts.defs().len() as u64)?,
+        uses: totals.uses.checked_add(facts.uses().len() as u64)?,
+        calls: totals.calls.checked_add(facts.calls().len() as u64)?,
     })
 }
 
-/// The counts with the facts of versions added, if they are numbers. A version is one of the first
+/// The totals with the facts of versions added, if they are numbers. A version is one of the first
 /// that are kept, so many, or one that is new.
 pub(crate) fn with_versions(
     archive: &Archive,
     kept: u32,
     news: &[Version],
     shown: &[Shown],
-    before: Counts,
-) -> Option<Counts>
+    before: Totals,
+) -> Option<Totals>
     requires { kept ≤ length archive.now.texts }
     ensures { MatchOption result ⊤ (AreCounted (take kept archive.now.texts ++ news.now) shown.now before) }
 {
-    let mut counts = before;
+    let mut totals = before;
     for s in shown {
         if let Some(facts) = facts_at(archive, kept, news, s.version) {
-            counts = with_facts(counts, facts)?;
+            totals = with_facts(totals, facts)?;
         }
     }
-    Some(counts)
+    Some(totals)
 }

@@ -1,6 +1,6 @@
 //! Tests in which memory may be refused, each growth in turn, one a run. For each call that takes
 //! memory, `refused_growth_of_CALL` passes in each run, and `no_refusal_of_CALL` only in a run that
-//! refuses nothing. The worked runs among them are in `refused`.
+//! refuses nothing.
 use super::marks::marked_files;
 use super::moves::{has_frames, two_files};
 use super::{load_text_or_refused, shows};
@@ -14,12 +14,17 @@ pub(crate) fn begin(alloc: Global) {
     let _ = Vec::<u8>::with_capacity(alloc, 70_001);
 }
 
+/// Pushes a frame, and takes a load back.
+fn give_a_future(desk: &mut Desk, alloc: Global) -> Result<(), Refusal> {
+    desk.change(alloc, Change::Tag(b"add", 1))?;
+    load_text_or_refused(desk, alloc, b"b.c", b"")?;
+    desk.undo()
+}
+
 /// Two files, a frame, and a future: a load that was taken back.
 fn with_a_future(alloc: Global) -> Result<Desk, Refusal> {
     let mut desk = two_files(alloc)?;
-    desk.change(alloc, Change::Tag(b"add", 1))?;
-    load_text_or_refused(&mut desk, alloc, b"b.c", b"")?;
-    desk.undo()?;
+    give_a_future(&mut desk, alloc)?;
     Ok(desk)
 }
 
@@ -37,25 +42,34 @@ fn is_as_before(desk: &mut Desk) -> bool {
 
 /// Makes a change. Where memory refuses it, nothing has moved, and then it is done. Whether memory
 /// was refused.
+fn is_refused(
+    rt: &impl Abort,
+    alloc: Global,
+    desk: &mut Desk,
+    first: Change<'_>,
+    again: Change<'_>,
+) -> bool {
+    begin(alloc);
+    let Err(refusal) = desk.change(alloc, first) else {
+        return false;
+    };
+    assert!(rt; refusal == Refusal::OutOfMemory);
+    assert!(rt; is_as_before(desk));
+    assert!(rt; desk.change(alloc, again) == Ok(()));
+    assert!(rt; desk.redo() == Err(Refusal::NothingToRedo));
+    true
+}
+
+/// The same, with two files and a future.
 fn change_meets_a_refusal(
     rt: &impl Abort,
     alloc: Global,
     first: Change<'_>,
     again: Change<'_>,
 ) -> bool {
-    let Ok(mut desk) = with_a_future(alloc) else {
-        return true;
-    };
-    begin(alloc);
-    match desk.change(alloc, first) {
-        Ok(()) => false,
-        Err(refusal) => {
-            assert!(rt; refusal == Refusal::OutOfMemory);
-            assert!(rt; is_as_before(&mut desk));
-            assert!(rt; desk.change(alloc, again) == Ok(()));
-            assert!(rt; desk.redo() == Err(Refusal::NothingToRedo));
-            true
-        }
+    match with_a_future(alloc) {
+        Ok(mut desk) => is_refused(rt, alloc, &mut desk, first, again),
+        Err(_) => true,
     }
 }
 
@@ -72,20 +86,24 @@ fn load_meets_a_refusal(rt: &impl Abort, alloc: Global) -> bool {
     )
 }
 
-/// Scans all files again. Where memory refuses it, nothing has moved, and then it is done.
-fn rebuild_meets_a_refusal(rt: &impl Abort, alloc: Global) -> bool {
-    let Ok(mut desk) = with_a_future(alloc) else {
-        return true;
-    };
+/// Scans all files again. Where memory refuses it, nothing has moved, and then it is done. Whether
+/// memory was refused.
+fn rebuild_is_refused(rt: &impl Abort, alloc: Global, desk: &mut Desk) -> bool {
     begin(alloc);
-    match desk.rebuild(alloc) {
-        Ok(()) => false,
-        Err(refusal) => {
-            assert!(rt; refusal == Refusal::OutOfMemory);
-            assert!(rt; is_as_before(&mut desk));
-            assert!(rt; desk.rebuild(alloc) == Ok(()));
-            true
-        }
+    let Err(refusal) = desk.rebuild(alloc) else {
+        return false;
+    };
+    assert!(rt; refusal == Refusal::OutOfMemory);
+    assert!(rt; is_as_before(desk));
+    assert!(rt; desk.rebuild(alloc) == Ok(()));
+    true
+}
+
+/// The same, with two files and a future.
+fn rebuild_meets_a_refusal(rt: &impl Abort, alloc: Global) -> bool {
+    match with_a_future(alloc) {
+        Ok(mut desk) => rebuild_is_refused(rt, alloc, &mut desk),
+        Err(_) => true,
     }
 }
 
@@ -110,43 +128,63 @@ fn pop_meets_a_refusal(rt: &impl Abort, alloc: Global) -> bool {
     change_meets_a_refusal(rt, alloc, Change::Pop, Change::Pop)
 }
 
-/// Marked files with a future; whatever is refused, the marks stay, and redo goes on. Once the change
-/// is done, undo gives the marks back.
+/// Makes a change of marked files. Where memory refuses it, the marks stay, redo goes on, and then it
+/// is done. Whether memory was refused.
+fn marked_is_refused(
+    rt: &impl Abort,
+    alloc: Global,
+    desk: &mut Desk,
+    first: Change<'_>,
+    again: Change<'_>,
+) -> bool {
+    begin(alloc);
+    let Err(refusal) = desk.change(alloc, first) else {
+        assert!(rt; desk.redo() == Err(Refusal::NothingToRedo));
+        return false;
+    };
+    assert!(rt; refusal == Refusal::OutOfMemory);
+    assert_eq!(rt; desk.marks().len(), 3);
+    assert!(rt; desk.redo() == Ok(()));
+    assert!(rt; desk.undo() == Ok(()));
+    assert!(rt; desk.change(alloc, again) == Ok(()));
+    true
+}
+
+/// Undo gives the marks back, and redo goes on.
+fn marks_come_back(rt: &impl Abort, desk: &mut Desk) {
+    assert!(rt; desk.undo() == Ok(()));
+    assert_eq!(rt; desk.marks().len(), 3);
+    assert!(rt; desk.redo() == Ok(()));
+}
+
+/// Marked files with a future; whatever is refused, the change can be done, and undo gives the marks
+/// back. Whether memory was refused.
 fn marked_change_meets_a_refusal(
     rt: &impl Abort,
     alloc: Global,
     first: Change<'_>,
     again: Change<'_>,
 ) -> bool {
-    let Ok(mut desk) = marked_with_a_future(alloc) else {
-        return true;
-    };
-    begin(alloc);
-    let refused = match desk.change(alloc, first) {
-        Ok(()) => {
-            assert!(rt; desk.redo() == Err(Refusal::NothingToRedo));
-            false
+    match marked_with_a_future(alloc) {
+        Ok(mut desk) => {
+            let refused = marked_is_refused(rt, alloc, &mut desk, first, again);
+            marks_come_back(rt, &mut desk);
+            refused
         }
-        Err(refusal) => {
-            assert!(rt; refusal == Refusal::OutOfMemory);
-            assert_eq!(rt; desk.marks().len(), 3);
-            assert!(rt; desk.redo() == Ok(()));
-            assert!(rt; desk.undo() == Ok(()));
-            assert!(rt; desk.change(alloc, again) == Ok(()));
-            true
-        }
-    };
-    assert!(rt; desk.undo() == Ok(()));
-    assert_eq!(rt; desk.marks().len(), 3);
-    assert!(rt; desk.redo() == Ok(()));
-    refused
+        Err(_) => true,
+    }
+}
+
+/// Drops a file, and takes that back.
+fn drop_and_undo(desk: &mut Desk, alloc: Global) -> Result<(), Refusal> {
+    desk.change(alloc, Change::Unload(b"m.c"))?;
+    desk.undo()
 }
 
 /// Marked files, and a drop that was taken back.
 pub(crate) fn marked_with_a_future(alloc: Global) -> Result<Desk, Refusal> {
     let mut desk = marked_files(alloc)?;
-    desk.change(alloc, Change::Unload(b"m.c"))?;
-    desk.undo()?;
+    drop_and_undo(&mut desk, alloc)?;
     Ok(desk)
 }
 

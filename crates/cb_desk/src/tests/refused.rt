@@ -232,6 +232,41 @@ fn no_growth_of_moves(rt: HostRuntime) -> Result<(), Refusal> {
     Ok(())
 }
 
+/// A change of each kind, twelve in all.
+fn one_of_each(alloc: Global) -> Result<Desk, Refusal> {
+    let mut desk = marked_files(alloc)?;
+    desk.change(alloc, Change::Mark(2))?;
+    desk.change(alloc, Change::Tag(b"add", 1))?;
+    desk.change(alloc, Change::Tag(b"Mb", 1))?;
+    desk.change(alloc, Change::Pop)?;
+    desk.change(alloc, Change::Rename(b"a.c", b"z.c"))?;
+    desk.change(alloc, Change::Replace(b"sum"))?;
+    let Ok(bytes) = b"f(){}".to_vec(alloc) else {
+        return Err(Refusal::OutOfMemory);
+    };
+    desk.change(alloc, Change::Reload(b"z.c", bytes))?;
+    desk.change(alloc, Change::Unload(b"m.c"))?;
+    Ok(desk)
+}
+
+/// Moves over a change of each kind.
+#[test]
+fn no_growth_of_moves_over_each_change(rt: HostRuntime) -> Result<(), Refusal> {
+    let mut desk = one_of_each(rt.alloc())?;
+    begin(rt.alloc());
+    assert!(rt; has_text(&desk, b"z.c", b"f(){}"));
+    assert!(rt; undoes(&mut desk, 12));
+    assert!(rt; shows(&desk, &[]));
+    assert!(rt; desk.undo() == Err(Refusal::NothingToUndo));
+    assert!(rt; redoes(&mut desk, 4));
+    assert!(rt; has_marks(&desk, &[(b"a.c".as_slice(), 2), (b"a.c", 4), (b"a.c", 8)]));
+    assert!(rt; redoes(&mut desk, 8));
+    assert!(rt; desk.redo() == Err(Refusal::NothingToRedo));
+    assert!(rt; shows(&desk, &[b"z.c".as_slice()]));
+    assert!(rt; has_text(&desk, b"z.c", b"f(){}"));
+    Ok(())
+}
+
 /// A question of each kind.
 #[test]
 fn no_growth_of_questions(rt: HostRuntime) -> Result<(), Refusal> {
@@ -256,5 +291,9 @@ fn no_growth_of_questions(rt: HostRuntime) -> Result<(), Refusal> {
     assert_eq!(rt; desk.marks().count(), 3);
     assert_eq!(rt; desk.frames().count(), 0);
     assert_eq!(rt; desk.files().count(), 2);
+    assert!(rt; wants(&desk, b"add"));
+    assert!(rt; desk.source(b"m.c").is_some());
+    assert_eq!(rt; desk.meter(), 192);
+    assert_eq!(rt; desk.turns(), 2);
     Ok(())
 }

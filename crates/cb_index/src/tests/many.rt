@@ -33,18 +33,28 @@ fn text(alloc: Global, file: u32) -> Result<Vec<u8>, Fail> {
     Ok(text)
 }
 
-/// A shelf that keeps all files and shows none, and the files by their names.
-fn filled_shelf(alloc: Global) -> Result<(Shelf, Vec<Shown>), Fail> {
-    let mut shelf = Shelf::new(alloc);
+/// Keeps a file.
+fn keep_file(alloc: Global, shelf: &mut Shelf, file: u32) -> Result<Shown, Fail> {
+    let name = format!(in alloc; "{file}.c")?;
+    let name = keep_name_in(alloc, shelf, name.as_bytes(), &ROOM)?;
+    let text = text(alloc, file)?;
+    let version = keep_version_in(alloc, shelf, text.as_slice(), &ROOM)?;
+    Ok(Shown { name, version })
+}
+
+/// Keeps all files and shows none: the files by their names.
+fn keep_files(alloc: Global, shelf: &mut Shelf) -> Result<Vec<Shown>, Fail> {
     let mut files = Vec::new(alloc);
     for file in 100..100 + FILES {
-        let name = format!(in alloc; "{file}.c")?;
-        let text = text(alloc, file)?;
-        files.push(Shown {
-            name: keep_name_in(alloc, &mut shelf, name.as_bytes(), &ROOM)?,
-            version: keep_version_in(alloc, &mut shelf, text.as_slice(), &ROOM)?,
-        })?;
+        files.push(keep_file(alloc, shelf, file)?)?;
     }
+    Ok(files)
+}
+
+/// A shelf that keeps all files and shows none, and the files by their names.
+pub(super) fn filled_shelf(alloc: Global) -> Result<(Shelf, Vec<Shown>), Fail> {
+    let mut shelf = Shelf::new(alloc);
+    let files = keep_files(alloc, &mut shelf)?;
     Ok((shelf, files))
 }
 
@@ -65,7 +75,7 @@ fn each_uses(shelf: &Shelf, name: &[u8]) -> bool {
 }
 
 /// The indexes have what is shown.
-fn all_agree(rt: &impl Abort, shelf: &Shelf) {
+pub(super) fn all_agree(rt: &impl Abort, shelf: &Shelf) {
     let defs = shelf.shown().len().saturating_mul(FUNCTIONS);
     assert_eq!(rt; shelf.tags().len(), defs);
     assert_eq!(rt; shelf.all_defs().len(), defs);
@@ -81,7 +91,7 @@ fn next(seed: u64) -> u64 {
 }
 
 /// Hides a file that is shown, and shows one that is not.
-fn turn(shelf: &mut Shelf, file: Shown) -> Result<(), Fail> {
+pub(super) fn turn(shelf: &mut Shelf, file: Shown) -> Result<(), Fail> {
     if shelf.shown().iter().any(|s| s.name == file.name) {
         shelf.hide(file.name);
         return Ok(());
@@ -89,41 +99,67 @@ fn turn(shelf: &mut Shelf, file: Shown) -> Result<(), Fail> {
     show(shelf, file.name, file.version)
 }
 
-#[test]
-fn files_come_and_go_in_many_blocks(rt: HostRuntime) -> Result<(), Fail> {
-    let (mut shelf, files) = filled_shelf(rt.alloc())?;
-    for file in files.as_slice() {
-        turn(&mut shelf, *file)?;
+/// Shows or hides each of these files, and then many of them at random.
+fn turn_many(rt: &impl Abort, shelf: &mut Shelf, files: &[Shown]) -> Result<(), Fail> {
+    for file in files {
+        turn(shelf, *file)?;
     }
-    all_agree(&rt, &shelf);
+    all_agree(rt, shelf);
     let mut seed: u64 = 3;
     for _ in 0..200 {
         seed = next(seed);
         match files.get((seed >> 33) as usize % FILES as usize) {
-            Some(file) => turn(&mut shelf, *file)?,
+            Some(file) => turn(shelf, *file)?,
             None => return Err(Fail::from("too few files")),
         }
-        all_agree(&rt, &shelf);
+        all_agree(rt, shelf);
     }
     Ok(())
 }
 
+fn turn_files(rt: &impl Abort, alloc: Global, shelf: &mut Shelf) -> Result<(), Fail> {
+    let files = keep_files(alloc, shelf)?;
+    turn_many(rt, shelf, files.as_slice())
+}
+
 #[test]
-fn few_files_come_and_go_beside_many(rt: HostRuntime) -> Result<(), Fail> {
-    let (mut shelf, files) = filled_shelf(rt.alloc())?;
-    show_all(&mut shelf, files.as_slice())?;
-    all_agree(&rt, &shelf);
+fn files_come_and_go_in_many_blocks(rt: HostRuntime) -> Result<(), Fail> {
+    let mut shelf = Shelf::new(rt.alloc());
+    turn_files(&rt, rt.alloc(), &mut shelf)
+}
+
+/// Hides a few files together, and shows them again one after another.
+fn turn_few(rt: &impl Abort, shelf: &mut Shelf, few: &[Shown]) -> Result<(), Fail> {
+    hide_all(shelf, few)?;
+    all_agree(rt, shelf);
+    for one in few {
+        show_all(shelf, &[*one])?;
+    }
+    all_agree(rt, shelf);
+    Ok(())
+}
+
+/// Shows these files together, turns a few at three places, and hides all of them.
+fn turn_at_three_places(rt: &impl Abort, shelf: &mut Shelf, files: &[Shown]) -> Result<(), Fail> {
+    show_all(shelf, files)?;
+    all_agree(rt, shelf);
     for at in [0, 10, 35] {
         if let Some(few) = files.get(at..at + 4) {
-            hide_all(&mut shelf, few)?;
-            all_agree(&rt, &shelf);
-            for one in few {
-                show_all(&mut shelf, &[*one])?;
-            }
-            all_agree(&rt, &shelf);
+            turn_few(rt, shelf, few)?;
         }
     }
-    hide_all(&mut shelf, files.as_slice())?;
-    all_agree(&rt, &shelf);
+    hide_all(shelf, files)?;
+    all_agree(rt, shelf);
     Ok(())
+}
+
+fn turn_few_files(rt: &impl Abort, alloc: Global, shelf: &mut Shelf) -> Result<(), Fail> {
+    let files = keep_files(alloc, shelf)?;
+    turn_at_three_places(rt, shelf, files.as_slice())
+}
+
+#[test]
+fn few_files_come_and_go_beside_many(rt: HostRuntime) -> Result<(), Fail> {
+    let mut shelf = Shelf::new(rt.alloc());
+    turn_few_files(&rt, rt.alloc(), &mut shelf)
 }

@@ -1,12 +1,11 @@
 //! Shelves for tests, and comparisons of what they show.
-use crate::archive::Version;
+use super::version_of;
 use crate::entry::Shown;
 use crate::facts::FactRows;
 use crate::names::are_rising;
 use crate::room::Room;
 use crate::shelf::Shelf;
 use crate::tags::TagRows;
-use cb_scan::{FactKeys, Meter, Source, scan};
 use std::alloc::Global;
 use std::process::Abort;
 use std::test::Fail;
@@ -21,17 +20,12 @@ const ROOM: Room = Room {
     calls: 10_000,
 };
 
-fn make_room(shelf: &mut Shelf) -> Result<(), Fail> {
+/// Makes room for all that these tests need.
+pub(super) fn make_room(shelf: &mut Shelf) -> Result<(), Fail> {
     match shelf.reserve(&ROOM) {
         Ok(()) => Ok(()),
         Err(_) => Err(Fail::from("no memory")),
     }
-}
-
-pub(super) fn empty_shelf(alloc: Global) -> Result<Shelf, Fail> {
-    let mut shelf = Shelf::new(alloc);
-    make_room(&mut shelf)?;
-    Ok(shelf)
 }
 
 /// Keeps a name.
@@ -46,7 +40,6 @@ pub(super) fn keep_name_in(
     name: &[u8],
     room: &Room,
 ) -> Result<u32, Fail> {
-    let name = name.to_vec(alloc)?;
     if shelf.archive().name_count() >= 1000 || room.names != 1000 {
         return Err(Fail::from("too many names"));
     }
@@ -54,6 +47,7 @@ pub(super) fn keep_name_in(
         Ok(()) => {}
         Err(_) => return Err(Fail::from("no memory")),
     }
+    let name = name.to_vec(alloc)?;
     Ok(shelf.push_name(name))
 }
 
@@ -69,9 +63,6 @@ pub(super) fn keep_version_in(
     text: &[u8],
     room: &Room,
 ) -> Result<u32, Fail> {
-    let source = Source::new(alloc, text.to_vec(alloc)?)?;
-    let facts = scan(alloc, &mut Meter::new(), &source)?;
-    let keys = FactKeys::new(alloc, &source, &facts)?;
     if shelf.archive().version_count() >= 1000 || room.versions != 1000 {
         return Err(Fail::from("too many versions"));
     }
@@ -79,7 +70,8 @@ pub(super) fn keep_version_in(
         Ok(()) => {}
         Err(_) => return Err(Fail::from("no memory")),
     }
-    Ok(shelf.push_version(Version::new(source, facts, keys)))
+    let version = version_of(alloc, text)?;
+    Ok(shelf.push_version(version))
 }
 
 /// Shows a version where it can be shown.

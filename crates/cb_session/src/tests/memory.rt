@@ -1,11 +1,10 @@
 //! Tests in which memory may be refused, each growth in turn, one a run. For each call that takes
 //! memory, `refused_growth_of_CALL` passes in each run, and `no_refusal_of_CALL` only in a run that
 //! refuses nothing.
-use super::WIDE;
 use super::operands::operands;
+use super::{WIDE, run_into};
 use crate::{Command, Ended, Fault, Feed, Input, Intake, Session, prepare};
 use cb_desk::{Change, Refusal};
-use cb_tags::Sink;
 use std::alloc::Global;
 use std::process::Abort;
 
@@ -31,51 +30,57 @@ const RELOADED: [&[u8]; 3] = [
     b">> cscope: done\n>> cscope: refused: out of memory\n>> cscope: 0 lines\n>> cscope: done\n>> cscope: 0 lines\n>> cscope: done\n>> ",
 ];
 
-/// Runs an input. A refusal is one command's reply, or ends the run with a prefix of the output.
-/// Whether memory was refused.
-fn run_meets_a_refusal(rt: &impl Abort, alloc: Global, input: &[u8], outputs: &[&[u8]; 3]) -> bool {
-    let Ok(mut written) = Vec::with_capacity(alloc, 4_096) else {
-        return true;
-    };
-    let mut session = Session::new(alloc);
-    let mut feed = Feed::new(input);
-    let ended = {
-        let mut sink = Sink::new(&mut written);
-        session.serve(alloc, &WIDE, &mut feed, &mut sink)
-    };
+/// Whether memory was refused in a run that ended so and wrote this: a refusal is one command's
+/// reply, or ends the run with a prefix of the output.
+fn is_refused(rt: &impl Abort, ended: Ended, written: &[u8], outputs: &[&[u8]; 3]) -> bool {
     match ended {
         Ended::Done => {
-            let found = outputs.iter().any(|output| *output == written.as_slice());
+            let found = outputs.iter().any(|output| *output == written);
             assert!(rt; found);
-            written.as_slice() != outputs[0]
+            written != outputs[0]
         }
         other => {
             assert!(rt; other == Ended::Fault(Fault::Memory));
-            assert!(rt; outputs[0].starts_with(written.as_slice()));
+            assert!(rt; outputs[0].starts_with(written));
             true
         }
     }
 }
 
-/// Loads two operands. A refusal names the place of one of them. Whether memory was refused.
+/// Runs an input. Whether memory was refused.
+fn run_meets_a_refusal(rt: &impl Abort, alloc: Global, input: &[u8], outputs: &[&[u8]; 3]) -> bool {
+    let Ok(mut written) = Vec::with_capacity(alloc, 4_096) else {
+        return true;
+    };
+    let ended = run_into(alloc, &WIDE, input, &mut written);
+    is_refused(rt, ended, written.as_slice(), outputs)
+}
+
+/// Whether two operands were loaded. A refusal names the place of one of them.
+fn has_two_or_refused(rt: &impl Abort, prepared: &Result<Session, Ended>) -> bool {
+    match prepared {
+        Ok(session) => {
+            assert_eq!(rt; session.desk().files().count(), 2);
+            true
+        }
+        Err(ended) => {
+            assert!(rt;
+                *ended == Ended::Operand(0, Refusal::OutOfMemory)
+                    || *ended == Ended::Operand(1, Refusal::OutOfMemory)
+            );
+            false
+        }
+    }
+}
+
+/// Loads two operands. Whether memory was refused.
 fn prepare_meets_a_refusal(rt: &impl Abort, alloc: Global) -> bool {
     let files = [(b"b.c".as_slice(), b"x;".as_slice()), (b"a.c", b"y;")];
     let Ok(operands) = operands(alloc, &files) else {
         return true;
     };
-    match prepare(alloc, operands) {
-        Ok(session) => {
-            assert_eq!(rt; session.desk().files().count(), 2);
-            false
-        }
-        Err(ended) => {
-            assert!(rt;
-                ended == Ended::Operand(0, Refusal::OutOfMemory)
-                    || ended == Ended::Operand(1, Refusal::OutOfMemory)
-            );
-            true
-        }
-    }
+    let prepared = prepare(alloc, operands);
+    !has_two_or_refused(rt, &prepared)
 }
 
 /// Makes an intake and reads a load with its block. Whether memory was refused.

@@ -1,10 +1,11 @@
 //! Reloads. The expected bytes are worked out by hand from the rules of commands and replies.
 use super::frames::{ONE, TWO};
 use super::operands::{operands, run_with};
-use super::{WIDE, run};
+use super::{WIDE, writes};
 use crate::{Ended, Feed, Session, prepare};
 use cb_tags::Sink;
 use std::alloc::Global;
+use std::process::Abort;
 use std::test::Fail;
 
 #[test]
@@ -22,13 +23,32 @@ fn a_reload_and_its_undo(rt: HostRuntime) -> Result<(), Fail> {
     Ok(())
 }
 
-/// What a session writes for an input.
-fn served(session: &mut Session, alloc: Global, input: &[u8]) -> Vec<u8> {
-    let mut written = Vec::new(alloc);
+/// Serves an input; what is written comes behind what stands there.
+fn serve(session: &mut Session, alloc: Global, input: &[u8], written: &mut Vec<u8>) {
     let mut feed = Feed::new(input);
-    let mut sink = Sink::new(&mut written);
+    let mut sink = Sink::new(written);
     let _ended = session.serve(alloc, &WIDE, &mut feed, &mut sink);
-    written
+}
+
+/// A session does one input.
+fn does(rt: &impl Abort, session: &mut Session, alloc: Global, input: &[u8]) {
+    let mut written = Vec::new(alloc);
+    serve(session, alloc, input, &mut written);
+    assert_eq!(rt; written.as_slice(), b">> cscope: done\n>> ".as_slice());
+}
+
+/// A reload scans the bytes that it brings; undo and redo scan nothing.
+fn reload_undo_and_redo(rt: &impl Abort, session: &mut Session, alloc: Global) {
+    assert_eq!(rt; session.desk().meter(), 192);
+    let moves = [
+        b":reload a.c 17\nint Ma(void) {\n}\n".as_slice(),
+        b":undo\n",
+        b":redo\n",
+    ];
+    for input in moves {
+        does(rt, session, alloc, input);
+        assert_eq!(rt; session.desk().meter(), 209);
+    }
 }
 
 #[test]
@@ -38,17 +58,7 @@ fn a_reload_scans_its_bytes_once(rt: HostRuntime) -> Result<(), Fail> {
         assert!(rt; false, "the operands were refused");
         return Ok(());
     };
-    assert_eq!(rt; session.desk().meter(), 192);
-    let moves = [
-        b":reload a.c 17\nint Ma(void) {\n}\n".as_slice(),
-        b":undo\n",
-        b":redo\n",
-    ];
-    for input in moves {
-        let written = served(&mut session, alloc, input);
-        assert_eq!(rt; written.as_slice(), b">> cscope: done\n>> ".as_slice());
-        assert_eq!(rt; session.desk().meter(), 209);
-    }
+    reload_undo_and_redo(&rt, &mut session, alloc);
     Ok(())
 }
 
@@ -87,8 +97,6 @@ fn a_reload_at_the_end_of_input(rt: HostRuntime) {
         ),
     ];
     for (input, output, end) in cases {
-        let (written, ended) = run(rt.alloc(), &WIDE, input);
-        assert_eq!(rt; written.as_slice(), output);
-        assert_eq!(rt; ended, end);
+        writes(&rt, rt.alloc(), &WIDE, input, output, end);
     }
 }

@@ -1,9 +1,9 @@
-use Rattle.std.proofs.Common.{rules, ◌≡◌, ◌≤◌, ◌∙◌, ◌+◌, List, [], ◌∷◌, ◌++◌, sym, ap, subst, length, vec_capacity, arith}
+use Rattle.std.proofs.Common.{rules, ◌≡◌, ◌≤◌, ◌∙◌, [], ◌∷◌, ◌++◌, sym, ap, subst, length, vec_capacity, arith}
 use Rattle.cb_scan.specs.Order.{in_order}
 use Rattle.cb_index.specs.Blocks.{joined}
 use Rattle.cb_index.specs.Entries.{sort_key}
 use Rattle.cb_index.proofs.EntryLemmas.{sort_exact}
-use Rattle.cb_index.proofs.PutLemmas.{again_in_order, parts_same, put_done, put_next}
+use Rattle.cb_index.proofs.PutLemmas.{again_in_order, parts_same, put_next}
 use Rattle.cb_index.proofs.sorted.put_rest.Goals as goal
 
 pub loop-one-preserved : goal.loop-one-preserved

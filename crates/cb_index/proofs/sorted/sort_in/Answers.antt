@@ -1,4 +1,4 @@
-use Rattle.std.proofs.Common.{◌≡◌, ◌∙◌, ◌≤◌, ◌*◌, ◌++◌, ap, length, arith}
+use Rattle.std.proofs.Common.{◌∙◌, ap, arith}
 use Rattle.cb_scan.specs.Order.{in_order}
 use Rattle.cb_index.specs.Blocks.{joined}
 use Rattle.cb_index.specs.Entries.{sort_key}

@@ -1,4 +1,4 @@
-use Rattle.std.proofs.Common.{◌≡◌, ◌∙◌, true, false, ap, subst, take, drop}
+use Rattle.std.proofs.Common.{◌≡◌, ◌∙◌, true, false, subst, take, drop}
 use Rattle.std.specs.List.{AllByRecursion}
 use Rattle.cb_index.specs.Blocks.{before, joined}
 use Rattle.cb_index.specs.declared.place.Bound.TheVariants.{Behind}

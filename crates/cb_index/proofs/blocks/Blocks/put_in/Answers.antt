@@ -1,6 +1,6 @@
 use Rattle.std.proofs.Common.{◌∙◌, ◌<◌, ◌++◌, ◌∷◌, sym, ap, subst, length, take, drop}
-use Rattle.cb_index.specs.Blocks.{IsFilled, IsPlace, Parted, before, joined}
-use Rattle.cb_index.proofs.BlockLemmas.{all_set, put_changed, put_filled}
+use Rattle.cb_index.specs.Blocks.{IsPlace, Parted, before, joined}
+use Rattle.cb_index.proofs.BlockLemmas.{put_changed}
 use Rattle.cb_index.proofs.blocks.Blocks.put_in.Goals as goal
 
 pub returns-clause-put : goal.returns-clause-put

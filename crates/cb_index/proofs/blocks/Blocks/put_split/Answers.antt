@@ -1,5 +1,5 @@
 use Rattle.std.proofs.Common.{◌∙◌, ◌<◌, ◌++◌, ◌∷◌, sym, ap, subst, length, take, drop}
-use Rattle.cb_index.specs.Blocks.{IsFilled, IsPlace, Parted, before, joined}
+use Rattle.cb_index.specs.Blocks.{IsPlace, Parted, before, joined}
 use Rattle.cb_index.proofs.BlockLemmas.{split_changed}
 use Rattle.cb_index.proofs.blocks.Blocks.put_split.Goals as goal
 

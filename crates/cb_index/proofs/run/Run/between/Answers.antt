@@ -1,4 +1,4 @@
-use Rattle.std.proofs.Common.{rules, ◌≡◌, ◌∙◌, ◌<◌, ◌≤◌, ◌+◌, ◌++◌, ◌^◌, [], sym, ap, length, take, drop, get_or, arith}
+use Rattle.std.proofs.Common.{rules, ◌≡◌, ◌∙◌, ◌<◌, ◌+◌, ◌++◌, [], sym, ap, length, take, drop, get_or, arith}
 use Rattle.std.specs.Prelude.{min}
 use Rattle.cb_index.specs.Blocks.{before, joined}
 use Rattle.cb_index.proofs.BlockLemmas.{get_or_any}

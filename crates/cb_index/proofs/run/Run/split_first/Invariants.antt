@@ -1,4 +1,4 @@
-use Rattle.std.proofs.Common.{◌≡◌, ◌++◌, length}
+use Rattle.std.proofs.Common.{◌≡◌, length}
 use Rattle.cb_index.specs.Blocks.{joined}
 use Rattle.cb_index.proofs.run.Run.split_first.Given as goal
 

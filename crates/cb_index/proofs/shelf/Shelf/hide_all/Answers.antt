@@ -1,7 +1,6 @@
-use Rattle.std.proofs.Common.{rules, ◌≡◌, ◌∙◌, ◌≤◌, ◌+◌, ◌-◌, ◌^◌, ◌∷◌, [], suc, refl, sym, ap, drop, drop-cons, filter, length, get_or, arith}
-use Rattle.std.specs.Prelude.{min, not}
+use Rattle.std.proofs.Common.{◌∙◌, ◌+◌, sym, ap, drop, filter, arith}
+use Rattle.std.specs.Prelude.{not}
 use Rattle.cb_index.specs.Names.{is_among, names_of}
-use Rattle.cb_index.specs.Shelved.{KeepsRoom, Shelved}
 use Rattle.cb_index.specs.declared.entry.Shown.{Shown}
 use Rattle.cb_index.proofs.KeptLemmas.{filter_done, filter_file, keeps_trans}
 use Rattle.cb_index.proofs.shelf.Shelf.hide_all.Goals as goal

@@ -1,6 +1,5 @@
-use Rattle.std.proofs.Common.{◌≡◌, ◌∙◌, ◌≤◌, ◌*◌, ◌+◌, ◌++◌, [], sym, ap, subst, length, take, vec_capacity, arith}
+use Rattle.std.proofs.Common.{◌≡◌, ◌∙◌, ◌≤◌, ◌*◌, ◌+◌, ◌++◌, sym, ap, subst, length, vec_capacity, arith}
 use Rattle.std.proofs.Math.Nat.{min-le_left, min-le_right}
-use Rattle.std.specs.Prelude.{min}
 use Rattle.cb_scan.specs.Order.{in_order}
 use Rattle.cb_index.specs.Blocks.{joined}
 use Rattle.cb_index.specs.Entries.{sort_key}

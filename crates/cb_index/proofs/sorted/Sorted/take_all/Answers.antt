@@ -1,9 +1,8 @@
-use Rattle.std.proofs.Common.{◌≡◌, ◌∙◌, ◌≤◌, ◌*◌, ◌+◌, List, ◌++◌, sym, ap, subst, length, vec_capacity, arith}
+use Rattle.std.proofs.Common.{◌≡◌, ◌∙◌, ◌++◌, sym, ap, length, arith}
 use Rattle.cb_scan.specs.Order.{in_order}
 use Rattle.cb_index.specs.Blocks.{joined}
 use Rattle.cb_index.specs.Entries.{sort_key}
 use Rattle.cb_index.specs.Held.{Held, entries_of, prefixes_of}
-use Rattle.cb_index.specs.declared.entry.Entry.{Entry}
 use Rattle.cb_index.proofs.IndexLemmas.{length_from}
 use Rattle.cb_index.proofs.InOrderLemmas.{length_in_order}
 use Rattle.cb_index.proofs.PutLemmas.{parts_length}

@@ -1,10 +1,7 @@
-use Rattle.std.proofs.Common.{◌≡◌, ◌∙◌, true, false, sym, ap, subst, filter, take, drop}
-use Rattle.std.specs.List.{AllByRecursion}
-use Rattle.cb_scan.specs.Order.{in_order}
+use Rattle.std.proofs.Common.{◌∙◌, ap, filter}
 use Rattle.cb_index.specs.Blocks.{before, joined}
-use Rattle.cb_index.specs.Entries.{has_key, sort_key}
+use Rattle.cb_index.specs.Entries.{has_key}
 use Rattle.cb_index.specs.Held.{Held}
-use Rattle.cb_index.specs.declared.place.Bound.TheVariants.{Before, After}
 use Rattle.cb_index.proofs.RangeLemmas.{key_between}
 use Rattle.cb_index.proofs.sorted.Sorted.with_key.Goals as goal
 
