@@ -2,6 +2,7 @@ pub mod Asked
 pub mod Edits
 pub mod Held
 pub mod Lent
+pub mod Loading
 pub mod LookBack
 pub mod MarkedLines
 pub mod Plans

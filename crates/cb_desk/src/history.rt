@@ -5,7 +5,7 @@ ghost use Rattle.cb_desk.specs.World.{World, IsValidWorld};
 ghost use Rattle.cb_desk.specs.steps.Plans.{IsPlan};
 ghost use Rattle.cb_desk.specs.Timeline.{IsValidTimeline, Moves, moved_on, new_timeline, redone, undone};
 ghost use Rattle.cb_desk.specs.Turns.{Turns};
-ghost use Rattle.cb_desk.specs.steps.Walks.{IsKept, timeline_in};
+ghost use Rattle.cb_desk.specs.steps.Walks.{IsKept, IsRecorded, timeline_in};
 
 use crate::Refusal;
 use crate::limits::MOST_CHANGES;
@@ -46,6 +46,19 @@ impl History {
             present: Present::new(alloc),
             records: Vec::new(alloc),
             done: 0,
+        }
+    }
+
+    /// A world, and the records of the changes that led to it.
+    pub(crate) fn loaded(present: Present, records: Vec<Record>) -> History
+        requires { IsRecorded (record { kept = present; records = records.items; done = length records.items }) }
+        ensures { timeline_in result ≡ timeline_in (record { kept = present; records = records.items; done = length records.items }) }
+    {
+        let done = records.len();
+        History {
+            present,
+            records,
+            done,
         }
     }
 

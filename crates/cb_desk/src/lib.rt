@@ -14,6 +14,7 @@ mod history;
 pub mod laws;
 mod limits;
 mod line;
+mod loading;
 mod place_list;
 mod places;
 mod plan;
@@ -31,6 +32,7 @@ mod tests;
 
 pub use answers::{Files, Rows, TagRows};
 pub use change::Change;
+pub use loading::Loading;
 pub use places::Places;
 pub use refusal::Refusal;
 pub use rows::{Field, RefRow, line_row};

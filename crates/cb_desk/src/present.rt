@@ -14,12 +14,12 @@ ghost use Rattle.cb_desk.specs.steps.Texts.{bytes_if, bytes_if_other};
 
 mod changes;
 mod counts;
-mod files;
+pub(crate) mod files;
 mod marks;
 mod moved;
 mod places;
 mod readers;
-mod refusals;
+pub(crate) mod refusals;
 mod remaining;
 pub(crate) mod renewal;
 mod replace;
@@ -168,6 +168,25 @@ impl Present {
             frames: PlaceList::new(alloc),
             names: 0,
             versions: 0,
+        }
+    }
+
+    /// The world of a shelf that shows so many files, each under a name of its own.
+    pub(crate) fn loaded(alloc: Global, shelf: Shelf, count: u32) -> Present
+        ensures now { result.now ≡ record no_numbers { shown = shelf.shown; names = count; versions = count } }
+        ensures archive { result.archive ≡ shelf.archive }
+        ensures files { result.rooms.files ≡ shelf.entry_room }
+        ensures defs { result.rooms.defs ≡ shelf.def_room }
+        ensures uses { result.rooms.uses ≡ shelf.use_room }
+        ensures calls { result.rooms.calls ≡ shelf.call_room }
+    {
+        Present {
+            shelf,
+            wanted: None,
+            marks: PlaceList::new(alloc),
+            frames: PlaceList::new(alloc),
+            names: count,
+            versions: count,
         }
     }
 

@@ -5,9 +5,10 @@ ghost use Rattle.cb_desk.specs.Answer.{answer};
 ghost use Rattle.cb_desk.specs.Desk.{Counts, CountsUpTo, bytes_in, scanned};
 ghost use Rattle.cb_desk.specs.Models.{step_of};
 ghost use Rattle.cb_desk.specs.Tags.{tags};
-ghost use Rattle.cb_desk.specs.Timeline.{Changes, Moves, new_timeline, redone, undone};
+ghost use Rattle.cb_desk.specs.Timeline.{Changes, IsValidTimeline, Moves, new_timeline, redone, undone};
 ghost use Rattle.cb_desk.specs.Turns.{Turns};
 ghost use Rattle.cb_desk.specs.World.{IsValidWorld, text_named};
+ghost use Rattle.cb_desk.specs.steps.Walks.{timeline_in};
 
 use crate::history::History;
 use crate::{Change, Field, Files, Format, Places, Refusal, Rows, TagRows};
@@ -61,6 +62,15 @@ impl Desk {
             history: History::new(alloc),
             meter: Meter::new(),
         }
+    }
+
+    /// The desk of a history, which has counted so many bytes.
+    pub(crate) fn over(history: History, meter: Meter) -> Desk
+        requires { IsValidTimeline (timeline_in history) }
+        ensures timeline { result.timeline ≡ timeline_in history }
+        ensures meter { result.meter ≡ meter }
+    {
+        Desk { history, meter }
     }
 
     /// Makes a change. After a refusal the files, their past and their future are as before, and

@@ -38,6 +38,7 @@ pub use entries::Entries;
 pub use entry::{Entry, Shown};
 pub use facts::FactRows;
 pub use includes::IncludeRows;
+pub use listed::put_all_shown;
 pub use memory::OutOfMemory;
 pub use names::are_rising;
 pub use order::EntryOrder;
@@ -49,7 +50,7 @@ pub use rows::{FactRow, FactSort};
 pub use shelf::Shelf;
 pub use sorted::Sorted;
 pub use tags::TagRows;
-pub use totals::Totals;
+pub use totals::{Totals, totals_of};
 
 #[cfg(test)]
 mod tests;

@@ -1,6 +1,7 @@
 //! How many facts versions have together.
-ghost use Rattle.std.specs.Prelude.{◌≡◌, ◌+◌, ◌-◌, ◌^◌, ◌≤◌, slice_get};
+ghost use Rattle.std.specs.Prelude.{◌≡◌, ◌+◌, ◌-◌, ◌^◌, ◌≤◌, ⊤, slice_get, MatchOption};
 ghost use Rattle.cb_index.specs.Files.{call_count, count_for, def_count, total, use_count};
+ghost use Rattle.cb_index.specs.Shelved.{AreTotals};
 
 use crate::archive::Archive;
 use crate::counted::{Counted, count_of};
@@ -24,6 +25,28 @@ fn total_with(counted: Counted, archive: &Archive, shown: &[Shown], before: u64)
         count += count_of(counted, archive, s.version) as u64;
     }
     count
+}
+
+/// How many facts versions have, if that is a number.
+fn total_of(counted: Counted, archive: &Archive, shown: &[Shown]) -> Option<u64>
+    ensures { MatchOption result ⊤ (λ n. n ≡ total (count_for counted) archive.now shown.now) }
+{
+    let mut count = 0u64;
+    for s in shown {
+        count = count.checked_add(count_of(counted, archive, s.version) as u64)?;
+    }
+    Some(count)
+}
+
+/// How many facts of each kind versions have together, if these are numbers.
+pub fn totals_of(archive: &Archive, shown: &[Shown]) -> Option<Totals>
+    ensures { MatchOption result ⊤ (AreTotals archive.now shown.now) }
+{
+    Some(Totals {
+        defs: total_of(Counted::Defs, archive, shown)?,
+        uses: total_of(Counted::Uses, archive, shown)?,
+        calls: total_of(Counted::Calls, archive, shown)?,
+    })
 }
 
 impl Totals {

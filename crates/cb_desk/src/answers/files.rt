@@ -2,17 +2,17 @@
 ghost use Rattle.std.specs.Prelude.{◌≡◌, ⊤, MatchOption};
 ghost use Rattle.std.specs.Cmp.Lexicographic.{slice_cmp};
 ghost use Rattle.std.specs.Iterator.{YieldsFirstBy, item_count};
-ghost use Rattle.std.specs.List.{Contains};
+ghost use Rattle.std.specs.List.{AllByRecursion, Contains};
 ghost use Rattle.std.specs.Option.{option_copied, option_map};
 ghost use Rattle.std.specs.Ordering.{is_lt, nat_cmp};
 ghost use Rattle.cb_index.specs.Archived.{name_of};
-ghost use Rattle.cb_index.specs.Files.{IsThere, file_of as shown_file};
+ghost use Rattle.cb_index.specs.Files.{AreAscending, IsThere, file_of as shown_file, files_of};
 ghost use Rattle.cb_index.specs.Shelved.{files};
 ghost use Rattle.cb_desk.specs.Models.{file_of};
 ghost use Rattle.cb_desk.specs.World.{IsAscending, text_named};
 ghost use Rattle.cb_desk.specs.steps.Named.{file_named};
 
-use cb_index::{Entries, Shelf, Shown};
+use cb_index::{Archive, Entries, Shelf, Shown};
 use cb_scan::Source;
 use std::cmp::Ordering;
 use std::marker::Model;
@@ -68,14 +68,14 @@ impl<'a> Iterator for Files<'a> {
     }
 }
 
-/// What is shown under a file name, with the number of the name, by binary search.
-pub(crate) fn shown_as(shelf: &Shelf, name: &[u8]) -> Option<Shown>
-    ensures value { option_map (shown_file shelf.now.archive) result ≡ file_named (files shelf.now) name.now }
-    ensures there { MatchOption result ⊤ (IsThere shelf.now.archive) }
-    ensures among { MatchOption result ⊤ (Contains shelf.now.shown) }
+/// What is among these versions under a file name, with the number of the name, by binary search.
+pub(crate) fn find_shown(archive: &Archive, shown: &[Shown], name: &[u8]) -> Option<Shown>
+    requires there { AllByRecursion (IsThere archive.now) shown.now }
+    requires ascending { AreAscending archive.now shown.now }
+    ensures value { option_map (shown_file archive.now) result ≡ file_named (files_of archive.now shown.now) name.now }
+    ensures there { MatchOption result ⊤ (IsThere archive.now) }
+    ensures among { MatchOption result ⊤ (Contains shown.now) }
 {
-    let archive = shelf.archive();
-    let shown = shelf.shown();
     let index = shown.partition_point(
         |s: &Shown| -> bool
             ensures { result ≡ is_lt (slice_cmp nat_cmp (name_of archive.entry.now s.now.name) name.entry.now) }
@@ -90,6 +90,15 @@ pub(crate) fn shown_as(shelf: &Shelf, name: &[u8]) -> Option<Shown>
     } else {
         None
     }
+}
+
+/// What is shown under a file name, with the number of the name.
+pub(crate) fn shown_as(shelf: &Shelf, name: &[u8]) -> Option<Shown>
+    ensures value { option_map (shown_file shelf.now.archive) result ≡ file_named (files shelf.now) name.now }
+    ensures there { MatchOption result ⊤ (IsThere shelf.now.archive) }
+    ensures among { MatchOption result ⊤ (Contains shelf.now.shown) }
+{
+    find_shown(shelf.archive(), shelf.shown(), name)
 }
 
 /// The text of the file of that name, if there is one.

@@ -51,7 +51,7 @@ fn edits_without(
 }
 
 /// A list of one.
-fn only_one<T: Drop>(alloc: Global, one: T) -> Result<Vec<T>, AllocError>
+pub(crate) fn only_one<T: Drop>(alloc: Global, one: T) -> Result<Vec<T>, AllocError>
     ensures { IfOk result (λ list. list.items ≡ one ∷ []) }
 {
     let mut list = Vec::with_capacity(alloc, 1)?;

@@ -1,0 +1,279 @@
+-- Files that are loaded before they are shown.
+use Rattle.std.proofs.Common.{◌≡◌, ◌∙◌, ◌≤◌, ◌<◌, ◌+◌, ℕ, true, false, List, [], ◌∷◌, ◌++◌, None, Ok, refl, sym, ap, subst, length, take, get_or, slice_set, arith, append-nil, length-append, Option}
+use Rattle.std.proofs.Math.Seq.{take-length, get_or-append_seam, set-append_seam}
+use Rattle.std.specs.Prelude.{slice_get}
+use Rattle.std.specs.List.{AllByRecursion}
+use Rattle.cb_scan.specs.Order.{in_order}
+use Rattle.cb_scan.proofs.FunctionsRise.{all_implied}
+use Rattle.cb_index.specs.Archived.{Archived}
+use Rattle.cb_index.specs.Files.{AreApart, AreAscending, IsThere, call_count, def_count, files_of, is_shown, shown_name, total, use_count}
+use Rattle.cb_index.specs.Shelved.{CanShowAll, Shelved}
+use Rattle.cb_index.specs.declared.entry.Shown.{Shown}
+use Rattle.cb_index.specs.declared.room.Room.{Room}
+use Rattle.cb_index.proofs.InOrderLemmas.{length_in_order}
+use Rattle.cb_index.proofs.ListedLemmas.{ascending_apart, ascending_in_order}
+use Rattle.cb_index.proofs.TotalLemmas.{same_total, total_append, total_in_order, total_more}
+use Rattle.cb_desk.specs.declared.limits.TheConstants.{MOST_CHANGES}
+use Rattle.cb_desk.specs.Files.{loaded}
+use Rattle.cb_desk.specs.Timeline.{Timeline, moved_on, redone}
+use Rattle.cb_desk.specs.World.{IsValidWorld, World, has_file}
+use Rattle.cb_desk.specs.steps.Loading.{AreLoaded, HasRoomToShow, just_room, loaded_numbers, loads_recorded}
+use Rattle.cb_desk.specs.steps.Plans.{HasRoomFor, IsPlan, Keeps, LeadsTo, Planned}
+use Rattle.cb_desk.specs.steps.Records.{AreThere, KeepsRooms, Kept, Numbered, Rooms, Turn, other, turned, without, world_in}
+use Rattle.cb_desk.specs.steps.Room.{texts_with, with_texts}
+use Rattle.cb_desk.specs.steps.Walks.{IsRecorded, Recorded, timeline_in, turns_back}
+use Rattle.cb_desk.proofs.ArchiveMoves.{same_recorded, same_timeline}
+use Rattle.cb_desk.proofs.FilePlans.{load_planned, up}
+use Rattle.cb_desk.proofs.PlacePlans.{without_none}
+use Rattle.cb_desk.proofs.PlanLemmas.{next_is, next_recorded, plan_moved, redone_next}
+use Rattle.cb_desk.proofs.RoomLemmas.{has_room}
+use Rattle.cb_desk.proofs.WalkLemmas.{kept_back, past_length, redo_is, redo_recorded}
+
+-- what is loaded is there
+pub all_there : (a : Archived) (hidden shown : List Shown) (records : List Turn) → AreLoaded a hidden shown records
+    → AllByRecursion (IsThere a) shown
+all_there a hidden shown records is =
+    let h = loads_recorded a shown records in
+    (kept_back h.kept.rooms h.kept.archive h.kept.now (turns_back h) is.recorded.back).there.shown
+
+-- ---- an archive with other room
+module _ (a b : Archived) (names : b.names ≡ a.names) (texts : b.texts ≡ a.texts) (shown : List Shown) (records : List Turn)
+    (is : IsRecorded (loads_recorded a shown records)) where
+  abbrev before : Kept
+  before = (loads_recorded a shown records).kept
+
+  same_now : loaded_numbers b shown ≡ loaded_numbers a shown
+  same_now = λ i. record (loaded_numbers a shown) { names = length (names i); versions = length (texts i) }
+
+  same_rooms : KeepsRooms (just_room a shown) (just_room b shown)
+  same_rooms = record {
+    files = omega arith;
+    defs = let e = same_total def_count a b (sym texts) shown in omega (arith, e);
+    uses = let e = same_total use_count a b (sym texts) shown in omega (arith, e);
+    calls = let e = same_total call_count a b (sym texts) shown in omega (arith, e);
+    marks = omega arith;
+    frames = omega arith;
+  }
+
+  pub roomier_recorded : IsRecorded (loads_recorded b shown records)
+  roomier_recorded =
+      same_recorded before (loads_recorded b shown records).kept records (length records) same_now names texts same_rooms is
+
+  pub roomier_timeline : timeline_in (loads_recorded b shown records) ≡ timeline_in (loads_recorded a shown records)
+  roomier_timeline =
+      same_timeline before (loads_recorded b shown records).kept records (length records) same_now names texts same_rooms is
+
+pub roomier : (a b : Archived) (hidden shown : List Shown) (records : List Turn) → b.names ≡ a.names → b.texts ≡ a.texts
+    → AreLoaded a hidden shown records → AreLoaded b hidden shown records
+roomier a b hidden shown records names texts is = record {
+  hidden = is.hidden;
+  names = ap length names ∙ is.names;
+  versions = ap length texts ∙ is.versions;
+  files = is.files;
+  ascending = subst (λ ns. AreAscending (record a { names = ns }) shown) (sym names) is.ascending;
+  recorded = roomier_recorded a b names texts shown records is.recorded;
+}
+
+-- the record that takes a load back
+pub turn_back : {n m : ℕ} (u : Turn) (count : ℕ) → count ≡ n → count ≡ m
+    → u ≡ record { hides = record { name = count; version = count } ∷ []; shows = []; wanted = None; marks = []; frames = []; names = count; versions = count }
+    → u ≡ record { hides = record { name = n; version = m } ∷ []; shows = []; wanted = None; marks = []; frames = []; names = n; versions = m }
+turn_back u count named kept is =
+    is ∙ (λ i. record { hides = record { name = named i; version = kept i } ∷ []; shows = []; wanted = None; marks = []; frames = []; names = named i; versions = kept i })
+
+-- ---- one file more
+module _ (a b : Archived) (hidden shown : List Shown) (records : List Turn) (name text : List ℕ) (is : AreLoaded a hidden shown records)
+    (names : b.names ≡ a.names ++ name ∷ []) (texts : b.texts ≡ a.texts ++ text ∷ [])
+    (fresh : has_file (files_of a shown) name ≡ false)
+    (valid : IsValidWorld (loaded (world_in a (loaded_numbers a shown)) name text)) (few : length records < MOST_CHANGES) where
+  abbrev h : Recorded
+  h = loads_recorded a shown records
+
+  abbrev k : Kept
+  k = h.kept
+
+  abbrev pub new : Shown
+  new = record { name = length a.names; version = length a.texts }
+
+  abbrev pub to_new : Turn
+  to_new = record { hides = []; shows = new ∷ []; wanted = None; marks = []; frames = []; names = length a.names + 1; versions = length a.texts + 1 }
+
+  abbrev p : Planned
+  p = record { names = name ∷ []; texts = text ∷ []; turn = to_new }
+
+  abbrev v : World
+  v = loaded (world_in a (loaded_numbers a shown)) name text
+
+  abbrev pub shown_then : List Shown
+  shown_then = in_order (shown_name b) (shown ++ new ∷ [])
+
+  abbrev room_then : Rooms
+  room_then = just_room b shown_then
+
+  there : AreThere a k.now
+  there = (kept_back k.rooms a k.now (turns_back h) is.recorded.back).there
+
+  plan : IsPlan k p v
+  plan =
+      load_planned k p name text (kept_back k.rooms a k.now (turns_back h) is.recorded.back) is.ascending fresh refl refl
+      (length a.names + 1) (length a.texts + 1) refl refl refl
+
+  keeps : Keeps a k.now p b
+  keeps = record {
+    names = names ∙ ap (λ l. l ++ name ∷ []) (sym (take-length a.names));
+    texts = texts ∙ ap (λ l. l ++ text ∷ []) (sym (take-length a.texts));
+  }
+
+  leads : LeadsTo k p v b
+  leads = plan b keeps
+
+  pub apart_then : AreApart b (shown ++ new ∷ [])
+  apart_then = subst (λ l. AreApart b (l ++ new ∷ [])) (without_none shown) leads.turn.apart_then
+
+  pub ascending_before : AreAscending b shown
+  ascending_before = up k p (kept_back k.rooms a k.now (turns_back h) is.recorded.back) is.ascending b keeps
+
+  -- ---- room
+  count_then : (count : Option (List ℕ) → ℕ) → total count b shown_then ≡ total count b shown + total count b (new ∷ [])
+  count_then count = total_in_order count b (shown_name b) (shown ++ new ∷ []) ∙ total_append count b shown (new ∷ [])
+
+  count_before : (count : Option (List ℕ) → ℕ) → total count a shown ≡ total count b shown
+  count_before count =
+      total_more count a b (text ∷ []) texts shown
+      (all_implied (λ (s : Shown). (s.name < length a.names) × (s.version < length a.texts)) (λ (s : Shown). s.version < length a.texts)
+      (λ s at. at.1) shown there.shown)
+
+  counted_as : (count : Option (List ℕ) → ℕ) (ss : List Shown) → total count (with_texts (texts_with k p)) ss ≡ total count b ss
+  counted_as count ss = same_total count (with_texts (texts_with k p)) b (sym keeps.texts) ss
+
+  long_then : length shown_then ≡ length shown + 1
+  long_then = length_in_order (shown_name b) (shown ++ new ∷ []) ∙ length-append shown (new ∷ [])
+
+  grows : KeepsRooms k.rooms room_then
+  grows = record {
+    files = let e = long_then in omega (arith, e);
+    defs = let e = count_then def_count in let f = count_before def_count in omega (arith, e, f);
+    uses = let e = count_then use_count in let f = count_before use_count in omega (arith, e, f);
+    calls = let e = count_then call_count in let f = count_before call_count in omega (arith, e, f);
+    marks = omega arith;
+    frames = omega arith;
+  }
+
+  abbrev asked : Room
+  asked = record {
+    versions = length a.texts + 1;
+    names = length a.names + 1;
+    entries = length shown + 1;
+    defs = total def_count (with_texts (texts_with k p)) shown + total def_count (with_texts (texts_with k p)) (new ∷ []);
+    uses = total use_count (with_texts (texts_with k p)) shown + total use_count (with_texts (texts_with k p)) (new ∷ []);
+    calls = total call_count (with_texts (texts_with k p)) shown + total call_count (with_texts (texts_with k p)) (new ∷ []);
+  }
+
+  fits : HasRoomFor room_then a k.now p
+  fits =
+      has_room k p asked room_then (record { names = refl; versions = refl; entries = refl; defs = refl; uses = refl; calls = refl })
+      (let e = long_then in omega (arith, e))
+      (let e = count_then def_count in let f = counted_as def_count shown in let g = counted_as def_count (new ∷ []) in omega (arith, e, f, g))
+      (let e = count_then use_count in let f = counted_as use_count shown in let g = counted_as use_count (new ∷ []) in omega (arith, e, f, g))
+      (let e = count_then call_count in let f = counted_as call_count shown in let g = counted_as call_count (new ∷ []) in omega (arith, e, f, g))
+      (omega arith) (omega arith)
+
+  -- ---- the plan is the only world to come, and then it is gone to
+  abbrev roomy : Kept
+  roomy = record k { rooms = room_then }
+
+  abbrev kept : Kept
+  kept = record roomy { archive = b }
+
+  abbrev planned : List Turn
+  planned = take (length records) records ++ to_new ∷ []
+
+  all_rooms : KeepsRooms room_then room_then
+  all_rooms = record { files = omega arith; defs = omega arith; uses = omega arith; calls = omega arith; marks = omega arith; frames = omega arith }
+
+  roomy_is : IsRecorded (record { kept = roomy; records = records; done = length records })
+  roomy_is = same_recorded k roomy records (length records) refl refl refl grows is.recorded
+
+  roomy_plan : IsPlan roomy p v
+  roomy_plan = plan_moved k roomy p v refl refl refl plan
+
+  short : length (timeline_in (record { kept = roomy; records = records; done = length records })).past < MOST_CHANGES
+  short =
+      subst (λ n. n < MOST_CHANGES) (sym (past_length (record { kept = roomy; records = records; done = length records }) (omega arith))) few
+
+  next : IsRecorded (record { kept = kept; records = planned; done = length records })
+  next = next_recorded roomy kept records (length records) p (omega arith) keeps refl all_rooms roomy_is v roomy_plan fits valid short
+
+  next_timeline : timeline_in (record { kept = kept; records = planned; done = length records }) ≡ record (timeline_in h) { future = v ∷ [] }
+  next_timeline = next_is roomy kept records (length records) p (omega arith) keeps refl all_rooms roomy_is v roomy_plan
+
+  all_taken : planned ≡ records ++ to_new ∷ []
+  all_taken = ap (λ l. l ++ to_new ∷ []) (take-length records)
+
+  within : length records < length planned
+  within = let e = ap length all_taken ∙ length-append records (to_new ∷ []) in omega (arith, e)
+
+  at_end : to_new ≡ get_or planned (length records) to_new
+  at_end = sym (ap (λ l. get_or l (length records) to_new) all_taken ∙ get_or-append_seam records to_new [] to_new)
+
+  abbrev kept_then : Kept
+  kept_then = (loads_recorded b shown_then (records ++ turned to_new k.now ∷ [])).kept
+
+  now_then : loaded_numbers b shown_then ≡ other b to_new k.now
+  now_then =
+      let n : length b.names ≡ length a.names + 1 = ap length names ∙ length-append a.names (name ∷ []) in
+      let m : length b.texts ≡ length a.texts + 1 = ap length texts ∙ length-append a.texts (text ∷ []) in
+      λ i. record (loaded_numbers b shown_then) {
+        shown = in_order (shown_name b) (sym (without_none shown) i ++ new ∷ []);
+        names = n i;
+        versions = m i;
+      }
+
+  last : slice_set planned (length records) (turned to_new k.now) ≡ records ++ turned to_new k.now ∷ []
+  last = ap (λ l. slice_set l (length records) (turned to_new k.now)) all_taken ∙ set-append_seam records to_new [] (turned to_new k.now)
+
+  abbrev gone : Recorded
+  gone = record { kept = kept_then; records = slice_set planned (length records) (turned to_new k.now); done = length records + 1 }
+
+  gone_is : gone ≡ loads_recorded b shown_then (records ++ turned to_new k.now ∷ [])
+  gone_is =
+      let n : length records + 1 ≡ length (records ++ turned to_new k.now ∷ []) = sym (length-append records (turned to_new k.now ∷ [])) in
+      λ i. record { kept = kept_then; records = last i; done = n i }
+
+  moved : redone (timeline_in (record { kept = kept; records = planned; done = length records })) ≡ Ok (timeline_in gone)
+  moved = redo_is kept planned (length records) to_new within at_end kept_then (turned to_new k.now) refl now_then refl all_rooms next
+
+  pub one_more_recorded : IsRecorded (loads_recorded b shown_then (records ++ turned to_new k.now ∷ []))
+  one_more_recorded =
+      subst IsRecorded gone_is
+      (redo_recorded kept planned (length records) to_new within at_end kept_then (turned to_new k.now) refl now_then refl all_rooms next)
+
+  pub one_more_timeline : timeline_in (loads_recorded b shown_then (records ++ turned to_new k.now ∷ [])) ≡ moved_on (timeline_in h) v
+  one_more_timeline =
+      ap timeline_in (sym gone_is)
+      ∙ redone_next (timeline_in h) (timeline_in (record { kept = kept; records = planned; done = length records })) v next_timeline
+      (timeline_in gone) (Ok tt) moved refl
+
+  pub one_more_timeline_as : (then : List Shown) (u : Turn) → then ≡ shown_then → u ≡ turned to_new k.now
+      → timeline_in (loads_recorded b then (records ++ u ∷ [])) ≡ moved_on (timeline_in h) v
+  one_more_timeline_as then u is_then is_u =
+      (λ i. timeline_in (loads_recorded b (is_then i) (records ++ is_u i ∷ []))) ∙ one_more_timeline
+
+  pub one_more : (then : List Shown) (u : Turn) → then ≡ shown_then → u ≡ turned to_new k.now → AreLoaded b hidden then (records ++ u ∷ [])
+  one_more then u is_then is_u =
+      let n = ap length names ∙ length-append a.names (name ∷ []) in
+      let m = ap length texts ∙ length-append a.texts (text ∷ []) in
+      let r = length-append records (u ∷ []) in
+      let f = ap length is_then ∙ long_then in
+      let named = is.names in
+      let kept_texts = is.versions in
+      let files = is.files in
+      record {
+        hidden = is.hidden;
+        names = omega (arith, n, r, named);
+        versions = omega (arith, m, r, kept_texts);
+        files = omega (arith, f, r, files);
+        ascending = subst (AreAscending b) (sym is_then) (ascending_in_order b (shown ++ new ∷ []) apart_then);
+        recorded = subst (λ t. IsRecorded (loads_recorded b then (records ++ t ∷ []))) (sym is_u)
+            (subst (λ l. IsRecorded (loads_recorded b l (records ++ turned to_new k.now ∷ []))) (sym is_then) one_more_recorded);
+      }
