@@ -1,33 +1,40 @@
 -- Files that are loaded before they are shown.
-use Rattle.std.proofs.Common.{◌≡◌, ◌∙◌, ◌≤◌, ◌<◌, ◌+◌, ℕ, true, false, List, [], ◌∷◌, ◌++◌, None, Ok, refl, sym, ap, subst, length, take, get_or, slice_set, arith, append-nil, length-append, Option}
+use Rattle.std.proofs.Common.{◌≡◌, ◌∙◌, ◌≤◌, ◌<◌, ◌+◌, ℕ, Bool, true, false, List, [], ◌∷◌, ◌++◌, None, Ok, refl, sym, ap, subst, length, take, get_or, slice_set, arith, append-nil, length-append, Option}
 use Rattle.std.proofs.Math.Seq.{take-length, get_or-append_seam, set-append_seam}
-use Rattle.std.specs.Prelude.{slice_get}
-use Rattle.std.specs.List.{AllByRecursion}
-use Rattle.cb_scan.specs.Order.{in_order}
+use Rattle.std.specs.Prelude.{cond, nat_le, not, slice_get, Some, Result, Err, IsErr, MatchResult}
+use Rattle.std.specs.declared.alloc.AllocError.{AllocError}
+use Rattle.std.proofs.lemmas.Bool.{true≢false}
+use Rattle.std.specs.List.{AllByRecursion, list_any}
+use Rattle.cb_scan.specs.Order.{AreOrdered, in_order}
 use Rattle.cb_scan.proofs.FunctionsRise.{all_implied}
 use Rattle.cb_index.specs.Archived.{Archived}
 use Rattle.cb_index.specs.Files.{AreApart, AreAscending, IsThere, call_count, def_count, files_of, is_shown, shown_name, total, use_count}
-use Rattle.cb_index.specs.Shelved.{CanShowAll, Shelved}
+use Rattle.cb_index.specs.Shelved.{AreTotals, CanShowAll, Shelved}
 use Rattle.cb_index.specs.declared.entry.Shown.{Shown}
 use Rattle.cb_index.specs.declared.room.Room.{Room}
+use Rattle.cb_index.specs.declared.totals.Totals.{Totals}
 use Rattle.cb_index.proofs.InOrderLemmas.{length_in_order}
+use Rattle.cb_index.proofs.KeptLemmas.{ascending_sorted}
 use Rattle.cb_index.proofs.ListedLemmas.{ascending_apart, ascending_in_order}
 use Rattle.cb_index.proofs.TotalLemmas.{same_total, total_append, total_in_order, total_more}
+use Rattle.cb_tags.specs.Names.{is_file_name}
 use Rattle.cb_desk.specs.declared.limits.TheConstants.{MOST_CHANGES}
-use Rattle.cb_desk.specs.Files.{loaded}
-use Rattle.cb_desk.specs.Timeline.{Timeline, moved_on, redone}
+use Rattle.cb_desk.specs.declared.refusal.Refusal.{Refusal}
+use Rattle.cb_desk.specs.declared.refusal.Refusal.TheVariants.{BadName, FileExists}
+use Rattle.cb_desk.specs.Files.{load_refusal, loaded}
+use Rattle.cb_desk.specs.Timeline.{Timeline, moved_on, new_timeline, redone}
 use Rattle.cb_desk.specs.World.{IsValidWorld, World, has_file}
 use Rattle.cb_desk.specs.steps.Loading.{AreLoaded, HasRoomToShow, just_room, loaded_numbers, loads_recorded}
 use Rattle.cb_desk.specs.steps.Plans.{HasRoomFor, IsPlan, Keeps, LeadsTo, Planned}
-use Rattle.cb_desk.specs.steps.Records.{AreThere, KeepsRooms, Kept, Numbered, Rooms, Turn, other, turned, without, world_in}
+use Rattle.cb_desk.specs.steps.Records.{AreThere, KeepsRooms, Kept, Numbered, Rooms, Turn, no_numbers, other, turned, without, world_in}
 use Rattle.cb_desk.specs.steps.Room.{texts_with, with_texts}
 use Rattle.cb_desk.specs.steps.Walks.{IsRecorded, Recorded, timeline_in, turns_back}
 use Rattle.cb_desk.proofs.ArchiveMoves.{same_recorded, same_timeline}
 use Rattle.cb_desk.proofs.FilePlans.{load_planned, up}
-use Rattle.cb_desk.proofs.PlacePlans.{without_none}
+use Rattle.cb_desk.proofs.PlacePlans.{settled, without_none}
 use Rattle.cb_desk.proofs.PlanLemmas.{next_is, next_recorded, plan_moved, redone_next}
 use Rattle.cb_desk.proofs.RoomLemmas.{has_room}
-use Rattle.cb_desk.proofs.WalkLemmas.{kept_back, past_length, redo_is, redo_recorded}
+use Rattle.cb_desk.proofs.WalkLemmas.{kept_back, nothing_recorded, past_length, redo_is, redo_recorded}
 
 -- what is loaded is there
 pub all_there : (a : Archived) (hidden shown : List Shown) (records : List Turn) → AreLoaded a hidden shown records
@@ -35,6 +42,86 @@ pub all_there : (a : Archived) (hidden shown : List Shown) (records : List Turn)
 all_there a hidden shown records is =
     let h = loads_recorded a shown records in
     (kept_back h.kept.rooms h.kept.archive h.kept.now (turns_back h) is.recorded.back).there.shown
+
+-- ---- nothing is loaded
+pub none_loaded : (a : Archived) (hidden shown : List Shown) (records : List Turn) → a.names ≡ [] → a.texts ≡ [] → hidden ≡ [] → shown ≡ [] → records ≡ []
+    → AreLoaded a hidden shown records
+unfolding AreOrdered
+none_loaded a hidden shown records names texts none is_shown is_records =
+    let base : AreLoaded a hidden [] [] = record {
+      hidden = none;
+      names = ap length names;
+      versions = ap length texts;
+      files = refl;
+      ascending = tt;
+      recorded = nothing_recorded (loads_recorded a [] []).kept (λ i. record no_numbers { names = length (names i); versions = length (texts i) }) names texts;
+    } in
+    subst (λ ss. AreLoaded a hidden ss records) (sym is_shown) (subst (λ rs. AreLoaded a hidden [] rs) (sym is_records) base)
+
+pub empty_list : {X : Type 0} (xs : List X) → length xs ≡ 0 → xs ≡ []
+empty_list [] none = refl
+empty_list (x ∷ xs) none = absurd (omega (arith, none))
+
+pub nothing_loaded : (a : Archived) (hidden shown : List Shown) (records : List Turn) → AreLoaded a hidden shown records → records ≡ []
+    → timeline_in (loads_recorded a shown records) ≡ new_timeline
+nothing_loaded a hidden shown records is none =
+    let s : shown ≡ [] = empty_list shown (is.files ∙ ap length none) in
+    λ i. timeline_in (loads_recorded a (s i) (none i))
+
+pub some_past : (a : Archived) (hidden shown : List Shown) (records : List Turn) → AreLoaded a hidden shown records → 1 ≤ length records
+    → (timeline_in (loads_recorded a shown records)).past ≡ [] → ⊥
+some_past a hidden shown records is some none =
+    let long = sym (past_length (loads_recorded a shown records) (omega arith)) ∙ ap length none in
+    absurd (omega (arith, some, long))
+
+pub below_most : (n : ℕ) → nat_le MOST_CHANGES n ≡ false → n < MOST_CHANGES
+below_most n few = grind (arith, few)
+
+-- what a refused growth leaves
+pub refused_with : {X : Type 0} (P : X → Type 0) (B : Type 0) (r : Result X AllocError) → IsErr r → B → MatchResult r P (λ _. B)
+refused_with P B (Ok x) is b = absurd (true≢false (sym is))
+refused_with P B (Err e) is b = b
+
+-- what asks for a name that no file has
+fresh_from : (x y : Bool) (rest : Option Refusal) → cond (not x) (Some BadName) (cond y (Some FileExists) rest) ≡ None → y ≡ false
+fresh_from true true rest e = cc
+fresh_from true false rest e = refl
+fresh_from false y rest e = cc
+
+pub fresh_name : (w : World) (name bytes : List ℕ) → load_refusal w name bytes ≡ None → has_file w.files name ≡ false
+fresh_name w name bytes none = fresh_from (is_file_name name) (has_file w.files name) _ none
+
+-- ---- a shelf shows what is loaded
+pub ascending_then : (a b : Archived) (shown : List Shown) → b.names ≡ a.names → AreAscending a shown → AreAscending b shown
+ascending_then a b shown names up = subst (λ ns. AreAscending (record a { names = ns }) shown) (sym names) up
+
+none_shown : (a : Archived) (ss : List Shown) → list_any (is_shown a []) ss ≡ false
+none_shown a [] = refl
+none_shown a (s ∷ ss) = none_shown a ss
+
+pub can_show_loaded : (old s : Shelved) (shown : List Shown) (n : Totals) (entries : ℕ) → old.shown ≡ [] → s.shown ≡ old.shown
+    → s.archive.names ≡ old.archive.names → s.archive.texts ≡ old.archive.texts
+    → AllByRecursion (IsThere old.archive) shown → AreAscending old.archive shown → AreTotals old.archive shown n → entries ≡ length shown
+    → entries ≤ s.entry_room → n.defs ≤ s.def_room → n.uses ≤ s.use_room → n.calls ≤ s.call_room → CanShowAll s shown
+can_show_loaded old s shown n entries none same names texts there up are count files defs uses calls =
+    let empty : s.shown ≡ [] = same ∙ none in
+    let now : (f : Option (List ℕ) → ℕ) → total f s.archive s.shown ≡ 0 = λ f. ap (total f s.archive) empty in
+    let all : (f : Option (List ℕ) → ℕ) → total f old.archive shown ≡ total f s.archive shown = λ f. same_total f old.archive s.archive (sym texts) shown in
+    record {
+      there = all_implied (IsThere old.archive) (IsThere s.archive)
+          (λ t is. (subst (λ l. t.name < length l) (sym names) is.0, subst (λ l. t.version < length l) (sym texts) is.1)) shown there;
+      apart = ascending_apart s.archive shown (ascending_then old.archive s.archive shown names up);
+      other = ap (λ l. list_any (is_shown s.archive l) shown) empty ∙ none_shown s.archive shown;
+      entries = let e = ap length empty in omega (arith, e, count, files);
+      defs = let e = now def_count in let f = all def_count in let g = are.defs in omega (arith, e, f, g, defs);
+      uses = let e = now use_count in let f = all use_count in let g = are.uses in omega (arith, e, f, g, uses);
+      calls = let e = now call_count in let f = all call_count in let g = are.calls in omega (arith, e, f, g, calls);
+    }
+
+pub shown_as_loaded : (s : Shelved) (shown : List Shown) → s.shown ≡ [] → AreAscending s.archive shown
+    → in_order (shown_name s.archive) (s.shown ++ shown) ≡ shown
+shown_as_loaded s shown none up =
+    ap (λ l. in_order (shown_name s.archive) (l ++ shown)) none ∙ settled (shown_name s.archive) shown (ascending_sorted s.archive shown up)
 
 -- ---- an archive with other room
 module _ (a b : Archived) (names : b.names ≡ a.names) (texts : b.texts ≡ a.texts) (shown : List Shown) (records : List Turn)
@@ -80,6 +167,29 @@ pub turn_back : {n m : ℕ} (u : Turn) (count : ℕ) → count ≡ n → count �
     → u ≡ record { hides = record { name = n; version = m } ∷ []; shows = []; wanted = None; marks = []; frames = []; names = n; versions = m }
 turn_back u count named kept is =
     is ∙ (λ i. record { hides = record { name = named i; version = kept i } ∷ []; shows = []; wanted = None; marks = []; frames = []; names = named i; versions = kept i })
+
+-- ---- a world that shows what is loaded
+module _ (a : Archived) (hidden shown : List Shown) (records : List Turn) (k : Kept) (is : AreLoaded a hidden shown records)
+    (now : k.now ≡ loaded_numbers a shown) (names : k.archive.names ≡ a.names) (texts : k.archive.texts ≡ a.texts)
+    (rooms : KeepsRooms (just_room a shown) k.rooms) where
+  pub shown_recorded : IsRecorded (record { kept = k; records = records; done = length records })
+  shown_recorded = same_recorded (loads_recorded a shown records).kept k records (length records) now names texts rooms is.recorded
+
+  pub shown_timeline : timeline_in (record { kept = k; records = records; done = length records }) ≡ timeline_in (loads_recorded a shown records)
+  shown_timeline = same_timeline (loads_recorded a shown records).kept k records (length records) now names texts rooms is.recorded
+
+pub rooms_kept : (a : Archived) (s : Shelved) (shown : List Shown) (r : Rooms) → s.archive.texts ≡ a.texts → HasRoomToShow s shown
+    → r.files ≡ s.entry_room → r.defs ≡ s.def_room → r.uses ≡ s.use_room → r.calls ≡ s.call_room → KeepsRooms (just_room a shown) r
+rooms_kept a s shown r texts has files defs uses calls =
+    let all : (f : Option (List ℕ) → ℕ) → total f s.archive shown ≡ total f a shown = λ f. same_total f s.archive a texts shown in
+    record {
+      files = let h = has.files in omega (arith, h, files);
+      defs = let h = has.defs in let e = all def_count in omega (arith, h, e, defs);
+      uses = let h = has.uses in let e = all use_count in omega (arith, h, e, uses);
+      calls = let h = has.calls in let e = all call_count in omega (arith, h, e, calls);
+      marks = omega arith;
+      frames = omega arith;
+    }
 
 -- ---- one file more
 module _ (a b : Archived) (hidden shown : List Shown) (records : List Turn) (name text : List ℕ) (is : AreLoaded a hidden shown records)

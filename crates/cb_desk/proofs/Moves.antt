@@ -104,7 +104,7 @@ moves-keep-valid meant t u (Err r) valid keeps moves = subst IsValidTimeline (sy
 
 -- ---- changes as they are judged and done
 
-none-from : (o : Option Refusal) → ((r : Refusal) → o ≡ Some r → ⊥) → o ≡ None
+pub none-from : (o : Option Refusal) → ((r : Refusal) → o ≡ Some r → ⊥) → o ≡ None
 none-from None h = refl
 none-from (Some r) h = absurd (h r refl)
 

@@ -1,5 +1,5 @@
 //! Files that are loaded one after another before anything is asked of them.
-ghost use Rattle.std.specs.Prelude.{◌≡◌, ◌≢◌, ◌≤◌, ◌<◌, ◌∷◌, [], false, length, IfErr, MatchResult, OnOk, vec_capacity};
+ghost use Rattle.std.specs.Prelude.{◌≡◌, ◌≢◌, ◌≤◌, ◌<◌, ◌∷◌, [], false, length, nat_le, MatchResult, OnOk, vec_capacity};
 ghost use Rattle.std.specs.List.{AllByRecursion};
 ghost use Rattle.cb_index.specs.Files.{AreAscending, IsThere};
 ghost use Rattle.cb_desk.specs.declared.limits.TheConstants.{MOST_CHANGES};
@@ -124,6 +124,13 @@ impl Loading {
         }
     }
 
+    /// Whether as much is loaded as there may be changes.
+    fn is_full(&self) -> bool
+        ensures { result ≡ nat_le MOST_CHANGES (length self.now.timeline.past) }
+    {
+        self.records.len() >= MOST_CHANGES
+    }
+
     /// Adds a version under a name that no file has.
     fn add(&mut self, alloc: Global, name: Vec<u8>, version: Version) -> Result<(), AllocError>
         requires fresh { has_file self.old.timeline.present.files name.items ≡ false }
@@ -167,7 +174,7 @@ impl Loading {
         if let Some(refusal) = load_refusal(archive, shown, name, bytes.as_slice()) {
             return Err(refusal);
         }
-        if self.records.len() >= MOST_CHANGES {
+        if self.is_full() {
             return Err(Refusal::HistoryFull);
         }
         let name = Vec::from_slice(alloc, name)?;
@@ -188,10 +195,11 @@ impl Loading {
             records,
             meter,
         } = self;
-        let count = records.len() as u32;
-        if count > 0 {
-            show(&mut shelf, shown.as_slice())?;
+        if records.is_empty() {
+            return Ok(Desk::over(History::new(alloc), meter));
         }
+        show(&mut shelf, shown.as_slice())?;
+        let count = records.len() as u32;
         let present = Present::loaded(alloc, shelf, count);
         Ok(Desk::over(History::loaded(present, records), meter))
     }
