@@ -5,7 +5,7 @@ ghost use Rattle.cb_session.specs.Serving.{HasFailed, IfFault, Tells, fault_of};
 ghost use Rattle.cb_session.specs.Operands.{file_of_operand, Prepares, Runs};
 
 use crate::{Ended, Feed, Limits, Session};
-use cb_desk::{Change, Desk};
+use cb_desk::{Loading, Refusal};
 use cb_tags::Sink;
 use std::alloc::Global;
 use std::io::{BufRead, Write};
@@ -21,21 +21,24 @@ pub struct Operand {
 pub type Operands = Vec<Operand>;
 
 /// A session in which the operands are loaded, each as a change that can be taken back. The first
-/// refusal ends it.
+/// refusal ends it; memory that is refused when all are there is refused to the last one.
 pub fn prepare(alloc: Global, operands: Operands) -> Result<Session, Ended>
     ensures { Prepares (map file_of_operand operands.items) result }
 {
-    let mut desk = Desk::new(alloc);
+    let mut loading = Loading::new(alloc);
     let mut place = 0u32;
     for operand in operands {
         let Operand { name, bytes } = operand;
-        match desk.change(alloc, Change::Load(name.as_slice(), bytes)) {
+        match loading.load(alloc, name.as_slice(), bytes) {
             Ok(()) => {}
             Err(refusal) => return Err(Ended::Operand(place, refusal)),
         }
         place += 1;
     }
-    Ok(Session::over(desk))
+    match loading.desk(alloc) {
+        Ok(desk) => Ok(Session::over(desk)),
+        Err(_) => Err(Ended::Operand(place - 1, Refusal::OutOfMemory)),
+    }
 }
 
 /// Loads the operands, and then prompts, reads and replies until the run ends.
