@@ -3,6 +3,7 @@ mod marks;
 mod memory;
 mod moves;
 mod queries;
+mod refused;
 mod reloads;
 mod search;
 

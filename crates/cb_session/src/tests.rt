@@ -1,6 +1,7 @@
 //! Runs over memory. The expected bytes are written by hand from the rules of commands and replies.
 mod definitions;
 mod devices;
+mod each_byte;
 mod frames;
 mod marks;
 mod memory;

@@ -8,6 +8,12 @@ use crate::{Change, Desk, Refusal};
 use std::alloc::Global;
 use std::process::Abort;
 
+/// The call that a test is about begins here: `scripts/each-growth-refused.py` knows this size, and
+/// counts and refuses the growths that follow.
+pub(crate) fn begin(alloc: Global) {
+    let _ = Vec::<u8>::with_capacity(alloc, 70_001);
+}
+
 /// Pushes a frame, and takes a load back.
 fn give_a_future(desk: &mut Desk, alloc: Global) -> Result<(), Refusal> {
     desk.change(alloc, Change::Tag(b"add", 1))?;
@@ -43,6 +49,7 @@ fn is_refused(
     first: Change<'_>,
     again: Change<'_>,
 ) -> bool {
+    begin(alloc);
     let Err(refusal) = desk.change(alloc, first) else {
         return false;
     };
@@ -82,6 +89,7 @@ fn load_meets_a_refusal(rt: &impl Abort, alloc: Global) -> bool {
 /// Scans all files again. Where memory refuses it, nothing has moved, and then it is done. Whether
 /// memory was refused.
 fn rebuild_is_refused(rt: &impl Abort, alloc: Global, desk: &mut Desk) -> bool {
+    begin(alloc);
     let Err(refusal) = desk.rebuild(alloc) else {
         return false;
     };
@@ -129,6 +137,7 @@ fn marked_is_refused(
     first: Change<'_>,
     again: Change<'_>,
 ) -> bool {
+    begin(alloc);
     let Err(refusal) = desk.change(alloc, first) else {
         assert!(rt; desk.redo() == Err(Refusal::NothingToRedo));
         return false;
@@ -173,7 +182,7 @@ fn drop_and_undo(desk: &mut Desk, alloc: Global) -> Result<(), Refusal> {
 }
 
 /// Marked files, and a drop that was taken back.
-fn marked_with_a_future(alloc: Global) -> Result<Desk, Refusal> {
+pub(crate) fn marked_with_a_future(alloc: Global) -> Result<Desk, Refusal> {
     let mut desk = marked_files(alloc)?;
     drop_and_undo(&mut desk, alloc)?;
     Ok(desk)

@@ -51,6 +51,13 @@ fn keep_files(alloc: Global, shelf: &mut Shelf) -> Result<Vec<Shown>, Fail> {
     Ok(files)
 }
 
+/// A shelf that keeps all files and shows none, and the files by their names.
+pub(super) fn filled_shelf(alloc: Global) -> Result<(Shelf, Vec<Shown>), Fail> {
+    let mut shelf = Shelf::new(alloc);
+    let files = keep_files(alloc, &mut shelf)?;
+    Ok((shelf, files))
+}
+
 /// Whether each file that is shown, and no other, uses a name once.
 fn each_uses(shelf: &Shelf, name: &[u8]) -> bool {
     let mut rows = shelf.uses(name);
@@ -68,7 +75,7 @@ fn each_uses(shelf: &Shelf, name: &[u8]) -> bool {
 }
 
 /// The indexes have what is shown.
-fn all_agree(rt: &impl Abort, shelf: &Shelf) {
+pub(super) fn all_agree(rt: &impl Abort, shelf: &Shelf) {
     let defs = shelf.shown().len().saturating_mul(FUNCTIONS);
     assert_eq!(rt; shelf.tags().len(), defs);
     assert_eq!(rt; shelf.all_defs().len(), defs);
@@ -84,7 +91,7 @@ fn next(seed: u64) -> u64 {
 }
 
 /// Hides a file that is shown, and shows one that is not.
-fn turn(shelf: &mut Shelf, file: Shown) -> Result<(), Fail> {
+pub(super) fn turn(shelf: &mut Shelf, file: Shown) -> Result<(), Fail> {
     if shelf.shown().iter().any(|s| s.name == file.name) {
         shelf.hide(file.name);
         return Ok(());

@@ -14,7 +14,7 @@ use std::test::Fail;
 const OTHER: &[u8] = b"int Mb(void) {\n}\n";
 
 /// The version `version` under the name `name`.
-fn one(name: u32, version: u32) -> Shown {
+pub(super) fn one(name: u32, version: u32) -> Shown {
     Shown { name, version }
 }
 
@@ -28,7 +28,7 @@ fn keep_two_files(alloc: Global, shelf: &mut Shelf) -> Result<(), Fail> {
     Ok(())
 }
 
-fn shows_both(rt: &impl Abort, shelf: &Shelf) -> Result<(), Fail> {
+pub(super) fn shows_both(rt: &impl Abort, shelf: &Shelf) -> Result<(), Fail> {
     let tags: [&[u8]; 5] = [b"Mb", b"main", b"TWICE", b"add", b"word"];
     has_tags(rt, shelf.tags(), &tags)?;
     let names: [&[u8]; 5] = [b"Mb", b"TWICE", b"add", b"main", b"word"];
@@ -94,7 +94,14 @@ fn show_in_turn(alloc: Global, shelf: &mut Shelf, files: &[Shown]) -> Result<(),
     Ok(())
 }
 
-/// The same; then both are shown.
+/// A shelf that keeps two files, of which `files` are shown one after another.
+pub(super) fn shown_in_turn(alloc: Global, files: &[Shown]) -> Result<Shelf, Fail> {
+    let mut shelf = Shelf::new(alloc);
+    show_in_turn(alloc, &mut shelf, files)?;
+    Ok(shelf)
+}
+
+/// `show_in_turn`; then both are shown.
 fn show_both_in_turn(
     rt: &impl Abort,
     alloc: Global,
