@@ -1,6 +1,6 @@
 //! The block of a `:load` or a `:reload`.
 ghost use Rattle.std.specs.Prelude.{◌≡◌, List, ℕ, Some, IfOk, IfErr};
-ghost use Rattle.cb_session.specs.Devices.{HoldsOut};
+ghost use Rattle.cb_session.specs.Devices.{HoldsOut, WhateverFollows};
 ghost use Rattle.cb_desk.specs.Models.{step_of};
 ghost use Rattle.cb_session.specs.Inputs.{change_with, with_block};
 ghost use Rattle.cb_session.specs.Models.{request_of, HasPattern};
@@ -21,6 +21,7 @@ fn read_block<R: BufRead>(
     feed: &mut Feed<R>,
 ) -> Result<Option<Vec<u8>>, Fault>
     ensures block { (bytes : List ℕ) → feed.old.bytes ≡ Some bytes → ReadsBlock count bytes feed.new result }
+    ensures every_input { WhateverFollows feed.old feed.new (λ bytes left. ReadsBlock count bytes left result) }
     ensures failed { IfErr result (IsReadFault feed.old feed.new) }
     ensures fine { IfOk result (λ _. HoldsOut feed.old feed.new) }
 {
@@ -56,6 +57,7 @@ pub fn read_change<'a, R: BufRead>(
     feed: &mut Feed<R>,
 ) -> Result<Input<'a>, Fault>
     ensures first { (bytes : List ℕ) → feed.old.bytes ≡ Some bytes → Reads (with_block (block purpose name.now count) bytes) feed.new result }
+    ensures every_input { WhateverFollows feed.old feed.new (λ bytes left. Reads (with_block (block purpose name.now count) bytes) left result) }
     ensures failed { IfErr result (IsReadFault feed.old feed.new) }
     ensures fine { IfOk result (λ _. HoldsOut feed.old feed.new) }
     ensures pattern { IfOk result (λ input. HasPattern (request_of input)) }

@@ -46,7 +46,7 @@ impl Intake {
     ghost use Rattle.cb_session.specs.Models.{request_of, HasPattern};
     ghost use Rattle.cb_session.specs.Reading.{Reads, IsReadFault};
     ghost use Rattle.cb_session.specs.steps.Lines.{ReadsLine};
-    ghost use Rattle.cb_session.specs.Devices.{HoldsOut};
+    ghost use Rattle.cb_session.specs.Devices.{HoldsOut, WhateverFollows};
 
     /// An intake with room for one line.
     pub fn new(alloc: Global) -> Result<Intake, OutOfMemory>
@@ -65,6 +65,7 @@ impl Intake {
         feed: &mut Feed<R>,
     ) -> Result<Input<'_>, Fault>
         ensures first { (bytes : List ℕ) → feed.old.bytes ≡ Some bytes → Reads (first limits.now.line bytes) feed.new result }
+        ensures every_input { WhateverFollows feed.old feed.new (λ bytes left. Reads (first limits.now.line bytes) left result) }
         ensures failed { IfErr result (IsReadFault feed.old feed.new) }
         ensures fine { IfOk result (λ _. HoldsOut feed.old feed.new) }
         ensures pattern { IfOk result (λ input. HasPattern (request_of input)) }
@@ -88,6 +89,7 @@ impl Intake {
         feed: &mut Feed<R>,
     ) -> Result<LineRead, Fault>
         ensures line { (bytes : List ℕ) → feed.old.bytes ≡ Some bytes → ReadsLine limits.now.line bytes feed.new self.new.line.items result }
+        ensures every_input { WhateverFollows feed.old feed.new (λ bytes left. ReadsLine limits.now.line bytes left self.new.line.items result) }
         ensures failed { IfErr result (IsReadFault feed.old feed.new) }
         ensures fine { IfOk result (λ _. HoldsOut feed.old feed.new) }
     {

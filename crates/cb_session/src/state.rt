@@ -3,6 +3,7 @@ ghost use Rattle.std.specs.Prelude.{◌≡◌, Bool, List, ℕ, Some, IfOk, IfSo
 ghost use Rattle.cb_desk.specs.Models.{step_of};
 ghost use Rattle.cb_desk.specs.Step.{want};
 ghost use Rattle.cb_desk.specs.Timeline.{new_timeline};
+ghost use Rattle.cb_session.specs.Devices.{WhateverFollows};
 ghost use Rattle.cb_session.specs.Inputs.{first, inputs, ending_of};
 ghost use Rattle.cb_session.specs.Models.{request_of, going_of, HasPattern};
 ghost use Rattle.cb_session.specs.Serving.{Does, LeavesRun, HasFailed, IfFault, Tells, fault_of};
@@ -139,6 +140,7 @@ impl Session {
         out: &mut Sink<W>,
     ) -> Ended
         ensures output { (bytes : List ℕ) → feed.old.bytes ≡ Some bytes → LeavesRun (inputs limits.now.lines limits.now.line bytes) self.old out.old out.new result }
+        ensures every_input { WhateverFollows feed.old feed.new (λ bytes _. LeavesRun (inputs limits.now.lines limits.now.line bytes) self.old out.old out.new result) }
         ensures failed { IfFault result (HasFailed feed.new out.new) }
         ensures told { Tells feed.old feed.new out.old out.new (fault_of result) }
     {
@@ -160,6 +162,7 @@ impl Session {
         out: &mut Sink<W>,
     ) -> Ended
         ensures output { (bytes : List ℕ) → feed.old.bytes ≡ Some bytes → LeavesRun (inputs limits.now.lines limits.now.line bytes) self.old out.old out.new result }
+        ensures every_input { WhateverFollows feed.old feed.new (λ bytes _. LeavesRun (inputs limits.now.lines limits.now.line bytes) self.old out.old out.new result) }
         ensures failed { IfFault result (HasFailed feed.new out.new) }
         ensures told { Tells feed.old feed.new out.old out.new (fault_of result) }
     {
@@ -187,6 +190,7 @@ impl Session {
         out: &mut Sink<W>,
     ) -> Result<Option<Ended>, Fault>
         ensures round { (bytes : List ℕ) → feed.old.bytes ≡ Some bytes → (out_of_memory : Bool) × LeavesRound out_of_memory (first limits.now.line bytes) self.old self.new feed.new out.old out.new result }
+        ensures every_input { WhateverFollows feed.old feed.new (λ bytes left. (out_of_memory : Bool) × LeavesRound out_of_memory (first limits.now.line bytes) self.old self.new left out.old out.new result) }
         ensures failed { MatchResult result (λ ending. IfSome ending (λ ended. IfFault ended (HasFailed feed.new out.new))) (HasFailed feed.new out.new) }
         ensures told { Tells feed.old feed.new out.old out.new (fault_in result) }
     {
