@@ -1,4 +1,6 @@
 //! The lines that hold a text. Expected lines are counted by hand.
+ghost use Rattle.std.specs.Prelude.{◌≢◌, []};
+
 use super::load_text;
 use crate::search::TextLines;
 use crate::{Desk, Field, Refusal};
@@ -8,7 +10,9 @@ use std::alloc::{AllocError, Global};
 use std::process::Abort;
 
 /// Whether the lines of a source that hold a pattern are these.
-fn are_lines(source: &Source, finder: &Finder<'_>, lines: &[u32]) -> bool {
+fn are_lines(source: &Source, finder: &Finder<'_>, lines: &[u32]) -> bool
+    requires { finder.now ≢ [] }
+{
     let mut found = TextLines::new(source, finder);
     for line in lines {
         if found.next() != Some(*line) {
