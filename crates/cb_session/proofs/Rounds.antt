@@ -182,8 +182,8 @@ Follows-next lines limit start old n left t next feed mid after out new e s h =
     (λ bytes at. (out_of_memory : Bool) × LeavesRound out_of_memory (first limit bytes) t next at out new (Ok None))
     (λ bytes at. Rounds lines limit bytes start old left next at new) s h
     (λ bytes more at rounds round.
-        Rounds-next lines limit bytes start old n left t next (leaving mid more) at out new e rounds
-        (λ rest same. subst (λ l. (out_of_memory : Bool) × LeavesRound out_of_memory (first limit l) t next at out new (Ok None)) (Some-same more rest same) round))
+    Rounds-next lines limit bytes start old n left t next (leaving mid more) at out new e rounds
+    (λ rest same. subst (λ l. (out_of_memory : Bool) × LeavesRound out_of_memory (first limit l) t next at out new (Ok None)) (Some-same more rest same) round))
 
 pub Follows-stop : (lines limit : ℕ) (start : Timeline) (old : Writer) (n left : ℕ) (t : Timeline) (feed mid after : Reader) (out new : Writer) (ended : Ended) → n ≡ suc left
     → WhateverFollows feed mid (λ bytes at. Rounds lines limit bytes start old n t at out)
@@ -194,10 +194,10 @@ Follows-stop lines limit start old n left t feed mid after out new ended e s h =
     (λ bytes at. (out_of_memory : Bool) × Leaves (exchange out_of_memory t (first limit bytes).request) (ending_of (first limit bytes).request) out new ended)
     (λ bytes at. LeavesRun (inputs lines limit bytes) start old new ended) s h
     (λ bytes more at rounds round.
-        Rounds-stop lines limit bytes start old n left t (leaving mid more) out new ended e rounds
-        (λ rest same.
-            subst (λ l. (out_of_memory : Bool) × Leaves (exchange out_of_memory t (first limit l).request) (ending_of (first limit l).request) out new ended)
-            (Some-same more rest same) round))
+    Rounds-stop lines limit bytes start old n left t (leaving mid more) out new ended e rounds
+    (λ rest same.
+    subst (λ l. (out_of_memory : Bool) × Leaves (exchange out_of_memory t (first limit l).request) (ending_of (first limit l).request) out new ended)
+    (Some-same more rest same) round))
 
 pub Follows-out : (lines limit : ℕ) (start : Timeline) (old : Writer) (n : ℕ) (t : Timeline) (feed after : Reader) (out : Writer) → n ≡ zero
     → WhateverFollows feed after (λ bytes at. Rounds lines limit bytes start old n t at out)
