@@ -1,5 +1,5 @@
 # make: proves every crate, and builds the program where there is one. make test: the gate.
-# make install, make uninstall: the program, its stand-in for cscope and its manual page under PREFIX.
+# make install, make uninstall: the program, its two companions in sh, cbrowse.vim and the manual pages under PREFIX.
 .PHONY: all prove program test install uninstall clean
 
 PREFIX ?= /usr/local
@@ -23,16 +23,18 @@ test:
 
 # The program is copied as it stands in bin: nothing is proved anew, unless there is none. DESTDIR goes before PREFIX.
 install: bin/cbrowse
-	install -d $(DESTDIR)$(PREFIX)/bin $(DESTDIR)$(PREFIX)/share/man/man1
-	install -m 755 bin/cbrowse editors/cbrowse-cscope $(DESTDIR)$(PREFIX)/bin
-	install -m 644 man/cbrowse.1 $(DESTDIR)$(PREFIX)/share/man/man1/cbrowse.1
+	install -d $(DESTDIR)$(PREFIX)/bin $(DESTDIR)$(PREFIX)/share/man/man1 $(DESTDIR)$(PREFIX)/share/cbrowse
+	install -m 755 bin/cbrowse editors/cbrowse-cscope editors/cbrowse-tree $(DESTDIR)$(PREFIX)/bin
+	install -m 644 man/cbrowse.1 man/cbrowse-tree.1 $(DESTDIR)$(PREFIX)/share/man/man1
+	install -m 644 editors/cbrowse.vim $(DESTDIR)$(PREFIX)/share/cbrowse
 
 bin/cbrowse:
 	$(MAKE) program
 
 uninstall:
-	rm -f $(DESTDIR)$(PREFIX)/bin/cbrowse $(DESTDIR)$(PREFIX)/bin/cbrowse-cscope
-	rm -f $(DESTDIR)$(PREFIX)/share/man/man1/cbrowse.1
+	rm -f $(DESTDIR)$(PREFIX)/bin/cbrowse $(DESTDIR)$(PREFIX)/bin/cbrowse-cscope $(DESTDIR)$(PREFIX)/bin/cbrowse-tree
+	rm -f $(DESTDIR)$(PREFIX)/share/man/man1/cbrowse.1 $(DESTDIR)$(PREFIX)/share/man/man1/cbrowse-tree.1
+	rm -rf $(DESTDIR)$(PREFIX)/share/cbrowse
 
 clean:
 	rm -rf bin crates/*/out

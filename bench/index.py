@@ -40,14 +40,14 @@ WANTED = {  # the figures that were aimed at: milliseconds, or bytes
 }
 
 
-def c_files(folder, most):
-    """The C sources under a folder, ascending by the bytes of their names, and their sizes."""
+def c_files(folder, most, largest=1_000_000):
+    """The C sources under a folder that are not too large, ascending by the bytes of their names, and their sizes."""
     found = {}
     for place, _, files in os.walk(folder):
         for file in files:
             path = pathlib.Path(place, file)
             name = str(path.relative_to(folder))
-            if file.endswith((".c", ".h")) and re.fullmatch("[!-~]{2,255}", name) and path.stat().st_size <= 1_000_000:
+            if file.endswith((".c", ".h")) and re.fullmatch("[!-~]{2,255}", name) and path.stat().st_size <= largest:
                 found[name] = path.stat().st_size
     names = sorted(found, key=os.fsencode)[:most]
     return {name: found[name] for name in names}

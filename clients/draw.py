@@ -32,6 +32,7 @@ WRONG = [b"0", b"1", b"2", b"3", b"4", b"5", b"6", b"7", b"8", b"9", b"6a", b"9a
          b":tag f x", b":tag f 1 2", b":tag f 0", b":tag f 999999999", b":tags ", b":tags 0", b":tags 3", b":tags 1 2",
          b":drop", b":drop a.c ", b":rename", b":rename a.c", b":rename a.c b.c c.c", b":load", b":load a.c",
          b":load a.c x", b":load a.c 1 2", b":load a.c 1000001", b":load a.c 1\r", b":load a.c 0000000001", b"\r",
+         b":reload", b":reload a.c", b":reload a.c x", b":reload a.c 1 ", b":reload a.c 1000001", b":reloada.c 1",
          b"\t", b"\xff"]
 
 
@@ -46,7 +47,7 @@ class Draw:
         world = session.present
         files, wanted, marked = len(world.files), world.wanted is not None, bool(world.marks)
         weights = {
-            self.load: 8 if files < 2 else 3, self.drop: 1 if files else 0.2,
+            self.load: 8 if files < 2 else 3, self.reload: 3 if files else 0.2, self.drop: 1 if files else 0.2,
             self.rename: 4 if marked else 2 if files else 0.2,
             self.want: 6 if files and not marked else 2, self.mark: 8 if wanted else 0.3,
             self.mark_all: 3 if wanted else 0.2, self.to: 6 if marked else 0.5, self.change: 3 if files else 0.2,
@@ -145,8 +146,15 @@ class Draw:
         name, text = self.name(world, False), self.file()
         return self.load_of(name, text)
 
-    def load_of(self, name, text):
-        return b":load %s %s\n%s" % (name, self.one(b"%d", b"%d", b"%09d") % len(text), text)
+    def load_of(self, name, text, word=b":load"):
+        return b"%s %s %s\n%s" % (word, name, self.one(b"%d", b"%d", b"%09d") % len(text), text)
+
+    def reload(self, world):
+        """Other bytes for a file: new ones, those that it has, or these with a line more."""
+        name = self.place_name(world)
+        held = world.files.get(name, b"")
+        text = self.one(self.file(), self.file(), held, self.line() + b"\n" + held)
+        return self.load_of(name, text, b":reload") + self.one(b"", b":marks\n", b":stack\n", b":undo\n")
 
     def place_name(self, world):
         """The name of a file: often one with a mark or a frame."""
@@ -231,4 +239,4 @@ class Draw:
 
     def end(self, _):
         return self.one(b"q\n", b"q and more\n", b"\x04\n", b"\x04a\n", b":load b.h 9\nint", b":load b.txt 1\n",
-                        b":load a.c 1")
+                        b":load a.c 1", b":reload a.c 9\nint", b":reload a.c 1")

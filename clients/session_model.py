@@ -133,6 +133,13 @@ def load(world, name, text):
     return world._replace(files={**world.files, name: text})
 
 
+def reload(world, name, text):
+    refuse_if(name not in world.files, "no such file")
+    refuse_if(len(text) > MOST_BYTES, "too large")
+    gone = drop(world, name)
+    return gone._replace(files={**gone.files, name: text})
+
+
 def drop(world, name):
     refuse_if(name not in world.files, "no such file")
     return world._replace(files={file: text for file, text in world.files.items() if file != name},
@@ -264,7 +271,7 @@ class Session:
 
     def block_size(self, line):
         """How many bytes of a block belong to a line."""
-        found = re.fullmatch(rb":load [^ ]* ([0-9]{1,9})", line, re.DOTALL)
+        found = re.fullmatch(rb":(?:re)?load [^ ]* ([0-9]{1,9})", line, re.DOTALL)
         fits = found is not None and len(line) <= MOST_LINE and int(found[1]) <= MOST_BYTES
         return int(found[1]) if fits else 0
 
@@ -292,7 +299,9 @@ class Session:
 
     def command(self, word, rest, block):
         if word == b":load":
-            return self.load(rest, block)
+            return self.change_with(load, rest, block)
+        if word == b":reload":
+            return self.change_with(reload, rest, block)
         if word == b":drop":
             return self.change(drop, *words_in(rest, b""))
         if word == b":rename":
@@ -310,14 +319,15 @@ class Session:
             return lines_reply((plain_lines if number == 1 else extended_lines)(self.present))
         return self.lone_command(word, rest)
 
-    def load(self, rest, block):
+    def change_with(self, step, rest, block):
+        """A change that brings a block."""
         name, count = words_in(rest, b"", b"")
         size = number_of(count)
         refuse_if(size > MOST_BYTES, "bad count")
         if len(block) < size:
             self.ended = b"cbrowse: input ended\n"
             raise Refused("input ended")
-        return self.change(load, name, block)
+        return self.change(step, name, block)
 
     def lone_command(self, word, rest):
         """A command that stands alone on its line."""

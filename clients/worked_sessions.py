@@ -16,6 +16,7 @@ int main(void) {
 ADD = [b"a.c <unknown> 2 #define TWICE(x) ((x) + add(x, 0))", b"a.c <unknown> 4 static int add(int a, int b) {",
        b"a.c <unknown> 8 return add(1, 2) / TWICE(3);"]
 SUM = [row.replace(b"add", b"sum") for row in ADD]
+RETURN = [b"a.c <unknown> 5 return a + b;", b"a.c <unknown> 8 return add(1, 2) / TWICE(3);"]
 CALLS_ADD = [b"a.c TWICE 2 #define TWICE(x) ((x) + add(x, 0))", b"a.c main 8 return add(1, 2) / TWICE(3);"]
 CALLS_SUM = [row.replace(b"add", b"sum") for row in CALLS_ADD]
 C_C = b"void f(void) {\n    }\nint g(void) {\n\th();\n}\nint k(void) {\n}\n"
@@ -83,6 +84,16 @@ WORKED = {
         (b"5}\n", rows(b"c.c <unknown> 2 }", b"c.c <unknown> 5 }", b"c.c <unknown> 7 }")), (b":mark 1\n", DONE),
         (b":to\n", DONE), (b"3h\n", rows(b"c.c f 4 h();")), (b"1g\n", rows()),
         (b"2f\n", rows(b"c.c g 3 int g(void) {", b"c.c h 4 h();")), (b"1k\n", rows(b"c.c k 6 int k(void) {"))),
+    "a reload and its undo": session(
+        {b"a.c": A_C, b"m.c": b"int Mb(void) {\n}\n"}, (b":tag Mb\n", DONE), (b":tag add\n", DONE), (b"5return\n", rows(*RETURN)),
+        (b":markall\n", DONE), (b":reload a.c 17\nint Ma(void) {\n}\n", DONE), (b":marks\n", rows()),
+        (b":stack\n", rows(b"m.c <unknown> 1 int Mb(void) {")), (b":to x\n", refused(b"nothing marked")),
+        (b":tags\n", rows(b"Ma\ta.c\t/^int Ma(void) {$/", b"Mb\tm.c\t/^int Mb(void) {$/")), (b":undo\n", DONE),
+        (b":marks\n", rows(*RETURN)),
+        (b":stack\n", rows(b"a.c <unknown> 4 static int add(int a, int b) {", b"m.c <unknown> 1 int Mb(void) {")),
+        (b":reload q.c 1\nx", refused(b"no such file")), (b":reload a.c 1000001\n", refused(b"bad count")),
+        (b":reload a.c 0\n", DONE), (b"1add\n", rows()), (b":undo\n", DONE),
+        (b"1add\n", rows(b"a.c add 4 static int add(int a, int b) {"))),
     "a file that redo brings back": session(
         {}, (b":load y.c 4\naaa\n", DONE), (b":undo\n", DONE), (b":drop x.c\n", refused(b"no such file")),
         (b":redo\n", DONE), (b"7y\n", rows(b"y.c <unknown> 1 <unknown>"))),

@@ -18,7 +18,7 @@ use Rattle.cb_desk.specs.Places.{is_in, same_place, is_place_of, without_places,
 use Rattle.cb_desk.specs.Search.{holds, lines_with}
 use Rattle.cb_desk.specs.World.{File, Place, has_file, text_of_file, place_key, IsAscending, AreAscending, IsPlaceOf, IsMarkIn, AreMarksFor, AreValidMarks, AreValidFiles}
 use Rattle.cb_desk.specs.steps.Held.{held_in, held_places}
-use Rattle.cb_desk.specs.steps.Shared.{file_named}
+use Rattle.cb_desk.specs.steps.Named.{file_named}
 use Rattle.cb_desk.proofs.Placed.{by_name}
 use Rattle.cb_desk.proofs.PlaceLemmas.{IsAt, place-there, places-with, places-without, places-renamed, moved, same-name, own-texts}
 use Rattle.cb_desk.proofs.PlaceOrder.{Apart, Strict, all-put, all-in_order, in_order-strict, put-strict, apart-from, cmp-places, one-place, nat-less, name-equal}

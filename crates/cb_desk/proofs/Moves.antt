@@ -5,8 +5,8 @@ use Rattle.cb_desk.specs.declared.limits.TheConstants.{MOST_CHANGES}
 use Rattle.cb_desk.specs.declared.refusal.Refusal.{Refusal}
 use Rattle.cb_desk.specs.declared.refusal.Refusal.TheVariants.{HistoryFull, OutOfMemory}
 use Rattle.cb_desk.specs.World.{World, IsValidWorld}
-use Rattle.cb_desk.specs.Step.{Step, load, unload, rename, want, mark, mark_all, replace, tag, pop, refusal_of, after, step}
-use Rattle.cb_desk.specs.Timeline.{Timeline, IsValidTimeline, moved_on, advanced, changed, back_to, undone, on_to, redone, judged, Changes}
+use Rattle.cb_desk.specs.Step.{Step, refusal_of, after, step}
+use Rattle.cb_desk.specs.Timeline.{Timeline, IsValidTimeline, moved_on, advanced, changed, back_to, undone, on_to, redone, judged, Changes, Moves}
 use Rattle.cb_desk.specs.Laws.{UndoTakesBack, RedoTakesBack}
 use Rattle.cb_desk.proofs.StepsValid.{step_keeps_valid}
 
@@ -96,19 +96,15 @@ pub redo_keeps_valid : (t u : Timeline) → IsValidTimeline t → redone t ≡ O
 unfolding redone
 redo_keeps_valid t u valid h = on-valid t.future t u refl valid h
 
--- ---- changes as they are judged and done
-no-memory-when-done : (s : Step) (t : Timeline) → judged true s (Ok t) ≡ Err OutOfMemory
-no-memory-when-done (load name bytes) t = refl
-no-memory-when-done (unload name) t = refl
-no-memory-when-done (rename old new) t = refl
-no-memory-when-done (want text) t = refl
-no-memory-when-done (mark n) t = refl
-no-memory-when-done mark_all t = refl
-no-memory-when-done (replace text) t = refl
-no-memory-when-done (tag name n) t = refl
-no-memory-when-done pop t = refl
+-- ---- what moves as meant stays valid
+pub moves-keep-valid : (meant : Result Timeline Refusal) (t u : Timeline) (r : Result (Unit {0}) Refusal) → IsValidTimeline t
+    → ((v : Timeline) → meant ≡ Ok v → IsValidTimeline v) → Moves meant t u r → IsValidTimeline u
+moves-keep-valid meant t u (Ok x) valid keeps moves = keeps u moves
+moves-keep-valid meant t u (Err r) valid keeps moves = subst IsValidTimeline (sym moves.1) valid
 
-none-from : (o : Option Refusal) → ((r : Refusal) → o ≡ Some r → ⊥) → o ≡ None
+-- ---- changes as they are judged and done
+
+pub none-from : (o : Option Refusal) → ((r : Refusal) → o ≡ Some r → ⊥) → o ≡ None
 none-from None h = refl
 none-from (Some r) h = absurd (h r refl)
 
@@ -142,8 +138,7 @@ module _ (t : Timeline) (s : Step) (present : World) (same : present ≡ t.prese
       unfolding changed
       no-memory short u kept e err =
           let l = sym is ∙ short in
-          let refused = no-memory-when-done s (moved_on t (after t.present s)) in
-          rw (kept, err) (true, (rw (accepted-step, l) refused, refl))
+          rw (kept, err) (true, (rw (accepted-step, l) refl, refl))
 
       -- the step is done
       pub done : b ≡ false → (u : Timeline) (w : World) → w ≡ after present s → u ≡ moved_on t w

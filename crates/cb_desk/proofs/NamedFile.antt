@@ -8,7 +8,7 @@ use Rattle.std.proofs.lemmas.Cmp.{nat_list_cmp_total}
 use Rattle.std.proofs.lemmas.Map.Text.{is_eq-slice_cmp}
 use Rattle.std.proofs.lemmas.Slice.Eq.{bytes_eq-Decides}
 use Rattle.cb_desk.specs.World.{File, is_named, has_file, text_of_file, IsAscending}
-use Rattle.cb_desk.specs.steps.Shared.{file_named}
+use Rattle.cb_desk.specs.steps.Named.{file_named}
 use Rattle.cb_desk.proofs.Placed.{by_name, less-from}
 
 -- the order of a name and another

@@ -1,5 +1,5 @@
 -- Which text a name has among files, before and after a change, and the places that stay valid.
-use Rattle.std.proofs.Common.{◌≡◌, ◌∙◌, sym, ap, refl, subst, ℕ, zero, suc, ◌≤◌, Bool, true, false, not, ◌||◌, cond, List, [], ◌∷◌, ◌++◌, filter, map, length, take, Some, slice_get, bytes_eq, nat_cmp, is_lt, Less, arith}
+use Rattle.std.proofs.Common.{◌≡◌, ◌∙◌, sym, ap, refl, subst, ℕ, zero, suc, ◌≤◌, Bool, true, false, not, ◌||◌, cond, List, [], ◌∷◌, ◌++◌, filter, map, length, take, Some, slice_get, bytes_eq, nat_cmp, is_lt, Less, arith, IsTrue}
 use Rattle.std.specs.List.{AllByRecursion}
 use Rattle.std.specs.Cmp.Lexicographic.{slice_cmp}
 use Rattle.std.proofs.lemmas.Slice.Eq.{bytes_eq-Decides}
@@ -12,6 +12,7 @@ use Rattle.bstr.specs.Text.{lines_of, without_terminator}
 use Rattle.std.proofs.lemmas.List.{length-map}
 use Rattle.cb_scan.proofs.FactsWithin.{facts_lie}
 use Rattle.cb_scan.proofs.LineTable.{lines-few}
+use Rattle.cb_tags.specs.Names.{is_file_name}
 use Rattle.cb_desk.specs.Answer.{defines}
 use Rattle.cb_desk.specs.declared.limits.TheConstants.{MOST_BYTES}
 use Rattle.cb_desk.specs.World.{File, Place, is_named, has_file, text_of_file, IsAscending, IsPlaceOf}
@@ -143,6 +144,19 @@ other-name files there gone e k =
 not-true : (b : Bool) → not b ≡ true → b ≡ false
 not-true true e = cc
 not-true false e = refl
+
+-- a name that is there is a file name where all are
+pub name-good : (files : List File) (name : List ℕ) → has_file files name ≡ true → AllByRecursion (λ (f : File). IsTrue (is_file_name f.name)) files → is_file_name name ≡ true
+name-good [] name there all = cc
+name-good (f ∷ files) name there all =
+    (elim (is_named name f) as (λ b. is_named name f ≡ b → b || has_file files name ≡ true → is_file_name name ≡ true) [
+      | true ↦ λ h _. subst (λ n. is_file_name n ≡ true) (same-name f.name name h) all.0
+      | false ↦ λ _ e. name-good files name e all.1
+    ]) refl there
+
+-- a file that was taken away is not there
+pub is-gone : (files : List File) (name : List ℕ) → has_file (without_file name files) name ≡ false
+is-gone files name = has-kept (λ f. not (is_named name f)) false name (λ f e. ap not e) files
 
 -- a file that is not there is not there without another one
 pub still-gone : (files : List File) (gone name : List ℕ) → has_file files name ≡ false → has_file (without_file gone files) name ≡ false

@@ -152,6 +152,12 @@ cmp-places (x ∷ a) (y ∷ b) l m =
     assoc Equal p q = refl
     assoc Greater p q = refl
 
+-- an order that is not equal decides
+pub first-decides : (o p : Ordering) → o ≢ Equal → ordering_then o p ≡ o
+first-decides Less p other = refl
+first-decides Equal p other = absurd (other refl)
+first-decides Greater p other = refl
+
 -- a key is of one place alone
 pub one-place : (p q : Place) → place_key p ≡ place_key q → (p.file ≡ q.file) × (p.line ≡ q.line)
 one-place p q e = parts p.file q.file p.line q.line e

@@ -29,11 +29,11 @@ not_before-above f x y out up =
       | false ↦ λ h. refl
     ]) refl
 
-none_before : (f x : File) (ys : List File) → is_before f x ≡ false → AllByRecursion (λ y. by_name x y ≡ Less) ys → filter (is_before f) ys ≡ []
+pub none_before : (f x : File) (ys : List File) → is_before f x ≡ false → AllByRecursion (λ y. by_name x y ≡ Less) ys → filter (is_before f) ys ≡ []
 none_before f x [] out up = refl
 none_before f x (y ∷ ys) out up = rw (not_before-above f x y out up.0) (none_before f x ys out up.1)
 
-all_after : (f x : File) (ys : List File) → is_before f x ≡ false → AllByRecursion (λ y. by_name x y ≡ Less) ys → filter (λ g. not (is_before f g)) ys ≡ ys
+pub all_after : (f x : File) (ys : List File) → is_before f x ≡ false → AllByRecursion (λ y. by_name x y ≡ Less) ys → filter (λ g. not (is_before f g)) ys ≡ ys
 all_after f x [] out up = refl
 all_after f x (y ∷ ys) out up = rw (not_before-above f x y out up.0) (ap (λ zs. y ∷ zs) (all_after f x ys out up.1))
 

@@ -3,7 +3,7 @@ use Rattle.std.proofs.Common.{◌≡◌, ◌∙◌, sym, ap, refl, ℕ, suc, Boo
 use Rattle.cb_desk.specs.declared.limits.TheConstants.{MOST_CHANGES}
 use Rattle.cb_desk.specs.declared.refusal.Refusal.{Refusal}
 use Rattle.cb_desk.specs.declared.refusal.Refusal.TheVariants.{HistoryFull}
-use Rattle.cb_desk.specs.Step.{Step, load, unload, rename, want, mark, mark_all, replace, tag, pop, step}
+use Rattle.cb_desk.specs.Step.{Step, step}
 use Rattle.cb_desk.specs.Survivors.{Kept, Move, TimelineIsReplayed, change, joined, kept_after, kept_by, moved_after, moved_by, none_kept, or_before, or_stays, redo, replay, timeline_of, undo, worlds_after, worlds_before}
 use Rattle.cb_desk.specs.Timeline.{Timeline, advanced, changed, judged, moved_on, new_timeline, redone, undone}
 use Rattle.cb_desk.specs.World.{World}
@@ -15,23 +15,8 @@ worlds-counted (s ∷ ss) = ap suc (worlds-counted ss)
 
 -- memory refused leaves the timeline
 refused-stays : (t : Timeline) (s : Step) (r : Result Timeline Refusal) → or_stays t (judged true s r) ≡ t
-refused-stays t (load name bytes) (Ok u) = refl
-refused-stays t (load name bytes) (Err e) = refl
-refused-stays t (unload name) (Ok u) = refl
-refused-stays t (unload name) (Err e) = refl
-refused-stays t (rename from to) (Ok u) = refl
-refused-stays t (rename from to) (Err e) = refl
-refused-stays t (want text) (Ok u) = refl
-refused-stays t (want text) (Err e) = refl
-refused-stays t (mark n) (Ok u) = refl
-refused-stays t (mark n) (Err e) = refl
-refused-stays t mark_all (Ok u) = refl
-refused-stays t mark_all (Err e) = refl
-refused-stays t (replace text) (Ok u) = refl
-refused-stays t (replace text) (Err e) = refl
-refused-stays t (tag name n) r = refl
-refused-stays t pop (Ok u) = refl
-refused-stays t pop (Err e) = refl
+refused-stays t s (Ok u) = refl
+refused-stays t s (Err e) = refl
 
 -- a change
 joins : (k : Kept) (s : Step) (r : Result World Refusal) → step (replay k.done) s ≡ r → or_stays (timeline_of k) (advanced (timeline_of k) r) ≡ timeline_of (joined k s r)

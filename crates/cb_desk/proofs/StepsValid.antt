@@ -8,17 +8,17 @@ use Rattle.cb_desk.specs.declared.refusal.Refusal.{Refusal}
 use Rattle.cb_desk.specs.declared.refusal.Refusal.TheVariants.{BadName, NoSuchFile, FileExists, BadText, TooLarge, TooManyFiles}
 use Rattle.cb_tags.specs.Names.{is_file_name}
 use Rattle.cb_desk.specs.World.{World, File, Place, has_file, text_of_file, is_short, IsAscending, IsPlaceOf, IsMarkIn, AreMarksFor, AreValidMarks, IsValidWorld}
-use Rattle.cb_desk.specs.Files.{load_refusal, loaded, unloaded, rename_refusal, renamed, without_file}
+use Rattle.cb_desk.specs.Files.{load_refusal, loaded, reload_refusal, unloaded, rename_refusal, renamed, without_file}
 use Rattle.cb_desk.specs.Marks.{toggled, want_refusal, wanting, wanted_places, mark_refusal, toggled_at, mark_all_refusal, all_marked, marked_refusal, replace_refusal, replaced_on_marks, replaced_files, is_too_large}
 use Rattle.cb_desk.specs.Places.{nth}
 use Rattle.cb_desk.specs.Stack.{pushed, places}
 use Rattle.cb_desk.specs.steps.Held.{held_places}
-use Rattle.cb_desk.specs.Step.{Step, load, unload, rename, want, mark, mark_all, replace, tag, pop, refusal_of, after, step, unless_refused}
+use Rattle.cb_desk.specs.Step.{Step, load, reload, unload, rename, want, mark, mark_all, replace, tag, pop, refusal_of, after, step, unless_refused}
 use Rattle.cb_desk.specs.Laws.{StepKeepsValid}
 use Rattle.cb_desk.proofs.Valid.{with_file-valid, without_file-valid, without_file-fewer, all-join}
 use Rattle.cb_desk.proofs.HeldRows.{wanted-held}
 use Rattle.cb_desk.proofs.MarksValid.{marks-with, marks-without, marks-renamed, marks-toggled, held-ascend, held-marks, replaced-valid, frames-kept}
-use Rattle.cb_desk.proofs.PlaceLemmas.{IsAt, at-place, text-small, places-with, places-without, places-renamed, still-gone, nth-place, all-take}
+use Rattle.cb_desk.proofs.PlaceLemmas.{IsAt, at-place, text-small, places-with, places-without, places-renamed, is-gone, still-gone, name-good, nth-place, all-take}
 
 not-refused : (o : Option Refusal) (w v : World) → unless_refused o w ≡ Ok v → (o ≡ None) × (v ≡ w)
 not-refused None w v e = (refl, cc)
@@ -49,6 +49,17 @@ loadable w name bytes none =
     let small = sized.0 in
     let room = counted.0 in
     record { good = not-false _ named.0; fresh = new.0; small = grind (arith, small); room = grind (arith, room) }
+
+-- an accepted reload is an accepted load of the file that was taken away
+reloadable : (w : World) (name bytes : List ℕ) → IsValidWorld w → reload_refusal w name bytes ≡ None → Loadable (unloaded w name) name bytes
+reloadable w name bytes valid none =
+    let there = passed (not (has_file w.files name)) NoSuchFile _ none in
+    let sized = passed (nat_lt MOST_BYTES (length bytes)) TooLarge _ there.1 in
+    let has = not-false _ there.0 in
+    let small = sized.0 in
+    let fewer = without_file-fewer w.files name has in
+    let count = valid.files.count in
+    record { good = name-good w.files name has valid.files.names; fresh = is-gone w.files name; small = grind (arith, small); room = omega (arith, fewer, count) }
 
 -- what an accepted rename says of the names
 record Renamable (w : World) (old new : List ℕ) : Type 0 where
@@ -165,6 +176,7 @@ short-first false rest e = cc
 
 after-valid : (w : World) (s : Step) → IsValidWorld w → refusal_of w s ≡ None → IsValidWorld (after w s)
 after-valid w (load name bytes) valid due = load-valid w name bytes valid (loadable w name bytes due)
+after-valid w (reload name bytes) valid due = load-valid (unloaded w name) name bytes (unload-valid w name valid) (reloadable w name bytes valid due)
 after-valid w (unload name) valid due = unload-valid w name valid
 after-valid w (rename old new) valid due = rename-valid w old new valid (renamable w old new due)
 after-valid w (want text) valid due = want-valid w text valid due

@@ -11,7 +11,7 @@ use Rattle.cb_desk.specs.World.{File, IsAscending}
 use Rattle.cb_scan.specs.Lines.{lines, line_text}
 use Rattle.cb_desk.specs.Search.{holds, lines_with}
 use Rattle.cb_desk.specs.Answer.{AnswerRow, row_eq, distinct, line_row, text_rows_in}
-use Rattle.cb_desk.proofs.Distinct.{row_same}
+use Rattle.cb_desk.proofs.EqualRows.{row_same}
 use Rattle.cb_desk.proofs.Placed.{by_name}
 use Rattle.cb_desk.proofs.Valid.{all-join, all-along}
 

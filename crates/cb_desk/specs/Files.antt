@@ -1,4 +1,4 @@
--- Changes of the files: load, unload and rename.
+-- Changes of the files: load, reload, unload and rename.
 use Rattle.std.specs.Prelude.{ℕ, Bool, nat_le, nat_lt, List, ◌∷◌, ◌++◌, length, Option, None, Some, if◌then◌else◌, filter, not}
 use Rattle.std.specs.Ordering.{nat_cmp, is_lt}
 use Rattle.std.specs.Cmp.Lexicographic.{slice_cmp}
@@ -36,6 +36,23 @@ load_refusal w name bytes =
 -- the world with one more file
 abbrev pub loaded : World → List ℕ → List ℕ → World
 loaded w name bytes = record w { files = with_file (record { name = name; bytes = bytes }) w.files }
+
+-- ---- reload
+
+-- why a file can't have other bytes: the lowest refusal that applies
+abbrev pub reload_refusal : World → List ℕ → List ℕ → Option Refusal
+reload_refusal w name bytes =
+    if not (has_file w.files name) then Some NoSuchFile
+    else (if nat_lt MOST_BYTES (length bytes) then Some TooLarge
+    else None)
+
+-- the world in which the file has these bytes, without its marks and its frames
+abbrev pub reloaded : World → List ℕ → List ℕ → World
+reloaded w name bytes = record w {
+  files = with_file (record { name = name; bytes = bytes }) (without_file name w.files);
+  marks = without_places name w.marks;
+  frames = without_places name w.frames;
+}
 
 -- ---- unload
 

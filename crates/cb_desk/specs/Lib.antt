@@ -1,4 +1,5 @@
 pub mod Answer
+pub mod Desk
 pub mod Files
 pub mod Laws
 pub mod Marks
@@ -14,5 +15,6 @@ pub mod StepExamples
 pub mod Survivors
 pub mod Tags
 pub mod Timeline
+pub mod Turns
 pub mod World
 pub mod steps

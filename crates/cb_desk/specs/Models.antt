@@ -2,15 +2,16 @@
 use Rattle.std.specs.Prelude.{ℕ, List}
 use Rattle.std.specs.Borrow.{Bor}
 use Rattle.cb_desk.specs.declared.change.Change.{Change}
-use Rattle.cb_desk.specs.declared.change.Change.TheVariants.{Load, Unload, Rename, Want, Mark, MarkAll, Replace, Tag, Pop}
+use Rattle.cb_desk.specs.declared.change.Change.TheVariants.{Load, Reload, Unload, Rename, Want, Mark, MarkAll, Replace, Tag, Pop}
 use Rattle.cb_desk.specs.declared.rows.RefRow.{RefRow}
 use Rattle.cb_desk.specs.World.{File, Place}
-use Rattle.cb_desk.specs.Step.{Step, load, unload, rename, want, mark, mark_all, replace, tag, pop}
+use Rattle.cb_desk.specs.Step.{Step, load, reload, unload, rename, want, mark, mark_all, replace, tag, pop}
 use Rattle.cb_desk.specs.Answer.{AnswerRow}
 
 -- the step that a change asks for
 abbrev pub step_of : Change → Step
 step_of (Load name bytes) = load name.now bytes.items
+step_of (Reload name bytes) = reload name.now bytes.items
 step_of (Unload name) = unload name.now
 step_of (Rename old new) = rename old.now new.now
 step_of (Want text) = want text.now

@@ -2,7 +2,7 @@
 use Rattle.std.specs.Prelude.{ℕ, List, Option, None, Some, Result, Ok, Err}
 use Rattle.cb_desk.specs.declared.refusal.Refusal.{Refusal}
 use Rattle.cb_desk.specs.World.{World, Place}
-use Rattle.cb_desk.specs.Files.{load_refusal, loaded, unload_refusal, unloaded, rename_refusal, renamed}
+use Rattle.cb_desk.specs.Files.{load_refusal, loaded, reload_refusal, reloaded, unload_refusal, unloaded, rename_refusal, renamed}
 use Rattle.cb_desk.specs.Marks.{want_refusal, wanting, wanted_places, mark_refusal, toggled_at, mark_all_refusal, all_marked, replace_refusal, replaced_on_marks}
 use Rattle.cb_desk.specs.Places.{nth}
 use Rattle.cb_desk.specs.Stack.{places, push_refusal, pushed, pop_refusal, popped}
@@ -11,6 +11,8 @@ use Rattle.cb_desk.specs.Stack.{places, push_refusal, pushed, pop_refusal, poppe
 pub data Step : Type 0 where
   -- add a file
   load : (name bytes : List ℕ) → Step
+  -- give a file other bytes
+  reload : (name bytes : List ℕ) → Step
   -- take a file away
   unload : (name : List ℕ) → Step
   -- give a file another name
@@ -32,6 +34,7 @@ pub data Step : Type 0 where
 -- definition of its name
 abbrev pub place_of : World → Step → Option Place
 place_of w (load name bytes) = None
+place_of w (reload name bytes) = None
 place_of w (unload name) = None
 place_of w (rename old new) = None
 place_of w (want text) = None
@@ -44,6 +47,7 @@ place_of w pop = None
 -- why a step is refused
 abbrev pub refusal_of : World → Step → Option Refusal
 refusal_of w (load name bytes) = load_refusal w name bytes
+refusal_of w (reload name bytes) = reload_refusal w name bytes
 refusal_of w (unload name) = unload_refusal w name
 refusal_of w (rename old new) = rename_refusal w old new
 refusal_of w (want text) = want_refusal text
@@ -56,6 +60,7 @@ refusal_of w pop = pop_refusal w.frames
 -- the world after a step that is not refused
 abbrev pub after : World → Step → World
 after w (load name bytes) = loaded w name bytes
+after w (reload name bytes) = reloaded w name bytes
 after w (unload name) = unloaded w name
 after w (rename old new) = renamed w old new
 after w (want text) = wanting w text

@@ -1,11 +1,11 @@
 -- What changes do to small worlds, computed. Expected worlds and refusals are worked out by hand.
-use Rattle.std.specs.Prelude.{◌≡◌, ℕ, List, [], ◌∷◌, Ok, Err, codes, refl}
+use Rattle.std.specs.Prelude.{◌≡◌, ℕ, List, [], ◌∷◌, Ok, Err, Some, codes, refl}
 use Rattle.cb_scan.specs.Definitions.{definitions_from}
 use Rattle.cb_scan.specs.examples.Functions.{finding}
 use Rattle.cb_scan.specs.Order.{put, in_order}
 use Rattle.cb_desk.specs.declared.refusal.Refusal.TheVariants.{BadName, NoSuchFile, FileExists, NoSuchDefinition, StackEmpty}
 use Rattle.cb_desk.specs.World.{World, File, Place, empty_world, text_of_file}
-use Rattle.cb_desk.specs.Step.{step, load, unload, rename, tag, pop}
+use Rattle.cb_desk.specs.Step.{step, load, reload, unload, rename, tag, pop}
 
 -- a file, from two literals
 abbrev file : (name text : List ℕ) → File
@@ -45,6 +45,28 @@ pub loaded_first : step (record three_files { frames = [] }) (load (codes "Z.c")
     ≡ Ok (record empty_world { files = file (codes "Z.c") [] ∷ a ∷ b ∷ d ∷ []; frames = [] })
 unfolding step
 loaded_first = refl
+
+-- a reloaded file stays at its place without its frames, and the others keep their order
+pub reloaded_in_place : step three_files (reload (codes "b.h") (codes "w;"))
+    ≡ Ok (record three_files { files = a ∷ file (codes "b.h") (codes "w;") ∷ d ∷ []; frames = at_a 2 ∷ at_a 1 ∷ [] })
+unfolding step
+reloaded_in_place = refl
+
+-- also where it has these bytes already
+pub reloaded_the_same : step three_files (reload (codes "a.c") (codes "x;\ny;"))
+    ≡ Ok (record three_files { frames = at_b ∷ at_b ∷ [] })
+unfolding step
+reloaded_the_same = refl
+
+-- two files with a mark for one text
+abbrev two_marked : World
+two_marked = record empty_world { files = a ∷ b ∷ []; wanted = Some (codes ";"); marks = at_a 2 ∷ at_b ∷ [] }
+
+-- its marks are gone, the wanted text and the marks of the other file stay
+pub reloaded_without_its_marks : step two_marked (reload (codes "a.c") (codes ";"))
+    ≡ Ok (record two_marked { files = file (codes "a.c") (codes ";") ∷ b ∷ []; marks = at_b ∷ [] })
+unfolding step
+reloaded_without_its_marks = refl
 
 -- a file is taken away with its frames, and the others keep their order
 pub unloaded_with_frames : step three_files (unload (codes "a.c"))
@@ -119,6 +141,15 @@ loaded_twice = refl
 pub unloaded_nothing : step three_files (unload (codes "q.c")) ≡ Err NoSuchFile
 unfolding step
 unloaded_nothing = refl
+
+-- a name that is not there can't be reloaded, also one that no file can have
+pub reloaded_nothing : step three_files (reload (codes "q.c") []) ≡ Err NoSuchFile
+unfolding step
+reloaded_nothing = refl
+
+pub reloaded_bad_name : step three_files (reload (codes "b") []) ≡ Err NoSuchFile
+unfolding step
+reloaded_bad_name = refl
 
 -- an empty stack has no top
 pub popped_nothing : step empty_world pop ≡ Err StackEmpty

@@ -6,7 +6,7 @@ use Rattle.cb_desk.specs.declared.limits.TheConstants.{MOST_CHANGES}
 use Rattle.cb_desk.specs.declared.refusal.Refusal.{Refusal}
 use Rattle.cb_desk.specs.declared.refusal.Refusal.TheVariants.{NothingToUndo, NothingToRedo, HistoryFull, OutOfMemory}
 use Rattle.cb_desk.specs.World.{World, empty_world, IsValidWorld}
-use Rattle.cb_desk.specs.Step.{Step, step, tag}
+use Rattle.cb_desk.specs.Step.{Step, step}
 
 -- the past and the future, each with its nearest world first, and the present
 pub record Timeline : Type 0 where
@@ -56,11 +56,9 @@ on_to (w ∷ ws) t = Ok (record { past = t.present ∷ t.past; present = w; futu
 unfoldable pub redone : Timeline → Result Timeline Refusal
 redone t = on_to t.future t
 
--- the outcome of a change; when memory runs out, one that would be done is refused, and a tag is
--- refused in any case, since it is judged only after a scan of the files
+-- the outcome of a change; when memory runs out, one that would be done is refused
 abbrev pub judged : Bool → Step → Result Timeline Refusal → Result Timeline Refusal
 judged false s meant = meant
-judged true (tag name n) meant = Err OutOfMemory
 judged true s (Ok t) = Err OutOfMemory
 judged true s (Err r) = Err r
 

@@ -8,14 +8,14 @@ use Rattle.std.specs.Ordering.{nat_cmp}
 use Rattle.std.specs.Cmp.Lexicographic.{slice_cmp}
 use Rattle.cb_scan.specs.Bytes.{line_feed}
 use Rattle.cb_scan.specs.Lines.{IsLineOf, line_text}
+use Rattle.cb_index.specs.Files.{File as IndexFile}
 use Rattle.cb_tags.specs.Names.{is_file_name}
 use Rattle.cb_desk.specs.declared.limits.TheConstants.{MOST_BYTES, MOST_FILES, MOST_TEXT}
 use Rattle.cb_desk.specs.Search.{holds}
 
 -- a file: its name and its text
-pub record File : Type 0 where
-  pub name : List ℕ
-  pub bytes : List ℕ
+abbrev pub File : Type 0
+File = IndexFile
 
 -- a line of a file, from 1: a mark, or a frame of the tag stack
 pub record Place : Type 0 where

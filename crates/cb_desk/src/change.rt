@@ -5,6 +5,9 @@
 pub enum Change<'a> {
     /// Adds a file under a name.
     Load(&'a [u8], Vec<u8>),
+    /// Gives the file of a name these bytes, also where they are the ones that it has. Its marks
+    /// and its frames are taken away.
+    Reload(&'a [u8], Vec<u8>),
     /// Takes the file of a name away, with its marks and its frames.
     Unload(&'a [u8]),
     /// Gives the file of the first name, its marks and its frames the second.

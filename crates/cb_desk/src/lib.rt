@@ -6,33 +6,35 @@
 //! The layer above uses the contracts of [`Desk`].
 #![tactic(auto)]
 
+mod answers;
 mod change;
-mod collected;
-mod files;
+mod edits;
 mod found;
+mod history;
 pub mod laws;
 mod limits;
 mod line;
-mod marks;
-mod place;
+mod loading;
+mod place_list;
+mod places;
+mod plan;
+mod present;
+mod record;
 mod refusal;
-mod replaced_files;
-mod replacement;
 mod rows;
+mod scanned;
 mod search;
-mod snapshot;
-mod stack;
+mod spot;
 mod state;
 mod tags;
 #[cfg(test)]
 mod tests;
-mod text_rows;
 
+pub use answers::{Files, Rows, TagRows};
 pub use change::Change;
-pub use files::Files;
-pub use place::Places;
+pub use loading::Loading;
+pub use places::Places;
 pub use refusal::Refusal;
-pub use rows::{Field, RefRow, RowIter, RowList, line_row};
+pub use rows::{Field, RefRow, line_row};
 pub use state::Desk;
-pub use tags::{Format, TagRowIter, TagRowList};
-pub use text_rows::TextRows;
+pub use tags::Format;

@@ -182,7 +182,7 @@ module _ {X : Type 0} (sort : FactSort) (keyer : Keyer) (a : Archived) (s : Show
       ∙ numbers_rows fact row key_of_x key 0 xs rows
 
 -- ---- uses
-scope_is : (text : List ℕ) (scope : Option Span) → IsScopeWithin text scope → option_map (cut text) scope ≡ option_map (bytes_of text) scope
+pub scope_is : (text : List ℕ) (scope : Option Span) → IsScopeWithin text scope → option_map (cut text) scope ≡ option_map (bytes_of text) scope
 scope_is text None within = refl
 scope_is text (Some span) within = ap (λ b. Some b) (cut_is text span within)
 

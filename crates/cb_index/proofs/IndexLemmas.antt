@@ -1,14 +1,17 @@
 -- What an index holds while versions come and go.
-use Rattle.std.proofs.Common.{◌≡◌, ◌∙◌, ◌≤◌, ◌<◌, ◌+◌, ℕ, suc, Bool, true, false, List, [], ◌∷◌, ◌++◌, refl, sym, ap, subst, length, map, drop, drop-cons, filter, get_or, arith}
+use Rattle.std.proofs.Common.{◌≡◌, ◌∙◌, ◌≤◌, ◌<◌, ◌+◌, ℕ, suc, Bool, true, false, List, [], ◌∷◌, ◌++◌, Some, None, refl, sym, ap, subst, length, map, drop, drop-cons, filter, get_or, arith}
+use Rattle.std.proofs.lemmas.Bool.{false≢true}
+use Rattle.std.proofs.lemmas.Bool.Decides.{Decides-eqb}
 use Rattle.std.proofs.lemmas.Cmp.{nat_cmp_total, nat_list_cmp_total, tied_itself}
 use Rattle.std.proofs.lemmas.List.Elements.{filter-append}
 use Rattle.std.proofs.lemmas.List.{length-append}
-use Rattle.std.proofs.lemmas.List.Sums.{sum_by-append}
-use Rattle.std.specs.Prelude.{cond, not, slice_get, sum_by, Option}
+use Rattle.std.proofs.lemmas.List.Sums.{sum_by-append, sum_by-cons}
+use Rattle.std.proofs.lemmas.Option.{none-some}
+use Rattle.std.specs.Prelude.{cond, nat_eq, not, slice_get, sum_by, Option}
 use Rattle.std.specs.Cmp.{nat_cmp_is}
 use Rattle.std.specs.Cmp.Lexicographic.{slice_cmp}
 use Rattle.std.specs.List.{AllByRecursion}
-use Rattle.std.specs.Ordering.{is_gt, nat_cmp, ordering_then}
+use Rattle.std.specs.Ordering.{is_gt, is_lt, nat_cmp, ordering_then}
 use Rattle.std.specs.declared.cmp.Ordering.TheVariants.{Less, Equal}
 use Rattle.cb_scan.specs.Order.{AreOrdered, in_order, put}
 use Rattle.cb_scan.proofs.FunctionsRise.{all_implied}
@@ -16,7 +19,7 @@ use Rattle.cb_scan.proofs.OrderLemmas.{in_order_sum}
 use Rattle.cb_scan.proofs.WithinLemmas.{all-append}
 use Rattle.cb_index.specs.Archived.{Archived, name_of}
 use Rattle.cb_index.specs.Entries.{Keyer, entries_from, file_key, numbers, sort_key}
-use Rattle.cb_index.specs.Files.{AreAscending, shown_name, total}
+use Rattle.cb_index.specs.Files.{AreAscending, shown_name, shown_under, total}
 use Rattle.cb_index.specs.Held.{Prefixer, all_entries, entries_of, prefixes_of}
 use Rattle.cb_index.specs.Shelved.{IsIndexOf}
 use Rattle.cb_index.specs.declared.entry.Entry.{Entry}
@@ -111,6 +114,84 @@ module _ (prefixer : Prefixer) (a : Archived) (stays : ℕ → Bool) where
       ap (filter (λ (e : Entry). stays e.name)) is
       ∙ filter_in_order (sort_key keyer a) (sort_exact keyer a) (λ (e : Entry). stays e.name) (all_entries prefixer a shown)
       ∙ ap (in_order (sort_key keyer a)) (kept_all shown)
+
+-- ---- and lets one version go
+module _ (a : Archived) (name : ℕ) where
+  abbrev pub is_other : Shown → Bool
+  is_other s = not (nat_eq s.name name)
+
+  -- nothing goes where nothing is shown under the name
+  pub none_under : (shown : List Shown) → shown_under name shown ≡ None → filter (λ (s : Shown). not (nat_eq s.name name)) shown ≡ shown
+  none_under [] is = refl
+  none_under (s ∷ shown) is = by_test (nat_eq s.name name) refl (none_under shown)
+    where
+      by_test : (b : Bool) → nat_eq s.name name ≡ b → (shown_under name shown ≡ None → filter is_other shown ≡ shown)
+          → filter is_other (s ∷ shown) ≡ s ∷ shown
+      by_test true eq later =
+          absurd (none-some s (sym is ∙ ap (λ b. cond b (Some s) (shown_under name shown)) eq))
+      by_test false eq later =
+          ap (λ b. cond (not b) (s ∷ filter is_other shown) (filter is_other shown)) eq
+          ∙ ap (λ l. s ∷ l) (later (sym (ap (λ b. cond b (Some s) (shown_under name shown)) eq) ∙ is))
+
+  -- all that come after another file name stay
+  later_stay : (s : Shown) → s.name ≡ name → (shown : List Shown)
+      → AllByRecursion (λ (t : Shown). slice_cmp nat_cmp (name_of a s.name) (name_of a t.name) ≡ Less) shown
+      → filter (λ (t : Shown). not (nat_eq t.name name)) shown ≡ shown
+  later_stay s same [] up = refl
+  later_stay s same (t ∷ shown) up = by_test (nat_eq t.name name) refl (later_stay s same shown up.1)
+    where
+      by_test : (b : Bool) → nat_eq t.name name ≡ b → filter is_other shown ≡ shown → filter is_other (t ∷ shown) ≡ t ∷ shown
+      by_test true eq later =
+          let equal : s.name ≡ t.name = same ∙ sym ((Decides-eqb t.name name).0 eq) in
+          absurd (false≢true (ap is_lt (sym (tied_itself nat_list_cmp_total (name_of a s.name))
+          ∙ ap (λ n. slice_cmp nat_cmp (name_of a s.name) (name_of a n)) equal ∙ up.0)))
+      by_test false eq later =
+          ap (λ b. cond (not b) (t ∷ filter is_other shown) (filter is_other shown)) eq ∙ ap (λ l. t ∷ l) later
+
+  abbrev shown_or : Shown → Option Shown → Shown
+  shown_or d None = d
+  shown_or d (Some s) = s
+
+  -- what is shown under the name, and the others
+  module _ (size : Shown → ℕ) where
+    pub out_sum : (shown : List Shown) (one : Shown) → shown_under name shown ≡ Some one → AreAscending a shown
+        → sum_by size shown ≡ size one + sum_by size (filter (λ (s : Shown). not (nat_eq s.name name)) shown)
+    unfolding AreOrdered
+    out_sum [] one is up = absurd (none-some one is)
+    out_sum (s ∷ shown) one is up = by_test (nat_eq s.name name) refl (λ under. out_sum shown one under up.1)
+      where
+        by_test : (b : Bool) → nat_eq s.name name ≡ b
+            → (shown_under name shown ≡ Some one → sum_by size shown ≡ size one + sum_by size (filter is_other shown))
+            → sum_by size (s ∷ shown) ≡ size one + sum_by size (filter is_other (s ∷ shown))
+        by_test true eq rest =
+            let first : Some s ≡ Some one = sym (ap (λ b. cond b (Some s) (shown_under name shown)) eq) ∙ is in
+            let same : s ≡ one = ap (shown_or s) first in
+            sum_by-cons size s shown
+            ∙ (λ i. size (same i) + sum_by size (sym (later_stay s ((Decides-eqb s.name name).0 eq) shown up.0) i))
+            ∙ ap (λ b. size one + sum_by size (cond (not b) (s ∷ filter is_other shown) (filter is_other shown))) (sym eq)
+        by_test false eq rest =
+            let later = rest (sym (ap (λ b. cond b (Some s) (shown_under name shown)) eq) ∙ is) in
+            let whole = sum_by-cons size s shown in
+            let kept = sum_by-cons size s (filter is_other shown) in
+            let stays : sum_by size (filter is_other (s ∷ shown)) ≡ sum_by size (s ∷ filter is_other shown) =
+            ap (λ b. sum_by size (cond (not b) (s ∷ filter is_other shown) (filter is_other shown))) eq in
+            omega (arith, later, whole, kept, stays)
+
+  -- an index has the entries of what is shown under the name, and those of the others
+  pub indexed_out : (keyer : Keyer) (prefixer : Prefixer) (shown : List Shown) (one : Shown) (es : List Entry)
+      → shown_under name shown ≡ Some one → AreAscending a shown → IsIndexOf keyer prefixer a shown es
+      → es ≡ in_order (sort_key keyer a)
+      (entries_of prefixer a one ++ all_entries prefixer a (filter (λ (s : Shown). not (nat_eq s.name name)) shown))
+  indexed_out keyer prefixer shown one es under up is =
+      is
+      ∙ same_order (sort_key keyer a) (sort_exact keyer a) (all_entries prefixer a shown)
+      (entries_of prefixer a one ++ all_entries prefixer a (filter (λ (s : Shown). not (nat_eq s.name name)) shown))
+      (λ f.
+      let whole = sum_flat (entries_of prefixer a) f shown in
+      let left = sum_flat (entries_of prefixer a) f (filter is_other shown) in
+      let out = out_sum (λ s. sum_by f (entries_of prefixer a s)) shown one under up in
+      let both = sum_by-append f (entries_of prefixer a one) (all_entries prefixer a (filter is_other shown)) in
+      omega (arith, whole, left, out, both))
 
 -- ---- the archive changes elsewhere
 abbrev pub IsSame : Archived → Archived → Shown → Type 0

@@ -1,10 +1,11 @@
 -- What a shelf keeps while versions come and go.
-use Rattle.std.proofs.Common.{◌≡◌, ◌∙◌, ◌<◌, ℕ, zero, suc, Bool, true, false, List, [], ◌∷◌, ◌++◌, refl, sym, ap, subst, length, take, filter, get_or, arith}
+use Rattle.std.proofs.Common.{◌≡◌, ◌∙◌, ◌≤◌, ◌<◌, ◌+◌, ℕ, zero, suc, Bool, true, false, List, [], ◌∷◌, ◌++◌, refl, sym, ap, subst, length, take, drop, drop-cons, drop_of_length-le, filter, get_or, arith}
 use Rattle.std.proofs.lemmas.Bool.{true≢false, false≢true}
 use Rattle.std.proofs.lemmas.Cmp.{nat_list_cmp_total}
 use Rattle.std.proofs.lemmas.List.{length-append}
 use Rattle.std.proofs.lemmas.Map.Text.{is_eq-slice_cmp}
-use Rattle.std.specs.Prelude.{cond, not, slice_get, ◌||◌}
+use Rattle.std.proofs.Math.Nat.{le_trans}
+use Rattle.std.specs.Prelude.{cond, nat_eq, not, slice_get, ◌||◌}
 use Rattle.std.specs.Cmp.Lexicographic.{slice_cmp}
 use Rattle.std.specs.List.{AllByRecursion, list_any}
 use Rattle.std.specs.Ordering.{is_eq, is_gt, nat_cmp, ordering_reverse}
@@ -19,8 +20,9 @@ use Rattle.cb_index.specs.Archived.{Archived, name_of}
 use Rattle.cb_index.specs.Entries.{Keyer, sort_key}
 use Rattle.cb_index.specs.Files.{AreAscending, IsThere, shown_name}
 use Rattle.cb_index.specs.Held.{Prefixer, all_entries, entries_of}
+use Rattle.cb_index.specs.Names.{is_among, names_of}
 use Rattle.cb_index.specs.Orders.{callee_key, callee_prefixes, caller_key, caller_prefixes, def_key, def_prefixes, tag_key, use_key, use_prefixes}
-use Rattle.cb_index.specs.Shelved.{AreKept, IsIndexOf}
+use Rattle.cb_index.specs.Shelved.{AreKept, IsIndexOf, KeepsRoom, Shelved}
 use Rattle.cb_index.specs.declared.entry.Entry.{Entry}
 use Rattle.cb_index.specs.declared.entry.Shown.{Shown}
 use Rattle.cb_index.proofs.InOrderLemmas.{all_filter}
@@ -91,29 +93,29 @@ module _ (a b : Archived) where
       (subst (λ l. AreKept b shown d t u c l) (sym ee) (kept_same shown d t u c e same there kept))))))
 
 -- ---- more is kept
-slice_get_left : (xs ys : List (List ℕ)) (i : ℕ) → i < length xs → slice_get (xs ++ ys) i ≡ slice_get xs i
+pub slice_get_left : (xs ys : List (List ℕ)) (i : ℕ) → i < length xs → slice_get (xs ++ ys) i ≡ slice_get xs i
 slice_get_left [] ys i below = absurd (omega (arith, below))
 slice_get_left (x ∷ xs) ys zero below = refl
 slice_get_left (x ∷ xs) ys (suc i) below = slice_get_left xs ys i (omega (arith, below))
 
-get_or_left : (xs ys : List (List ℕ)) (i : ℕ) → i < length xs → get_or (xs ++ ys) i [] ≡ get_or xs i []
+pub get_or_left : (xs ys : List (List ℕ)) (i : ℕ) → i < length xs → get_or (xs ++ ys) i [] ≡ get_or xs i []
 get_or_left [] ys i below = absurd (omega (arith, below))
 get_or_left (x ∷ xs) ys zero below = refl
 get_or_left (x ∷ xs) ys (suc i) below = get_or_left xs ys i (omega (arith, below))
 
-slice_get_front : (n : ℕ) (xs : List (List ℕ)) (i : ℕ) → i < n → slice_get (take n xs) i ≡ slice_get xs i
+pub slice_get_front : (n : ℕ) (xs : List (List ℕ)) (i : ℕ) → i < n → slice_get (take n xs) i ≡ slice_get xs i
 slice_get_front zero xs i below = absurd (omega (arith, below))
 slice_get_front (suc n) [] i below = refl
 slice_get_front (suc n) (x ∷ xs) zero below = refl
 slice_get_front (suc n) (x ∷ xs) (suc i) below = slice_get_front n xs i (omega (arith, below))
 
-get_or_front : (n : ℕ) (xs : List (List ℕ)) (i : ℕ) → i < n → get_or (take n xs) i [] ≡ get_or xs i []
+pub get_or_front : (n : ℕ) (xs : List (List ℕ)) (i : ℕ) → i < n → get_or (take n xs) i [] ≡ get_or xs i []
 get_or_front zero xs i below = absurd (omega (arith, below))
 get_or_front (suc n) [] i below = refl
 get_or_front (suc n) (x ∷ xs) zero below = refl
 get_or_front (suc n) (x ∷ xs) (suc i) below = get_or_front n xs i (omega (arith, below))
 
-length_front : (n : ℕ) (xs : List (List ℕ)) (i : ℕ) → i < n → i < length xs → i < length (take n xs)
+pub length_front : (n : ℕ) (xs : List (List ℕ)) (i : ℕ) → i < n → i < length xs → i < length (take n xs)
 length_front zero xs i below within = absurd (omega (arith, below))
 length_front (suc n) [] i below within = within
 length_front (suc n) (x ∷ xs) zero below within = omega arith
@@ -255,7 +257,7 @@ module _ (a : Archived) (stays : ℕ → Bool) where
   abbrev entry_stays : Entry → Bool
   entry_stays e = stays e.name
 
-  ascending_filter : (p : Shown → Bool) (shown : List Shown) → AreAscending a shown → AreAscending a (filter p shown)
+  pub ascending_filter : (p : Shown → Bool) (shown : List Shown) → AreAscending a shown → AreAscending a (filter p shown)
   unfolding AreOrdered
   ascending_filter p [] up = tt
   ascending_filter p (s ∷ shown) up =
@@ -276,3 +278,81 @@ module _ (a : Archived) (stays : ℕ → Bool) where
     callees = indexed_take callee_prefixes a stays callee_key shown c kept.callees;
     callers = indexed_take caller_prefixes a stays caller_key shown e kept.callers;
   }
+
+-- ---- what is left of what is shown
+module _ (a : Archived) where
+  pub kept_filtered : (p : Shown → Bool) (shown : List Shown) (d t u c e : List Entry) → AreKept a shown d t u c e
+      → AreKept a (filter p shown) (in_order (sort_key def_key a) (all_entries def_prefixes a (filter p shown)))
+      (in_order (sort_key tag_key a) (all_entries def_prefixes a (filter p shown)))
+      (in_order (sort_key use_key a) (all_entries use_prefixes a (filter p shown)))
+      (in_order (sort_key callee_key a) (all_entries callee_prefixes a (filter p shown)))
+      (in_order (sort_key caller_key a) (all_entries caller_prefixes a (filter p shown)))
+  kept_filtered p shown d t u c e kept = record {
+    there = all_filter p (IsThere a) shown kept.there;
+    ascending = ascending_filter a (λ n. true) p shown kept.ascending;
+    defs = refl;
+    tags = refl;
+    uses = refl;
+    callees = refl;
+    callers = refl;
+  }
+
+-- ---- filters by one number after another
+module _ (name : ℕ) (names : List ℕ) where
+  pub filter_next : (shown : List Shown)
+      → filter (λ (s : Shown). not (is_among names s.name)) (filter (λ (s : Shown). not (nat_eq s.name name)) shown)
+      ≡ filter (λ (s : Shown). not (is_among (name ∷ names) s.name)) shown
+  filter_next [] = refl
+  filter_next (s ∷ shown) = by_test (nat_eq s.name name) refl (filter_next shown)
+    where
+      first : List Shown → List Shown
+      first l = filter (λ (r : Shown). not (nat_eq r.name name)) l
+
+      others : List Shown → List Shown
+      others l = filter (λ (r : Shown). not (is_among names r.name)) l
+
+      both : List Shown
+      both = filter (λ (r : Shown). not (is_among (name ∷ names) r.name)) shown
+
+      by_test : (b : Bool) → nat_eq s.name name ≡ b → others (first shown) ≡ both
+          → others (cond (not (nat_eq s.name name)) (s ∷ first shown) (first shown))
+          ≡ cond (not (nat_eq s.name name || is_among names s.name)) (s ∷ both) both
+      by_test true eq later =
+          ap (λ b. others (cond (not b) (s ∷ first shown) (first shown))) eq ∙ later
+          ∙ sym (ap (λ b. cond (not (b || is_among names s.name)) (s ∷ both) both) eq)
+      by_test false eq later =
+          ap (λ b. others (cond (not b) (s ∷ first shown) (first shown))) eq
+          ∙ ap (λ l. cond (not (is_among names s.name)) (s ∷ l) l) later
+          ∙ sym (ap (λ b. cond (not (b || is_among names s.name)) (s ∷ both) both) eq)
+
+pub filter_none : (shown : List Shown) → filter (λ (s : Shown). not (is_among [] s.name)) shown ≡ shown
+filter_none [] = refl
+filter_none (s ∷ shown) = ap (λ l. s ∷ l) (filter_none shown)
+
+-- the next of many files is hidden
+pub filter_file : (files : List Shown) (i : ℕ) (d : Shown) → i < length files → (shown : List Shown)
+    → filter (λ (s : Shown). not (is_among (names_of (drop (i + 1) files)) s.name))
+    (filter (λ (s : Shown). not (nat_eq s.name (get_or files i d).name)) shown)
+    ≡ filter (λ (s : Shown). not (is_among (names_of (drop i files)) s.name)) shown
+filter_file files i d below shown =
+    let next : i + 1 ≡ suc i = omega arith in
+    ap (λ n. filter (λ (s : Shown). not (is_among (names_of (drop n files)) s.name))
+    (filter (λ (s : Shown). not (nat_eq s.name (get_or files i d).name)) shown)) next
+    ∙ filter_next (get_or files i d).name (names_of (drop (suc i) files)) shown
+    ∙ ap (λ l. filter (λ (s : Shown). not (is_among (names_of l) s.name)) shown) (sym (drop-cons files i d below))
+
+-- all of them are
+pub filter_done : (files : List Shown) (i : ℕ) → length files ≤ i → (shown : List Shown)
+    → filter (λ (s : Shown). not (is_among (names_of (drop i files)) s.name)) shown ≡ shown
+filter_done files i past shown =
+    ap (λ l. filter (λ (s : Shown). not (is_among (names_of l) s.name)) shown) (drop_of_length-le files past) ∙ filter_none shown
+
+pub keeps_trans : (a b c : Shelved) → KeepsRoom a b → KeepsRoom b c → KeepsRoom a c
+keeps_trans a b c first second = record {
+  names = le_trans first.names second.names;
+  versions = le_trans first.versions second.versions;
+  entries = le_trans first.entries second.entries;
+  defs = le_trans first.defs second.defs;
+  uses = le_trans first.uses second.uses;
+  calls = le_trans first.calls second.calls;
+}

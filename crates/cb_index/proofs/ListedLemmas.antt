@@ -1,21 +1,23 @@
 -- The list of the versions that are shown.
-use Rattle.std.proofs.Common.{◌≡◌, ◌∙◌, ◌≤◌, ◌<◌, ◌+◌, ℕ, zero, suc, Bool, true, false, List, [], ◌∷◌, ◌++◌, refl, sym, ap, subst, length, get_or, arith, ⊎_elim}
+use Rattle.std.proofs.Common.{◌≡◌, ◌∙◌, ◌≤◌, ◌<◌, ◌+◌, ℕ, zero, suc, Bool, true, false, List, [], ◌∷◌, ◌++◌, refl, sym, ap, append-nil, subst, length, get_or, cond, arith, ⊎_elim}
 use Rattle.std.proofs.lemmas.Bool.{and_parts, cases_Bool, true≢false, false≢true}
 use Rattle.std.proofs.lemmas.Bool.Decides.{nat_tests}
 use Rattle.std.proofs.lemmas.Cmp.{nat_list_cmp_total, tied_itself}
+use Rattle.std.proofs.lemmas.List.Sums.{sum_by-append, sum_by-cons}
 use Rattle.std.proofs.lemmas.Map.Text.{is_eq-slice_cmp}
 use Rattle.std.proofs.lemmas.Slice.Eq.{bytes_eq-Decides}
-use Rattle.std.specs.Prelude.{nat_lt, not, ◌||◌, ◌&&◌}
+use Rattle.std.specs.Prelude.{nat_lt, not, sum_by, ◌||◌, ◌&&◌}
 use Rattle.std.specs.Cmp.Lexicographic.{slice_cmp}
 use Rattle.std.specs.List.{AllAdjacentBelow, AllByRecursion, AllWithin, list_all, list_any}
 use Rattle.std.specs.Ordering.{is_eq, is_gt, is_lt, nat_cmp, ordering_then}
 use Rattle.std.specs.Str.{bytes_eq}
 use Rattle.std.specs.declared.cmp.Ordering.{Ordering}
 use Rattle.std.specs.declared.cmp.Ordering.TheVariants.{Less, Equal, Greater}
-use Rattle.cb_scan.specs.Order.{AreOrdered, goes_first, in_order}
+use Rattle.cb_scan.specs.Order.{AreOrdered, goes_first, in_order, put}
 use Rattle.cb_scan.proofs.FactsWithin.{all_in_order}
 use Rattle.cb_scan.proofs.FunctionsRise.{all_implied}
 use Rattle.cb_scan.proofs.KeyOrder.{both_equal, ended, same_number}
+use Rattle.cb_scan.proofs.OrderLemmas.{Sorted}
 use Rattle.cb_scan.proofs.WithinLemmas.{all-append}
 use Rattle.cb_index.specs.Archived.{Archived, name_of}
 use Rattle.cb_index.specs.Entries.{sort_key}
@@ -25,9 +27,9 @@ use Rattle.cb_index.specs.Orders.{callee_key, callee_prefixes, caller_key, calle
 use Rattle.cb_index.specs.Shelved.{AreKept}
 use Rattle.cb_index.specs.declared.entry.Entry.{Entry}
 use Rattle.cb_index.specs.declared.entry.Shown.{Shown}
-use Rattle.cb_index.proofs.InOrderLemmas.{in_order_agree}
+use Rattle.cb_index.proofs.InOrderLemmas.{in_order_agree, same_order}
 use Rattle.cb_index.proofs.IndexLemmas.{indexed_each}
-use Rattle.cb_index.proofs.KeptLemmas.{After, ascending_put, before_all, others, split_or, strict}
+use Rattle.cb_index.proofs.KeptLemmas.{After, ascending_put, ascending_sorted, before_all, others, split_or, strict}
 
 abbrev Names : List ℕ → List ℕ → Ordering
 Names = slice_cmp nat_cmp
@@ -65,10 +67,10 @@ module _ (a : Archived) (s t : Shown) where
           ap (λ p. not (is_gt p)) (sym shown_cmp ∙ ap (λ p. ordering_then p (Names (numbers s) (numbers t))) is ∙ sym is)
 
 -- ---- names that are apart
-bytes_other : (x y : List ℕ) → Names x y ≡ Less → bytes_eq x y ≡ false
+pub bytes_other : (x y : List ℕ) → Names x y ≡ Less → bytes_eq x y ≡ false
 bytes_other x y less = sym (is_eq-slice_cmp x y) ∙ ap is_eq less
 
-other_turned : (x y : List ℕ) → bytes_eq x y ≡ false → bytes_eq y x ≡ false
+pub other_turned : (x y : List ℕ) → bytes_eq x y ≡ false → bytes_eq y x ≡ false
 other_turned x y isnt =
     ⊎_elim (λ is. absurd (true≢false (sym ((bytes_eq-Decides x y).1 (sym ((bytes_eq-Decides y x).0 is))) ∙ isnt))) (λ is. is)
     (cases_Bool (bytes_eq y x))
@@ -131,6 +133,49 @@ module _ (a : Archived) where
   pub apart_both : (old news : List Shown) → AreAscending a old → AreApart a news → list_any (is_shown a old) news ≡ false
       → AreApart a (old ++ news)
   apart_both old news up apart none = apart_append old news (ascending_apart old up) apart (none_shown old news none)
+
+  still : (xs : List Shown) → Sorted (shown_name a) xs → in_order (shown_name a) xs ≡ xs
+  unfolding in_order AreOrdered put
+  still [] sorted = refl
+  still (x ∷ xs) sorted = ap (put (shown_name a) x) (still xs sorted.1) ∙ first_put x xs sorted.0
+    where
+      first_put : (x : Shown) (xs : List Shown) → AllByRecursion (λ y. goes_first (shown_name a) x y ≡ true) xs → put (shown_name a) x xs ≡ x ∷ xs
+      first_put x [] all = refl
+      first_put x (y ∷ ys) all = ap (λ b. cond b (x ∷ y ∷ ys) (y ∷ put (shown_name a) x ys)) all.0
+
+  -- none more leaves all as they are
+  pub none_more : (old : List Shown) → AreAscending a old → old ≡ in_order (shown_name a) (old ++ [])
+  none_more old up = sym (ap (in_order (shown_name a)) (append-nil old) ∙ still old (ascending_sorted a old up))
+
+  -- one version more is in order where it is put
+  module _ (old : List Shown) (s : Shown) (up : AreAscending a old) (apart : AreApart a (old ++ s ∷ [])) where
+    from_last : (xs : List Shown) → AreApart a (xs ++ s ∷ []) → AllByRecursion (IsApart s) xs
+    unfolding AreOrdered
+    from_last [] is = tt
+    from_last (x ∷ xs) is = (other_turned (name_of a x.name) (name_of a s.name) (at_end xs is.0), from_last xs is.1)
+      where
+        at_end : (ys : List Shown) → AllByRecursion (IsApart x) (ys ++ s ∷ []) → IsApart x s
+        at_end [] all = all.0
+        at_end (y ∷ ys) all = at_end ys all.1
+
+    apart_first : AreApart a (s ∷ old)
+    unfolding AreOrdered
+    apart_first = (from_last old apart, ascending_apart old up)
+
+    same_members : (f : Shown → ℕ) → sum_by f (s ∷ old) ≡ sum_by f (old ++ s ∷ [])
+    same_members f =
+        let both = sum_by-append f old (s ∷ []) in
+        let one = sum_by-cons f s [] in
+        let first = sum_by-cons f s old in
+        omega (arith, both, one, first)
+
+    pub put_last : put (shown_name a) s old ≡ in_order (shown_name a) (old ++ s ∷ [])
+    unfolding in_order
+    put_last =
+        ap (put (shown_name a) s) (sym (still old (ascending_sorted a old up)))
+        ∙ sym (order_by_name (s ∷ old) apart_first)
+        ∙ same_order (shown_key a) (shown_exact a) (s ∷ old) (old ++ s ∷ []) same_members
+        ∙ order_by_name (old ++ s ∷ []) apart
 
 -- ---- whether a file is shown
 pub not_below : (n m : ℕ) → m ≤ n → nat_lt n m ≡ false

@@ -2,15 +2,17 @@
 use Rattle.std.proofs.Common.{◌≡◌, ◌≤◌, ◌<◌, ◌+◌, ℕ, true, false, List, sym, length, get_or, arith, ⊎_elim}
 use Rattle.std.proofs.lemmas.Bool.{cases_Bool, cases_lt}
 use Rattle.std.proofs.lemmas.Bool.Decides.{Decides-eqb, nat_tests}
+use Rattle.std.proofs.lemmas.List.{get_or-map, length-map}
 use Rattle.std.proofs.lemmas.List.Elements.{All-from_get_or}
 use Rattle.std.proofs.lemmas.List.Folds.{list_any_at, list_any_none}
 use Rattle.std.proofs.lemmas.List.Sorted.{searched}
 use Rattle.std.proofs.lemmas.Map.Keys.{non_decreasing_from_sorted, sorted_from_strictly_increasing}
 use Rattle.std.specs.Prelude.{nat_eq, nat_lt, Result, Ok, Err, MatchResult, is_ok}
 use Rattle.std.specs.List.{AllAdjacentBelow}
-use Rattle.std.specs.List.Sorted.{IsBinarySearchResult, IsStrictlyIncreasing}
+use Rattle.std.specs.List.Sorted.{IsBinarySearchResult, IsSearchInRange, IsStrictlyIncreasing}
 use Rattle.std.specs.Ordering.{nat_cmp}
-use Rattle.cb_index.specs.Names.{is_among}
+use Rattle.cb_index.specs.Names.{is_among, names_of}
+use Rattle.cb_index.specs.declared.entry.Shown.{Shown}
 
 below_other : (x y : ℕ) → x < y → nat_eq x y ≡ false
 below_other x y below =
@@ -44,3 +46,33 @@ rising_if numbers up k below = less (get_or numbers k 0) (get_or numbers (k + 1)
   where
     less : (m n : ℕ) → nat_lt m n ≡ true → m < n
     less m n is = grind (arith, nat_tests)
+
+-- a search of files by the numbers of their names is one of these numbers
+pub found_by_name : (files : List Shown) (n : ℕ) (r : Result ℕ ℕ) → IsSearchInRange r (length files)
+    → IsBinarySearchResult (λ (s : Shown). nat_cmp s.name n) files r → IsBinarySearchResult (λ y. nat_cmp y n) (names_of files) r
+found_by_name files n (Ok i) within found = λ d. rw (get_or-map (λ (s : Shown). s.name) files i none d within) (found none)
+  where
+    none : Shown
+    none = record { name = 0; version = 0 }
+found_by_name files n (Err i) within none_found = λ level.
+    let parted = none_found (λ j k d le below.
+    rw (sym (get_or-map (λ (s : Shown). s.name) files j d 0 (omega (arith, le, below))), sym (get_or-map (λ (s : Shown). s.name) files k d 0 below))
+    (level j k 0 le (rw (length-map files (λ (s : Shown). s.name)) below))) in (
+      (λ k d from below. rw (get_or-map (λ (s : Shown). s.name) files k none d (omega (arith, below, within))) (parted.0 k none from below)),
+      (λ k d from below. rw (get_or-map (λ (s : Shown). s.name) files k none d (rw (length-map files (λ (s : Shown). s.name)) at below)) (parted.1 k none from (rw (length-map files (λ (s : Shown). s.name)) at below))),
+    )
+  where
+    none : Shown
+    none = record { name = 0; version = 0 }
+
+-- neighbours whose numbers rise
+pub rising_names : (files : List Shown) → AllAdjacentBelow (λ (s t : Shown). true ≡ nat_lt s.name t.name) files (length files)
+    → IsStrictlyIncreasing (names_of files)
+rising_names files up =
+    rising_if (names_of files) (λ k d below.
+    let there : k + 1 < length files = rw (length-map files (λ (s : Shown). s.name)) at below in
+    rw (get_or-map (λ (s : Shown). s.name) files k none d (omega (arith, there)), get_or-map (λ (s : Shown). s.name) files (k + 1) none d there)
+    (up k none there))
+  where
+    none : Shown
+    none = record { name = 0; version = 0 }

@@ -1,48 +1,29 @@
 -- The part of a sorted list that has a key.
-use Rattle.std.proofs.Common.{◌≡◌, ◌∙◌, ◌≤◌, ◌<◌, ℕ, zero, suc, Bool, true, false, List, [], ◌∷◌, refl, sym, ap, subst, length, take, drop, filter, get_or, arith}
+use Rattle.std.proofs.Common.{◌≡◌, ◌∙◌, ◌≤◌, ◌<◌, ℕ, zero, suc, Bool, true, false, List, [], ◌∷◌, ◌++◌, refl, sym, ap, subst, length, take, drop, filter, get_or, arith}
 use Rattle.std.proofs.lemmas.Bool.{true≢false, false≢true}
 use Rattle.std.proofs.lemmas.Bool.Decides.{nat_tests}
 use Rattle.std.proofs.lemmas.Cmp.{nat_cmp_total, nat_list_cmp_total, on_total, then_total, upto}
 use Rattle.std.proofs.lemmas.Map.Text.{is_eq-slice_cmp}
 use Rattle.std.specs.Prelude.{cond, not, nat_eq, ◌&&◌}
+use Rattle.std.specs.Borrow.{Bor}
 use Rattle.std.specs.Cmp.{IsTotalOrder}
 use Rattle.std.specs.Cmp.Lexicographic.{slice_cmp}
-use Rattle.std.specs.List.{AllByRecursion, AllWithin}
-use Rattle.std.specs.List.Sorted.{IsPartitionPoint, IsPartitionedBy}
+use Rattle.std.specs.List.{AllByRecursion}
+use Rattle.std.specs.List.Sorted.{IsPartitionedBy}
 use Rattle.std.specs.Ordering.{is_eq, is_gt, is_lt, nat_cmp, on, ordering_reverse, ordering_then, then_cmp}
 use Rattle.std.specs.declared.cmp.Ordering.{Ordering}
 use Rattle.std.specs.declared.cmp.Ordering.TheVariants.{Less, Equal, Greater}
 use Rattle.cb_scan.specs.Order.{goes_first, in_order}
 use Rattle.cb_scan.proofs.KeyOrder.{then_assoc}
-use Rattle.cb_scan.proofs.OrderLemmas.{Sorted, goes_itself, in_order_sorted}
+use Rattle.cb_scan.proofs.OrderLemmas.{Sorted, first_trans, goes_itself, in_order_sorted}
 use Rattle.cb_index.specs.Archived.{Archived}
 use Rattle.cb_index.specs.Entries.{Keyer, file_key, has_key, key_cmp, key_of, sort_key}
+use Rattle.cb_index.specs.steps.Bounds.{is_ahead}
 use Rattle.cb_index.specs.declared.entry.Entry.{Entry}
-use Rattle.cb_index.proofs.EntryLemmas.{bytes_cmp}
-
--- ---- a list that a test parts
-module _ {X : Type 0} (p : X → Bool) where
-  pub filter_skip : (n : ℕ) (xs : List X) → n ≤ length xs → AllWithin (λ x. p x ≡ false) xs 0 n
-      → filter p xs ≡ filter p (drop n xs)
-  filter_skip zero xs within none = refl
-  filter_skip (suc n) [] within none = refl
-  filter_skip (suc n) (x ∷ xs) within none =
-      ap (λ b. cond b (x ∷ filter p xs) (filter p xs)) (none 0 x (omega arith) (omega arith))
-      ∙ filter_skip n xs (omega (arith, within)) (λ k d low below. none (suc k) d (omega arith) (omega (arith, below)))
-
-  pub filter_front : (n : ℕ) (xs : List X) → AllWithin (λ x. p x ≡ true) xs 0 n
-      → AllWithin (λ x. p x ≡ false) xs n (length xs) → n ≤ length xs → filter p xs ≡ take n xs
-  filter_front zero [] all none within = refl
-  filter_front (suc n) [] all none within = absurd (omega (arith, within))
-  filter_front zero (x ∷ xs) all none within =
-      ap (λ b. cond b (x ∷ filter p xs) (filter p xs)) (none 0 x (omega arith) (omega arith))
-      ∙ filter_front zero xs (λ k d low below. absurd (omega (arith, below)))
-      (λ k d low below. none (suc k) d (omega arith) (omega (arith, below))) (omega arith)
-  filter_front (suc n) (x ∷ xs) all none within =
-      ap (λ b. cond b (x ∷ filter p xs) (filter p xs)) (all 0 x (omega arith) (omega arith))
-      ∙ ap (λ l. x ∷ l) (filter_front n xs
-      (λ k d low below. all (suc k) d (omega arith) (omega (arith, below)))
-      (λ k d low below. none (suc k) d (omega (arith, low)) (omega (arith, below))) (omega (arith, within)))
+use Rattle.cb_index.specs.declared.place.Bound.{Bound}
+use Rattle.cb_index.specs.declared.place.Bound.TheVariants.{Behind, Before, After}
+use Rattle.cb_index.proofs.EntryLemmas.{bytes_cmp, sort_exact}
+use Rattle.cb_index.proofs.SortedLemmas.{Parts, inserted_is, parts_sorted, some_ahead, taken_is}
 
 -- ---- prefix and key, as one order
 abbrev pub Headed : Type 0
@@ -176,37 +157,84 @@ pub sorted_from : (keyer : Keyer) (a : Archived) (es : List Entry)
     → es ≡ in_order (sort_key keyer a) es → Sorted (sort_key keyer a) es
 sorted_from keyer a es is = subst (Sorted (sort_key keyer a)) (sym is) (in_order_sorted (sort_key keyer a) es)
 
-sorted_drop : {X : Type 0} (key : X → List ℕ) (n : ℕ) (xs : List X) → Sorted key xs → Sorted key (drop n xs)
-sorted_drop key zero xs s = s
-sorted_drop key (suc n) [] s = tt
-sorted_drop key (suc n) (x ∷ xs) s = sorted_drop key n xs s.1
+-- ---- what stands ahead of a bound
+module _ (keyer : Keyer) (a : Archived) where
+  ahead_first : (bound : Bound) (e f : Entry) → goes_first (sort_key keyer a) e f ≡ true → is_ahead keyer a bound f ≡ true
+      → is_ahead keyer a bound e ≡ true
+  unfolding is_ahead
+  ahead_first (Behind one) e f first is = first_trans (sort_key keyer a e) (sort_key keyer a f) (sort_key keyer a one) first is
+  ahead_first (Before prefix key) e f first is =
+      below_parted keyer a prefix key.now (e ∷ f ∷ []) ((first, tt), (tt, tt)) 0 1 e (omega arith) (omega arith) is
+  ahead_first (After prefix key) e f first is =
+      upto_parted keyer a prefix key.now (e ∷ f ∷ []) ((first, tt), (tt, tt)) 0 1 e (omega arith) (omega arith) is
 
--- what holds from a place on holds of all of the rest
-all_after : {X : Type 0} (P : X → Type 0) (n : ℕ) (xs : List X) → AllWithin P xs n (length xs)
-    → AllWithin P (drop n xs) 0 (length (drop n xs))
-all_after P zero xs all = all
-all_after P (suc n) [] all = λ k d low below. absurd (omega (arith, below))
-all_after P (suc n) (x ∷ xs) all =
-    all_after P n xs (λ k d low below. all (suc k) d (omega (arith, low)) (omega (arith, below)))
+  pub ahead_parts : (bound : Bound) (es : List Entry) → es ≡ in_order (sort_key keyer a) es → Parts (is_ahead keyer a bound) es
+  ahead_parts bound es is =
+      parts_sorted (is_ahead keyer a bound) (sort_key keyer a) (ahead_first bound) es (sorted_from keyer a es is)
 
 module _ (keyer : Keyer) (a : Archived) (prefix : ℕ) (key : List ℕ) where
-  -- the rest of a sorted list is parted by the end of the key
-  pub rest_parted : (es : List Entry) (i : ℕ) → es ≡ in_order (sort_key keyer a) es
-      → IsPartitionedBy (λ e. not (is_lt (key_cmp keyer a prefix key e))) (drop i es)
-  rest_parted es i is =
-      upto_parted keyer a prefix key (drop i es) (sorted_drop (sort_key keyer a) i es (sorted_from keyer a es is))
+  none_has : (es : List Entry) → AllByRecursion (λ e. not (is_lt (key_cmp keyer a prefix key e)) ≡ false) es
+      → [] ≡ filter (has_key keyer a prefix key) es
+  none_has [] high = refl
+  none_has (e ∷ es) high =
+      none_has es high.1
+      ∙ sym (ap (λ b. cond b (e ∷ filter (has_key keyer a prefix key) es) (filter (has_key keyer a prefix key) es))
+      (has_not_below keyer a prefix key e high.0))
+
+  front_has : (n : ℕ) (es : List Entry) → AllByRecursion (λ e. is_gt (key_cmp keyer a prefix key e) ≡ false) es
+      → AllByRecursion (λ e. not (is_lt (key_cmp keyer a prefix key e)) ≡ true) (take n es)
+      → AllByRecursion (λ e. not (is_lt (key_cmp keyer a prefix key e)) ≡ false) (drop n es)
+      → take n es ≡ filter (has_key keyer a prefix key) es
+  front_has zero es low mid high = none_has es high
+  front_has (suc n) [] low mid high = refl
+  front_has (suc n) (e ∷ es) low mid high =
+      ap (λ l. e ∷ l) (front_has n es low.1 mid.1 high)
+      ∙ sym (ap (λ b. cond b (e ∷ filter (has_key keyer a prefix key) es) (filter (has_key keyer a prefix key) es))
+      (has_between keyer a prefix key e low.0 mid.0))
 
   -- what lies between the two places has the key, and nothing else does
-  pub range_is : (es : List Entry) (i n : ℕ) → i ≤ length es → n ≤ length (drop i es)
-      → IsPartitionPoint (λ e. is_gt (key_cmp keyer a prefix key e) ≡ true)
-      (λ e. is_gt (key_cmp keyer a prefix key e) ≡ false) es i
-      → IsPartitionPoint (λ e. not (is_lt (key_cmp keyer a prefix key e)) ≡ true)
-      (λ e. not (is_lt (key_cmp keyer a prefix key e)) ≡ false) (drop i es) n
-      → take n (drop i es) ≡ filter (has_key keyer a prefix key) es
-  range_is es i n within inside low high =
-      let has = has_key keyer a prefix key in
-      let not_below = all_after (λ e. is_gt (key_cmp keyer a prefix key e) ≡ false) i es low.1 in
-      sym (filter_skip has i es within (λ k d from below. has_not_above keyer a prefix key _ (low.0 k d from below))
-      ∙ filter_front has n (drop i es)
-      (λ k d from below. has_between keyer a prefix key _ (not_below k d from (omega (arith, below, inside))) (high.0 k d from below))
-      (λ k d from below. has_not_below keyer a prefix key _ (high.1 k d from below)) inside)
+  pub between_is : (m n : ℕ) (es : List Entry) → AllByRecursion (λ e. is_gt (key_cmp keyer a prefix key e) ≡ true) (take m es)
+      → AllByRecursion (λ e. is_gt (key_cmp keyer a prefix key e) ≡ false) (drop m es)
+      → AllByRecursion (λ e. not (is_lt (key_cmp keyer a prefix key e)) ≡ true) (take n es)
+      → AllByRecursion (λ e. not (is_lt (key_cmp keyer a prefix key e)) ≡ false) (drop n es)
+      → drop m (take n es) ≡ filter (has_key keyer a prefix key) es
+  between_is zero n es above low mid high = front_has n es low mid high
+  between_is (suc m) zero es above low mid high = none_has es high
+  between_is (suc m) (suc n) [] above low mid high = refl
+  between_is (suc m) (suc n) (e ∷ es) above low mid high =
+      between_is m n es above.1 low mid.1 high
+      ∙ sym (ap (λ b. cond b (e ∷ filter (has_key keyer a prefix key) es) (filter (has_key keyer a prefix key) es))
+      (has_not_above keyer a prefix key e above.0))
+
+-- ---- an entry comes or goes where the place behind it is
+module _ (keyer : Keyer) (a : Archived) (one : Entry) where
+  pub behind_inserted : (n : ℕ) (es : List Entry) → es ≡ in_order (sort_key keyer a) es
+      → AllByRecursion (λ e. is_ahead keyer a (Behind one) e ≡ true) (take n es)
+      → AllByRecursion (λ e. is_ahead keyer a (Behind one) e ≡ false) (drop n es)
+      → take n es ++ one ∷ drop n es ≡ in_order (sort_key keyer a) (es ++ one ∷ [])
+  unfolding is_ahead
+  behind_inserted n es order ahead behind =
+      inserted_is (sort_key keyer a) (sort_exact keyer a) n es one (sorted_from keyer a es order) ahead behind
+
+  pub behind_taken : (n : ℕ) (rest es : List Entry) → es ≡ in_order (sort_key keyer a) (one ∷ rest) → n < length es
+      → AllByRecursion (λ e. is_ahead keyer a (Behind one) e ≡ true) (take (suc n) es)
+      → AllByRecursion (λ e. is_ahead keyer a (Behind one) e ≡ false) (drop (suc n) es)
+      → take n es ++ drop (suc n) es ≡ in_order (sort_key keyer a) rest
+  unfolding is_ahead
+  behind_taken n rest es is below ahead behind =
+      taken_is (sort_key keyer a) (sort_exact keyer a) n rest es one one is below ahead behind
+
+  pub behind_some : (rest es : List Entry) → es ≡ in_order (sort_key keyer a) (one ∷ rest)
+      → AllByRecursion (λ e. is_ahead keyer a (Behind one) e ≡ false) es → true ≡ false
+  unfolding is_ahead
+  behind_some rest es is none = some_ahead (sort_key keyer a) rest es one is none
+
+-- ---- the entries of a key lie between its bounds
+module _ (keyer : Keyer) (a : Archived) (prefix : ℕ) (key : Bor (List ℕ)) where
+  pub key_between : (m n : ℕ) (es : List Entry) → AllByRecursion (λ e. is_ahead keyer a (Before prefix key) e ≡ true) (take m es)
+      → AllByRecursion (λ e. is_ahead keyer a (Before prefix key) e ≡ false) (drop m es)
+      → AllByRecursion (λ e. is_ahead keyer a (After prefix key) e ≡ true) (take n es)
+      → AllByRecursion (λ e. is_ahead keyer a (After prefix key) e ≡ false) (drop n es)
+      → drop m (take n es) ≡ filter (has_key keyer a prefix key.now) es
+  unfolding is_ahead
+  key_between m n es above low mid high = between_is keyer a prefix key.now m n es above low mid high

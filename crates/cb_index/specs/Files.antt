@@ -1,5 +1,5 @@
 -- The files that are shown.
-use Rattle.std.specs.Prelude.{ℕ, suc, Bool, false, ◌≡◌, ◌<◌, ◌+◌, List, [], ◌∷◌, ◌++◌, Option, Some, None, length, map, slice_get, slice_index_or}
+use Rattle.std.specs.Prelude.{ℕ, suc, Bool, false, ◌≡◌, ◌<◌, ◌+◌, List, [], ◌∷◌, ◌++◌, Option, Some, None, length, map, nat_eq, slice_get, slice_index_or, if◌then◌else◌}
 use Rattle.std.specs.Cmp.Lexicographic.{slice_cmp}
 use Rattle.std.specs.List.{list_any}
 use Rattle.std.specs.Ordering.{nat_cmp}
@@ -42,6 +42,11 @@ AreApart a shown =
 -- whether a file of the name of this version is among those that are shown
 abbrev pub is_shown : Archived → List Shown → Shown → Bool
 is_shown a shown s = list_any (λ (t : Shown). bytes_eq (name_of a s.name) (name_of a t.name)) shown
+
+-- what is shown under the number of a name
+abbrev pub shown_under : ℕ → List Shown → Option Shown
+shown_under name [] = None
+shown_under name (s ∷ shown) = if nat_eq s.name name then Some s else shown_under name shown
 
 -- the name by which a version is shown
 abbrev pub shown_name : Archived → Shown → List ℕ

@@ -1,8 +1,10 @@
 pub mod Archived
+pub mod Blocks
 pub mod Bytes
 pub mod Entries
 pub mod Files
 pub mod Held
+pub mod Includes
 pub mod Names
 pub mod Orders
 pub mod RowOrders

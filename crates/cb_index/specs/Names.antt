@@ -1,7 +1,12 @@
 -- Numbers of names.
-use Rattle.std.specs.Prelude.{ℕ, Bool, List, nat_eq}
+use Rattle.std.specs.Prelude.{ℕ, Bool, List, map, nat_eq}
 use Rattle.std.specs.List.{list_any}
+use Rattle.cb_index.specs.declared.entry.Shown.{Shown}
 
 -- whether a number is one of these
 abbrev pub is_among : List ℕ → ℕ → Bool
 is_among numbers n = list_any (nat_eq n) numbers
+
+-- the numbers of the names of files
+abbrev pub names_of : List Shown → List ℕ
+names_of files = map (λ (s : Shown). s.name) files

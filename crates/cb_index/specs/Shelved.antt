@@ -12,6 +12,7 @@ use Rattle.cb_index.specs.Held.{Prefixer, all_entries}
 use Rattle.cb_index.specs.Orders.{callee_key, callee_prefixes, caller_key, caller_prefixes, def_key, def_prefixes, tag_key, use_key, use_prefixes}
 use Rattle.cb_index.specs.declared.entry.Entry.{Entry}
 use Rattle.cb_index.specs.declared.entry.Shown.{Shown}
+use Rattle.cb_index.specs.declared.totals.Totals.{Totals}
 
 -- the archive, what is shown of it, by file name, how often that changed, and for how many entries,
 -- definitions, uses and calls there is room
@@ -87,3 +88,9 @@ pub record AreKept (a : Archived) (shown : List Shown)
   pub uses : IsIndexOf use_key use_prefixes a shown in_uses
   pub callees : IsIndexOf callee_key callee_prefixes a shown in_callees
   pub callers : IsIndexOf caller_key caller_prefixes a shown in_callers
+
+-- all that is shown has so many facts of each kind
+pub record AreTotals (a : Archived) (shown : List Shown) (n : Totals) : Type 0 where
+  pub defs : n.defs ≡ total def_count a shown
+  pub uses : n.uses ≡ total use_count a shown
+  pub calls : n.calls ≡ total call_count a shown

@@ -1,4 +1,7 @@
+pub mod Bounds
 pub mod Found
+pub mod Includes
 pub mod Left
 pub mod RowsLeft
+pub mod Runs
 pub mod Spread

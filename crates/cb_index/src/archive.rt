@@ -10,9 +10,9 @@ use cb_scan::{FactKeys, Facts, Source};
 use std::alloc::Global;
 use std::marker::Model;
 
-/// A source with the facts of its text, and the same facts by their keys.
+/// A source with the facts of its text, and the same facts by their keys. Its value is the text.
 #[derive(Debug, Drop)]
-pub(crate) struct Version {
+pub struct Version {
     source: Source,
     facts: Facts,
     keys: FactKeys,
@@ -31,7 +31,8 @@ impl Model for Version {
 }
 
 impl Version {
-    fn new(source: Source, facts: Facts, keys: FactKeys) -> Version
+    /// The version of a source, with its facts and their keys.
+    pub fn new(source: Source, facts: Facts, keys: FactKeys) -> Version
         requires facts { facts ≡ facts_of source }
         requires keys { keys ≡ keys_of source }
         ensures { result ≡ source }
@@ -49,7 +50,8 @@ impl Version {
         &self.source
     }
 
-    pub(crate) fn facts(&self) -> &Facts
+    /// The facts of its text.
+    pub fn facts(&self) -> &Facts
         ensures { result.now ≡ facts_of self.now }
     {
         &self.facts
@@ -132,24 +134,17 @@ impl Archive {
         number
     }
 
-    /// Keeps a source, the facts of its text and their keys under the number that is answered: the
-    /// count of versions before.
-    pub fn push_version(&mut self, source: Source, facts: Facts, keys: FactKeys) -> u32
-        requires room { length self.old.texts < self.old.version_room }
-        requires facts { facts ≡ facts_of source }
-        requires keys { keys ≡ keys_of source }
+    /// Keeps a version under the number that is answered: the count of versions before.
+    pub fn push_version(&mut self, version: Version) -> u32
+        requires { length self.old.texts < self.old.version_room }
         ensures value { result ≡ length self.old.texts }
-        ensures texts { self.new.texts ≡ self.old.texts ++ source ∷ [] }
+        ensures texts { self.new.texts ≡ self.old.texts ++ version ∷ [] }
         ensures names { self.new.names ≡ self.old.names }
         ensures room { self.old.version_room ≤ self.new.version_room }
         ensures name_room { self.new.name_room ≡ self.old.name_room }
     {
         let number = self.versions.len() as u32;
-        if self
-            .versions
-            .push(Version::new(source, facts, keys))
-            .is_err()
-        {
+        if self.versions.push(version).is_err() {
             unreachable!()
         }
         number

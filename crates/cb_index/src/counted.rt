@@ -14,7 +14,7 @@ pub(crate) enum Counted {
 }
 
 /// How many facts of a kind a version has.
-fn count_of(counted: Counted, archive: &Archive, version: u32) -> usize
+pub(crate) fn count_of(counted: Counted, archive: &Archive, version: u32) -> usize
     ensures { result ≡ count_for counted (slice_get archive.now.texts version) }
 {
     match archive.version(version) {

@@ -3,11 +3,13 @@ ghost use Rattle.std.specs.Prelude.{◌≡◌, ◌++◌, ◌∷◌, [], MatchOpt
 ghost use Rattle.std.specs.Iterator.{YieldsFirstBy, item_count};
 ghost use Rattle.cb_index.specs.steps.Found.{facts_at, facts_in, keys_for, posting_items};
 ghost use Rattle.cb_index.specs.steps.Left.{fact_of, facts_left, posting_left, posting_left_if};
+ghost use Rattle.cb_index.specs.steps.Runs.{run_entries};
 
 use crate::archive::{Archive, Version};
 use crate::bytes::number_at;
 use crate::entry::Entry;
 use crate::rows::{FactRow, FactSort, fact_at};
+use crate::run::Run;
 use cb_scan::{FactKeys, KeyList};
 
 /// The items of one posting that are still to come.
@@ -24,7 +26,7 @@ pub(crate) struct Posting<'a> {
 pub struct FactRows<'a> {
     sort: FactSort,
     archive: &'a Archive,
-    entries: &'a [Entry],
+    entries: Run<'a>,
     posting: Option<Posting<'a>>,
 }
 
@@ -85,14 +87,15 @@ fn next_row<'a>(posting: Option<Posting<'a>>) -> Option<(FactRow<'a>, Posting<'a
 struct Step<'a> {
     row: FactRow<'a>,
     posting: Posting<'a>,
-    entries: &'a [Entry],
+    entries: Run<'a>,
 }
 
 /// The first row of some entries.
-fn first_row<'a>(sort: FactSort, archive: &'a Archive, entries: &'a [Entry]) -> Option<Step<'a>>
-    ensures { MatchOption result (facts_in sort archive.now entries.now ≡ [])
-        (λ r. facts_in sort archive.now entries.now
-        ≡ fact_of r.row ∷ (posting_left r.posting ++ facts_in sort archive.now r.entries.now)) }
+fn first_row<'a>(sort: FactSort, archive: &'a Archive, entries: Run<'a>) -> Option<Step<'a>>
+    ensures { MatchOption result (facts_in sort archive.now (run_entries entries.entry) ≡ [])
+        (λ r. facts_in sort archive.now (run_entries entries.entry)
+        ≡ fact_of r.row
+        ∷ (posting_left r.posting ++ facts_in sort archive.now (run_entries r.entries))) }
 {
     let mut left = entries;
     while let Some((entry, rest)) = left.split_first() {
@@ -109,8 +112,8 @@ fn first_row<'a>(sort: FactSort, archive: &'a Archive, entries: &'a [Entry]) -> 
 }
 
 impl<'a> FactRows<'a> {
-    pub(crate) fn new(sort: FactSort, archive: &'a Archive, entries: &'a [Entry]) -> FactRows<'a>
-        ensures { facts_left result ≡ facts_in sort archive.now entries.now }
+    pub(crate) fn new(sort: FactSort, archive: &'a Archive, entries: Run<'a>) -> FactRows<'a>
+        ensures { facts_left result ≡ facts_in sort archive.now (run_entries entries.entry) }
     {
         FactRows {
             sort,

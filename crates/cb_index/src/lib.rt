@@ -7,31 +7,38 @@
 #![tactic(auto)]
 
 mod archive;
+mod block;
+mod blocks;
 mod bytes;
 mod counted;
 mod entries;
 mod entry;
 mod facts;
+mod includes;
 pub mod laws;
 mod listed;
 mod memory;
-mod merge;
 mod names;
 mod order;
 mod orders;
+mod place;
 mod range;
 mod room;
 mod row;
 mod row_orders;
 mod rows;
+mod run;
 mod shelf;
 mod sorted;
 mod tags;
+mod totals;
 
-pub use archive::Archive;
+pub use archive::{Archive, Version};
 pub use entries::Entries;
 pub use entry::{Entry, Shown};
 pub use facts::FactRows;
+pub use includes::IncludeRows;
+pub use listed::put_all_shown;
 pub use memory::OutOfMemory;
 pub use names::are_rising;
 pub use order::EntryOrder;
@@ -43,6 +50,7 @@ pub use rows::{FactRow, FactSort};
 pub use shelf::Shelf;
 pub use sorted::Sorted;
 pub use tags::TagRows;
+pub use totals::{Totals, totals_of};
 
 #[cfg(test)]
 mod tests;

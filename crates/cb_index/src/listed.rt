@@ -7,7 +7,7 @@ ghost use Rattle.std.specs.Ordering.{is_gt, is_lt, nat_cmp};
 ghost use Rattle.std.specs.Str.{bytes_eq};
 ghost use Rattle.cb_scan.specs.Order.{in_order, put};
 ghost use Rattle.cb_index.specs.Archived.{name_of};
-ghost use Rattle.cb_index.specs.Files.{AreApart, AreAscending, IsThere, is_shown, shown_key, shown_name};
+ghost use Rattle.cb_index.specs.Files.{AreApart, AreAscending, IsThere, is_shown, shown_key, shown_name, shown_under};
 ghost use Rattle.cb_index.specs.declared.entry.Shown.{Shown};
 
 use crate::archive::Archive;
@@ -86,14 +86,23 @@ fn sort_shown(archive: &Archive, shown: &mut [Shown])
     );
 }
 
-/// Puts versions among those that are shown, by file name.
-pub(crate) fn put_all_shown(archive: &Archive, news: &[Shown], shown: &mut Vec<Shown>)
+/// Puts versions among others, by file name, in the room that is there: none, one at its place, more
+/// by one sort. No two of them have one file name. It takes no memory.
+pub fn put_all_shown(archive: &Archive, news: &[Shown], shown: &mut Vec<Shown>)
+    requires ascending { AreAscending archive.now shown.old.items }
     requires apart { AreApart archive.now (shown.old.items ++ news.now) }
     requires room { length shown.old.items + length news.now ≤ vec_capacity shown.old }
     ensures items { shown.new.items
         ≡ in_order (shown_name archive.now) (shown.old.items ++ news.now) }
     ensures room { vec_capacity shown.old ≤ vec_capacity shown.new }
 {
+    if news.is_empty() {
+        return;
+    }
+    if let [one] = news {
+        put_shown(archive, *one, shown);
+        return;
+    }
     if shown.extend_from_slice(news).is_err() {
         unreachable!()
     }
@@ -108,6 +117,18 @@ pub(crate) fn has_name(archive: &Archive, name: u32, shown: &[Shown]) -> bool
 {
     let at = place_for(archive, name, shown);
     at < shown.len() && archive.name(name) == archive.name(shown[at].name)
+}
+
+/// What is shown under the number of a name.
+pub(crate) fn shown_under(name: u32, shown: &[Shown]) -> Option<Shown>
+    ensures { result ≡ shown_under name shown.now }
+{
+    for one in shown {
+        if one.name == name {
+            return Some(*one);
+        }
+    }
+    None
 }
 
 /// Whether a file of the name of one of these is shown.

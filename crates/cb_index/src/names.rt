@@ -1,31 +1,42 @@
 //! Numbers of names.
 ghost use Rattle.std.specs.Prelude.{◌≡◌, true, nat_lt};
+ghost use Rattle.std.specs.Ordering.{nat_cmp};
 ghost use Rattle.std.specs.List.Sorted.{IsStrictlyIncreasing};
-ghost use Rattle.cb_index.specs.Names.{is_among};
+ghost use Rattle.cb_index.specs.Names.{is_among, names_of};
 
-/// Whether each number is below the next, as `Shelf::hide_all` asks.
-pub fn are_rising(numbers: &[u32]) -> bool
-    ensures { result ≡ true → IsStrictlyIncreasing numbers.now }
+use crate::entry::Shown;
+use std::cmp::Ordering;
+
+/// Whether the number of each name is below that of the next, as `Shelf::hide_all` asks.
+pub fn are_rising(files: &[Shown]) -> bool
+    ensures { result ≡ true → IsStrictlyIncreasing (names_of files.now) }
 {
-    numbers.is_sorted_by(
-        |a: &u32, b: &u32| -> bool
-            ensures { result ≡ nat_lt a.now b.now }
-        { *a < *b },
+    files.is_sorted_by(
+        |a: &Shown, b: &Shown| -> bool
+            ensures { result ≡ nat_lt a.now.name b.now.name }
+        { a.name < b.name },
     )
 }
 
-/// Numbers of names, each below the next.
+/// Files by the numbers of their names, each below the next.
 #[derive(Clone, Copy)]
 pub(crate) struct Names<'a> {
-    pub(crate) numbers: &'a [u32],
-    ghost rising: { IsStrictlyIncreasing numbers.now },
+    pub(crate) files: &'a [Shown],
+    ghost rising: { IsStrictlyIncreasing (names_of files.now) },
 }
 
 impl<'a> Names<'a> {
-    /// Whether a number is one of them. It looks by halves.
+    /// Whether a number is that of one of the names. It looks by halves.
     pub(crate) fn has(&self, number: u32) -> bool
-        ensures { result ≡ is_among self.now.numbers.now number }
+        ensures { result ≡ is_among (names_of self.now.files.now) number }
     {
-        self.numbers.binary_search(&number).is_ok()
+        let files = self.files;
+        files
+            .binary_search_by(
+                |s: &Shown| -> Ordering
+                    ensures { result ≡ nat_cmp s.now.name number }
+                { s.name.cmp(&number) },
+            )
+            .is_ok()
     }
 }

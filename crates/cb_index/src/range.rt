@@ -3,12 +3,14 @@ ghost use Rattle.std.specs.Prelude.{◌≡◌, ◌++◌, ◌∷◌, [], MatchOpt
 ghost use Rattle.std.specs.Iterator.{YieldsFirst, item_count};
 ghost use Rattle.cb_index.specs.steps.Spread.{items_at, rows_in};
 ghost use Rattle.cb_index.specs.steps.RowsLeft.{entry_rows, entry_rows_if, rows_left};
+ghost use Rattle.cb_index.specs.steps.Runs.{run_entries};
 
 use crate::archive::Archive;
 use crate::entry::Entry;
 use crate::facts::{keys_for, posting_items};
 use crate::row::Row;
 use crate::rows::FactSort;
+use crate::run::Run;
 use std::slice;
 
 /// The rows of one entry that are still to come.
@@ -23,7 +25,7 @@ pub(crate) struct EntryRows<'a> {
 pub struct Rows<'a> {
     sort: Option<FactSort>,
     archive: &'a Archive,
-    entries: &'a [Entry],
+    entries: Run<'a>,
     first: Option<EntryRows<'a>>,
 }
 
@@ -66,18 +68,14 @@ fn next_row<'a>(first: Option<EntryRows<'a>>) -> Option<(Row, EntryRows<'a>)>
 struct Step<'a> {
     row: Row,
     first: EntryRows<'a>,
-    entries: &'a [Entry],
+    entries: Run<'a>,
 }
 
 /// The first row of some entries.
-fn first_row<'a>(
-    sort: Option<FactSort>,
-    archive: &'a Archive,
-    entries: &'a [Entry],
-) -> Option<Step<'a>>
-    ensures { MatchOption result (rows_in sort archive.now entries.now ≡ [])
-        (λ r. rows_in sort archive.now entries.now
-        ≡ r.row ∷ (entry_rows r.first ++ rows_in sort archive.now r.entries.now)) }
+fn first_row<'a>(sort: Option<FactSort>, archive: &'a Archive, entries: Run<'a>) -> Option<Step<'a>>
+    ensures { MatchOption result (rows_in sort archive.now (run_entries entries.entry) ≡ [])
+        (λ r. rows_in sort archive.now (run_entries entries.entry)
+        ≡ r.row ∷ (entry_rows r.first ++ rows_in sort archive.now (run_entries r.entries))) }
 {
     let mut left = entries;
     while let Some((entry, rest)) = left.split_first() {
@@ -98,12 +96,8 @@ fn first_row<'a>(
 }
 
 impl<'a> Rows<'a> {
-    pub(crate) fn new(
-        sort: Option<FactSort>,
-        archive: &'a Archive,
-        entries: &'a [Entry],
-    ) -> Rows<'a>
-        ensures { rows_left result ≡ rows_in sort archive.now entries.now }
+    pub(crate) fn new(sort: Option<FactSort>, archive: &'a Archive, entries: Run<'a>) -> Rows<'a>
+        ensures { rows_left result ≡ rows_in sort archive.now (run_entries entries.entry) }
     {
         Rows {
             sort,

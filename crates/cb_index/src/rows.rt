@@ -37,7 +37,7 @@ pub enum FactSort {
 }
 
 /// A line of a text, without its end; no bytes where there is none. Lines count from 1.
-fn shown_line(source: &Source, line: u32) -> &[u8]
+pub(crate) fn shown_line(source: &Source, line: u32) -> &[u8]
     ensures { result.now ≡ line_text source.now line }
 {
     match source.line(line) {

@@ -5,23 +5,23 @@ ghost use Rattle.std.specs.List.Sorted.{IsStrictlyIncreasing};
 ghost use Rattle.std.specs.Cmp.Lexicographic.{slice_cmp};
 ghost use Rattle.std.specs.Ordering.{is_gt, nat_cmp};
 ghost use Rattle.std.specs.Str.{bytes_eq};
-ghost use Rattle.cb_scan.specs.Definitions.{facts_of};
-ghost use Rattle.cb_scan.specs.FactKeys.{keys_of};
 ghost use Rattle.cb_scan.specs.Order.{goes_first, in_order, put};
 ghost use Rattle.cb_index.specs.Archived.{name_of};
-ghost use Rattle.cb_index.specs.Files.{AreAscending, shown_name};
-ghost use Rattle.cb_index.specs.Names.{is_among};
+ghost use Rattle.cb_index.specs.Files.{AreAscending, IsThere, shown_name};
+ghost use Rattle.cb_index.specs.Names.{is_among, names_of};
 ghost use Rattle.cb_index.specs.Rows.{calls_in, calls_of, tags_by_name, tags_by_tag_name, tags_named, uses_of};
-ghost use Rattle.cb_index.specs.Shelved.{CanShow, CanShowAll, KeepsRoom, files, with_facts};
+ghost use Rattle.cb_index.specs.Shelved.{AreTotals, CanShow, CanShowAll, KeepsRoom, files, with_facts};
 ghost use Rattle.cb_index.specs.declared.entry.Shown.{Shown};
 ghost use Rattle.cb_index.specs.steps.Left.{entries_left, facts_left, tags_left};
 
-use crate::archive::Archive;
+use crate::archive::{Archive, Version};
 use crate::counted::{Counted, has_room, has_room_for};
 use crate::entries::Entries;
 use crate::entry::Shown;
 use crate::facts::FactRows;
-use crate::listed::{are_there, ascend, has_any_name, has_name, put_all_shown, put_shown};
+use crate::listed::{
+    are_there, ascend, has_any_name, has_name, put_all_shown, put_shown, shown_under,
+};
 use crate::memory::OutOfMemory;
 use crate::names::Names;
 use crate::orders::{CallsByCallee, CallsByCaller, DefsByName, DefsByTagName, UsesByName};
@@ -29,10 +29,13 @@ use crate::room::Room;
 use crate::rows::FactSort;
 use crate::sorted::Sorted;
 use crate::tags::TagRows;
-use cb_scan::{FactKeys, Facts, Source};
+use crate::totals::Totals;
 use std::alloc::Global;
 use std::cmp::Ordering;
 use std::marker::Model;
+
+/// Files are hidden one after another where they are at most this part of what is shown.
+const FEW: usize = 8;
 
 /// An archive, the versions that are shown of it, each under a file name, and five indexes of what
 /// is found in these. No two versions are shown under one file name. Only `reserve` takes memory.
@@ -45,12 +48,13 @@ pub struct Shelf {
     uses: Sorted<UsesByName>,
     callees: Sorted<CallsByCallee>,
     callers: Sorted<CallsByCaller>,
+    totals: Totals,
     turns: u64,
 }
 
 impl Model for Shelf {
     ghost use Rattle.std.specs.Prelude.{min, vec_capacity};
-    ghost use Rattle.cb_index.specs.Shelved.{AreKept, Shelved};
+    ghost use Rattle.cb_index.specs.Shelved.{AreKept, AreTotals, Shelved};
 
     ghost Value = { Shelved };
 
@@ -65,7 +69,8 @@ impl Model for Shelf {
     } };
 
     ghost invariant = { λ s. AreKept s.archive s.shown.items s.defs.entries s.tags.entries
-        s.uses.entries s.callees.entries s.callers.entries };
+        s.uses.entries s.callees.entries s.callers.entries
+        × AreTotals s.archive s.shown.items s.totals };
 }
 
 impl Shelf {
@@ -84,6 +89,11 @@ impl Shelf {
             uses: Sorted::new(alloc),
             callees: Sorted::new(alloc),
             callers: Sorted::new(alloc),
+            totals: Totals {
+                defs: 0,
+                uses: 0,
+                calls: 0,
+            },
             turns: 0,
         }
     }
@@ -97,7 +107,9 @@ impl Shelf {
 
     /// What is shown, by file name.
     pub fn shown(&self) -> &[Shown]
-        ensures { result.now ≡ self.now.shown }
+        ensures value { result.now ≡ self.now.shown }
+        ensures there { AllByRecursion (IsThere self.now.archive) result.now }
+        ensures ascending { AreAscending self.now.archive result.now }
     {
         self.shown.as_slice()
     }
@@ -107,6 +119,13 @@ impl Shelf {
         ensures { result ≡ self.now.turns }
     {
         self.turns
+    }
+
+    /// How many facts of each kind all that is shown has.
+    pub fn totals(&self) -> Totals
+        ensures { AreTotals self.now.archive self.now.shown result }
+    {
+        self.totals
     }
 
     /// Makes room for so many of each in all. What is kept and shown stays, also where memory is
@@ -165,20 +184,17 @@ impl Shelf {
         self.archive.push_name(name)
     }
 
-    /// Keeps a source, the facts of its text and their keys under the number that is answered: the
-    /// count of versions before.
-    pub fn push_version(&mut self, source: Source, facts: Facts, keys: FactKeys) -> u32
-        requires room { length self.old.archive.texts < self.old.archive.version_room }
-        requires facts { facts ≡ facts_of source }
-        requires keys { keys ≡ keys_of source }
+    /// Keeps a version under the number that is answered: the count of versions before.
+    pub fn push_version(&mut self, version: Version) -> u32
+        requires { length self.old.archive.texts < self.old.archive.version_room }
         ensures value { result ≡ length self.old.archive.texts }
-        ensures texts { self.new.archive.texts ≡ self.old.archive.texts ++ source ∷ [] }
+        ensures texts { self.new.archive.texts ≡ self.old.archive.texts ++ version ∷ [] }
         ensures names { self.new.archive.names ≡ self.old.archive.names }
         ensures shown { self.new.shown ≡ self.old.shown }
         ensures turns { self.new.turns ≡ self.old.turns }
         ensures room { KeepsRoom self.old self.new }
     {
-        self.archive.push_version(source, facts, keys)
+        self.archive.push_version(version)
     }
 
     /// Keeps the first versions and names alone, so many of each.
@@ -254,6 +270,8 @@ impl Shelf {
         ensures room { KeepsRoom self.old self.new }
     {
         let one = Shown { name, version };
+        let _rooms = (self.defs.room(), self.uses.room(), self.callees.room());
+        self.totals = self.totals.with(&self.archive, &[one]);
         put_shown(&self.archive, one, &mut self.shown);
         self.defs.put_all(&self.archive, one);
         self.tags.put_all(&self.archive, one);
@@ -273,6 +291,8 @@ impl Shelf {
         ensures turns { self.new.turns ≡ min (self.old.turns + length news.now) (2 ^ 64 - 1) }
         ensures room { KeepsRoom self.old self.new }
     {
+        let _rooms = (self.defs.room(), self.uses.room(), self.callees.room());
+        self.totals = self.totals.with(&self.archive, news);
         put_all_shown(&self.archive, news, &mut self.shown);
         self.defs.put_each(&self.archive, news);
         self.tags.put_each(&self.archive, news);
@@ -290,41 +310,66 @@ impl Shelf {
         ensures turns { self.new.turns ≡ min (self.old.turns + 1) (2 ^ 64 - 1) }
         ensures room { KeepsRoom self.old self.new }
     {
+        self.turns = self.turns.saturating_add(1);
+        let one = match shown_under(name, self.shown.as_slice()) {
+            Some(one) => one,
+            None => return,
+        };
         self.shown.retain(
             |s: &Shown| -> bool
                 ensures { result ≡ not (nat_eq s.now.name name) }
             { s.name != name },
         );
-        self.defs.take_name(name);
-        self.tags.take_name(name);
-        self.uses.take_name(name);
-        self.callees.take_name(name);
-        self.callers.take_name(name);
-        self.turns = self.turns.saturating_add(1);
+        self.totals = self.totals.without(&self.archive, one.version);
+        self.defs.take_all(&self.archive, one);
+        self.tags.take_all(&self.archive, one);
+        self.uses.take_all(&self.archive, one);
+        self.callees.take_all(&self.archive, one);
+        self.callers.take_all(&self.archive, one);
     }
 
-    /// Hides what is shown under many names, each number below the next, in one pass of each index.
-    /// It takes no memory.
-    pub fn hide_all(&mut self, names: &[u32])
-        requires { IsStrictlyIncreasing names.now }
+    /// Hides what is shown under the names of many files, the number of each name below that of the
+    /// next: one after another where they are few, else in one pass of each index. It takes no
+    /// memory.
+    pub fn hide_all(&mut self, files: &[Shown])
+        requires { IsStrictlyIncreasing (names_of files.now) }
         ensures shown { self.new.shown
-            ≡ filter (λ (s : Shown). not (is_among names.now s.name)) self.old.shown }
+            ≡ filter (λ (s : Shown). not (is_among (names_of files.now) s.name)) self.old.shown }
         ensures archive { self.new.archive ≡ self.old.archive }
-        ensures turns { self.new.turns ≡ min (self.old.turns + length names.now) (2 ^ 64 - 1) }
+        ensures turns { self.new.turns ≡ min (self.old.turns + length files.now) (2 ^ 64 - 1) }
         ensures room { KeepsRoom self.old self.new }
     {
-        let hidden = Names { numbers: names };
+        if files.len() <= self.shown.len() / FEW {
+            for file in files {
+                self.hide(file.name);
+            }
+        } else {
+            self.pass_over(files);
+        }
+    }
+
+    /// Hides what is shown under the names of many files in one pass of each index.
+    fn pass_over(&mut self, files: &[Shown])
+        requires { IsStrictlyIncreasing (names_of files.now) }
+        ensures shown { self.new.shown
+            ≡ filter (λ (s : Shown). not (is_among (names_of files.now) s.name)) self.old.shown }
+        ensures archive { self.new.archive ≡ self.old.archive }
+        ensures turns { self.new.turns ≡ min (self.old.turns + length files.now) (2 ^ 64 - 1) }
+        ensures room { KeepsRoom self.old self.new }
+    {
+        let hidden = Names { files };
         self.shown.retain(
             |s: &Shown| -> bool
-                ensures { result ≡ not (is_among hidden.entry.numbers.now s.now.name) }
+                ensures { result ≡ not (is_among (names_of hidden.entry.files.now) s.now.name) }
             { !hidden.has(s.name) },
         );
-        self.defs.take_names(names);
-        self.tags.take_names(names);
-        self.uses.take_names(names);
-        self.callees.take_names(names);
-        self.callers.take_names(names);
-        self.turns = self.turns.saturating_add(names.len() as u64);
+        self.totals = self.totals.of_fewer(&self.archive, self.shown.as_slice());
+        self.defs.take_names(files);
+        self.tags.take_names(files);
+        self.uses.take_names(files);
+        self.callees.take_names(files);
+        self.callers.take_names(files);
+        self.turns = self.turns.saturating_add(files.len() as u64);
     }
 
     /// The files that are shown, by name, each with what is found in it.

@@ -1,51 +1,67 @@
 //! Entries kept in one of the orders.
-ghost use Rattle.std.specs.Prelude.{◌≡◌, ◌+◌, ◌≤◌, ◌++◌, [], true, false, length, filter, nat_eq, not, vec_capacity, OnOk};
+ghost use Rattle.std.specs.Prelude.{◌≡◌, ◌+◌, ◌*◌, ◌≤◌, ◌++◌, ◌∷◌, List, [], true, false, length, filter, not, vec_capacity, OnOk};
 ghost use Rattle.std.specs.Cmp.Lexicographic.{slice_cmp};
-ghost use Rattle.std.specs.Ordering.{is_gt, is_lt, nat_cmp};
-ghost use Rattle.std.specs.List.Sorted.{IsPartitionPoint, IsPartitionedBy, IsStrictlyIncreasing};
+ghost use Rattle.std.specs.Ordering.{nat_cmp};
+ghost use Rattle.std.specs.List.Sorted.{IsStrictlyIncreasing};
 ghost use Rattle.cb_scan.specs.Order.{goes_first, in_order};
-ghost use Rattle.cb_index.specs.Entries.{has_key, is_of, key_cmp, sort_key};
+ghost use Rattle.cb_index.specs.Blocks.{joined};
+ghost use Rattle.cb_index.specs.Entries.{has_key, sort_key};
 ghost use Rattle.cb_index.specs.Held.{all_entries, entries_of, prefixes_of};
-ghost use Rattle.cb_index.specs.Names.{is_among};
+ghost use Rattle.cb_index.specs.Names.{is_among, names_of};
 ghost use Rattle.cb_index.specs.steps.RowsLeft.{rows_left};
+ghost use Rattle.cb_index.specs.steps.Runs.{run_entries};
 ghost use Rattle.cb_index.specs.steps.Spread.{rows_in};
 ghost use Rattle.cb_index.specs.declared.entry.Entry.{Entry};
 
 use crate::archive::Archive;
+use crate::blocks::Blocks;
 use crate::entry::{Entry, Shown};
 use crate::memory::OutOfMemory;
-use crate::merge::put_between;
 use crate::names::Names;
 use crate::order::{EntryOrder, compare};
+use crate::place::{Bound, Place, place_of};
 use crate::range::Rows;
+use crate::run::Run;
 use std::alloc::Global;
 use std::cmp::Ordering;
 use std::marker::{Model, PhantomData};
 
-/// The entries of the versions that were put, in the order `O`. Those of one version are put in
-/// order beside them before they come in.
+/// For each block there is room for so many entries: blocks that are split are half full at least.
+const ROOM: usize = 128;
+
+/// Versions are put one after another where they are at most this part of the blocks.
+const FEW: usize = 8;
+
+/// The entries of the versions that were put, in the order `O`. A second list has room for all of
+/// them; there they are sorted where many come in at once.
 #[derive(Drop)]
 pub struct Sorted<O> {
-    entries: Vec<Entry>,
-    news: Vec<Entry>,
+    blocks: Blocks,
+    scratch: Vec<Entry>,
     order: PhantomData<O>,
 }
 
 impl<O> Model for Sorted<O> {
-    ghost use Rattle.std.specs.Prelude.{min, vec_capacity};
+    ghost use Rattle.std.specs.Prelude.{◌≤◌, ◌*◌, min, length, vec_capacity};
+    ghost use Rattle.cb_index.specs.Blocks.{joined};
     ghost use Rattle.cb_index.specs.Held.{Held};
 
     ghost Value = { Held };
 
     ghost view = { λ s. record {
-      entries = s.entries.items;
-      room = min (vec_capacity s.entries) (vec_capacity s.news);
+      entries = joined s.blocks.used;
+      room = min (vec_capacity s.scratch) (128 * s.blocks.count);
     } };
+
+    ghost invariant = { λ s. (length (joined s.blocks.used) ≤ vec_capacity s.scratch)
+        × (length (joined s.blocks.used) ≤ 128 * s.blocks.count) };
 }
 
 /// Puts entries in order.
-fn sort<O: EntryOrder>(archive: &Archive, entries: &mut [Entry])
-    ensures { entries.new ≡ in_order (sort_key O.keyer archive.now) entries.old }
+fn sort<O: EntryOrder>(archive: &Archive, entries: &mut Vec<Entry>)
+    ensures items { entries.new.items
+        ≡ in_order (sort_key O.keyer archive.now) entries.old.items }
+    ensures room { vec_capacity entries.new ≡ vec_capacity entries.old }
 {
     entries.sort_unstable_by(
         |a: &Entry, b: &Entry| -> Ordering
@@ -55,28 +71,30 @@ fn sort<O: EntryOrder>(archive: &Archive, entries: &mut [Entry])
     );
 }
 
-/// Whether entries are in order.
-fn ascend<O: EntryOrder>(archive: &Archive, entries: &[Entry]) -> bool
-    ensures { result ≡ true
-        → entries.now ≡ in_order (sort_key O.keyer archive.now) entries.now }
+/// Whether an entry does not go behind another.
+fn goes_first<O: EntryOrder>(archive: &Archive, a: Entry, b: Entry) -> bool
+    ensures { result ≡ goes_first (sort_key O.keyer archive.now) a b }
 {
-    entries.is_sorted_by(
-        |a: &Entry, b: &Entry| -> bool
-            ensures { result ≡ goes_first (sort_key O.keyer archive.entry.now) a.now b.now }
-        { compare::<O>(archive, *a, *b) != Ordering::Greater },
-    )
+    compare::<O>(archive, a, b) != Ordering::Greater
 }
 
-/// The entries of a version under a name, in order, in the room that is there.
-fn gather<O: EntryOrder>(archive: &Archive, shown: Shown, news: &mut Vec<Entry>)
-    requires { length (prefixes_of O.prefixer archive.now shown.version) ≤ vec_capacity news.old }
-    ensures items { news.new.items
-        ≡ in_order (sort_key O.keyer archive.now) (entries_of O.prefixer archive.now shown) }
-    ensures room { vec_capacity news.old ≤ vec_capacity news.new }
+/// Whether entries are in order.
+fn ascend<O: EntryOrder>(archive: &Archive, entries: Run<'_>) -> bool
+    ensures { result ≡ true → run_entries entries.entry
+        ≡ in_order (sort_key O.keyer archive.now) (run_entries entries.entry) }
 {
-    news.truncate(0);
-    O::append(archive, shown, news);
-    sort::<O>(archive, news.as_mut_slice());
+    let (mut last, mut left) = match entries.split_first() {
+        Some((entry, rest)) => (*entry, rest),
+        None => return true,
+    };
+    while let Some((entry, rest)) = left.split_first() {
+        if !goes_first::<O>(archive, last, *entry) {
+            return false;
+        }
+        last = *entry;
+        left = rest;
+    }
+    true
 }
 
 /// Puts the entries of versions behind others, in the room that is there.
@@ -92,55 +110,117 @@ fn append_each<O: EntryOrder>(archive: &Archive, shown: &[Shown], entries: &mut 
     }
 }
 
-/// A key with its prefix against an entry.
-fn compare_key<O: EntryOrder>(archive: &Archive, prefix: u64, key: &[u8], entry: Entry) -> Ordering
-    ensures { result ≡ key_cmp O.keyer archive.now prefix key.now entry }
+/// Puts an entry between the others; not where a block is wanted and none is left.
+fn try_put<O: EntryOrder>(archive: &Archive, one: Entry, blocks: &mut Blocks) -> bool
+    requires { joined blocks.old.used
+        ≡ in_order (sort_key O.keyer archive.now) (joined blocks.old.used) }
+    ensures put { result ≡ true → joined blocks.new.used
+        ≡ in_order (sort_key O.keyer archive.now) (joined blocks.old.used ++ one ∷ []) }
+    ensures stays { result ≡ false → blocks.new.used ≡ blocks.old.used }
+    ensures count { blocks.new.count ≡ blocks.old.count }
 {
-    match prefix.cmp(&entry.prefix) {
-        Ordering::Less => Ordering::Less,
-        Ordering::Greater => Ordering::Greater,
-        Ordering::Equal => O::compare_key(archive, key, entry),
+    let place = place_of::<O>(archive, Bound::Behind(one), blocks.used());
+    blocks.try_insert(place, one)
+}
+
+/// Takes away an entry that is there.
+fn take_one<O: EntryOrder>(archive: &Archive, one: Entry, blocks: &mut Blocks)
+    requires { (rest : List Entry)
+        × (joined blocks.old.used ≡ in_order (sort_key O.keyer archive.now) (one ∷ rest)) }
+    ensures taken { (rest : List Entry)
+        → joined blocks.old.used ≡ in_order (sort_key O.keyer archive.now) (one ∷ rest)
+        → joined blocks.new.used ≡ in_order (sort_key O.keyer archive.now) rest }
+    ensures count { blocks.new.count ≡ blocks.old.count }
+{
+    let place = place_of::<O>(archive, Bound::Behind(one), blocks.used());
+    if place.at == 0 {
+        unreachable!()
+    }
+    blocks.remove(Place {
+        block: place.block,
+        at: place.at - 1,
+    });
+}
+
+/// Puts entries behind others, in the room that is there.
+fn extend(entries: &mut Vec<Entry>, more: &[Entry])
+    requires { length entries.old.items + length more.now ≤ vec_capacity entries.old }
+    ensures items { entries.new.items ≡ entries.old.items ++ more.now }
+    ensures room { vec_capacity entries.old ≤ vec_capacity entries.new }
+{
+    if entries.extend_from_slice(more).is_err() {
+        unreachable!()
     }
 }
 
-/// How many entries are below a key.
-fn below<O: EntryOrder>(archive: &Archive, prefix: u64, key: &[u8], entries: &[Entry]) -> usize
-    requires { entries.now ≡ in_order (sort_key O.keyer archive.now) entries.now }
-    ensures bound { result ≤ length entries.now }
-    ensures parted { IsPartitionPoint
-        (λ e. is_gt (key_cmp O.keyer archive.now prefix key.now e) ≡ true)
-        (λ e. is_gt (key_cmp O.keyer archive.now prefix key.now e) ≡ false) entries.now result }
+/// Puts all entries behind others, in the room that is there, and empties the blocks.
+fn lift(blocks: &mut Blocks, entries: &mut Vec<Entry>)
+    requires { length entries.old.items + length (joined blocks.old.used)
+        ≤ vec_capacity entries.old }
+    ensures items { entries.new.items ≡ entries.old.items ++ joined blocks.old.used }
+    ensures room { vec_capacity entries.old ≤ vec_capacity entries.new }
+    ensures used { blocks.new.used ≡ [] }
+    ensures count { blocks.new.count ≡ blocks.old.count }
 {
-    entries.partition_point(
-        |e: &Entry| -> bool
-            ensures { result
-                ≡ is_gt (key_cmp O.keyer archive.entry.now prefix key.entry.now e.now) }
-        { compare_key::<O>(archive, prefix, key, *e) == Ordering::Greater },
-    )
+    let used = blocks.used();
+    for block in used {
+        extend(entries, block.entries());
+    }
+    blocks.clear();
 }
 
-/// How many entries are not above a key.
-fn upto<O: EntryOrder>(archive: &Archive, prefix: u64, key: &[u8], entries: &[Entry]) -> usize
-    requires { IsPartitionedBy
-        (λ e. not (is_lt (key_cmp O.keyer archive.now prefix key.now e))) entries.now }
-    ensures bound { result ≤ length entries.now }
-    ensures parted { IsPartitionPoint
-        (λ e. not (is_lt (key_cmp O.keyer archive.now prefix key.now e)) ≡ true)
-        (λ e. not (is_lt (key_cmp O.keyer archive.now prefix key.now e)) ≡ false)
-        entries.now result }
+/// Sorts all entries and others, and deals them out into blocks.
+fn sort_in<O: EntryOrder>(archive: &Archive, more: &mut Vec<Entry>, blocks: &mut Blocks)
+    requires room { length more.old.items + length (joined blocks.old.used)
+        ≤ vec_capacity more.old }
+    requires blocks { length more.old.items + length (joined blocks.old.used)
+        ≤ 128 * blocks.old.count }
+    ensures entries { joined blocks.new.used ≡ in_order (sort_key O.keyer archive.now)
+        (joined blocks.old.used ++ more.old.items) }
+    ensures room { vec_capacity more.old ≤ vec_capacity more.new }
+    ensures count { blocks.new.count ≡ blocks.old.count }
 {
-    entries.partition_point(
-        |e: &Entry| -> bool
-            ensures { result
-                ≡ not (is_lt (key_cmp O.keyer archive.entry.now prefix key.entry.now e.now)) }
-        { compare_key::<O>(archive, prefix, key, *e) != Ordering::Less },
-    )
+    lift(blocks, more);
+    sort::<O>(archive, more);
+    blocks.deal(more.as_slice());
 }
 
-fn is_of(name: u32, version: u32, entry: &Entry) -> bool
-    ensures { result ≡ is_of name version entry.now }
+/// Puts entries between the others, one after another; all together from where no block is left.
+fn put_rest<O: EntryOrder>(archive: &Archive, news: &mut Vec<Entry>, blocks: &mut Blocks)
+    requires order { joined blocks.old.used
+        ≡ in_order (sort_key O.keyer archive.now) (joined blocks.old.used) }
+    requires room { length news.old.items + length (joined blocks.old.used)
+        ≤ vec_capacity news.old }
+    requires blocks { length news.old.items + length (joined blocks.old.used)
+        ≤ 128 * blocks.old.count }
+    ensures entries { joined blocks.new.used ≡ in_order (sort_key O.keyer archive.now)
+        (joined blocks.old.used ++ news.old.items) }
+    ensures room { vec_capacity news.old ≤ vec_capacity news.new }
+    ensures count { blocks.new.count ≡ blocks.old.count }
 {
-    entry.name == name && entry.version == version
+    while let Some(one) = news.pop() {
+        if !try_put::<O>(archive, one, blocks) {
+            news.push_reserved(one);
+            sort_in::<O>(archive, news, blocks);
+            return;
+        }
+    }
+}
+
+/// Takes entries away that are there.
+fn take_rest<O: EntryOrder>(archive: &Archive, gone: &mut Vec<Entry>, blocks: &mut Blocks)
+    requires { (rest : List Entry) × (joined blocks.old.used
+        ≡ in_order (sort_key O.keyer archive.now) (gone.old.items ++ rest)) }
+    ensures taken { (rest : List Entry)
+        → joined blocks.old.used
+        ≡ in_order (sort_key O.keyer archive.now) (gone.old.items ++ rest)
+        → joined blocks.new.used ≡ in_order (sort_key O.keyer archive.now) rest }
+    ensures room { vec_capacity gone.new ≡ vec_capacity gone.old }
+    ensures count { blocks.new.count ≡ blocks.old.count }
+{
+    while let Some(one) = gone.pop() {
+        take_one::<O>(archive, one, blocks);
+    }
 }
 
 impl<O: EntryOrder> Sorted<O> {
@@ -149,8 +229,8 @@ impl<O: EntryOrder> Sorted<O> {
         ensures { result.entries ≡ [] }
     {
         Sorted {
-            entries: Vec::new(alloc),
-            news: Vec::new(alloc),
+            blocks: Blocks::new(alloc),
+            scratch: Vec::new(alloc),
             order: PhantomData,
         }
     }
@@ -161,29 +241,32 @@ impl<O: EntryOrder> Sorted<O> {
         ensures entries { self.new.entries ≡ self.old.entries }
         ensures room { self.old.room ≤ self.new.room }
     {
-        let more = (n as usize).saturating_sub(self.entries.len());
-        if self.entries.reserve(more).is_err() {
-            return Err(OutOfMemory);
+        match self.blocks.reserve(n as usize / ROOM + 1) {
+            Ok(()) => {}
+            Err(_) => return Err(OutOfMemory),
         }
-        self.news.truncate(0);
-        match self.news.reserve(n as usize) {
+        self.scratch.truncate(0);
+        match self.scratch.reserve(n as usize) {
             Ok(()) => Ok(()),
             Err(_) => Err(OutOfMemory),
         }
     }
 
     /// The entries, in order.
-    pub fn entries(&self) -> &[Entry]
-        ensures { result.now ≡ self.now.entries }
+    pub(crate) fn entries(&self) -> Run<'_>
+        ensures { run_entries result ≡ self.now.entries }
     {
-        self.entries.as_slice()
+        let _room = self.scratch.capacity();
+        Run::whole(self.blocks.used())
     }
 
     /// For how many entries there is room.
     pub fn room(&self) -> usize
         ensures { result ≡ self.now.room }
     {
-        self.entries.capacity().min(self.news.capacity())
+        self.scratch
+            .capacity()
+            .min(self.blocks.count().saturating_mul(ROOM))
     }
 
     /// Whether the entries are in order in an archive. They are in the one from which all were put,
@@ -192,7 +275,7 @@ impl<O: EntryOrder> Sorted<O> {
         ensures { result ≡ true
             → self.now.entries ≡ in_order (sort_key O.keyer archive.now) self.now.entries }
     {
-        ascend::<O>(archive, self.entries.as_slice())
+        ascend::<O>(archive, self.entries())
     }
 
     /// How many entries a version has in this order under a name.
@@ -203,7 +286,7 @@ impl<O: EntryOrder> Sorted<O> {
     }
 
     /// Puts the entries of a version under a name between the others, in the room that is there. It
-    /// takes no memory, and moves each entry once.
+    /// takes no memory. Where no block is left for one of them, it sorts all.
     pub fn put_all(&mut self, archive: &Archive, shown: Shown)
         requires order { self.old.entries
             ≡ in_order (sort_key O.keyer archive.now) self.old.entries }
@@ -213,63 +296,77 @@ impl<O: EntryOrder> Sorted<O> {
             (self.old.entries ++ entries_of O.prefixer archive.now shown) }
         ensures room { self.old.room ≤ self.new.room }
     {
-        gather::<O>(archive, shown, &mut self.news);
-        put_between::<O>(archive, self.news.as_slice(), &mut self.entries);
+        self.scratch.truncate(0);
+        O::append(archive, shown, &mut self.scratch);
+        put_rest::<O>(archive, &mut self.scratch, &mut self.blocks);
     }
 
-    /// Puts the entries of many versions among the others, in the room that is there. It takes no
-    /// memory, and sorts once.
+    /// Puts the entries of many versions among the others, in the room that is there: one version
+    /// after another where they are few, else by one sort. It takes no memory.
     pub fn put_each(&mut self, archive: &Archive, shown: &[Shown])
+        requires order { self.old.entries
+            ≡ in_order (sort_key O.keyer archive.now) self.old.entries }
+        requires room { length self.old.entries
+            + length (all_entries O.prefixer archive.now shown.now) ≤ self.old.room }
+        ensures entries { self.new.entries ≡ in_order (sort_key O.keyer archive.now)
+            (self.old.entries ++ all_entries O.prefixer archive.now shown.now) }
+        ensures room { self.old.room ≤ self.new.room }
+    {
+        if shown.len() <= self.blocks.used().len() / FEW {
+            for one in shown {
+                self.put_all(archive, *one);
+            }
+        } else {
+            self.sort_each(archive, shown);
+        }
+    }
+
+    /// Puts the entries of many versions among the others by one sort.
+    fn sort_each(&mut self, archive: &Archive, shown: &[Shown])
         requires { length self.old.entries + length (all_entries O.prefixer archive.now shown.now)
             ≤ self.old.room }
         ensures entries { self.new.entries ≡ in_order (sort_key O.keyer archive.now)
             (self.old.entries ++ all_entries O.prefixer archive.now shown.now) }
         ensures room { self.old.room ≤ self.new.room }
     {
-        append_each::<O>(archive, shown, &mut self.entries);
-        sort::<O>(archive, self.entries.as_mut_slice());
+        self.scratch.truncate(0);
+        append_each::<O>(archive, shown, &mut self.scratch);
+        sort_in::<O>(archive, &mut self.scratch, &mut self.blocks);
     }
 
-    /// Takes away the entries of a version under a name. It takes no memory, and the room stays.
-    pub fn take_version(&mut self, shown: Shown)
-        ensures entries { self.new.entries
-            ≡ filter (λ e. not (is_of shown.name shown.version e)) self.old.entries }
-        ensures room { self.new.room ≡ self.old.room }
+    /// Takes away the entries of a version under a name, all of which are there. It takes no
+    /// memory, and the room stays.
+    pub fn take_all(&mut self, archive: &Archive, shown: Shown)
+        requires { (rest : List Entry) × (self.old.entries ≡ in_order (sort_key O.keyer archive.now)
+            (entries_of O.prefixer archive.now shown ++ rest)) }
+        ensures entries { (rest : List Entry)
+            → self.old.entries ≡ in_order (sort_key O.keyer archive.now)
+            (entries_of O.prefixer archive.now shown ++ rest)
+            → self.new.entries ≡ in_order (sort_key O.keyer archive.now) rest }
+        ensures room { self.old.room ≤ self.new.room }
     {
-        self.entries.retain(
-            |entry: &Entry| -> bool
-                ensures { result ≡ not (is_of shown.name shown.version entry.now) }
-            { !is_of(shown.name, shown.version, entry) },
-        );
+        self.scratch.truncate(0);
+        O::append(archive, shown, &mut self.scratch);
+        take_rest::<O>(archive, &mut self.scratch, &mut self.blocks);
     }
 
-    /// Takes away the entries of all versions under a name. It takes no memory, and the room stays.
-    pub(crate) fn take_name(&mut self, name: u32)
+    /// Takes away the entries under the names of many files, in one pass. It takes no memory, and
+    /// the room stays.
+    pub(crate) fn take_names(&mut self, files: &[Shown])
+        requires { IsStrictlyIncreasing (names_of files.now) }
         ensures entries { self.new.entries
-            ≡ filter (λ (e : Entry). not (nat_eq e.name name)) self.old.entries }
-        ensures room { self.new.room ≡ self.old.room }
+            ≡ filter (λ (e : Entry). not (is_among (names_of files.now) e.name)) self.old.entries }
+        ensures room { self.old.room ≤ self.new.room }
     {
-        self.entries.retain(
+        let names = Names { files };
+        self.scratch.truncate(0);
+        lift(&mut self.blocks, &mut self.scratch);
+        self.scratch.retain(
             |entry: &Entry| -> bool
-                ensures { result ≡ not (nat_eq entry.now.name name) }
-            { entry.name != name },
-        );
-    }
-
-    /// Takes away the entries of all versions under many names, in one pass. It takes no memory,
-    /// and the room stays.
-    pub(crate) fn take_names(&mut self, names: &[u32])
-        requires { IsStrictlyIncreasing names.now }
-        ensures entries { self.new.entries
-            ≡ filter (λ (e : Entry). not (is_among names.now e.name)) self.old.entries }
-        ensures room { self.new.room ≡ self.old.room }
-    {
-        let names = Names { numbers: names };
-        self.entries.retain(
-            |entry: &Entry| -> bool
-                ensures { result ≡ not (is_among names.entry.numbers.now entry.now.name) }
+                ensures { result ≡ not (is_among (names_of names.entry.files.now) entry.now.name) }
             { !names.has(entry.name) },
         );
+        self.blocks.deal(self.scratch.as_slice());
     }
 
     /// The rows of a key, by file name and then by item.
@@ -282,18 +379,16 @@ impl<O: EntryOrder> Sorted<O> {
     }
 
     /// The entries that have the key, in order.
-    pub(crate) fn with_key(&self, archive: &Archive, key: &[u8]) -> &[Entry]
+    pub(crate) fn with_key(&self, archive: &Archive, key: &[u8]) -> Run<'_>
         requires { self.now.entries ≡ in_order (sort_key O.keyer archive.now) self.now.entries }
-        ensures { result.now ≡ filter
+        ensures { run_entries result ≡ filter
             (has_key O.keyer archive.now (O.prefix_of key.now) key.now) self.now.entries }
     {
+        let _room = self.scratch.capacity();
         let prefix = O::prefix(key);
-        let from = &self.entries.as_slice()[below::<O>(
-            archive,
-            prefix,
-            key,
-            self.entries.as_slice(),
-        )..];
-        &from[..upto::<O>(archive, prefix, key, from)]
+        let blocks = self.blocks.used();
+        let from = place_of::<O>(archive, Bound::Before(prefix, key), blocks);
+        let to = place_of::<O>(archive, Bound::After(prefix, key), blocks);
+        Run::between(blocks, from, to)
     }
 }

@@ -1,5 +1,6 @@
 //! Tests on short texts, with the facts worked out by hand.
 mod keys;
+mod many;
 mod memory;
 mod model;
 mod rows;
@@ -7,9 +8,10 @@ mod shelf;
 mod shelves;
 mod sorts;
 
-use crate::archive::Archive;
+use crate::archive::{Archive, Version};
 use crate::entry::{Entry, Shown};
 use crate::order::EntryOrder;
+use crate::run::Run;
 use crate::sorted::Sorted;
 use cb_scan::{FactKeys, Meter, Source, scan};
 use std::alloc::Global;
@@ -26,22 +28,45 @@ const SECOND: &[u8] = b"int main(void) {\n\treturn 0;\n}\n";
 const THIRD: &[u8] =
     b"int sqlite3_open(void) { }\nint sqlite3_(void) { }\nint sqlite3_close(void) { }\n";
 
-/// Keeps a text under a name.
-fn keep(alloc: Global, archive: &mut Archive, name: &[u8], text: &[u8]) -> Result<Shown, Fail> {
+/// A text with its facts and their keys.
+fn version_of(alloc: Global, text: &[u8]) -> Result<Version, Fail> {
     let source = Source::new(alloc, text.to_vec(alloc)?)?;
     let facts = scan(alloc, &mut Meter::new(), &source)?;
     let keys = FactKeys::new(alloc, &source, &facts)?;
-    let name = name.to_vec(alloc)?;
-    if archive.name_count() >= 1000 || archive.version_count() >= 1000 {
-        return Err(Fail::from("too many"));
+    Ok(Version::new(source, facts, keys))
+}
+
+/// Keeps a name.
+fn keep_name(alloc: Global, archive: &mut Archive, name: &[u8]) -> Result<u32, Fail> {
+    if archive.name_count() >= 1000 {
+        return Err(Fail::from("too many names"));
     }
     match archive.reserve(1000, 1000) {
         Ok(()) => {}
         Err(_) => return Err(Fail::from("no memory")),
     }
+    let name = name.to_vec(alloc)?;
+    Ok(archive.push_name(name))
+}
+
+/// Keeps a text and its facts.
+fn keep_version(alloc: Global, archive: &mut Archive, text: &[u8]) -> Result<u32, Fail> {
+    if archive.version_count() >= 1000 {
+        return Err(Fail::from("too many versions"));
+    }
+    match archive.reserve(1000, 1000) {
+        Ok(()) => {}
+        Err(_) => return Err(Fail::from("no memory")),
+    }
+    let version = version_of(alloc, text)?;
+    Ok(archive.push_version(version))
+}
+
+/// Keeps a text under a name.
+fn keep(alloc: Global, archive: &mut Archive, name: &[u8], text: &[u8]) -> Result<Shown, Fail> {
     Ok(Shown {
-        name: archive.push_name(name),
-        version: archive.push_version(source, facts, keys),
+        name: keep_name(alloc, archive, name)?,
+        version: keep_version(alloc, archive, text)?,
     })
 }
 
@@ -85,14 +110,31 @@ fn put<O: EntryOrder>(archive: &Archive, one: Shown, index: &mut Sorted<O>) -> R
     Ok(())
 }
 
+/// The entries of a run.
+fn listed(alloc: Global, run: Run<'_>) -> Result<Vec<Entry>, Fail> {
+    let mut entries = Vec::new(alloc);
+    let mut left = run;
+    for _ in 0..u64::MAX {
+        match left.split_first() {
+            Some((entry, rest)) => {
+                entries.push(*entry)?;
+                left = rest;
+            }
+            None => break,
+        }
+    }
+    Ok(entries)
+}
+
 /// The entries of a key.
-fn range_of<'a, O: EntryOrder>(
+fn range_of<O: EntryOrder>(
+    alloc: Global,
     archive: &Archive,
-    index: &'a Sorted<O>,
+    index: &Sorted<O>,
     key: &[u8],
-) -> Result<&'a [Entry], Fail> {
+) -> Result<Vec<Entry>, Fail> {
     if !index.is_in_order(archive) {
         return Err(Fail::from("out of order"));
     }
-    Ok(index.with_key(archive, key))
+    listed(alloc, index.with_key(archive, key))
 }

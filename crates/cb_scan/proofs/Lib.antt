@@ -6,6 +6,7 @@ pub mod ClosedStrings
 pub mod CodeLines
 pub mod Cuts
 pub mod DeclarationLemmas
+pub mod FactsFew
 pub mod FactsWithin
 pub mod FeedLanes
 pub mod FunctionLemmas

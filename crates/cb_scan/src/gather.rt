@@ -106,6 +106,7 @@ impl CodeLists {
     }
 
     /// A token that is no brace and ends no declaration.
+    #[inline(always)]
     fn pass(&mut self, state: &mut CodeState, token: &Token) -> Result<(), AllocError>
         requires nested { nesting_of state.old.declared + 1 < 2 ^ 32 }
         requires no_open_brace { is_mark open_brace token.now.role ≡ false }
@@ -181,6 +182,7 @@ impl CodeLists {
     }
 
     /// A token of the code, which moves the state of the pass. Most are passed over.
+    #[inline(always)]
     pub(crate) fn add(&mut self, state: &mut CodeState, token: &Token) -> Result<(), AllocError>
         requires deep { state.old.machine.depth + 1 < 2 ^ 32 }
         requires nested { nesting_of state.old.declared + 1 < 2 ^ 32 }
@@ -254,6 +256,7 @@ impl LineLists {
 
     /// A token, which moves the state of its line. A line of code stays one, and gives its uses
     /// alone.
+    #[inline(always)]
     pub(crate) fn add(
         &mut self,
         text: &[u8],

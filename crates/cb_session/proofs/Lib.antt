@@ -1,3 +1,6 @@
+pub mod Blocks
+pub mod FirstInputs
+pub mod Follows
 pub mod Loading
 pub mod Outcomes
 pub mod Patterns
@@ -5,6 +8,7 @@ pub mod Puts
 pub mod Replay
 pub mod Round
 pub mod Rounds
+pub mod Running
 pub mod Shown
 pub mod Streams
 pub mod Told

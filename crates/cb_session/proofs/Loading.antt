@@ -1,10 +1,10 @@
 -- Loads one after another.
-use Rattle.std.proofs.Common.{◌≡◌, ◌+◌, ℕ, Bool, true, false, List, [], ◌∷◌, length, Result, Ok, Err, IsOk, refl, ap, ◌∙◌, arith, sym, subst}
+use Rattle.std.proofs.Common.{◌≡◌, ◌≤◌, ◌+◌, ℕ, Bool, true, false, List, [], ◌∷◌, length, Result, Ok, Err, IsOk, refl, ap, ◌∙◌, arith, sym, subst}
 use Rattle.cb_desk.specs.declared.refusal.Refusal.{Refusal}
 use Rattle.cb_desk.specs.declared.refusal.Refusal.TheVariants.{OutOfMemory}
-use Rattle.cb_desk.specs.World.{File}
+use Rattle.cb_desk.specs.World.{File, World}
 use Rattle.cb_desk.specs.Step.{load, step}
-use Rattle.cb_desk.specs.Timeline.{Timeline, Changes, judged, changed}
+use Rattle.cb_desk.specs.Timeline.{Timeline, Changes, judged, changed, new_timeline}
 use Rattle.cb_session.specs.Operands.{RefusedOperand, Loads, all_loaded, first_loaded, first_refused, memory_refused}
 use Rattle.cb_desk.proofs.Moves.{advanced-Ok}
 
@@ -16,11 +16,16 @@ accepted t u name bytes x p =
     (elim p.0 as (λ b. P b (changed t (load name bytes))) [ true ↦ none (changed t (load name bytes)) | false ↦ λ e. e ]) p.1
 
 -- an accepted change joins the past
-pub past_grows : (place : ℕ) (t u : Timeline) (name bytes : List ℕ) (x : Unit {0}) → place ≡ length t.past → Changes (load name bytes) t u (Ok x) → place + 1 ≡ length u.past
+grown_by : (t u : Timeline) (name bytes : List ℕ) → changed t (load name bytes) ≡ Ok u → length u.past ≡ length t.past + 1
 unfolding changed
-past_grows place t u name bytes x is h =
-    let found = advanced-Ok t u (step t.present (load name bytes)) (accepted t u name bytes x h) in
+grown_by t u name bytes made =
+    let found = advanced-Ok t u (step t.present (load name bytes)) made in
     let grown : length u.past ≡ length (t.present ∷ t.past) = ap (λ v. length v.past) found.2.is in
+    omega (arith, grown)
+
+pub past_grows : (place : ℕ) (t u : Timeline) (name bytes : List ℕ) (x : Unit {0}) → place ≡ length t.past → Changes (load name bytes) t u (Ok x) → place + 1 ≡ length u.past
+past_grows place t u name bytes x is h =
+    let grown = grown_by t u name bytes (accepted t u name bytes x h) in
     omega (arith, grown, is)
 
 -- a load that is refused ends the loads
@@ -59,3 +64,42 @@ module _ (place : ℕ) (start t u : Timeline) (all left rest : List File) (f : F
 pub ends : (place : ℕ) (start t u : Timeline) (all left : List File) → Goes place start t all left → length left ≡ 0 → u ≡ t → Loads 0 start all (Ok u)
 ends place start t u all [] goes none same = subst (λ v. Loads 0 start all (Ok v)) (sym same) (goes (Ok t) all_loaded)
 ends place start t u all (f ∷ fs) goes none same = absurd (omega (arith, none))
+
+-- ---- memory that is refused to the last one
+
+-- each load joins the past
+pub past_of_all : (place : ℕ) (t u : Timeline) (fs : List File) (end : Result Timeline RefusedOperand) → end ≡ Ok u → Loads place t fs end
+    → length u.past ≡ length t.past + length fs
+past_of_all place t u [] end is all_loaded =
+    let same : t ≡ u = cc in
+    let long = ap (λ (v : Timeline). length v.past) same in
+    omega (arith, long)
+past_of_all place t u (f ∷ fs) end is (first_loaded {u = v} made rest) =
+    let grown = grown_by t v f.name f.bytes made in
+    let later = past_of_all (place + 1) v u fs end is rest in
+    omega (arith, grown, later)
+past_of_all place t u (f ∷ fs) end is (first_refused why) = cc
+past_of_all place t u (f ∷ fs) end is (memory_refused would) = cc
+
+last_of_all : (place : ℕ) (t u : Timeline) (f : File) (fs : List File) (end : Result Timeline RefusedOperand) → end ≡ Ok u → Loads place t (f ∷ fs) end
+    → (n : ℕ) → n ≡ place + length fs → Loads place t (f ∷ fs) (Err (record { place = n; why = OutOfMemory }))
+last_of_all place t u f [] end is (first_loaded {u = v} made rest) n e =
+    let here : place ≡ n = omega (arith, e) in
+    subst (λ m. Loads place t (f ∷ []) (Err (record { place = m; why = OutOfMemory }))) here (memory_refused (subst IsOk (sym made) refl))
+last_of_all place t u f (g ∷ fs) end is (first_loaded {u = v} made rest) n e =
+    first_loaded made (last_of_all (place + 1) v u g fs end is rest n (omega (arith, e)))
+last_of_all place t u f fs end is (first_refused why) n e = cc
+last_of_all place t u f fs end is (memory_refused would) n e = cc
+
+pub last_refused : (u : Timeline) (all : List File) (n : ℕ) → Loads 0 new_timeline all (Ok u) → n + 1 ≡ length u.past
+    → Loads 0 new_timeline all (Err (record { place = n; why = OutOfMemory }))
+last_refused u [] n loads long =
+    let none = past_of_all 0 new_timeline u [] (Ok u) refl loads in
+    absurd (omega (arith, none, long))
+last_refused u (f ∷ fs) n loads long =
+    let count = past_of_all 0 new_timeline u (f ∷ fs) (Ok u) refl loads in
+    last_of_all 0 new_timeline u f fs (Ok u) refl loads n (omega (arith, count, long))
+
+pub long_past : (ws : List World) → (ws ≡ [] → ⊥) → 1 ≤ length ws
+long_past [] some = absurd (some refl)
+long_past (w ∷ ws) some = omega arith

@@ -4,25 +4,25 @@ use Rattle.cb_tags.proofs.Prefixes.{PutsAll-none}
 use Rattle.cb_desk.specs.declared.refusal.Refusal.{Refusal}
 use Rattle.cb_desk.specs.declared.refusal.Refusal.TheVariants.{OutOfMemory}
 use Rattle.cb_desk.specs.declared.rows.Field.{Field}
-use Rattle.cb_desk.specs.declared.rows.Field.TheVariants.{Symbol, Definition, Called, Calling, Text, File as FileName, Including}
+use Rattle.cb_desk.specs.declared.rows.Field.TheVariants.{Text}
 use Rattle.cb_session.specs.declared.input.Fault.{Fault}
 use Rattle.cb_desk.specs.Timeline.{Timeline, Moves, Changes, judged, changed, undone, redone}
-use Rattle.cb_desk.specs.Step.{Step, step, load, unload, rename, want, mark, mark_all, replace, tag, pop}
+use Rattle.cb_desk.specs.Step.{Step, step, load, reload, unload, rename, want, mark, mark_all, replace, tag, pop}
 use Rattle.cb_desk.specs.World.{World}
 use Rattle.std.specs.Borrow.{Bor}
 use Rattle.cb_desk.specs.declared.change.Change.{Change}
-use Rattle.cb_desk.specs.declared.change.Change.TheVariants.{Load, Unload, Rename, Want, Mark, MarkAll, Replace, Tag as TagOf, Pop}
+use Rattle.cb_desk.specs.declared.change.Change.TheVariants.{Load, Reload, Unload, Rename, Want, Mark, MarkAll, Replace, Tag as TagOf, Pop}
 use Rattle.cb_desk.specs.Models.{step_of}
 use Rattle.cb_desk.specs.Answer.{AnswerRow, answer}
 use Rattle.cb_tags.specs.TagLines.{Tag}
-use Rattle.std.specs.Prelude.{IfOk, IfErr}
+use Rattle.std.specs.Prelude.{IfErr}
 use Rattle.cb_tags.specs.Writers.{Writer}
 use Rattle.cb_desk.specs.declared.tags.Format.{Format}
 use Rattle.cb_desk.specs.declared.tags.Format.TheVariants.{Extended}
 use Rattle.cb_session.specs.Requests.{Request, query, change, undo, redo, rebuild, tags_file, listing, marks, stack, refused, nothing, quit}
 use Rattle.cb_session.specs.Serving.{Does}
-use Rattle.cb_session.specs.steps.Rounds.{move_line, rows_line, tags_line, listing_lines}
-use Rattle.cb_session.specs.Output.{moved, done_line, change_reply, query_reply, shown, outcome, refused_line, answer_lines, tags_reply, listing_reply}
+use Rattle.cb_session.specs.steps.Rounds.{move_line}
+use Rattle.cb_session.specs.Output.{moved, done_line, change_reply, outcome, refused_line, answer_lines, tags_reply, listing_reply}
 use Rattle.cb_desk.specs.Tags.{tags}
 use Rattle.cb_session.specs.Places.{mark_rows, stack_rows}
 use Rattle.cb_session.specs.Writing.{Puts}
@@ -81,38 +81,13 @@ Does-stack t desk e out out' result same h p =
     subst (λ x. (out_of_memory : Bool) × Does (outcome out_of_memory t x) t out out' result) (sym h)
     (false, (refl, subst (λ v. Puts out out' result (answer_lines (stack_rows v.present))) same p))
 
--- a query of another field than 4
-not-text : (b : Bool) (field : Field) (rows : List AnswerRow) → field ≢ Text → query_reply b field rows ≡ shown b (answer_lines rows)
-not-text b Symbol rows other = refl
-not-text b Definition rows other = refl
-not-text b Called rows other = refl
-not-text b Calling rows other = refl
-not-text b Text rows other = absurd (other refl)
-not-text b FileName rows other = refl
-not-text b Including rows other = refl
-
--- the rows of another field than 4 as they were collected, or memory was refused
-pub replies-other : {A : Type 0} (desk t : Timeline) (field : Field) (pattern : List ℕ) (r : Result (List AnswerRow) Refusal) (out out' : Writer) (result : Result A Fault)
-    → desk ≡ t → field ≢ Text → IfOk r (λ rows. rows ≡ answer desk.present field pattern) → IfErr r (λ x. x ≡ OutOfMemory)
-    → Puts out out' result (rows_line r) → (out_of_memory : Bool) × Puts out out' result (query_reply out_of_memory field (answer t.present field pattern))
-replies-other desk t field pattern (Ok rows) out out' result same other is memory p =
-    (false, subst (λ l. Puts out out' result l) (ap answer_lines (is ∙ ap (λ v. answer v.present field pattern) same) ∙ sym (not-text false field (answer t.present field pattern) other)) p)
-replies-other desk t field pattern (Err x) out out' result same other is memory p =
-    (true, subst (λ l. Puts out out' result l) (ap refused_line memory ∙ sym (not-text true field (answer t.present field pattern) other)) p)
-
--- the rows of field 4
-pub replies-text : {A : Type 0} (desk t : Timeline) (field : Field) (pattern : List ℕ) (out out' : Writer) (result : Result A Fault)
-    → desk ≡ t → field ≡ Text → Puts out out' result (answer_lines (answer desk.present Text pattern)) → (out_of_memory : Bool) × Puts out out' result (query_reply out_of_memory field (answer t.present field pattern))
-replies-text desk t field pattern out out' result same is p =
-    (false, subst (λ f. Puts out out' result (query_reply false f (answer t.present f pattern))) (sym is) (subst (λ v. Puts out out' result (answer_lines (answer v.present Text pattern))) same p))
-
-pub Does-query : {A : Type 0} (t desk : Timeline) (e : Request) (field : Field) (pattern : List ℕ) (out out' : Writer) (result : Result A Fault)
-    → desk ≡ t → e ≡ query field pattern → (out_of_memory : Bool) × Puts out out' result (query_reply out_of_memory field (answer desk.present field pattern))
+pub Does-query : {A : Type 0} (t desk : Timeline) (e : Request) (field : Field) (pattern : List ℕ) (rows : List AnswerRow) (out out' : Writer) (result : Result A Fault)
+    → desk ≡ t → e ≡ query field pattern → rows ≡ answer desk.present field pattern → Puts out out' result (answer_lines rows)
     → (out_of_memory : Bool) × Does (outcome out_of_memory t e) t out out' result
 unfolding outcome
-Does-query t desk e field pattern out out' result same h p =
+Does-query t desk e field pattern rows out out' result same h is p =
     subst (λ x. (out_of_memory : Bool) × Does (outcome out_of_memory t x) t out out' result) (sym h)
-    (p.0, (refl, subst (λ v. Puts out out' result (query_reply p.0 field (answer v.present field pattern))) same p.1))
+    (false, (refl, subst (λ l. Puts out out' result l) (ap answer_lines is ∙ ap (λ v. answer_lines (answer v.present field pattern)) same) p))
 
 pub Does-marks : {A : Type 0} (t desk : Timeline) (e : Request) (out out' : Writer) (result : Result A Fault)
     → desk ≡ t → e ≡ marks → Puts out out' result (answer_lines (mark_rows desk.present)) → (out_of_memory : Bool) × Does (outcome out_of_memory t e) t out out' result
@@ -124,6 +99,7 @@ Does-marks t desk e out out' result same h p =
 -- a change that replies by its line alone
 plain-change : (s : Step) (w : World) → ((text : List ℕ) → s ≡ want text → ⊥) → change_reply s w ≡ done_line
 plain-change (load name bytes) w other = refl
+plain-change (reload name bytes) w other = refl
 plain-change (unload name) w other = refl
 plain-change (rename from to) w other = refl
 plain-change (want text) w other = absurd (other text refl)
@@ -136,6 +112,7 @@ plain-change pop w other = refl
 -- a change that is no want is no step that is one
 pub other-step : (c : Change) → ((text : Bor (List ℕ)) → c ≡ Want text → ⊥) → (text : List ℕ) → step_of c ≡ want text → ⊥
 other-step (Load name bytes) other text e = cc
+other-step (Reload name bytes) other text e = cc
 other-step (Unload name) other text e = cc
 other-step (Rename from to) other text e = cc
 other-step (Want t) other text e = other t refl
@@ -170,27 +147,21 @@ wanted-some [] true t u e is = cc
 wanted-some [] false t u e is = cc
 wanted-some (x ∷ text) b t u e is = cc
 
-pub Does-tags : {A : Type 0} (t desk : Timeline) (e : Request) (format : Format) (r : Result (List Tag) Refusal) (out out' : Writer) (result : Result A Fault)
-    → desk ≡ t → e ≡ tags_file format → IfOk r (λ ts. ts ≡ tags format desk.present) → IfErr r (λ x. x ≡ OutOfMemory)
-    → Puts out out' result (tags_line format r) → (out_of_memory : Bool) × Does (outcome out_of_memory t e) t out out' result
+pub Does-tags : {A : Type 0} (t desk : Timeline) (e : Request) (format : Format) (ts : List Tag) (out out' : Writer) (result : Result A Fault)
+    → desk ≡ t → e ≡ tags_file format → ts ≡ tags format desk.present → Puts out out' result (tags_reply format ts)
+    → (out_of_memory : Bool) × Does (outcome out_of_memory t e) t out out' result
 unfolding outcome
-Does-tags t desk e format (Ok ts) out out' result same h is memory p =
+Does-tags t desk e format ts out out' result same h is p =
     subst (λ x. (out_of_memory : Bool) × Does (outcome out_of_memory t x) t out out' result) (sym h)
     (false, (refl, subst (λ l. Puts out out' result l) (ap (tags_reply format) is ∙ ap (λ v. tags_reply format (tags format v.present)) same) p))
-Does-tags t desk e format (Err x) out out' result same h is memory p =
-    subst (λ y. (out_of_memory : Bool) × Does (outcome out_of_memory t y) t out out' result) (sym h)
-    (true, (refl, subst (λ l. Puts out out' result l) (ap refused_line memory) p))
 
-pub Does-listing : {A : Type 0} (t desk : Timeline) (e : Request) (r : Result (List Tag) Refusal) (out out' : Writer) (result : Result A Fault)
-    → desk ≡ t → e ≡ listing → IfOk r (λ ts. ts ≡ tags Extended desk.present) → IfErr r (λ x. x ≡ OutOfMemory)
-    → Puts out out' result (listing_lines r) → (out_of_memory : Bool) × Does (outcome out_of_memory t e) t out out' result
+pub Does-listing : {A : Type 0} (t desk : Timeline) (e : Request) (ts : List Tag) (out out' : Writer) (result : Result A Fault)
+    → desk ≡ t → e ≡ listing → ts ≡ tags Extended desk.present → Puts out out' result (listing_reply ts)
+    → (out_of_memory : Bool) × Does (outcome out_of_memory t e) t out out' result
 unfolding outcome
-Does-listing t desk e (Ok ts) out out' result same h is memory p =
+Does-listing t desk e ts out out' result same h is p =
     subst (λ x. (out_of_memory : Bool) × Does (outcome out_of_memory t x) t out out' result) (sym h)
     (false, (refl, subst (λ l. Puts out out' result l) (ap listing_reply is ∙ ap (λ v. listing_reply (tags Extended v.present)) same) p))
-Does-listing t desk e (Err x) out out' result same h is memory p =
-    subst (λ y. (out_of_memory : Bool) × Does (outcome out_of_memory t y) t out out' result) (sym h)
-    (true, (refl, subst (λ l. Puts out out' result l) (ap refused_line memory) p))
 
 pub Does-refused : {A : Type 0} (t : Timeline) (e : Request) (r : Refusal) (out out' : Writer) (result : Result A Fault)
     → e ≡ refused r → Puts out out' result (refused_line r) → (out_of_memory : Bool) × Does (outcome out_of_memory t e) t out out' result

@@ -9,27 +9,29 @@ use Rattle.cb_desk.specs.declared.refusal.Refusal.TheVariants.{BadCount}
 use Rattle.cb_desk.specs.declared.rows.Field.{Field}
 use Rattle.cb_desk.specs.Answer.{field_of_digit}
 use Rattle.cb_session.specs.declared.limits.TheConstants.{MOST_BYTES}
+use Rattle.cb_session.specs.declared.line.Purpose.{Purpose}
+use Rattle.cb_session.specs.declared.line.Purpose.TheVariants.{Load, Reload}
 use Rattle.cb_desk.specs.declared.tags.Format.TheVariants.{Plain, Extended}
 use Rattle.cb_desk.specs.Step.{mark_all, pop}
 
 abbrev IsPatterned : LineRequest → Type 0
 IsPatterned (whole e) = HasPattern e
-IsPatterned (block name n) = Unit {0}
+IsPatterned (block purpose name n) = Unit {0}
 
 -- both choices do, and so the choice
 IsPatterned-choice : (b : Bool) (x y : LineRequest) → IsPatterned x → IsPatterned y → IsPatterned (cond b x y)
 IsPatterned-choice true x y p q = p
 IsPatterned-choice false x y p q = q
 
-load_sized-patterned : (name : List ℕ) (n : Option ℕ) → IsPatterned (load_sized name n)
-load_sized-patterned name None = tt
-load_sized-patterned name (Some n) = IsPatterned-choice (nat_lt MOST_BYTES n) _ _ tt tt
+load_sized-patterned : (purpose : Purpose) (name : List ℕ) (n : Option ℕ) → IsPatterned (load_sized purpose name n)
+load_sized-patterned purpose name None = tt
+load_sized-patterned purpose name (Some n) = IsPatterned-choice (nat_lt MOST_BYTES n) _ _ tt tt
 
-load_words-patterned : (words : List (List ℕ)) → IsPatterned (load_words words)
-load_words-patterned [] = load_sized-patterned [] (number_in [])
-load_words-patterned (name ∷ []) = load_sized-patterned name (number_in [])
-load_words-patterned (name ∷ count ∷ []) = load_sized-patterned name (number_in count)
-load_words-patterned (name ∷ count ∷ more ∷ others) = tt
+load_words-patterned : (purpose : Purpose) (words : List (List ℕ)) → IsPatterned (load_words purpose words)
+load_words-patterned purpose [] = load_sized-patterned purpose [] (number_in [])
+load_words-patterned purpose (name ∷ []) = load_sized-patterned purpose name (number_in [])
+load_words-patterned purpose (name ∷ count ∷ []) = load_sized-patterned purpose name (number_in count)
+load_words-patterned purpose (name ∷ count ∷ more ∷ others) = tt
 
 query_of-patterned : (field : Option Field) (pattern : List ℕ) → HasPattern (query_of field pattern)
 query_of-patterned None pattern = tt
@@ -92,7 +94,8 @@ unfolding command
 command-patterned word rest =
     let words = words_in rest in
     IsPatterned-choice (bytes_eq word (codes "r")) _ _ (alone-patterned rebuild words tt)
-    (IsPatterned-choice (bytes_eq word (codes ":load")) _ _ (load_words-patterned words)
+    (IsPatterned-choice (bytes_eq word (codes ":load")) _ _ (load_words-patterned Load words)
+    (IsPatterned-choice (bytes_eq word (codes ":reload")) _ _ (load_words-patterned Reload words)
     (IsPatterned-choice (bytes_eq word (codes ":drop")) (whole (drop_words words)) _ (drop_words-patterned words)
     (IsPatterned-choice (bytes_eq word (codes ":rename")) (whole (rename_words words)) _ (rename_words-patterned words)
     (IsPatterned-choice (bytes_eq word (codes ":mark")) (whole (mark_words words)) _ (mark_words-patterned words)
@@ -105,7 +108,7 @@ command-patterned word rest =
     (IsPatterned-choice (bytes_eq word (codes ":tags")) (whole (tags_words words)) _ (tags_words-patterned words)
     (IsPatterned-choice (bytes_eq word (codes ":listing")) _ _ (alone-patterned listing words tt)
     (IsPatterned-choice (bytes_eq word (codes ":marks")) _ _ (alone-patterned marks words tt)
-    (IsPatterned-choice (bytes_eq word (codes ":stack")) _ _ (alone-patterned stack words tt) tt))))))))))))))
+    (IsPatterned-choice (bytes_eq word (codes ":stack")) _ _ (alone-patterned stack words tt) tt)))))))))))))))
 
 want_of-patterned : (text : List ℕ) → HasPattern (want_of text)
 want_of-patterned [] = tt

@@ -9,14 +9,16 @@ use Rattle.cb_session.specs.declared.input.Fault.{Fault as Reason}
 use Rattle.cb_session.specs.declared.input.Fault.TheVariants.{Read, Write, Memory, LongLine, ManyLines}
 use Rattle.cb_desk.specs.Timeline.{Timeline}
 use Rattle.cb_tags.specs.Writers.{Writer}
-use Rattle.cb_session.specs.Devices.{Reader}
-use Rattle.cb_session.specs.Inputs.{First, ending_of}
+use Rattle.cb_session.specs.Devices.{Reader, WhateverFollows}
+use Rattle.cb_session.specs.Inputs.{First, first, ending_of}
 use Rattle.cb_session.specs.Reading.{Reads}
 use Rattle.cb_session.specs.Requests.{Request, overlong}
 use Rattle.cb_session.specs.Serving.{Does, Leaves}
 use Rattle.cb_session.specs.steps.Rounds.{LeavesRound}
 use Rattle.cb_session.specs.Output.{prompt, outcome, exchange}
 use Rattle.cb_tags.specs.Writing.{AppendsPrefix}
+use Rattle.cb_session.proofs.Blocks.{IsRead}
+use Rattle.cb_session.proofs.Follows.{Follows-nothing, Follows-so}
 use Rattle.cb_tags.proofs.Prefixes.{AppendsPrefix-more, AppendsPrefix-after, AppendsPrefix-whole}
 
 -- a whole text with the ending that is meant
@@ -82,3 +84,36 @@ Round-answered A f t next feed old mid new None x request same left e p d =
 Round-answered A f t next feed old mid new (Some ended) x request same left e p d =
     let text : Appends old.bytes new.bytes (exchange d.0 t request) = Appends-trans old.bytes mid.bytes new.bytes prompt (outcome d.0 t request).reply p d.1.1.0.2 in
     (d.0, Leaves-whole (exchange d.0 t f.request) (ending_of f.request) old new ended (sym (e ∙ ap ending_of same)) (subst (λ y. Appends old.bytes new.bytes (exchange d.0 t y)) same text))
+
+-- one round, whatever follows what was read: what `round` promises
+abbrev FollowsRound : ℕ → Timeline → Timeline → Writer → Writer → Result (Option Ended) Reason → List ℕ → Reader → Type 0
+FollowsRound limit t next old new r bytes left = (out_of_memory : Bool) × LeavesRound out_of_memory (first limit bytes) t next left old new r
+
+pub Follows-unprompted : (limit : ℕ) (t next : Timeline) (feed : Reader) (old new : Writer) (r : Result (Option Ended) Reason) (fault : Reason)
+    → IsErrAnd r (λ e. e ≡ fault) → fault ≡ Write → AppendsPrefix old.bytes new.bytes prompt
+    → WhateverFollows feed feed (λ bytes left. (out_of_memory : Bool) × LeavesRound out_of_memory (first limit bytes) t next left old new r)
+Follows-unprompted limit t next feed old new r fault e w p =
+    Follows-nothing feed (FollowsRound limit t next old new r) (λ bytes left known. Round-unprompted (first limit bytes) t next left old new r fault e w p)
+
+pub Follows-unread : (limit : ℕ) (t next : Timeline) (feed after : Reader) (old new : Writer) (r : Result (Option Ended) Reason) (fault : Reason)
+    → IsErrAnd r (λ e. e ≡ fault) → WhateverFollows feed after (λ bytes left. Reads (first limit bytes) left (Err fault)) → Appends old.bytes new.bytes prompt
+    → WhateverFollows feed after (λ bytes left. (out_of_memory : Bool) × LeavesRound out_of_memory (first limit bytes) t next left old new r)
+Follows-unread limit t next feed after old new r fault e h p =
+    Follows-so feed after (λ bytes left. Reads (first limit bytes) left (Err fault)) (FollowsRound limit t next old new r) h
+    (λ bytes left reads. Round-unread (first limit bytes) t next left old new r fault e reads p)
+
+pub Follows-unanswered : (A : Type 0) (limit : ℕ) (t next : Timeline) (feed after : Reader) (old mid new : Writer) (r : Result (Option Ended) Reason) (fault : Reason) (request : Request)
+    → IsErrAnd r (λ e. e ≡ fault) → WhateverFollows feed after (λ bytes left. IsRead (first limit bytes) request left) → Appends old.bytes mid.bytes prompt
+    → (out_of_memory : Bool) × Does {A = A} (outcome out_of_memory t request) next mid new (Err fault)
+    → WhateverFollows feed after (λ bytes left. (out_of_memory : Bool) × LeavesRound out_of_memory (first limit bytes) t next left old new r)
+Follows-unanswered A limit t next feed after old mid new r fault request e h p d =
+    Follows-so feed after (λ bytes left. IsRead (first limit bytes) request left) (FollowsRound limit t next old new r) h
+    (λ bytes left is. Round-unanswered A (first limit bytes) t next left old mid new r fault request e is.0 p d)
+
+pub Follows-answered : (A : Type 0) (limit : ℕ) (t next : Timeline) (feed after : Reader) (old mid new : Writer) (ending : Option Ended) (x : A) (request : Request)
+    → WhateverFollows feed after (λ bytes left. IsRead (first limit bytes) request left) → ending ≡ ending_of request → Appends old.bytes mid.bytes prompt
+    → (out_of_memory : Bool) × Does {A = A} (outcome out_of_memory t request) next mid new (Ok x)
+    → WhateverFollows feed after (λ bytes left. (out_of_memory : Bool) × LeavesRound out_of_memory (first limit bytes) t next left old new (Ok ending))
+Follows-answered A limit t next feed after old mid new ending x request h e p d =
+    Follows-so feed after (λ bytes left. IsRead (first limit bytes) request left) (FollowsRound limit t next old new (Ok ending)) h
+    (λ bytes left is. Round-answered A (first limit bytes) t next left old mid new ending x request is.0 is.1 e p d)

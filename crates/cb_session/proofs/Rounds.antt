@@ -1,20 +1,21 @@
 -- A run, round by round.
 use Rattle.std.proofs.Common.{◌≡◌, ℕ, zero, suc, Bool, List, [], ◌∷◌, ◌++◌, Option, Some, None, Ok, refl, sym, ap, ◌∙◌, subst, append_assoc, append-nil}
-use Rattle.std.specs.Io.KnownBytes.{Appends}
-use Rattle.std.proofs.KnownBytes.{Appends-trans, Appends-nil}
+use Rattle.std.specs.Io.KnownBytes.{Appends, Keeps}
+use Rattle.std.proofs.KnownBytes.{Appends-trans, Appends-nil, Appends-kept}
 use Rattle.cb_session.specs.declared.input.Ended.{Ended}
 use Rattle.cb_session.specs.declared.input.Ended.TheVariants.{Done, Cut, Fault, Operand}
 use Rattle.cb_session.specs.declared.input.Fault.TheVariants.{Read, Write, Memory, LongLine, ManyLines}
 use Rattle.cb_desk.specs.Timeline.{Timeline}
 use Rattle.cb_tags.specs.Writers.{Writer}
-use Rattle.cb_session.specs.Devices.{Reader}
+use Rattle.cb_session.specs.Devices.{Reader, WhateverFollows, leaving}
 use Rattle.cb_session.specs.Inputs.{Inputs, first, inputs, ending_of, begin_with}
 use Rattle.cb_session.specs.Requests.{Request}
 use Rattle.cb_session.specs.Serving.{Leaves, LeavesRun}
 use Rattle.cb_session.specs.steps.Rounds.{LeavesRound}
 use Rattle.cb_session.specs.Output.{outcome, exchange, output}
+use Rattle.cb_session.proofs.Follows.{Some-same, Follows-nothing, Follows-so, Follows-then}
 use Rattle.cb_tags.specs.Writing.{AppendsPrefix}
-use Rattle.cb_tags.proofs.Prefixes.{AppendsPrefix-more, AppendsPrefix-after}
+use Rattle.cb_tags.proofs.Prefixes.{AppendsPrefix-more, AppendsPrefix-after, AppendsPrefix-whole}
 
 -- the inputs after a request that doesn't end the run, and those of a request that does
 inputs-on : (n limit : ℕ) (rest : List ℕ) → ending_of (first limit rest).request ≡ None
@@ -164,3 +165,83 @@ Rounds-stop lines limit bytes start old n left t feed out new ended e s h =
     let r : Rounds lines limit bytes start old (suc left) t feed out = subst (λ k. Rounds lines limit bytes start old k t feed out) e s in
     let m = h r.rest r.unread in
     Rounds-end lines limit bytes start old left t feed out new m.0 ended r m.1
+
+-- the same, whatever follows what was read
+pub Follows-start : (lines limit n : ℕ) (start : Timeline) (old : Writer) (feed : Reader) → lines ≡ n
+    → WhateverFollows feed feed (λ bytes at. Rounds lines limit bytes start old n start at old)
+Follows-start lines limit n start old feed e =
+    Follows-nothing feed (λ bytes at. Rounds lines limit bytes start old n start at old)
+    (λ bytes at known. subst (λ k. Rounds lines limit bytes start old k start at old) e (Rounds-start lines limit bytes start old at known))
+
+pub Follows-next : (lines limit : ℕ) (start : Timeline) (old : Writer) (n left : ℕ) (t next : Timeline) (feed mid after : Reader) (out new : Writer) → n ≡ suc left
+    → WhateverFollows feed mid (λ bytes at. Rounds lines limit bytes start old n t at out)
+    → WhateverFollows mid after (λ bytes at. (out_of_memory : Bool) × LeavesRound out_of_memory (first limit bytes) t next at out new (Ok None))
+    → WhateverFollows feed after (λ bytes at. Rounds lines limit bytes start old left next at new)
+Follows-next lines limit start old n left t next feed mid after out new e s h =
+    Follows-then feed mid after (λ bytes at. Rounds lines limit bytes start old n t at out)
+    (λ bytes at. (out_of_memory : Bool) × LeavesRound out_of_memory (first limit bytes) t next at out new (Ok None))
+    (λ bytes at. Rounds lines limit bytes start old left next at new) s h
+    (λ bytes more at rounds round.
+    Rounds-next lines limit bytes start old n left t next (leaving mid more) at out new e rounds
+    (λ rest same. subst (λ l. (out_of_memory : Bool) × LeavesRound out_of_memory (first limit l) t next at out new (Ok None)) (Some-same more rest same) round))
+
+pub Follows-stop : (lines limit : ℕ) (start : Timeline) (old : Writer) (n left : ℕ) (t : Timeline) (feed mid after : Reader) (out new : Writer) (ended : Ended) → n ≡ suc left
+    → WhateverFollows feed mid (λ bytes at. Rounds lines limit bytes start old n t at out)
+    → WhateverFollows mid after (λ bytes at. (out_of_memory : Bool) × Leaves (exchange out_of_memory t (first limit bytes).request) (ending_of (first limit bytes).request) out new ended)
+    → WhateverFollows feed after (λ bytes at. LeavesRun (inputs lines limit bytes) start old new ended)
+Follows-stop lines limit start old n left t feed mid after out new ended e s h =
+    Follows-then feed mid after (λ bytes at. Rounds lines limit bytes start old n t at out)
+    (λ bytes at. (out_of_memory : Bool) × Leaves (exchange out_of_memory t (first limit bytes).request) (ending_of (first limit bytes).request) out new ended)
+    (λ bytes at. LeavesRun (inputs lines limit bytes) start old new ended) s h
+    (λ bytes more at rounds round.
+    Rounds-stop lines limit bytes start old n left t (leaving mid more) out new ended e rounds
+    (λ rest same.
+    subst (λ l. (out_of_memory : Bool) × Leaves (exchange out_of_memory t (first limit l).request) (ending_of (first limit l).request) out new ended)
+    (Some-same more rest same) round))
+
+pub Follows-out : (lines limit : ℕ) (start : Timeline) (old : Writer) (n : ℕ) (t : Timeline) (feed after : Reader) (out : Writer) → n ≡ zero
+    → WhateverFollows feed after (λ bytes at. Rounds lines limit bytes start old n t at out)
+    → WhateverFollows feed after (λ bytes at. LeavesRun (inputs lines limit bytes) start old out (Fault ManyLines))
+Follows-out lines limit start old n t feed after out e s =
+    Follows-so feed after (λ bytes at. Rounds lines limit bytes start old n t at out) (λ bytes at. LeavesRun (inputs lines limit bytes) start old out (Fault ManyLines)) s
+    (λ bytes at rounds. Rounds-out lines limit bytes start old t at out (subst (λ k. Rounds lines limit bytes start old k t at out) e rounds))
+
+-- no memory for a line, and so no round
+pub Follows-none : (lines limit : ℕ) (start : Timeline) (out : Writer) (feed : Reader)
+    → WhateverFollows feed feed (λ bytes at. LeavesRun (inputs lines limit bytes) start out out (Fault Memory))
+Follows-none lines limit start out feed =
+    Follows-nothing feed (λ bytes at. LeavesRun (inputs lines limit bytes) start out out (Fault Memory))
+    (λ bytes at known. ([], ([], output [] start (inputs lines limit bytes).requests, refl, Appends-nil out.bytes)))
+
+-- a last flush that fails: of all that a run leaves, a prefix is left
+Leaves-prefix : (text : List ℕ) (meant : Option Ended) (old new : Writer) (ended : Ended) → Leaves text meant old new ended → AppendsPrefix old.bytes new.bytes text
+Leaves-prefix text meant old new (Fault Read) p = p
+Leaves-prefix text meant old new (Fault Write) p = p
+Leaves-prefix text meant old new (Fault Memory) p = p
+Leaves-prefix text meant old new (Fault LongLine) p = AppendsPrefix-whole old.bytes new.bytes text p.1
+Leaves-prefix text meant old new (Fault ManyLines) p = AppendsPrefix-whole old.bytes new.bytes text p.1
+Leaves-prefix text meant old new Done p = AppendsPrefix-whole old.bytes new.bytes text p.1
+Leaves-prefix text meant old new Cut p = AppendsPrefix-whole old.bytes new.bytes text p.1
+Leaves-prefix text meant old new (Operand place why) p = AppendsPrefix-whole old.bytes new.bytes text p.1
+
+pub LeavesRun-unflushed : (i : Inputs) (start : Timeline) (old mid new : Writer) (ended : Ended) → Keeps mid.bytes new.bytes → LeavesRun i start old mid ended
+    → LeavesRun i start old new (Fault Write)
+LeavesRun-unflushed i start old mid new ended kept run =
+    let p : AppendsPrefix old.bytes mid.bytes (output run.0 start i.requests) = Leaves-prefix (output run.0 start i.requests) (Some i.ending) old mid ended run.1 in
+    (run.0, (p.0, p.1, p.2, Appends-kept old.bytes mid.bytes new.bytes p.0 p.3 kept))
+
+-- a last flush keeps what was written
+Leaves-kept : (text : List ℕ) (meant : Option Ended) (old mid new : Writer) (ended : Ended) → Keeps mid.bytes new.bytes → Leaves text meant old mid ended
+    → Leaves text meant old new ended
+Leaves-kept text meant old mid new (Fault Read) kept p = (p.0, p.1, p.2, Appends-kept old.bytes mid.bytes new.bytes p.0 p.3 kept)
+Leaves-kept text meant old mid new (Fault Write) kept p = (p.0, p.1, p.2, Appends-kept old.bytes mid.bytes new.bytes p.0 p.3 kept)
+Leaves-kept text meant old mid new (Fault Memory) kept p = (p.0, p.1, p.2, Appends-kept old.bytes mid.bytes new.bytes p.0 p.3 kept)
+Leaves-kept text meant old mid new (Fault LongLine) kept p = (p.0, Appends-kept old.bytes mid.bytes new.bytes text p.1 kept)
+Leaves-kept text meant old mid new (Fault ManyLines) kept p = (p.0, Appends-kept old.bytes mid.bytes new.bytes text p.1 kept)
+Leaves-kept text meant old mid new Done kept p = (p.0, Appends-kept old.bytes mid.bytes new.bytes text p.1 kept)
+Leaves-kept text meant old mid new Cut kept p = (p.0, Appends-kept old.bytes mid.bytes new.bytes text p.1 kept)
+Leaves-kept text meant old mid new (Operand place why) kept p = (p.0, Appends-kept old.bytes mid.bytes new.bytes text p.1 kept)
+
+pub LeavesRun-flushed : (i : Inputs) (start : Timeline) (old mid new : Writer) (ended : Ended) → Keeps mid.bytes new.bytes → LeavesRun i start old mid ended
+    → LeavesRun i start old new ended
+LeavesRun-flushed i start old mid new ended kept run = (run.0, Leaves-kept (output run.0 start i.requests) (Some i.ending) old mid new ended kept run.1)

@@ -11,6 +11,8 @@ use Rattle.cb_desk.specs.declared.tags.Format.TheVariants.{Plain, Extended}
 use Rattle.cb_desk.specs.Answer.{field_of_digit}
 use Rattle.cb_desk.specs.Step.{unload, rename, want, mark, mark_all, replace, tag, pop}
 use Rattle.cb_session.specs.declared.limits.TheConstants.{MOST_DIGITS, MOST_BYTES}
+use Rattle.cb_session.specs.declared.line.Purpose.{Purpose}
+use Rattle.cb_session.specs.declared.line.Purpose.TheVariants.{Load, Reload}
 use Rattle.cb_session.specs.Requests.{Request, query, change, undo, redo, rebuild, tags_file, listing, marks, stack, refused, nothing, quit, LineRequest, whole, block}
 
 -- the letter that ends the session
@@ -42,17 +44,17 @@ abbrev pub words_in : Option (List ℕ) → List (List ℕ)
 words_in None = []
 words_in (Some rest) = slice_split is_space rest
 
--- a load by its name and the number of bytes of its block, which has a limit
-abbrev pub load_sized : List ℕ → Option ℕ → LineRequest
-load_sized name None = whole (refused BadCount)
-load_sized name (Some n) = if nat_lt MOST_BYTES n then whole (refused BadCount) else block name n
+-- a load or a reload by its name and the number of bytes of its block, which has a limit
+abbrev pub load_sized : Purpose → List ℕ → Option ℕ → LineRequest
+load_sized purpose name None = whole (refused BadCount)
+load_sized purpose name (Some n) = if nat_lt MOST_BYTES n then whole (refused BadCount) else block purpose name n
 
--- `:load`: a missing word is empty, and a third word is too many
-abbrev pub load_words : List (List ℕ) → LineRequest
-load_words [] = load_sized [] (number_in [])
-load_words (name ∷ []) = load_sized name (number_in [])
-load_words (name ∷ count ∷ []) = load_sized name (number_in count)
-load_words (name ∷ count ∷ more ∷ others) = whole (refused UnknownCommand)
+-- `:load` and `:reload`: a missing word is empty, and a third word is too many
+abbrev pub load_words : Purpose → List (List ℕ) → LineRequest
+load_words purpose [] = load_sized purpose [] (number_in [])
+load_words purpose (name ∷ []) = load_sized purpose name (number_in [])
+load_words purpose (name ∷ count ∷ []) = load_sized purpose name (number_in count)
+load_words purpose (name ∷ count ∷ more ∷ others) = whole (refused UnknownCommand)
 
 -- a tags file by its number: 1 is plain, 2 extended
 abbrev pub tags_numbered : Option ℕ → Request
@@ -115,7 +117,8 @@ alone r (word ∷ words) = whole (refused UnknownCommand)
 unfoldable pub command : List ℕ → Option (List ℕ) → LineRequest
 command word rest =
     if bytes_eq word (codes "r") then alone rebuild (words_in rest)
-    else (if bytes_eq word (codes ":load") then load_words (words_in rest)
+    else (if bytes_eq word (codes ":load") then load_words Load (words_in rest)
+    else (if bytes_eq word (codes ":reload") then load_words Reload (words_in rest)
     else (if bytes_eq word (codes ":drop") then whole (drop_words (words_in rest))
     else (if bytes_eq word (codes ":rename") then whole (rename_words (words_in rest))
     else (if bytes_eq word (codes ":mark") then whole (mark_words (words_in rest))
@@ -129,7 +132,7 @@ command word rest =
     else (if bytes_eq word (codes ":listing") then alone listing (words_in rest)
     else (if bytes_eq word (codes ":marks") then alone marks (words_in rest)
     else (if bytes_eq word (codes ":stack") then alone stack (words_in rest)
-    else whole (refused UnknownCommand)))))))))))))))
+    else whole (refused UnknownCommand))))))))))))))))
 
 -- a text in two at its first space: what comes before it, and what comes after it, if there is a
 -- space

@@ -1,5 +1,5 @@
 -- What is known of a reader, and what a call does to it.
-use Rattle.std.specs.Prelude.{◌≡◌, ◌≢◌, ℕ, List, [], ◌∷◌, Option, None, Some, Result, Ok, Err}
+use Rattle.std.specs.Prelude.{◌≡◌, ◌≢◌, ℕ, List, [], ◌∷◌, ◌++◌, Option, None, Some, Result, Ok, Err}
 use Rattle.std.specs.Io.KnownBytes.{Consumes, Keeps, IsAtEnd}
 use Rattle.cb_session.specs.declared.feed.ReadFault.{ReadFault}
 use Rattle.cb_session.specs.declared.feed.Stage.{Stage}
@@ -25,3 +25,22 @@ abbrev pub GivesByte : Reader → Reader → Result (Option ℕ) ReadFault → T
 GivesByte old new (Ok (Some b)) = (old.stage ≡ Open) × (new.stage ≡ Open) × Consumes old.bytes new.bytes (b ∷ [])
 GivesByte old new (Ok None) = (old.stage ≢ Failed) × (new.stage ≡ Ended) × IsAtEnd old.bytes × (new.bytes ≡ Some [])
 GivesByte old new (Err e) = (old.stage ≢ Ended) × (new.stage ≡ Failed) × Keeps old.bytes new.bytes
+
+-- bytes were read, the first of those that were left; after the end of input none are read, and the
+-- end stays
+abbrev pub HasRead : Reader → Reader → List ℕ → Type 0
+HasRead old new read = Consumes old.bytes new.bytes read × (old.stage ≡ Ended → (read ≡ []) × (new.stage ≡ Ended))
+
+-- what may follow where a reader stands: nothing after the end of input
+abbrev pub MayFollow : Reader → List ℕ → Type 0
+MayFollow feed rest = feed.stage ≡ Ended → rest ≡ []
+
+-- a reader that is as far, and has these bytes left
+abbrev pub leaving : Reader → List ℕ → Reader
+leaving feed rest = record { bytes = Some rest; stage = feed.stage }
+
+-- whatever follows the bytes that were read: what holds of every input that begins with them, and of
+-- a reader that has the rest of it left
+abbrev pub WhateverFollows : Reader → Reader → (List ℕ → Reader → Type 0) → Type 0
+WhateverFollows old new P =
+    (read : List ℕ) × HasRead old new read × ((rest : List ℕ) → MayFollow new rest → P (read ++ rest) (leaving new rest))

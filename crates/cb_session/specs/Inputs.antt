@@ -4,11 +4,13 @@ use Rattle.std.specs.List.{before_first, after_first}
 use Rattle.cb_scan.specs.Bytes.{line_feed}
 use Rattle.cb_desk.specs.declared.refusal.Refusal.{Refusal}
 use Rattle.cb_desk.specs.declared.refusal.Refusal.TheVariants.{LineTooLong, InputEnded}
-use Rattle.cb_desk.specs.Step.{load}
+use Rattle.cb_desk.specs.Step.{Step, load, reload}
 use Rattle.cb_session.specs.declared.input.Ended.{Ended}
 use Rattle.cb_session.specs.declared.input.Ended.TheVariants.{Done, Cut, Fault}
 use Rattle.cb_session.specs.declared.input.Fault.TheVariants.{LongLine, ManyLines}
 use Rattle.cb_session.specs.declared.limits.TheConstants.{MOST_LINE}
+use Rattle.cb_session.specs.declared.line.Purpose.{Purpose}
+use Rattle.cb_session.specs.declared.line.Purpose.TheVariants.{Load, Reload}
 use Rattle.cb_session.specs.Commands.{short_line}
 use Rattle.cb_session.specs.Requests.{Request, change, refused, quit, overlong, LineRequest, whole, block}
 
@@ -27,12 +29,17 @@ pub record First : Type 0 where
   pub request : Request
   pub rest : List ℕ
 
+-- the change that a block makes, by what it is for
+abbrev pub change_with : Purpose → (name bytes : List ℕ) → Step
+change_with Load name bytes = load name bytes
+change_with Reload name bytes = reload name bytes
+
 -- a request with its block, which is cut from the bytes after its line
 abbrev pub with_block : LineRequest → List ℕ → First
 with_block (whole e) rest = record { request = e; rest = rest }
-with_block (block name n) rest =
+with_block (block purpose name n) rest =
     if nat_lt (length rest) n then record { request = refused InputEnded; rest = [] }
-    else record { request = change (load name (take n rest)); rest = drop n rest }
+    else record { request = change (change_with purpose name (take n rest)); rest = drop n rest }
 
 -- the first request of a stream, whose line is the bytes before the first line feed; the end of
 -- input where a line would begin ends the session

@@ -39,7 +39,7 @@ HasPattern _ = Unit {0}
 -- what is asked for
 abbrev pub line_request_of : Asked → LineRequest
 line_request_of (Whole input) = whole (request_of input)
-line_request_of (Block name size) = block name.now size
+line_request_of (Block purpose name size) = block purpose name.now size
 
 -- a run goes on where it has no ending
 abbrev pub going_of : Option Ended → Going

@@ -5,7 +5,6 @@ use Rattle.cb_desk.specs.declared.refusal.Refusal.{Refusal}
 use Rattle.cb_desk.specs.declared.refusal.Refusal.TheVariants.{OutOfMemory}
 use Rattle.cb_desk.specs.Refusals.{text_of}
 use Rattle.cb_desk.specs.Timeline.{Timeline, changed, undone, redone, judged}
-use Rattle.cb_desk.specs.declared.rows.Field.{Field}
 use Rattle.cb_desk.specs.declared.rows.Field.TheVariants.{Text}
 use Rattle.cb_desk.specs.Answer.{AnswerRow, answer}
 use Rattle.cb_desk.specs.Step.{Step, want}
@@ -55,15 +54,10 @@ abbrev pub change_reply : Step → World → List ℕ
 change_reply (want text) w = answer_lines (answer w Text text)
 change_reply _ w = done_line
 
--- what is read is shown, unless memory refused it
-abbrev pub shown : Bool → List ℕ → List ℕ
-shown true text = refused_line OutOfMemory
-shown false text = text
-
--- the reply to a query; field 4 takes no memory
-abbrev pub query_reply : Bool → Field → List AnswerRow → List ℕ
-query_reply out_of_memory Text rows = answer_lines rows
-query_reply out_of_memory _ rows = shown out_of_memory (answer_lines rows)
+-- the reply to a rebuild: it is done, unless memory refused it
+abbrev pub rebuild_reply : Bool → List ℕ
+rebuild_reply true = refused_line OutOfMemory
+rebuild_reply false = done_line
 
 -- the timeline after an input, and the reply to it
 pub record Outcome : Type 0 where
@@ -78,10 +72,10 @@ moved t reply (Ok next) = record { timeline = next; reply = reply next.present }
 
 -- the outcome of an input; `out_of_memory` says that memory was refused to it, where it takes any
 unfoldable pub outcome : Bool → Timeline → Request → Outcome
-outcome out_of_memory t (query field pattern) = record { timeline = t; reply = query_reply out_of_memory field (answer t.present field pattern) }
-outcome out_of_memory t rebuild = record { timeline = t; reply = shown out_of_memory done_line }
-outcome out_of_memory t (tags_file format) = record { timeline = t; reply = shown out_of_memory (tags_reply format (tags format t.present)) }
-outcome out_of_memory t listing = record { timeline = t; reply = shown out_of_memory (listing_reply (tags Extended t.present)) }
+outcome out_of_memory t (query field pattern) = record { timeline = t; reply = answer_lines (answer t.present field pattern) }
+outcome out_of_memory t rebuild = record { timeline = t; reply = rebuild_reply out_of_memory }
+outcome out_of_memory t (tags_file format) = record { timeline = t; reply = tags_reply format (tags format t.present) }
+outcome out_of_memory t listing = record { timeline = t; reply = listing_reply (tags Extended t.present) }
 outcome out_of_memory t marks = record { timeline = t; reply = answer_lines (mark_rows t.present) }
 outcome out_of_memory t stack = record { timeline = t; reply = answer_lines (stack_rows t.present) }
 outcome out_of_memory t (change s) = moved t (change_reply s) (judged out_of_memory s (changed t s))

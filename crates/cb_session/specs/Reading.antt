@@ -1,6 +1,6 @@
 -- What reading an input does to a reader.
 use Rattle.std.specs.Prelude.{◌≡◌, Bool, true, false, Some, Result, Ok, Err, IsTrue}
-use Rattle.cb_desk.specs.Step.{load}
+use Rattle.cb_desk.specs.Step.{load, reload}
 use Rattle.cb_session.specs.declared.feed.Stage.TheVariants.{Failed}
 use Rattle.cb_session.specs.declared.input.Fault.{Fault}
 use Rattle.cb_session.specs.declared.input.Fault.TheVariants.{Read, Write, Memory, LongLine, ManyLines}
@@ -13,6 +13,7 @@ use Rattle.cb_session.specs.Requests.{Request, change, refused, overlong}
 -- a request that has a block after its line
 abbrev pub has_block : Request → Bool
 has_block (change (load name bytes)) = true
+has_block (change (reload name bytes)) = true
 has_block (refused r) = is_cut r
 has_block _ = false
 

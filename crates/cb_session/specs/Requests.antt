@@ -4,6 +4,7 @@ use Rattle.cb_desk.specs.declared.refusal.Refusal.{Refusal}
 use Rattle.cb_desk.specs.declared.rows.Field.{Field}
 use Rattle.cb_desk.specs.declared.tags.Format.{Format}
 use Rattle.cb_desk.specs.Step.{Step}
+use Rattle.cb_session.specs.declared.line.Purpose.{Purpose}
 
 -- what is read at a prompt
 pub data Request : Type 0 where
@@ -34,7 +35,8 @@ pub data Request : Type 0 where
   -- a line with more bytes than a run allows
   overlong : Request
 
--- what a line asks for: a request by itself, or one with a block of so many bytes after the line
+-- what a line asks for: a request by itself, or a load or a reload with a block of so many bytes
+-- after the line
 pub data LineRequest : Type 0 where
   whole : Request → LineRequest
-  block : (name : List ℕ) (size : ℕ) → LineRequest
+  block : (purpose : Purpose) (name : List ℕ) (size : ℕ) → LineRequest

@@ -9,7 +9,7 @@ use Rattle.cb_desk.specs.declared.refusal.Refusal.TheVariants.{InputEnded, NoPat
 use Rattle.cb_desk.specs.declared.rows.Field.TheVariants.{Definition}
 use Rattle.cb_desk.specs.Answer.{distinct, unindented}
 use Rattle.cb_desk.specs.Refusals.{text_of}
-use Rattle.cb_desk.specs.Step.{step, load, unload, rename, tag}
+use Rattle.cb_desk.specs.Step.{step, load, reload, unload, rename, tag}
 use Rattle.cb_desk.specs.Timeline.{new_timeline, changed, undone, redone}
 use Rattle.cb_tags.specs.TagLineExamples.{lining}
 use Rattle.cb_session.specs.declared.input.Ended.TheVariants.{Done, Cut, Fault}
@@ -45,6 +45,12 @@ pub block_cut : inputs 9 5000 (codes ":load a.c 2\n{}1f\nq") ≡ record {
 unfolding reading
 block_cut = refl
 
+-- so does the block of a reload, whatever its name is
+pub reload_cut : inputs 9 5000 (codes ":reload a 2\n{}:undo\n:reload a.c 1 \n:reload a.c\n")
+    ≡ record { requests = change (reload (codes "a") (codes "{}")) ∷ undo ∷ refused UnknownCommand ∷ refused BadCount ∷ quit ∷ []; ending = Done }
+unfolding reading
+reload_cut = refl
+
 -- input that ends in a block ends the run
 pub short_block : inputs 9 5000 (codes ":load a.c 3\n{}") ≡ record { requests = refused InputEnded ∷ []; ending = Cut }
 unfolding reading
@@ -72,6 +78,12 @@ pub moves_shown : output [] new_timeline (change (load (codes "a.c") (codes "{}"
     ≡ codes ">> cscope: done\n>> cscope: done\n>> cscope: refused: nothing to undo\n>> cscope: done\n>> cscope: refused: no pattern\n>> "
 unfolding running
 moves_shown = refl
+
+-- one undo takes a reload back
+pub reload_undone : output [] new_timeline (change (load (codes "a.c") (codes "{}")) ∷ change (reload (codes "a.c") (codes "x")) ∷ undo ∷ undo ∷ undo ∷ [])
+    ≡ codes ">> cscope: done\n>> cscope: done\n>> cscope: done\n>> cscope: done\n>> cscope: refused: nothing to undo\n"
+unfolding running
+reload_undone = refl
 
 -- memory refused the load, and so there is nothing to undo
 pub refusal_shown : output (true ∷ []) new_timeline (change (load (codes "a.c") (codes "{}")) ∷ undo ∷ [])

@@ -3,7 +3,7 @@ ghost use Rattle.std.specs.Prelude.{◌≡◌, ◌<◌, ◌≤◌, List, ◌∷�
 ghost use Rattle.cb_session.specs.declared.limits.TheConstants.{MOST_LINE};
 ghost use Rattle.cb_session.specs.steps.Lines.{line_of_length};
 
-use crate::block::read_load;
+use crate::block::read_change;
 use crate::limits::MOST_LINE;
 use crate::line::{Asked, line_asks};
 use crate::{Fault, Feed, Input, Limits};
@@ -46,7 +46,7 @@ impl Intake {
     ghost use Rattle.cb_session.specs.Models.{request_of, HasPattern};
     ghost use Rattle.cb_session.specs.Reading.{Reads, IsReadFault};
     ghost use Rattle.cb_session.specs.steps.Lines.{ReadsLine};
-    ghost use Rattle.cb_session.specs.Devices.{HoldsOut};
+    ghost use Rattle.cb_session.specs.Devices.{HoldsOut, WhateverFollows};
 
     /// An intake with room for one line.
     pub fn new(alloc: Global) -> Result<Intake, OutOfMemory>
@@ -56,8 +56,8 @@ impl Intake {
         Ok(Intake { line })
     }
 
-    /// Reads one command with its block. Memory is taken for the block of a `:load` with a good
-    /// count alone.
+    /// Reads one command with its block. Memory is taken for the block of a `:load` or a `:reload`
+    /// with a good count alone.
     pub fn read<R: BufRead>(
         &mut self,
         alloc: Global,
@@ -65,6 +65,7 @@ impl Intake {
         feed: &mut Feed<R>,
     ) -> Result<Input<'_>, Fault>
         ensures first { (bytes : List ℕ) → feed.old.bytes ≡ Some bytes → Reads (first limits.now.line bytes) feed.new result }
+        ensures every_input { WhateverFollows feed.old feed.new (λ bytes left. Reads (first limits.now.line bytes) left result) }
         ensures failed { IfErr result (IsReadFault feed.old feed.new) }
         ensures fine { IfOk result (λ _. HoldsOut feed.old feed.new) }
         ensures pattern { IfOk result (λ input. HasPattern (request_of input)) }
@@ -74,7 +75,9 @@ impl Intake {
             LineRead::Long => Ok(Input::Refused(Refusal::LineTooLong)),
             LineRead::Line => match line_asks(self.line.as_slice()) {
                 Asked::Whole(input) => Ok(input),
-                Asked::Block(name, count) => read_load(alloc, name, count, feed),
+                Asked::Block(purpose, name, count) => {
+                    read_change(alloc, purpose, name, count, feed)
+                }
             },
         }
     }
@@ -86,6 +89,7 @@ impl Intake {
         feed: &mut Feed<R>,
     ) -> Result<LineRead, Fault>
         ensures line { (bytes : List ℕ) → feed.old.bytes ≡ Some bytes → ReadsLine limits.now.line bytes feed.new self.new.line.items result }
+        ensures every_input { WhateverFollows feed.old feed.new (λ bytes left. ReadsLine limits.now.line bytes left self.new.line.items result) }
         ensures failed { IfErr result (IsReadFault feed.old feed.new) }
         ensures fine { IfOk result (λ _. HoldsOut feed.old feed.new) }
     {

@@ -12,13 +12,22 @@ use crate::limits::{MOST_BYTES, MOST_DIGITS};
 use crate::{Command, Input};
 use cb_desk::{Change, Field, Format, Refusal};
 
+/// What the block after a line is for.
+#[derive(Clone, Copy, Debug)]
+pub enum Purpose {
+    /// A file that is loaded.
+    Load,
+    /// A file that is reloaded.
+    Reload,
+}
+
 /// What a line asks for.
 #[derive(Debug, Drop)]
 pub enum Asked<'a> {
     /// An input by itself.
     Whole(Input<'a>),
-    /// A load of this name, with a block of so many bytes after the line.
-    Block(&'a [u8], u32),
+    /// A load or a reload of this name, with a block of so many bytes after the line.
+    Block(Purpose, &'a [u8], u32),
 }
 
 fn is_digit(byte: u8) -> bool
@@ -81,29 +90,29 @@ fn cut_word(text: &[u8]) -> (&[u8], Option<&[u8]>)
     }
 }
 
-/// A load by its name and its count.
-fn load_sized<'a>(name: &'a [u8], count: &[u8]) -> Asked<'a>
-    ensures { line_request_of result ≡ load_sized name.now (number_in count.now) }
+/// A load or a reload by its name and its count.
+fn load_sized<'a>(purpose: Purpose, name: &'a [u8], count: &[u8]) -> Asked<'a>
+    ensures { line_request_of result ≡ load_sized purpose name.now (number_in count.now) }
 {
     match number_in(count) {
-        Some(count) if count <= MOST_BYTES => Asked::Block(name, count),
+        Some(count) if count <= MOST_BYTES => Asked::Block(purpose, name, count),
         _ => Asked::Whole(Input::Refused(Refusal::BadCount)),
     }
 }
 
-/// A load by the words after it.
-fn load_words(rest: Option<&[u8]>) -> Asked<'_>
-    ensures { line_request_of result ≡ load_words (words_after rest.entry) }
+/// A load or a reload by the words after it.
+fn load_words(purpose: Purpose, rest: Option<&[u8]>) -> Asked<'_>
+    ensures { line_request_of result ≡ load_words purpose (words_after rest.entry) }
 {
     let Some(words) = rest else {
-        return load_sized(b"", b"");
+        return load_sized(purpose, b"", b"");
     };
     let (name, rest) = cut_word(words);
     let Some(rest) = rest else {
-        return load_sized(name, b"");
+        return load_sized(purpose, name, b"");
     };
     match cut_word(rest) {
-        (count, None) => load_sized(name, count),
+        (count, None) => load_sized(purpose, name, count),
         (_, Some(_)) => Asked::Whole(Input::Refused(Refusal::UnknownCommand)),
     }
 }
@@ -274,7 +283,9 @@ fn command<'a>(word: &[u8], rest: Option<&'a [u8]>) -> Asked<'a>
     if word == b"r".as_slice() {
         alone(Command::Rebuild, rest)
     } else if word == b":load".as_slice() {
-        load_words(rest)
+        load_words(Purpose::Load, rest)
+    } else if word == b":reload".as_slice() {
+        load_words(Purpose::Reload, rest)
     } else if word == b":drop".as_slice() {
         Asked::Whole(drop_words(rest))
     } else if word == b":rename".as_slice() {

@@ -1,11 +1,12 @@
 //! Files that are loaded before a run.
 ghost use Rattle.std.specs.Prelude.{◌≡◌, List, ℕ, Some, map};
+ghost use Rattle.cb_session.specs.Devices.{WhateverFollows};
 ghost use Rattle.cb_session.specs.Inputs.{inputs};
 ghost use Rattle.cb_session.specs.Serving.{HasFailed, IfFault, Tells, fault_of};
 ghost use Rattle.cb_session.specs.Operands.{file_of_operand, Prepares, Runs};
 
 use crate::{Ended, Feed, Limits, Session};
-use cb_desk::{Change, Desk};
+use cb_desk::{Loading, Refusal};
 use cb_tags::Sink;
 use std::alloc::Global;
 use std::io::{BufRead, Write};
@@ -21,21 +22,24 @@ pub struct Operand {
 pub type Operands = Vec<Operand>;
 
 /// A session in which the operands are loaded, each as a change that can be taken back. The first
-/// refusal ends it.
+/// refusal ends it; memory that is refused when all are there is refused to the last one.
 pub fn prepare(alloc: Global, operands: Operands) -> Result<Session, Ended>
     ensures { Prepares (map file_of_operand operands.items) result }
 {
-    let mut desk = Desk::new(alloc);
+    let mut loading = Loading::new(alloc);
     let mut place = 0u32;
     for operand in operands {
         let Operand { name, bytes } = operand;
-        match desk.change(alloc, Change::Load(name.as_slice(), bytes)) {
+        match loading.load(alloc, name.as_slice(), bytes) {
             Ok(()) => {}
             Err(refusal) => return Err(Ended::Operand(place, refusal)),
         }
         place += 1;
     }
-    Ok(Session::over(desk))
+    match loading.desk(alloc) {
+        Ok(desk) => Ok(Session::over(desk)),
+        Err(_) => Err(Ended::Operand(place - 1, Refusal::OutOfMemory)),
+    }
 }
 
 /// Loads the operands, and then prompts, reads and replies until the run ends.
@@ -47,6 +51,7 @@ pub fn run<R: BufRead, W: Write>(
     operands: Operands,
 ) -> Ended
     ensures output { (bytes : List ℕ) → feed.old.bytes ≡ Some bytes → Runs (map file_of_operand operands.items) (inputs limits.now.lines limits.now.line bytes) out.old out.new result }
+    ensures every_input { WhateverFollows feed.old feed.new (λ bytes _. Runs (map file_of_operand operands.items) (inputs limits.now.lines limits.now.line bytes) out.old out.new result) }
     ensures failed { IfFault result (HasFailed feed.new out.new) }
     ensures told { Tells feed.old feed.new out.old out.new (fault_of result) }
 {

@@ -14,7 +14,7 @@ use std::io::Write;
 
 /// The row of a place.
 fn place_row<'a>(desk: &'a Desk, file: &'a [u8], line: u32) -> RefRow<'a>
-    ensures { row_of result ≡ place_row desk.now.present.files (place_at (file.entry, line)) }
+    ensures { row_of result ≡ place_row desk.now.timeline.present.files (place_at (file.entry, line)) }
 {
     match desk.source(file) {
         Some(source) => line_row(file, source, line),
@@ -29,7 +29,7 @@ fn place_row<'a>(desk: &'a Desk, file: &'a [u8], line: u32) -> RefRow<'a>
 
 /// Writes the reply that shows the marks. It takes no memory.
 pub fn put_marks<W: Write>(out: &mut Sink<W>, desk: &Desk) -> Result<(), Fault>
-    ensures { Puts out.old out.new result (answer_lines (mark_rows desk.now.present)) }
+    ensures { Puts out.old out.new result (answer_lines (mark_rows desk.now.timeline.present)) }
 {
     put_count(out, desk.marks().len() as u128)?;
     for (file, line) in desk.marks() {
@@ -40,7 +40,7 @@ pub fn put_marks<W: Write>(out: &mut Sink<W>, desk: &Desk) -> Result<(), Fault>
 
 /// Writes the rows of the frames, from the top of the stack down.
 fn put_frames<W: Write>(out: &mut Sink<W>, desk: &Desk) -> Result<(), Fault>
-    ensures { Puts out.old out.new result (flat_map row_line (stack_rows desk.now.present)) }
+    ensures { Puts out.old out.new result (flat_map row_line (stack_rows desk.now.timeline.present)) }
 {
     let mut frames = desk.frames();
     while let Some((file, line)) = frames.next_back() {
@@ -51,7 +51,7 @@ fn put_frames<W: Write>(out: &mut Sink<W>, desk: &Desk) -> Result<(), Fault>
 
 /// Writes the reply that shows the tag stack. It takes no memory.
 pub fn put_stack<W: Write>(out: &mut Sink<W>, desk: &Desk) -> Result<(), Fault>
-    ensures { Puts out.old out.new result (answer_lines (stack_rows desk.now.present)) }
+    ensures { Puts out.old out.new result (answer_lines (stack_rows desk.now.timeline.present)) }
 {
     put_count(out, desk.frames().len() as u128)?;
     put_frames(out, desk)

@@ -1,15 +1,12 @@
 //! The replies, and the texts that they are made of.
-ghost use Rattle.std.specs.Prelude.{◌≢◌, []};
 ghost use Rattle.std.specs.List.{flat_map};
-ghost use Rattle.cb_desk.specs.declared.rows.Field.{Field};
-ghost use Rattle.cb_desk.specs.Answer.{answer};
 ghost use Rattle.cb_session.specs.Writing.{Puts};
 ghost use Rattle.cb_session.specs.Output.{row_line, answer_lines, count_line, done_line, refused_line, prompt};
 ghost use Rattle.cb_desk.specs.Models.{row_of};
-ghost use Rattle.cb_session.specs.steps.Rounds.{move_line, rows_line};
+ghost use Rattle.cb_session.specs.steps.Rounds.{move_line};
 
 use crate::Fault;
-use cb_desk::{Desk, Field, RefRow, Refusal, RowIter, RowList};
+use cb_desk::{RefRow, Refusal, Rows};
 use cb_tags::{Sink, put_text, put_texts};
 use itoa::Buffer;
 use std::io::Write;
@@ -96,22 +93,16 @@ pub fn put_count<W: Write>(out: &mut Sink<W>, count: u128) -> Result<(), Fault>
     put_all(out, &[b"cscope: ", count, b" lines\n"])
 }
 
-/// Writes the reply that shows the lines that hold a text: how many there are, and their rows. It
-/// takes no memory.
-pub(crate) fn put_text_rows<W: Write>(
-    out: &mut Sink<W>,
-    desk: &Desk,
-    text: &[u8],
-) -> Result<(), Fault>
-    requires { text.now ≢ [] }
-    ensures { Puts out.old out.new result (answer_lines (answer desk.now.present Field.Text text.now)) }
+/// Writes the reply to a query: how many rows there are, and the rows. It takes no memory.
+pub(crate) fn put_rows<W: Write>(out: &mut Sink<W>, rows: Rows<'_, '_>) -> Result<(), Fault>
+    ensures { Puts out.old out.new result (answer_lines rows.entry) }
 {
-    let mut rows = desk.text_rows(text);
     let count = rows.count_left();
     put_count(out, count as u128)?;
+    let mut left = rows;
     // The texts after the last row are not searched once more.
     'rows: for _row in 0..count {
-        match rows.next() {
+        match left.next() {
             Some(row) => put_row(out, &row)?,
             None => {}
         }
@@ -119,23 +110,8 @@ pub(crate) fn put_text_rows<W: Write>(
     Ok(())
 }
 
-/// Writes the reply to a query: how many rows there are, and the rows.
-pub(crate) fn put_rows<W: Write>(
-    out: &mut Sink<W>,
-    rows: Result<RowList<'_>, Refusal>,
-) -> Result<(), Fault>
-    ensures { Puts out.old out.new result (rows_line rows.entry) }
-{
-    let list = match rows {
-        Ok(list) => list,
-        Err(refusal) => return put_refusal(out, refusal),
-    };
-    put_count(out, list.len() as u128)?;
-    put_answer(out, list.iter())
-}
-
 /// Writes rows, one after another.
-pub fn put_answer<W: Write>(out: &mut Sink<W>, rows: RowIter<'_, '_>) -> Result<(), Fault>
+pub fn put_answer<W: Write>(out: &mut Sink<W>, rows: Rows<'_, '_>) -> Result<(), Fault>
     ensures { Puts out.old out.new result (flat_map row_line rows.entry) }
 {
     for row in rows {

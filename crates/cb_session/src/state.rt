@@ -1,19 +1,19 @@
 //! A session, and its runs.
-ghost use Rattle.std.specs.Prelude.{◌≡◌, ◌≢◌, [], Bool, List, ℕ, Some, IfOk, IfSome, MatchResult};
-ghost use Rattle.cb_desk.specs.Answer.{answer};
+ghost use Rattle.std.specs.Prelude.{◌≡◌, Bool, List, ℕ, Some, IfOk, IfSome, MatchResult};
 ghost use Rattle.cb_desk.specs.Models.{step_of};
 ghost use Rattle.cb_desk.specs.Step.{want};
 ghost use Rattle.cb_desk.specs.Timeline.{new_timeline};
+ghost use Rattle.cb_session.specs.Devices.{WhateverFollows};
 ghost use Rattle.cb_session.specs.Inputs.{first, inputs, ending_of};
 ghost use Rattle.cb_session.specs.Models.{request_of, going_of, HasPattern};
 ghost use Rattle.cb_session.specs.Serving.{Does, LeavesRun, HasFailed, IfFault, Tells, fault_of};
 ghost use Rattle.cb_session.specs.steps.Rounds.{LeavesRound, fault_in};
-ghost use Rattle.cb_session.specs.Output.{outcome, query_reply};
+ghost use Rattle.cb_session.specs.Output.{outcome};
 ghost use Rattle.cb_session.specs.Requests.{change as change_asked};
 ghost use Rattle.cb_session.specs.Writing.{Puts};
 
 use crate::places::{put_marks, put_stack};
-use crate::reply::{put_move, put_prompt, put_refusal, put_rows, put_text_rows};
+use crate::reply::{put_move, put_prompt, put_refusal, put_rows};
 use crate::tags::{put_listing_reply, put_tags_reply};
 use crate::{Command, Ended, Fault, Feed, Going, Input, Intake, Limits};
 use cb_desk::{Change, Desk, Field, Format};
@@ -33,7 +33,7 @@ impl Model for Session {
 
     ghost Value = { Timeline };
 
-    ghost view = { λ s. s.desk };
+    ghost view = { λ s. s.desk.timeline };
 }
 
 impl Session {
@@ -48,14 +48,14 @@ impl Session {
 
     /// A session on a desk.
     pub(crate) fn over(desk: Desk) -> Session
-        ensures { result ≡ desk }
+        ensures { result ≡ desk.timeline }
     {
         Session { desk }
     }
 
     /// The session's desk.
     pub fn desk(&self) -> &Desk
-        ensures { result.now ≡ self.now }
+        ensures { result.now.timeline ≡ self.now }
     {
         &self.desk
     }
@@ -94,32 +94,15 @@ impl Session {
             Input::Command(command) => command,
         };
         match command {
-            Command::Query(field, pattern) => self.query(alloc, field, pattern, out),
+            Command::Query(field, pattern) => put_rows(out, self.desk.rows(field, pattern)),
             Command::Change(change) => self.change(alloc, change, out),
             Command::Rebuild => put_move(out, self.desk.rebuild(alloc)),
             Command::Undo => put_move(out, self.desk.undo()),
             Command::Redo => put_move(out, self.desk.redo()),
-            Command::Tags(format) => put_tags_reply(out, format, self.desk.tag_rows(alloc, format)),
-            Command::Listing => put_listing_reply(out, self.desk.tag_rows(alloc, Format::Extended)),
+            Command::Tags(format) => put_tags_reply(out, format, self.desk.tag_rows(format)),
+            Command::Listing => put_listing_reply(out, self.desk.tag_rows(Format::Extended)),
             Command::Marks => put_marks(out, &self.desk),
             Command::Stack => put_stack(out, &self.desk),
-        }
-    }
-
-    /// Writes the rows that answer a query. Those of field 4 come one by one.
-    fn query<W: Write>(
-        &self,
-        alloc: Global,
-        field: Field,
-        pattern: &[u8],
-        out: &mut Sink<W>,
-    ) -> Result<(), Fault>
-        requires { pattern.now ≢ [] }
-        ensures { (out_of_memory : Bool) × Puts out.old out.new result (query_reply out_of_memory field (answer self.now.present field pattern.now)) }
-    {
-        match field {
-            Field::Text => put_text_rows(out, &self.desk, pattern),
-            _ => put_rows(out, self.desk.rows(alloc, field, pattern)),
         }
     }
 
@@ -143,7 +126,7 @@ impl Session {
         ensures { (out_of_memory : Bool) × Does (outcome out_of_memory self.old (change_asked (want text.now))) self.new out.old out.new result }
     {
         match self.desk.change(alloc, Change::Want(text)) {
-            Ok(()) => put_text_rows(out, &self.desk, text),
+            Ok(()) => put_rows(out, self.desk.rows(Field::Text, text)),
             Err(refusal) => put_refusal(out, refusal),
         }
     }
@@ -157,6 +140,7 @@ impl Session {
         out: &mut Sink<W>,
     ) -> Ended
         ensures output { (bytes : List ℕ) → feed.old.bytes ≡ Some bytes → LeavesRun (inputs limits.now.lines limits.now.line bytes) self.old out.old out.new result }
+        ensures every_input { WhateverFollows feed.old feed.new (λ bytes _. LeavesRun (inputs limits.now.lines limits.now.line bytes) self.old out.old out.new result) }
         ensures failed { IfFault result (HasFailed feed.new out.new) }
         ensures told { Tells feed.old feed.new out.old out.new (fault_of result) }
     {
@@ -178,6 +162,7 @@ impl Session {
         out: &mut Sink<W>,
     ) -> Ended
         ensures output { (bytes : List ℕ) → feed.old.bytes ≡ Some bytes → LeavesRun (inputs limits.now.lines limits.now.line bytes) self.old out.old out.new result }
+        ensures every_input { WhateverFollows feed.old feed.new (λ bytes _. LeavesRun (inputs limits.now.lines limits.now.line bytes) self.old out.old out.new result) }
         ensures failed { IfFault result (HasFailed feed.new out.new) }
         ensures told { Tells feed.old feed.new out.old out.new (fault_of result) }
     {
@@ -205,6 +190,7 @@ impl Session {
         out: &mut Sink<W>,
     ) -> Result<Option<Ended>, Fault>
         ensures round { (bytes : List ℕ) → feed.old.bytes ≡ Some bytes → (out_of_memory : Bool) × LeavesRound out_of_memory (first limits.now.line bytes) self.old self.new feed.new out.old out.new result }
+        ensures every_input { WhateverFollows feed.old feed.new (λ bytes left. (out_of_memory : Bool) × LeavesRound out_of_memory (first limits.now.line bytes) self.old self.new left out.old out.new result) }
         ensures failed { MatchResult result (λ ending. IfSome ending (λ ended. IfFault ended (HasFailed feed.new out.new))) (HasFailed feed.new out.new) }
         ensures told { Tells feed.old feed.new out.old out.new (fault_in result) }
     {

@@ -3,12 +3,12 @@ ghost use Rattle.std.specs.Prelude.{◌≡◌};
 ghost use Rattle.std.specs.List.{flat_map};
 ghost use Rattle.cb_tags.specs.TagLines.{tag_of, listing_line};
 ghost use Rattle.cb_session.specs.Writing.{Puts};
-ghost use Rattle.cb_session.specs.steps.Rounds.{tags_line, listing_lines};
+ghost use Rattle.cb_session.specs.Output.{tags_reply, listing_reply};
 ghost use Rattle.cb_desk.specs.Tags.{tag_line, heads, head_count, tags_text, listing_text};
 
 use crate::Fault;
-use crate::reply::{put_count, put_refusal};
-use cb_desk::{Format, Refusal, TagRowIter, TagRowList};
+use crate::reply::put_count;
+use cb_desk::{Format, TagRows};
 use cb_tags::{Sink, TagRow, put_extended, put_heads, put_listing, put_plain};
 use std::io::Write;
 
@@ -43,11 +43,7 @@ fn put_tag<W: Write>(out: &mut Sink<W>, format: Format, row: &TagRow<'_>) -> Res
 }
 
 /// Writes the lines of rows, one after another.
-fn put_tags<W: Write>(
-    out: &mut Sink<W>,
-    format: Format,
-    rows: TagRowIter<'_, '_>,
-) -> Result<(), Fault>
+fn put_tags<W: Write>(out: &mut Sink<W>, format: Format, rows: TagRows<'_>) -> Result<(), Fault>
     ensures { Puts out.old out.new result (flat_map (tag_line format) rows.entry) }
 {
     for row in rows {
@@ -60,7 +56,7 @@ fn put_tags<W: Write>(
 pub fn put_tags_file<W: Write>(
     out: &mut Sink<W>,
     format: Format,
-    rows: TagRowIter<'_, '_>,
+    rows: TagRows<'_>,
 ) -> Result<(), Fault>
     ensures { Puts out.old out.new result (tags_text format rows.entry) }
 {
@@ -76,7 +72,7 @@ fn put_listed<W: Write>(out: &mut Sink<W>, row: &TagRow<'_>) -> Result<(), Fault
 }
 
 /// Writes a listing.
-pub fn put_listing_file<W: Write>(out: &mut Sink<W>, rows: TagRowIter<'_, '_>) -> Result<(), Fault>
+pub fn put_listing_file<W: Write>(out: &mut Sink<W>, rows: TagRows<'_>) -> Result<(), Fault>
     ensures { Puts out.old out.new result (listing_text rows.entry) }
 {
     for row in rows {
@@ -89,29 +85,18 @@ pub fn put_listing_file<W: Write>(out: &mut Sink<W>, rows: TagRowIter<'_, '_>) -
 pub(crate) fn put_tags_reply<W: Write>(
     out: &mut Sink<W>,
     format: Format,
-    tags: Result<TagRowList<'_>, Refusal>,
+    tags: TagRows<'_>,
 ) -> Result<(), Fault>
-    ensures { Puts out.old out.new result (tags_line format tags.entry) }
+    ensures { Puts out.old out.new result (tags_reply format tags.entry) }
 {
-    let list = match tags {
-        Ok(list) => list,
-        Err(refusal) => return put_refusal(out, refusal),
-    };
-    put_count(out, list.len() as u128 + head_count(format))?;
-    put_tags_file(out, format, list.iter())
+    put_count(out, tags.len() as u128 + head_count(format))?;
+    put_tags_file(out, format, tags)
 }
 
 /// Writes the reply that shows a listing.
-pub(crate) fn put_listing_reply<W: Write>(
-    out: &mut Sink<W>,
-    tags: Result<TagRowList<'_>, Refusal>,
-) -> Result<(), Fault>
-    ensures { Puts out.old out.new result (listing_lines tags.entry) }
+pub(crate) fn put_listing_reply<W: Write>(out: &mut Sink<W>, tags: TagRows<'_>) -> Result<(), Fault>
+    ensures { Puts out.old out.new result (listing_reply tags.entry) }
 {
-    let list = match tags {
-        Ok(list) => list,
-        Err(refusal) => return put_refusal(out, refusal),
-    };
-    put_count(out, list.len() as u128)?;
-    put_listing_file(out, list.iter())
+    put_count(out, tags.len() as u128)?;
+    put_listing_file(out, tags)
 }

@@ -1,17 +1,20 @@
 //! Runs over memory. The expected bytes are written by hand from the rules of commands and replies.
 mod definitions;
 mod devices;
+mod each_byte;
 mod frames;
 mod marks;
 mod memory;
 mod operands;
 mod queries;
+mod reloads;
 mod tags;
 
 use crate::{Ended, Fault, Feed, Limits, Session, put_row};
 use cb_desk::RefRow;
 use cb_tags::Sink;
-use std::alloc::Global;
+use std::alloc::{AllocError, Global};
+use std::process::Abort;
 use std::test::Fail;
 
 /// A command of each kind, and more lines refused than done.
@@ -27,13 +30,62 @@ const WIDE: Limits = Limits {
     lines: 1_000,
 };
 
-fn run(alloc: Global, limits: &Limits, input: &[u8]) -> (Vec<u8>, Ended) {
-    let mut written = Vec::new(alloc);
+/// How a run over an input ends; what it writes comes behind what is written.
+fn run_into(alloc: Global, limits: &Limits, input: &[u8], written: &mut Vec<u8>) -> Ended {
     let mut session = Session::new(alloc);
     let mut feed = Feed::new(input);
-    let mut sink = Sink::new(&mut written);
-    let ended = session.serve(alloc, limits, &mut feed, &mut sink);
+    let mut sink = Sink::new(written);
+    session.serve(alloc, limits, &mut feed, &mut sink)
+}
+
+/// What a run over an input writes, and how it ends.
+fn run(alloc: Global, limits: &Limits, input: &[u8]) -> (Vec<u8>, Ended) {
+    let mut written = Vec::new(alloc);
+    let ended = run_into(alloc, limits, input, &mut written);
     (written, ended)
+}
+
+/// A run over an input writes this, and ends so.
+fn writes(
+    rt: &impl Abort,
+    alloc: Global,
+    limits: &Limits,
+    input: &[u8],
+    output: &[u8],
+    end: Ended,
+) {
+    let (written, ended) = run(alloc, limits, input);
+    assert_eq!(rt; written.as_slice(), output);
+    assert_eq!(rt; ended, end);
+}
+
+/// The parts one after the other.
+fn joined(alloc: Global, parts: &[&[u8]]) -> Result<Vec<u8>, AllocError> {
+    let mut whole = Vec::new(alloc);
+    for part in parts {
+        whole.extend_from_slice(part)?;
+    }
+    Ok(whole)
+}
+
+/// A run over the joined parts of an input writes the joined parts of an output, and is done.
+fn writes_parts(
+    rt: &impl Abort,
+    alloc: Global,
+    input: &[&[u8]],
+    output: &[&[u8]],
+) -> Result<(), AllocError> {
+    let input = joined(alloc, input)?;
+    let output = joined(alloc, output)?;
+    writes(
+        rt,
+        alloc,
+        &WIDE,
+        input.as_slice(),
+        output.as_slice(),
+        Ended::Done,
+    );
+    Ok(())
 }
 
 /// A text of so many bytes `a`, and then another.
@@ -65,17 +117,27 @@ fn finds_a_macro(rt: HostRuntime) {
     assert_eq!(rt; ended, Ended::Done);
 }
 
+/// Lines that are refused before they are commands; the last of them is too long.
+fn refused_lines(alloc: Global) -> Result<Vec<u8>, Fail> {
+    let mut input = Vec::from_slice(alloc, b"6x\n9\nzzz\n\n")?;
+    let long = many(alloc, 4_097, b"\nq\n:undo\n")?;
+    input.extend_from_slice(long.as_slice())?;
+    Ok(input)
+}
+
 #[test]
 fn lines_refused_by_reading(rt: HostRuntime) -> Result<(), Fail> {
-    let mut input = Vec::from_slice(rt.alloc(), b"6x\n9\nzzz\n\n")?;
-    let long = many(rt.alloc(), 4_097, b"\nq\n:undo\n")?;
-    input.extend_from_slice(long.as_slice())?;
-    let (written, ended) = run(rt.alloc(), &WIDE, input.as_slice());
-    assert_eq!(rt;
-        written.as_slice(),
-        b">> cscope: refused: field not in this profile\n>> cscope: refused: field not in this profile\n>> cscope: refused: unknown command\n>> >> cscope: refused: line too long\n>> ".as_slice()
+    let input = refused_lines(rt.alloc())?;
+    let output =
+        b">> cscope: refused: field not in this profile\n>> cscope: refused: field not in this profile\n>> cscope: refused: unknown command\n>> >> cscope: refused: line too long\n>> ";
+    writes(
+        &rt,
+        rt.alloc(),
+        &WIDE,
+        input.as_slice(),
+        output,
+        Ended::Done,
     );
-    assert_eq!(rt; ended, Ended::Done);
     Ok(())
 }
 
@@ -188,52 +250,65 @@ fn single_inputs(rt: HostRuntime) -> Result<(), Fail> {
         ),
     ];
     for (input, output, end) in cases {
-        let (written, ended) = run(rt.alloc(), &WIDE, input);
-        assert_eq!(rt; written.as_slice(), output);
-        assert_eq!(rt; ended, end);
+        writes(&rt, rt.alloc(), &WIDE, input, output, end);
     }
+    Ok(())
+}
+
+/// Three lines of 5,000 bytes.
+const NARROW: Limits = Limits {
+    line: 5_000,
+    lines: 3,
+};
+
+/// A run in narrow limits over so many bytes `a`, and then another text.
+fn many_in_limits(
+    rt: &impl Abort,
+    alloc: Global,
+    count: usize,
+    after: &[u8],
+    output: &[u8],
+    end: Ended,
+) -> Result<(), Fail> {
+    let input = many(alloc, count, after)?;
+    writes(rt, alloc, &NARROW, input.as_slice(), output, end);
     Ok(())
 }
 
 #[test]
 fn limits_of_a_run(rt: HostRuntime) -> Result<(), Fail> {
-    let limits = Limits {
-        line: 5_000,
-        lines: 3,
-    };
-    let over = many(rt.alloc(), 5_001, b"")?;
-    let (written, ended) = run(rt.alloc(), &limits, over.as_slice());
-    assert_eq!(rt; written.as_slice(), b">> ".as_slice());
-    assert_eq!(rt; ended, Ended::Fault(Fault::LongLine));
-    let under = many(rt.alloc(), 5_000, b"\n")?;
-    let (written, ended) = run(rt.alloc(), &limits, under.as_slice());
-    assert_eq!(rt;
-        written.as_slice(),
-        b">> cscope: refused: line too long\n>> ".as_slice()
-    );
-    assert_eq!(rt; ended, Ended::Done);
-    let (written, ended) = run(rt.alloc(), &limits, b"\n\n\n");
-    assert_eq!(rt; written.as_slice(), b">> >> >> ".as_slice());
-    assert_eq!(rt; ended, Ended::Fault(Fault::ManyLines));
-    let (written, ended) = run(rt.alloc(), &limits, b"\n\n");
-    assert_eq!(rt; written.as_slice(), b">> >> >> ".as_slice());
-    assert_eq!(rt; ended, Ended::Done);
+    let over = Ended::Fault(Fault::LongLine);
+    many_in_limits(&rt, rt.alloc(), 5_001, b"", b">> ", over)?;
+    let refused = b">> cscope: refused: line too long\n>> ";
+    many_in_limits(&rt, rt.alloc(), 5_000, b"\n", refused, Ended::Done)?;
+    let lines = Ended::Fault(Fault::ManyLines);
+    writes(&rt, rt.alloc(), &NARROW, b"\n\n\n", b">> >> >> ", lines);
+    writes(&rt, rt.alloc(), &NARROW, b"\n\n", b">> >> >> ", Ended::Done);
     Ok(())
+}
+
+/// The longest line, and the largest load.
+fn longest_and_largest(alloc: Global) -> Result<Vec<u8>, Fail> {
+    let mut input = Vec::from_slice(alloc, b"1")?;
+    let pattern = many(alloc, 4_095, b"\n:load big.c 1000000\n")?;
+    input.extend_from_slice(pattern.as_slice())?;
+    let filled = input.len();
+    input.resize(filled + 1_000_000, b' ')?;
+    Ok(input)
 }
 
 #[test]
 fn longest_line_and_largest_load(rt: HostRuntime) -> Result<(), Fail> {
-    let mut input = Vec::from_slice(rt.alloc(), b"1")?;
-    let pattern = many(rt.alloc(), 4_095, b"\n:load big.c 1000000\n")?;
-    input.extend_from_slice(pattern.as_slice())?;
-    let filled = input.len();
-    input.resize(filled + 1_000_000, b' ')?;
-    let (written, ended) = run(rt.alloc(), &WIDE, input.as_slice());
-    assert_eq!(rt;
-        written.as_slice(),
-        b">> cscope: 0 lines\n>> cscope: done\n>> ".as_slice()
+    let input = longest_and_largest(rt.alloc())?;
+    let output = b">> cscope: 0 lines\n>> cscope: done\n>> ";
+    writes(
+        &rt,
+        rt.alloc(),
+        &WIDE,
+        input.as_slice(),
+        output,
+        Ended::Done,
     );
-    assert_eq!(rt; ended, Ended::Done);
     Ok(())
 }
 

@@ -11,7 +11,7 @@ use Rattle.cb_desk.specs.World.{World, File}
 use Rattle.cb_session.specs.declared.input.Ended.{Ended}
 use Rattle.cb_session.specs.declared.input.Ended.TheVariants.{Done, Fault, Operand}
 use Rattle.cb_session.specs.declared.input.Fault.TheVariants.{Write, Memory}
-use Rattle.cb_session.specs.Devices.{Reader}
+use Rattle.cb_session.specs.Devices.{Reader, WhateverFollows}
 use Rattle.cb_session.specs.Inputs.{inputs}
 use Rattle.cb_session.specs.Output.{row_line}
 use Rattle.cb_session.specs.Operands.{Loads, RefusedOperand}
@@ -49,11 +49,10 @@ output_text false format ts = tags_text format ts
 abbrev pub tags_output : (listing : Bool) → Format → World → List ℕ
 tags_output listing format w = output_text listing format (tags (output_format listing format) w)
 
--- the whole text was written and handed on; or the writer failed, and a prefix was written; or memory was refused, and nothing was
+-- the whole text was written and handed on; or the writer failed, and a prefix was written
 abbrev pub WritesText : List ℕ → Writer → Writer → Ended → Type 0
 WritesText text old new Done = (new.failed ≡ false) × Appends old.bytes new.bytes text
 WritesText text old new (Fault Write) = (new.failed ≡ true) × AppendsPrefix old.bytes new.bytes text
-WritesText text old new (Fault Memory) = new ≡ old
 WritesText text old new _ = ⊥
 
 -- ---- a job over a session
@@ -63,11 +62,12 @@ abbrev pub HasPattern : Job → Type 0
 HasPattern (Find field pattern files) = string_bytes pattern ≢ []
 HasPattern _ = Unit {0}
 
--- a job is done from a timeline: a session is a run over the bytes of the reader; the rows of a search and tags are written, and
--- the reader is left alone
+-- a job is done from a timeline: a session is a run over the bytes of the reader, and whatever follows those that it has read, a
+-- run over these; the rows of a search and tags are written, and the reader is left alone
 abbrev pub DoesJob : Job → (lines limit : ℕ) → Timeline → Reader → Reader → Writer → Writer → Ended → Type 0
 DoesJob (Line files) lines limit t feed feed' old new ended =
     ((bytes : List ℕ) → feed.bytes ≡ Some bytes → LeavesRun (inputs lines limit bytes) t old new ended)
+    × WhateverFollows feed feed' (λ bytes _. LeavesRun (inputs lines limit bytes) t old new ended)
     × IfFault ended (HasFailed feed' new) × Tells feed feed' old new (fault_of ended)
 DoesJob (Find field pattern files) lines limit t feed feed' old new ended =
     (feed' ≡ feed) × WritesText (flat_map row_line (answer t.present field (string_bytes pattern))) old new ended

@@ -17,7 +17,7 @@ mod tests;
 use crate::execute::files::{make_file, read_operands};
 use crate::execute::finish::{Finish, conclude, files_of};
 use crate::job::{Job, job_of};
-use cb_desk::{Desk, Field, Format, TagRowIter};
+use cb_desk::{Desk, Field, Format, TagRows};
 use cb_session::{
     Ended, Fault, Feed, Limits, Session, prepare, put_answer, put_listing_file, put_tags_file,
 };
@@ -45,7 +45,7 @@ fn put_output<W: Write>(
     out: &mut Sink<W>,
     listing: bool,
     format: Format,
-    rows: TagRowIter<'_, '_>,
+    rows: TagRows<'_>,
 ) -> Result<(), Fault>
     ensures { Puts out.old out.new result (output_text listing format rows.entry) }
 {
@@ -57,20 +57,11 @@ fn put_output<W: Write>(
 }
 
 /// Writes the tags of a desk, and hands them on.
-fn write_tags<W: Write>(
-    alloc: Global,
-    listing: bool,
-    format: Format,
-    desk: &Desk,
-    out: &mut Sink<W>,
-) -> Ended
-    ensures { WritesText (tags_output listing format desk.now.present) out.old out.new result }
+fn write_tags<W: Write>(listing: bool, format: Format, desk: &Desk, out: &mut Sink<W>) -> Ended
+    ensures { WritesText (tags_output listing format desk.now.timeline.present) out.old out.new result }
 {
-    let list = match desk.tag_rows(alloc, output_format(listing, format)) {
-        Ok(list) => list,
-        Err(_) => return Ended::Fault(Fault::Memory),
-    };
-    match put_output(out, listing, format, list.iter()) {
+    let rows = desk.tag_rows(output_format(listing, format));
+    match put_output(out, listing, format, rows) {
         Ok(()) => {}
         Err(fault) => return Ended::Fault(fault),
     }
@@ -81,21 +72,11 @@ fn write_tags<W: Write>(
 }
 
 /// Writes the rows that answer a question, and hands them on.
-fn write_rows<W: Write>(
-    alloc: Global,
-    field: Field,
-    pattern: &[u8],
-    desk: &Desk,
-    out: &mut Sink<W>,
-) -> Ended
+fn write_rows<W: Write>(field: Field, pattern: &[u8], desk: &Desk, out: &mut Sink<W>) -> Ended
     requires { pattern.now ≢ [] }
-    ensures { WritesText (flat_map row_line (answer desk.now.present field pattern.now)) out.old out.new result }
+    ensures { WritesText (flat_map row_line (answer desk.now.timeline.present field pattern.now)) out.old out.new result }
 {
-    let list = match desk.rows(alloc, field, pattern) {
-        Ok(list) => list,
-        Err(_) => return Ended::Fault(Fault::Memory),
-    };
-    match put_answer(out, list.iter()) {
+    match put_answer(out, desk.rows(field, pattern)) {
         Ok(()) => {}
         Err(fault) => return Ended::Fault(fault),
     }
@@ -120,7 +101,6 @@ pub fn run_job<R: BufRead, W: Write>(
     match job {
         Job::Line { .. } => session.serve(alloc, limits, feed, out),
         Job::Find { field, pattern, .. } => write_rows(
-            alloc,
             *field,
             pattern.as_bytes(),
             session.desk(),
@@ -130,7 +110,7 @@ pub fn run_job<R: BufRead, W: Write>(
             listing,
             format,
             ..
-        } => write_tags(alloc, *listing, *format, session.desk(), out),
+        } => write_tags(*listing, *format, session.desk(), out),
     }
 }
 

@@ -1,10 +1,7 @@
 //! What is kept of the files.
-ghost use Rattle.std.specs.Prelude.{◌≡◌};
-ghost use Rattle.cb_scan.specs.Definitions.{facts_of};
-ghost use Rattle.cb_scan.specs.FactKeys.{keys_of};
 
 use crate::failed::Failed;
-use cb_index::{Room, Shelf, Shown};
+use cb_index::{Room, Shelf, Shown, Version};
 use cb_scan::{FactKeys, Facts, KeyList, Meter, Source, scan};
 use std::alloc::Global;
 
@@ -63,7 +60,6 @@ impl Counts {
 pub(crate) struct Kept {
     pub(crate) shelf: Shelf,
     pub(crate) files: Vec<Shown>,
-    pub(crate) names: Vec<u32>,
     counts: Counts,
 }
 
@@ -72,7 +68,6 @@ impl Kept {
         Kept {
             shelf: Shelf::new(alloc),
             files: Vec::new(alloc),
-            names: Vec::new(alloc),
             counts: Counts {
                 bytes: 0,
                 defs: 0,
@@ -96,8 +91,7 @@ impl Kept {
         let keys = FactKeys::new(alloc, &source, &facts)?;
         self.counts.add(&source, &facts, &keys);
         let name = push_name(&mut self.shelf, name.to_vec(alloc)?)?;
-        let version = push_version(&mut self.shelf, source, facts, keys)?;
-        self.names.push(name)?;
+        let version = push_version(&mut self.shelf, Version::new(source, facts, keys))?;
         self.files.push(Shown { name, version })?;
         Ok(())
     }
@@ -149,16 +143,8 @@ fn push_name(shelf: &mut Shelf, name: Vec<u8>) -> Result<u32, Failed> {
     Ok(shelf.push_name(name))
 }
 
-/// Keeps a version. Its facts and key lists are those of the source.
-fn push_version(
-    shelf: &mut Shelf,
-    source: Source,
-    facts: Facts,
-    keys: FactKeys,
-) -> Result<u32, Failed>
-    requires facts { facts ≡ facts_of source }
-    requires keys { keys ≡ keys_of source }
-{
+/// Keeps a version.
+fn push_version(shelf: &mut Shelf, version: Version) -> Result<u32, Failed> {
     if shelf.archive().version_count() >= MOST as usize {
         return Err(Failed);
     }
@@ -166,5 +152,5 @@ fn push_version(
         Ok(()) => {}
         Err(_) => return Err(Failed),
     }
-    Ok(shelf.push_version(source, facts, keys))
+    Ok(shelf.push_version(version))
 }

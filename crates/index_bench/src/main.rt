@@ -81,7 +81,7 @@ fn measure_memory<R: Files + Print + CpuClock + AllocGlobal>(
 /// All files hidden and shown together.
 fn measure_together<R: Print + CpuClock>(rt: &R, kept: &mut Kept) -> Result<(), Failed> {
     for _ in 0..TIMES {
-        timed::put_hide_all(rt, kept.names.as_slice(), &mut kept.shelf)?;
+        timed::put_hide_all(rt, kept.files.as_slice(), &mut kept.shelf)?;
         timed::put_show_all(rt, kept.files.as_slice(), &mut kept.shelf)?;
     }
     Ok(())
@@ -104,6 +104,6 @@ fn measure_one<R: Print + CpuClock>(
 
 /// All files hidden together, and shown one after the other.
 fn measure_each<R: Print + CpuClock>(rt: &R, kept: &mut Kept) -> Result<(), Failed> {
-    timed::put_hide_all(rt, kept.names.as_slice(), &mut kept.shelf)?;
+    timed::put_hide_all(rt, kept.files.as_slice(), &mut kept.shelf)?;
     timed::put_show_each(rt, kept.files.as_slice(), &mut kept.shelf)
 }

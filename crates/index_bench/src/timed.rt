@@ -25,12 +25,12 @@ fn show_all<R: CpuClock>(rt: &R, files: &[Shown], shelf: &mut Shelf) -> Result<u
     Ok(end.saturating_sub(start))
 }
 
-fn hide_all<R: CpuClock>(rt: &R, names: &[u32], shelf: &mut Shelf) -> Result<u64, Failed> {
-    if !are_rising(names) {
+fn hide_all<R: CpuClock>(rt: &R, files: &[Shown], shelf: &mut Shelf) -> Result<u64, Failed> {
+    if !are_rising(files) {
         return Err(Failed);
     }
     let start = clock(rt)?;
-    shelf.hide_all(names);
+    shelf.hide_all(files);
     let end = clock(rt)?;
     Ok(end.saturating_sub(start))
 }
@@ -71,10 +71,10 @@ pub(crate) fn put_show_all<R: Print + CpuClock>(
 /// Hides all files together.
 pub(crate) fn put_hide_all<R: Print + CpuClock>(
     rt: &R,
-    names: &[u32],
+    files: &[Shown],
     shelf: &mut Shelf,
 ) -> Result<(), Failed> {
-    let time = hide_all(rt, names, shelf)?;
+    let time = hide_all(rt, files, shelf)?;
     put(rt, "hide_all", time)
 }
 

@@ -4,16 +4,27 @@
 use super::marks::marked_files;
 use super::moves::{has_frames, two_files};
 use super::{load_text_or_refused, shows};
-use crate::{Change, Desk, Field, Format, Refusal};
+use crate::{Change, Desk, Refusal};
 use std::alloc::Global;
 use std::process::Abort;
+
+/// The call that a test is about begins here: `scripts/each-growth-refused.py` knows this size, and
+/// counts and refuses the growths that follow.
+pub(crate) fn begin(alloc: Global) {
+    let _ = Vec::<u8>::with_capacity(alloc, 70_001);
+}
+
+/// Pushes a frame, and takes a load back.
+fn give_a_future(desk: &mut Desk, alloc: Global) -> Result<(), Refusal> {
+    desk.change(alloc, Change::Tag(b"add", 1))?;
+    load_text_or_refused(desk, alloc, b"b.c", b"")?;
+    desk.undo()
+}
 
 /// Two files, a frame, and a future: a load that was taken back.
 fn with_a_future(alloc: Global) -> Result<Desk, Refusal> {
     let mut desk = two_files(alloc)?;
-    desk.change(alloc, Change::Tag(b"add", 1))?;
-    load_text_or_refused(&mut desk, alloc, b"b.c", b"")?;
-    desk.undo()?;
+    give_a_future(&mut desk, alloc)?;
     Ok(desk)
 }
 
@@ -31,24 +42,34 @@ fn is_as_before(desk: &mut Desk) -> bool {
 
 /// Makes a change. Where memory refuses it, nothing has moved, and then it is done. Whether memory
 /// was refused.
+fn is_refused(
+    rt: &impl Abort,
+    alloc: Global,
+    desk: &mut Desk,
+    first: Change<'_>,
+    again: Change<'_>,
+) -> bool {
+    begin(alloc);
+    let Err(refusal) = desk.change(alloc, first) else {
+        return false;
+    };
+    assert!(rt; refusal == Refusal::OutOfMemory);
+    assert!(rt; is_as_before(desk));
+    assert!(rt; desk.change(alloc, again) == Ok(()));
+    assert!(rt; desk.redo() == Err(Refusal::NothingToRedo));
+    true
+}
+
+/// The same, with two files and a future.
 fn change_meets_a_refusal(
     rt: &impl Abort,
     alloc: Global,
     first: Change<'_>,
     again: Change<'_>,
 ) -> bool {
-    let Ok(mut desk) = with_a_future(alloc) else {
-        return true;
-    };
-    match desk.change(alloc, first) {
-        Ok(()) => false,
-        Err(refusal) => {
-            assert!(rt; refusal == Refusal::OutOfMemory);
-            assert!(rt; is_as_before(&mut desk));
-            assert!(rt; desk.change(alloc, again) == Ok(()));
-            assert!(rt; desk.redo() == Err(Refusal::NothingToRedo));
-            true
-        }
+    match with_a_future(alloc) {
+        Ok(mut desk) => is_refused(rt, alloc, &mut desk, first, again),
+        Err(_) => true,
     }
 }
 
@@ -65,66 +86,24 @@ fn load_meets_a_refusal(rt: &impl Abort, alloc: Global) -> bool {
     )
 }
 
-/// Scans all files again. Where memory refuses it, nothing has moved, and then it is done.
+/// Scans all files again. Where memory refuses it, nothing has moved, and then it is done. Whether
+/// memory was refused.
+fn rebuild_is_refused(rt: &impl Abort, alloc: Global, desk: &mut Desk) -> bool {
+    begin(alloc);
+    let Err(refusal) = desk.rebuild(alloc) else {
+        return false;
+    };
+    assert!(rt; refusal == Refusal::OutOfMemory);
+    assert!(rt; is_as_before(desk));
+    assert!(rt; desk.rebuild(alloc) == Ok(()));
+    true
+}
+
+/// The same, with two files and a future.
 fn rebuild_meets_a_refusal(rt: &impl Abort, alloc: Global) -> bool {
-    let Ok(mut desk) = with_a_future(alloc) else {
-        return true;
-    };
-    match desk.rebuild(alloc) {
-        Ok(()) => false,
-        Err(refusal) => {
-            assert!(rt; refusal == Refusal::OutOfMemory);
-            assert!(rt; is_as_before(&mut desk));
-            assert!(rt; desk.rebuild(alloc) == Ok(()));
-            true
-        }
-    }
-}
-
-/// Asks for the definitions of a name. Where memory refuses it, it is answered the next time.
-fn rows_meet_a_refusal(rt: &impl Abort, alloc: Global) -> bool {
-    let Ok(desk) = two_files(alloc) else {
-        return true;
-    };
-    match desk.rows(alloc, Field::Definition, b"add") {
-        Ok(rows) => {
-            assert_eq!(rt; rows.len(), 1);
-            false
-        }
-        Err(refusal) => {
-            assert!(rt; refusal == Refusal::OutOfMemory);
-            let found = desk
-                .rows(alloc, Field::Definition, b"add")
-                .map_or(0, |rows| rows.len());
-            assert_eq!(rt; found, 1);
-            true
-        }
-    }
-}
-
-/// More than twenty functions, so that the sort of their tags takes memory.
-const FUNCTIONS: &[u8] =
-    b"t(){}s(){}r(){}q(){}p(){}o(){}n(){}m(){}l(){}k(){}j(){}i(){}h(){}g(){}f(){}e(){}d(){}c(){}b(){}a(){}main(){}\n";
-
-/// Asks for the tags. Where memory refuses them, they are answered the next time.
-fn tags_meet_a_refusal(rt: &impl Abort, alloc: Global) -> bool {
-    let mut desk = Desk::new(alloc);
-    if load_text_or_refused(&mut desk, alloc, b"a.c", FUNCTIONS) != Ok(()) {
-        return true;
-    }
-    match desk.tag_rows(alloc, Format::Plain) {
-        Ok(rows) => {
-            assert_eq!(rt; rows.len(), 21);
-            false
-        }
-        Err(refusal) => {
-            assert!(rt; refusal == Refusal::OutOfMemory);
-            let found = desk
-                .tag_rows(alloc, Format::Plain)
-                .map_or(0, |rows| rows.len());
-            assert_eq!(rt; found, 21);
-            true
-        }
+    match with_a_future(alloc) {
+        Ok(mut desk) => rebuild_is_refused(rt, alloc, &mut desk),
+        Err(_) => true,
     }
 }
 
@@ -149,37 +128,63 @@ fn pop_meets_a_refusal(rt: &impl Abort, alloc: Global) -> bool {
     change_meets_a_refusal(rt, alloc, Change::Pop, Change::Pop)
 }
 
-/// Marked files with a future; whatever is refused, the marks stay, and redo goes on.
+/// Makes a change of marked files. Where memory refuses it, the marks stay, redo goes on, and then it
+/// is done. Whether memory was refused.
+fn marked_is_refused(
+    rt: &impl Abort,
+    alloc: Global,
+    desk: &mut Desk,
+    first: Change<'_>,
+    again: Change<'_>,
+) -> bool {
+    begin(alloc);
+    let Err(refusal) = desk.change(alloc, first) else {
+        assert!(rt; desk.redo() == Err(Refusal::NothingToRedo));
+        return false;
+    };
+    assert!(rt; refusal == Refusal::OutOfMemory);
+    assert_eq!(rt; desk.marks().len(), 3);
+    assert!(rt; desk.redo() == Ok(()));
+    assert!(rt; desk.undo() == Ok(()));
+    assert!(rt; desk.change(alloc, again) == Ok(()));
+    true
+}
+
+/// Undo gives the marks back, and redo goes on.
+fn marks_come_back(rt: &impl Abort, desk: &mut Desk) {
+    assert!(rt; desk.undo() == Ok(()));
+    assert_eq!(rt; desk.marks().len(), 3);
+    assert!(rt; desk.redo() == Ok(()));
+}
+
+/// Marked files with a future; whatever is refused, the change can be done, and undo gives the marks
+/// back. Whether memory was refused.
 fn marked_change_meets_a_refusal(
     rt: &impl Abort,
     alloc: Global,
     first: Change<'_>,
     again: Change<'_>,
 ) -> bool {
-    let Ok(mut desk) = marked_with_a_future(alloc) else {
-        return true;
-    };
-    match desk.change(alloc, first) {
-        Ok(()) => {
-            assert!(rt; desk.redo() == Err(Refusal::NothingToRedo));
-            false
+    match marked_with_a_future(alloc) {
+        Ok(mut desk) => {
+            let refused = marked_is_refused(rt, alloc, &mut desk, first, again);
+            marks_come_back(rt, &mut desk);
+            refused
         }
-        Err(refusal) => {
-            assert!(rt; refusal == Refusal::OutOfMemory);
-            assert_eq!(rt; desk.marks().len(), 3);
-            assert!(rt; desk.redo() == Ok(()));
-            assert!(rt; desk.undo() == Ok(()));
-            assert!(rt; desk.change(alloc, again) == Ok(()));
-            true
-        }
+        Err(_) => true,
     }
 }
 
-/// Marked files, and a drop that was taken back.
-fn marked_with_a_future(alloc: Global) -> Result<Desk, Refusal> {
-    let mut desk = marked_files(alloc)?;
+/// Drops a file, and takes that back.
+fn drop_and_undo(desk: &mut Desk, alloc: Global) -> Result<(), Refusal> {
     desk.change(alloc, Change::Unload(b"m.c"))?;
-    desk.undo()?;
+    desk.undo()
+}
+
+/// Marked files, and a drop that was taken back.
+pub(crate) fn marked_with_a_future(alloc: Global) -> Result<Desk, Refusal> {
+    let mut desk = marked_files(alloc)?;
+    drop_and_undo(&mut desk, alloc)?;
     Ok(desk)
 }
 
@@ -197,6 +202,32 @@ fn mark_all_meets_a_refusal(rt: &impl Abort, alloc: Global) -> bool {
 
 fn replace_meets_a_refusal(rt: &impl Abort, alloc: Global) -> bool {
     marked_change_meets_a_refusal(rt, alloc, Change::Replace(b"sum"), Change::Replace(b"sum"))
+}
+
+/// Reloads the file that has all the marks.
+fn reload_meets_a_refusal(rt: &impl Abort, alloc: Global) -> bool {
+    let (Ok(first), Ok(again)) = (b"f(){}".to_vec(alloc), b"f(){}".to_vec(alloc)) else {
+        return true;
+    };
+    marked_change_meets_a_refusal(
+        rt,
+        alloc,
+        Change::Reload(b"a.c", first),
+        Change::Reload(b"a.c", again),
+    )
+}
+
+#[test]
+fn refused_growth_of_reload(rt: HostRuntime) {
+    let _refused = reload_meets_a_refusal(&rt, rt.alloc());
+}
+
+#[test]
+fn no_refusal_of_reload(rt: HostRuntime) {
+    assert!(rt;
+        !reload_meets_a_refusal(&rt, rt.alloc()),
+        "memory was refused"
+    );
 }
 
 #[test]
@@ -321,24 +352,4 @@ fn no_refusal_of_rebuild(rt: HostRuntime) {
         !rebuild_meets_a_refusal(&rt, rt.alloc()),
         "memory was refused"
     );
-}
-
-#[test]
-fn refused_growth_of_rows(rt: HostRuntime) {
-    let _refused = rows_meet_a_refusal(&rt, rt.alloc());
-}
-
-#[test]
-fn no_refusal_of_rows(rt: HostRuntime) {
-    assert!(rt; !rows_meet_a_refusal(&rt, rt.alloc()), "memory was refused");
-}
-
-#[test]
-fn refused_growth_of_tag_rows(rt: HostRuntime) {
-    let _refused = tags_meet_a_refusal(&rt, rt.alloc());
-}
-
-#[test]
-fn no_refusal_of_tag_rows(rt: HostRuntime) {
-    assert!(rt; !tags_meet_a_refusal(&rt, rt.alloc()), "memory was refused");
 }

@@ -3,6 +3,7 @@
 use super::{NINE_LINES, load, load_text, load_text_or_refused, shows};
 use crate::{Change, Desk, Refusal};
 use std::alloc::{AllocError, Global};
+use std::process::Abort;
 
 /// Whether the frames are these, bottom first.
 pub(crate) fn has_frames(desk: &Desk, frames: &[(&[u8], u32)]) -> bool {
@@ -41,67 +42,83 @@ pub(crate) fn has_text(desk: &Desk, name: &[u8], text: &[u8]) -> bool {
 /// A file with one function.
 const ONE_FUNCTION: &[u8] = b"int Mb(void) {\n}\n";
 
+/// Loads two files.
+fn load_two(desk: &mut Desk, alloc: Global) -> Result<(), Refusal> {
+    load_text_or_refused(desk, alloc, b"a.c", NINE_LINES)?;
+    load_text_or_refused(desk, alloc, b"m.c", ONE_FUNCTION)
+}
+
 /// A desk with two files.
 pub(crate) fn two_files(alloc: Global) -> Result<Desk, Refusal> {
     let mut desk = Desk::new(alloc);
-    load_text_or_refused(&mut desk, alloc, b"a.c", NINE_LINES)?;
-    load_text_or_refused(&mut desk, alloc, b"m.c", ONE_FUNCTION)?;
+    load_two(&mut desk, alloc)?;
     Ok(desk)
+}
+
+/// Pushes a frame for each of three definitions.
+fn push_three(desk: &mut Desk, alloc: Global) -> Result<(), Refusal> {
+    desk.change(alloc, Change::Tag(b"add", 1))?;
+    desk.change(alloc, Change::Tag(b"Mb", 1))?;
+    desk.change(alloc, Change::Tag(b"word", 1))
 }
 
 /// Two files and a frame for each of three definitions.
 fn three_frames(alloc: Global) -> Result<Desk, Refusal> {
     let mut desk = two_files(alloc)?;
-    desk.change(alloc, Change::Tag(b"add", 1))?;
-    desk.change(alloc, Change::Tag(b"Mb", 1))?;
-    desk.change(alloc, Change::Tag(b"word", 1))?;
+    push_three(&mut desk, alloc)?;
     Ok(desk)
+}
+
+/// The file of the frame in the middle is dropped.
+fn a_dropped_file_takes_its_frame_along(rt: &impl Abort, alloc: Global, desk: &mut Desk) {
+    assert!(rt; has_frames(desk, &[(b"a.c".as_slice(), 4), (b"m.c", 1), (b"a.c", 3)]));
+    assert!(rt; desk.change(alloc, Change::Unload(b"m.c")) == Ok(()));
+    assert!(rt; shows(desk, &[b"a.c".as_slice()]));
+    assert!(rt; has_frames_from_the_top(desk, &[(b"a.c".as_slice(), 3), (b"a.c", 4)]));
+}
+
+/// That is taken back and done again, and the top frame is taken away.
+fn its_frame_comes_back_to_its_place(rt: &impl Abort, alloc: Global, desk: &mut Desk) {
+    let frames = [(b"a.c".as_slice(), 3), (b"m.c", 1), (b"a.c", 4)];
+    assert!(rt; desk.undo() == Ok(()));
+    assert!(rt; shows(desk, &[b"a.c".as_slice(), b"m.c"]));
+    assert!(rt; has_frames_from_the_top(desk, &frames));
+    assert!(rt; desk.redo() == Ok(()));
+    assert!(rt; has_frames(desk, &[(b"a.c".as_slice(), 4), (b"a.c", 3)]));
+    assert!(rt; desk.change(alloc, Change::Pop) == Ok(()));
+    assert!(rt; has_frames(desk, &[(b"a.c".as_slice(), 4)]));
 }
 
 #[test]
 fn undo_of_a_drop_puts_frames_back_at_their_places(rt: HostRuntime) -> Result<(), Refusal> {
-    let alloc = rt.alloc();
-    let mut desk = three_frames(alloc)?;
-    assert!(rt; has_frames(&desk, &[(b"a.c".as_slice(), 4), (b"m.c", 1), (b"a.c", 3)]));
-    assert!(rt; desk.change(alloc, Change::Unload(b"m.c")) == Ok(()));
-    assert!(rt; shows(&desk, &[b"a.c".as_slice()]));
-    assert!(rt; has_frames_from_the_top(&desk, &[(b"a.c".as_slice(), 3), (b"a.c", 4)]));
-    assert!(rt; desk.undo() == Ok(()));
-    assert!(rt; shows(&desk, &[b"a.c".as_slice(), b"m.c"]));
-    assert!(rt;
-        has_frames_from_the_top(&desk, &[(b"a.c".as_slice(), 3), (b"m.c", 1), (b"a.c", 4)])
-    );
-    assert!(rt; desk.redo() == Ok(()));
-    assert!(rt; has_frames(&desk, &[(b"a.c".as_slice(), 4), (b"a.c", 3)]));
-    assert!(rt; desk.change(alloc, Change::Pop) == Ok(()));
-    assert!(rt; has_frames(&desk, &[(b"a.c".as_slice(), 4)]));
+    let mut desk = three_frames(rt.alloc())?;
+    a_dropped_file_takes_its_frame_along(&rt, rt.alloc(), &mut desk);
+    its_frame_comes_back_to_its_place(&rt, rt.alloc(), &mut desk);
     Ok(())
+}
+
+/// A file with two frames gets another name, and the old one back.
+fn a_file_is_renamed_and_has_its_name_back(rt: &impl Abort, alloc: Global, desk: &mut Desk) {
+    let frames = [(b"z/b.c".as_slice(), 4), (b"m.c", 1), (b"z/b.c", 3)];
+    assert!(rt; desk.change(alloc, Change::Rename(b"a.c", b"z/b.c")) == Ok(()));
+    assert!(rt; shows(desk, &[b"m.c".as_slice(), b"z/b.c"]));
+    assert!(rt; has_text(desk, b"z/b.c", NINE_LINES));
+    assert!(rt; has_text(desk, b"m.c", ONE_FUNCTION));
+    assert!(rt; has_frames(desk, &frames));
+    assert!(rt; desk.undo() == Ok(()));
+    assert!(rt; shows(desk, &[b"a.c".as_slice(), b"m.c"]));
+    assert!(rt; has_frames(desk, &[(b"a.c".as_slice(), 4), (b"m.c", 1), (b"a.c", 3)]));
 }
 
 #[test]
 fn a_renamed_file_keeps_its_text_and_frames_their_places(rt: HostRuntime) -> Result<(), Refusal> {
-    let alloc = rt.alloc();
-    let mut desk = three_frames(alloc)?;
-    assert!(rt; desk.change(alloc, Change::Rename(b"a.c", b"z/b.c")) == Ok(()));
-    assert!(rt; shows(&desk, &[b"m.c".as_slice(), b"z/b.c"]));
-    assert!(rt; has_text(&desk, b"z/b.c", NINE_LINES));
-    assert!(rt; has_text(&desk, b"m.c", ONE_FUNCTION));
-    assert!(rt;
-        has_frames(
-            &desk,
-            &[(b"z/b.c".as_slice(), 4), (b"m.c", 1), (b"z/b.c", 3)]
-        )
-    );
-    assert!(rt; desk.undo() == Ok(()));
-    assert!(rt; shows(&desk, &[b"a.c".as_slice(), b"m.c"]));
-    assert!(rt; has_frames(&desk, &[(b"a.c".as_slice(), 4), (b"m.c", 1), (b"a.c", 3)]));
+    let mut desk = three_frames(rt.alloc())?;
+    a_file_is_renamed_and_has_its_name_back(&rt, rt.alloc(), &mut desk);
     Ok(())
 }
 
-#[test]
-fn the_lowest_refusal_of_each_change_is_answered(rt: HostRuntime) -> Result<(), Refusal> {
-    let alloc = rt.alloc();
-    let mut desk = two_files(alloc)?;
+/// Changes that are refused, each with its refusal, the number and the text of that.
+fn each_change_is_refused(rt: &impl Abort, alloc: Global, desk: &mut Desk) {
     let cases = [
         (
             Change::Unload(b"q.c"),
@@ -171,23 +188,30 @@ fn the_lowest_refusal_of_each_change_is_answered(rt: HostRuntime) -> Result<(), 
         assert!(rt; desk.change(alloc, change) == Err(refusal));
         assert_eq!(rt; refusal.number(), number);
         assert!(rt; refusal.text() == text);
-        assert!(rt; shows(&desk, &[b"a.c".as_slice(), b"m.c"]));
-        assert!(rt; has_frames(&desk, &[]));
+        assert!(rt; shows(desk, &[b"a.c".as_slice(), b"m.c"]));
+        assert!(rt; has_frames(desk, &[]));
     }
+}
+
+#[test]
+fn the_lowest_refusal_of_each_change_is_answered(rt: HostRuntime) -> Result<(), Refusal> {
+    let mut desk = two_files(rt.alloc())?;
+    each_change_is_refused(&rt, rt.alloc(), &mut desk);
     assert!(rt; desk.redo() == Err(Refusal::NothingToRedo));
     assert_eq!(rt; Refusal::NothingToRedo.number(), 18);
     assert!(rt; Refusal::NothingToRedo.text() == "nothing to redo");
     Ok(())
 }
 
-#[test]
-fn the_nth_definition_of_a_name_counts_by_file_and_place(
-    rt: HostRuntime,
-) -> Result<(), AllocError> {
-    let alloc = rt.alloc();
-    let mut desk = Desk::new(alloc);
-    assert!(rt; load_text(&mut desk, alloc, b"b.c", b"#define f(x) x\n")? == Ok(()));
-    assert!(rt; load_text(&mut desk, alloc, b"a.c", b"\nf(){}f(){}\nint g;\nf(){}")? == Ok(()));
+/// Two files define one name four times.
+fn define_four_times(rt: &impl Abort, alloc: Global, desk: &mut Desk) -> Result<(), AllocError> {
+    assert!(rt; load_text(desk, alloc, b"b.c", b"#define f(x) x\n")? == Ok(()));
+    assert!(rt; load_text(desk, alloc, b"a.c", b"\nf(){}f(){}\nint g;\nf(){}")? == Ok(()));
+    Ok(())
+}
+
+/// A frame for each of them, and none for a fifth.
+fn four_definitions_are_counted(rt: &impl Abort, alloc: Global, desk: &mut Desk) {
     for n in 1..5 {
         assert!(rt; desk.change(alloc, Change::Tag(b"f", n)) == Ok(()));
     }
@@ -198,7 +222,50 @@ fn the_nth_definition_of_a_name_counts_by_file_and_place(
         (b"a.c", 4),
         (b"b.c", 1),
     ];
-    assert!(rt; has_frames(&desk, &frames));
+    assert!(rt; has_frames(desk, &frames));
+}
+
+#[test]
+fn the_nth_definition_of_a_name_counts_by_file_and_place(
+    rt: HostRuntime,
+) -> Result<(), AllocError> {
+    let mut desk = Desk::new(rt.alloc());
+    define_four_times(&rt, rt.alloc(), &mut desk)?;
+    four_definitions_are_counted(&rt, rt.alloc(), &mut desk);
+    Ok(())
+}
+
+/// Two loads are taken back; a refused change leaves them to be done again.
+fn a_refused_change_keeps_the_future(rt: &impl Abort, alloc: Global, desk: &mut Desk) {
+    assert!(rt; desk.undo() == Ok(()));
+    assert!(rt; desk.undo() == Ok(()));
+    assert!(rt; desk.change(alloc, Change::Unload(b"x.c")) == Err(Refusal::NoSuchFile));
+    assert!(rt; desk.redo() == Ok(()));
+    assert!(rt; shows(desk, &[b"y.c".as_slice()]));
+    assert!(rt; desk.redo() == Ok(()));
+    assert!(rt; shows(desk, &[b"y.c".as_slice(), b"z.c"]));
+    assert!(rt; desk.redo() == Err(Refusal::NothingToRedo));
+}
+
+/// The second load is taken back, and another one ends the future.
+fn an_accepted_change_ends_the_future(
+    rt: &impl Abort,
+    alloc: Global,
+    desk: &mut Desk,
+) -> Result<(), AllocError> {
+    assert!(rt; desk.undo() == Ok(()));
+    assert!(rt; load(desk, alloc, b"x.c", 4)? == Ok(()));
+    assert!(rt; desk.redo() == Err(Refusal::NothingToRedo));
+    assert!(rt; shows(desk, &[b"x.c".as_slice(), b"y.c"]));
+    assert!(rt; desk.undo() == Ok(()));
+    assert!(rt; shows(desk, &[b"y.c".as_slice()]));
+    Ok(())
+}
+
+/// Two loads of four bytes.
+fn load_two_small(rt: &impl Abort, alloc: Global, desk: &mut Desk) -> Result<(), AllocError> {
+    assert!(rt; load(desk, alloc, b"y.c", 4)? == Ok(()));
+    assert!(rt; load(desk, alloc, b"z.c", 4)? == Ok(()));
     Ok(())
 }
 
@@ -206,23 +273,8 @@ fn the_nth_definition_of_a_name_counts_by_file_and_place(
 fn a_refused_change_keeps_the_future_and_an_accepted_one_ends_it(
     rt: HostRuntime,
 ) -> Result<(), AllocError> {
-    let alloc = rt.alloc();
-    let mut desk = Desk::new(alloc);
-    assert!(rt; load(&mut desk, alloc, b"y.c", 4)? == Ok(()));
-    assert!(rt; load(&mut desk, alloc, b"z.c", 4)? == Ok(()));
-    assert!(rt; desk.undo() == Ok(()));
-    assert!(rt; desk.undo() == Ok(()));
-    assert!(rt; desk.change(alloc, Change::Unload(b"x.c")) == Err(Refusal::NoSuchFile));
-    assert!(rt; desk.redo() == Ok(()));
-    assert!(rt; shows(&desk, &[b"y.c".as_slice()]));
-    assert!(rt; desk.redo() == Ok(()));
-    assert!(rt; shows(&desk, &[b"y.c".as_slice(), b"z.c"]));
-    assert!(rt; desk.redo() == Err(Refusal::NothingToRedo));
-    assert!(rt; desk.undo() == Ok(()));
-    assert!(rt; load(&mut desk, alloc, b"x.c", 4)? == Ok(()));
-    assert!(rt; desk.redo() == Err(Refusal::NothingToRedo));
-    assert!(rt; shows(&desk, &[b"x.c".as_slice(), b"y.c"]));
-    assert!(rt; desk.undo() == Ok(()));
-    assert!(rt; shows(&desk, &[b"y.c".as_slice()]));
-    Ok(())
+    let mut desk = Desk::new(rt.alloc());
+    load_two_small(&rt, rt.alloc(), &mut desk)?;
+    a_refused_change_keeps_the_future(&rt, rt.alloc(), &mut desk);
+    an_accepted_change_ends_the_future(&rt, rt.alloc(), &mut desk)
 }

@@ -1,10 +1,26 @@
 //! The lines that hold a text. Expected lines are counted by hand.
+ghost use Rattle.std.specs.Prelude.{◌≢◌, []};
+
 use super::load_text;
 use crate::search::TextLines;
-use crate::{Desk, Refusal};
+use crate::{Desk, Field, Refusal};
 use cb_scan::{ScanError, Source};
 use memchr::memmem::Finder;
 use std::alloc::{AllocError, Global};
+use std::process::Abort;
+
+/// Whether the lines of a source that hold a pattern are these.
+fn are_lines(source: &Source, finder: &Finder<'_>, lines: &[u32]) -> bool
+    requires { finder.now ≢ [] }
+{
+    let mut found = TextLines::new(source, finder);
+    for line in lines {
+        if found.next() != Some(*line) {
+            return false;
+        }
+    }
+    found.next().is_none()
+}
 
 /// Whether the lines of a text that hold a pattern are these.
 fn has_lines(
@@ -13,22 +29,14 @@ fn has_lines(
     pattern: &[u8],
     lines: &[u32],
 ) -> Result<bool, AllocError> {
-    let source = match Source::new(alloc, Vec::from_slice(alloc, text)?) {
-        Ok(source) => source,
-        Err(ScanError::OutOfMemory) => return Err(AllocError),
-        Err(ScanError::TooLarge) => return Ok(false),
-    };
     if pattern.is_empty() {
         return Ok(false);
     }
-    let finder = Finder::new(pattern);
-    let mut found = TextLines::new(&source, &finder);
-    for line in lines {
-        if found.next() != Some(*line) {
-            return Ok(false);
-        }
+    match Source::new(alloc, Vec::from_slice(alloc, text)?) {
+        Ok(source) => Ok(are_lines(&source, &Finder::new(pattern), lines)),
+        Err(ScanError::OutOfMemory) => Err(AllocError),
+        Err(ScanError::TooLarge) => Ok(false),
     }
-    Ok(found.next().is_none())
 }
 
 #[test]
@@ -53,40 +61,54 @@ fn the_end_of_a_line_is_not_searched(rt: HostRuntime) -> Result<(), AllocError> 
     Ok(())
 }
 
-#[test]
-fn rows_of_a_text_go_by_file_and_line(rt: HostRuntime) -> Result<(), AllocError> {
-    let alloc = rt.alloc();
-    let mut desk = Desk::new(alloc);
+/// Loads three files, of which one is empty.
+fn load_three(rt: &impl Abort, desk: &mut Desk, alloc: Global) -> Result<(), AllocError> {
     let loads: [(&[u8], &[u8]); 3] = [
         (b"b.c", b"int ab;\n\n \tab ab\n"),
         (b"e.c", b""),
         (b"a.c", b"no\nab\r\n"),
     ];
     for (name, text) in loads {
-        match load_text(&mut desk, alloc, name, text)? {
+        match load_text(desk, alloc, name, text)? {
             Ok(()) => {}
             Err(Refusal::OutOfMemory) => return Err(AllocError),
             Err(_) => assert!(rt; false),
         }
     }
+    Ok(())
+}
+
+/// The rows of a text in these files, each with the count of the rows that are left before it.
+fn has_rows(rt: &impl Abort, desk: &Desk) {
     let rows: [(usize, &[u8], u32, &[u8]); 3] = [
         (3, b"a.c", 2, b"ab"),
         (2, b"b.c", 1, b"int ab;"),
         (1, b"b.c", 3, b"ab ab"),
     ];
-    let mut found = desk.text_rows(b"ab");
+    let mut found = desk.rows(Field::Text, b"ab");
     for (left, file, line, text) in rows {
         assert_eq!(rt; found.count_left(), left);
         let Some(row) = found.next() else {
             assert!(rt; false);
-            return Ok(());
+            return;
         };
         assert!(rt; row.file == file && row.line == line && row.text == text);
         assert!(rt; row.function == b"<unknown>".as_slice());
     }
     assert_eq!(rt; found.count_left(), 0);
     assert!(rt; found.next().is_none());
-    assert_eq!(rt; desk.text_rows(b"ab").count(), 3);
-    assert_eq!(rt; desk.text_rows(b"abc").count_left(), 0);
+    assert_eq!(rt; desk.rows(Field::Text, b"ab").count(), 3);
+    assert_eq!(rt; desk.rows(Field::Text, b"abc").count_left(), 0);
+}
+
+fn search_files(rt: &impl Abort, desk: &mut Desk, alloc: Global) -> Result<(), AllocError> {
+    load_three(rt, desk, alloc)?;
+    has_rows(rt, desk);
     Ok(())
+}
+
+#[test]
+fn rows_of_a_text_go_by_file_and_line(rt: HostRuntime) -> Result<(), AllocError> {
+    let mut desk = Desk::new(rt.alloc());
+    search_files(&rt, &mut desk, rt.alloc())
 }

@@ -9,6 +9,7 @@ use Rattle.cb_index.specs.Archived.{Archived, name_of}
 use Rattle.cb_index.specs.Rows.{Fact}
 use Rattle.cb_index.specs.Shelved.{ShownFile}
 use Rattle.cb_index.specs.steps.Found.{fact_at, facts_in, tag_at}
+use Rattle.cb_index.specs.steps.Runs.{run_entries}
 use Rattle.cb_index.specs.declared.entries.Entries.{Entries}
 use Rattle.cb_index.specs.declared.entry.Shown.{Shown}
 use Rattle.cb_index.specs.declared.rows.FactRow.{FactRow}
@@ -27,7 +28,7 @@ fact_of r = record {
 }
 
 abbrev pub tags_left : TagRows → List Tag
-tags_left r = map (tag_at r.archive.now) r.entries.now
+tags_left r = map (tag_at r.archive.now) (run_entries r.entries)
 
 abbrev pub posting_left : Posting → List Fact
 posting_left p = map (fact_at p.sort p.file.now p.version.now) p.items.now
@@ -37,7 +38,7 @@ posting_left_if None = []
 posting_left_if (Some p) = posting_left p
 
 abbrev pub facts_left : FactRows → List Fact
-facts_left r = posting_left_if r.posting ++ facts_in r.sort r.archive.now r.entries.now
+facts_left r = posting_left_if r.posting ++ facts_in r.sort r.archive.now (run_entries r.entries)
 
 -- a file that is lent
 abbrev pub shown_file : Bor (List ℕ) × Bor (List ℕ) × Bor TextFacts → ShownFile

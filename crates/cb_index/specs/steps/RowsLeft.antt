@@ -1,5 +1,6 @@
 -- What an iterator of rows still gives.
 use Rattle.std.specs.Prelude.{List, [], ◌++◌, Option, Some, None, map}
+use Rattle.cb_index.specs.steps.Runs.{run_entries}
 use Rattle.cb_index.specs.steps.Spread.{row_of, rows_in}
 use Rattle.cb_index.specs.declared.range.EntryRows.{EntryRows}
 use Rattle.cb_index.specs.declared.range.Rows.{Rows}
@@ -13,4 +14,4 @@ entry_rows_if None = []
 entry_rows_if (Some r) = entry_rows r
 
 abbrev pub rows_left : Rows → List Row
-rows_left r = entry_rows_if r.first ++ rows_in r.sort r.archive.now r.entries.now
+rows_left r = entry_rows_if r.first ++ rows_in r.sort r.archive.now (run_entries r.entries)

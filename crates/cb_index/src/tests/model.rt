@@ -1,5 +1,5 @@
 //! Random showing and hiding, against a walk over all facts of all files that are shown.
-use super::shelves::{empty_shelf, hide_all, keep_name, keep_version, show, show_all};
+use super::shelves::{hide_all, keep_name, keep_version, make_room, show, show_all};
 use crate::bytes::bytes_at;
 use crate::entry::Shown;
 use crate::facts::FactRows;
@@ -35,15 +35,16 @@ const KEYS: [&[u8]; 8] = [
     b"nothing",
 ];
 
-fn filled_shelf(alloc: Global) -> Result<Shelf, Fail> {
-    let mut shelf = empty_shelf(alloc)?;
+/// Keeps all names and all texts, and shows nothing.
+fn keep_all(alloc: Global, shelf: &mut Shelf) -> Result<(), Fail> {
+    make_room(shelf)?;
     for name in &NAMES {
-        keep_name(alloc, &mut shelf, name)?;
+        keep_name(alloc, shelf, name)?;
     }
     for text in &TEXTS {
-        keep_version(alloc, &mut shelf, text)?;
+        keep_version(alloc, shelf, text)?;
     }
-    Ok(shelf)
+    Ok(())
 }
 
 /// Whether the next row is on this line of this file.
@@ -148,9 +149,9 @@ fn next(seed: u64) -> u64 {
         .wrapping_add(1_442_695_040_888_963_407)
 }
 
-#[test]
-fn a_shelf_agrees_with_a_walk(rt: HostRuntime) -> Result<(), Fail> {
-    let mut shelf = filled_shelf(rt.alloc())?;
+/// Shows or hides files at random, one after another.
+fn turn_files(rt: &impl Abort, alloc: Global, shelf: &mut Shelf) -> Result<(), Fail> {
+    keep_all(alloc, shelf)?;
     let mut seed: u64 = 1;
     for _ in 0..60 {
         seed = next(seed);
@@ -159,12 +160,18 @@ fn a_shelf_agrees_with_a_walk(rt: HostRuntime) -> Result<(), Fail> {
         if shelf.shown().iter().any(|s| s.name == name) {
             shelf.hide(name);
         } else {
-            show(&mut shelf, name, version)?;
+            show(shelf, name, version)?;
         }
-        all_agree(&rt, &shelf);
+        all_agree(rt, shelf);
     }
     assert_eq!(rt; shelf.turns(), 60);
     Ok(())
+}
+
+#[test]
+fn a_shelf_agrees_with_a_walk(rt: HostRuntime) -> Result<(), Fail> {
+    let mut shelf = Shelf::new(rt.alloc());
+    turn_files(&rt, rt.alloc(), &mut shelf)
 }
 
 /// Whether the next row is this one.
@@ -199,7 +206,7 @@ fn exchange(
     version: u32,
 ) -> Result<(), Fail> {
     let mut news: Vec<Shown> = Vec::new(alloc);
-    let mut gone: Vec<u32> = Vec::new(alloc);
+    let mut gone: Vec<Shown> = Vec::new(alloc);
     let mut left = bits;
     for name in BY_NAME {
         let chosen = left % 2 == 1;
@@ -207,28 +214,44 @@ fn exchange(
         let is_shown = single.shown().iter().any(|s| s.name == name);
         if chosen && is_shown {
             single.hide(name);
-            gone.push(name)?;
+            gone.push(Shown { name, version })?;
         } else if chosen {
             show(single, name, version)?;
             news.push(Shown { name, version })?;
         }
     }
-    gone.sort_unstable();
+    gone.sort_unstable_by_key(|file: &Shown| file.name);
     hide_all(many, gone.as_slice())?;
     show_all(many, news.as_slice())
 }
 
-#[test]
-fn many_at_once_are_as_one_by_one(rt: HostRuntime) -> Result<(), Fail> {
-    let mut single = filled_shelf(rt.alloc())?;
-    let mut many = filled_shelf(rt.alloc())?;
+/// Exchanges files at random on two shelves that keep the same.
+fn exchange_files(
+    rt: &impl Abort,
+    alloc: Global,
+    single: &mut Shelf,
+    many: &mut Shelf,
+) -> Result<(), Fail> {
+    keep_all(alloc, single)?;
+    keep_all(alloc, many)?;
     let mut seed: u64 = 7;
     for _ in 0..40 {
         seed = next(seed);
         let version = ((seed >> 43) % 5) as u32;
-        exchange(rt.alloc(), &mut single, &mut many, seed >> 33, version)?;
-        shows_the_same(&rt, &single, &many);
-        all_agree(&rt, &many);
+        exchange(alloc, single, many, seed >> 33, version)?;
+        shows_the_same(rt, single, many);
+        all_agree(rt, many);
     }
     Ok(())
+}
+
+fn exchange_on_another(rt: &impl Abort, alloc: Global, single: &mut Shelf) -> Result<(), Fail> {
+    let mut many = Shelf::new(alloc);
+    exchange_files(rt, alloc, single, &mut many)
+}
+
+#[test]
+fn many_at_once_are_as_one_by_one(rt: HostRuntime) -> Result<(), Fail> {
+    let mut single = Shelf::new(rt.alloc());
+    exchange_on_another(&rt, rt.alloc(), &mut single)
 }

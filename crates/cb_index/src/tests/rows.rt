@@ -7,7 +7,9 @@ use crate::orders::{CallsByCallee, CallsByCaller, DefsByName, DefsByTagName, Use
 use crate::range::Rows;
 use crate::row::{Row, RowOrder};
 use crate::sorted::Sorted;
+use std::alloc::Global;
 use std::cmp::Ordering;
+use std::process::Abort;
 use std::test::Fail;
 
 /// The rows of a key.
@@ -39,17 +41,19 @@ fn put_in_room<O: EntryOrder>(
     Ok(())
 }
 
-#[test]
-fn four_definitions_are_put_in_room_for_four(rt: HostRuntime) -> Result<(), Fail> {
-    let mut archive = Archive::new(rt.alloc());
-    let one = keep(rt.alloc(), &mut archive, b"a.c", FIRST)?;
-    let mut index: Sorted<DefsByName> = Sorted::new(rt.alloc());
+/// Puts a version in room for four entries: one of them is the definition of `add`.
+fn put_in_room_for_four(
+    rt: &impl Abort,
+    archive: &Archive,
+    one: Shown,
+    index: &mut Sorted<DefsByName>,
+) -> Result<(), Fail> {
     match index.reserve(4) {
         Ok(()) => {}
         Err(_) => return Err(Fail::from("no memory")),
     }
-    put_in_room(&archive, one, &mut index)?;
-    let mut rows = rows_of(&archive, &index, b"add")?;
+    put_in_room(archive, one, index)?;
+    let mut rows = rows_of(archive, index, b"add")?;
     // TWICE, word, add, main
     let add = Row {
         name: 0,
@@ -61,16 +65,41 @@ fn four_definitions_are_put_in_room_for_four(rt: HostRuntime) -> Result<(), Fail
     Ok(())
 }
 
+/// The same of a file that is kept for it.
+fn keep_and_put(rt: &impl Abort, alloc: Global, archive: &mut Archive) -> Result<(), Fail> {
+    let one = keep(alloc, archive, b"a.c", FIRST)?;
+    let mut index: Sorted<DefsByName> = Sorted::new(alloc);
+    put_in_room_for_four(rt, archive, one, &mut index)
+}
+
 #[test]
-fn a_key_has_the_rows_of_its_posting(rt: HostRuntime) -> Result<(), Fail> {
-    let (archive, [first, _, _]) = three_files(rt.alloc())?;
-    let index: Sorted<CallsByCallee> = index_of(rt.alloc(), &archive, &[first])?;
-    // the calls by place: add in TWICE, then add and TWICE in main
-    let mut rows = rows_of(&archive, &index, b"add")?;
+fn four_definitions_are_put_in_room_for_four(rt: HostRuntime) -> Result<(), Fail> {
+    let mut archive = Archive::new(rt.alloc());
+    keep_and_put(&rt, rt.alloc(), &mut archive)
+}
+
+/// The calls of `add` by place: in `TWICE`, then in `main`.
+fn has_calls_of_add(
+    rt: &impl Abort,
+    archive: &Archive,
+    index: &Sorted<CallsByCallee>,
+) -> Result<(), Fail> {
+    let mut rows = rows_of(archive, index, b"add")?;
     assert!(rt; rows.next() == Some(row(0, 0, 0)));
     assert!(rt; rows.next() == Some(row(0, 0, 1)));
     assert!(rt; rows.next().is_none());
     Ok(())
+}
+
+fn put_calls(rt: &impl Abort, alloc: Global, archive: &Archive, one: Shown) -> Result<(), Fail> {
+    let index: Sorted<CallsByCallee> = index_of(alloc, archive, &[one])?;
+    has_calls_of_add(rt, archive, &index)
+}
+
+#[test]
+fn a_key_has_the_rows_of_its_posting(rt: HostRuntime) -> Result<(), Fail> {
+    let (archive, [first, _, _]) = three_files(rt.alloc())?;
+    put_calls(&rt, rt.alloc(), &archive, first)
 }
 
 fn row(name: u32, version: u32, item: u32) -> Row {
@@ -106,20 +135,32 @@ fn main_has_the_key_of_its_tag_name(rt: HostRuntime) -> Result<(), Fail> {
     Ok(())
 }
 
-#[test]
-fn uses_of_one_name_go_by_place(rt: HostRuntime) -> Result<(), Fail> {
-    let (archive, [first, _, _]) = three_files(rt.alloc())?;
-    let index: Sorted<UsesByName> = index_of(rt.alloc(), &archive, &[first])?;
-    let mut rows = rows_of(&archive, &index, b"x")?;
+/// `x` stands three times in the macro.
+fn has_uses_of_x(
+    rt: &impl Abort,
+    archive: &Archive,
+    index: &Sorted<UsesByName>,
+) -> Result<(), Fail> {
+    let mut rows = rows_of(archive, index, b"x")?;
     let mut before = rows.next();
-    // x stands three times in the macro
     for _ in 0..2 {
         let next = rows.next();
-        assert!(rt; is_less(&archive, before, next));
+        assert!(rt; is_less(archive, before, next));
         before = next;
     }
     assert!(rt; rows.next().is_none());
     Ok(())
+}
+
+fn put_uses(rt: &impl Abort, alloc: Global, archive: &Archive, one: Shown) -> Result<(), Fail> {
+    let index: Sorted<UsesByName> = index_of(alloc, archive, &[one])?;
+    has_uses_of_x(rt, archive, &index)
+}
+
+#[test]
+fn uses_of_one_name_go_by_place(rt: HostRuntime) -> Result<(), Fail> {
+    let (archive, [first, _, _]) = three_files(rt.alloc())?;
+    put_uses(&rt, rt.alloc(), &archive, first)
 }
 
 /// Whether both rows are there, and the first is less by the name that it uses.

@@ -1,10 +1,11 @@
 //! What a shelf shows, on files whose facts are worked out by hand.
 use super::shelves::{
-    empty_shelf, has_facts, has_tags, hide_all, keep_name, keep_version, show, show_all,
+    has_facts, has_tags, hide_all, keep_name, keep_version, make_room, show, show_all,
 };
 use crate::entry::Shown;
 use crate::names::are_rising;
 use crate::shelf::Shelf;
+use crate::totals::Totals;
 use std::alloc::Global;
 use std::process::Abort;
 use std::test::Fail;
@@ -13,21 +14,21 @@ use std::test::Fail;
 const OTHER: &[u8] = b"int Mb(void) {\n}\n";
 
 /// The version `version` under the name `name`.
-fn one(name: u32, version: u32) -> Shown {
+pub(super) fn one(name: u32, version: u32) -> Shown {
     Shown { name, version }
 }
 
-/// `z/b.c` and `m.c`, kept under the numbers 0 and 1 and not shown yet.
-fn two_files(alloc: Global) -> Result<Shelf, Fail> {
-    let mut shelf = empty_shelf(alloc)?;
-    keep_name(alloc, &mut shelf, b"z/b.c")?;
-    keep_name(alloc, &mut shelf, b"m.c")?;
-    keep_version(alloc, &mut shelf, super::FIRST)?;
-    keep_version(alloc, &mut shelf, OTHER)?;
-    Ok(shelf)
+/// Keeps `z/b.c` and `m.c` under the numbers 0 and 1, and shows neither.
+fn keep_two_files(alloc: Global, shelf: &mut Shelf) -> Result<(), Fail> {
+    make_room(shelf)?;
+    keep_name(alloc, shelf, b"z/b.c")?;
+    keep_name(alloc, shelf, b"m.c")?;
+    keep_version(alloc, shelf, super::FIRST)?;
+    keep_version(alloc, shelf, OTHER)?;
+    Ok(())
 }
 
-fn shows_both(rt: &impl Abort, shelf: &Shelf) -> Result<(), Fail> {
+pub(super) fn shows_both(rt: &impl Abort, shelf: &Shelf) -> Result<(), Fail> {
     let tags: [&[u8]; 5] = [b"Mb", b"main", b"TWICE", b"add", b"word"];
     has_tags(rt, shelf.tags(), &tags)?;
     let names: [&[u8]; 5] = [b"Mb", b"TWICE", b"add", b"main", b"word"];
@@ -42,92 +43,159 @@ fn shows_both(rt: &impl Abort, shelf: &Shelf) -> Result<(), Fail> {
     has_facts(rt, shelf.uses(b"x"), &uses, &[2, 2, 2])
 }
 
-#[test]
-fn one_file_is_shown_and_hidden(rt: HostRuntime) -> Result<(), Fail> {
-    let mut shelf = empty_shelf(rt.alloc())?;
-    let name = keep_name(rt.alloc(), &mut shelf, b"a.c")?;
-    let version = keep_version(rt.alloc(), &mut shelf, super::FIRST)?;
-    show(&mut shelf, name, version)?;
+fn show_and_hide_one_file(rt: &impl Abort, alloc: Global, shelf: &mut Shelf) -> Result<(), Fail> {
+    make_room(shelf)?;
+    let name = keep_name(alloc, shelf, b"a.c")?;
+    let version = keep_version(alloc, shelf, super::FIRST)?;
+    show(shelf, name, version)?;
     let tags: [&[u8]; 4] = [b"main", b"TWICE", b"add", b"word"];
-    has_tags(&rt, shelf.tags(), &tags)?;
+    has_tags(rt, shelf.tags(), &tags)?;
     shelf.hide(name);
-    has_tags(&rt, shelf.tags(), &[])?;
+    has_tags(rt, shelf.tags(), &[])?;
     assert_eq!(rt; shelf.turns(), 2);
     Ok(())
 }
 
-/// `two_files`, of which `files` are shown one after another.
-fn shown_in_turn(alloc: Global, files: &[Shown]) -> Result<Shelf, Fail> {
-    let mut shelf = two_files(alloc)?;
+/// Whether so many definitions, uses and calls are shown.
+fn has_totals(shelf: &Shelf, defs: u64, uses: u64, calls: u64) -> bool {
+    shelf.totals() == Totals { defs, uses, calls }
+}
+
+fn count_what_is_shown(rt: &impl Abort, alloc: Global, shelf: &mut Shelf) -> Result<(), Fail> {
+    show_in_turn(alloc, shelf, &[one(0, 0)])?;
+    assert!(rt; has_totals(shelf, 4, 14, 3));
+    show_all(shelf, &[one(1, 1)])?;
+    assert!(rt; has_totals(shelf, 5, 15, 3));
+    shelf.hide(0);
+    assert!(rt; has_totals(shelf, 1, 1, 0));
+    hide_all(shelf, &[one(1, 1)])?;
+    assert!(rt; has_totals(shelf, 0, 0, 0));
+    Ok(())
+}
+
+#[test]
+fn what_is_shown_is_counted(rt: HostRuntime) -> Result<(), Fail> {
+    let mut shelf = Shelf::new(rt.alloc());
+    count_what_is_shown(&rt, rt.alloc(), &mut shelf)
+}
+
+#[test]
+fn one_file_is_shown_and_hidden(rt: HostRuntime) -> Result<(), Fail> {
+    let mut shelf = Shelf::new(rt.alloc());
+    show_and_hide_one_file(&rt, rt.alloc(), &mut shelf)
+}
+
+/// Keeps two files, and shows `files` one after another.
+fn show_in_turn(alloc: Global, shelf: &mut Shelf, files: &[Shown]) -> Result<(), Fail> {
+    keep_two_files(alloc, shelf)?;
     for file in files {
-        show(&mut shelf, file.name, file.version)?;
+        show(shelf, file.name, file.version)?;
     }
+    Ok(())
+}
+
+/// A shelf that keeps two files, of which `files` are shown one after another.
+pub(super) fn shown_in_turn(alloc: Global, files: &[Shown]) -> Result<Shelf, Fail> {
+    let mut shelf = Shelf::new(alloc);
+    show_in_turn(alloc, &mut shelf, files)?;
     Ok(shelf)
+}
+
+/// `show_in_turn`; then both are shown.
+fn show_both_in_turn(
+    rt: &impl Abort,
+    alloc: Global,
+    shelf: &mut Shelf,
+    files: &[Shown],
+) -> Result<(), Fail> {
+    show_in_turn(alloc, shelf, files)?;
+    shows_both(rt, shelf)
 }
 
 #[test]
 fn the_second_file_is_shown_last(rt: HostRuntime) -> Result<(), Fail> {
-    let shelf = shown_in_turn(rt.alloc(), &[one(0, 0), one(1, 1)])?;
-    shows_both(&rt, &shelf)
+    let mut shelf = Shelf::new(rt.alloc());
+    show_both_in_turn(&rt, rt.alloc(), &mut shelf, &[one(0, 0), one(1, 1)])
 }
 
 #[test]
 fn the_second_file_is_shown_first(rt: HostRuntime) -> Result<(), Fail> {
-    let shelf = shown_in_turn(rt.alloc(), &[one(1, 1), one(0, 0)])?;
-    shows_both(&rt, &shelf)
+    let mut shelf = Shelf::new(rt.alloc());
+    show_both_in_turn(&rt, rt.alloc(), &mut shelf, &[one(1, 1), one(0, 0)])
+}
+
+fn hide_and_show_again(rt: &impl Abort, alloc: Global, shelf: &mut Shelf) -> Result<(), Fail> {
+    show_in_turn(alloc, shelf, &[one(0, 0), one(1, 1)])?;
+    shelf.hide(1);
+    show(shelf, 1, 1)?;
+    assert_eq!(rt; shelf.turns(), 4);
+    shows_both(rt, shelf)
 }
 
 #[test]
 fn a_file_is_hidden_and_shown_again(rt: HostRuntime) -> Result<(), Fail> {
-    let mut shelf = shown_in_turn(rt.alloc(), &[one(0, 0), one(1, 1)])?;
-    shelf.hide(1);
-    show(&mut shelf, 1, 1)?;
-    assert_eq!(rt; shelf.turns(), 4);
-    shows_both(&rt, &shelf)
+    let mut shelf = Shelf::new(rt.alloc());
+    hide_and_show_again(&rt, rt.alloc(), &mut shelf)
 }
 
-#[test]
-fn files_are_shown_and_hidden_together(rt: HostRuntime) -> Result<(), Fail> {
-    let mut shelf = two_files(rt.alloc())?;
-    show_all(&mut shelf, &[one(1, 1), one(0, 0)])?;
+fn show_and_hide_together(rt: &impl Abort, alloc: Global, shelf: &mut Shelf) -> Result<(), Fail> {
+    keep_two_files(alloc, shelf)?;
+    show_all(shelf, &[one(1, 1), one(0, 0)])?;
     assert_eq!(rt; shelf.turns(), 2);
-    hide_all(&mut shelf, &[0, 1])?;
-    has_tags(&rt, shelf.tags(), &[])?;
-    has_facts(&rt, shelf.uses(b"x"), &[], &[])?;
+    hide_all(shelf, &[one(0, 0), one(1, 1)])?;
+    has_tags(rt, shelf.tags(), &[])?;
+    has_facts(rt, shelf.uses(b"x"), &[], &[])?;
     assert_eq!(rt; shelf.turns(), 4);
     Ok(())
 }
 
 #[test]
-fn files_beside_others_are_shown_together(rt: HostRuntime) -> Result<(), Fail> {
-    let mut shelf = two_files(rt.alloc())?;
-    show(&mut shelf, 0, 0)?;
-    show_all(&mut shelf, &[one(1, 1)])?;
-    shows_both(&rt, &shelf)
+fn files_are_shown_and_hidden_together(rt: HostRuntime) -> Result<(), Fail> {
+    let mut shelf = Shelf::new(rt.alloc());
+    show_and_hide_together(&rt, rt.alloc(), &mut shelf)
+}
+
+fn show_beside_another(rt: &impl Abort, alloc: Global, shelf: &mut Shelf) -> Result<(), Fail> {
+    keep_two_files(alloc, shelf)?;
+    show(shelf, 0, 0)?;
+    show_all(shelf, &[one(1, 1)])?;
+    shows_both(rt, shelf)
 }
 
 #[test]
-fn files_beside_others_are_hidden_together(rt: HostRuntime) -> Result<(), Fail> {
-    let mut shelf = two_files(rt.alloc())?;
-    show_all(&mut shelf, &[one(1, 1), one(0, 0)])?;
-    hide_all(&mut shelf, &[1])?;
+fn files_beside_others_are_shown_together(rt: HostRuntime) -> Result<(), Fail> {
+    let mut shelf = Shelf::new(rt.alloc());
+    show_beside_another(&rt, rt.alloc(), &mut shelf)
+}
+
+fn hide_beside_another(rt: &impl Abort, alloc: Global, shelf: &mut Shelf) -> Result<(), Fail> {
+    keep_two_files(alloc, shelf)?;
+    show_all(shelf, &[one(1, 1), one(0, 0)])?;
+    hide_all(shelf, &[one(1, 1)])?;
     assert!(rt; shelf.shown() == [one(0, 0)].as_slice());
-    has_tags(&rt, shelf.defs(b"main"), &[b"main".as_slice()])?;
-    hide_all(&mut shelf, &[])?;
+    has_tags(rt, shelf.defs(b"main"), &[b"main".as_slice()])?;
+    hide_all(shelf, &[])?;
     assert_eq!(rt; shelf.turns(), 3);
     Ok(())
 }
 
 #[test]
-fn numbers_rise(rt: HostRuntime) -> Result<(), Fail> {
-    assert!(rt; are_rising(&[]) && are_rising(&[3]) && are_rising(&[0, 1, 7]));
-    assert!(rt; !are_rising(&[1, 0]) && !are_rising(&[2, 2]) && !are_rising(&[0, 5, 5]));
-    Ok(())
+fn files_beside_others_are_hidden_together(rt: HostRuntime) -> Result<(), Fail> {
+    let mut shelf = Shelf::new(rt.alloc());
+    hide_beside_another(&rt, rt.alloc(), &mut shelf)
 }
 
 #[test]
-fn names_of_many_files_ascend(rt: HostRuntime) -> Result<(), Fail> {
-    let shelf = two_files(rt.alloc())?;
+fn numbers_rise(rt: HostRuntime) -> Result<(), Fail> {
+    assert!(rt; are_rising(&[]) && are_rising(&[one(3, 9)]));
+    assert!(rt; are_rising(&[one(0, 5), one(1, 5), one(7, 0)]));
+    assert!(rt; !are_rising(&[one(1, 0), one(0, 1)]) && !are_rising(&[one(2, 0), one(2, 1)]));
+    assert!(rt; !are_rising(&[one(0, 0), one(5, 1), one(5, 2)]));
+    Ok(())
+}
+
+fn can_show_by_name(rt: &impl Abort, alloc: Global, shelf: &mut Shelf) -> Result<(), Fail> {
+    keep_two_files(alloc, shelf)?;
     assert!(rt; shelf.can_show_all(&[]));
     assert!(rt; shelf.can_show_all(&[one(1, 1), one(0, 0)]));
     assert!(rt; !shelf.can_show_all(&[one(0, 0), one(1, 1)]));
@@ -136,31 +204,46 @@ fn names_of_many_files_ascend(rt: HostRuntime) -> Result<(), Fail> {
 }
 
 #[test]
-fn numbers_of_many_files_are_there(rt: HostRuntime) -> Result<(), Fail> {
-    let shelf = two_files(rt.alloc())?;
+fn names_of_many_files_ascend(rt: HostRuntime) -> Result<(), Fail> {
+    let mut shelf = Shelf::new(rt.alloc());
+    can_show_by_name(&rt, rt.alloc(), &mut shelf)
+}
+
+fn can_show_what_is_there(rt: &impl Abort, alloc: Global, shelf: &mut Shelf) -> Result<(), Fail> {
+    keep_two_files(alloc, shelf)?;
     assert!(rt; !shelf.can_show_all(&[one(2, 0)]));
     assert!(rt; !shelf.can_show_all(&[one(0, 2)]));
     Ok(())
 }
 
 #[test]
-fn many_files_beside_one_of_their_names(rt: HostRuntime) -> Result<(), Fail> {
-    let mut shelf = two_files(rt.alloc())?;
-    show(&mut shelf, 0, 1)?;
+fn numbers_of_many_files_are_there(rt: HostRuntime) -> Result<(), Fail> {
+    let mut shelf = Shelf::new(rt.alloc());
+    can_show_what_is_there(&rt, rt.alloc(), &mut shelf)
+}
+
+fn can_show_beside_another(rt: &impl Abort, alloc: Global, shelf: &mut Shelf) -> Result<(), Fail> {
+    keep_two_files(alloc, shelf)?;
+    show(shelf, 0, 1)?;
     assert!(rt; shelf.can_show_all(&[one(1, 1)]));
     assert!(rt; !shelf.can_show_all(&[one(1, 1), one(0, 0)]));
     Ok(())
 }
 
 #[test]
-fn a_file_is_shown_once(rt: HostRuntime) -> Result<(), Fail> {
-    let mut shelf = two_files(rt.alloc())?;
-    show(&mut shelf, 0, 0)?;
+fn many_files_beside_one_of_their_names(rt: HostRuntime) -> Result<(), Fail> {
+    let mut shelf = Shelf::new(rt.alloc());
+    can_show_beside_another(&rt, rt.alloc(), &mut shelf)
+}
+
+fn can_show_once(rt: &impl Abort, alloc: Global, shelf: &mut Shelf) -> Result<(), Fail> {
+    keep_two_files(alloc, shelf)?;
+    show(shelf, 0, 0)?;
     assert!(rt; !shelf.can_show(0, 1));
     assert!(rt; !shelf.can_show(2, 1));
     assert!(rt; !shelf.can_show(1, 2));
     assert!(rt; shelf.can_show(1, 1));
-    keep_name(rt.alloc(), &mut shelf, b"z/b.c")?;
+    keep_name(alloc, shelf, b"z/b.c")?;
     assert!(rt; !shelf.can_show(2, 1));
     shelf.hide(0);
     assert!(rt; shelf.can_show(2, 1));
@@ -168,10 +251,21 @@ fn a_file_is_shown_once(rt: HostRuntime) -> Result<(), Fail> {
 }
 
 #[test]
-fn names_and_versions_have_the_count_before_as_their_number(rt: HostRuntime) -> Result<(), Fail> {
-    let mut shelf = two_files(rt.alloc())?;
-    assert_eq!(rt; keep_name(rt.alloc(), &mut shelf, b"q.h")?, 2);
-    assert_eq!(rt; keep_version(rt.alloc(), &mut shelf, b"")?, 2);
+fn a_file_is_shown_once(rt: HostRuntime) -> Result<(), Fail> {
+    let mut shelf = Shelf::new(rt.alloc());
+    can_show_once(&rt, rt.alloc(), &mut shelf)
+}
+
+fn counts_are_numbers(rt: &impl Abort, alloc: Global, shelf: &mut Shelf) -> Result<(), Fail> {
+    keep_two_files(alloc, shelf)?;
+    assert_eq!(rt; keep_name(alloc, shelf, b"q.h")?, 2);
+    assert_eq!(rt; keep_version(alloc, shelf, b"")?, 2);
     assert_eq!(rt; shelf.turns(), 0);
     Ok(())
+}
+
+#[test]
+fn names_and_versions_have_the_count_before_as_their_number(rt: HostRuntime) -> Result<(), Fail> {
+    let mut shelf = Shelf::new(rt.alloc());
+    counts_are_numbers(&rt, rt.alloc(), &mut shelf)
 }

@@ -1,11 +1,11 @@
 //! Shelves for tests, and comparisons of what they show.
+use super::version_of;
 use crate::entry::Shown;
 use crate::facts::FactRows;
 use crate::names::are_rising;
 use crate::room::Room;
 use crate::shelf::Shelf;
 use crate::tags::TagRows;
-use cb_scan::{FactKeys, Meter, Source, scan};
 use std::alloc::Global;
 use std::process::Abort;
 use std::test::Fail;
@@ -20,45 +20,58 @@ const ROOM: Room = Room {
     calls: 10_000,
 };
 
-fn make_room(shelf: &mut Shelf) -> Result<(), Fail> {
+/// Makes room for all that these tests need.
+pub(super) fn make_room(shelf: &mut Shelf) -> Result<(), Fail> {
     match shelf.reserve(&ROOM) {
         Ok(()) => Ok(()),
         Err(_) => Err(Fail::from("no memory")),
     }
 }
 
-pub(super) fn empty_shelf(alloc: Global) -> Result<Shelf, Fail> {
-    let mut shelf = Shelf::new(alloc);
-    make_room(&mut shelf)?;
-    Ok(shelf)
-}
-
 /// Keeps a name.
 pub(super) fn keep_name(alloc: Global, shelf: &mut Shelf, name: &[u8]) -> Result<u32, Fail> {
-    let name = name.to_vec(alloc)?;
-    if shelf.archive().name_count() >= 1000 {
+    keep_name_in(alloc, shelf, name, &ROOM)
+}
+
+/// Keeps a name, in a room for 1000 names.
+pub(super) fn keep_name_in(
+    alloc: Global,
+    shelf: &mut Shelf,
+    name: &[u8],
+    room: &Room,
+) -> Result<u32, Fail> {
+    if shelf.archive().name_count() >= 1000 || room.names != 1000 {
         return Err(Fail::from("too many names"));
     }
-    match shelf.reserve(&ROOM) {
+    match shelf.reserve(room) {
         Ok(()) => {}
         Err(_) => return Err(Fail::from("no memory")),
     }
+    let name = name.to_vec(alloc)?;
     Ok(shelf.push_name(name))
 }
 
 /// Keeps a text and its facts.
 pub(super) fn keep_version(alloc: Global, shelf: &mut Shelf, text: &[u8]) -> Result<u32, Fail> {
-    let source = Source::new(alloc, text.to_vec(alloc)?)?;
-    let facts = scan(alloc, &mut Meter::new(), &source)?;
-    let keys = FactKeys::new(alloc, &source, &facts)?;
-    if shelf.archive().version_count() >= 1000 {
+    keep_version_in(alloc, shelf, text, &ROOM)
+}
+
+/// Keeps a text and its facts, in a room for 1000 versions.
+pub(super) fn keep_version_in(
+    alloc: Global,
+    shelf: &mut Shelf,
+    text: &[u8],
+    room: &Room,
+) -> Result<u32, Fail> {
+    if shelf.archive().version_count() >= 1000 || room.versions != 1000 {
         return Err(Fail::from("too many versions"));
     }
-    match shelf.reserve(&ROOM) {
+    match shelf.reserve(room) {
         Ok(()) => {}
         Err(_) => return Err(Fail::from("no memory")),
     }
-    Ok(shelf.push_version(source, facts, keys))
+    let version = version_of(alloc, text)?;
+    Ok(shelf.push_version(version))
 }
 
 /// Shows a version where it can be shown.
@@ -79,12 +92,12 @@ pub(super) fn show_all(shelf: &mut Shelf, news: &[Shown]) -> Result<(), Fail> {
     Ok(())
 }
 
-/// Hides what is shown under names whose numbers rise.
-pub(super) fn hide_all(shelf: &mut Shelf, names: &[u32]) -> Result<(), Fail> {
-    if !are_rising(names) {
+/// Hides what is shown under the names of files; the numbers of the names rise.
+pub(super) fn hide_all(shelf: &mut Shelf, files: &[Shown]) -> Result<(), Fail> {
+    if !are_rising(files) {
         return Err(Fail::from("numbers that do not rise"));
     }
-    shelf.hide_all(names);
+    shelf.hide_all(files);
     Ok(())
 }
 

@@ -1,5 +1,7 @@
-//! The order of an index, and what is taken out of it.
-use super::{index_of, put, three_files};
+//! The order of an index.
+use super::{index_of, listed, three_files};
+use crate::archive::Archive;
+use crate::entry::{Entry, Shown};
 use crate::order::EntryOrder;
 use crate::orders::{CallsByCallee, CallsByCaller, DefsByName, DefsByTagName, UsesByName};
 use crate::sorted::Sorted;
@@ -7,10 +9,18 @@ use std::alloc::Global;
 use std::process::Abort;
 use std::test::Fail;
 
-#[test]
-fn tags_go_by_tag_name(rt: HostRuntime) -> Result<(), Fail> {
-    let (archive, shown) = three_files(rt.alloc())?;
-    let index: Sorted<DefsByTagName> = index_of(rt.alloc(), &archive, &shown)?;
+/// The entries of an index of these versions, put one after the other.
+fn entries_of<O: EntryOrder>(
+    alloc: Global,
+    archive: &Archive,
+    shown: &[Shown],
+) -> Result<Vec<Entry>, Fail> {
+    let index: Sorted<O> = index_of(alloc, archive, shown)?;
+    listed(alloc, index.entries())
+}
+
+/// The entries are the eight definitions of three files by their tag names.
+fn go_by_tag_name(rt: &impl Abort, entries: &[Entry]) {
     // Mb, Mm, TWICE, add, sqlite3_, sqlite3_close, sqlite3_open, word
     let wanted: [(u32, u32); 8] = [
         (0, 3),
@@ -22,43 +32,71 @@ fn tags_go_by_tag_name(rt: HostRuntime) -> Result<(), Fail> {
         (2, 0),
         (0, 1),
     ];
-    assert_eq!(rt; index.entries().len(), 8);
+    assert_eq!(rt; entries.len(), 8);
     for (i, (name, number)) in wanted.iter().enumerate() {
-        if i < index.entries().len() {
-            assert_eq!(rt; index.entries()[i].name, *name, "name of tag {i}");
-            assert_eq!(rt; index.entries()[i].number, *number, "number of tag {i}");
+        if i < entries.len() {
+            assert_eq!(rt; entries[i].name, *name, "name of tag {i}");
+            assert_eq!(rt; entries[i].number, *number, "number of tag {i}");
         }
     }
-    Ok(())
 }
 
-/// The index is the same however its versions came in, and after one went out and came in again.
-fn comes_and_goes<O: EntryOrder>(rt: &impl Abort, alloc: Global) -> Result<(), Fail> {
-    let (archive, [a, b, c]) = three_files(alloc)?;
-    let whole: Sorted<O> = index_of(alloc, &archive, &[a, b, c])?;
-    let back: Sorted<O> = index_of(alloc, &archive, &[c, b, a])?;
-    assert!(rt; whole.entries() == back.entries());
-    let mut index: Sorted<O> = index_of(alloc, &archive, &[b, a, c])?;
-    for one in [a, b, c] {
-        index.take_version(one);
-        let count = index.count(&archive, one);
-        assert_eq!(rt;
-            index.entries().len(),
-            whole.entries().len().saturating_sub(count)
-        );
-        put(&archive, one, &mut index)?;
-        assert!(rt; index.entries() == whole.entries());
-    }
+fn show_tags(
+    rt: &impl Abort,
+    alloc: Global,
+    archive: &Archive,
+    shown: &[Shown],
+) -> Result<(), Fail> {
+    let entries = entries_of::<DefsByTagName>(alloc, archive, shown)?;
+    go_by_tag_name(rt, entries.as_slice());
     Ok(())
 }
 
 #[test]
-fn versions_come_and_go(rt: HostRuntime) -> Result<(), Fail> {
-    comes_and_goes::<DefsByName>(&rt, rt.alloc())?;
-    comes_and_goes::<DefsByTagName>(&rt, rt.alloc())?;
-    comes_and_goes::<UsesByName>(&rt, rt.alloc())?;
-    comes_and_goes::<CallsByCallee>(&rt, rt.alloc())?;
-    comes_and_goes::<CallsByCaller>(&rt, rt.alloc())
+fn tags_go_by_tag_name(rt: HostRuntime) -> Result<(), Fail> {
+    let (archive, shown) = three_files(rt.alloc())?;
+    show_tags(&rt, rt.alloc(), &archive, &shown)
+}
+
+/// Whether an index of these versions has these entries.
+fn has_entries<O: EntryOrder>(
+    alloc: Global,
+    archive: &Archive,
+    shown: &[Shown],
+    wanted: &[Entry],
+) -> Result<bool, Fail> {
+    let entries = entries_of::<O>(alloc, archive, shown)?;
+    Ok(entries.as_slice() == wanted)
+}
+
+/// The index of these versions is the same however they came in.
+fn comes_in_as<O: EntryOrder>(
+    rt: &impl Abort,
+    alloc: Global,
+    archive: &Archive,
+    files: [Shown; 3],
+) -> Result<(), Fail> {
+    let [a, b, c] = files;
+    let wanted = entries_of::<O>(alloc, archive, &[a, b, c])?;
+    for shown in [[c, b, a], [b, a, c]] {
+        assert!(rt; has_entries::<O>(alloc, archive, &shown, wanted.as_slice())?);
+    }
+    Ok(())
+}
+
+/// The same, of three files.
+fn comes_in<O: EntryOrder>(rt: &impl Abort, alloc: Global) -> Result<(), Fail> {
+    let (archive, files) = three_files(alloc)?;
+    comes_in_as::<O>(rt, alloc, &archive, files)
+}
+
+#[test]
+fn versions_come_in(rt: HostRuntime) -> Result<(), Fail> {
+    comes_in::<DefsByName>(&rt, rt.alloc())?;
+    comes_in::<DefsByTagName>(&rt, rt.alloc())?;
+    comes_in::<UsesByName>(&rt, rt.alloc())?;
+    comes_in::<CallsByCallee>(&rt, rt.alloc())?;
+    comes_in::<CallsByCaller>(&rt, rt.alloc())
 }
 
 #[test]

@@ -1,6 +1,6 @@
 -- The pieces of a text as they are computed: one byte after the other, the first byte decides the
 -- class.
-use Rattle.std.specs.Prelude.{◌+◌, ℕ, zero, suc, Bool, false, ◌==◌, ◌||◌, ◌&&◌, not, if◌then◌else◌, List, [], ◌∷◌, length, drop}
+use Rattle.std.specs.Prelude.{◌+◌, ℕ, zero, suc, Bool, false, ◌==◌, ◌||◌, ◌&&◌, not, if◌then◌else◌, nat_le, List, [], ◌∷◌, length, drop}
 use Rattle.std.specs.List.{prefix_len}
 use Rattle.cb_scan.specs.declared.lex.lexeme.Escape.{Escape}
 use Rattle.cb_scan.specs.declared.lex.lexeme.Escape.TheVariants.{Plain, Backslash, Return}
@@ -18,6 +18,10 @@ begins b rest = first_is (λ a. a == b) rest
 unfoldable pub ends_join : List ℕ → Bool
 ends_join [] = false
 ends_join (b ∷ rest) = b == line_feed || (b == carriage_return && begins line_feed rest)
+
+-- a byte that is a piece of its own wherever one begins with it, and no letter
+abbrev pub is_alone : ℕ → Bool
+is_alone b = (nat_le 40 b && nat_le b 45) || (nat_le 58 b && nat_le b 64) || nat_le 123 b
 
 -- the class of the piece that begins here
 unfoldable pub class_at : List ℕ → Class

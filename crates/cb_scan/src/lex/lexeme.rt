@@ -6,6 +6,7 @@ ghost use Rattle.cb_scan.specs.steps.Lanes.{ends_blank};
 ghost use Rattle.cb_scan.specs.steps.Cut.{
   begins,
   ends_join,
+  is_alone,
   class_at,
   number_len,
   blank_len,
@@ -71,6 +72,14 @@ pub(crate) fn is_letter(byte: u8) -> bool
     }
 }
 
+/// A byte that is a piece of its own wherever one begins with it. Three ranges tell it of most.
+#[inline]
+fn is_alone(byte: u8) -> bool
+    ensures { result ≡ is_alone byte }
+{
+    matches!(byte, b'('..=b'-' | b':'..=b'@' | b'{'..)
+}
+
 /// The class of the piece that a text begins with.
 #[inline]
 #[tactic(auto, unfolding(crate::specs::steps::Cut::class_at))]
@@ -79,10 +88,17 @@ pub(crate) fn class_at(text: &[u8]) -> Class
     ensures { result ≡ class_at text.now }
 {
     let rest = &text[1..];
-    if is_letter(text[0]) {
+    let byte = text[0];
+    if is_letter(byte) {
         return Class::Name;
     }
-    match text[0] {
+    if byte == b' ' {
+        return Class::Blank;
+    }
+    if is_alone(byte) {
+        return Class::Byte;
+    }
+    match byte {
         b' ' | b'\t' | 0x0B | 0x0C | b'\r' => Class::Blank,
         b'\n' => Class::Newline,
         b'0'..=b'9' => Class::Number,

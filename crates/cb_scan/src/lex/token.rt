@@ -118,6 +118,7 @@ fn word_of(word: &[u8]) -> WordKind
     }
 }
 
+#[inline(always)]
 fn role_of(text: &[u8], piece: Piece) -> Role
     requires start { piece.span.start < length text.now }
     requires order { piece.span.start ≤ piece.span.end }
@@ -136,6 +137,7 @@ fn role_of(text: &[u8], piece: Piece) -> Role
     }
 }
 
+#[inline(always)]
 fn starts_line(text: &[u8], place: u32) -> bool
     requires { place ≤ length text.now }
     ensures { result ≡ starts_line text.now place }
@@ -144,6 +146,7 @@ fn starts_line(text: &[u8], place: u32) -> bool
 }
 
 /// The token of a piece.
+#[inline(always)]
 pub(crate) fn token_of(text: &[u8], lined: Lined) -> Token
     requires { Within text.now lined }
     ensures { result ≡ lined_token text.now lined }

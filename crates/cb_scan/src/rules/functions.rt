@@ -31,6 +31,7 @@ pub(crate) struct Machine {
 }
 
 /// What is directly before the token after this one.
+#[inline(always)]
 fn before_after(before: Before, token: &Token) -> Before
     ensures { result ≡ before_after before token.now }
 {
@@ -157,6 +158,7 @@ impl Machine {
 
     /// After any other token: then the depth stays. Deeper in braces a `;` is one of them.
     #[tactic(auto, unfolding(crate::specs::steps::Functions::next))]
+    #[inline(always)]
     pub(crate) fn go_on(&mut self, token: &Token)
         requires no_open_brace { is_mark open_brace token.now.role ≡ false }
         requires no_close_brace { is_mark close_brace token.now.role ≡ false }

@@ -41,6 +41,7 @@ fn begun(token: &Token) -> Naming
 
 impl Naming {
     /// After a token of the code. Mostly nothing has begun, and nothing does.
+    #[inline(always)]
     pub(crate) fn next(&mut self, token: &Token)
         ensures { self.new ≡ next_naming self.old token.now }
     {

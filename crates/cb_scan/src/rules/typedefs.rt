@@ -205,6 +205,7 @@ fn go_on(
 }
 
 /// A token that ends no typedef: the names that are held back, and the typedef that is open after it.
+#[inline(always)]
 pub(crate) fn pass_token(
     machine: &Machine,
     state: &mut Option<Declaration>,

@@ -1,39 +1,21 @@
--- What a round of a run leaves, and the replies to moves and to readings.
+-- What a round of a run leaves, and the replies to moves.
 use Rattle.std.specs.Prelude.{◌≡◌, Bool, List, ℕ, Option, None, Some, Result, Ok, Err}
 use Rattle.std.specs.Io.KnownBytes.{Appends}
 use Rattle.cb_desk.specs.declared.refusal.Refusal.{Refusal}
-use Rattle.cb_desk.specs.declared.tags.Format.{Format}
-use Rattle.cb_desk.specs.Answer.{AnswerRow}
 use Rattle.cb_desk.specs.Timeline.{Timeline}
-use Rattle.cb_tags.specs.TagLines.{Tag}
 use Rattle.cb_session.specs.declared.input.Ended.{Ended}
 use Rattle.cb_session.specs.declared.input.Ended.TheVariants.{Fault}
 use Rattle.cb_session.specs.declared.input.Fault.{Fault as Reason}
 use Rattle.cb_session.specs.Devices.{Reader}
 use Rattle.cb_session.specs.Inputs.{First, ending_of}
 use Rattle.cb_session.specs.Serving.{Leaves}
-use Rattle.cb_session.specs.Output.{refused_line, outcome, exchange, answer_lines, tags_reply, listing_reply}
+use Rattle.cb_session.specs.Output.{refused_line, outcome, exchange}
 use Rattle.cb_tags.specs.Writers.{Writer}
 
 -- the reply to a move of the timeline, by that of one that is done
 abbrev pub move_line : List ℕ → Result (Unit {0}) Refusal → List ℕ
 move_line done (Ok _) = done
 move_line done (Err r) = refused_line r
-
--- the reply to a query, by its rows; what memory refuses is told
-abbrev pub rows_line : Result (List AnswerRow) Refusal → List ℕ
-rows_line (Ok rows) = answer_lines rows
-rows_line (Err r) = refused_line r
-
--- the reply that shows a tags file, by its tags
-abbrev pub tags_line : Format → Result (List Tag) Refusal → List ℕ
-tags_line format (Ok ts) = tags_reply format ts
-tags_line format (Err r) = refused_line r
-
--- the reply that shows a listing, by its tags
-abbrev pub listing_lines : Result (List Tag) Refusal → List ℕ
-listing_lines (Ok ts) = listing_reply ts
-listing_lines (Err r) = refused_line r
 
 -- the fault that a call answers
 abbrev pub fault_in : {A : Type 0} → Result A Reason → Option Reason

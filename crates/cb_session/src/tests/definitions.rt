@@ -1,7 +1,6 @@
 //! Definitions of each kind, as a session shows them. The expected bytes are worked out by hand from
 //! the rules on definitions and the format of tag lines.
-use super::{WIDE, run};
-use crate::Ended;
+use super::writes_parts;
 use std::test::Fail;
 
 /// The two lines at the beginning of an extended tags file.
@@ -29,16 +28,9 @@ fn tags_of_each_kind(rt: HostRuntime) -> Result<(), Fail> {
         (LOAD_K, b"cscope: 8 lines\n", TAGS_K),
         (LOAD_S, b"cscope: 4 lines\n", TAGS_S),
     ] {
-        let mut input = Vec::from_slice(rt.alloc(), load)?;
-        input.extend_from_slice(b":tags 2\n")?;
-        let mut output = Vec::from_slice(rt.alloc(), b">> cscope: done\n>> ")?;
-        output.extend_from_slice(count)?;
-        output.extend_from_slice(HEADS)?;
-        output.extend_from_slice(lines)?;
-        output.extend_from_slice(b">> ")?;
-        let (written, ended) = run(rt.alloc(), &WIDE, input.as_slice());
-        assert_eq!(rt; written.as_slice(), output.as_slice());
-        assert_eq!(rt; ended, Ended::Done);
+        let input: [&[u8]; 2] = [load, b":tags 2\n"];
+        let output: [&[u8]; 5] = [b">> cscope: done\n>> ", count, HEADS, lines, b">> "];
+        writes_parts(&rt, rt.alloc(), &input, &output)?;
     }
     Ok(())
 }
@@ -61,14 +53,8 @@ fn queries_of_each_kind(rt: HostRuntime) -> Result<(), Fail> {
             b"cscope: 1 lines\nk.c color 4 enum color { RED };\n",
         ),
     ] {
-        let mut input = Vec::from_slice(rt.alloc(), LOAD_K)?;
-        input.extend_from_slice(query)?;
-        let mut output = Vec::from_slice(rt.alloc(), b">> cscope: done\n>> ")?;
-        output.extend_from_slice(reply)?;
-        output.extend_from_slice(b">> ")?;
-        let (written, ended) = run(rt.alloc(), &WIDE, input.as_slice());
-        assert_eq!(rt; written.as_slice(), output.as_slice());
-        assert_eq!(rt; ended, Ended::Done);
+        let output: [&[u8]; 3] = [b">> cscope: done\n>> ", reply, b">> "];
+        writes_parts(&rt, rt.alloc(), &[LOAD_K, query], &output)?;
     }
     Ok(())
 }

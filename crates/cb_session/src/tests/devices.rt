@@ -4,13 +4,14 @@ use crate::{Ended, Fault, Feed, Session};
 use cb_tags::Sink;
 use std::alloc::Global;
 use std::io::{self, BufRead, ErrorKind, Read, Write};
+use std::process::Abort;
 use std::test::Fail;
 
 /// A writer that takes so many bytes, two at a time at most, and then fails.
 #[derive(Drop)]
-struct Short {
-    taken: Vec<u8>,
-    room: usize,
+pub(super) struct Short {
+    pub(super) taken: Vec<u8>,
+    pub(super) room: usize,
 }
 
 impl Write for Short {
@@ -29,28 +30,43 @@ impl Write for Short {
     }
 }
 
+/// What a new session does between a feed and a sink.
+fn serve<I: BufRead, O: Write>(alloc: Global, feed: &mut Feed<I>, sink: &mut Sink<O>) -> Ended {
+    let mut session = Session::new(alloc);
+    session.serve(alloc, &WIDE, feed, sink)
+}
+
+/// A run into this writer fails, or is done.
+fn run_into(rt: &impl Abort, alloc: Global, writer: &mut Short, fails: bool) {
+    let mut sink = Sink::new(writer);
+    let mut feed = Feed::new(INPUT);
+    let ended = serve(alloc, &mut feed, &mut sink);
+    let failed = sink.failed();
+    assert_eq!(rt; failed, fails);
+    if failed {
+        assert_eq!(rt; ended, Ended::Fault(Fault::Write));
+        assert!(rt; sink.write(b"x").is_err());
+        assert!(rt; sink.flush().is_err());
+    } else {
+        assert_eq!(rt; ended, Ended::Done);
+    }
+}
+
+/// A writer that takes so many bytes has taken a prefix of the output.
+fn fill(rt: &impl Abort, alloc: Global, room: usize) {
+    let mut writer = Short {
+        taken: Vec::new(alloc),
+        room,
+    };
+    run_into(rt, alloc, &mut writer, room < OUTPUT.len());
+    let whole = room.min(OUTPUT.len());
+    assert_eq!(rt; writer.taken.as_slice(), &OUTPUT[..whole]);
+}
+
 #[test]
 fn a_writer_that_fails_has_taken_a_prefix(rt: HostRuntime) -> Result<(), Fail> {
     for room in 0..OUTPUT.len() + 2 {
-        let mut writer = Short {
-            taken: Vec::new(rt.alloc()),
-            room,
-        };
-        let mut session = Session::new(rt.alloc());
-        let mut sink = Sink::new(&mut writer);
-        let mut feed = Feed::new(INPUT);
-        let ended = session.serve(rt.alloc(), &WIDE, &mut feed, &mut sink);
-        let failed = sink.failed();
-        assert_eq!(rt; failed, room < OUTPUT.len());
-        if failed {
-            assert_eq!(rt; ended, Ended::Fault(Fault::Write));
-            assert!(rt; sink.write(b"x").is_err());
-            assert!(rt; sink.flush().is_err());
-        } else {
-            assert_eq!(rt; ended, Ended::Done);
-        }
-        let whole = room.min(OUTPUT.len());
-        assert_eq!(rt; writer.taken.as_slice(), &OUTPUT[..whole]);
+        fill(&rt, rt.alloc(), room);
     }
     Ok(())
 }
@@ -71,10 +87,9 @@ impl Write for Stuck {
 
 #[test]
 fn a_failed_flush_ends_the_run(rt: HostRuntime) {
-    let mut session = Session::new(rt.alloc());
     let mut sink = Sink::new(Stuck);
     let mut feed = Feed::new(INPUT);
-    let ended = session.serve(rt.alloc(), &WIDE, &mut feed, &mut sink);
+    let ended = serve(rt.alloc(), &mut feed, &mut sink);
     assert_eq!(rt; ended, Ended::Fault(Fault::Write));
     assert!(rt; sink.failed());
     assert_eq!(rt; feed.byte(), Ok(Some(b':')));
@@ -83,10 +98,10 @@ fn a_failed_flush_ends_the_run(rt: HostRuntime) {
 /// A reader that gives so many of its bytes one by one, and then fails; at its end it says so once,
 /// and then fails too.
 #[derive(Drop)]
-struct Broken<'a> {
-    bytes: &'a [u8],
-    left: usize,
-    ended: bool,
+pub(super) struct Broken<'a> {
+    pub(super) bytes: &'a [u8],
+    pub(super) left: usize,
+    pub(super) ended: bool,
 }
 
 impl Read for Broken<'_> {
@@ -115,28 +130,37 @@ impl BufRead for Broken<'_> {
     }
 }
 
+/// A run over a reader that gives so many bytes and then fails, or that fails only at its end.
+fn run_over_broken(rt: &impl Abort, alloc: Global, left: usize, written: &mut Vec<u8>) {
+    let mut sink = Sink::new(written);
+    let mut feed = Feed::new(Broken {
+        bytes: INPUT,
+        left,
+        ended: false,
+    });
+    let ended = serve(alloc, &mut feed, &mut sink);
+    assert_eq!(rt; feed.failed(), left <= INPUT.len());
+    if feed.failed() {
+        assert_eq!(rt; ended, Ended::Fault(Fault::Read));
+        assert!(rt; feed.byte().is_err());
+    } else {
+        // The reader would fail now; the feed asks it no more.
+        assert_eq!(rt; ended, Ended::Done);
+        assert_eq!(rt; feed.byte(), Ok(None));
+    }
+}
+
+/// What it has written is a prefix of the output.
+fn break_after(rt: &impl Abort, alloc: Global, left: usize) {
+    let mut written = Vec::new(alloc);
+    run_over_broken(rt, alloc, left, &mut written);
+    assert!(rt; OUTPUT.starts_with(written.as_slice()));
+}
+
 #[test]
 fn a_reader_that_fails_leaves_a_prefix(rt: HostRuntime) -> Result<(), Fail> {
     for left in 0..INPUT.len() + 2 {
-        let mut written = Vec::new(rt.alloc());
-        let mut session = Session::new(rt.alloc());
-        let mut sink = Sink::new(&mut written);
-        let mut feed = Feed::new(Broken {
-            bytes: INPUT,
-            left,
-            ended: false,
-        });
-        let ended = session.serve(rt.alloc(), &WIDE, &mut feed, &mut sink);
-        assert_eq!(rt; feed.failed(), left <= INPUT.len());
-        if feed.failed() {
-            assert_eq!(rt; ended, Ended::Fault(Fault::Read));
-            assert!(rt; feed.byte().is_err());
-        } else {
-            // The reader would fail now; the feed asks it no more.
-            assert_eq!(rt; ended, Ended::Done);
-            assert_eq!(rt; feed.byte(), Ok(None));
-        }
-        assert!(rt; OUTPUT.starts_with(written.as_slice()));
+        break_after(&rt, rt.alloc(), left);
     }
     Ok(())
 }
@@ -172,23 +196,32 @@ impl BufRead for Interrupted<'_> {
     }
 }
 
+/// A run over a reader that is interrupted after so many bytes.
+fn run_over_interrupted(rt: &impl Abort, alloc: Global, left: usize, written: &mut Vec<u8>) {
+    let mut sink = Sink::new(written);
+    let mut feed = Feed::new(Interrupted {
+        bytes: INPUT,
+        left,
+        has_failed: false,
+    });
+    let ended = serve(alloc, &mut feed, &mut sink);
+    assert_eq!(rt; ended, Ended::Fault(Fault::Read));
+    assert!(rt; feed.failed());
+    assert!(rt; feed.byte().is_err());
+    assert!(rt; feed.failed());
+}
+
+/// What it has written is a prefix of the output.
+fn interrupt_after(rt: &impl Abort, alloc: Global, left: usize) {
+    let mut written = Vec::new(alloc);
+    run_over_interrupted(rt, alloc, left, &mut written);
+    assert!(rt; OUTPUT.starts_with(written.as_slice()));
+}
+
 #[test]
 fn a_reader_that_was_interrupted_is_asked_no_more(rt: HostRuntime) -> Result<(), Fail> {
     for left in 0..INPUT.len() {
-        let mut written = Vec::new(rt.alloc());
-        let mut session = Session::new(rt.alloc());
-        let mut sink = Sink::new(&mut written);
-        let mut feed = Feed::new(Interrupted {
-            bytes: INPUT,
-            left,
-            has_failed: false,
-        });
-        let ended = session.serve(rt.alloc(), &WIDE, &mut feed, &mut sink);
-        assert_eq!(rt; ended, Ended::Fault(Fault::Read));
-        assert!(rt; feed.failed());
-        assert!(rt; feed.byte().is_err());
-        assert!(rt; feed.failed());
-        assert!(rt; OUTPUT.starts_with(written.as_slice()));
+        interrupt_after(&rt, rt.alloc(), left);
     }
     Ok(())
 }
@@ -227,6 +260,38 @@ impl Write for Flushed {
     }
 }
 
+/// A run into this writer ends so, and the sink has failed or has not.
+fn flush_into(
+    rt: &impl Abort,
+    alloc: Global,
+    writer: &mut Flushed,
+    input: &[u8],
+    end: Ended,
+    fails: bool,
+) {
+    let mut sink = Sink::new(writer);
+    let mut feed = Feed::new(input);
+    let ended = serve(alloc, &mut feed, &mut sink);
+    assert_eq!(rt; ended, end);
+    assert_eq!(rt; sink.failed(), fails);
+}
+
+/// A run of which no flush fails has flushed at all of these places.
+fn flush_all(rt: &impl Abort, alloc: Global, input: &[u8], places: &[usize], end: Ended) {
+    let mut writer = Flushed::new(alloc, 0);
+    flush_into(rt, alloc, &mut writer, input, end, false);
+    assert_eq!(rt; writer.flushes.as_slice(), places);
+}
+
+/// A run whose last flush, at the last of these places, fails.
+fn flush_until(rt: &impl Abort, alloc: Global, input: &[u8], places: &[usize], last: usize) {
+    let mut writer = Flushed::new(alloc, places.len());
+    let end = Ended::Fault(Fault::Write);
+    flush_into(rt, alloc, &mut writer, input, end, true);
+    assert_eq!(rt; writer.flushes.as_slice(), places);
+    assert_eq!(rt; writer.taken.len(), last);
+}
+
 /// Each prompt is flushed, and the whole output once more at the end: also where a block is cut
 /// off.
 #[test]
@@ -240,40 +305,30 @@ fn prompts_and_the_end_are_flushed(rt: HostRuntime) {
         (b":load a.c 1".as_slice(), [3, 32].as_slice(), Ended::Cut),
     ];
     for (input, places, end) in cases {
-        for failing in 0..places.len() + 1 {
-            let mut writer = Flushed::new(rt.alloc(), failing);
-            let mut session = Session::new(rt.alloc());
-            let mut sink = Sink::new(&mut writer);
-            let mut feed = Feed::new(input);
-            let ended = session.serve(rt.alloc(), &WIDE, &mut feed, &mut sink);
-            let failed = sink.failed();
-            if failing == 0 {
-                assert_eq!(rt; ended, end);
-                assert!(rt; !failed);
-                assert_eq!(rt; writer.flushes.as_slice(), places);
-            } else {
-                assert_eq!(rt; ended, Ended::Fault(Fault::Write));
-                assert!(rt; failed);
-                assert_eq!(rt; writer.flushes.as_slice(), &places[..failing]);
-                assert_eq!(rt; writer.taken.len(), places[failing - 1]);
-            }
+        flush_all(&rt, rt.alloc(), input, places, end);
+        for (before, last) in places.iter().enumerate() {
+            flush_until(&rt, rt.alloc(), input, &places[..before + 1], *last);
         }
     }
+}
+
+/// A run over a reader that fails behind its first command.
+fn run_over_one_command(rt: &impl Abort, alloc: Global, writer: &mut Flushed) {
+    let mut sink = Sink::new(writer);
+    let mut feed = Feed::new(Broken {
+        bytes: b":undo\n:undo\n",
+        left: 6,
+        ended: false,
+    });
+    let ended = serve(alloc, &mut feed, &mut sink);
+    assert_eq!(rt; ended, Ended::Fault(Fault::Read));
 }
 
 /// After a fault of reading nothing is written and nothing is flushed.
 #[test]
 fn a_read_fault_ends_the_output(rt: HostRuntime) {
     let mut writer = Flushed::new(rt.alloc(), 0);
-    let mut session = Session::new(rt.alloc());
-    let mut sink = Sink::new(&mut writer);
-    let mut feed = Feed::new(Broken {
-        bytes: b":undo\n:undo\n",
-        left: 6,
-        ended: false,
-    });
-    let ended = session.serve(rt.alloc(), &WIDE, &mut feed, &mut sink);
-    assert_eq!(rt; ended, Ended::Fault(Fault::Read));
+    run_over_one_command(&rt, rt.alloc(), &mut writer);
     assert_eq!(rt;
         writer.taken.as_slice(),
         b">> cscope: refused: nothing to undo\n>> ".as_slice()

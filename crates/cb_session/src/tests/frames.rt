@@ -1,7 +1,10 @@
 //! The tag stack, removals, new names and redo. The expected bytes are worked out by hand from the
 //! rules of commands and replies.
+use super::joined;
 use super::operands::run_with;
 use crate::Ended;
+use std::alloc::Global;
+use std::process::Abort;
 use std::test::Fail;
 
 /// A file of nine lines.
@@ -15,7 +18,7 @@ const M: &[u8] = b"int Mb(void) {\n}\n";
 pub(crate) const ONE: &[(&[u8], &[u8])] = &[(b"a.c", A)];
 
 /// Both.
-const TWO: &[(&[u8], &[u8])] = &[(b"a.c", A), (b"m.c", M)];
+pub(crate) const TWO: &[(&[u8], &[u8])] = &[(b"a.c", A), (b"m.c", M)];
 
 #[test]
 fn the_stack_is_shown_from_its_top_down(rt: HostRuntime) -> Result<(), Fail> {
@@ -84,6 +87,15 @@ fn an_accepted_change_ends_the_future(rt: HostRuntime) -> Result<(), Fail> {
     Ok(())
 }
 
+/// A change is refused for this reason.
+fn is_refused(rt: &impl Abort, alloc: Global, input: &[u8], why: &[u8]) -> Result<(), Fail> {
+    let output = joined(alloc, &[b">> cscope: refused: ".as_slice(), why, b"\n>> "])?;
+    let (written, ended) = run_with(alloc, ONE, input)?;
+    assert_eq!(rt; written.as_slice(), output.as_slice());
+    assert_eq!(rt; ended, Ended::Done);
+    Ok(())
+}
+
 #[test]
 fn refused_changes(rt: HostRuntime) -> Result<(), Fail> {
     let cases = [
@@ -100,12 +112,7 @@ fn refused_changes(rt: HostRuntime) -> Result<(), Fail> {
         (b":drop a.c b.c\n".as_slice(), b"unknown command".as_slice()),
     ];
     for (input, why) in cases {
-        let mut output = Vec::from_slice(rt.alloc(), b">> cscope: refused: ")?;
-        output.extend_from_slice(why)?;
-        output.extend_from_slice(b"\n>> ")?;
-        let (written, ended) = run_with(rt.alloc(), ONE, input)?;
-        assert_eq!(rt; written.as_slice(), output.as_slice());
-        assert_eq!(rt; ended, Ended::Done);
+        is_refused(&rt, rt.alloc(), input, why)?;
     }
     Ok(())
 }

@@ -4,6 +4,7 @@ use crate::{Ended, Feed, Operand, Operands, prepare, run};
 use cb_desk::Refusal;
 use cb_tags::Sink;
 use std::alloc::{AllocError, Global};
+use std::process::Abort;
 use std::test::Fail;
 
 /// Operands of these names and texts.
@@ -18,6 +19,13 @@ pub(super) fn operands(alloc: Global, files: &[(&[u8], &[u8])]) -> Result<Operan
     Ok(operands)
 }
 
+/// How a run from these operands on ends; what it writes comes behind what is written.
+fn run_into(alloc: Global, operands: Operands, input: &[u8], written: &mut Vec<u8>) -> Ended {
+    let mut feed = Feed::new(input);
+    let mut sink = Sink::new(written);
+    run(alloc, &WIDE, &mut feed, &mut sink, operands)
+}
+
 /// What a run over the input writes, from these operands on, and how it ends.
 pub(super) fn run_with(
     alloc: Global,
@@ -26,25 +34,43 @@ pub(super) fn run_with(
 ) -> Result<(Vec<u8>, Ended), Fail> {
     let operands = operands(alloc, files)?;
     let mut written = Vec::new(alloc);
-    let mut feed = Feed::new(input);
-    let mut sink = Sink::new(&mut written);
-    let ended = run(alloc, &WIDE, &mut feed, &mut sink, operands);
+    let ended = run_into(alloc, operands, input, &mut written);
     Ok((written, ended))
 }
 
 const F: &[u8] = b"int f(void) {\n}\n";
 
+const TWO: [(&[u8], &[u8]); 2] = [(b"f.c", F), (b"b.c", F)];
+
+/// A session that loads two operands has two files.
+fn loads_both(rt: &impl Abort, alloc: Global) -> Result<(), Fail> {
+    let session = prepare(alloc, operands(alloc, &TWO)?);
+    assert!(rt; matches!(&session, Ok(session) if session.desk().files().count() == 2));
+    Ok(())
+}
+
 #[test]
 fn operands_are_loads_that_can_be_taken_back(rt: HostRuntime) -> Result<(), Fail> {
-    let files = [(b"f.c".as_slice(), F), (b"b.c".as_slice(), F)];
-    let (written, ended) = run_with(rt.alloc(), &files, b"1f\n:undo\n1f\n:undo\n:undo\n")?;
+    loads_both(&rt, rt.alloc())?;
+    let (written, ended) = run_with(rt.alloc(), &TWO, b"1f\n:undo\n1f\n:undo\n:undo\n")?;
     assert_eq!(rt;
         written.as_slice(),
         b">> cscope: 2 lines\nb.c f 1 int f(void) {\nf.c f 1 int f(void) {\n>> cscope: done\n>> cscope: 1 lines\nf.c f 1 int f(void) {\n>> cscope: done\n>> cscope: refused: nothing to undo\n>> ".as_slice()
     );
     assert_eq!(rt; ended, Ended::Done);
-    let session = prepare(rt.alloc(), operands(rt.alloc(), &files)?);
-    assert!(rt; matches!(&session, Ok(session) if session.desk().files().count() == 2));
+    Ok(())
+}
+
+/// A run from these operands on writes nothing and ends so.
+fn ends_unwritten(
+    rt: &impl Abort,
+    alloc: Global,
+    files: &[(&[u8], &[u8])],
+    end: Ended,
+) -> Result<(), Fail> {
+    let (written, ended) = run_with(alloc, files, b"1f\n")?;
+    assert!(rt; written.is_empty());
+    assert_eq!(rt; ended, end);
     Ok(())
 }
 
@@ -77,9 +103,7 @@ fn the_first_refused_operand_ends_the_run(rt: HostRuntime) -> Result<(), Fail> {
         ),
     ];
     for (files, end) in cases {
-        let (written, ended) = run_with(rt.alloc(), &files, b"1f\n")?;
-        assert!(rt; written.is_empty());
-        assert_eq!(rt; ended, end);
+        ends_unwritten(&rt, rt.alloc(), &files, end)?;
     }
     Ok(())
 }

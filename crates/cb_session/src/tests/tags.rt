@@ -1,6 +1,6 @@
 //! Tags files and listings that a session shows. The expected bytes are worked out by hand from the
 //! format of tag lines.
-use super::{WIDE, run};
+use super::{WIDE, run, writes, writes_parts};
 use crate::Ended;
 use std::test::Fail;
 
@@ -55,15 +55,8 @@ fn tags_of_a_file(rt: HostRuntime) -> Result<(), Fail> {
         ),
     ];
     for (command, count, lines) in cases {
-        let mut input = Vec::from_slice(rt.alloc(), LOAD_A)?;
-        input.extend_from_slice(command)?;
-        let mut output = Vec::from_slice(rt.alloc(), b">> cscope: done\n>> ")?;
-        output.extend_from_slice(count)?;
-        output.extend_from_slice(lines)?;
-        output.extend_from_slice(b">> ")?;
-        let (written, ended) = run(rt.alloc(), &WIDE, input.as_slice());
-        assert_eq!(rt; written.as_slice(), output.as_slice());
-        assert_eq!(rt; ended, Ended::Done);
+        let output: [&[u8]; 4] = [b">> cscope: done\n>> ", count, lines, b">> "];
+        writes_parts(&rt, rt.alloc(), &[LOAD_A, command], &output)?;
     }
     Ok(())
 }
@@ -103,9 +96,7 @@ fn tags_and_refusals(rt: HostRuntime) {
         ),
     ];
     for (input, output) in cases {
-        let (written, ended) = run(rt.alloc(), &WIDE, input);
-        assert_eq!(rt; written.as_slice(), output);
-        assert_eq!(rt; ended, Ended::Done);
+        writes(&rt, rt.alloc(), &WIDE, input, output, Ended::Done);
     }
 }
 

@@ -1,5 +1,6 @@
 //! The program on words and bytes of memory: its output, its exit status, and what it says on standard error.
 mod devices;
+mod each_byte;
 mod files;
 mod memory;
 

@@ -1,9 +1,10 @@
 use Rattle.std.proofs.Common.{◌≡◌, length}
 use Rattle.cb_index.specs.steps.Found.{facts_in}
+use Rattle.cb_index.specs.steps.Runs.{run_entries}
 use Rattle.cb_index.proofs.facts.first_row.Given as goal
 
 abbrev pub decreases-loop-entry : goal.decreases-loop-entry
-decreases-loop-entry l = length l.left
+decreases-loop-entry l = length (run_entries l.left)
 
 abbrev pub invariant-loop-entry : goal.invariant-loop-entry
-invariant-loop-entry l = facts_in l.sort l.archive l.left ≡ facts_in l.sort l.archive l.fn.entries
+invariant-loop-entry l = facts_in l.sort l.archive (run_entries l.left) ≡ facts_in l.sort l.archive (run_entries l.fn.entries)

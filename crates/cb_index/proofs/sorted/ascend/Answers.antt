@@ -1,18 +1,33 @@
-use Rattle.std.proofs.Common.{rules, ◌≡◌, subst}
-use Rattle.std.proofs.lemmas.Fn.{always_returns_same}
-use Rattle.std.specs.List.{IsAllAdjacentAnswer}
+use Rattle.std.proofs.Common.{rules, ◌≡◌, true, [], ◌∷◌, sym, subst}
 use Rattle.cb_scan.specs.Order.{goes_first}
+use Rattle.cb_scan.proofs.OrderLemmas.{Sorted, all_first}
 use Rattle.cb_index.specs.Entries.{sort_key}
-use Rattle.cb_index.specs.declared.entry.Entry.{Entry}
+use Rattle.cb_index.specs.steps.Runs.{run_entries}
 use Rattle.cb_index.proofs.EntryLemmas.{sort_exact}
-use Rattle.cb_index.proofs.MergeLemmas.{adjacent_order}
+use Rattle.cb_index.proofs.PutLemmas.{none_in_order}
+use Rattle.cb_index.proofs.SortedLemmas.{sorted_same}
 use Rattle.cb_index.proofs.sorted.ascend.Goals as goal
 
+pub returns-in-None : goal.returns-in-None
+returns-in-None g c = λ is.
+    none_in_order (sort_key g.O.EntryOrder.keyer c.args.archive.now) (run_entries c.args.entries) (search rules)
+
+-- the last one goes before the next, and so before all after it
+pub loop-entry-preserved : goal.loop-entry-preserved
+loop-entry-preserved g c = λ s.
+    let key = sort_key g.O.EntryOrder.keyer c.args.archive.now in
+    let last = c.loop-entry.last in
+    let next = c.in-Some-split_first.entry.now in
+    let rest = run_entries c.in-Some-split_first.rest in
+    let first : goes_first key last next ≡ true = search rules in
+    let is : run_entries c.loop-entry.left ≡ next ∷ rest = search rules in
+    c.loop-entry.invariant (subst (λ l. Sorted key (last ∷ l)) (sym is) ((first, all_first key last next rest first s.0), s))
+
 pub returns : goal.returns
-returns g c is =
+returns g c = λ is.
     let keyer = g.O.EntryOrder.keyer in
-    let key = sort_key keyer c.args.archive.now in
-    let entries = c.args.entries.now in
-    adjacent_order key (sort_exact keyer c.args.archive.now) entries
-    (subst (IsAllAdjacentAnswer (λ (e f : Entry) b. b ≡ goes_first key e f) entries) is
-    (c.is_sorted_by.ensures.cases (goes_first key) (always_returns_same _ _ _ (λ x r q k. (search (rules, k), search (rules, k))))))
+    let a = c.args.archive.now in
+    let key = sort_key keyer a in
+    let none : run_entries c.loop-entry.left ≡ [] = search rules in
+    sym (sorted_same key (sort_exact keyer a) (run_entries c.args.entries)
+    (c.loop-entry.invariant (subst (λ l. Sorted key (c.loop-entry.last ∷ l)) (sym none) (tt, tt))))

@@ -6,7 +6,7 @@ use Rattle.cb_session.proofs.operands.prepare.Given as goal
 
 abbrev pub invariant-loop-operand : goal.invariant-loop-operand
 invariant-loop-operand l = record {
-  goes : (end : Result Timeline RefusedOperand) → Loads l.place l.desk (map file_of_operand (into_iter_items l.operand-iterator)) end → Loads 0 new_timeline (map file_of_operand l.fn.operands.items) end;
-  placed : l.place ≡ length l.desk.past;
+  goes : (end : Result Timeline RefusedOperand) → Loads l.place l.loading.timeline (map file_of_operand (into_iter_items l.operand-iterator)) end → Loads 0 new_timeline (map file_of_operand l.fn.operands.items) end;
+  placed : l.place ≡ length l.loading.timeline.past;
   counted : into_iter_len l.operand-iterator ≡ length (into_iter_items l.operand-iterator);
 }

@@ -34,8 +34,8 @@ impl Write for Flushed {
     }
 }
 
-/// The job of the tags of `m.c`: a listing, or a tags file.
-fn tags_job(alloc: Global, listing: bool) -> Result<Job, Fail>
+/// The job of the tags of `m.c`: a listing, or a tags file of that format.
+pub(super) fn tags_job(alloc: Global, listing: bool, format: Format) -> Result<Job, Fail>
     ensures { IfOk result HasPattern }
 {
     let mut files = Vec::new(alloc);
@@ -43,7 +43,7 @@ fn tags_job(alloc: Global, listing: bool) -> Result<Job, Fail>
     Ok(Job::Tags {
         listing,
         tagsfile: String::from_str(alloc, "tags")?,
-        format: Format::Plain,
+        format,
         files,
     })
 }
@@ -66,7 +66,7 @@ fn tags_over(
     };
     let mut ended = None;
     if let Ok(session) = prepare(rt.alloc(), operands) {
-        let job = tags_job(rt.alloc(), listing)?;
+        let job = tags_job(rt.alloc(), listing, Format::Plain)?;
         let mut feed = Feed::new(b"".as_slice());
         let mut out = Sink::new(&mut writer);
         ended = Some(run_job(rt.alloc(), &job, &LIMITS, session, &mut feed, &mut out));

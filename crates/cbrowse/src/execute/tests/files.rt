@@ -4,20 +4,20 @@ use std::io::{self, ErrorKind};
 use std::test::Fail;
 use std::{env, fs};
 
-const A: &[u8] =
+pub(super) const A: &[u8] =
     b"#include \"a.h\"\n#define TWICE(x) ((x) + add(x, 0))\ntypedef unsigned long word;\nstatic int add(int a, int b) {\n\treturn a + b;\n}\nint main(void) {\n\treturn add(1, 2) / TWICE(3);\n}\n";
 
-const PLAIN: &[u8] =
+pub(super) const PLAIN: &[u8] =
     b"Ma\ta.c\t/^int main(void) {$/\nTWICE\ta.c\t/^#define TWICE(x) ((x) + add(x, 0))$/\nadd\ta.c\t/^static int add(int a, int b) {$/\nword\ta.c\t/^typedef unsigned long word;$/\n";
 
-const EXTENDED: &[u8] =
+pub(super) const EXTENDED: &[u8] =
     b"!_TAG_FILE_FORMAT\t2\t/extended format; --format=1 will not append ;\" to lines/\n!_TAG_FILE_SORTED\t1\t/0=unsorted, 1=sorted, 2=foldcase/\nTWICE\ta.c\t/^#define TWICE(x) ((x) + add(x, 0))$/;\"\td\tline:2\nadd\ta.c\t/^static int add(int a, int b) {$/;\"\tf\tline:4\tfile:\nmain\ta.c\t/^int main(void) {$/;\"\tf\tline:7\nword\ta.c\t/^typedef unsigned long word;$/;\"\tt\tline:3\n";
 
-const LISTING: &[u8] =
+pub(super) const LISTING: &[u8] =
     b"TWICE 2 a.c #define TWICE(x) ((x) + add(x, 0))\nadd 4 a.c static int add(int a, int b) {\nmain 7 a.c int main(void) {\nword 3 a.c typedef unsigned long word;\n";
 
 /// A new empty folder; its text ends in the separator.
-fn new_folder(rt: &HostRuntime) -> Result<String, Fail> {
+pub(super) fn new_folder(rt: &HostRuntime) -> Result<String, Fail> {
     let base = env::temp_dir(rt)?;
     for number in 0..100_000u32 {
         let path = format!(in rt.alloc(); "{}/cbrowse-test-{}/", base.as_str(), number)?;
@@ -31,7 +31,7 @@ fn new_folder(rt: &HostRuntime) -> Result<String, Fail> {
 }
 
 /// The path of a file in a folder.
-fn within(rt: &HostRuntime, folder: &str, name: &str) -> Result<String, Fail> {
+pub(super) fn within(rt: &HostRuntime, folder: &str, name: &str) -> Result<String, Fail> {
     Ok(format!(in rt.alloc(); "{}{}", folder, name)?)
 }
 

@@ -7,5 +7,5 @@ use Rattle.cb_index.proofs.shelf.Shelf.entries.Goals as goal
 pub returns : goal.returns
 returns c =
     ap (entries_in c.self.inside.archive) c.as_slice.ensures.value
-    ∙ entries_are c.self.inside.archive c.self.inside.shown.items c.self.invariant.there
+    ∙ entries_are c.self.inside.archive c.self.inside.shown.items c.self.invariant.0.there
     ∙ ap (λ (s : Shelved). map with_facts (files s)) c.self.view_is

@@ -1,28 +1,24 @@
-use Rattle.std.proofs.Common.{rules, ◌∙◌, Bool, refl, ap, filter}
-use Rattle.std.proofs.lemmas.Fn.{filter_same}
+use Rattle.std.proofs.Common.{◌∙◌, ◌+◌, sym, ap, drop, filter, arith}
 use Rattle.std.specs.Prelude.{not}
-use Rattle.cb_index.specs.Names.{is_among}
-use Rattle.cb_index.specs.Shelved.{Shelved}
+use Rattle.cb_index.specs.Names.{is_among, names_of}
 use Rattle.cb_index.specs.declared.entry.Shown.{Shown}
-use Rattle.cb_index.proofs.KeptLemmas.{kept_hidden, kept_moved}
+use Rattle.cb_index.proofs.KeptLemmas.{filter_done, filter_file, keeps_trans}
 use Rattle.cb_index.proofs.shelf.Shelf.hide_all.Goals as goal
 
--- the indexes hold what is still shown
-pub invariant_of-self : goal.invariant_of-self
-invariant_of-self c =
-    let a = c.self.inside.archive in
-    let stays : Shown → Bool = λ s. not (is_among c.args.names.now s.name) in
-    kept_moved a a _ _ _ _ _ _ c.retain.new.self.items c.take_names.new.self.entries c.take_names-2.new.self.entries
-    c.take_names-3.new.self.entries c.take_names-4.new.self.entries c.take_names-5.new.self.entries refl refl
-    (filter_same _ stays _ (λ e r f k. (search (rules, k), search (rules, k))) _ _ c.retain.ensures.filtered)
-    c.take_names.ensures.entries c.take_names-2.ensures.entries c.take_names-3.ensures.entries
-    c.take_names-4.ensures.entries c.take_names-5.ensures.entries
-    (kept_hidden a (λ n. not (is_among c.args.names.now n)) c.self.inside.shown.items c.self.inside.defs.entries
-    c.self.inside.tags.entries c.self.inside.uses.entries c.self.inside.callees.entries c.self.inside.callers.entries
-    c.self.invariant)
+pub loop-file-preserved : goal.loop-file-preserved
+loop-file-preserved c =
+    let none : Shown = record { name = 0; version = 0 } in
+    let i = c.loop-file.file-index in
+    let files = c.args.files.now in
+    record {
+      shown = ap (filter (λ (s : Shown). not (is_among (names_of (drop (i + 1) files)) s.name))) c.hide.ensures.shown
+          ∙ filter_file files i none c.loop-file-test.true c.loop-file.self.shown ∙ c.loop-file.invariant.shown;
+      archive = c.hide.ensures.archive ∙ c.loop-file.invariant.archive;
+      turns = omega (arith, c.hide.ensures.turns, c.loop-file.invariant.turns);
+      room = keeps_trans c.args.self.now c.loop-file.self c.hide.new.self c.loop-file.invariant.room c.hide.ensures.room;
+    }
 
-pub returns-clause-shown : goal.returns-clause-shown
-returns-clause-shown c =
-    let stays : Shown → Bool = λ s. not (is_among c.args.names.now s.name) in
-    filter_same _ stays _ (λ e r f k. (search (rules, k), search (rules, k))) _ _ c.retain.ensures.filtered
-    ∙ ap (λ (s : Shelved). filter stays s.shown) c.self.view_is
+pub returns-after-loop-file-clause-shown : goal.returns-after-loop-file-clause-shown
+returns-after-loop-file-clause-shown c =
+    sym (filter_done c.args.files.now c.loop-file.file-index (omega (arith, c.loop-file-test.false)) c.loop-file.self.shown)
+    ∙ c.loop-file.invariant.shown

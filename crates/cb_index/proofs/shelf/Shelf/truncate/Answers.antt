@@ -2,12 +2,18 @@ use Rattle.std.proofs.Common.{◌<◌, sym, ap, subst}
 use Rattle.std.specs.List.{AllByRecursion}
 use Rattle.cb_index.specs.declared.entry.Shown.{Shown}
 use Rattle.cb_index.proofs.KeptLemmas.{kept_front}
+use Rattle.cb_index.proofs.TotalLemmas.{totals_front}
 use Rattle.cb_index.proofs.shelf.Shelf.truncate.Goals as goal
 
 -- what is shown is among the first
 pub invariant_of-self : goal.invariant_of-self
-invariant_of-self c =
-    kept_front c.self.inside.archive c.truncate.new.self c.self.inside.shown.items c.self.inside.defs.entries c.self.inside.tags.entries c.self.inside.uses.entries c.self.inside.callees.entries c.self.inside.callers.entries
-    c.args.versions c.args.names
-    (subst (AllByRecursion (λ (s : Shown). (s.version < c.args.versions) × (s.name < c.args.names))) (sym (ap (λ s. s.shown) c.self.view_is)) c.requires)
-    c.truncate.ensures.names c.truncate.ensures.texts c.self.invariant
+invariant_of-self c = (
+  kept_front c.self.inside.archive c.truncate.new.self c.self.inside.shown.items c.self.inside.defs.entries c.self.inside.tags.entries c.self.inside.uses.entries c.self.inside.callees.entries c.self.inside.callers.entries
+      c.args.versions c.args.names
+      (subst (AllByRecursion (λ (s : Shown). (s.version < c.args.versions) × (s.name < c.args.names))) (sym (ap (λ s. s.shown) c.self.view_is)) c.requires)
+      c.truncate.ensures.names c.truncate.ensures.texts c.self.invariant.0,
+  totals_front c.self.inside.archive c.truncate.new.self c.self.inside.shown.items c.self.inside.totals
+      c.args.versions c.args.names c.truncate.ensures.texts
+      (subst (AllByRecursion (λ (s : Shown). (s.version < c.args.versions) × (s.name < c.args.names))) (sym (ap (λ s. s.shown) c.self.view_is)) c.requires)
+      c.self.invariant.1,
+)

@@ -10,11 +10,11 @@ use Rattle.cb_index.proofs.shelf.Shelf.uses.Goals as goal
 
 pub with_key-found-requires : goal.with_key-found-requires
 with_key-found-requires c =
-    again use_key use_prefixes c.self.inside.archive c.self.inside.shown.items c.self.inside.uses.entries c.self.invariant.uses
+    again use_key use_prefixes c.self.inside.archive c.self.inside.shown.items c.self.inside.uses.entries c.self.invariant.0.uses
 
 pub returns : goal.returns
 returns c =
     c.new.ensures ∙ ap (facts_in Uses c.self.inside.archive) c.with_key-found.ensures
-    ∙ rows_of_uses c.self.inside.archive c.self.inside.shown.items c.self.invariant.there c.self.invariant.ascending
-    c.self.inside.uses.entries c.args.name.now c.self.invariant.uses
+    ∙ rows_of_uses c.self.inside.archive c.self.inside.shown.items c.self.invariant.0.there c.self.invariant.0.ascending
+    c.self.inside.uses.entries c.args.name.now c.self.invariant.0.uses
     ∙ ap (λ (s : Shelved). uses_of c.args.name.now (files s)) c.self.view_is

@@ -1,47 +1,57 @@
-use Rattle.std.proofs.Common.{◌≡◌, ◌∙◌, ◌++◌, sym, ap, length, arith}
-use Rattle.std.proofs.Math.Nat.{min-le_left}
-use Rattle.std.specs.Prelude.{min, vec_capacity}
+use Rattle.std.proofs.Common.{◌≡◌, ◌∙◌, ◌≤◌, ◌*◌, ◌+◌, ◌++◌, sym, ap, subst, length, vec_capacity, arith}
+use Rattle.std.proofs.Math.Nat.{min-le_left, min-le_right}
 use Rattle.cb_scan.specs.Order.{in_order}
+use Rattle.cb_index.specs.Blocks.{joined}
 use Rattle.cb_index.specs.Entries.{sort_key}
 use Rattle.cb_index.specs.Held.{Held, entries_of, prefixes_of}
-use Rattle.cb_index.proofs.EntryLemmas.{sort_exact}
 use Rattle.cb_index.proofs.IndexLemmas.{length_from}
-use Rattle.cb_index.proofs.InOrderLemmas.{length_in_order}
-use Rattle.cb_index.proofs.MergeLemmas.{order_again, order_later}
+use Rattle.cb_index.proofs.PutLemmas.{parts_length}
 use Rattle.cb_index.proofs.sorted.Sorted.put_all.Goals as goal
 
--- the new entries are in order, and there is room for them
-pub put_between-requires-clause-news : goal.put_between-requires-clause-news
-put_between-requires-clause-news g c =
-    let keyer = g.O.EntryOrder.keyer in
-    let key = sort_key keyer c.args.archive.now in
-    let news = c.as_slice.ensures.value ∙ c.gather.ensures.items in
-    news ∙ order_again key (sort_exact keyer c.args.archive.now) (entries_of g.O.EntryOrder.prefixer c.args.archive.now c.args.shown)
-    ∙ ap (in_order key) (sym news)
-
-pub put_between-requires-clause-room : goal.put_between-requires-clause-room
-put_between-requires-clause-room g c =
-    let archive = c.args.archive.now in
-    let key = sort_key g.O.EntryOrder.keyer archive in
-    let prefixes = prefixes_of g.O.EntryOrder.prefixer archive c.args.shown.version in
-    let size : length c.as_slice.result.now ≡ length prefixes =
-    ap length (c.as_slice.ensures.value ∙ c.gather.ensures.items)
-    ∙ length_in_order key (entries_of g.O.EntryOrder.prefixer archive c.args.shown)
+-- the room is for the old entries and the new ones
+pub put_rest-requires-clause-room : goal.put_rest-requires-clause-room
+put_rest-requires-clause-room g c =
+    let a = c.args.archive.now in
+    let prefixes = prefixes_of g.O.EntryOrder.prefixer a c.args.shown.version in
+    let size : length c.append.new.entries.items ≡ length prefixes =
+    ap length (c.append.ensures.entries ∙ ap (λ l. l ++ entries_of g.O.EntryOrder.prefixer a c.args.shown) c.truncate.ensures.items)
     ∙ length_from 0 c.args.shown.name c.args.shown.version prefixes in
-    let held : length c.self.inside.entries.items ≡ length c.args.self.now.entries =
-    ap (λ (h : Held). length h.entries) c.self.view_is in
-    let room : min (vec_capacity c.self.inside.entries) (vec_capacity c.self.inside.news) ≡ c.args.self.now.room =
-    ap (λ (h : Held). h.room) c.self.view_is in
-    let low = min-le_left (vec_capacity c.self.inside.entries) (vec_capacity c.self.inside.news) in
-    omega (arith, size, held, room, low, c.requires.room)
+    let fits = subst (λ (h : Held). length h.entries + length prefixes ≤ h.room) (sym c.self.view_is) c.requires.room in
+    let low = min-le_left (vec_capacity c.self.inside.scratch) (128 * c.self.inside.blocks.count) in
+    omega (arith, size, fits, low, c.truncate.ensures.capacity, c.append.ensures.room)
+
+pub put_rest-requires-clause-blocks : goal.put_rest-requires-clause-blocks
+put_rest-requires-clause-blocks g c =
+    let a = c.args.archive.now in
+    let prefixes = prefixes_of g.O.EntryOrder.prefixer a c.args.shown.version in
+    let size : length c.append.new.entries.items ≡ length prefixes =
+    ap length (c.append.ensures.entries ∙ ap (λ l. l ++ entries_of g.O.EntryOrder.prefixer a c.args.shown) c.truncate.ensures.items)
+    ∙ length_from 0 c.args.shown.name c.args.shown.version prefixes in
+    let fits = subst (λ (h : Held). length h.entries + length prefixes ≤ h.room) (sym c.self.view_is) c.requires.room in
+    let low = min-le_right (vec_capacity c.self.inside.scratch) (128 * c.self.inside.blocks.count) in
+    omega (arith, size, fits, low)
+
+pub invariant_of-self : goal.invariant_of-self
+invariant_of-self g c =
+    let a = c.args.archive.now in
+    let key = sort_key g.O.EntryOrder.keyer a in
+    let prefixes = prefixes_of g.O.EntryOrder.prefixer a c.args.shown.version in
+    let size : length c.append.new.entries.items ≡ length prefixes =
+    ap length (c.append.ensures.entries ∙ ap (λ l. l ++ entries_of g.O.EntryOrder.prefixer a c.args.shown) c.truncate.ensures.items)
+    ∙ length_from 0 c.args.shown.name c.args.shown.version prefixes in
+    let fits = subst (λ (h : Held). length h.entries + length prefixes ≤ h.room) (sym c.self.view_is) c.requires.room in
+    let whole = parts_length key (joined c.put_rest.new.blocks.used) (joined c.self.inside.blocks.used) c.append.new.entries.items c.put_rest.ensures.entries in
+    let low = min-le_left (vec_capacity c.self.inside.scratch) (128 * c.self.inside.blocks.count) in
+    let high = min-le_right (vec_capacity c.self.inside.scratch) (128 * c.self.inside.blocks.count) in (
+      omega (arith, size, fits, whole, low, c.truncate.ensures.capacity, c.append.ensures.room, c.put_rest.ensures.room),
+      omega (arith, size, fits, whole, high, c.put_rest.ensures.count),
+    )
 
 pub returns-clause-entries : goal.returns-clause-entries
 returns-clause-entries g c =
-    let keyer = g.O.EntryOrder.keyer in
-    let archive = c.args.archive.now in
-    let key = sort_key keyer archive in
-    let more = entries_of g.O.EntryOrder.prefixer archive c.args.shown in
-    c.put_between.ensures.items
-    ∙ ap (λ l. in_order key (c.self.inside.entries.items ++ l)) (c.as_slice.ensures.value ∙ c.gather.ensures.items)
-    ∙ order_later key (sort_exact keyer archive) c.self.inside.entries.items more
+    let a = c.args.archive.now in
+    let key = sort_key g.O.EntryOrder.keyer a in
+    let more = entries_of g.O.EntryOrder.prefixer a c.args.shown in
+    c.put_rest.ensures.entries
+    ∙ ap (λ l. in_order key (joined c.self.inside.blocks.used ++ l)) (c.append.ensures.entries ∙ ap (λ l. l ++ more) c.truncate.ensures.items)
     ∙ ap (λ (h : Held). in_order key (h.entries ++ more)) c.self.view_is

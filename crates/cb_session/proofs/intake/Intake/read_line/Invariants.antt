@@ -2,4 +2,4 @@ use Rattle.cb_session.proofs.Streams.{Seen}
 use Rattle.cb_session.proofs.intake.Intake.read_line.Given as goal
 
 abbrev pub invariant-bytes : goal.invariant-bytes
-invariant-bytes g l = Seen l.fn.feed.bytes l.feed.bytes l.self.line.items l.read
+invariant-bytes g l = Seen l.fn.feed l.feed l.self.line.items l.read

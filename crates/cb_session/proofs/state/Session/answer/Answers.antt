@@ -14,30 +14,30 @@ returns-in-Refused g c = Does-refused _ _ _ _ _ _ (ap request_of c.in-Refused.is
 
 pub returns-in-Query : goal.returns-in-Query
 returns-in-Query g c =
-    Does-query _ _ _ _ _ _ _ _ refl (ap request_of c.in-Command.is ∙ ap command_of c.in-Query.is) c.query.ensures
+    Does-query _ _ _ _ _ _ _ _ _ c.self.view_is (ap request_of c.in-Command.is ∙ ap command_of c.in-Query.is) c.rows.ensures c.put_rows.ensures
 
 pub returns-in-Change : goal.returns-in-Change
 returns-in-Change g c = Does-asked _ _ _ _ _ _ _ (ap request_of c.in-Command.is ∙ ap command_of c.in-Change.is) c.change.ensures
 
 pub returns-in-Rebuild : goal.returns-in-Rebuild
 returns-in-Rebuild g c =
-    Does-rebuild _ _ _ _ _ _ _ _ c.self.view_is (ap request_of c.in-Command.is ∙ ap command_of c.in-Rebuild.is) c.rebuild.ensures.timeline c.rebuild.ensures.memory c.put_move.ensures
+    Does-rebuild _ _ _ _ _ _ _ _ c.self-in-Rebuild.view_is (ap request_of c.in-Command.is ∙ ap command_of c.in-Rebuild.is) c.rebuild.ensures.timeline c.rebuild.ensures.memory c.put_move.ensures
 
 pub returns-in-Undo : goal.returns-in-Undo
 returns-in-Undo g c =
-    Does-undo _ _ _ _ _ _ _ _ c.self-in-Undo.view_is (ap request_of c.in-Command.is ∙ ap command_of c.in-Undo.is) c.undo.ensures c.put_move-in-Undo.ensures
+    Does-undo _ _ _ _ _ _ _ _ c.self-in-Undo.view_is (ap request_of c.in-Command.is ∙ ap command_of c.in-Undo.is) c.undo.ensures.timeline c.put_move-in-Undo.ensures
 
 pub returns-in-Redo : goal.returns-in-Redo
 returns-in-Redo g c =
-    Does-redo _ _ _ _ _ _ _ _ c.self-in-Redo.view_is (ap request_of c.in-Command.is ∙ ap command_of c.in-Redo.is) c.redo.ensures c.put_move-in-Redo.ensures
+    Does-redo _ _ _ _ _ _ _ _ c.self-in-Redo.view_is (ap request_of c.in-Command.is ∙ ap command_of c.in-Redo.is) c.redo.ensures.timeline c.put_move-in-Redo.ensures
 
 pub returns-in-Tags : goal.returns-in-Tags
 returns-in-Tags g c =
-    Does-tags _ _ _ _ _ _ _ _ c.self-in-Tags.view_is (ap request_of c.in-Command.is ∙ ap command_of c.in-Tags.is) c.tag_rows.ensures.rows c.tag_rows.ensures.memory c.put_tags_reply.ensures
+    Does-tags _ _ _ _ _ _ _ _ c.self-in-Tags.view_is (ap request_of c.in-Command.is ∙ ap command_of c.in-Tags.is) c.tag_rows.ensures c.put_tags_reply.ensures
 
 pub returns-in-Listing : goal.returns-in-Listing
 returns-in-Listing g c =
-    Does-listing _ _ _ _ _ _ _ c.self-in-Listing.view_is (ap request_of c.in-Command.is ∙ ap command_of c.in-Listing.is) c.tag_rows-in-Listing.ensures.rows c.tag_rows-in-Listing.ensures.memory c.put_listing_reply.ensures
+    Does-listing _ _ _ _ _ _ _ c.self-in-Listing.view_is (ap request_of c.in-Command.is ∙ ap command_of c.in-Listing.is) c.tag_rows-in-Listing.ensures c.put_listing_reply.ensures
 
 pub returns-in-Stack : goal.returns-in-Stack
 returns-in-Stack g c =

@@ -1,6 +1,6 @@
 use Rattle.std.proofs.Common.{◌≡◌, ◌-◌, ◌+◌, suc, Some, None, refl, arith, subst}
 use Rattle.cb_session.specs.declared.input.Ended.TheVariants.{Fault}
-use Rattle.cb_session.proofs.Rounds.{Rounds, Rounds-start, Rounds-next, Rounds-stop, Rounds-out}
+use Rattle.cb_session.proofs.Rounds.{Rounds, Rounds-start, Rounds-next, Rounds-stop, Rounds-out, Follows-start, Follows-next, Follows-stop, Follows-out, Follows-none}
 use Rattle.cb_session.proofs.Told.{Tells-none, Tells-after}
 use Rattle.cb_session.specs.Serving.{fault_of}
 use Rattle.cb_session.proofs.state.Session.rounds.Goals as goal
@@ -11,6 +11,9 @@ rounds-init g c = record {
       let all : c.args.limits.now.lines ≡ c.args.limits.now.lines - 0 = omega arith in
       subst (λ n. Rounds c.args.limits.now.lines c.args.limits.now.line bytes c.args.self.now c.args.out.now n c.args.self.now c.args.feed.now c.args.out.now) all
       (Rounds-start c.args.limits.now.lines c.args.limits.now.line bytes c.args.self.now c.args.out.now c.args.feed.now e);
+  every_input =
+      let all : c.args.limits.now.lines ≡ c.args.limits.now.lines - 0 = omega arith in
+      Follows-start c.args.limits.now.lines c.args.limits.now.line (c.args.limits.now.lines - 0) c.args.self.now c.args.out.now c.args.feed.now all;
   told = (λ h. h, refl);
 }
 
@@ -29,6 +32,11 @@ rounds-preserved g c = record {
   output = λ bytes e.
       let one_more : c.args.limits.now.lines - c.rounds._round ≡ suc (c.args.limits.now.lines - (c.rounds._round + 1)) = omega arith in
       Rounds-next _ _ bytes _ _ _ _ c.rounds.self c.round.new.self c.rounds.feed c.round.new.feed c.rounds.out c.round.new.out one_more (c.rounds.invariant.output bytes e) (rw c.in-Ok-None.field-0-is at c.in-Ok-None.ensures.round);
+  every_input =
+      let one_more : c.args.limits.now.lines - c.rounds._round ≡ suc (c.args.limits.now.lines - (c.rounds._round + 1)) = omega arith in
+      let round = rw c.in-Ok-None.field-0-is at c.in-Ok-None.ensures in
+      Follows-next c.args.limits.now.lines c.args.limits.now.line c.args.self.now c.args.out.now _ _ c.rounds.self c.round.new.self c.args.feed.now c.rounds.feed c.round.new.feed c.rounds.out c.round.new.out one_more
+      c.rounds.invariant.every_input round.every_input;
   told = Tells-after c.args.feed.now c.rounds.feed c.round.new.feed c.args.out.now c.rounds.out c.round.new.out None c.rounds.invariant.told c.in-Ok-None.ensures.told;
 }
 
@@ -46,3 +54,24 @@ returns-clause-output g c = λ bytes e.
     let none : c.args.limits.now.lines - c.rounds._round ≡ 0 = omega arith in
     Rounds-out _ _ bytes _ _ c.rounds.self c.rounds.feed _
     (subst (λ n. Rounds c.args.limits.now.lines c.args.limits.now.line bytes c.args.self.now c.args.out.now n c.rounds.self c.rounds.feed c.rounds.out) none (c.rounds.invariant.output bytes e))
+
+pub returns-in-Err-clause-every_input : goal.returns-in-Err-clause-every_input
+returns-in-Err-clause-every_input g c = Follows-none c.args.limits.now.lines c.args.limits.now.line c.args.self.now c.args.out.now c.args.feed.now
+
+pub returns-in-Ok-Some-clause-every_input : goal.returns-in-Ok-Some-clause-every_input
+returns-in-Ok-Some-clause-every_input g c =
+    let one_more : c.args.limits.now.lines - c.rounds._round ≡ suc (c.args.limits.now.lines - (c.rounds._round + 1)) = omega arith in
+    let round = rw c.in-Ok-Some.field-0-is at c.in-Ok-Some.ensures in
+    Follows-stop c.args.limits.now.lines c.args.limits.now.line c.args.self.now c.args.out.now _ _ c.rounds.self c.args.feed.now c.rounds.feed c.round.new.feed c.rounds.out c.round.new.out c.in-Ok-Some.ended one_more
+    c.rounds.invariant.every_input round.every_input
+
+pub returns-in-Err-round-clause-every_input : goal.returns-in-Err-round-clause-every_input
+returns-in-Err-round-clause-every_input g c =
+    let one_more : c.args.limits.now.lines - c.rounds._round ≡ suc (c.args.limits.now.lines - (c.rounds._round + 1)) = omega arith in
+    Follows-stop c.args.limits.now.lines c.args.limits.now.line c.args.self.now c.args.out.now _ _ c.rounds.self c.args.feed.now c.rounds.feed c.round.new.feed c.rounds.out c.round.new.out (Fault c.in-Err-round.fault) one_more
+    c.rounds.invariant.every_input c.in-Err-round.ensures.every_input
+
+pub returns-clause-every_input : goal.returns-clause-every_input
+returns-clause-every_input g c =
+    let none : c.args.limits.now.lines - c.rounds._round ≡ 0 = omega arith in
+    Follows-out c.args.limits.now.lines c.args.limits.now.line c.args.self.now c.args.out.now _ c.rounds.self c.args.feed.now c.rounds.feed c.rounds.out none c.rounds.invariant.every_input

@@ -1,0 +1,133 @@
+#!/usr/bin/env python3
+"""What a user of a large tree waits for: the start, the first answer, a tags file; and how much memory that takes.
+
+A person runs this by hand; no gate does, and nothing here passes or fails by its time.
+
+    bench/corpus.sh FOLDER && make && bench/ready.py FOLDER/files
+    bench/ready.py --cbrowse PATH FOLDER      or: CBROWSE=PATH bench/ready.py FOLDER
+
+The files are the C sources of the folder that are at most 1 MB, at most 4,096 of them. Times are processor time (user and
+system) of a whole run on one core where the system lets a process choose one, the least of five; a session is ended as
+soon as it is ready, by the end of its input. "part" is the time of cbrowse as a part of that of the program beside it.
+
+Ready     `cbrowse line FILES`, beside `cscope -b` and `cscope -b -q`, which write the index that a session of cscope opens.
+Tags      `cbrowse tags`, plain and extended, beside `ctags` (universal and exuberant) with the same kinds of tags.
+Question  `cbrowse find 1 NAME FILES`, the whole process, beside `cscope -b` and one query.
+One more  `:load` of one more file, of the size nearest to 17 kB, in a session that has all others; by the clock.
+Memory    the most that a session has resident, and per byte of source.
+"""
+
+import argparse
+import os
+import pathlib
+import shutil
+import statistics
+import subprocess
+import tempfile
+
+from index import c_files
+from measure import installed, keep_to_one_core, processor_time, words_given
+from session import MOST_FILES, Session
+
+RUNS = 5
+ONE_MORE = 17_000
+KINDS = {"universal": "--kinds-C=dfgstue", "exuberant": "--c-kinds=dfgstue"}
+
+
+def best(words, folder, stdin=b""):
+    """The seconds of the best run, and of nothing else."""
+    return min(processor_time(words, folder, stdin) for _ in range(RUNS))
+
+
+def put(label, seconds, beside=()):
+    """One line: a figure of cbrowse, and those of other programs with what part of each it is."""
+    others = "   ".join(f"{name} {other * 1000:.0f} ms, part {seconds / other:.3f}" for name, other in beside)
+    print(f"{label:<24}{seconds * 1000:>10.1f} ms   {others}".rstrip(), flush=True)
+
+
+def ready(cbrowse, names, folder, out):
+    """A session until its first prompt, beside cscope."""
+    beside = []
+    if installed("cscope", "-V", "version"):
+        (folder / "cscope.list").write_text("\n".join(names) + "\n")
+        cscope = ["cscope", "-b", "-u", "-i", "cscope.list", "-f", str(out / "cscope.out")]
+        beside = [("cscope -b", best(cscope, folder)), ("cscope -b -q", best(cscope + ["-q"], folder))]
+    put("ready", best([cbrowse, "line", "--"] + names, folder), beside)
+
+
+def tags(cbrowse, names, folder, out):
+    """Tags files, beside each ctags that is there."""
+    (folder / "ctags.list").write_text("\n".join(names) + "\n")
+    for form in "1", "2":
+        beside = []
+        for kind in KINDS:
+            program = shutil.which(f"ctags-{kind}")
+            if program:
+                words = [program, "--options=NONE", "--languages=C", "--langmap=C:.c.h", KINDS[kind], f"--format={form}"]
+                words += ["-L", "ctags.list", "-f", str(out / "other.tags")]
+                beside.append((kind, best(words, folder)))
+        words = [cbrowse, "tags", "-f", str(out / "own.tags"), "--format", form, "--"] + names
+        put("plain tags" if form == "1" else "extended tags", best(words, folder), beside)
+
+
+def question(cbrowse, names, folder, out):
+    """One definition, by a process of its own."""
+    with open(out / "own.tags", "rb") as it:
+        lines = [line for line in it if not line.startswith(b"!")]
+    name = lines[len(lines) // 2].split(b"\t")[0].decode()
+    beside = []
+    if shutil.which("cscope"):
+        build = ["cscope", "-b", "-u", "-i", "cscope.list", "-f", str(out / "again.out")]
+        ask = ["cscope", "-d", "-L", "-1", name, "-f", str(out / "again.out")]
+        beside = [("cscope -b and a query", best(build, folder) + best(ask, folder))]
+    put(f"find 1 {name}", best([cbrowse, "find", "1", name, "--"] + names, folder), beside)
+
+
+def one_more(cbrowse, sizes, folder):
+    """One more file comes into a session that has all others."""
+    whole = [name for name in sizes if (folder / name).read_bytes().endswith(b"\n")]
+    last = min(whole, key=lambda name: abs(sizes[name] - ONE_MORE))
+    session = Session([cbrowse, "line", "--"] + [name for name in sizes if name != last], folder)
+    load = b":load %s %d\n%s" % (os.fsencode(last), sizes[last], (folder / last).read_bytes()[:-1])
+    nothing = statistics.median(session.ask(b"")[1] for _ in range(RUNS * 20))
+    seconds = []
+    for _ in range(RUNS):
+        seconds.append(session.do(load))
+        session.do(b":undo")
+    session.end()
+    put(f":load of {sizes[last]:,} bytes", min(seconds) - nothing)
+
+
+def memory(cbrowse, names, sizes, folder):
+    """The most that a session has resident."""
+    process = subprocess.Popen([cbrowse, "line", "--"] + names, cwd=folder, stdin=subprocess.DEVNULL,
+                               stdout=subprocess.DEVNULL)
+    _, _, used = os.wait4(process.pid, 0)
+    most = used.ru_maxrss * 1024
+    print(f"{'memory of a session':<24}{most / 1e6:>10.1f} MB   {most / sum(sizes.values()):.2f} bytes a byte of source")
+
+
+def main():
+    options = argparse.ArgumentParser(description=__doc__, formatter_class=argparse.RawDescriptionHelpFormatter)
+    options.add_argument("folder", help="a folder with C files, at least 3,000 for figures that mean something")
+    given = words_given(options)
+    keep_to_one_core()
+    source = pathlib.Path(given.folder).resolve()
+    sizes = c_files(source, MOST_FILES)
+    with tempfile.TemporaryDirectory() as place:
+        folder, out = pathlib.Path(place, "src"), pathlib.Path(place, "out")
+        out.mkdir()
+        for name in sizes:
+            (folder / name).parent.mkdir(parents=True, exist_ok=True)
+            shutil.copyfile(source / name, folder / name)
+        names = list(sizes)
+        print(f"{len(sizes):,} files, {sum(sizes.values()) / 1e6:.1f} MB")
+        ready(given.cbrowse, names, folder, out)
+        tags(given.cbrowse, names, folder, out)
+        question(given.cbrowse, names, folder, out)
+        one_more(given.cbrowse, sizes, folder)
+        memory(given.cbrowse, names, sizes, folder)
+
+
+if __name__ == "__main__":
+    main()

@@ -1,0 +1,264 @@
+#!/usr/bin/env python3
+"""How fast a session over thousands of real files changes, goes back and answers, beside cscope.
+
+A person runs this by hand; no gate does, and nothing here passes or fails by its time.
+
+    make && bench/session.py FOLDER
+    bench/session.py --cbrowse PATH FOLDER      or: CBROWSE=PATH bench/session.py FOLDER
+
+The files are the C sources of the folder that are at most 1 MB, at most 4,096 of them. One session has them all as
+operands, another one only every tenth of them. In both, one at a time, a command is written and its reply is read up to
+the next prompt; the figure is the time until then by the clock, the median of several. An empty line does nothing: its
+time, which is that of the pipes between the programs, is printed first and taken away from the others. "few" is the
+figure in the small session, and "times" the one as a multiple of the other: near 1 where a small change is a small work.
+
+One file      of median size: dropped, and that undone and redone; renamed; a text on one of its lines changed, and that undone.
+All files     a text is changed in all of them, and that undone and redone. The change scans the new contents, so the time
+              of `r`, which scans all files, is taken away from it. For this each file is copied with a comment at its end.
+Many changes  65,536 times `:mark 1`, and as many times `:undo`, in one go.
+Loads         all files by `:load`, one after the other, in one go, as a multiple of the time of `r`.
+Questions     where a name is defined, for a thousand names; the median, and the one that 95 in 100 stay below.
+              `cscope -d -q -l` answers the same in the same way.
+Tags          `:tags 2`.
+
+Other work on the machine makes the times longer: run it twice, and on an idle machine.
+"""
+
+import argparse
+import collections
+import os
+import pathlib
+import re
+import statistics
+import subprocess
+import tempfile
+import time
+
+from index import c_files
+from measure import installed, keep_to_one_core, words_given
+
+MOST_FILES = 4096
+FEW = 10  # the small session has one file in so many
+TIMES = 9  # each change is made so often
+QUESTIONS = 1000
+MOST_CHANGES = 65_536
+PROMPT = b">> "
+LAST_LINE = b"\n/* a text in every file */\n"
+
+
+class Session:
+    """A program in line mode: commands go in, replies come out."""
+
+    def __init__(self, words, folder):
+        self.process = subprocess.Popen(words, cwd=folder, stdin=subprocess.PIPE, stdout=subprocess.PIPE,
+                                        stderr=subprocess.DEVNULL, bufsize=0)
+        self.read()
+
+    def read(self):
+        """The reply up to the next prompt."""
+        output = self.process.stdout.fileno()
+        reply = bytearray()
+        while not (reply == PROMPT or reply.endswith(b"\n" + PROMPT)):
+            more = os.read(output, 1 << 20)
+            if not more:
+                raise SystemExit(f"the session ended: {bytes(reply[-200:])!r}")
+            reply += more
+        return bytes(reply[:-len(PROMPT)])
+
+    def ask(self, command):
+        """The reply to a command, and the seconds until it is there."""
+        begin = time.perf_counter()
+        self.process.stdin.write(command + b"\n")
+        reply = self.read()
+        return reply, time.perf_counter() - begin
+
+    def do(self, command):
+        """The seconds of a command that must be accepted."""
+        reply, seconds = self.ask(command)
+        if reply.startswith(b"cscope: refused"):
+            raise SystemExit(f"{command!r}: {reply!r}")
+        return seconds
+
+    def many(self, commands, count):
+        """The seconds of many commands in one go, each with a reply of one line."""
+        begin = time.perf_counter()
+        self.process.stdin.write(b"")
+        feeder = os.fork()
+        if feeder == 0:
+            try:
+                self.write_all(commands)
+            finally:
+                os._exit(0)
+        prompts, seen, output = 0, b"", self.process.stdout.fileno()
+        while prompts < count:
+            more = os.read(output, 1 << 20)
+            if not more:
+                raise SystemExit("the session ended")
+            if b"refused" in more:
+                raise SystemExit(f"refused: {more[:200]!r}")
+            prompts += (seen + more).count(b"\n" + PROMPT)
+            seen = (seen + more)[-len(PROMPT):]
+        os.waitpid(feeder, 0)
+        return time.perf_counter() - begin
+
+    def write_all(self, commands):
+        for command in commands:
+            self.process.stdin.write(command)
+
+    def end(self):
+        self.process.stdin.close()
+        self.process.stdout.read()
+        self.process.wait()
+
+
+def line_of_its_own(path):
+    """A word that stands on one line of a file, and no word of which it is a part."""
+    words = collections.Counter(re.findall(rb"[A-Za-z_]\w{11,}", path.read_bytes()))
+    return next((word for word, count in words.items() if count == 1), None)
+
+
+def mark_in(session, name, text):
+    """Wants a text and marks its first line in a file, and nothing else."""
+    reply, _ = session.ask(b"5" + text)
+    rows = reply.split(b"\n")[1:-1]
+    at = next(n for n, row in enumerate(rows, 1) if row.startswith(name + b" "))
+    session.do(b":mark %d" % at)
+
+
+def small_changes(session, name, text):
+    """The median seconds of each change of one file."""
+    seen = collections.defaultdict(list)
+    for _ in range(TIMES):
+        for label, command in (
+            ("nothing", b""), ("drop", b":drop " + name), ("undo of it", b":undo"), ("redo of it", b":redo"), (None, b":undo"),
+            ("rename", b":rename %s z/%s" % (name, name)), (None, b":undo"),
+        ):
+            seen[label].append(session.do(command))
+        mark_in(session, name, text)
+        seen["text on one line"].append(session.do(b":to other"))
+        seen["undo of that"].append(session.do(b":undo"))
+        session.do(b":undo")
+        session.do(b":undo")
+    nothing = statistics.median(seen["nothing"])
+    return {label: statistics.median(times) - (nothing if label != "nothing" else 0)
+            for label, times in seen.items() if label}
+
+
+def put(label, milliseconds, beside=""):
+    print(f"{label:<34}{milliseconds:>12.3f} ms   {beside}".rstrip(), flush=True)
+
+
+def one_file(cbrowse, folder, sizes):
+    """The changes of one file, with all files and with few."""
+    names = list(sizes)
+    few = names[::FEW]
+    name, text = next(
+        (name, text) for name in sorted(few, key=lambda name: abs(sizes[name] - statistics.median(sizes.values())))
+        for text in [line_of_its_own(folder / name)] if text)
+    figures = []
+    for files in (names, few):
+        session = Session([cbrowse, "line"] + files, folder)
+        figures.append(small_changes(session, os.fsencode(name), text))
+        session.end()
+    print(f"{name}, {sizes[name]} bytes, among {len(names)} files and among {len(few)}")
+    for label in figures[0]:
+        many, few = (figure[label] * 1000 for figure in figures)
+        put(label, many, f"few {few:.3f} ms, times {many / few:.2f}")
+
+
+def all_files(cbrowse, folder, sizes):
+    """A text that stands in every file is changed; 65,536 marks; tags."""
+    session = Session([cbrowse, "line"] + list(sizes), folder)
+    nothing = statistics.median(session.do(b"") for _ in range(TIMES))
+    scanned = min(session.do(b"r") for _ in range(3))
+    put("all files scanned (r)", scanned * 1000)
+    session.do(b"5a text in every file")
+    session.do(b":markall")
+    put("a text changed in all files", (session.do(b":to another text") - scanned) * 1000, "beside the scan")
+    put("undo of it", session.do(b":undo") * 1000)
+    put("redo of it", session.do(b":redo") * 1000)
+    for _ in range(3):
+        session.do(b":undo")
+    listed = min((session.ask(b":tags 2") for _ in range(3)), key=lambda reply: reply[1])
+    put(":tags 2", (listed[1] - nothing) * 1000, f"{listed[0].count(bytes([10])) - 1:,} lines")
+    session.end()
+    return scanned
+
+
+def many_changes(cbrowse, folder, sizes):
+    """As many changes as the past may have, and all taken back."""
+    session = Session([cbrowse, "line"] + list(sizes), folder)
+    made = len(sizes) + 1
+    session.do(b"5a text in every file")
+    count = MOST_CHANGES - made
+    begin = session.many([b":mark 1\n"] * count, count)
+    back = session.many([b":undo\n"] * count, count)
+    put(f"{count:,} times :mark 1", begin * 1000, f"and :undo {back * 1000:.0f} ms, together {(begin + back) * 1000:.0f}")
+    session.end()
+
+
+def loads(cbrowse, folder, sizes, scanned):
+    """All files loaded one after the other."""
+    session = Session([cbrowse, "line"], folder)
+    blocks = [b":load %s %d\n%s" % (os.fsencode(name), size, (folder / name).read_bytes()) for name, size in sizes.items()]
+    seconds = session.many(blocks, len(blocks))
+    put(f"{len(blocks):,} times :load", seconds * 1000, f"{seconds / scanned:.2f} times the scan of all files")
+    session.end()
+
+
+def defined(cbrowse, folder, sizes):
+    """Names of definitions, evenly drawn, as many as there are questions."""
+    with tempfile.TemporaryDirectory() as place:
+        tags = pathlib.Path(place, "tags")
+        subprocess.run([cbrowse, "tags", "-f", tags] + list(sizes), cwd=folder, check=True)
+        names = sorted({line.split(b"\t", 1)[0] for line in tags.read_bytes().split(b"\n") if line and not line.startswith(b"!")})
+    return (names[::max(len(names) // QUESTIONS, 1)] * QUESTIONS)[:QUESTIONS]
+
+
+def questions(words, folder, names):
+    """The seconds of each question, without what an empty line takes."""
+    session = Session(words, folder)
+    nothing = statistics.median(session.ask(b"")[1] for _ in range(QUESTIONS))
+    times = sorted(session.ask(b"1" + name)[1] - nothing for name in names)
+    session.end()
+    return times
+
+
+def put_questions(label, times):
+    put(label, statistics.median(times) * 1000, f"95 in 100 below {times[len(times) * 95 // 100] * 1000:.3f} ms")
+
+
+def cscope_words(folder, sizes, place):
+    """A session of cscope over the same files."""
+    (place / "files").write_text("\n".join(sizes) + "\n")
+    subprocess.run(["cscope", "-b", "-q", "-i", str(place / "files"), "-f", str(place / "out")], cwd=folder, check=True,
+                   stdout=subprocess.DEVNULL, stderr=subprocess.DEVNULL)
+    return ["cscope", "-d", "-q", "-l", "-f", str(place / "out")]
+
+
+def main():
+    options = argparse.ArgumentParser(description=__doc__, formatter_class=argparse.RawDescriptionHelpFormatter)
+    options.add_argument("folder", help="a folder with C files, at least 3,000 for figures that mean something")
+    given = words_given(options)
+    keep_to_one_core()
+    with tempfile.TemporaryDirectory() as place:
+        place = pathlib.Path(place)
+        sizes = c_files(pathlib.Path(given.folder).resolve(), MOST_FILES, 1_000_000 - len(LAST_LINE))
+        for name in sizes:
+            (place / "src" / name).parent.mkdir(parents=True, exist_ok=True)
+            (place / "src" / name).write_bytes(pathlib.Path(given.folder, name).read_bytes() + LAST_LINE)
+            sizes[name] += len(LAST_LINE)
+        folder = place / "src"
+        print(f"{len(sizes):,} files, {sum(sizes.values()) / 1e6:.1f} MB")
+        one_file(given.cbrowse, folder, sizes)
+        scanned = all_files(given.cbrowse, folder, sizes)
+        many_changes(given.cbrowse, folder, sizes)
+        loads(given.cbrowse, folder, sizes, scanned)
+        names = defined(given.cbrowse, folder, sizes)
+        put_questions(f"{len(names):,} names, cbrowse", questions([given.cbrowse, "line"] + list(sizes), folder, names))
+        if installed("cscope", "-V", "version"):
+            put_questions(f"{len(names):,} names, cscope", questions(cscope_words(folder, sizes, place), folder, names))
+
+
+if __name__ == "__main__":
+    main()

@@ -1,0 +1,99 @@
+-- Files with a text replaced on their marked lines, in the numbers of an archive and in a world.
+use Rattle.std.proofs.Common.{◌≡◌, ◌∙◌, ◌≤◌, ◌+◌, ◌==◌, refl, sym, ap, ℕ, suc, Bool, true, false, List, [], ◌∷◌, ◌++◌, length, map, filter, not, ◌||◌, cond, arith, append_assoc, Option, None, Some}
+use Rattle.std.proofs.lemmas.Bool.{true≢false}
+use Rattle.std.proofs.lemmas.List.{map-append}
+use Rattle.std.specs.List.{AllByRecursion, flat_map, list_any}
+use Rattle.bstr.specs.Text.{lines_of}
+use Rattle.cb_scan.specs.Lines.{lines}
+use Rattle.cb_index.specs.Archived.{Archived}
+use Rattle.cb_index.specs.Files.{file_of, files_of}
+use Rattle.cb_index.specs.declared.entry.Shown.{Shown}
+use Rattle.cb_desk.specs.declared.spot.NumberedPlace.{NumberedPlace}
+use Rattle.cb_desk.specs.Desk.{bytes_in, is_marked, new_texts}
+use Rattle.cb_desk.specs.Marks.{is_too_large, marked_lines, replaced_file, replaced_files}
+use Rattle.cb_desk.specs.Places.{is_in}
+use Rattle.cb_desk.specs.Replacement.{marked_from, replaced_if_marked, replaced_text}
+use Rattle.cb_desk.specs.World.{File, Place}
+use Rattle.cb_desk.specs.steps.Records.{Numbered, world_in}
+use Rattle.cb_desk.specs.steps.Replaced.{file_then, files_changed, files_then, has_mark, line_counts, places_in, texts_of}
+use Rattle.cb_desk.proofs.MarkedLines.{bytes-of, first-part}
+
+-- ---- files without a mark
+nothing_marked : (old new : List ℕ) (first : ℕ) (ls : List (List ℕ)) → flat_map (replaced_if_marked old new) (marked_from [] first ls) ≡ first-part (marked_from [] first ls)
+nothing_marked old new first [] = refl
+nothing_marked old new first (l ∷ ls) = ap (λ bs. l ++ bs) (nothing_marked old new (first + 1) ls)
+
+-- a text without a marked line stays
+pub unmarked_text : (old new text : List ℕ) → replaced_text old new [] text ≡ text
+unfolding replaced_text
+unmarked_text old new text = nothing_marked old new 1 (lines_of text) ∙ bytes-of [] text
+
+none_in : (name : List ℕ) (marks : List Place) → list_any (is_in name) marks ≡ false → marked_lines name marks ≡ []
+none_in name [] none = refl
+none_in name (m ∷ marks) none =
+    (elim (is_in name m) as (λ b. b || list_any (is_in name) marks ≡ false
+    → map (λ (p : Place). p.line) (cond b (m ∷ filter (is_in name) marks) (filter (is_in name) marks)) ≡ []) [
+      | true ↦ λ e. absurd (true≢false e)
+      | false ↦ λ e. none_in name marks e
+    ]) none
+
+filled : (n : ℕ) → not (suc n == 0) ≡ true
+filled n = grind arith
+
+-- a file has a mark if there is a marked line
+pub marked_any : (name : List ℕ) (marks : List Place) → not (length (marked_lines name marks) == 0) ≡ list_any (is_in name) marks
+marked_any name [] = refl
+marked_any name (m ∷ marks) =
+    elim (is_in name m) as (λ b. not (length (map (λ (p : Place). p.line) (cond b (m ∷ filter (is_in name) marks) (filter (is_in name) marks))) == 0)
+    ≡ b || list_any (is_in name) marks) [ true ↦ filled (length (marked_lines name marks)) | false ↦ marked_any name marks ]
+
+pub unmarked_file : (old new : List ℕ) (marks : List Place) (f : File) → is_marked marks f ≡ false → replaced_file old new marks f ≡ f
+unmarked_file old new marks f none =
+    ap (λ ns. record f { bytes = replaced_text old new ns f.bytes }) (none_in f.name marks none)
+    ∙ ap (λ bs. record f { bytes = bs }) (unmarked_text old new f.bytes)
+
+-- ---- in numbers
+module _ (a : Archived) (marks : List NumberedPlace) (old new : List ℕ) where
+  pub then_replaced : (ss : List Shown) → files_then a marks old new ss ≡ map (replaced_file old new (places_in a marks)) (files_of a ss)
+  then_replaced [] = refl
+  then_replaced (s ∷ ss) = ap (λ fs. file_then a marks old new s ∷ fs) (then_replaced ss)
+
+  pub changed_replaced : (ss : List Shown) → files_changed a marks old new ss
+      ≡ map (replaced_file old new (places_in a marks)) (filter (is_marked (places_in a marks)) (files_of a ss))
+  changed_replaced [] = refl
+  changed_replaced (s ∷ ss) =
+      elim (has_mark a marks s) as (λ b. map (file_then a marks old new) (cond b (s ∷ filter (has_mark a marks) ss) (filter (has_mark a marks) ss))
+      ≡ map (replaced_file old new (places_in a marks)) (cond b (file_of a s ∷ filter (is_marked (places_in a marks)) (files_of a ss)) (filter (is_marked (places_in a marks)) (files_of a ss)))) [
+        | true ↦ ap (λ fs. file_then a marks old new s ∷ fs) (changed_replaced ss)
+        | false ↦ changed_replaced ss
+      ]
+
+  -- the first file, and those after it
+  pub changed_first : (s : Shown) (ss : List Shown)
+      → files_changed a marks old new (s ∷ ss) ≡ files_changed a marks old new (s ∷ []) ++ files_changed a marks old new ss
+  changed_first s ss =
+      elim (has_mark a marks s) as (λ b. map (file_then a marks old new) (cond b (s ∷ filter (has_mark a marks) ss) (filter (has_mark a marks) ss))
+      ≡ map (file_then a marks old new) (cond b (s ∷ []) []) ++ files_changed a marks old new ss) [ true ↦ refl | false ↦ refl ]
+
+  -- a file with a mark, and one without
+  pub changed_one : (s : Shown) → has_mark a marks s ≡ true → files_changed a marks old new (s ∷ []) ≡ file_then a marks old new s ∷ []
+  changed_one s has = ap (λ b. map (file_then a marks old new) (cond b (s ∷ []) [])) has
+
+  pub changed_none : (s : Shown) → has_mark a marks s ≡ false → files_changed a marks old new (s ∷ []) ≡ []
+  changed_none s hasnt = ap (λ b. map (file_then a marks old new) (cond b (s ∷ []) [])) hasnt
+
+  pub unmarked_then : (s : Shown) → has_mark a marks s ≡ false → file_then a marks old new s ≡ file_of a s
+  unmarked_then s hasnt = unmarked_file old new (places_in a marks) (file_of a s) hasnt
+
+pub bytes_append : (fs gs : List File) → bytes_in (fs ++ gs) ≡ bytes_in fs + bytes_in gs
+bytes_append [] gs = omega arith
+bytes_append (f ∷ fs) gs = omega (arith, bytes_append fs gs)
+
+-- the files of a world in numbers
+pub world_replaced : (a : Archived) (w : Numbered) (old new : List ℕ)
+    → files_then a w.marks old new w.shown ≡ replaced_files old new (world_in a w)
+world_replaced a w old new = then_replaced a w.marks old new w.shown
+
+pub world_changed : (a : Archived) (w : Numbered) (old new : List ℕ) → w.wanted ≡ Some old
+    → new_texts (world_in a w) new ≡ files_changed a w.marks old new w.shown
+world_changed a w old new is = rw is (sym (changed_replaced a w.marks old new w.shown))

@@ -1,0 +1,192 @@
+-- Plans that leave the files as they are.
+use Rattle.std.proofs.Common.{◌≡◌, ◌∙◌, ◌≤◌, ◌<◌, ◌+◌, ◌-◌, ℕ, zero, suc, Bool, true, false, List, [], ◌∷◌, ◌++◌, refl, sym, ap, subst, length, map, take, drop, filter, not, arith, append-nil, length-append, length-take-le, take-append-drop}
+use Rattle.std.specs.Prelude.{Option, None, Result, Ok, Err, IfOk, cond}
+use Rattle.std.specs.List.{AllByRecursion}
+use Rattle.cb_scan.specs.Order.{AreOrdered, goes_first, in_order, put}
+use Rattle.cb_scan.proofs.OrderLemmas.{Sorted}
+use Rattle.cb_index.specs.Archived.{Archived}
+use Rattle.cb_index.specs.Files.{AreAscending, AreApart, call_count, def_count, files_of, shown_name, total, use_count}
+use Rattle.cb_index.specs.declared.entry.Shown.{Shown}
+use Rattle.cb_index.proofs.KeptLemmas.{ascending_sorted}
+use Rattle.cb_index.proofs.ListedLemmas.{ascending_apart}
+use Rattle.cb_desk.specs.declared.edits.Edit.{Edit}
+use Rattle.cb_desk.specs.declared.spot.NumberedPlace.{NumberedPlace}
+use Rattle.std.proofs.lemmas.List.{length-map}
+use Rattle.cb_desk.specs.Stack.{popped}
+use Rattle.cb_desk.specs.World.{World}
+use Rattle.cb_desk.specs.steps.Edits.{IsDifference, edited, turned_edits}
+use Rattle.cb_desk.specs.steps.Plans.{AreEdits, IsPlan, Keeps, LeadsTo, Planned, with_places}
+use Rattle.cb_desk.specs.steps.Records.{AreThere, Fits, IsTurn, Kept, KeepsRooms, Numbered, Turn, other, other_wanted, place_in, without, world_in}
+use Rattle.cb_desk.specs.steps.Walks.{IsKept, shows_name, shows_version}
+use Rattle.cb_desk.proofs.AllUsed.{none_new}
+use Rattle.cb_desk.proofs.TurnLemmas.{few_small}
+use Rattle.cb_desk.proofs.WalkLemmas.{kept_more}
+use Rattle.cb_desk.proofs.ArchiveMoves.{Agree, agree_kept, apart_same, below_places, below_shown, files_same, order_same, places_same, total_same}
+
+-- ---- the length of an edited list
+pub edited_length : (es : List Edit) (ps : List NumberedPlace) → length (edited es ps) ≤ length ps + length es
+edited_length [] ps = omega arith
+edited_length (e ∷ es) ps =
+    let here = parts e.kept ps in
+    let put = edited_length es (drop e.kept ps) in
+    let taken = edited_length es (drop 1 (drop e.kept ps)) in
+    let fewer = drop_one (drop e.kept ps) in
+    elim e.is_put as (λ b. length (take e.kept ps ++ (cond b (e.place ∷ edited es (drop e.kept ps)) (edited es (drop 1 (drop e.kept ps))))) ≤ length ps + length (e ∷ es)) [
+      | true ↦ let all = length-append (take e.kept ps) (e.place ∷ edited es (drop e.kept ps)) in omega (arith, here, put, all)
+      | false ↦ let all = length-append (take e.kept ps) (edited es (drop 1 (drop e.kept ps))) in omega (arith, here, taken, fewer, all)
+    ]
+  where
+    parts : (n : ℕ) (xs : List NumberedPlace) → length (take n xs) + length (drop n xs) ≡ length xs
+    parts n xs = sym (length-append (take n xs) (drop n xs)) ∙ ap length (take-append-drop n xs)
+
+    drop_one : (xs : List NumberedPlace) → length (drop 1 xs) ≤ length xs
+    drop_one [] = omega arith
+    drop_one (x ∷ xs) = omega arith
+
+-- ---- a list that is in order
+pub put_first : {X : Type 0} (key : X → List ℕ) (x : X) (xs : List X) → AllByRecursion (λ y. goes_first key x y ≡ true) xs → put key x xs ≡ x ∷ xs
+unfolding put
+put_first key x [] all = refl
+put_first key x (y ∷ ys) all = ap (λ b. cond b (x ∷ y ∷ ys) (y ∷ put key x ys)) all.0
+
+pub settled : {X : Type 0} (key : X → List ℕ) (xs : List X) → Sorted key xs → in_order key xs ≡ xs
+unfolding in_order AreOrdered
+settled key [] sorted = refl
+settled key (x ∷ xs) sorted = ap (put key x) (settled key xs sorted.1) ∙ put_first key x xs sorted.0
+
+-- ---- nothing is hidden and nothing is shown
+pub without_none : (shown : List Shown) → without [] shown ≡ shown
+without_none [] = refl
+without_none (s ∷ shown) = ap (λ xs. s ∷ xs) (without_none shown)
+
+module _ (k : Kept) (p : Planned) (wanted : Option (Option (List ℕ))) (marks frames : List Edit) (kept : IsKept k.rooms k.archive k.now)
+    (ascending : AreAscending k.archive k.now.shown) (names : p.names ≡ []) (texts : p.texts ≡ [])
+    (turn : p.turn ≡ record { hides = []; shows = []; wanted = wanted; marks = marks; frames = frames; names = k.now.names; versions = k.now.versions })
+    (are_marks : AreEdits k.now.names marks k.now.marks) (are_frames : AreEdits k.now.names frames k.now.frames) where
+  abbrev the_turn : Turn
+  the_turn = record { hides = []; shows = []; wanted = wanted; marks = marks; frames = frames; names = k.now.names; versions = k.now.versions }
+
+  module _ (a : Archived) (keeps : Keeps k.archive k.now p a) where
+    agree : Agree k.archive a k.now.names k.now.versions
+    agree = agree_kept k.archive a k.now.names k.now.versions p.names p.texts kept.there.names kept.there.versions keeps.names keeps.texts
+
+    all_below : AllByRecursion (λ (s : Shown). (s.name < k.now.names) × (s.version < k.now.versions)) k.now.shown
+    all_below = below_shown k.archive a k.now.names k.now.versions agree k.now kept.there (omega arith) (omega arith)
+
+    both_same : without [] k.now.shown ++ [] ≡ k.now.shown
+    both_same = append-nil (without [] k.now.shown) ∙ without_none k.now.shown
+
+    in_place : in_order (shown_name a) k.now.shown ≡ k.now.shown
+    in_place =
+        order_same k.archive a k.now.names k.now.versions agree k.now.shown all_below
+        ∙ settled (shown_name k.archive) k.now.shown (ascending_sorted k.archive k.now.shown ascending)
+
+    shown_same : in_order (shown_name a) (without [] k.now.shown ++ []) ≡ k.now.shown
+    shown_same = ap (in_order (shown_name a)) both_same ∙ in_place
+
+    stays_apart : AreApart a (without [] k.now.shown ++ [])
+    stays_apart =
+        subst (AreApart a) (sym both_same)
+        (apart_same k.archive a k.now.names k.now.versions agree k.now.shown all_below (ascending_apart k.archive k.now.shown ascending))
+
+    abbrev then : Numbered
+    then = other a the_turn k.now
+
+    leads : LeadsTo k (record p { turn = the_turn }) (with_places k.archive k.now wanted marks frames) a
+    leads = record {
+      turn = record {
+        hides_rise = λ i below. absurd (omega (arith, below));
+        shows_rise = λ i below. absurd (omega (arith, below));
+        apart = stays_apart;
+        apart_then = stays_apart;
+        shown = shown_same;
+        others = ap (without []) shown_same;
+        marks = are_marks.back;
+        frames = are_frames.back;
+        few = few_small a the_turn k.now (omega arith);
+      };
+      there = record {
+        shown = subst (AllByRecursion (λ (s : Shown). (s.name < k.now.names) × (s.version < k.now.versions))) (sym shown_same) all_below;
+        marks = are_marks.named;
+        frames = are_frames.named;
+        names = agree.name_count;
+        versions = agree.text_count;
+      };
+      world = λ i. record {
+        files = (ap (files_of a) shown_same ∙ files_same k.archive a k.now.names k.now.versions agree k.now.shown all_below) i;
+        wanted = other_wanted wanted k.now.wanted;
+        marks = places_same k.archive a k.now.names k.now.versions agree (edited marks k.now.marks) are_marks.named i;
+        frames = places_same k.archive a k.now.names k.now.versions agree (edited frames k.now.frames) are_frames.named i;
+      };
+      next = record {
+        names = omega arith;
+        versions = omega arith;
+        all_names = λ n above below. none_new k.now.names k.now.names n (shows_name n then.shown ≡ true) refl above below;
+        all_versions = λ v above below. none_new k.now.versions k.now.versions v (shows_version v then.shown ≡ true) refl above below;
+      };
+      all = record {
+        names = let e = ap length keeps.names ∙ length-append (take k.now.names k.archive.names) p.names in
+            let t = length-take-le k.now.names k.archive.names kept.there.names in
+            let none = ap length names in omega (arith, e, t, none);
+        versions = let e = ap length keeps.texts ∙ length-append (take k.now.versions k.archive.texts) p.texts in
+            let t = length-take-le k.now.versions k.archive.texts kept.there.versions in
+            let none = ap length texts in omega (arith, e, t, none);
+      };
+    }
+
+  pub places_planned : IsPlan k p (with_places k.archive k.now wanted marks frames)
+  places_planned a keeps = subst (λ t. LeadsTo k (record p { turn = t }) (with_places k.archive k.now wanted marks frames) a) (sym turn) (leads a keeps)
+
+-- ---- edits that make one list from another
+pub are_edits : (names : ℕ) (es : List Edit) (ps qs : List NumberedPlace) → IsDifference es ps qs
+    → AllByRecursion (λ (p : NumberedPlace). p.name < names) qs → AreEdits names es ps
+are_edits names es ps qs is named = record {
+  back = ap (edited (turned_edits es)) is.on ∙ is.back;
+  named = subst (AllByRecursion (λ (p : NumberedPlace). p.name < names)) (sym is.on) named;
+}
+
+pub no_edits : (names : ℕ) (es : List Edit) (ps : List NumberedPlace) → es ≡ [] → AllByRecursion (λ (p : NumberedPlace). p.name < names) ps → AreEdits names es ps
+no_edits names es ps none named =
+    subst (λ xs. AreEdits names xs ps) (sym none) (record { back = refl; named = named })
+
+-- what is taken of places that are below a number is
+pub below_taken : (names n : ℕ) (ps : List NumberedPlace) → AllByRecursion (λ (p : NumberedPlace). p.name < names) ps
+    → AllByRecursion (λ (p : NumberedPlace). p.name < names) (take n ps)
+below_taken names zero ps all = tt
+below_taken names (suc n) [] all = tt
+below_taken names (suc n) (p ∷ ps) all = (all.0, below_taken names n ps all.1)
+
+pub below_pushed : (names : ℕ) (p : NumberedPlace) (ps : List NumberedPlace) → p.name < names → AllByRecursion (λ (q : NumberedPlace). q.name < names) ps
+    → AllByRecursion (λ (q : NumberedPlace). q.name < names) (ps ++ p ∷ [])
+below_pushed names p [] here all = (here, tt)
+below_pushed names p (q ∷ ps) here all = (all.0, below_pushed names p ps here all.1)
+
+-- ---- the worlds of such edits
+module _ (k : Kept) (v : World) (wanted : Option (Option (List ℕ))) (marks frames : List Edit) (new_marks new_frames : List NumberedPlace)
+    (are_marks : edited marks k.now.marks ≡ new_marks) (are_frames : edited frames k.now.frames ≡ new_frames) where
+  pub world_of_edits : with_places k.archive k.now wanted marks frames
+      ≡ record (world_in k.archive k.now) { wanted = other_wanted wanted k.now.wanted; marks = map (place_in k.archive) new_marks; frames = map (place_in k.archive) new_frames }
+  world_of_edits = λ i. record (world_in k.archive k.now) {
+    wanted = other_wanted wanted k.now.wanted;
+    marks = map (place_in k.archive) (are_marks i);
+    frames = map (place_in k.archive) (are_frames i);
+  }
+
+-- the world without its top frame
+module _ (a : Archived) where
+  taken_places : (n : ℕ) (ps : List NumberedPlace) → map (place_in a) (take n ps) ≡ take n (map (place_in a) ps)
+  taken_places zero ps = refl
+  taken_places (suc n) [] = refl
+  taken_places (suc n) (p ∷ ps) = ap (λ xs. place_in a p ∷ xs) (taken_places n ps)
+
+  pub popped_world : (w : Numbered) (frames : List Edit) → edited frames w.frames ≡ take (length w.frames - 1) w.frames
+      → with_places a w None [] frames ≡ popped (world_in a w)
+  popped_world w frames is =
+      ap (λ xs. record (world_in a w) { frames = xs })
+      (ap (map (place_in a)) is ∙ taken_places (length w.frames - 1) w.frames
+      ∙ ap (λ n. take (n - 1) (map (place_in a) w.frames)) (sym (length-map w.frames (place_in a))))
+
+-- what holds of a value that is given holds as well
+pub ok_along : {T E : Type 0} (P Q : T → Type 0) (r : Result T E) → ((x : T) → P x → Q x) → IfOk r P → IfOk r Q
+ok_along P Q (Ok x) along p = along x p
+ok_along P Q (Err e) along p = p

@@ -1,0 +1,16 @@
+use Rattle.std.proofs.Common.{◌∙◌, ap, map, subst}
+use Rattle.cb_index.specs.Files.{files_of}
+use Rattle.cb_index.specs.Shelved.{files}
+use Rattle.cb_desk.specs.World.{IsAscending}
+use Rattle.cb_desk.specs.steps.Lent.{without_facts}
+use Rattle.cb_desk.proofs.ShownFiles.{bare-files, files-ascend}
+use Rattle.cb_desk.proofs.answers.files.Files.new.Goals as goal
+
+pub returns-clause-value : goal.returns-clause-value
+returns-clause-value c = ap (map without_facts) c.entries.ensures ∙ bare-files (files c.args.shelf.now)
+
+pub returns-clause-ascending : goal.returns-clause-ascending
+returns-clause-ascending c =
+    let archive = c.args.shelf.now.archive in
+    subst (λ shown. IsAscending (files_of archive shown)) c.shown-shown.ensures.value
+    (files-ascend archive c.shown-shown.result.now c.shown-shown.ensures.ascending)

@@ -1,0 +1,10 @@
+use Rattle.std.proofs.Common.{◌≡◌, length}
+use Rattle.cb_desk.specs.steps.Lent.{found_left}
+use Rattle.cb_desk.specs.steps.LookBack.{IsLookBack, news_left}
+use Rattle.cb_desk.proofs.answers.look_back.next_new.Given as goal
+
+abbrev pub decreases-loop-step : goal.decreases-loop-step
+decreases-loop-step l = length (found_left l.left.rest)
+
+abbrev pub invariant-loop-step : goal.invariant-loop-step
+invariant-loop-step l = IsLookBack l.left × (news_left l.left ≡ news_left l.fn.left)

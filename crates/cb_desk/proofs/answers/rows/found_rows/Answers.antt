@@ -1,0 +1,79 @@
+use Rattle.std.proofs.Common.{◌≡◌, ◌∙◌, sym, ap, filter, length, map, arith, List}
+use Rattle.std.specs.List.{flat_map}
+use Rattle.std.proofs.lemmas.List.{length-map}
+use Rattle.cb_index.specs.Rows.{Fact}
+use Rattle.cb_index.specs.Shelved.{ShownFile, files}
+use Rattle.cb_index.specs.steps.Left.{tags_left}
+use Rattle.cb_desk.specs.declared.rows.Field.{Field}
+use Rattle.cb_desk.specs.declared.rows.Field.TheVariants.{Symbol, Called, Calling, File as FileName, Including}
+use Rattle.cb_desk.specs.Answer.{AnswerRow, field_rows, file_rows, is_header}
+use Rattle.cb_desk.specs.steps.Lent.{row_around, row_named, row_of_tag}
+use Rattle.cb_desk.proofs.AnswerRows.{called-rows, calling-rows, definition-rows, including-rows, name-rows, symbol-rows}
+use Rattle.cb_desk.proofs.RowsFew.{called-rows-few, calling-rows-few, including-rows-few, name-rows-few, uses-rows-few}
+use Rattle.cb_desk.proofs.answers.rows.found_rows.Goals as goal
+
+pub returns-in-Symbol : goal.returns-in-Symbol
+returns-in-Symbol c =
+    let fs = files c.args.shelf.now in
+    let p = c.args.pattern.now in
+    let rows = ap (map row_around) c.uses.ensures ∙ symbol-rows p fs in
+    let long = ap length rows in
+    record {
+      rows = rows ∙ ap (λ field. flat_map (field_rows field p) fs) (sym c.in-Symbol.is);
+      few = omega (arith, long, uses-rows-few p fs c.requires.valid);
+    }
+
+pub returns-in-Definition : goal.returns-in-Definition
+returns-in-Definition c =
+    let fs = files c.args.shelf.now in
+    let p = c.args.pattern.now in
+    let count = c.len-count.ensures in
+    record {
+      rows = ap (map row_of_tag) c.defs-rows.ensures ∙ definition-rows p fs
+          ∙ ap (λ field. flat_map (field_rows field p) fs) (sym c.in-Definition.is);
+      few = omega (arith, count, length-map (tags_left c.defs-rows.result) row_of_tag);
+    }
+
+pub returns-in-Called : goal.returns-in-Called
+returns-in-Called c =
+    let fs = files c.args.shelf.now in
+    let p = c.args.pattern.now in
+    let rows = ap (map row_named) c.called_by.ensures ∙ called-rows p fs in
+    let long = ap length rows in
+    record {
+      rows = rows ∙ ap (λ field. flat_map (field_rows field p) fs) (sym c.in-Called.is);
+      few = omega (arith, long, called-rows-few p fs c.requires.valid);
+    }
+
+pub returns-in-Calling : goal.returns-in-Calling
+returns-in-Calling c =
+    let fs = files c.args.shelf.now in
+    let p = c.args.pattern.now in
+    let rows = ap (map row_around) c.calling.ensures ∙ calling-rows p fs in
+    let long = ap length rows in
+    record {
+      rows = rows ∙ ap (λ field. flat_map (field_rows field p) fs) (sym c.in-Calling.is);
+      few = omega (arith, long, calling-rows-few p fs c.requires.valid);
+    }
+
+pub returns-in-Including : goal.returns-in-Including
+returns-in-Including c =
+    let fs = files c.args.shelf.now in
+    let p = c.args.pattern.now in
+    let rows = ap (λ facts. map row_around (filter (λ (f : Fact). is_header p f.name) facts)) c.includes.ensures ∙ including-rows p fs in
+    let long = ap length rows in
+    record {
+      rows = rows ∙ ap (λ field. flat_map (field_rows field p) fs) (sym c.in-Including.is);
+      few = omega (arith, long, including-rows-few p fs c.requires.valid);
+    }
+
+pub returns-in-File : goal.returns-in-File
+returns-in-File c =
+    let fs = files c.args.shelf.now in
+    let p = c.args.pattern.now in
+    let rows = ap (flat_map (λ (f : ShownFile). file_rows p f.name)) c.entries.ensures ∙ name-rows p fs in
+    let long = ap length rows in
+    record {
+      rows = rows ∙ ap (λ field. flat_map (field_rows field p) fs) (sym c.in-File.is);
+      few = omega (arith, long, name-rows-few p fs c.requires.valid);
+    }

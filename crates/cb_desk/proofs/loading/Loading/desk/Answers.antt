@@ -1,0 +1,95 @@
+use Rattle.std.proofs.Common.{rules, ◌≡◌, ◌≢◌, ◌≤◌, ◌∙◌, [], sym, ap, subst, length, arith}
+use Rattle.cb_index.specs.Archived.{Archived}
+use Rattle.cb_desk.specs.Timeline.{IsValidTimeline}
+use Rattle.cb_desk.specs.steps.Loading.{HasRoomToShow, Loaded, loaded_numbers, loads_recorded}
+use Rattle.cb_desk.specs.steps.Records.{no_numbers}
+use Rattle.cb_desk.specs.steps.Walks.{timeline_in}
+use Rattle.cb_desk.proofs.LoadingLemmas.{all_there, empty_list, nothing_loaded, refused_with, rooms_kept, shown_recorded, shown_timeline, some_past}
+use Rattle.cb_desk.proofs.loading.Loading.desk.Goals as goal
+
+pub returns-then-is_empty : goal.returns-then-is_empty
+returns-then-is_empty c =
+    let a = c.self.inside.shelf.archive in
+    let shown = c.self.inside.shown.items in
+    let records = c.self.inside.records.items in
+    let none : length records ≡ 0 = search rules in (
+      c.over.ensures.timeline ∙ c.new.ensures.timeline
+          ∙ sym (nothing_loaded a c.self.inside.shelf.shown shown records c.self.invariant (empty_list records none))
+          ∙ ap (λ (l : Loaded). l.timeline) c.self.view_is,
+      c.over.ensures.meter ∙ ap (λ (l : Loaded). l.meter) c.self.view_is,
+    )
+
+pub show-requires-clause-there : goal.show-requires-clause-there
+show-requires-clause-there c =
+    rw (c.as_slice.ensures.value)
+    (all_there c.self.inside.shelf.archive c.self.inside.shelf.shown c.self.inside.shown.items c.self.inside.records.items c.self.invariant)
+
+-- memory is refused only where there is something to show
+pub returns-in_err-show : goal.returns-in_err-show
+returns-in_err-show c =
+    let a = c.self.inside.shelf.archive in
+    let shown = c.self.inside.shown.items in
+    let records = c.self.inside.records.items in
+    let some : 1 ≤ length records = search rules in
+    refused_with _ _ c.from_residual.result c.from_residual.ensures.0
+    (λ none. some_past a c.self.inside.shelf.shown shown records c.self.invariant some
+    (ap (λ (l : Loaded). l.timeline.past) c.self.view_is ∙ none))
+
+pub loaded-requires : goal.loaded-requires
+loaded-requires c =
+    let a = c.self.inside.shelf.archive in
+    let shown = c.self.inside.shown.items in
+    let records = c.self.inside.records.items in
+    let count : c.len-count.result ≡ length records = search rules in
+    let is_shown : c.show.new.shelf.shown ≡ shown = search rules in
+    let has : HasRoomToShow c.show.new.shelf shown = search rules in
+    let now : c.loaded-present.result.now ≡ loaded_numbers a shown =
+    c.loaded-present.ensures.now
+    ∙ (λ i. record no_numbers { shown = is_shown i; names = (count ∙ sym c.self.invariant.names) i; versions = (count ∙ sym c.self.invariant.versions) i }) in
+    let names : c.loaded-present.result.archive.names ≡ a.names = ap (λ (x : Archived). x.names) c.loaded-present.ensures.archive ∙ c.show.ensures.names in
+    let texts : c.loaded-present.result.archive.texts ≡ a.texts = ap (λ (x : Archived). x.texts) c.loaded-present.ensures.archive ∙ c.show.ensures.texts in
+    let rooms =
+    rooms_kept a c.show.new.shelf shown c.loaded-present.result.rooms c.show.ensures.texts has
+    c.loaded-present.ensures.files c.loaded-present.ensures.defs c.loaded-present.ensures.uses c.loaded-present.ensures.calls in
+    shown_recorded a c.self.inside.shelf.shown shown records c.loaded-present.result c.self.invariant now names texts rooms
+
+pub over-requires-2 : goal.over-requires-2
+over-requires-2 c =
+    let a = c.self.inside.shelf.archive in
+    let shown = c.self.inside.shown.items in
+    let records = c.self.inside.records.items in
+    let count : c.len-count.result ≡ length records = search rules in
+    let is_shown : c.show.new.shelf.shown ≡ shown = search rules in
+    let has : HasRoomToShow c.show.new.shelf shown = search rules in
+    let now : c.loaded-present.result.now ≡ loaded_numbers a shown =
+    c.loaded-present.ensures.now
+    ∙ (λ i. record no_numbers { shown = is_shown i; names = (count ∙ sym c.self.invariant.names) i; versions = (count ∙ sym c.self.invariant.versions) i }) in
+    let names : c.loaded-present.result.archive.names ≡ a.names = ap (λ (x : Archived). x.names) c.loaded-present.ensures.archive ∙ c.show.ensures.names in
+    let texts : c.loaded-present.result.archive.texts ≡ a.texts = ap (λ (x : Archived). x.texts) c.loaded-present.ensures.archive ∙ c.show.ensures.texts in
+    let rooms =
+    rooms_kept a c.show.new.shelf shown c.loaded-present.result.rooms c.show.ensures.texts has
+    c.loaded-present.ensures.files c.loaded-present.ensures.defs c.loaded-present.ensures.uses c.loaded-present.ensures.calls in
+    subst IsValidTimeline (sym c.loaded.ensures)
+    (shown_recorded a c.self.inside.shelf.shown shown records c.loaded-present.result c.self.invariant now names texts rooms).valid
+
+pub returns : goal.returns
+returns c =
+    let a = c.self.inside.shelf.archive in
+    let shown = c.self.inside.shown.items in
+    let records = c.self.inside.records.items in
+    let count : c.len-count.result ≡ length records = search rules in
+    let is_shown : c.show.new.shelf.shown ≡ shown = search rules in
+    let has : HasRoomToShow c.show.new.shelf shown = search rules in
+    let now : c.loaded-present.result.now ≡ loaded_numbers a shown =
+    c.loaded-present.ensures.now
+    ∙ (λ i. record no_numbers { shown = is_shown i; names = (count ∙ sym c.self.invariant.names) i; versions = (count ∙ sym c.self.invariant.versions) i }) in
+    let names : c.loaded-present.result.archive.names ≡ a.names = ap (λ (x : Archived). x.names) c.loaded-present.ensures.archive ∙ c.show.ensures.names in
+    let texts : c.loaded-present.result.archive.texts ≡ a.texts = ap (λ (x : Archived). x.texts) c.loaded-present.ensures.archive ∙ c.show.ensures.texts in
+    let rooms =
+    rooms_kept a c.show.new.shelf shown c.loaded-present.result.rooms c.show.ensures.texts has
+    c.loaded-present.ensures.files c.loaded-present.ensures.defs c.loaded-present.ensures.uses c.loaded-present.ensures.calls in (
+      c.over-2.ensures.timeline ∙ c.loaded.ensures
+          ∙ shown_timeline a c.self.inside.shelf.shown shown records c.loaded-present.result c.self.invariant now names texts rooms
+          ∙ ap (λ (l : Loaded). l.timeline) c.self.view_is,
+      c.over-2.ensures.meter ∙ ap (λ (l : Loaded). l.meter) c.self.view_is,
+    )

@@ -1,0 +1,9 @@
+use Rattle.std.proofs.Common.{rules, ◌≡◌, ap, subst, sym}
+use Rattle.cb_desk.specs.steps.Plans.{IsPlan}
+use Rattle.cb_desk.proofs.FilePlans.{load_planned}
+use Rattle.cb_desk.proofs.present.Present.plan_load.Goals as goal
+
+pub returns : goal.returns
+returns c =
+    load_planned c.args.self.now _ c.args.name.now c.args.version
+    c.requires.kept (search rules) c.requires.fresh (search rules) (search rules) c.in_ok-names.names c.in_ok-versions.versions (search rules) (search rules) (search rules)

@@ -1,0 +1,11 @@
+use Rattle.std.proofs.Common.{rules, ◌≡◌, ap, subst, sym}
+use Rattle.cb_desk.specs.steps.Plans.{IsPlan}
+use Rattle.cb_desk.specs.steps.Records.{Kept}
+use Rattle.cb_desk.specs.steps.Texts.{bytes_if_other}
+use Rattle.cb_desk.proofs.PlacePlans.{places_planned}
+use Rattle.cb_desk.proofs.present.Present.plan_places.Goals as goal
+
+pub returns : goal.returns
+returns c =
+    places_planned c.args.self.now _ (bytes_if_other c.args.wanted) c.args.marks.items c.args.frames.items
+    c.requires.kept (search rules) (search rules) (search rules) (search rules) c.requires.marks c.requires.frames

@@ -1,0 +1,11 @@
+use Rattle.std.proofs.Common.{rules, ◌≡◌, ap, subst, sym}
+use Rattle.cb_desk.specs.steps.Edits.{IsDifference}
+use Rattle.cb_desk.specs.steps.Plans.{IsPlan, places_without}
+use Rattle.cb_desk.proofs.FilePlans.{reload_planned}
+use Rattle.cb_desk.proofs.present.Present.plan_reload.Goals as goal
+
+pub returns : goal.returns
+returns c =
+    reload_planned c.args.self.now _ c.args.file c.args.version c.in_ok-marks.marks.items c.in_ok-frames.frames.items
+    c.requires.kept (search rules) c.requires.among (search rules) (search rules) c.in_ok-versions.versions
+    (search rules) (search rules) (search rules) (search rules)

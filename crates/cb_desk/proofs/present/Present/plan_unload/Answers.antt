@@ -1,0 +1,10 @@
+use Rattle.std.proofs.Common.{rules, ◌≡◌, ap, subst, sym}
+use Rattle.cb_desk.specs.steps.Edits.{IsDifference}
+use Rattle.cb_desk.specs.steps.Plans.{IsPlan, places_without}
+use Rattle.cb_desk.proofs.FilePlans.{unload_planned}
+use Rattle.cb_desk.proofs.present.Present.plan_unload.Goals as goal
+
+pub returns : goal.returns
+returns c =
+    unload_planned c.args.self.now _ c.args.hides c.in_ok-marks.marks.items c.in_ok-frames.frames.items
+    c.requires.kept (search rules) c.requires.among (search rules) (search rules) (search rules) (search rules) (search rules)

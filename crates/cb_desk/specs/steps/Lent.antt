@@ -1,0 +1,51 @@
+-- What iterators over a shelf still give.
+use Rattle.std.specs.Prelude.{ℕ, List, codes, filter, map, Option, Some, None}
+use Rattle.std.specs.List.{flat_map}
+use Rattle.cb_tags.specs.TagLines.{Tag}
+use Rattle.cb_index.specs.Rows.{Fact}
+use Rattle.cb_index.specs.Shelved.{ShownFile}
+use Rattle.cb_index.specs.steps.Includes.{includes_left}
+use Rattle.cb_index.specs.steps.Left.{entries_left, facts_left, tags_left}
+use Rattle.cb_desk.specs.Answer.{AnswerRow, file_rows, is_header, unindented}
+use Rattle.cb_desk.specs.World.{File}
+use Rattle.cb_desk.specs.declared.answers.found.FoundRows.{FoundRows}
+use Rattle.cb_desk.specs.declared.answers.found.FoundRows.TheVariants.{Around, Named, Defs, Headers, Names}
+use Rattle.cb_desk.specs.declared.answers.headers.HeaderRows.{HeaderRows}
+use Rattle.cb_desk.specs.declared.answers.names.NameRows.{NameRows}
+
+-- a file that is shown, without what is found in it
+abbrev pub without_facts : ShownFile → File
+without_facts f = record { name = f.name; bytes = f.bytes }
+
+-- the name in the function column; outside of functions and macros it is `<global>`
+abbrev pub column : Option (List ℕ) → List ℕ
+column None = codes "<global>"
+column (Some name) = name
+
+-- the row of a fact that shows the name around it
+abbrev pub row_around : Fact → AnswerRow
+row_around f = record { file = f.file; function = column f.scope; line = f.line; text = unindented f.text }
+
+-- the row of a fact that shows its own name
+abbrev pub row_named : Fact → AnswerRow
+row_named f = record { file = f.file; function = f.name; line = f.line; text = unindented f.text }
+
+-- the row of a definition
+abbrev pub row_of_tag : Tag → AnswerRow
+row_of_tag t = record { file = t.file; function = t.name; line = t.line; text = unindented t.text }
+
+-- the includes that a pattern asks for
+abbrev pub headers_left : HeaderRows → List Fact
+headers_left r = filter (λ (f : Fact). is_header r.pattern.now f.name) (includes_left r.rest)
+
+-- the rows of the files whose name holds a pattern
+abbrev pub names_left : NameRows → List AnswerRow
+names_left r = flat_map (λ (f : ShownFile). file_rows r.pattern.now f.name) (entries_left r.rest)
+
+-- the rows of a question
+abbrev pub found_left : FoundRows → List AnswerRow
+found_left (Around r) = map row_around (facts_left r)
+found_left (Named r) = map row_named (facts_left r)
+found_left (Defs r) = map row_of_tag (tags_left r)
+found_left (Headers r) = map row_around (headers_left r)
+found_left (Names r) = names_left r

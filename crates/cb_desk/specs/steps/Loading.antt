@@ -1,0 +1,60 @@
+-- Files that are loaded before they are shown.
+use Rattle.std.specs.Prelude.{◌≡◌, ◌≤◌, ℕ, List, [], None, length}
+use Rattle.cb_index.specs.Archived.{Archived}
+use Rattle.cb_index.specs.Files.{AreAscending, call_count, def_count, total, use_count}
+use Rattle.cb_index.specs.Shelved.{Shelved}
+use Rattle.cb_index.specs.declared.entry.Shown.{Shown}
+use Rattle.cb_desk.specs.Timeline.{Timeline}
+use Rattle.cb_desk.specs.steps.Records.{Numbered, Rooms, Turn}
+use Rattle.cb_desk.specs.steps.Walks.{IsRecorded, Recorded}
+
+-- the timeline of the loads, and how many bytes were scanned
+pub record Loaded : Type 0 where
+  pub timeline : Timeline
+  pub meter : ℕ
+
+-- the world of what is loaded, which uses all of the archive
+abbrev pub loaded_numbers : Archived → List Shown → Numbered
+loaded_numbers a shown = record {
+  shown = shown;
+  wanted = None;
+  marks = [];
+  frames = [];
+  names = length a.names;
+  versions = length a.texts;
+}
+
+-- just the room that it needs
+abbrev pub just_room : Archived → List Shown → Rooms
+just_room a shown = record {
+  files = length shown;
+  defs = total def_count a shown;
+  uses = total use_count a shown;
+  calls = total call_count a shown;
+  marks = 0;
+  frames = 0;
+}
+
+-- that world, and the records that take the loads back
+abbrev pub loads_recorded : Archived → List Shown → List Turn → Recorded
+loads_recorded a shown records = record {
+  kept = record { archive = a; turns = length shown; now = loaded_numbers a shown; rooms = just_room a shown };
+  records = records;
+  done = length records;
+}
+
+-- each load brought a name, a version and a record; a shelf does not show them yet
+pub record AreLoaded (a : Archived) (in_shelf shown : List Shown) (records : List Turn) : Type 0 where
+  pub hidden : in_shelf ≡ []
+  pub names : length a.names ≡ length records
+  pub versions : length a.texts ≡ length records
+  pub files : length shown ≡ length records
+  pub ascending : AreAscending a shown
+  pub recorded : IsRecorded (loads_recorded a shown records)
+
+-- a shelf has room for what is loaded
+pub record HasRoomToShow (s : Shelved) (shown : List Shown) : Type 0 where
+  pub files : length shown ≤ s.entry_room
+  pub defs : total def_count s.archive shown ≤ s.def_room
+  pub uses : total use_count s.archive shown ≤ s.use_room
+  pub calls : total call_count s.archive shown ≤ s.call_room

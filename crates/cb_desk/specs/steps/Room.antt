@@ -1,0 +1,42 @@
+-- For how much there has to be room.
+use Rattle.std.specs.Prelude.{◌≡◌, ◌≤◌, ◌+◌, ℕ, List, [], ◌++◌, length, take}
+use Rattle.cb_scan.specs.TextFacts.{TextFacts}
+use Rattle.cb_index.specs.Archived.{Archived}
+use Rattle.cb_index.specs.Files.{call_count, def_count, total, use_count}
+use Rattle.cb_index.specs.declared.entry.Shown.{Shown}
+use Rattle.cb_index.specs.declared.room.Room.{Room}
+use Rattle.cb_index.specs.declared.totals.Totals.{Totals}
+use Rattle.cb_desk.specs.steps.Plans.{Planned}
+use Rattle.cb_desk.specs.steps.Records.{Kept}
+
+-- an archive of these texts
+abbrev pub with_texts : List (List ℕ) → Archived
+with_texts texts = record { names = []; texts = texts; name_room = 0; version_room = 0 }
+
+-- totals with the facts of one version more
+pub record AreMore (facts : TextFacts) (before after : Totals) : Type 0 where
+  pub defs : after.defs ≡ before.defs + length facts.defs
+  pub uses : after.uses ≡ before.uses + length facts.uses
+  pub calls : after.calls ≡ before.calls + length facts.calls
+
+-- totals with the facts of some of these texts more
+pub record AreCounted (texts : List (List ℕ)) (shown : List Shown) (before after : Totals) : Type 0 where
+  pub defs : after.defs ≡ before.defs + total def_count (with_texts texts) shown
+  pub uses : after.uses ≡ before.uses + total use_count (with_texts texts) shown
+  pub calls : after.calls ≡ before.calls + total call_count (with_texts texts) shown
+
+-- the texts that the present world and a plan use
+abbrev pub texts_with : Kept → Planned → List (List ℕ)
+texts_with k p = take k.now.versions k.archive.texts ++ p.texts
+
+-- room for what a plan brings, for all that is shown now, and for all that it shows
+pub record IsRoomFor (k : Kept) (p : Planned) (r : Room) : Type 0 where
+  pub names : r.names ≡ k.now.names + length p.names
+  pub versions : r.versions ≡ k.now.versions + length p.texts
+  pub entries : r.entries ≡ length k.now.shown + length p.turn.shows
+  pub defs : r.defs ≡ total def_count (with_texts (texts_with k p)) k.now.shown
+      + total def_count (with_texts (texts_with k p)) p.turn.shows
+  pub uses : r.uses ≡ total use_count (with_texts (texts_with k p)) k.now.shown
+      + total use_count (with_texts (texts_with k p)) p.turn.shows
+  pub calls : r.calls ≡ total call_count (with_texts (texts_with k p)) k.now.shown
+      + total call_count (with_texts (texts_with k p)) p.turn.shows

@@ -1,0 +1,18 @@
+//! The answers of a desk, row by row, from what a shelf shows. None of them takes memory or scans.
+mod definitions;
+mod distinct;
+mod files;
+mod found;
+mod headers;
+mod look_back;
+mod names;
+mod rows;
+mod tags;
+mod texts;
+
+pub(crate) use definitions::nth_definition;
+pub use files::Files;
+pub(crate) use files::{find_shown, shown_as, source};
+pub use rows::Rows;
+pub use tags::TagRows;
+pub(crate) use tags::tag_rows;

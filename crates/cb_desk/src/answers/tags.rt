@@ -1,0 +1,62 @@
+//! The tags of the files that are shown.
+ghost use Rattle.std.specs.Prelude.{◌≡◌, length};
+ghost use Rattle.std.specs.Iterator.{YieldsFirstBy, item_count};
+ghost use Rattle.std.specs.List.{flat_map};
+ghost use Rattle.cb_scan.specs.Order.{in_order};
+ghost use Rattle.cb_index.specs.Shelved.{files};
+ghost use Rattle.cb_tags.specs.TagLines.{tag_of};
+ghost use Rattle.cb_desk.specs.Tags.{file_tags, tag_key};
+
+use crate::tags::Format;
+use cb_index::{Shelf, TagRows as IndexedTags};
+use cb_tags::TagRow;
+use std::marker::Model;
+
+/// Tags, one after another. They take no memory.
+#[derive(Drop)]
+pub struct TagRows<'a> {
+    rest: IndexedTags<'a>,
+}
+
+impl<'a> Model for TagRows<'a> {
+    ghost use Rattle.std.specs.Prelude.{List};
+    ghost use Rattle.cb_index.specs.steps.Left.{tags_left};
+    ghost use Rattle.cb_tags.specs.TagLines.{Tag};
+
+    ghost Value = { List Tag };
+
+    ghost view = { λ t. tags_left t.rest };
+}
+
+impl<'a> TagRows<'a> {
+    /// How many are left.
+    pub fn len(&self) -> usize
+        ensures { result ≡ length self.now }
+    {
+        self.rest.len()
+    }
+}
+
+impl<'a> Iterator for TagRows<'a> {
+    type Item = TagRow<'a>;
+
+    ghost next_gives = { YieldsFirstBy tag_of (λ tags. tags) };
+
+    ghost remaining = { item_count (λ tags. tags) };
+
+    fn next(&mut self) -> Option<TagRow<'a>> {
+        self.rest.next()
+    }
+}
+
+/// All definitions as tags, in the order of a format.
+pub(crate) fn tag_rows(shelf: &Shelf, format: Format) -> TagRows<'_>
+    ensures { result ≡ in_order (tag_key format) (flat_map file_tags (files shelf.now)) }
+{
+    match format {
+        Format::Plain => TagRows { rest: shelf.tags() },
+        Format::Extended => TagRows {
+            rest: shelf.all_defs(),
+        },
+    }
+}

@@ -1,0 +1,141 @@
+//! The present world, and the records that lead back and on from it.
+ghost use Rattle.std.specs.Prelude.{◌≡◌, ◌<◌, [], ◌∷◌, length, nat_le, MatchResult};
+ghost use Rattle.cb_desk.specs.declared.limits.TheConstants.{MOST_CHANGES};
+ghost use Rattle.cb_desk.specs.World.{World, IsValidWorld};
+ghost use Rattle.cb_desk.specs.steps.Plans.{IsPlan};
+ghost use Rattle.cb_desk.specs.Timeline.{IsValidTimeline, Moves, moved_on, new_timeline, redone, undone};
+ghost use Rattle.cb_desk.specs.Turns.{Turns};
+ghost use Rattle.cb_desk.specs.steps.Walks.{IsKept, IsRecorded, timeline_in};
+
+use crate::Refusal;
+use crate::limits::MOST_CHANGES;
+use crate::plan::Plan;
+use crate::present::Present;
+use crate::record::Record;
+use std::alloc::{AllocError, Global};
+use std::marker::Model;
+
+/// The present world and the records of the other ones. Undo and redo turn the present by a record,
+/// which then leads the other way. They take no memory.
+#[derive(Drop)]
+pub(crate) struct History {
+    present: Present,
+    /// The records that lead back, the nearest last, then those that lead on, the nearest first.
+    records: Vec<Record>,
+    /// How many of them lead back.
+    done: usize,
+}
+
+impl Model for History {
+    ghost use Rattle.cb_desk.specs.steps.Walks.{IsRecorded, Recorded};
+
+    ghost Value = { Recorded };
+
+    ghost view = { λ h. record { kept = h.present; records = h.records.items; done = h.done } };
+
+    ghost invariant = { λ h. IsRecorded (record { kept = h.present; records = h.records.items; done = h.done }) };
+}
+
+impl History {
+    /// The world without a file, with no past and no future. It takes no memory.
+    pub(crate) fn new(alloc: Global) -> History
+        ensures timeline { timeline_in result ≡ new_timeline }
+        ensures turns { result.kept.turns ≡ 0 }
+    {
+        History {
+            present: Present::new(alloc),
+            records: Vec::new(alloc),
+            done: 0,
+        }
+    }
+
+    /// A world, and the records of the changes that led to it.
+    pub(crate) fn loaded(present: Present, records: Vec<Record>) -> History
+        requires { IsRecorded (record { kept = present; records = records.items; done = length records.items }) }
+        ensures { timeline_in result ≡ timeline_in (record { kept = present; records = records.items; done = length records.items }) }
+    {
+        let done = records.len();
+        History {
+            present,
+            records,
+            done,
+        }
+    }
+
+    /// The present world.
+    pub(crate) fn present(&self) -> &Present
+        ensures value { result.now ≡ self.now.kept }
+        ensures kept { IsKept self.now.kept.rooms self.now.kept.archive self.now.kept.now }
+        ensures valid { IsValidTimeline (timeline_in self.now) }
+    {
+        &self.present
+    }
+
+    /// Whether the past is as long as it may be.
+    pub(crate) fn is_full(&self) -> bool
+        ensures { result ≡ nat_le MOST_CHANGES (length (timeline_in self.now).past) }
+    {
+        self.done >= MOST_CHANGES
+    }
+
+    /// Takes the last change back.
+    pub(crate) fn undo(&mut self) -> Result<(), Refusal>
+        ensures timeline { Moves (undone (timeline_in self.old)) (timeline_in self.old) (timeline_in self.new) result }
+        ensures turns { Turns (timeline_in self.old).present (timeline_in self.new).present
+            self.old.kept.turns self.new.kept.turns result }
+    {
+        if self.done == 0 {
+            return Err(Refusal::NothingToUndo);
+        }
+        self.done -= 1;
+        self.present.turn(&mut self.records[self.done]);
+        Ok(())
+    }
+
+    /// Makes the last change that was taken back again.
+    pub(crate) fn redo(&mut self) -> Result<(), Refusal>
+        ensures timeline { Moves (redone (timeline_in self.old)) (timeline_in self.old) (timeline_in self.new) result }
+        ensures turns { Turns (timeline_in self.old).present (timeline_in self.new).present
+            self.old.kept.turns self.new.kept.turns result }
+    {
+        if self.done == self.records.len() {
+            return Err(Refusal::NothingToRedo);
+        }
+        self.present.turn(&mut self.records[self.done]);
+        self.done += 1;
+        Ok(())
+    }
+
+    /// Makes the world that a plan leads to the only one to come.
+    fn set_next(&mut self, plan: Plan) -> Result<(), AllocError>
+        requires { (v : World) × IsPlan self.old.kept plan v × IsValidWorld v × (length (timeline_in self.old).past < MOST_CHANGES) }
+        ensures timeline { (v : World) → IsPlan self.old.kept plan v
+            → MatchResult result (λ _. timeline_in self.new ≡ record (timeline_in self.old) { future = v ∷ [] })
+            (λ _. timeline_in self.new ≡ timeline_in self.old) }
+        ensures turns { self.new.kept.turns ≡ self.old.kept.turns }
+    {
+        self.records.reserve(1)?;
+        self.present.reserve_for(&plan)?;
+        self.records.truncate(self.done);
+        self.present.keep(plan.names, plan.versions);
+        if self.records.push(plan.record).is_err() {
+            unreachable!()
+        }
+        Ok(())
+    }
+
+    /// Goes to the world that a plan leads to. The future is gone.
+    pub(crate) fn go(&mut self, plan: Plan) -> Result<(), AllocError>
+        requires { (v : World) × IsPlan self.old.kept plan v × IsValidWorld v × (length (timeline_in self.old).past < MOST_CHANGES) }
+        ensures timeline { (v : World) → IsPlan self.old.kept plan v
+            → MatchResult result (λ _. timeline_in self.new ≡ moved_on (timeline_in self.old) v) (λ _. timeline_in self.new ≡ timeline_in self.old) }
+        ensures turns { Turns (timeline_in self.old).present (timeline_in self.new).present
+            self.old.kept.turns self.new.kept.turns result }
+    {
+        self.set_next(plan)?;
+        if self.redo().is_err() {
+            unreachable!()
+        }
+        Ok(())
+    }
+}

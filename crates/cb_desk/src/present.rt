@@ -1,0 +1,274 @@
+//! The present world in memory, in the numbers of an archive.
+ghost use Rattle.std.specs.Prelude.{◌≡◌, ◌≤◌, ◌+◌, ◌++◌, [], ⊤, length, map, take, MatchOption, OnOk};
+ghost use Rattle.cb_scan.specs.Order.{in_order};
+ghost use Rattle.cb_index.specs.Files.{shown_name};
+ghost use Rattle.cb_index.specs.Names.{names_of};
+ghost use Rattle.cb_index.specs.Shelved.{CanShowAll, KeepsRoom};
+ghost use Rattle.std.specs.List.Sorted.{IsStrictlyIncreasing};
+ghost use Rattle.cb_desk.specs.Desk.{counted};
+ghost use Rattle.cb_desk.specs.steps.Edits.{turned_edits, edited};
+ghost use Rattle.cb_desk.specs.steps.Plans.{HasRoomFor};
+ghost use Rattle.cb_desk.specs.steps.Records.{AreThere, Fits, IsTurn, KeepsRooms, hidden, kept_wanted, no_numbers, other, other_wanted, turned, without};
+ghost use Rattle.cb_desk.specs.steps.Room.{IsRoomFor};
+ghost use Rattle.cb_desk.specs.steps.Texts.{bytes_if, bytes_if_other};
+
+mod changes;
+mod counts;
+pub(crate) mod files;
+mod marks;
+mod moved;
+mod places;
+mod readers;
+pub(crate) mod refusals;
+mod remaining;
+pub(crate) mod renewal;
+mod replace;
+mod replaced;
+mod replacement;
+
+use crate::edits::{Edit, turn_edits};
+use crate::place_list::PlaceList;
+use crate::plan::Plan;
+use crate::record::Record;
+use cb_index::{Room, Shelf, Shown, Version};
+use counts::with_versions;
+use std::alloc::{AllocError, Global};
+use std::marker::Model;
+use std::mem;
+
+/// What is shown of an archive, the wanted text, the marks by file and line, the frames, bottom first;
+/// and how many names and versions of the archive this world and those before it use.
+#[derive(Drop)]
+pub(crate) struct Present {
+    shelf: Shelf,
+    wanted: Option<Vec<u8>>,
+    marks: PlaceList,
+    frames: PlaceList,
+    names: u32,
+    versions: u32,
+}
+
+impl Model for Present {
+    ghost use Rattle.cb_desk.specs.steps.Records.{Kept};
+    ghost use Rattle.cb_desk.specs.steps.Texts.{bytes_if};
+
+    ghost Value = { Kept };
+
+    ghost view = { λ p. record {
+      archive = p.shelf.archive;
+      turns = p.shelf.turns;
+      now = record {
+        shown = p.shelf.shown;
+        wanted = bytes_if p.wanted;
+        marks = p.marks.places;
+        frames = p.frames.places;
+        names = p.names;
+        versions = p.versions;
+      };
+      rooms = record {
+        files = p.shelf.entry_room;
+        defs = p.shelf.def_room;
+        uses = p.shelf.use_room;
+        calls = p.shelf.call_room;
+        marks = p.marks.room;
+        frames = p.frames.room;
+      };
+    } };
+}
+
+/// Hides some files and shows others, and swaps the two lists.
+fn turn_shown(shelf: &mut Shelf, hides: &mut Vec<Shown>, shows: &mut Vec<Shown>)
+    requires hides { IsStrictlyIncreasing (names_of hides.old.items) }
+    requires shows { CanShowAll (hidden shelf.old hides.old.items) shows.old.items }
+    ensures shown { shelf.new.shown ≡ in_order (shown_name shelf.old.archive)
+        (without hides.old.items shelf.old.shown ++ shows.old.items) }
+    ensures archive { shelf.new.archive ≡ shelf.old.archive }
+    ensures hides { hides.new.items ≡ shows.old.items }
+    ensures shows { shows.new.items ≡ hides.old.items }
+    ensures turns { shelf.new.turns ≡ counted shelf.old.turns (length hides.old.items + length shows.old.items) }
+    ensures rise { shelf.old.turns ≤ shelf.new.turns }
+    ensures room { KeepsRoom shelf.old shelf.new }
+{
+    // The count is a `u64`, so that it does not fall where it stops.
+    let _turns = shelf.turns();
+    shelf.hide_all(hides.as_slice());
+    shelf.show_all(shows.as_slice());
+    mem::swap(hides, shows);
+}
+
+/// Swaps the wanted text with another one, if there is another.
+fn turn_wanted(wanted: &mut Option<Vec<u8>>, other: &mut Option<Option<Vec<u8>>>)
+    ensures wanted { bytes_if wanted.new ≡ other_wanted (bytes_if_other other.old) (bytes_if wanted.old) }
+    ensures other { bytes_if_other other.new ≡ kept_wanted (bytes_if_other other.old) (bytes_if wanted.old) }
+{
+    if let Some(text) = other {
+        mem::swap(text, wanted);
+    }
+}
+
+/// Makes edits, and makes them those that take them back.
+fn turn_places(places: &mut PlaceList, edits: &mut Vec<Edit>)
+    requires { length (edited edits.old.items places.old.places) ≤ places.old.room }
+    ensures places { places.new.places ≡ edited edits.old.items places.old.places }
+    ensures edits { edits.new.items ≡ turned_edits edits.old.items }
+    ensures room { places.old.room ≤ places.new.room }
+{
+    places.edit(edits.as_slice());
+    turn_edits(edits.as_mut_slice());
+}
+
+/// Keeps names, in the room that is there.
+fn keep_names(shelf: &mut Shelf, names: Vec<Vec<u8>>)
+    requires { length shelf.old.archive.names + length names.items ≤ shelf.old.archive.name_room }
+    ensures names { shelf.new.archive.names ≡ shelf.old.archive.names ++ map (λ n. n.items) names.items }
+    ensures texts { shelf.new.archive.texts ≡ shelf.old.archive.texts }
+    ensures shown { shelf.new.shown ≡ shelf.old.shown }
+    ensures turns { shelf.new.turns ≡ shelf.old.turns }
+    ensures room { KeepsRoom shelf.old shelf.new }
+{
+    for name in names {
+        let _ = shelf.push_name(name);
+    }
+}
+
+/// Keeps versions, in the room that is there.
+fn keep_versions(shelf: &mut Shelf, versions: Vec<Version>)
+    requires { length shelf.old.archive.texts + length versions.items ≤ shelf.old.archive.version_room }
+    ensures texts { shelf.new.archive.texts ≡ shelf.old.archive.texts ++ versions.items }
+    ensures names { shelf.new.archive.names ≡ shelf.old.archive.names }
+    ensures shown { shelf.new.shown ≡ shelf.old.shown }
+    ensures turns { shelf.new.turns ≡ shelf.old.turns }
+    ensures room { KeepsRoom shelf.old shelf.new }
+{
+    for version in versions {
+        let _ = shelf.push_version(version);
+    }
+}
+
+/// A number and a count together, if they are a number.
+fn sum(number: u32, count: usize) -> Option<u32>
+    ensures { MatchOption result ⊤ (λ n. n ≡ number + count) }
+{
+    let count = u32::try_from(count).ok()?;
+    number.checked_add(count)
+}
+
+impl Present {
+    /// The world without a file. It takes no memory.
+    pub(crate) fn new(alloc: Global) -> Present
+        ensures now { result.now ≡ no_numbers }
+        ensures names { result.archive.names ≡ [] }
+        ensures texts { result.archive.texts ≡ [] }
+        ensures turns { result.turns ≡ 0 }
+    {
+        Present {
+            shelf: Shelf::new(alloc),
+            wanted: None,
+            marks: PlaceList::new(alloc),
+            frames: PlaceList::new(alloc),
+            names: 0,
+            versions: 0,
+        }
+    }
+
+    /// The world of a shelf that shows so many files, each under a name of its own.
+    pub(crate) fn loaded(alloc: Global, shelf: Shelf, count: u32) -> Present
+        ensures now { result.now ≡ record no_numbers { shown = shelf.shown; names = count; versions = count } }
+        ensures archive { result.archive ≡ shelf.archive }
+        ensures files { result.rooms.files ≡ shelf.entry_room }
+        ensures defs { result.rooms.defs ≡ shelf.def_room }
+        ensures uses { result.rooms.uses ≡ shelf.use_room }
+        ensures calls { result.rooms.calls ≡ shelf.call_room }
+    {
+        Present {
+            shelf,
+            wanted: None,
+            marks: PlaceList::new(alloc),
+            frames: PlaceList::new(alloc),
+            names: count,
+            versions: count,
+        }
+    }
+
+    /// Goes to the world that a record leads to. Then the record leads back.
+    pub(crate) fn turn(&mut self, way: &mut Record)
+        requires turn { IsTurn self.old.archive way.old self.old.now }
+        requires there { AreThere self.old.archive (other self.old.archive way.old self.old.now) }
+        requires room { Fits self.old.rooms self.old.archive (other self.old.archive way.old self.old.now) }
+        ensures now { self.new.now ≡ other self.old.archive way.old self.old.now }
+        ensures way { way.new ≡ turned way.old self.old.now }
+        ensures archive { self.new.archive ≡ self.old.archive }
+        ensures turns { self.new.turns ≡ counted self.old.turns (length way.old.hides + length way.old.shows) }
+        ensures rise { self.old.turns ≤ self.new.turns }
+        ensures rooms { KeepsRooms self.old.rooms self.new.rooms }
+    {
+        turn_shown(&mut self.shelf, &mut way.hides, &mut way.shows);
+        turn_wanted(&mut self.wanted, &mut way.wanted);
+        turn_places(&mut self.marks, &mut way.marks);
+        turn_places(&mut self.frames, &mut way.frames);
+        mem::swap(&mut self.names, &mut way.names);
+        mem::swap(&mut self.versions, &mut way.versions);
+    }
+
+    /// The room for what a plan brings, for all that is shown and for all that it shows, if its
+    /// numbers are.
+    fn room_for(&self, plan: &Plan) -> Option<Room>
+        requires { AreThere self.now.archive self.now.now }
+        ensures { MatchOption result ⊤ (IsRoomFor self.now plan.now) }
+    {
+        let archive = self.shelf.archive();
+        let shown = self.shelf.shown();
+        let shows = plan.record.shows.as_slice();
+        let news = plan.versions.as_slice();
+        let now = self.shelf.totals();
+        let all = with_versions(archive, self.versions, news, shows, now)?;
+        Some(Room {
+            versions: sum(self.versions, plan.versions.len())?,
+            names: sum(self.names, plan.names.len())?,
+            entries: sum(u32::try_from(shown.len()).ok()?, shows.len())?,
+            defs: all.defs,
+            uses: all.uses,
+            calls: all.calls,
+        })
+    }
+
+    /// Makes room for the world that a plan leads to, and for what it brings.
+    pub(crate) fn reserve_for(&mut self, plan: &Plan) -> Result<(), AllocError>
+        requires { AreThere self.old.archive self.old.now }
+        ensures names { OnOk result (self.old.now.names + length plan.now.names ≤ self.new.archive.name_room) }
+        ensures versions { OnOk result (self.old.now.versions + length plan.now.texts ≤ self.new.archive.version_room) }
+        ensures fits { OnOk result (HasRoomFor self.new.rooms self.old.archive self.old.now plan.now) }
+        ensures same_names { self.new.archive.names ≡ self.old.archive.names }
+        ensures same_texts { self.new.archive.texts ≡ self.old.archive.texts }
+        ensures now { self.new.now ≡ self.old.now }
+        ensures turns { self.new.turns ≡ self.old.turns }
+        ensures rooms { KeepsRooms self.old.rooms self.new.rooms }
+    {
+        let room = self.room_for(plan).ok_or(AllocError)?;
+        match self.shelf.reserve(&room) {
+            Ok(()) => {}
+            Err(_) => return Err(AllocError),
+        }
+        self.marks.reserve_more(plan.record.marks.len())?;
+        self.frames.reserve_more(plan.record.frames.len())
+    }
+
+    /// Drops from the archive what only later worlds use, and keeps new names and versions, in the
+    /// room that is there.
+    pub(crate) fn keep(&mut self, names: Vec<Vec<u8>>, versions: Vec<Version>)
+        requires there { AreThere self.old.archive self.old.now }
+        requires names { self.old.now.names + length names.items ≤ self.old.archive.name_room }
+        requires versions { self.old.now.versions + length versions.items ≤ self.old.archive.version_room }
+        ensures names { self.new.archive.names
+            ≡ take self.old.now.names self.old.archive.names ++ map (λ n. n.items) names.items }
+        ensures texts { self.new.archive.texts
+            ≡ take self.old.now.versions self.old.archive.texts ++ versions.items }
+        ensures now { self.new.now ≡ self.old.now }
+        ensures turns { self.new.turns ≡ self.old.turns }
+        ensures rooms { KeepsRooms self.old.rooms self.new.rooms }
+    {
+        self.shelf.truncate(self.versions, self.names);
+        keep_names(&mut self.shelf, names);
+        keep_versions(&mut self.shelf, versions);
+    }
+}

@@ -1,0 +1,57 @@
+//! How many facts versions have.
+ghost use Rattle.std.specs.Prelude.{◌≡◌, ◌≤◌, ◌++◌, ⊤, length, map, take, slice_get, MatchOption};
+ghost use Rattle.std.specs.Option.{option_copied, option_map};
+ghost use Rattle.cb_scan.specs.Definitions.{facts_of};
+ghost use Rattle.cb_desk.specs.steps.Room.{AreCounted, AreMore};
+
+use cb_index::{Archive, Shown, Totals, Version};
+use cb_scan::Facts;
+
+/// The facts of a version: one of the first that are kept, so many, or one that is new.
+fn facts_at<'a>(
+    archive: &'a Archive,
+    kept: u32,
+    news: &'a [Version],
+    version: u32,
+) -> Option<&'a Facts>
+    requires { kept ≤ length archive.now.texts }
+    ensures { option_copied result ≡ option_map facts_of (slice_get (take kept archive.now.texts ++ news.now) version) }
+{
+    if version < kept {
+        return Some(archive.facts(version));
+    }
+    let new = news.get((version - kept) as usize)?;
+    Some(new.facts())
+}
+
+/// The totals with facts added, if they are numbers.
+fn with_facts(totals: Totals, facts: &Facts) -> Option<Totals>
+    ensures { MatchOption result ⊤ (AreMore facts.now totals) }
+{
+    Some(Totals {
+        defs: totals.defs.checked_add(facts.defs().len() as u64)?,
+        uses: totals.uses.checked_add(facts.uses().len() as u64)?,
+        calls: totals.calls.checked_add(facts.calls().len() as u64)?,
+    })
+}
+
+/// The totals with the facts of versions added, if they are numbers. A version is one of the first
+/// that are kept, so many, or one that is new.
+pub(crate) fn with_versions(
+    archive: &Archive,
+    kept: u32,
+    news: &[Version],
+    shown: &[Shown],
+    before: Totals,
+) -> Option<Totals>
+    requires { kept ≤ length archive.now.texts }
+    ensures { MatchOption result ⊤ (AreCounted (take kept archive.now.texts ++ news.now) shown.now before) }
+{
+    let mut totals = before;
+    for s in shown {
+        if let Some(facts) = facts_at(archive, kept, news, s.version) {
+            totals = with_facts(totals, facts)?;
+        }
+    }
+    Some(totals)
+}

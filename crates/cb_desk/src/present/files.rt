@@ -1,0 +1,208 @@
+//! Plans that change the files.
+ghost use Rattle.std.specs.Prelude.{◌≡◌, ◌∷◌, [], false, IfOk};
+ghost use Rattle.cb_index.specs.Archived.{name_of};
+ghost use Rattle.cb_index.specs.Files.{files_of};
+ghost use Rattle.cb_desk.specs.Files.{loaded, reloaded, renamed, unloaded};
+ghost use Rattle.cb_desk.specs.World.{has_file};
+ghost use Rattle.cb_desk.specs.steps.Edits.{IsDifference};
+ghost use Rattle.cb_desk.specs.steps.Plans.{IsAmong, IsPlan, places_without};
+ghost use Rattle.cb_desk.specs.steps.Records.{world_in};
+ghost use Rattle.cb_desk.specs.steps.Walks.{IsKept};
+
+use crate::edits::{Edit, difference};
+use crate::plan::Plan;
+use crate::present::moved::{edits_moved, edits_renumbered};
+use crate::present::{Present, sum};
+use crate::record::Record;
+use crate::spot::NumberedPlace;
+use cb_index::{Archive, Shown, Version};
+use std::alloc::{AllocError, Global};
+
+/// The places that are not in the file of that name.
+fn places_without(
+    alloc: Global,
+    archive: &Archive,
+    name: &[u8],
+    places: &[NumberedPlace],
+) -> Result<Vec<NumberedPlace>, AllocError>
+    ensures { IfOk result (λ kept. kept.items ≡ places_without archive.now name.now places.now) }
+{
+    let mut kept = Vec::new(alloc);
+    for place in places {
+        if archive.name(place.name) != name {
+            kept.push(*place)?;
+        }
+    }
+    Ok(kept)
+}
+
+/// The edits that take the places of a file away.
+fn edits_without(
+    alloc: Global,
+    archive: &Archive,
+    gone: u32,
+    places: &[NumberedPlace],
+) -> Result<Vec<Edit>, AllocError>
+    ensures { IfOk result (λ edits. IsDifference edits.items places.now
+        (places_without archive.now (name_of archive.now gone) places.now)) }
+{
+    let kept = places_without(alloc, archive, archive.name(gone), places)?;
+    difference(alloc, Some(gone), places, kept.as_slice())
+}
+
+/// A list of one.
+pub(crate) fn only_one<T: Drop>(alloc: Global, one: T) -> Result<Vec<T>, AllocError>
+    ensures { IfOk result (λ list. list.items ≡ one ∷ []) }
+{
+    let mut list = Vec::with_capacity(alloc, 1)?;
+    list.push(one)?;
+    Ok(list)
+}
+
+impl Present {
+    /// The plan to take a file away, with its marks and frames.
+    pub(crate) fn plan_unload(&self, alloc: Global, hides: Shown) -> Result<Plan, AllocError>
+        requires kept { IsKept self.now.rooms self.now.archive self.now.now }
+        requires among { IsAmong self.now.now.shown hides }
+        ensures { IfOk result (λ p. IsPlan self.now p (unloaded (world_in self.now.archive self.now.now)
+            (name_of self.now.archive hides.name))) }
+    {
+        let _shown = self.shelf.shown();
+        let archive = self.shelf.archive();
+        let marks = edits_without(alloc, archive, hides.name, self.marks.as_slice())?;
+        let frames = edits_without(alloc, archive, hides.name, self.frames.as_slice())?;
+        Ok(Plan {
+            names: Vec::new(alloc),
+            versions: Vec::new(alloc),
+            record: Record {
+                hides: only_one(alloc, hides)?,
+                shows: Vec::new(alloc),
+                wanted: None,
+                marks,
+                frames,
+                names: self.names,
+                versions: self.versions,
+            },
+        })
+    }
+
+    /// The plan to load a file. No file of that name is shown.
+    pub(crate) fn plan_load(
+        &self,
+        alloc: Global,
+        name: &[u8],
+        version: Version,
+    ) -> Result<Plan, AllocError>
+        requires kept { IsKept self.now.rooms self.now.archive self.now.now }
+        requires fresh { has_file (files_of self.now.archive self.now.now.shown) name.now ≡ false }
+        ensures { IfOk result (λ p. IsPlan self.now p (loaded (world_in self.now.archive self.now.now)
+            name.now version)) }
+    {
+        let _shown = self.shelf.shown();
+        let new = Shown {
+            name: self.names,
+            version: self.versions,
+        };
+        let names = sum(self.names, 1).ok_or(AllocError)?;
+        let versions = sum(self.versions, 1).ok_or(AllocError)?;
+        Ok(Plan {
+            names: only_one(alloc, Vec::from_slice(alloc, name)?)?,
+            versions: only_one(alloc, version)?,
+            record: Record {
+                hides: Vec::new(alloc),
+                shows: only_one(alloc, new)?,
+                wanted: None,
+                marks: Vec::new(alloc),
+                frames: Vec::new(alloc),
+                names,
+                versions,
+            },
+        })
+    }
+
+    /// The plan to give a file another version, without its marks and frames.
+    pub(crate) fn plan_reload(
+        &self,
+        alloc: Global,
+        file: Shown,
+        version: Version,
+    ) -> Result<Plan, AllocError>
+        requires kept { IsKept self.now.rooms self.now.archive self.now.now }
+        requires among { IsAmong self.now.now.shown file }
+        ensures { IfOk result (λ p. IsPlan self.now p (reloaded (world_in self.now.archive self.now.now)
+            (name_of self.now.archive file.name) version)) }
+    {
+        let _shown = self.shelf.shown();
+        let archive = self.shelf.archive();
+        let marks = edits_without(alloc, archive, file.name, self.marks.as_slice())?;
+        let frames = edits_without(alloc, archive, file.name, self.frames.as_slice())?;
+        let changed = Shown {
+            name: file.name,
+            version: self.versions,
+        };
+        let versions = sum(self.versions, 1).ok_or(AllocError)?;
+        Ok(Plan {
+            names: Vec::new(alloc),
+            versions: only_one(alloc, version)?,
+            record: Record {
+                hides: only_one(alloc, file)?,
+                shows: only_one(alloc, changed)?,
+                wanted: None,
+                marks,
+                frames,
+                names: self.names,
+                versions,
+            },
+        })
+    }
+
+    /// The plan to give a file another name, that no file has, with its marks and frames.
+    pub(crate) fn plan_rename(
+        &self,
+        alloc: Global,
+        old: Shown,
+        new: &[u8],
+    ) -> Result<Plan, AllocError>
+        requires kept { IsKept self.now.rooms self.now.archive self.now.now }
+        requires among { IsAmong self.now.now.shown old }
+        requires fresh { has_file (files_of self.now.archive self.now.now.shown) new.now ≡ false }
+        ensures { IfOk result (λ p. IsPlan self.now p (renamed (world_in self.now.archive self.now.now)
+            (name_of self.now.archive old.name) new.now)) }
+    {
+        let _shown = self.shelf.shown();
+        let archive = self.shelf.archive();
+        let marks = edits_moved(
+            alloc,
+            archive,
+            old.name,
+            self.names,
+            new,
+            self.marks.as_slice(),
+        )?;
+        let frames = edits_renumbered(
+            alloc,
+            archive,
+            old.name,
+            self.names,
+            self.frames.as_slice(),
+        )?;
+        let moved = Shown {
+            name: self.names,
+            version: old.version,
+        };
+        let names = sum(self.names, 1).ok_or(AllocError)?;
+        Ok(Plan {
+            names: only_one(alloc, Vec::from_slice(alloc, new)?)?,
+            versions: Vec::new(alloc),
+            record: Record {
+                hides: only_one(alloc, old)?,
+                shows: only_one(alloc, moved)?,
+                wanted: None,
+                marks,
+                frames,
+                names,
+                versions: self.versions,
+            },
+        })
+    }
+}

@@ -1,0 +1,79 @@
+//! What is read of the present world. None of it takes memory.
+ghost use Rattle.std.specs.Prelude.{◌≡◌, ◌≢◌, [], map};
+ghost use Rattle.std.specs.Option.{option_copied};
+ghost use Rattle.cb_index.specs.Files.{files_of};
+ghost use Rattle.cb_desk.specs.Answer.{answer};
+ghost use Rattle.cb_desk.specs.Tags.{tags};
+ghost use Rattle.cb_desk.specs.World.{AreValidFiles, text_named};
+ghost use Rattle.cb_desk.specs.steps.Records.{place_in, world_in};
+
+use crate::answers::{Files, Rows, TagRows, source, tag_rows};
+use crate::places::Places;
+use crate::present::Present;
+use crate::rows::Field;
+use crate::tags::Format;
+use cb_scan::Source;
+
+impl Present {
+    /// How often a file was shown or hidden, up to the greatest number.
+    pub(crate) fn turns(&self) -> u64
+        ensures { result ≡ self.now.turns }
+    {
+        self.shelf.turns()
+    }
+
+    /// The files, by name.
+    pub(crate) fn files(&self) -> Files<'_>
+        ensures { result ≡ files_of self.now.archive self.now.now.shown }
+    {
+        Files::new(&self.shelf)
+    }
+
+    /// The text of the file of that name, if there is one.
+    pub(crate) fn source(&self, name: &[u8]) -> Option<&Source>
+        ensures { option_copied result ≡ text_named (files_of self.now.archive self.now.now.shown) name.now }
+    {
+        source(&self.shelf, name)
+    }
+
+    /// The wanted text.
+    pub(crate) fn wanted(&self) -> Option<&[u8]>
+        ensures { option_copied result ≡ self.now.now.wanted }
+    {
+        match &self.wanted {
+            Some(text) => Some(text.as_slice()),
+            None => None,
+        }
+    }
+
+    /// The marks, by file and line.
+    pub(crate) fn marks(&self) -> Places<'_>
+        ensures { result ≡ map (place_in self.now.archive) self.now.now.marks }
+    {
+        Places::new(self.shelf.archive(), self.marks.as_slice())
+    }
+
+    /// The frames, bottom first.
+    pub(crate) fn frames(&self) -> Places<'_>
+        ensures { result ≡ map (place_in self.now.archive) self.now.now.frames }
+    {
+        Places::new(self.shelf.archive(), self.frames.as_slice())
+    }
+
+    /// The rows that answer a question; equal ones once.
+    pub(crate) fn rows<'a, 'p>(&'a self, field: Field, pattern: &'p [u8]) -> Rows<'a, 'p>
+        requires some { pattern.now ≢ [] }
+        requires valid { AreValidFiles (files_of self.now.archive self.now.now.shown) }
+        ensures { result ≡ answer (world_in self.now.archive self.now.now) field pattern.now }
+    {
+        Rows::new(&self.shelf, field, pattern)
+    }
+
+    /// All definitions as tags, in the order of a format.
+    #[tactic(auto, unfolding(crate::specs::Tags::tags))]
+    pub(crate) fn tag_rows(&self, format: Format) -> TagRows<'_>
+        ensures { result ≡ tags format (world_in self.now.archive self.now.now) }
+    {
+        tag_rows(&self.shelf, format)
+    }
+}

@@ -1,0 +1,129 @@
+//! The replacement of the wanted text on the marked lines.
+ghost use Rattle.std.specs.Prelude.{◌≡◌, ◌≤◌, true, length, None, Some, IfOk};
+ghost use Rattle.cb_scan.specs.Bytes.{line_feed};
+ghost use Rattle.cb_desk.specs.Desk.{CountsUpTo, bytes_in, new_texts};
+ghost use Rattle.cb_desk.specs.Marks.{replace_refusal, replaced_files, replaced_on_marks, with_files};
+ghost use Rattle.cb_desk.specs.World.{IsValidWorld, is_short};
+ghost use Rattle.cb_desk.specs.steps.Plans.{IsPlan};
+ghost use Rattle.cb_desk.specs.steps.Records.{world_in};
+ghost use Rattle.cb_desk.specs.steps.Replaced.{files_changed, files_then, line_counts, texts_of};
+ghost use Rattle.cb_desk.specs.steps.Walks.{IsKept};
+
+use crate::Refusal;
+use crate::edits::difference;
+use crate::plan::Plan;
+use crate::present::refusals::is_short;
+use crate::present::renewal::{new_versions, old_versions, sorted_renewals};
+use crate::present::replaced::{NewTexts, Replacing, new_texts};
+use crate::present::{Present, sum};
+use crate::record::Record;
+use cb_scan::Meter;
+use std::alloc::{AllocError, Global};
+
+impl Present {
+    /// The replacement of a text, which is the wanted one, on the marked lines.
+    fn replacing<'a>(&'a self, old: &'a [u8], new: &'a [u8]) -> Replacing<'a>
+        requires wanted { self.now.now.wanted ≡ Some old.now }
+        requires valid { IsValidWorld (world_in self.now.archive self.now.now) }
+        requires short { is_short new.now ≡ true }
+        ensures archive { result.archive.now ≡ self.now.archive }
+        ensures marks { result.marks.now ≡ self.now.now.marks }
+        ensures old { result.old.now ≡ old.now }
+        ensures new { result.new.now ≡ new.now }
+    {
+        Replacing {
+            archive: self.shelf.archive(),
+            marks: self.marks.as_slice(),
+            old,
+            new,
+        }
+    }
+
+    /// Why the wanted text can't be replaced, if it can't: the lowest refusal that applies.
+    pub(crate) fn replace_refusal(&self, text: &[u8]) -> Option<Refusal>
+        requires kept { IsKept self.now.rooms self.now.archive self.now.now }
+        requires valid { IsValidWorld (world_in self.now.archive self.now.now) }
+        ensures { result ≡ replace_refusal (world_in self.now.archive self.now.now) text.now }
+    {
+        if !is_short(text) {
+            return Some(Refusal::BadText);
+        }
+        let Some(wanted) = &self.wanted else {
+            return Some(Refusal::NothingWanted);
+        };
+        if self.marks.as_slice().is_empty() {
+            Some(Refusal::NothingMarked)
+        } else if self
+            .replacing(wanted.as_slice(), text)
+            .has_large(self.shelf.shown())
+        {
+            Some(Refusal::TooLarge)
+        } else {
+            None
+        }
+    }
+
+    /// The plan to show new versions of the files with a mark.
+    fn plan_renewed(
+        &self,
+        alloc: Global,
+        replacing: Replacing<'_>,
+        texts: NewTexts,
+    ) -> Result<Plan, AllocError>
+        requires kept { IsKept self.now.rooms self.now.archive self.now.now }
+        requires archive { replacing.archive.now ≡ self.now.archive }
+        requires marks { replacing.marks.now ≡ self.now.now.marks }
+        requires versions { texts.versions.items ≡ texts_of
+            (files_changed self.now.archive self.now.now.marks replacing.old.now replacing.new.now self.now.now.shown) }
+        requires lines { texts.lines.items ≡ line_counts
+            (files_then self.now.archive self.now.now.marks replacing.old.now replacing.new.now self.now.now.shown) }
+        ensures { IfOk result (λ p. IsPlan self.now p (with_files (world_in self.now.archive self.now.now)
+            (replaced_files replacing.entry.old.now replacing.entry.new.now (world_in self.now.archive self.now.now)))) }
+    {
+        let shown = self.shelf.shown();
+        let marked = replacing.marked_files(alloc, shown)?;
+        let renewals = sorted_renewals(alloc, marked.as_slice(), self.versions)?;
+        let lines = texts.lines.as_slice();
+        let frames = replacing.edits_remaining(alloc, shown, lines, self.frames.as_slice())?;
+        let marks = difference(alloc, None, self.marks.as_slice(), &[])?;
+        let versions = sum(self.versions, texts.versions.len()).ok_or(AllocError)?;
+        Ok(Plan {
+            names: Vec::new(alloc),
+            versions: texts.versions,
+            record: Record {
+                hides: old_versions(alloc, renewals.as_slice())?,
+                shows: new_versions(alloc, renewals.as_slice())?,
+                wanted: Some(None),
+                marks,
+                frames,
+                names: self.names,
+                versions,
+            },
+        })
+    }
+
+    /// The plan to put another text in place of the wanted one on the marked lines. The new contents
+    /// are scanned, and no other files.
+    pub(crate) fn plan_replace(
+        &self,
+        alloc: Global,
+        meter: &mut Meter,
+        text: &[u8],
+    ) -> Result<Plan, AllocError>
+        requires kept { IsKept self.now.rooms self.now.archive self.now.now }
+        requires valid { IsValidWorld (world_in self.now.archive self.now.now) }
+        requires accepted { replace_refusal (world_in self.now.archive self.now.now) text.now ≡ None }
+        ensures plan { IfOk result (λ p. IsPlan self.now p (replaced_on_marks (world_in self.now.archive self.now.now)
+            self.now.now.wanted text.now)) }
+        ensures meter { CountsUpTo (bytes_in (new_texts (world_in self.now.archive self.now.now) text.now))
+            meter.old meter.new result }
+    {
+        let _counted = meter.read();
+        let Some(wanted) = &self.wanted else {
+            return Err(AllocError);
+        };
+        let replacing = self.replacing(wanted.as_slice(), text);
+        let texts = new_texts(alloc, meter, replacing, self.shelf.shown())?;
+        self.plan_renewed(alloc, replacing, texts)
+    }
+}

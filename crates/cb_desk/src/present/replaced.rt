@@ -1,0 +1,241 @@
+//! Files with a text replaced on their marked lines, and new versions of them.
+ghost use Rattle.std.specs.Prelude.{◌≡◌, ◌≢◌, ◌≤◌, ◌++◌, ◌∷◌, [], true, false, length, drop, filter, map, IfOk};
+ghost use Rattle.std.proofs.lemmas.Map.Keys.{IsStrictlySortedBy-prop};
+ghost use Rattle.std.specs.Cmp.Lexicographic.{slice_cmp};
+ghost use Rattle.std.specs.List.{AllByRecursion, list_any, prefix_len};
+ghost use Rattle.std.specs.List.Sorted.{IsPartitionPoint, IsStrictlySortedBy};
+ghost use Rattle.std.specs.Ordering.{is_lt, nat_cmp};
+ghost use Rattle.cb_index.specs.Archived.{name_of};
+ghost use Rattle.cb_index.specs.Files.{IsThere, files_of};
+ghost use Rattle.cb_scan.specs.Lines.{lines};
+ghost use Rattle.cb_desk.specs.Desk.{CountsUpTo, bytes_in};
+ghost use Rattle.cb_desk.specs.Marks.{is_too_large, marked_lines, replaced_file};
+ghost use Rattle.cb_desk.specs.Places.{is_in};
+ghost use Rattle.cb_desk.specs.World.{AreAscending};
+ghost use Rattle.cb_desk.specs.declared.limits.TheConstants.{MOST_BYTES};
+ghost use Rattle.cb_desk.specs.steps.Records.{place_in};
+ghost use Rattle.cb_desk.specs.steps.Replaced.{file_then, files_changed, files_then, has_mark, line_counts, places_in, texts_of};
+
+use crate::limits::MOST_BYTES;
+use crate::present::replacement::{replaced_len, replaced_text};
+use crate::scanned::scanned_source;
+use crate::spot::NumberedPlace;
+use cb_index::{Archive, Shown, Version};
+use cb_scan::{Meter, Source};
+use std::alloc::{AllocError, Global};
+use std::cmp::Ordering;
+
+/// Whether a place is in the file of that name.
+fn is_in(archive: &Archive, place: NumberedPlace, name: &[u8]) -> bool
+    ensures { result ≡ is_in name.now (place_in archive.now place) }
+{
+    archive.name(place.name) == name
+}
+
+/// How many marks at the front are in the file of that name.
+fn count_in(archive: &Archive, marks: &[NumberedPlace], name: &[u8]) -> usize
+    ensures value { result ≡ prefix_len (λ m. is_in name.now (place_in archive.now m)) marks.now }
+    ensures within { result ≤ length marks.now }
+{
+    marks
+        .iter()
+        .take_while(|mark| is_in(archive, **mark, name))
+        .count()
+}
+
+/// Where the marks begin whose file names are not below a name. It looks by halves.
+fn start_of(archive: &Archive, marks: &[NumberedPlace], name: &[u8]) -> usize
+    requires { AreAscending (places_in archive.now marks.now) }
+    ensures within { result ≤ length marks.now }
+    ensures parted { IsPartitionPoint
+        (λ m. is_lt (slice_cmp nat_cmp (name_of archive.now m.name) name.now) ≡ true)
+        (λ m. is_lt (slice_cmp nat_cmp (name_of archive.now m.name) name.now) ≡ false)
+        marks.now result }
+{
+    marks.partition_point(
+        |m: &NumberedPlace| -> bool
+            ensures { result ≡ is_lt (slice_cmp nat_cmp (name_of archive.entry.now m.now.name) name.entry.now) }
+        { archive.name(m.name).cmp(name) == Ordering::Less },
+    )
+}
+
+/// What is put in the place of what on which lines.
+#[derive(Clone, Copy)]
+pub(crate) struct Replacing<'a> {
+    pub(crate) archive: &'a Archive,
+    /// The marks, by file and line.
+    pub(crate) marks: &'a [NumberedPlace],
+    pub(crate) old: &'a [u8],
+    pub(crate) new: &'a [u8],
+    ghost some: { old.now ≢ [] },
+    ghost short: { length new.now ≤ MOST_BYTES },
+    ghost ascending: { AreAscending (places_in archive.now marks.now) } by { IsStrictlySortedBy-prop _ (places_in archive.now marks.now) },
+}
+
+impl<'a> Replacing<'a> {
+    /// The marks of the file of that name, which stand one after another.
+    fn marks_of(self, name: &[u8]) -> &'a [NumberedPlace]
+        ensures lines { map (λ m. m.line) result.now
+            ≡ marked_lines name.now (places_in self.entry.archive.now self.entry.marks.now) }
+        ensures ascending { IsStrictlySortedBy nat_cmp (map (λ m. m.line) result.now) }
+    {
+        let start = start_of(self.archive, self.marks, name);
+        let rest = self.marks.split_at(start).1;
+        let count = count_in(self.archive, rest, name);
+        rest.split_at(count).0
+    }
+
+    /// Whether a file has a mark.
+    fn has_mark(self, file: Shown) -> bool
+        ensures { result ≡ has_mark self.entry.archive.now self.entry.marks.now file }
+    {
+        !self.marks_of(self.archive.name(file.name)).is_empty()
+    }
+
+    /// The files that have a mark.
+    pub(crate) fn marked_files(
+        self,
+        alloc: Global,
+        shown: &[Shown],
+    ) -> Result<Vec<Shown>, AllocError>
+        ensures { IfOk result (λ marked. marked.items
+            ≡ filter (has_mark self.entry.archive.now self.entry.marks.now) shown.now) }
+    {
+        let mut marked = Vec::new(alloc);
+        for file in shown {
+            if self.has_mark(*file) {
+                marked.push(*file)?;
+            }
+        }
+        Ok(marked)
+    }
+
+    /// Whether a file would have too many bytes.
+    fn is_large(self, file: Shown) -> bool
+        requires { IsThere self.archive.now file }
+        ensures { result ≡ is_too_large
+            (file_then self.entry.archive.now self.entry.marks.now self.entry.old.now self.entry.new.now file) }
+    {
+        let marks = self.marks_of(self.archive.name(file.name));
+        let source = self.archive.source(file.version);
+        let _small = source.bytes();
+        !marks.is_empty() && replaced_len(source, self.old, self.new, marks) > MOST_BYTES as u64
+    }
+
+    /// Whether one of several files would have too many bytes.
+    pub(crate) fn has_large(self, shown: &[Shown]) -> bool
+        requires { AllByRecursion (IsThere self.archive.now) shown.now }
+        ensures { result ≡ list_any is_too_large
+            (map (replaced_file self.entry.old.now self.entry.new.now (places_in self.entry.archive.now self.entry.marks.now))
+            (files_of self.entry.archive.now shown.now)) }
+    {
+        let mut rest = shown;
+        while let Some((file, more)) = rest.split_first() {
+            if self.is_large(*file) {
+                return true;
+            }
+            rest = more;
+        }
+        false
+    }
+
+    /// The new contents of a file.
+    fn source_then(self, alloc: Global, file: Shown) -> Result<Source, AllocError>
+        requires { IsThere self.archive.now file }
+        ensures { IfOk result (λ source. source
+            ≡ (file_then self.entry.archive.now self.entry.marks.now self.entry.old.now self.entry.new.now file).bytes) }
+    {
+        let marks = self.marks_of(self.archive.name(file.name));
+        let source = self.archive.source(file.version);
+        let text = replaced_text(alloc, source, self.old, self.new, marks)?;
+        match Source::new(alloc, text) {
+            Ok(made) => Ok(made),
+            Err(_) => Err(AllocError),
+        }
+    }
+}
+
+/// The new versions of the files that have a mark, and how many lines each file has then.
+#[derive(Drop)]
+pub(crate) struct NewTexts {
+    pub(crate) versions: Vec<Version>,
+    pub(crate) lines: Vec<u32>,
+}
+
+impl NewTexts {
+    /// Adds a file that is as it was.
+    fn keep(&mut self, source: &Source) -> Result<(), AllocError>
+        ensures versions { self.new.versions.items ≡ self.old.versions.items }
+        ensures lines { IfOk result (λ _. self.new.lines.items
+            ≡ self.old.lines.items ++ length (lines source.now) ∷ []) }
+    {
+        self.lines.push(source.line_count())?;
+        Ok(())
+    }
+
+    /// Adds a file with new contents, which are scanned.
+    fn renew(&mut self, alloc: Global, meter: &mut Meter, source: Source) -> Result<(), AllocError>
+        ensures versions { IfOk result (λ _. self.new.versions.items
+            ≡ self.old.versions.items ++ source ∷ []) }
+        ensures lines { IfOk result (λ _. self.new.lines.items
+            ≡ self.old.lines.items ++ length (lines source) ∷ []) }
+        ensures meter { CountsUpTo (length source) meter.old meter.new result }
+    {
+        let _counted = meter.read();
+        self.lines.push(source.line_count())?;
+        self.versions.push(scanned_source(alloc, meter, source)?)?;
+        Ok(())
+    }
+
+    /// Adds a file. Only one with a mark is scanned.
+    fn add(
+        &mut self,
+        alloc: Global,
+        meter: &mut Meter,
+        replacing: Replacing<'_>,
+        file: Shown,
+    ) -> Result<(), AllocError>
+        requires { IsThere replacing.archive.now file }
+        ensures versions { IfOk result (λ _. self.new.versions.items ≡ self.old.versions.items
+            ++ texts_of (files_changed replacing.entry.archive.now replacing.entry.marks.now replacing.entry.old.now replacing.entry.new.now (file ∷ []))) }
+        ensures lines { IfOk result (λ _. self.new.lines.items ≡ self.old.lines.items
+            ++ line_counts (files_then replacing.entry.archive.now replacing.entry.marks.now replacing.entry.old.now replacing.entry.new.now (file ∷ []))) }
+        ensures meter { CountsUpTo (bytes_in (files_changed replacing.entry.archive.now replacing.entry.marks.now replacing.entry.old.now replacing.entry.new.now (file ∷ [])))
+            meter.old meter.new result }
+    {
+        let _counted = meter.read();
+        if replacing.has_mark(file) {
+            self.renew(alloc, meter, replacing.source_then(alloc, file)?)
+        } else {
+            self.keep(replacing.archive.source(file.version))
+        }
+    }
+}
+
+/// The new versions of the files that have a mark, and the lines of all files then.
+pub(crate) fn new_texts(
+    alloc: Global,
+    meter: &mut Meter,
+    replacing: Replacing<'_>,
+    shown: &[Shown],
+) -> Result<NewTexts, AllocError>
+    requires { AllByRecursion (IsThere replacing.archive.now) shown.now }
+    ensures versions { IfOk result (λ made. made.versions.items
+        ≡ texts_of (files_changed replacing.entry.archive.now replacing.entry.marks.now replacing.entry.old.now replacing.entry.new.now shown.now)) }
+    ensures lines { IfOk result (λ made. made.lines.items
+        ≡ line_counts (files_then replacing.entry.archive.now replacing.entry.marks.now replacing.entry.old.now replacing.entry.new.now shown.now)) }
+    ensures meter { CountsUpTo (bytes_in (files_changed replacing.entry.archive.now replacing.entry.marks.now replacing.entry.old.now replacing.entry.new.now shown.now))
+        meter.old meter.new result }
+{
+    let _counted = meter.read();
+    let mut made = NewTexts {
+        versions: Vec::new(alloc),
+        lines: Vec::new(alloc),
+    };
+    let mut rest = shown;
+    while let Some((file, more)) = rest.split_first() {
+        made.add(alloc, meter, replacing, *file)?;
+        rest = more;
+    }
+    Ok(made)
+}

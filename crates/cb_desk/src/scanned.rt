@@ -1,0 +1,44 @@
+//! Texts as versions.
+ghost use Rattle.std.specs.Prelude.{◌≡◌, ◌≤◌, length, IfOk};
+ghost use Rattle.cb_desk.specs.Desk.{CountsUpTo};
+ghost use Rattle.cb_desk.specs.declared.limits.TheConstants.{MOST_BYTES};
+
+use cb_index::Version;
+use cb_scan::{FactKeys, Meter, Source, scan};
+use std::alloc::{AllocError, Global};
+
+/// The version of a source, which is scanned.
+pub(crate) fn scanned_source(
+    alloc: Global,
+    meter: &mut Meter,
+    source: Source,
+) -> Result<Version, AllocError>
+    ensures value { IfOk result (λ version. version ≡ source) }
+    ensures meter { CountsUpTo (length source) meter.old meter.new result }
+{
+    let _counted = meter.read();
+    let Ok(facts) = scan(alloc, meter, &source) else {
+        return Err(AllocError);
+    };
+    let Ok(keys) = FactKeys::new(alloc, &source, &facts) else {
+        return Err(AllocError);
+    };
+    Ok(Version::new(source, facts, keys))
+}
+
+/// The version of a text, which is scanned.
+pub(crate) fn scanned(
+    alloc: Global,
+    meter: &mut Meter,
+    text: Vec<u8>,
+) -> Result<Version, AllocError>
+    requires { length text.items ≤ MOST_BYTES }
+    ensures value { IfOk result (λ version. version ≡ text.items) }
+    ensures meter { CountsUpTo (length text.items) meter.old meter.new result }
+{
+    let _counted = meter.read();
+    let Ok(source) = Source::new(alloc, text) else {
+        return Err(AllocError);
+    };
+    scanned_source(alloc, meter, source)
+}

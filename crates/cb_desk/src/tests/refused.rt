@@ -1,0 +1,299 @@
+//! Worked runs in which each growth of a change is refused in turn, and moves and questions in which
+//! every growth would be. `memory` says how the tests are named.
+use super::marks::{has_marks, marked_files, wants};
+use super::memory::{begin, marked_with_a_future};
+use super::moves::{has_text, two_files};
+use super::{NINE_LINES, load_text_or_refused, shows};
+use crate::{Change, Desk, Field, Format, Refusal};
+use std::alloc::{AllocError, Global};
+use std::process::Abort;
+
+/// Whether the first plain tag is that of this name in this file.
+fn begins_with_tag(desk: &Desk, name: &[u8], file: &[u8]) -> bool {
+    match desk.tag_rows(Format::Plain).next() {
+        Some(row) => row.name == name && row.file == file,
+        None => false,
+    }
+}
+
+/// Whether the lines of `a.c` that hold `add` are marked, and its tags are there.
+fn is_marked(desk: &Desk) -> bool {
+    has_marks(desk, &[(b"a.c".as_slice(), 2), (b"a.c", 4), (b"a.c", 8)])
+        && begins_with_tag(desk, b"main", b"a.c")
+        && desk.meter() == 192
+}
+
+/// Renames a marked file among two that have a future. Whether memory was refused.
+fn marked_rename_meets_a_refusal(rt: &impl Abort, alloc: Global) -> bool {
+    let Ok(mut desk) = marked_with_a_future(alloc) else {
+        return true;
+    };
+    begin(alloc);
+    match desk.change(alloc, Change::Rename(b"a.c", b"z/b.c")) {
+        Ok(()) => {
+            assert!(rt; begins_with_tag(&desk, b"Mb", b"m.c"));
+            assert_eq!(rt; desk.meter(), 192);
+            false
+        }
+        Err(refusal) => {
+            assert!(rt; refusal == Refusal::OutOfMemory);
+            assert!(rt; is_marked(&desk));
+            assert!(rt; desk.redo() == Ok(()));
+            assert!(rt; desk.undo() == Ok(()));
+            assert!(rt; is_marked(&desk));
+            true
+        }
+    }
+}
+
+/// Two files with a marked line each, and a drop that was taken back.
+fn two_marked_files(alloc: Global) -> Result<Desk, Refusal> {
+    let mut desk = two_files(alloc)?;
+    desk.change(alloc, Change::Want(b"int"))?;
+    desk.change(alloc, Change::Mark(1))?;
+    desk.change(alloc, Change::Mark(3))?;
+    desk.change(alloc, Change::Unload(b"m.c"))?;
+    desk.undo()?;
+    Ok(desk)
+}
+
+/// Whether the present is that of `two_marked_files`.
+fn are_two_marked(desk: &Desk) -> bool {
+    has_marks(desk, &[(b"a.c".as_slice(), 4), (b"m.c", 1)])
+        && wants(desk, b"int")
+        && has_text(desk, b"a.c", NINE_LINES)
+        && has_text(desk, b"m.c", b"int Mb(void) {\n}\n")
+}
+
+/// Whether past and future are those of `two_marked_files`, as far as one move each shows it.
+fn moves_as_before(desk: &mut Desk) -> bool {
+    desk.redo() == Ok(())
+        && shows(desk, &[b"a.c".as_slice()])
+        && desk.undo() == Ok(())
+        && desk.undo() == Ok(())
+        && has_marks(desk, &[(b"a.c".as_slice(), 4)])
+        && desk.redo() == Ok(())
+        && are_two_marked(desk)
+}
+
+/// Changes the text of two marked files that have a future. Whether memory was refused.
+fn marked_replace_meets_a_refusal(rt: &impl Abort, alloc: Global) -> bool {
+    let Ok(mut desk) = two_marked_files(alloc) else {
+        return true;
+    };
+    begin(alloc);
+    match desk.change(alloc, Change::Replace(b"long")) {
+        Ok(()) => {
+            assert!(rt; has_text(&desk, b"m.c", b"long Mb(void) {\n}\n"));
+            assert!(rt; desk.redo() == Err(Refusal::NothingToRedo));
+            false
+        }
+        Err(refusal) => {
+            assert!(rt; refusal == Refusal::OutOfMemory);
+            assert!(rt; are_two_marked(&desk));
+            assert!(rt; moves_as_before(&mut desk));
+            true
+        }
+    }
+}
+
+/// The name of a file by its number.
+fn name_of(alloc: Global, number: u32) -> Result<String, AllocError> {
+    Ok(format!(in alloc; "g{}.c", number)?)
+}
+
+/// The files `g1.c` to `g64.c`, each with a function `g`, loaded in this order.
+fn many_files(alloc: Global) -> Result<Desk, Refusal> {
+    let mut desk = Desk::new(alloc);
+    for number in 1..65u32 {
+        let Ok(name) = name_of(alloc, number) else {
+            return Err(Refusal::OutOfMemory);
+        };
+        load_text_or_refused(&mut desk, alloc, name.as_bytes(), b"int g(void) {\n}\n")?;
+    }
+    Ok(desk)
+}
+
+/// Drops these files in the same order.
+fn drop_many(desk: &mut Desk, alloc: Global) -> Result<(), Refusal> {
+    for number in 1..65u32 {
+        let Ok(name) = name_of(alloc, number) else {
+            return Err(Refusal::OutOfMemory);
+        };
+        desk.change(alloc, Change::Unload(name.as_bytes()))?;
+    }
+    Ok(())
+}
+
+/// Whether so many undos are done.
+fn undoes(desk: &mut Desk, count: u32) -> bool {
+    for _time in 0..count {
+        if desk.undo() != Ok(()) {
+            return false;
+        }
+    }
+    true
+}
+
+/// Whether so many redos are done.
+fn redoes(desk: &mut Desk, count: u32) -> bool {
+    for _time in 0..count {
+        if desk.redo() != Ok(()) {
+            return false;
+        }
+    }
+    true
+}
+
+/// Whether the definitions of `g` are those of the 64 files, by the bytes of their names.
+fn defines_g(desk: &Desk) -> bool {
+    let mut rows = desk.rows(Field::Definition, b"g");
+    let count = rows.count_left();
+    let first = matches!(rows.next(), Some(row) if row.file == b"g1.c".as_slice());
+    let second = matches!(rows.next(), Some(row) if row.file == b"g10.c".as_slice());
+    let mut last = false;
+    for row in rows {
+        last = row.file == b"g9.c".as_slice();
+    }
+    count == 64 && first && second && last
+}
+
+/// Wants a text with many files loaded. Whether memory was refused.
+fn want_with_many_meets_a_refusal(rt: &impl Abort, alloc: Global) -> bool {
+    let Ok(mut desk) = many_files(alloc) else {
+        return true;
+    };
+    begin(alloc);
+    match desk.change(alloc, Change::Want(b"g")) {
+        Ok(()) => false,
+        Err(refusal) => {
+            assert!(rt; refusal == Refusal::OutOfMemory);
+            assert!(rt; desk.wanted().is_none());
+            assert!(rt; desk.change(alloc, Change::Want(b"g")) == Ok(()));
+            true
+        }
+    }
+}
+
+#[test]
+fn refused_growth_of_rename_of_a_marked_file(rt: HostRuntime) {
+    let _refused = marked_rename_meets_a_refusal(&rt, rt.alloc());
+}
+
+#[test]
+fn no_refusal_of_rename_of_a_marked_file(rt: HostRuntime) {
+    assert!(rt;
+        !marked_rename_meets_a_refusal(&rt, rt.alloc()),
+        "memory was refused"
+    );
+}
+
+#[test]
+fn refused_growth_of_replace_in_two_marked_files(rt: HostRuntime) {
+    let _refused = marked_replace_meets_a_refusal(&rt, rt.alloc());
+}
+
+#[test]
+fn no_refusal_of_replace_in_two_marked_files(rt: HostRuntime) {
+    assert!(rt;
+        !marked_replace_meets_a_refusal(&rt, rt.alloc()),
+        "memory was refused"
+    );
+}
+
+#[test]
+fn refused_growth_of_want_with_64_files(rt: HostRuntime) {
+    let _refused = want_with_many_meets_a_refusal(&rt, rt.alloc());
+}
+
+#[test]
+fn no_refusal_of_want_with_64_files(rt: HostRuntime) {
+    assert!(rt;
+        !want_with_many_meets_a_refusal(&rt, rt.alloc()),
+        "memory was refused"
+    );
+}
+
+/// Moves over 64 loads and 64 drops.
+#[test]
+fn no_growth_of_moves(rt: HostRuntime) -> Result<(), Refusal> {
+    let alloc = rt.alloc();
+    let mut desk = many_files(alloc)?;
+    drop_many(&mut desk, alloc)?;
+    assert_eq!(rt; desk.meter(), 1_024);
+    begin(alloc);
+    assert!(rt; undoes(&mut desk, 128));
+    assert!(rt; desk.undo() == Err(Refusal::NothingToUndo));
+    assert!(rt; redoes(&mut desk, 64));
+    assert!(rt; defines_g(&desk));
+    assert!(rt; redoes(&mut desk, 64));
+    assert!(rt; desk.redo() == Err(Refusal::NothingToRedo));
+    assert_eq!(rt; desk.meter(), 1_024);
+    Ok(())
+}
+
+/// A change of each kind, twelve in all.
+fn one_of_each(alloc: Global) -> Result<Desk, Refusal> {
+    let mut desk = marked_files(alloc)?;
+    desk.change(alloc, Change::Mark(2))?;
+    desk.change(alloc, Change::Tag(b"add", 1))?;
+    desk.change(alloc, Change::Tag(b"Mb", 1))?;
+    desk.change(alloc, Change::Pop)?;
+    desk.change(alloc, Change::Rename(b"a.c", b"z.c"))?;
+    desk.change(alloc, Change::Replace(b"sum"))?;
+    let Ok(bytes) = b"f(){}".to_vec(alloc) else {
+        return Err(Refusal::OutOfMemory);
+    };
+    desk.change(alloc, Change::Reload(b"z.c", bytes))?;
+    desk.change(alloc, Change::Unload(b"m.c"))?;
+    Ok(desk)
+}
+
+/// Moves over a change of each kind.
+#[test]
+fn no_growth_of_moves_over_each_change(rt: HostRuntime) -> Result<(), Refusal> {
+    let mut desk = one_of_each(rt.alloc())?;
+    begin(rt.alloc());
+    assert!(rt; has_text(&desk, b"z.c", b"f(){}"));
+    assert!(rt; undoes(&mut desk, 12));
+    assert!(rt; shows(&desk, &[]));
+    assert!(rt; desk.undo() == Err(Refusal::NothingToUndo));
+    assert!(rt; redoes(&mut desk, 4));
+    assert!(rt; has_marks(&desk, &[(b"a.c".as_slice(), 2), (b"a.c", 4), (b"a.c", 8)]));
+    assert!(rt; redoes(&mut desk, 8));
+    assert!(rt; desk.redo() == Err(Refusal::NothingToRedo));
+    assert!(rt; shows(&desk, &[b"z.c".as_slice()]));
+    assert!(rt; has_text(&desk, b"z.c", b"f(){}"));
+    Ok(())
+}
+
+/// A question of each kind.
+#[test]
+fn no_growth_of_questions(rt: HostRuntime) -> Result<(), Refusal> {
+    let alloc = rt.alloc();
+    let desk = marked_files(alloc)?;
+    begin(alloc);
+    let counts = [
+        (Field::Symbol, 3),
+        (Field::Definition, 1),
+        (Field::Called, 0),
+        (Field::Calling, 2),
+        (Field::Text, 3),
+        (Field::File, 0),
+        (Field::Including, 0),
+    ];
+    for (field, count) in counts {
+        assert_eq!(rt; desk.rows(field, b"add").count_left(), count);
+        assert_eq!(rt; desk.rows(field, b"add").count(), count);
+    }
+    assert_eq!(rt; desk.tag_rows(Format::Plain).count(), 5);
+    assert_eq!(rt; desk.tag_rows(Format::Extended).count(), 5);
+    assert_eq!(rt; desk.marks().count(), 3);
+    assert_eq!(rt; desk.frames().count(), 0);
+    assert_eq!(rt; desk.files().count(), 2);
+    assert!(rt; wants(&desk, b"add"));
+    assert!(rt; desk.source(b"m.c").is_some());
+    assert_eq!(rt; desk.meter(), 192);
+    assert_eq!(rt; desk.turns(), 2);
+    Ok(())
+}

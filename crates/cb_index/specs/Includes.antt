@@ -1,0 +1,28 @@
+-- The includes of files.
+use Rattle.std.specs.Prelude.{List, map}
+use Rattle.std.specs.List.{flat_map}
+use Rattle.std.specs.Option.{option_map}
+use Rattle.cb_scan.specs.declared.facts.Include.{Include}
+use Rattle.cb_scan.specs.Definitions.{facts_of}
+use Rattle.cb_scan.specs.lex.Tokens.{bytes_of}
+use Rattle.cb_scan.specs.Lines.{line_text}
+use Rattle.cb_index.specs.Files.{File}
+use Rattle.cb_index.specs.Rows.{Fact}
+
+-- an include in a file; its name is the header
+abbrev pub include_in : File → Include → Fact
+include_in f i = record {
+  file = f.name;
+  name = bytes_of f.bytes i.header;
+  scope = option_map (bytes_of f.bytes) i.scope;
+  line = i.line;
+  text = line_text f.bytes i.line;
+}
+
+-- the includes of a file, by place
+abbrev pub file_includes : File → List Fact
+file_includes f = map (include_in f) (facts_of f.bytes).includes
+
+-- those of all files, by file and place
+unfoldable pub all_includes : List File → List Fact
+all_includes fs = flat_map file_includes fs

@@ -1,0 +1,100 @@
+//! How many facts versions have together.
+ghost use Rattle.std.specs.Prelude.{◌≡◌, ◌+◌, ◌-◌, ◌^◌, ◌≤◌, ⊤, slice_get, MatchOption};
+ghost use Rattle.cb_index.specs.Files.{call_count, count_for, def_count, total, use_count};
+ghost use Rattle.cb_index.specs.Shelved.{AreTotals};
+
+use crate::archive::Archive;
+use crate::counted::{Counted, count_of};
+use crate::entry::Shown;
+
+/// So many definitions, uses and calls.
+#[derive(Clone, Copy, Debug, PartialEq, Eq)]
+pub struct Totals {
+    pub defs: u64,
+    pub uses: u64,
+    pub calls: u64,
+}
+
+/// A count with the facts of versions more.
+fn total_with(counted: Counted, archive: &Archive, shown: &[Shown], before: u64) -> u64
+    requires { before + total (count_for counted) archive.now shown.now ≤ 2 ^ 64 - 1 }
+    ensures { result ≡ before + total (count_for counted) archive.now shown.now }
+{
+    let mut count = before;
+    for s in shown {
+        count += count_of(counted, archive, s.version) as u64;
+    }
+    count
+}
+
+/// How many facts versions have, if that is a number.
+fn total_of(counted: Counted, archive: &Archive, shown: &[Shown]) -> Option<u64>
+    ensures { MatchOption result ⊤ (λ n. n ≡ total (count_for counted) archive.now shown.now) }
+{
+    let mut count = 0u64;
+    for s in shown {
+        count = count.checked_add(count_of(counted, archive, s.version) as u64)?;
+    }
+    Some(count)
+}
+
+/// How many facts of each kind versions have together, if these are numbers.
+pub fn totals_of(archive: &Archive, shown: &[Shown]) -> Option<Totals>
+    ensures { MatchOption result ⊤ (AreTotals archive.now shown.now) }
+{
+    Some(Totals {
+        defs: total_of(Counted::Defs, archive, shown)?,
+        uses: total_of(Counted::Uses, archive, shown)?,
+        calls: total_of(Counted::Calls, archive, shown)?,
+    })
+}
+
+impl Totals {
+    /// The totals with the facts of versions more.
+    pub(crate) fn with(self, archive: &Archive, shown: &[Shown]) -> Totals
+        requires defs { self.defs + total def_count archive.now shown.now ≤ 2 ^ 64 - 1 }
+        requires uses { self.uses + total use_count archive.now shown.now ≤ 2 ^ 64 - 1 }
+        requires calls { self.calls + total call_count archive.now shown.now ≤ 2 ^ 64 - 1 }
+        ensures defs { result.defs ≡ self.defs + total def_count archive.now shown.now }
+        ensures uses { result.uses ≡ self.uses + total use_count archive.now shown.now }
+        ensures calls { result.calls ≡ self.calls + total call_count archive.now shown.now }
+    {
+        Totals {
+            defs: total_with(Counted::Defs, archive, shown, self.defs),
+            uses: total_with(Counted::Uses, archive, shown, self.uses),
+            calls: total_with(Counted::Calls, archive, shown, self.calls),
+        }
+    }
+
+    /// The totals of some versions that have no more facts than these.
+    pub(crate) fn of_fewer(self, archive: &Archive, shown: &[Shown]) -> Totals
+        requires defs { total def_count archive.now shown.now ≤ self.defs }
+        requires uses { total use_count archive.now shown.now ≤ self.uses }
+        requires calls { total call_count archive.now shown.now ≤ self.calls }
+        ensures defs { result.defs ≡ total def_count archive.now shown.now }
+        ensures uses { result.uses ≡ total use_count archive.now shown.now }
+        ensures calls { result.calls ≡ total call_count archive.now shown.now }
+    {
+        Totals {
+            defs: total_with(Counted::Defs, archive, shown, 0),
+            uses: total_with(Counted::Uses, archive, shown, 0),
+            calls: total_with(Counted::Calls, archive, shown, 0),
+        }
+    }
+
+    /// The totals with the facts of a version less.
+    pub(crate) fn without(self, archive: &Archive, version: u32) -> Totals
+        requires defs { def_count (slice_get archive.now.texts version) ≤ self.defs }
+        requires uses { use_count (slice_get archive.now.texts version) ≤ self.uses }
+        requires calls { call_count (slice_get archive.now.texts version) ≤ self.calls }
+        ensures defs { result.defs + def_count (slice_get archive.now.texts version) ≡ self.defs }
+        ensures uses { result.uses + use_count (slice_get archive.now.texts version) ≡ self.uses }
+        ensures calls { result.calls + call_count (slice_get archive.now.texts version) ≡ self.calls }
+    {
+        Totals {
+            defs: self.defs - count_of(Counted::Defs, archive, version) as u64,
+            uses: self.uses - count_of(Counted::Uses, archive, version) as u64,
+            calls: self.calls - count_of(Counted::Calls, archive, version) as u64,
+        }
+    }
+}

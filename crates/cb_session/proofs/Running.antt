@@ -1,0 +1,30 @@
+-- Runs with operands, whatever follows what was read.
+use Rattle.std.proofs.Common.{ℕ, List, Ok, Err, refl}
+use Rattle.cb_desk.specs.Timeline.{Timeline, new_timeline}
+use Rattle.cb_desk.specs.World.{File}
+use Rattle.cb_session.specs.declared.input.Ended.{Ended}
+use Rattle.cb_session.specs.declared.input.Ended.TheVariants.{Done, Cut, Fault, Operand}
+use Rattle.cb_session.specs.Devices.{Reader, WhateverFollows}
+use Rattle.cb_session.specs.Inputs.{inputs}
+use Rattle.cb_session.specs.Operands.{Loads, Prepares, Runs}
+use Rattle.cb_session.specs.Serving.{LeavesRun}
+use Rattle.cb_session.proofs.Follows.{Follows-nothing, Follows-so}
+use Rattle.cb_tags.specs.Writers.{Writer}
+
+-- the operands were loaded
+pub Follows-loaded : (files : List File) (lines limit : ℕ) (t : Timeline) (feed after : Reader) (old new : Writer) (ended : Ended) → Loads 0 new_timeline files (Ok t)
+    → WhateverFollows feed after (λ bytes at. LeavesRun (inputs lines limit bytes) t old new ended)
+    → WhateverFollows feed after (λ bytes at. Runs files (inputs lines limit bytes) old new ended)
+Follows-loaded files lines limit t feed after old new ended loads s =
+    Follows-so feed after (λ bytes at. LeavesRun (inputs lines limit bytes) t old new ended) (λ bytes at. Runs files (inputs lines limit bytes) old new ended) s
+    (λ bytes at run. (Ok t, loads, run))
+
+-- an operand was refused
+pub Follows-refused : (files : List File) (lines limit : ℕ) (feed : Reader) (out : Writer) (ended : Ended) → Prepares files (Err ended)
+    → WhateverFollows feed feed (λ bytes at. Runs files (inputs lines limit bytes) out out ended)
+Follows-refused files lines limit feed out (Operand place why) p =
+    Follows-nothing feed (λ bytes at. Runs files (inputs lines limit bytes) out out (Operand place why))
+    (λ bytes at known. (Err (record { place = place; why = why }), p, (refl, refl)))
+Follows-refused files lines limit feed out Done p = absurd p
+Follows-refused files lines limit feed out Cut p = absurd p
+Follows-refused files lines limit feed out (Fault fault) p = absurd p

@@ -1,0 +1,10 @@
+use Rattle.cb_session.proofs.Running.{Follows-loaded, Follows-refused}
+use Rattle.cb_session.proofs.operands.run.Goals as goal
+
+pub returns-in-Ok-clause-every_input : goal.returns-in-Ok-clause-every_input
+returns-in-Ok-clause-every_input g c =
+    Follows-loaded _ c.args.limits.now.lines c.args.limits.now.line c.in-Ok.session c.args.feed.now c.serve.new.feed c.args.out.now c.serve.new.out c.serve.result
+    c.in-Ok.ensures c.serve.ensures.every_input
+
+pub returns-in-Err-clause-every_input : goal.returns-in-Err-clause-every_input
+returns-in-Err-clause-every_input g c = Follows-refused _ c.args.limits.now.lines c.args.limits.now.line c.args.feed.now c.args.out.now c.in-Err.ended c.in-Err.ensures

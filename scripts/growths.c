@@ -1,0 +1,117 @@
+/* Counts the growths of memory of a program, and refuses one of them. each-growth-refused.py and
+ * clients/refused-growths.py build it and preload it, so the program runs as it was built.
+ *
+ * A growth is a call of malloc or calloc, or one of realloc that asks for more bytes than the
+ * block was asked for before. The file that the variable GROWTHS names holds what is counted and
+ * what is to be refused; without it nothing is counted. Two sizes stand for marks: a growth of
+ * BEGIN bytes begins the count where the file asks for that, one of END bytes ends it. A mark is
+ * never counted.
+ *
+ * The program has one thread. */
+#include <errno.h>
+#include <fcntl.h>
+#include <malloc.h>
+#include <stdint.h>
+#include <stdlib.h>
+#include <string.h>
+#include <sys/mman.h>
+#include <unistd.h>
+
+enum { BEGIN = 70001, END = 70002 };
+
+/* The file, in this order; the scripts read and write it so. */
+struct growths {
+    uint64_t from_mark; /* 1: the count begins at the mark, 0: with the program */
+    uint64_t refuse;    /* the number of the growth to refuse, from 1 on; 0: none */
+    uint64_t met;       /* growths that were counted */
+    uint64_t refused;   /* growths that were refused */
+    uint64_t begun;     /* marks of the beginning that were met */
+    uint64_t ended;     /* marks of the end that were met */
+};
+
+static struct growths *shared;
+
+void *__libc_malloc(size_t size);
+void *__libc_calloc(size_t count, size_t each);
+void *__libc_realloc(void *block, size_t size);
+
+__attribute__((constructor)) static void open_shared(void)
+{
+    const char *path = getenv("GROWTHS");
+    int file = path ? open(path, O_RDWR | O_CLOEXEC) : -1;
+    if (file < 0)
+        return;
+    void *at = mmap(NULL, sizeof *shared, PROT_READ | PROT_WRITE, MAP_SHARED, file, 0);
+    close(file);
+    if (at != MAP_FAILED)
+        shared = at;
+}
+
+/* Counts a growth to this size, and tells whether it is the one to refuse. */
+static int is_refused(size_t size)
+{
+    if (!shared)
+        return 0;
+    if (size == BEGIN || size == END) {
+        *(size == BEGIN ? &shared->begun : &shared->ended) += 1;
+        return 0;
+    }
+    if ((shared->from_mark && !shared->begun) || shared->ended)
+        return 0;
+    shared->met += 1;
+    if (shared->met != shared->refuse)
+        return 0;
+    shared->refused += 1;
+    errno = ENOMEM;
+    return 1;
+}
+
+/* The size that a block was asked for stands in the last bytes that the C library gave for it. */
+static char *size_place(void *block)
+{
+    return (char *)block + malloc_usable_size(block) - sizeof(size_t);
+}
+
+static void *with_size(void *block, size_t size)
+{
+    if (block)
+        memcpy(size_place(block), &size, sizeof size);
+    return block;
+}
+
+static int is_too_large(size_t size)
+{
+    return size > PTRDIFF_MAX - sizeof size;
+}
+
+void *malloc(size_t size)
+{
+    if (is_too_large(size) || is_refused(size)) {
+        errno = ENOMEM;
+        return NULL;
+    }
+    return with_size(__libc_malloc(size + sizeof size), size);
+}
+
+void *calloc(size_t count, size_t each)
+{
+    size_t size;
+    if (__builtin_mul_overflow(count, each, &size) || is_too_large(size) || is_refused(size)) {
+        errno = ENOMEM;
+        return NULL;
+    }
+    return with_size(__libc_calloc(1, size + sizeof size), size);
+}
+
+void *realloc(void *block, size_t size)
+{
+    size_t before;
+    if (!block)
+        return malloc(size);
+    memcpy(&before, size_place(block), sizeof before);
+    if (is_too_large(size) || (size > before && is_refused(size))) {
+        errno = ENOMEM;
+        return NULL;
+    }
+    return with_size(__libc_realloc(block, size + sizeof size), size);
+}
