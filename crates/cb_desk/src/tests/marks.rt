@@ -33,11 +33,16 @@ fn one_file(alloc: Global, text: &[u8]) -> Result<Desk, Refusal> {
     Ok(desk)
 }
 
+/// Every line that holds `add` is marked.
+fn mark_add(desk: &mut Desk, alloc: Global) -> Result<(), Refusal> {
+    desk.change(alloc, Change::Want(b"add"))?;
+    desk.change(alloc, Change::MarkAll)
+}
+
 /// Two files in which `add` is wanted and every line that holds it is marked.
 pub(crate) fn marked_files(alloc: Global) -> Result<Desk, Refusal> {
     let mut desk = two_files(alloc)?;
-    desk.change(alloc, Change::Want(b"add"))?;
-    desk.change(alloc, Change::MarkAll)?;
+    mark_add(&mut desk, alloc)?;
     Ok(desk)
 }
 

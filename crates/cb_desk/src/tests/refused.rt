@@ -23,37 +23,49 @@ fn is_marked(desk: &Desk) -> bool {
         && desk.meter() == 192
 }
 
-/// Renames a marked file among two that have a future. Whether memory was refused.
-fn marked_rename_meets_a_refusal(rt: &impl Abort, alloc: Global) -> bool {
-    let Ok(mut desk) = marked_with_a_future(alloc) else {
-        return true;
-    };
+/// Whether a rename left the desk that it was refused by as it was, with its future.
+fn is_marked_with_its_future(desk: &mut Desk) -> bool {
+    is_marked(desk) && desk.redo() == Ok(()) && desk.undo() == Ok(()) && is_marked(desk)
+}
+
+/// Renames a marked file. Whether memory was refused.
+fn marked_rename_is_refused(rt: &impl Abort, alloc: Global, desk: &mut Desk) -> bool {
     begin(alloc);
     match desk.change(alloc, Change::Rename(b"a.c", b"z/b.c")) {
         Ok(()) => {
-            assert!(rt; begins_with_tag(&desk, b"Mb", b"m.c"));
+            assert!(rt; begins_with_tag(desk, b"Mb", b"m.c"));
             assert_eq!(rt; desk.meter(), 192);
             false
         }
         Err(refusal) => {
             assert!(rt; refusal == Refusal::OutOfMemory);
-            assert!(rt; is_marked(&desk));
-            assert!(rt; desk.redo() == Ok(()));
-            assert!(rt; desk.undo() == Ok(()));
-            assert!(rt; is_marked(&desk));
+            assert!(rt; is_marked_with_its_future(desk));
             true
         }
     }
 }
 
-/// Two files with a marked line each, and a drop that was taken back.
-fn two_marked_files(alloc: Global) -> Result<Desk, Refusal> {
-    let mut desk = two_files(alloc)?;
+/// The same, among two files that have a future.
+fn marked_rename_meets_a_refusal(rt: &impl Abort, alloc: Global) -> bool {
+    match marked_with_a_future(alloc) {
+        Ok(mut desk) => marked_rename_is_refused(rt, alloc, &mut desk),
+        Err(_) => true,
+    }
+}
+
+/// Marks a line of each of two files, and takes a drop back.
+fn mark_two(desk: &mut Desk, alloc: Global) -> Result<(), Refusal> {
     desk.change(alloc, Change::Want(b"int"))?;
     desk.change(alloc, Change::Mark(1))?;
     desk.change(alloc, Change::Mark(3))?;
     desk.change(alloc, Change::Unload(b"m.c"))?;
-    desk.undo()?;
+    desk.undo()
+}
+
+/// Two files with a marked line each, and a drop that was taken back.
+fn two_marked_files(alloc: Global) -> Result<Desk, Refusal> {
+    let mut desk = two_files(alloc)?;
+    mark_two(&mut desk, alloc)?;
     Ok(desk)
 }
 
@@ -76,24 +88,28 @@ fn moves_as_before(desk: &mut Desk) -> bool {
         && are_two_marked(desk)
 }
 
-/// Changes the text of two marked files that have a future. Whether memory was refused.
-fn marked_replace_meets_a_refusal(rt: &impl Abort, alloc: Global) -> bool {
-    let Ok(mut desk) = two_marked_files(alloc) else {
-        return true;
-    };
+/// Changes the text of two marked files. Whether memory was refused.
+fn marked_replace_is_refused(rt: &impl Abort, alloc: Global, desk: &mut Desk) -> bool {
     begin(alloc);
     match desk.change(alloc, Change::Replace(b"long")) {
         Ok(()) => {
-            assert!(rt; has_text(&desk, b"m.c", b"long Mb(void) {\n}\n"));
+            assert!(rt; has_text(desk, b"m.c", b"long Mb(void) {\n}\n"));
             assert!(rt; desk.redo() == Err(Refusal::NothingToRedo));
             false
         }
         Err(refusal) => {
             assert!(rt; refusal == Refusal::OutOfMemory);
-            assert!(rt; are_two_marked(&desk));
-            assert!(rt; moves_as_before(&mut desk));
+            assert!(rt; are_two_marked(desk) && moves_as_before(desk));
             true
         }
+    }
+}
+
+/// The same, in files that have a future.
+fn marked_replace_meets_a_refusal(rt: &impl Abort, alloc: Global) -> bool {
+    match two_marked_files(alloc) {
+        Ok(mut desk) => marked_replace_is_refused(rt, alloc, &mut desk),
+        Err(_) => true,
     }
 }
 
@@ -102,15 +118,21 @@ fn name_of(alloc: Global, number: u32) -> Result<String, AllocError> {
     Ok(format!(in alloc; "g{}.c", number)?)
 }
 
-/// The files `g1.c` to `g64.c`, each with a function `g`, loaded in this order.
-fn many_files(alloc: Global) -> Result<Desk, Refusal> {
-    let mut desk = Desk::new(alloc);
+/// Loads the files `g1.c` to `g64.c`, each with a function `g`, in this order.
+fn load_many(desk: &mut Desk, alloc: Global) -> Result<(), Refusal> {
     for number in 1..65u32 {
         let Ok(name) = name_of(alloc, number) else {
             return Err(Refusal::OutOfMemory);
         };
-        load_text_or_refused(&mut desk, alloc, name.as_bytes(), b"int g(void) {\n}\n")?;
+        load_text_or_refused(desk, alloc, name.as_bytes(), b"int g(void) {\n}\n")?;
     }
+    Ok(())
+}
+
+/// A desk with these files.
+fn many_files(alloc: Global) -> Result<Desk, Refusal> {
+    let mut desk = Desk::new(alloc);
+    load_many(&mut desk, alloc)?;
     Ok(desk)
 }
 
@@ -158,11 +180,8 @@ fn defines_g(desk: &Desk) -> bool {
     count == 64 && first && second && last
 }
 
-/// Wants a text with many files loaded. Whether memory was refused.
-fn want_with_many_meets_a_refusal(rt: &impl Abort, alloc: Global) -> bool {
-    let Ok(mut desk) = many_files(alloc) else {
-        return true;
-    };
+/// Wants a text. Whether memory was refused.
+fn want_is_refused(rt: &impl Abort, alloc: Global, desk: &mut Desk) -> bool {
     begin(alloc);
     match desk.change(alloc, Change::Want(b"g")) {
         Ok(()) => false,
@@ -172,6 +191,14 @@ fn want_with_many_meets_a_refusal(rt: &impl Abort, alloc: Global) -> bool {
             assert!(rt; desk.change(alloc, Change::Want(b"g")) == Ok(()));
             true
         }
+    }
+}
+
+/// The same, with many files loaded.
+fn want_with_many_meets_a_refusal(rt: &impl Abort, alloc: Global) -> bool {
+    match many_files(alloc) {
+        Ok(mut desk) => want_is_refused(rt, alloc, &mut desk),
+        Err(_) => true,
     }
 }
 
@@ -214,39 +241,77 @@ fn no_refusal_of_want_with_64_files(rt: HostRuntime) {
     );
 }
 
+/// The files of `many_files`, all dropped.
+fn dropped_files(alloc: Global) -> Result<Desk, Refusal> {
+    let mut desk = many_files(alloc)?;
+    drop_many(&mut desk, alloc)?;
+    Ok(desk)
+}
+
+/// All is taken back and done again.
+fn moves_over_many(rt: &impl Abort, alloc: Global, desk: &mut Desk) {
+    assert_eq!(rt; desk.meter(), 1_024);
+    begin(alloc);
+    assert!(rt; undoes(desk, 128));
+    assert!(rt; desk.undo() == Err(Refusal::NothingToUndo));
+    assert!(rt; redoes(desk, 64));
+    assert!(rt; defines_g(desk));
+    assert!(rt; redoes(desk, 64));
+    assert!(rt; desk.redo() == Err(Refusal::NothingToRedo));
+    assert_eq!(rt; desk.meter(), 1_024);
+}
+
 /// Moves over 64 loads and 64 drops.
 #[test]
 fn no_growth_of_moves(rt: HostRuntime) -> Result<(), Refusal> {
-    let alloc = rt.alloc();
-    let mut desk = many_files(alloc)?;
-    drop_many(&mut desk, alloc)?;
-    assert_eq!(rt; desk.meter(), 1_024);
-    begin(alloc);
-    assert!(rt; undoes(&mut desk, 128));
-    assert!(rt; desk.undo() == Err(Refusal::NothingToUndo));
-    assert!(rt; redoes(&mut desk, 64));
-    assert!(rt; defines_g(&desk));
-    assert!(rt; redoes(&mut desk, 64));
-    assert!(rt; desk.redo() == Err(Refusal::NothingToRedo));
-    assert_eq!(rt; desk.meter(), 1_024);
+    let mut desk = dropped_files(rt.alloc())?;
+    moves_over_many(&rt, rt.alloc(), &mut desk);
     Ok(())
 }
 
-/// A change of each kind, twelve in all.
-fn one_of_each(alloc: Global) -> Result<Desk, Refusal> {
-    let mut desk = marked_files(alloc)?;
+/// Reloads the renamed file, and drops the other one.
+fn reload_and_drop(desk: &mut Desk, alloc: Global) -> Result<(), Refusal> {
+    let Ok(bytes) = b"f(){}".to_vec(alloc) else {
+        return Err(Refusal::OutOfMemory);
+    };
+    desk.change(alloc, Change::Reload(b"z.c", bytes))?;
+    desk.change(alloc, Change::Unload(b"m.c"))
+}
+
+/// The other changes of the same two files.
+fn mark_tag_and_rename(desk: &mut Desk, alloc: Global) -> Result<(), Refusal> {
     desk.change(alloc, Change::Mark(2))?;
     desk.change(alloc, Change::Tag(b"add", 1))?;
     desk.change(alloc, Change::Tag(b"Mb", 1))?;
     desk.change(alloc, Change::Pop)?;
     desk.change(alloc, Change::Rename(b"a.c", b"z.c"))?;
-    desk.change(alloc, Change::Replace(b"sum"))?;
-    let Ok(bytes) = b"f(){}".to_vec(alloc) else {
-        return Err(Refusal::OutOfMemory);
-    };
-    desk.change(alloc, Change::Reload(b"z.c", bytes))?;
-    desk.change(alloc, Change::Unload(b"m.c"))?;
+    desk.change(alloc, Change::Replace(b"sum"))
+}
+
+/// A change of each kind, twelve in all.
+fn one_of_each(alloc: Global) -> Result<Desk, Refusal> {
+    let mut desk = marked_files(alloc)?;
+    mark_tag_and_rename(&mut desk, alloc)?;
+    reload_and_drop(&mut desk, alloc)?;
     Ok(desk)
+}
+
+/// All twelve are taken back.
+fn all_is_taken_back(rt: &impl Abort, desk: &mut Desk) {
+    assert!(rt; has_text(desk, b"z.c", b"f(){}"));
+    assert!(rt; undoes(desk, 12));
+    assert!(rt; shows(desk, &[]));
+    assert!(rt; desk.undo() == Err(Refusal::NothingToUndo));
+}
+
+/// And done again.
+fn all_is_done_again(rt: &impl Abort, desk: &mut Desk) {
+    assert!(rt; redoes(desk, 4));
+    assert!(rt; has_marks(desk, &[(b"a.c".as_slice(), 2), (b"a.c", 4), (b"a.c", 8)]));
+    assert!(rt; redoes(desk, 8));
+    assert!(rt; desk.redo() == Err(Refusal::NothingToRedo));
+    assert!(rt; shows(desk, &[b"z.c".as_slice()]));
+    assert!(rt; has_text(desk, b"z.c", b"f(){}"));
 }
 
 /// Moves over a change of each kind.
@@ -254,25 +319,13 @@ fn one_of_each(alloc: Global) -> Result<Desk, Refusal> {
 fn no_growth_of_moves_over_each_change(rt: HostRuntime) -> Result<(), Refusal> {
     let mut desk = one_of_each(rt.alloc())?;
     begin(rt.alloc());
-    assert!(rt; has_text(&desk, b"z.c", b"f(){}"));
-    assert!(rt; undoes(&mut desk, 12));
-    assert!(rt; shows(&desk, &[]));
-    assert!(rt; desk.undo() == Err(Refusal::NothingToUndo));
-    assert!(rt; redoes(&mut desk, 4));
-    assert!(rt; has_marks(&desk, &[(b"a.c".as_slice(), 2), (b"a.c", 4), (b"a.c", 8)]));
-    assert!(rt; redoes(&mut desk, 8));
-    assert!(rt; desk.redo() == Err(Refusal::NothingToRedo));
-    assert!(rt; shows(&desk, &[b"z.c".as_slice()]));
-    assert!(rt; has_text(&desk, b"z.c", b"f(){}"));
+    all_is_taken_back(&rt, &mut desk);
+    all_is_done_again(&rt, &mut desk);
     Ok(())
 }
 
-/// A question of each kind.
-#[test]
-fn no_growth_of_questions(rt: HostRuntime) -> Result<(), Refusal> {
-    let alloc = rt.alloc();
-    let desk = marked_files(alloc)?;
-    begin(alloc);
+/// The rows of each field are counted.
+fn rows_are_counted(rt: &impl Abort, desk: &Desk) {
     let counts = [
         (Field::Symbol, 3),
         (Field::Definition, 1),
@@ -286,14 +339,27 @@ fn no_growth_of_questions(rt: HostRuntime) -> Result<(), Refusal> {
         assert_eq!(rt; desk.rows(field, b"add").count_left(), count);
         assert_eq!(rt; desk.rows(field, b"add").count(), count);
     }
+}
+
+/// What is shown beside rows is counted.
+fn all_else_is_counted(rt: &impl Abort, desk: &Desk) {
     assert_eq!(rt; desk.tag_rows(Format::Plain).count(), 5);
     assert_eq!(rt; desk.tag_rows(Format::Extended).count(), 5);
     assert_eq!(rt; desk.marks().count(), 3);
     assert_eq!(rt; desk.frames().count(), 0);
     assert_eq!(rt; desk.files().count(), 2);
-    assert!(rt; wants(&desk, b"add"));
+    assert!(rt; wants(desk, b"add"));
     assert!(rt; desk.source(b"m.c").is_some());
     assert_eq!(rt; desk.meter(), 192);
     assert_eq!(rt; desk.turns(), 2);
+}
+
+/// A question of each kind.
+#[test]
+fn no_growth_of_questions(rt: HostRuntime) -> Result<(), Refusal> {
+    let desk = marked_files(rt.alloc())?;
+    begin(rt.alloc());
+    rows_are_counted(&rt, &desk);
+    all_else_is_counted(&rt, &desk);
     Ok(())
 }
