@@ -15,6 +15,7 @@ pub mod RestLemmas
 pub mod RowLemmas
 pub mod RowOrderLemmas
 pub mod RunLemmas
+pub mod SortLemmas
 pub mod SortedLemmas
 pub mod SpreadLemmas
 pub mod TotalLemmas

@@ -29,6 +29,7 @@ mod row_orders;
 mod rows;
 mod run;
 mod shelf;
+mod sort;
 mod sorted;
 mod tags;
 mod totals;
