@@ -4,11 +4,11 @@ use Rattle.std.specs.Cmp.Lexicographic.{slice_cmp}
 use Rattle.std.specs.List.{AllByRecursion}
 use Rattle.std.specs.Ordering.{nat_cmp, ordering_then}
 use Rattle.cb_scan.specs.declared.keys.place.Place.{Place}
-use Rattle.cb_scan.specs.Keys.{key_prefix}
+use Rattle.cb_scan.specs.Keys.{leading}
 use Rattle.cb_scan.specs.Order.{goes_first}
 use Rattle.cb_scan.specs.steps.Keys.{sort_key}
 use Rattle.cb_scan.specs.steps.Places.{keyed}
-use Rattle.cb_scan.proofs.KeyOrder.{by_recursion, prefix_first, sort_key_cmp, then_assoc}
+use Rattle.cb_scan.proofs.KeyOrder.{by_recursion, eight_first, sort_key_cmp, then_assoc}
 use Rattle.cb_scan.proofs.OrderLemmas.{Sorted}
 
 -- two items are ordered by their prefixes, then their keys, then their numbers
@@ -21,9 +21,9 @@ compared p q =
     let b = q.key.now in
     let rest = ordering_then (slice_cmp nat_cmp a b) (nat_cmp p.item q.item) in
     (λ i. ordering_then (nat_cmp (p.prefixed i) (q.prefixed i)) rest)
-    ∙ sym (then_assoc (nat_cmp (key_prefix a) (key_prefix b)) (slice_cmp nat_cmp a b) (nat_cmp p.item q.item))
+    ∙ sym (then_assoc (nat_cmp (leading 8 a) (leading 8 b)) (slice_cmp nat_cmp a b) (nat_cmp p.item q.item))
     ∙ ap (λ o. ordering_then o (nat_cmp p.item q.item))
-    (prefix_first a b (by_recursion (λ x. x < 256) a p.bytes) (by_recursion (λ x. x < 256) b q.bytes))
+    (eight_first a b (by_recursion (λ x. x < 256) a p.bytes) (by_recursion (λ x. x < 256) b q.bytes))
     ∙ sym (sort_key_cmp (keyed p) (keyed q))
 
 -- places that are sorted are sorted as items with keys

@@ -10,6 +10,7 @@ ghost use Rattle.cb_scan.specs.steps.Places.{keyed};
 
 use crate::keys::list::KeyList;
 use crate::keys::place::Place;
+use crate::keys::prefix::{Prefix, key_prefix};
 use crate::keys::sorted::sorted_places;
 use crate::lex::piece::Span;
 use std::alloc::{AllocError, Global};
@@ -18,7 +19,7 @@ use std::alloc::{AllocError, Global};
 #[derive(Drop)]
 struct Postings {
     starts: Vec<u32>,
-    prefixes: Vec<u64>,
+    prefixes: Vec<Prefix>,
 }
 
 /// The items alone.
@@ -56,7 +57,7 @@ fn find_postings(alloc: Global, places: &[Place<'_>]) -> Result<Postings, AllocE
     for (i, place) in places.iter().enumerate() {
         if !goes_on(last, place.key) {
             starts.push(i as u32)?;
-            prefixes.push(place.prefix)?;
+            prefixes.push(key_prefix(place.key))?;
         }
         last = Some(place.key);
     }

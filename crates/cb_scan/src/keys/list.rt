@@ -1,6 +1,7 @@
 //! The items of a list of facts, by the bytes of their keys.
 ghost use Rattle.std.specs.Prelude.{◌≡◌, ◌<◌, ◌≤◌, ◌^◌, length};
 
+use crate::keys::prefix::Prefix;
 use std::marker::Model;
 
 /// The items of a list of facts (each is its number there, from 0) in the order of the bytes of
@@ -9,7 +10,7 @@ use std::marker::Model;
 pub struct KeyList {
     items: Vec<u32>,
     starts: Vec<u32>,
-    prefixes: Vec<u64>,
+    prefixes: Vec<Prefix>,
 }
 
 impl Model for KeyList {
@@ -29,7 +30,7 @@ impl Model for KeyList {
 }
 
 impl KeyList {
-    pub(crate) fn new(items: Vec<u32>, starts: Vec<u32>, prefixes: Vec<u64>) -> KeyList
+    pub(crate) fn new(items: Vec<u32>, starts: Vec<u32>, prefixes: Vec<Prefix>) -> KeyList
         requires few { length items.items < 2 ^ 32 }
         requires postings { length prefixes.items ≤ length items.items }
         ensures { result ≡ record {
@@ -60,8 +61,8 @@ impl KeyList {
         self.starts.as_slice()
     }
 
-    /// The first eight bytes of the key of each posting, as a big-endian number.
-    pub fn prefixes(&self) -> &[u64]
+    /// What the key of each posting begins with.
+    pub fn prefixes(&self) -> &[Prefix]
         ensures value { result.now ≡ self.now.prefixes }
         ensures few { length result.now < 2 ^ 32 }
         ensures postings { length result.now ≤ length self.now.items }

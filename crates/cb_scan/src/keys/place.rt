@@ -1,7 +1,7 @@
 //! An item, its key and the key's prefix.
 ghost use Rattle.std.specs.Prelude.{◌≡◌, ◌<◌, get_or};
 ghost use Rattle.std.specs.List.{All};
-ghost use Rattle.cb_scan.specs.Keys.{key_prefix};
+ghost use Rattle.cb_scan.specs.Keys.{leading};
 
 /// An item with its key, and the first bytes of the key as a number, which settle most comparisons.
 #[derive(Clone, Copy)]
@@ -9,7 +9,7 @@ pub(crate) struct Place<'a> {
     pub prefix: u64,
     pub key: &'a [u8],
     pub item: u32,
-    ghost prefixed: { prefix ≡ key_prefix key.now },
+    ghost prefixed: { prefix ≡ leading 8 key.now },
     ghost bytes: { All (λ b. b < 256) key.now },
 }
 
@@ -22,8 +22,8 @@ fn byte_at(key: &[u8], at: usize) -> u64
 }
 
 /// The first eight bytes of a key as a big-endian number; where it has fewer, zeros follow.
-pub fn key_prefix(key: &[u8]) -> u64
-    ensures { result ≡ key_prefix key.now }
+pub(crate) fn first_eight(key: &[u8]) -> u64
+    ensures { result ≡ leading 8 key.now }
 {
     byte_at(key, 0) * 0x0100_0000_0000_0000
         + byte_at(key, 1) * 0x0001_0000_0000_0000
@@ -33,13 +33,4 @@ pub fn key_prefix(key: &[u8]) -> u64
         + byte_at(key, 5) * 0x0000_0000_0001_0000
         + byte_at(key, 6) * 0x0000_0000_0000_0100
         + byte_at(key, 7)
-}
-
-/// Says that the elements of a slice of bytes are bytes. It does nothing.
-pub(crate) fn read_bytes(key: &[u8])
-    ensures { All (λ b. b < 256) key.now }
-{
-    for byte in key {
-        let _byte = *byte;
-    }
 }

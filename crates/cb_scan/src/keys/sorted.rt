@@ -9,7 +9,8 @@ ghost use Rattle.cb_scan.specs.Order.{in_order};
 ghost use Rattle.cb_scan.specs.steps.Keys.{numbered, sort_key};
 ghost use Rattle.cb_scan.specs.steps.Places.{keyed};
 
-use crate::keys::place::{Place, key_prefix, read_bytes};
+use crate::keys::place::{Place, first_eight};
+use crate::keys::prefix::read_bytes;
 use crate::lex::piece::Span;
 use std::alloc::{AllocError, Global};
 use std::cmp::Ordering;
@@ -35,7 +36,7 @@ fn place(key: &[u8], item: u32) -> Place<'_>
 {
     read_bytes(key);
     Place {
-        prefix: key_prefix(key),
+        prefix: first_eight(key),
         key,
         item,
     }
