@@ -7,7 +7,7 @@ use std::marker::Model;
 
 /// The first eleven bytes of a key, and how many it has: 12 stands for more than eleven. It settles
 /// most comparisons of keys, and it tells a key of at most eleven bytes whole.
-#[derive(Clone, Copy, Debug)]
+#[derive(Clone, Copy, Debug, PartialEq, Eq)]
 pub struct Prefix {
     high: u32,
     middle: u32,
@@ -45,8 +45,7 @@ impl Prefix {
     pub fn number(&self) -> u128
         ensures { result ≡ self.now }
     {
-        (self.high as u128 * 0x1_0000_0000 + self.middle as u128) * 0x1_0000_0000
-            + self.low as u128
+        (self.high as u128 * 0x1_0000_0000 + self.middle as u128) * 0x1_0000_0000 + self.low as u128
     }
 
     /// Whether the key has no bytes but these.

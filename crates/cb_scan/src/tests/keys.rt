@@ -1,6 +1,6 @@
 //! The facts of a text by their keys.
 use crate::keys::facts::FactKeys;
-use crate::keys::place::key_prefix;
+use crate::keys::prefix::{Prefix, key_prefix};
 use crate::meter::Meter;
 use crate::scanner::scan;
 use crate::source::Source;
@@ -18,16 +18,13 @@ fn facts_go_by_key(rt: HostRuntime) -> Result<(), Fail> {
     let defs = keys.defs();
     assert_eq!(rt; defs.items(), [0, 2, 3, 1].as_slice());
     assert_eq!(rt; defs.starts(), [0, 1, 2, 3, 4].as_slice());
-    assert_eq!(rt;
-        defs.prefixes(),
-        [
-            0x5457_4943_4500_0000,
-            0x6164_6400_0000_0000,
-            0x6d61_696e_0000_0000,
-            0x776f_7264_0000_0000
-        ]
-        .as_slice()
-    );
+    let prefixes = [
+        0x5457_4943_4500_0000_0000_0005,
+        0x6164_6400_0000_0000_0000_0003,
+        0x6d61_696e_0000_0000_0000_0004,
+        0x776f_7264_0000_0000_0000_0004,
+    ];
+    assert!(rt; are_numbers(defs.prefixes(), &prefixes));
     // TWICE once, add twice
     let callees = keys.callees();
     assert_eq!(rt; callees.items(), [2, 0, 1].as_slice());
@@ -41,11 +38,32 @@ fn facts_go_by_key(rt: HostRuntime) -> Result<(), Fail> {
     Ok(())
 }
 
+/// Whether prefixes are these numbers.
+fn are_numbers(prefixes: &[Prefix], numbers: &[u128]) -> bool {
+    let mut same = prefixes.len() == numbers.len();
+    for (prefix, number) in prefixes.iter().zip(numbers) {
+        if prefix.number() != *number {
+            same = false;
+        }
+    }
+    same
+}
+
+/// Keys with their prefixes: eleven bytes, and how many there are.
 #[test]
-fn prefixes_are_the_first_eight_bytes(rt: HostRuntime) -> Result<(), Fail> {
-    assert_eq!(rt; key_prefix(b""), 0);
-    assert_eq!(rt; key_prefix(b"a"), 0x6100_0000_0000_0000);
-    assert_eq!(rt; key_prefix(b"sqlite3_"), 0x7371_6c69_7465_335f);
-    assert_eq!(rt; key_prefix(b"sqlite3_open"), 0x7371_6c69_7465_335f);
+fn prefixes_are_the_first_eleven_bytes_and_a_count(rt: HostRuntime) -> Result<(), Fail> {
+    let cases = [
+        (b"".as_slice(), 0, true),
+        (b"a", 0x6100_0000_0000_0000_0000_0001, true),
+        (b"sqlite3_", 0x7371_6c69_7465_335f_0000_0008, true),
+        (b"sqlite3_ope", 0x7371_6c69_7465_335f_6f70_650b, true),
+        (b"sqlite3_open", 0x7371_6c69_7465_335f_6f70_650c, false),
+        (b"sqlite3_open_v2", 0x7371_6c69_7465_335f_6f70_650c, false),
+    ];
+    for (key, number, whole) in cases {
+        let prefix = key_prefix(key);
+        assert!(rt; prefix.number() == number);
+        assert!(rt; prefix.is_whole() == whole);
+    }
     Ok(())
 }
