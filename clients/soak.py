@@ -7,8 +7,9 @@ A person runs this by hand; no gate does.
     clients/soak.py --cbrowse PATH --commands 100000 --seed 7
 
 The commands are of all kinds, drawn from the seed. Texts are small ones with definitions, uses and calls, and now and then
-one of up to 1,000,000 bytes: ordinary code, or one of the shapes that are hard for a scanner. The past is kept short by long
-runs of undo, so the memory of the session stays bounded.
+one of up to 1,000,000 bytes: ordinary code, or one of the shapes that are hard for a scanner; a line of definitions has at
+most 20,000, since each tag shows its whole line. The past is kept short by long runs of undo, so the memory of the session
+stays bounded.
 
 Whether a change was accepted is told by its reply. After each ten thousand commands a fresh process is given the changes
 that survive, and both are asked the same questions: tags, listing, marks, tag stack, texts and names. At the first
@@ -36,6 +37,8 @@ LONGEST_PAST = 1500
 NAMES = [b"f%d.c" % n for n in range(40)] + [b"d/h%d.h" % n for n in range(10)]
 WORDS = [b"alpha", b"beta", b"gamma", b"delta", b"main", b"next", b"x", b"count_of", b"list"]
 SHAPES = [b"{", b"}", b"\n", b"\"", b"\\", b"(", b"a(", b"#define a(\n", b"typedef a;", b"f(){}", b"/*", b"//\\\n", b"0.e+", b"a\n"]
+DEFINING = [b"typedef a;", b"f(){}"]  # one line of definitions: each tag shows the whole line
+LONGEST_LINE = 20_000  # bytes of such a line, since its tags grow with its square
 QUESTIONS = [b":tags", b":tags 2", b":listing", b":marks", b":stack", b"4alpha", b"4x", b"7d/", b"8a.h"] + [
     digit + word for digit in (b"0", b"1", b"2", b"3") for word in WORDS[:5]]
 
@@ -84,7 +87,8 @@ class Draw:
         kind = self.random.random()
         if kind < 0.0005:
             shape = self.random.choice(SHAPES)
-            return (shape * (1_000_000 // len(shape)))[:self.random.randrange(1_000_001)]
+            most = LONGEST_LINE if shape in DEFINING else 1_000_000
+            return (shape * (most // len(shape)))[:self.random.randrange(most + 1)]
         size = 2000 if kind < 0.001 else self.random.choice([0, 1, 2, 5, 10, 30])
         return b"".join(self.function() for _ in range(size))
 
