@@ -198,8 +198,10 @@ module _ (front : List ℕ → List ℕ) (keyer : Keyer) (prefixed : List ℕ �
         → AllByRecursion (HasPrefix front keyer a) (entries_from n s.name s.version (map (prefixed text) defs))
     told_from bytes n [] is = tt
     told_from bytes n (d ∷ defs) is = (
-      (entry_told n d defs is,
-      subst (λ o. AreBytes (front (keyer o (name_of a s.name) n))) (sym there) (told.bytes text (name_of a s.name) n bytes)),
+      (
+        entry_told n d defs is,
+        subst (λ o. AreBytes (front (keyer o (name_of a s.name) n))) (sym there) (told.bytes text (name_of a s.name) n bytes),
+      ),
       told_from bytes (suc n) defs (drop_next n (facts_of text).defs ∙ ap (drop 1) is),
     )
 

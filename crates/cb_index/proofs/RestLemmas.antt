@@ -1,5 +1,5 @@
 -- The rest of a list from a place on.
-use Rattle.std.proofs.Common.{◌≡◌, ℕ, zero, suc, List, [], ◌∷◌, Some, refl, drop}
+use Rattle.std.proofs.Common.{◌≡◌, ℕ, zero, suc, List, [], ◌∷◌, refl, drop}
 use Rattle.std.specs.Prelude.{slice_get}
 
 -- its first element is the one at the place

@@ -47,9 +47,11 @@ pub parted_at : (p : Entry → Bool) (bound n : ℕ) (es : List Entry) → ((e :
     → IsPartitionPoint (λ e. p e ≡ true) (λ e. p e ≡ false) es n → IsBoundary es n
 parted_at p bound n es ahead behind within parted = (
   within,
-  (bound,
-  all_implied (λ e. p e ≡ true) (λ (e : Entry). e.prefix < bound) ahead (take n es) (all_upto (λ e. p e ≡ true) n es within parted.0),
-  all_implied (λ e. p e ≡ false) (λ (e : Entry). bound ≤ e.prefix) behind (drop n es) (all_behind (λ e. p e ≡ false) n es parted.1)),
+  (
+    bound,
+    all_implied (λ e. p e ≡ true) (λ (e : Entry). e.prefix < bound) ahead (take n es) (all_upto (λ e. p e ≡ true) n es within parted.0),
+    all_implied (λ e. p e ≡ false) (λ (e : Entry). bound ≤ e.prefix) behind (drop n es) (all_behind (λ e. p e ≡ false) n es parted.1),
+  ),
 )
 
 -- ---- parts

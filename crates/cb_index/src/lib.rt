@@ -37,7 +37,7 @@ mod totals;
 pub use archive::{Archive, Version};
 pub use entries::Entries;
 pub use entry::{Entry, Shown};
-pub use facts::FactRows;
+pub use facts::{FactRows, FactSpots};
 pub use includes::IncludeRows;
 pub use listed::put_all_shown;
 pub use memory::OutOfMemory;
@@ -47,7 +47,7 @@ pub use orders::{CallsByCallee, CallsByCaller, DefsByName, DefsByTagName, UsesBy
 pub use range::Rows;
 pub use room::Room;
 pub use row::{Row, RowOrder};
-pub use rows::{FactRow, FactSort};
+pub use rows::{FactRow, FactSort, FactSpot};
 pub use shelf::Shelf;
 pub use sorted::Sorted;
 pub use tags::TagRows;

@@ -1,4 +1,4 @@
-use Rattle.std.proofs.Common.{◌≡◌, ◌∙◌, sym, ap}
+use Rattle.std.proofs.Common.{◌∙◌, sym, ap}
 use Rattle.std.specs.Str.{bytes_eq}
 use Rattle.cb_index.proofs.PrefixLemmas.{front_of_main, front_of_other}
 use Rattle.cb_index.proofs.orders.front_of_tag.Goals as goal

@@ -1,4 +1,4 @@
-use Rattle.std.proofs.Common.{◌≡◌, ◌∙◌, ◌++◌, ap}
+use Rattle.std.proofs.Common.{◌∙◌, ◌++◌, ap}
 use Rattle.cb_scan.specs.Order.{in_order}
 use Rattle.cb_index.specs.Entries.{sort_key}
 use Rattle.cb_index.proofs.SortLemmas.{parts_order}
