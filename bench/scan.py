@@ -7,11 +7,10 @@ A person runs this by hand; no gate does, and nothing here passes or fails by it
     bench/scan.py --cbrowse PATH      or: CBROWSE=PATH bench/scan.py
     bench/scan.py --folder FOLDER --before PATH
 
-What is counted. `:load` takes the bytes over and finds where the lines begin, but does not scan; each query scans every
-loaded file afresh. So a session that loads one file and then asks `1NoSuchName` N times scans that file N times. Taken
-away is the time of a session that loads the same bytes, undoes the load and asks the same N times of no file: start,
-reading, prompts and replies. What is left are N scans: all lists of facts, the look through the definitions for the
-name, and the freeing. N is 10 MB / size. (Should queries come to be answered from kept facts, this counts no scan.)
+What is counted. `:load` takes a file in; then `r`, which scans every loaded file again, is given N times. Taken away is
+the time of a session that loads the same bytes, undoes the load and gives `r` as often over no file: start, reading,
+loading, prompts and replies. What is left are N scans: all lists of facts, and the freeing of them. N is 10 MB / size. An
+older cbrowse, which has no `r`, is asked `1NoSuchName` in its place: it scans every loaded file afresh for each question.
 
 `ctags -x` and `cscope -b -k` do their whole work once on the file of 1 MB, with printing or writing what they found;
 their time on an empty file is taken away. They look for other things than cbrowse does, so "times" says an order of
@@ -25,8 +24,8 @@ have), cut at the end of a line: ordinary code with includes, macros, typedefs, 
 after another; names; `#define` lines; CR LF alone; a comment that is never closed.
 
 With --folder one row more is of the C files in a folder, at most 4,096 of them that are no larger than a file may be: one
-session loads them all and asks N times, and a session that loads them and asks once is taken away. `ctags` takes the same
-files in one run. With --before the row also has the MB/s of another cbrowse, and those of this one as a multiple of it;
+session loads them all and scans them N times, and a session that loads them and scans them once is taken away. `ctags`
+takes the same files in one run. With --before the row also has the MB/s of another cbrowse, and those of this one as a multiple of it;
 runs of the programs take turns, so that other work on the machine slows each of them alike.
 
 Columns: MB/s of cbrowse; time per byte as a multiple of that at 10 KB (1.0 is linear); at 1 MB the MB/s of ctags and of
@@ -47,7 +46,8 @@ RUNS = 15
 MOST_BYTES, MOST_FILES = 1_000_000, 4_096  # of a session
 REAL_TIMES, REAL_RUNS = 3, 5
 
-QUERY = b"1NoSuchName\n"
+AGAIN, QUERY = b"r\n", b"1NoSuchName\n"  # what scans all files in a session, and in one of an older cbrowse
+PROMPT, DONE, NOTHING = b">> ", b"cscope: done\n", b"cscope: 0 lines\n"
 
 
 def code():
@@ -153,15 +153,25 @@ def speed(size, with_work, without):
     return size / max(seconds, 1e-6) / 1e6
 
 
+def replies_of(words, commands):
+    """What a session writes."""
+    return subprocess.run(words, input=commands, stdout=subprocess.PIPE, timeout=PATIENCE, check=True).stdout
+
+
+def scanning_command(words):
+    """The command that scans all files in a session of this cbrowse, and its reply."""
+    return (AGAIN, DONE) if replies_of(words, AGAIN) == PROMPT + DONE + PROMPT else (QUERY, NOTHING)
+
+
 def cbrowse_speed(cbrowse, folder, text):
     times = SCANNED // len(text)
     load = b":load f.c %d\n%s" % (len(text), text)
-    done, nothing = b">> cscope: done\n", b">> cscope: 0 lines\n"
     words = [cbrowse, "line"]
-    scanning, idle = load + QUERY * times, load + b":undo\n" + QUERY * times
-    replies = subprocess.run(words, input=scanning, stdout=subprocess.PIPE, timeout=PATIENCE, check=True).stdout
-    if replies != done + nothing * times + b">> ":
-        raise SystemExit(f"{cbrowse}: other replies than {nothing.decode().strip()}: {replies[:200]!r}")
+    command, reply = scanning_command(words)
+    scanning, idle = load + command * times, load + b":undo\n" + command * times
+    replies = replies_of(words, scanning)
+    if replies != PROMPT + DONE + (PROMPT + reply) * times + PROMPT:
+        raise SystemExit(f"{cbrowse}: other replies than {reply.decode().strip()}: {replies[:200]!r}")
     return speed(len(text) * times, lambda: processor_time(words, folder, scanning),
                  lambda: processor_time(words, folder, idle))
 
@@ -200,8 +210,9 @@ def real_row(programs, ctags, folder, texts):
 
     for _ in range(REAL_RUNS):
         for program in programs:
-            note((program, "one"), processor_time([program, "line"], folder, load + QUERY))
-            note((program, "all"), processor_time([program, "line"], folder, load + QUERY * (1 + REAL_TIMES)))
+            command, _ = scanning_command([program, "line"])
+            note((program, "one"), processor_time([program, "line"], folder, load + command))
+            note((program, "all"), processor_time([program, "line"], folder, load + command * (1 + REAL_TIMES)))
         if ctags:
             note("ctags", processor_time(ctags + ["-L", "list"], folder))
     speeds = [size * REAL_TIMES / (best[program, "all"] - best[program, "one"]) / 1e6 for program in programs]

@@ -6,6 +6,7 @@ mod found;
 mod headers;
 mod look_back;
 mod names;
+mod row_spot;
 mod rows;
 mod tags;
 mod texts;

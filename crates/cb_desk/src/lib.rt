@@ -27,8 +27,6 @@ mod search;
 mod spot;
 mod state;
 mod tags;
-#[cfg(test)]
-mod tests;
 
 pub use answers::{Files, Rows, TagRows};
 pub use change::Change;

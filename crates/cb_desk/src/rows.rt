@@ -2,7 +2,6 @@
 ghost use Rattle.std.specs.Prelude.{◌≡◌, ◌≤◌, ◌==◌, ◌||◌, length};
 ghost use Rattle.std.specs.List.{prefix_len};
 ghost use Rattle.cb_desk.specs.Answer.{space, tab, unindented, line_row, file_row, field_of_digit};
-ghost use Rattle.cb_desk.specs.steps.LookBack.{alike};
 ghost use Rattle.cb_desk.specs.Models.{row_of};
 
 use crate::found::shown_line;
@@ -53,15 +52,6 @@ pub struct RefRow<'a> {
     /// From 1.
     pub line: u32,
     pub text: &'a [u8],
-}
-
-impl<'a> RefRow<'a> {
-    /// Whether two rows are equal but for their texts, which rows on one line of a file share.
-    pub(crate) fn is_like(&self, other: &RefRow<'_>) -> bool
-        ensures { result ≡ alike (row_of self.now) (row_of other.now) }
-    {
-        self.line == other.line && self.function == other.function && self.file == other.file
-    }
 }
 
 /// The row that shows a line of a file and names no function. Lines count from 1.

@@ -35,7 +35,8 @@ use Rattle.cb_index.specs.declared.entry.Entry.{Entry}
 use Rattle.cb_index.specs.declared.entry.Shown.{Shown}
 use Rattle.cb_index.specs.declared.rows.FactSort.{FactSort}
 use Rattle.cb_index.specs.declared.rows.FactSort.TheVariants.{Uses, Callees, Callers}
-use Rattle.cb_index.proofs.RowLemmas.{at_front, cut_is, drop_next, kept_key}
+use Rattle.cb_index.proofs.RestLemmas.{at_front, drop_next}
+use Rattle.cb_index.proofs.RowLemmas.{cut_is, kept_key}
 
 -- ---- where postings start
 first_start : (at : ℕ) (ps : List Posting) → get_or (starts_from at ps) 0 0 ≡ at

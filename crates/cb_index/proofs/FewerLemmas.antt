@@ -10,11 +10,15 @@ use Rattle.cb_scan.specs.Keys.{items_by_key}
 use Rattle.cb_scan.specs.lex.Tokens.{bytes_of}
 use Rattle.cb_scan.proofs.KeyLaws.{prefix_count}
 use Rattle.cb_index.specs.Files.{call_count, def_count, use_count}
-use Rattle.cb_index.specs.Orders.{callee_prefixes, caller_prefixes, def_prefix, def_prefixes, use_prefixes}
+use Rattle.cb_index.specs.Orders.{callee_prefixes, caller_prefixes, def_prefix, def_prefixes, tag_prefix, tag_prefixes, use_prefixes}
 
 pub fewer_defs : (t : Option (List ℕ)) → length (def_prefixes t) ≤ def_count t
 fewer_defs None = omega arith
-fewer_defs (Some text) = let same = length-map (facts_of text).defs def_prefix in omega (arith, same)
+fewer_defs (Some text) = let same = length-map (facts_of text).defs (def_prefix text) in omega (arith, same)
+
+pub fewer_tags : (t : Option (List ℕ)) → length (tag_prefixes t) ≤ def_count t
+fewer_tags None = omega arith
+fewer_tags (Some text) = let same = length-map (facts_of text).defs (tag_prefix text) in omega (arith, same)
 
 few_keys : {X : Type 0} (key : X → List ℕ) (xs : List X) → length (items_by_key (map key xs)).prefixes ≤ length xs
 few_keys key xs =

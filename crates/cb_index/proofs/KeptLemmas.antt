@@ -21,7 +21,7 @@ use Rattle.cb_index.specs.Entries.{Keyer, sort_key}
 use Rattle.cb_index.specs.Files.{AreAscending, IsThere, shown_name}
 use Rattle.cb_index.specs.Held.{Prefixer, all_entries, entries_of}
 use Rattle.cb_index.specs.Names.{is_among, names_of}
-use Rattle.cb_index.specs.Orders.{callee_key, callee_prefixes, caller_key, caller_prefixes, def_key, def_prefixes, tag_key, use_key, use_prefixes}
+use Rattle.cb_index.specs.Orders.{callee_key, callee_prefixes, caller_key, caller_prefixes, def_key, def_prefixes, tag_key, tag_prefixes, use_key, use_prefixes}
 use Rattle.cb_index.specs.Shelved.{AreKept, IsIndexOf, KeepsRoom, Shelved}
 use Rattle.cb_index.specs.declared.entry.Entry.{Entry}
 use Rattle.cb_index.specs.declared.entry.Shown.{Shown}
@@ -42,7 +42,7 @@ kept_none a shown d t u c e none nd nt nu nc ne = record {
   there = subst (AllByRecursion (IsThere a)) (sym none) tt;
   ascending = subst (AreAscending a) (sym none) tt;
   defs = empty_index def_key def_prefixes a shown d none nd;
-  tags = empty_index tag_key def_prefixes a shown t none nt;
+  tags = empty_index tag_key tag_prefixes a shown t none nt;
   uses = empty_index use_key use_prefixes a shown u none nu;
   callees = empty_index callee_key callee_prefixes a shown c none nc;
   callers = empty_index caller_key caller_prefixes a shown e none ne;
@@ -68,7 +68,7 @@ module _ (a b : Archived) where
     there = there;
     ascending = same_ascending shown all kept.ascending;
     defs = indexed_same def_key def_prefixes a b shown d all kept.defs;
-    tags = indexed_same tag_key def_prefixes a b shown t all kept.tags;
+    tags = indexed_same tag_key tag_prefixes a b shown t all kept.tags;
     uses = indexed_same use_key use_prefixes a b shown u all kept.uses;
     callees = indexed_same callee_key callee_prefixes a b shown c all kept.callees;
     callers = indexed_same caller_key caller_prefixes a b shown e all kept.callers;
@@ -237,13 +237,13 @@ module _ (a : Archived) (s : Shown) where
   pub kept_shown : (shown : List Shown) (d t u c e : List Entry) → IsThere a s
       → AllByRecursion (λ (r : Shown). bytes_eq (name_of a s.name) (name_of a r.name) ≡ false) shown → AreKept a shown d t u c e
       → AreKept a (put (shown_name a) s shown) (in_order (sort_key def_key a) (d ++ entries_of def_prefixes a s))
-      (in_order (sort_key tag_key a) (t ++ entries_of def_prefixes a s)) (in_order (sort_key use_key a) (u ++ entries_of use_prefixes a s))
+      (in_order (sort_key tag_key a) (t ++ entries_of tag_prefixes a s)) (in_order (sort_key use_key a) (u ++ entries_of use_prefixes a s))
       (in_order (sort_key callee_key a) (c ++ entries_of callee_prefixes a s)) (in_order (sort_key caller_key a) (e ++ entries_of caller_prefixes a s))
   kept_shown shown d t u c e here other kept = record {
     there = all_put (shown_name a) (IsThere a) s shown here kept.there;
     ascending = ascending_put shown other kept.ascending;
     defs = indexed_put def_key def_prefixes a s shown d kept.defs;
-    tags = indexed_put tag_key def_prefixes a s shown t kept.tags;
+    tags = indexed_put tag_key tag_prefixes a s shown t kept.tags;
     uses = indexed_put use_key use_prefixes a s shown u kept.uses;
     callees = indexed_put callee_key callee_prefixes a s shown c kept.callees;
     callers = indexed_put caller_key caller_prefixes a s shown e kept.callers;
@@ -273,7 +273,7 @@ module _ (a : Archived) (stays : ℕ → Bool) where
     there = all_filter shown_stays (IsThere a) shown kept.there;
     ascending = ascending_filter shown_stays shown kept.ascending;
     defs = indexed_take def_prefixes a stays def_key shown d kept.defs;
-    tags = indexed_take def_prefixes a stays tag_key shown t kept.tags;
+    tags = indexed_take tag_prefixes a stays tag_key shown t kept.tags;
     uses = indexed_take use_prefixes a stays use_key shown u kept.uses;
     callees = indexed_take callee_prefixes a stays callee_key shown c kept.callees;
     callers = indexed_take caller_prefixes a stays caller_key shown e kept.callers;
@@ -283,7 +283,7 @@ module _ (a : Archived) (stays : ℕ → Bool) where
 module _ (a : Archived) where
   pub kept_filtered : (p : Shown → Bool) (shown : List Shown) (d t u c e : List Entry) → AreKept a shown d t u c e
       → AreKept a (filter p shown) (in_order (sort_key def_key a) (all_entries def_prefixes a (filter p shown)))
-      (in_order (sort_key tag_key a) (all_entries def_prefixes a (filter p shown)))
+      (in_order (sort_key tag_key a) (all_entries tag_prefixes a (filter p shown)))
       (in_order (sort_key use_key a) (all_entries use_prefixes a (filter p shown)))
       (in_order (sort_key callee_key a) (all_entries callee_prefixes a (filter p shown)))
       (in_order (sort_key caller_key a) (all_entries caller_prefixes a (filter p shown)))

@@ -8,11 +8,14 @@ pub mod IndexLemmas
 pub mod KeptLemmas
 pub mod ListedLemmas
 pub mod NameLemmas
+pub mod PrefixLemmas
 pub mod PutLemmas
 pub mod RangeLemmas
+pub mod RestLemmas
 pub mod RowLemmas
 pub mod RowOrderLemmas
 pub mod RunLemmas
+pub mod SortLemmas
 pub mod SortedLemmas
 pub mod SpreadLemmas
 pub mod TotalLemmas

@@ -23,7 +23,7 @@ use Rattle.cb_index.specs.Archived.{Archived, name_of}
 use Rattle.cb_index.specs.Entries.{sort_key}
 use Rattle.cb_index.specs.Files.{AreApart, AreAscending, IsThere, is_shown, shown_key, shown_name}
 use Rattle.cb_index.specs.Held.{all_entries}
-use Rattle.cb_index.specs.Orders.{callee_key, callee_prefixes, caller_key, caller_prefixes, def_key, def_prefixes, tag_key, use_key, use_prefixes}
+use Rattle.cb_index.specs.Orders.{callee_key, callee_prefixes, caller_key, caller_prefixes, def_key, def_prefixes, tag_key, tag_prefixes, use_key, use_prefixes}
 use Rattle.cb_index.specs.Shelved.{AreKept}
 use Rattle.cb_index.specs.declared.entry.Entry.{Entry}
 use Rattle.cb_index.specs.declared.entry.Shown.{Shown}
@@ -268,7 +268,7 @@ module _ (a : Archived) (shown news : List Shown) (d t u c e : List Entry) where
   pub kept_each : AllByRecursion (IsThere a) news → AreApart a (shown ++ news) → AreKept a shown d t u c e
       → AreKept a (in_order (shown_name a) (shown ++ news))
       (in_order (sort_key def_key a) (d ++ all_entries def_prefixes a news))
-      (in_order (sort_key tag_key a) (t ++ all_entries def_prefixes a news))
+      (in_order (sort_key tag_key a) (t ++ all_entries tag_prefixes a news))
       (in_order (sort_key use_key a) (u ++ all_entries use_prefixes a news))
       (in_order (sort_key callee_key a) (c ++ all_entries callee_prefixes a news))
       (in_order (sort_key caller_key a) (e ++ all_entries caller_prefixes a news))
@@ -276,7 +276,7 @@ module _ (a : Archived) (shown news : List Shown) (d t u c e : List Entry) where
     there = all_in_order (shown_name a) (IsThere a) (shown ++ news) (all-append (IsThere a) shown news kept.there there);
     ascending = ascending_in_order a (shown ++ news) apart;
     defs = indexed_each def_key def_prefixes a shown news d kept.defs;
-    tags = indexed_each tag_key def_prefixes a shown news t kept.tags;
+    tags = indexed_each tag_key tag_prefixes a shown news t kept.tags;
     uses = indexed_each use_key use_prefixes a shown news u kept.uses;
     callees = indexed_each callee_key callee_prefixes a shown news c kept.callees;
     callers = indexed_each caller_key caller_prefixes a shown news e kept.callers;

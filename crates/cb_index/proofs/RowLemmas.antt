@@ -1,5 +1,5 @@
 -- The rows of the definitions that are shown.
-use Rattle.std.proofs.Common.{◌≡◌, ◌∙◌, ℕ, zero, suc, Bool, true, false, List, [], ◌∷◌, ◌++◌, Some, None, refl, sym, ap, subst, length, map, drop, filter, get_or, min}
+use Rattle.std.proofs.Common.{◌≡◌, ◌∙◌, ℕ, suc, Bool, true, false, List, [], ◌∷◌, ◌++◌, Some, None, refl, sym, ap, subst, length, map, drop, filter, get_or, min}
 use Rattle.std.proofs.lemmas.Bool.{false≢true}
 use Rattle.std.proofs.lemmas.Bool.Decides.{Decides-eqb}
 use Rattle.std.proofs.lemmas.Cmp.{nat_cmp_total, nat_list_cmp_total, tied_itself}
@@ -19,19 +19,20 @@ use Rattle.std.specs.declared.cmp.Ordering.TheVariants.{Less, Equal, Greater}
 use Rattle.cb_scan.specs.declared.facts.Def.{Def}
 use Rattle.cb_scan.specs.declared.lex.piece.Span.{Span}
 use Rattle.cb_scan.specs.Definitions.{IsWithin, facts_of}
+use Rattle.cb_scan.specs.Keys.{key_prefix}
 use Rattle.cb_scan.specs.lex.Tokens.{bytes_of}
 use Rattle.cb_scan.specs.Order.{AreOrdered, goes_first, in_order}
 use Rattle.cb_scan.proofs.FactsWithin.{facts_lie}
+use Rattle.cb_scan.proofs.KeyOrder.{then_assoc}
 use Rattle.cb_scan.proofs.OrderLemmas.{in_order_sum}
-use Rattle.cb_scan.proofs.WithinLemmas.{all-append}
 use Rattle.cb_tags.specs.TagLines.{Tag}
 use Rattle.cb_tags.specs.TagNames.{tag_name}
-use Rattle.cb_index.specs.Archived.{Archived, name_of}
+use Rattle.cb_index.specs.Archived.{Archived, AreBytes, name_of}
 use Rattle.cb_index.specs.Bytes.{bytes_at, cut}
 use Rattle.cb_index.specs.Entries.{Keyer, entries_from, file_key, has_key, key_of, sort_key}
 use Rattle.cb_index.specs.Files.{AreAscending, File, IsThere, file_of, files_of}
 use Rattle.cb_index.specs.Held.{Prefixer, all_entries, entries_of}
-use Rattle.cb_index.specs.Orders.{def_key, def_prefix, def_prefixes, tag_key}
+use Rattle.cb_index.specs.Orders.{def_key, def_prefix, def_prefixes, tag_front, tag_key, tag_prefix, tag_prefixes}
 use Rattle.cb_index.specs.Rows.{file_tags, file_tags_named, tag_in, tags_by_name, tags_by_tag_name, tags_named}
 use Rattle.cb_index.specs.Shelved.{IsIndexOf, with_facts}
 use Rattle.cb_index.specs.steps.Found.{tag_at, tag_in_text, tag_of_def}
@@ -41,6 +42,8 @@ use Rattle.cb_index.specs.declared.entry.Shown.{Shown}
 use Rattle.cb_index.proofs.EntryLemmas.{bytes_cmp, sort_exact}
 use Rattle.cb_index.proofs.InOrderLemmas.{filter_kept, in_order_agree, map_in_order, same_order}
 use Rattle.cb_index.proofs.IndexLemmas.{ComesFirst, all_ordered}
+use Rattle.cb_index.proofs.PrefixLemmas.{GoesFirst, HasPrefix, defs_told, entry_told, key_decides, names_told, prefixes_first, tag_front_first, tag_names_told, whole_first}
+use Rattle.cb_index.proofs.RestLemmas.{at_front, drop_next}
 
 -- ---- an index is in order
 pub again : (keyer : Keyer) (prefixer : Prefixer) (a : Archived) (shown : List Shown) (es : List Entry)
@@ -55,17 +58,6 @@ cut_is text span within =
     let end : min span.end (length text) ≡ span.end = min-eq_left within.1 in
     let start : min span.start (min span.end (length text)) ≡ span.start = ap (min span.start) end ∙ min-eq_left within.0 in
     λ i. slice_range text (start i) (end i)
-
--- ---- the place where a rest of a list begins
-pub at_front : {X : Type 0} (n : ℕ) (xs : List X) → slice_get xs n ≡ slice_get (drop n xs) 0
-at_front zero xs = refl
-at_front (suc n) [] = refl
-at_front (suc n) (x ∷ xs) = at_front n xs
-
-pub drop_next : {X : Type 0} (n : ℕ) (xs : List X) → drop (suc n) xs ≡ drop 1 (drop n xs)
-drop_next zero xs = refl
-drop_next (suc n) [] = refl
-drop_next (suc n) (x ∷ xs) = drop_next n xs
 
 -- ---- entries of one key
 module _ {X : Type 0} (R Q : X → X → Type 0) (P : X → Type 0) (imply : (x y : X) → P x → P y → R x y → Q x y) where
@@ -87,11 +79,11 @@ split_and true c is = (refl, is)
 split_and false c is = absurd (false≢true is)
 
 module _ (keyer : Keyer) (a : Archived) where
-  ordered_cmp : (e f : Entry) → nat_cmp e.prefix f.prefix ≡ Equal
-      → slice_cmp nat_cmp (sort_key keyer a e) (sort_key keyer a f)
-      ≡ ordering_then (slice_cmp nat_cmp (key_of keyer a e) (key_of keyer a f)) (slice_cmp nat_cmp (file_key a e) (file_key a f))
+  ordered_cmp : (e f : Entry) → slice_cmp nat_cmp (sort_key keyer a e) (sort_key keyer a f)
+      ≡ ordering_then (nat_cmp e.prefix f.prefix)
+      (ordering_then (slice_cmp nat_cmp (key_of keyer a e) (key_of keyer a f)) (slice_cmp nat_cmp (file_key a e) (file_key a f)))
   unfolding sort_key
-  ordered_cmp e f same = λ i. ordering_then (same i) (sym (bytes_cmp keyer a e f) i)
+  ordered_cmp e f = ap (ordering_then (nat_cmp e.prefix f.prefix)) (sym (bytes_cmp keyer a e f))
 
   -- entries of one key go by file and number
   one_key : (prefix : ℕ) (key : List ℕ) (e f : Entry) → ComesFirst a e f → has_key keyer a prefix key e ≡ true
@@ -107,16 +99,19 @@ module _ (keyer : Keyer) (a : Archived) where
       subst (λ n. nat_cmp e.prefix n ≡ Equal) prefixes (tied_itself nat_cmp_total e.prefix) in
       let key_tied : slice_cmp nat_cmp (key_of keyer a e) (key_of keyer a f) ≡ Equal =
       subst (λ k. slice_cmp nat_cmp (key_of keyer a e) k ≡ Equal) keys (tied_itself nat_list_cmp_total (key_of keyer a e)) in
-      ap (λ o. not (is_gt o)) (ordered_cmp e f prefix_tied
-      ∙ ap (λ o. ordering_then o (slice_cmp nat_cmp (file_key a e) (file_key a f))) key_tied) ∙ first
+      ap (λ o. not (is_gt o)) (ordered_cmp e f
+      ∙ (λ i. ordering_then (prefix_tied i) (ordering_then (key_tied i) (slice_cmp nat_cmp (file_key a e) (file_key a f))))) ∙ first
 
-  -- entries with one prefix go by key
-  by_key : (e f : Entry) → e.prefix ≡ 0 → f.prefix ≡ 0 → ComesFirst a e f
-      → goes_first (sort_key keyer a) e f ≡ goes_first (key_of keyer a) e f
-  by_key e f no_e no_f first =
-      let prefix_tied : nat_cmp e.prefix f.prefix ≡ Equal = λ i. nat_cmp (no_e i) (no_f i) in
-      ap (λ o. not (is_gt o)) (ordered_cmp e f prefix_tied)
-      ∙ settled (slice_cmp nat_cmp (key_of keyer a e) (key_of keyer a f)) (slice_cmp nat_cmp (file_key a e) (file_key a f)) first
+  -- entries that have the prefixes of their keys go by key
+  by_key : (front : List ℕ → List ℕ) → GoesFirst front → (e f : Entry) → HasPrefix front keyer a e → HasPrefix front keyer a f
+      → ComesFirst a e f → goes_first (sort_key keyer a) e f ≡ goes_first (key_of keyer a) e f
+  by_key front front_first e f of_e of_f first =
+      let keys = slice_cmp nat_cmp (key_of keyer a e) (key_of keyer a f) in
+      let files = slice_cmp nat_cmp (file_key a e) (file_key a f) in
+      ap (λ o. not (is_gt o)) (ordered_cmp e f ∙ sym (then_assoc (nat_cmp e.prefix f.prefix) keys files)
+      ∙ (λ i. ordering_then (ordering_then (nat_cmp (of_e.0 i) (of_f.0 i)) keys) files)
+      ∙ ap (λ o. ordering_then o files) (prefixes_first front front_first (key_of keyer a e) (key_of keyer a f) of_e.1 of_f.1))
+      ∙ settled keys files first
     where
       settled : (o p : Ordering) → not (is_gt p) ≡ true → not (is_gt (ordering_then o p)) ≡ not (is_gt o)
       settled Less p is = refl
@@ -135,32 +130,15 @@ module _ (keyer : Keyer) (a : Archived) where
         (λ (_ : Entry). Unit {0}) (λ e f _ _ first. one_key prefix key e f first)
         (all_entries prefixer a shown) (all_any (all_entries prefixer a shown)) (all_ordered a prefixer shown up))
 
-    -- an index whose prefixes are 0 goes by key
-    pub kept_order : AllByRecursion (λ (e : Entry). e.prefix ≡ 0) (all_entries prefixer a shown) → (es : List Entry)
-        → IsIndexOf keyer prefixer a shown es → es ≡ in_order (key_of keyer a) (all_entries prefixer a shown)
-    kept_order none es is =
+    -- an index of entries that have the prefixes of their keys goes by key
+    pub kept_order : (front : List ℕ → List ℕ) → GoesFirst front → AllByRecursion (HasPrefix front keyer a) (all_entries prefixer a shown)
+        → (es : List Entry) → IsIndexOf keyer prefixer a shown es → es ≡ in_order (key_of keyer a) (all_entries prefixer a shown)
+    kept_order front front_first told es is =
         is ∙ in_order_agree (sort_key keyer a) (key_of keyer a) (all_entries prefixer a shown)
         (ordered_with (ComesFirst a) (λ e f. goes_first (sort_key keyer a) e f ≡ goes_first (key_of keyer a) e f)
-        (λ (e : Entry). e.prefix ≡ 0) by_key (all_entries prefixer a shown) none (all_ordered a prefixer shown up))
+        (HasPrefix front keyer a) (by_key front front_first) (all_entries prefixer a shown) told (all_ordered a prefixer shown up))
 
 -- ---- the tags of definitions
-no_prefixes_from : (number name version : ℕ) (defs : List Def)
-    → AllByRecursion (λ (e : Entry). e.prefix ≡ 0) (entries_from number name version (map def_prefix defs))
-unfolding def_prefix
-no_prefixes_from number name version [] = tt
-no_prefixes_from number name version (d ∷ defs) = (refl, no_prefixes_from (suc number) name version defs)
-
-no_prefixes_of : (name version : ℕ) (text : Option (List ℕ))
-    → AllByRecursion (λ (e : Entry). e.prefix ≡ 0) (entries_from 0 name version (def_prefixes text))
-no_prefixes_of name version None = tt
-no_prefixes_of name version (Some text) = no_prefixes_from 0 name version (facts_of text).defs
-
-no_prefixes : (a : Archived) (shown : List Shown) → AllByRecursion (λ (e : Entry). e.prefix ≡ 0) (all_entries def_prefixes a shown)
-no_prefixes a [] = tt
-no_prefixes a (s ∷ shown) =
-    all-append (λ (e : Entry). e.prefix ≡ 0) (entries_of def_prefixes a s) (all_entries def_prefixes a shown)
-    (no_prefixes_of s.name s.version (slice_get a.texts s.version)) (no_prefixes a shown)
-
 -- the name of a tag is the key of its entry
 found_name : (file text : List ℕ) (d : Option Def) → bytes_at text (option_map (λ (x : Def). x.name) d) ≡ (tag_of_def file text d).name
 found_name file text None = refl
@@ -201,89 +179,97 @@ module _ (a : Archived) (s : Shown) (text : List ℕ) (there : slice_get a.texts
   abbrev file : File
   file = record { name = name_of a s.name; bytes = text }
 
-  abbrev entry : ℕ → Def → Entry
-  entry n d = record { prefix = def_prefix d; name = s.name; version = s.version; number = n }
+  abbrev entry : ℕ → ℕ → Entry
+  entry prefix n = record { prefix = prefix; name = s.name; version = s.version; number = n }
 
-  module _ (n : ℕ) (d : Def) (rest : List Def) (is : drop n (facts_of text).defs ≡ d ∷ rest) (within : IsWithin text d.name) where
+  module _ (prefix n : ℕ) (d : Def) (rest : List Def) (is : drop n (facts_of text).defs ≡ d ∷ rest) (within : IsWithin text d.name) where
     found_def : slice_get (facts_of text).defs n ≡ Some d
     found_def = at_front n (facts_of text).defs ∙ ap (λ l. slice_get l 0) is
 
-    tag_is : tag_at a (entry n d) ≡ tag_in file d
+    tag_is : tag_at a (entry prefix n) ≡ tag_in file d
     tag_is =
         ap (tag_in_text (name_of a s.name) n) there ∙ ap (tag_of_def (name_of a s.name) text) found_def
         ∙ (λ i. record (tag_in file d) { name = cut_is text d.name within i })
 
-    key_is : key_of def_key a (entry n d) ≡ bytes_of text d.name
+    key_is : key_of def_key a (entry prefix n) ≡ bytes_of text d.name
     key_is =
         ap (λ o. def_key o (name_of a s.name) n) there
         ∙ ap (λ o. bytes_at text (option_map (λ (x : Def). x.name) o)) found_def ∙ cut_is text d.name within
 
-  tags_from : (n : ℕ) (defs : List Def) → drop n (facts_of text).defs ≡ defs → AllByRecursion (λ (d : Def). IsWithin text d.name) defs
-      → map (tag_at a) (entries_from n s.name s.version (map def_prefix defs)) ≡ map (tag_in file) defs
-  tags_from n [] is within = refl
-  tags_from n (d ∷ defs) is within =
-      λ i. tag_is n d defs is within.0 i
-      ∷ tags_from (suc n) defs (drop_next n (facts_of text).defs ∙ ap (drop 1) is) within.1 i
+  tags_from : (prefixed : Def → ℕ) (n : ℕ) (defs : List Def) → drop n (facts_of text).defs ≡ defs
+      → AllByRecursion (λ (d : Def). IsWithin text d.name) defs
+      → map (tag_at a) (entries_from n s.name s.version (map prefixed defs)) ≡ map (tag_in file) defs
+  tags_from prefixed n [] is within = refl
+  tags_from prefixed n (d ∷ defs) is within =
+      λ i. tag_is (prefixed d) n d defs is within.0 i
+      ∷ tags_from prefixed (suc n) defs (drop_next n (facts_of text).defs ∙ ap (drop 1) is) within.1 i
 
   tags_named_from : (name : List ℕ) (n : ℕ) (defs : List Def) → drop n (facts_of text).defs ≡ defs
       → AllByRecursion (λ (d : Def). IsWithin text d.name) defs
-      → map (tag_at a) (filter (has_key def_key a 0 name) (entries_from n s.name s.version (map def_prefix defs)))
+      → map (tag_at a) (filter (has_key def_key a (key_prefix name) name) (entries_from n s.name s.version (map (def_prefix text) defs)))
       ≡ map (tag_in file) (filter (λ (d : Def). bytes_eq name (bytes_of text d.name)) defs)
-  unfolding def_prefix
   tags_named_from name n [] is within = refl
   tags_named_from name n (d ∷ defs) is within =
       let later = tags_named_from name (suc n) defs (drop_next n (facts_of text).defs ∙ ap (drop 1) is) within.1 in
-      let kept = filter (has_key def_key a 0 name) (entries_from (suc n) s.name s.version (map def_prefix defs)) in
-      ap (λ k. map (tag_at a) (cond (bytes_eq name k) (entry n d ∷ kept) kept)) (key_is n d defs is within.0)
-      ∙ kept_or_not (tag_at a) (tag_in file) (bytes_eq name (bytes_of text d.name)) (entry n d) kept d
-      (filter (λ (x : Def). bytes_eq name (bytes_of text x.name)) defs) (tag_is n d defs is within.0) later
+      let here = entry (def_prefix text d) n in
+      let kept = filter (has_key def_key a (key_prefix name) name) (entries_from (suc n) s.name s.version (map (def_prefix text) defs)) in
+      ap (λ b. map (tag_at a) (cond b (here ∷ kept) kept))
+      (key_decides (λ key. key) def_key a name here (entry_told (λ key. key) def_key def_prefix names_told a s text there n d defs is)
+      ∙ ap (bytes_eq name) (key_is (def_prefix text d) n d defs is within.0))
+      ∙ kept_or_not (tag_at a) (tag_in file) (bytes_eq name (bytes_of text d.name)) here kept d
+      (filter (λ (x : Def). bytes_eq name (bytes_of text x.name)) defs) (tag_is (def_prefix text d) n d defs is within.0) later
 
 module _ (a : Archived) where
-  all_tags : (shown : List Shown) → AllByRecursion (IsThere a) shown
-      → map (tag_at a) (all_entries def_prefixes a shown) ≡ flat_map file_tags (files_of a shown)
-  all_tags [] all = refl
-  all_tags (s ∷ shown) all =
+  all_tags : (prefixer : Prefixer) (prefixed : List ℕ → Def → ℕ)
+      → ((text : List ℕ) → prefixer (Some text) ≡ map (prefixed text) (facts_of text).defs)
+      → (shown : List Shown) → AllByRecursion (IsThere a) shown
+      → map (tag_at a) (all_entries prefixer a shown) ≡ flat_map file_tags (files_of a shown)
+  all_tags prefixer prefixed some [] all = refl
+  all_tags prefixer prefixed some (s ∷ shown) all =
       let text = get_or a.texts s.version [] in
       let there : slice_get a.texts s.version ≡ Some text = slice_get-get_or a.texts s.version [] all.0.1 in
-      map-append (tag_at a) (entries_of def_prefixes a s) (all_entries def_prefixes a shown)
-      ∙ (λ i. (ap (λ o. map (tag_at a) (entries_from 0 s.name s.version (def_prefixes o))) there
-      ∙ tags_from a s text there 0 (facts_of text).defs refl (facts_lie text).defs) i ++ all_tags shown all.1 i)
+      map-append (tag_at a) (entries_of prefixer a s) (all_entries prefixer a shown)
+      ∙ (λ i. (ap (λ o. map (tag_at a) (entries_from 0 s.name s.version (prefixer o))) there
+      ∙ ap (λ ps. map (tag_at a) (entries_from 0 s.name s.version ps)) (some text)
+      ∙ tags_from a s text there (prefixed text) 0 (facts_of text).defs refl (facts_lie text).defs) i
+      ++ all_tags prefixer prefixed some shown all.1 i)
 
   all_tags_named : (name : List ℕ) (shown : List Shown) → AllByRecursion (IsThere a) shown
-      → map (tag_at a) (filter (has_key def_key a 0 name) (all_entries def_prefixes a shown))
+      → map (tag_at a) (filter (has_key def_key a (key_prefix name) name) (all_entries def_prefixes a shown))
       ≡ flat_map (file_tags_named name) (files_of a shown)
   all_tags_named name [] all = refl
   all_tags_named name (s ∷ shown) all =
       let text = get_or a.texts s.version [] in
       let there : slice_get a.texts s.version ≡ Some text = slice_get-get_or a.texts s.version [] all.0.1 in
-      let has = has_key def_key a 0 name in
+      let has = has_key def_key a (key_prefix name) name in
       ap (map (tag_at a)) (filter-append has (entries_of def_prefixes a s) (all_entries def_prefixes a shown))
       ∙ map-append (tag_at a) (filter has (entries_of def_prefixes a s)) (filter has (all_entries def_prefixes a shown))
       ∙ (λ i. (ap (λ o. map (tag_at a) (filter has (entries_from 0 s.name s.version (def_prefixes o)))) there
       ∙ tags_named_from a s text there name 0 (facts_of text).defs refl (facts_lie text).defs) i ++ all_tags_named name shown all.1 i)
 
   module _ (shown : List Shown) (all : AllByRecursion (IsThere a) shown) (up : AreAscending a shown) (es : List Entry) where
-    pub rows_by_name : IsIndexOf def_key def_prefixes a shown es → map (tag_at a) es ≡ tags_by_name (files_of a shown)
-    unfolding tags_by_name
-    rows_by_name is =
-        ap (map (tag_at a)) (kept_order def_key a def_prefixes shown up (no_prefixes a shown) es is)
-        ∙ map_in_order (key_of def_key a) (λ (t : Tag). t.name) (tag_at a) (all_entries def_prefixes a shown)
-        (all_of (λ e. key_of def_key a e ≡ (tag_at a e).name) (key_is_name a) (all_entries def_prefixes a shown))
-        ∙ ap (in_order (λ (t : Tag). t.name)) (all_tags shown all)
+    module _ (bytes : AllByRecursion AreBytes a.texts) where
+      pub rows_by_name : IsIndexOf def_key def_prefixes a shown es → map (tag_at a) es ≡ tags_by_name (files_of a shown)
+      unfolding tags_by_name
+      rows_by_name is =
+          ap (map (tag_at a)) (kept_order def_key a def_prefixes shown up (λ key. key) whole_first (defs_told a bytes shown) es is)
+          ∙ map_in_order (key_of def_key a) (λ (t : Tag). t.name) (tag_at a) (all_entries def_prefixes a shown)
+          (all_of (λ e. key_of def_key a e ≡ (tag_at a e).name) (key_is_name a) (all_entries def_prefixes a shown))
+          ∙ ap (in_order (λ (t : Tag). t.name)) (all_tags def_prefixes def_prefix (λ text. refl) shown all)
 
-    pub rows_by_tag_name : IsIndexOf tag_key def_prefixes a shown es → map (tag_at a) es ≡ tags_by_tag_name (files_of a shown)
-    unfolding tags_by_tag_name
-    rows_by_tag_name is =
-        ap (map (tag_at a)) (kept_order tag_key a def_prefixes shown up (no_prefixes a shown) es is)
-        ∙ map_in_order (key_of tag_key a) (λ (t : Tag). tag_name t.name t.file) (tag_at a) (all_entries def_prefixes a shown)
-        (all_of (λ e. key_of tag_key a e ≡ tag_name (tag_at a e).name (tag_at a e).file) (key_is_tag_name a) (all_entries def_prefixes a shown))
-        ∙ ap (in_order (λ (t : Tag). tag_name t.name t.file)) (all_tags shown all)
+      pub rows_by_tag_name : IsIndexOf tag_key tag_prefixes a shown es → map (tag_at a) es ≡ tags_by_tag_name (files_of a shown)
+      unfolding tags_by_tag_name
+      rows_by_tag_name is =
+          ap (map (tag_at a)) (kept_order tag_key a tag_prefixes shown up tag_front tag_front_first (tag_names_told a bytes shown) es is)
+          ∙ map_in_order (key_of tag_key a) (λ (t : Tag). tag_name t.name t.file) (tag_at a) (all_entries tag_prefixes a shown)
+          (all_of (λ e. key_of tag_key a e ≡ tag_name (tag_at a e).name (tag_at a e).file) (key_is_tag_name a) (all_entries tag_prefixes a shown))
+          ∙ ap (in_order (λ (t : Tag). tag_name t.name t.file)) (all_tags tag_prefixes tag_prefix (λ text. refl) shown all)
 
     pub rows_named : (name : List ℕ) → IsIndexOf def_key def_prefixes a shown es
-        → map (tag_at a) (filter (has_key def_key a 0 name) es) ≡ tags_named name (files_of a shown)
+        → map (tag_at a) (filter (has_key def_key a (key_prefix name) name) es) ≡ tags_named name (files_of a shown)
     unfolding tags_named
     rows_named name is =
-        ap (map (tag_at a)) (kept_key def_key a def_prefixes shown up 0 name es is) ∙ all_tags_named name shown all
+        ap (map (tag_at a)) (kept_key def_key a def_prefixes shown up (key_prefix name) name es is) ∙ all_tags_named name shown all
 
 -- ---- the files that are shown
 pub entries_are : (a : Archived) (shown : List Shown) → AllByRecursion (IsThere a) shown

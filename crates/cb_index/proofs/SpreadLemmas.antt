@@ -1,5 +1,5 @@
 -- The rows that entries are spread out into.
-use Rattle.std.proofs.Common.{◌≡◌, ◌∙◌, ℕ, suc, Bool, true, false, List, [], ◌∷◌, ◌++◌, Some, None, refl, sym, ap, length, map, filter, get_or, arith, zero-add}
+use Rattle.std.proofs.Common.{◌≡◌, ◌∙◌, ℕ, suc, Bool, true, false, List, [], ◌∷◌, ◌++◌, Some, None, refl, sym, ap, length, map, drop, filter, get_or, arith, zero-add}
 use Rattle.std.proofs.lemmas.List.{length-map}
 use Rattle.std.proofs.lemmas.List.Concat.{flat_map-append}
 use Rattle.std.proofs.lemmas.List.Elements.{filter-append}
@@ -20,7 +20,7 @@ use Rattle.cb_index.specs.Archived.{Archived, name_of}
 use Rattle.cb_index.specs.Entries.{Keyer, entries_from, has_key}
 use Rattle.cb_index.specs.Files.{IsThere, call_count, def_count, use_count}
 use Rattle.cb_index.specs.Held.{Prefixer, all_entries, entries_of}
-use Rattle.cb_index.specs.Orders.{callee_key, callee_prefixes, caller_key, caller_prefixes, def_prefix, def_prefixes, first_item, no_prefix, use_key, use_prefixes}
+use Rattle.cb_index.specs.Orders.{callee_key, callee_prefixes, caller_key, caller_prefixes, def_key, def_prefix, def_prefixes, first_item, tag_front, tag_key, tag_key_prefix, tag_prefix, tag_prefixes, use_key, use_prefixes}
 use Rattle.cb_index.specs.RowOrders.{Counter, callee_item_key, caller_item_key, row_under, rows_with, use_item_key}
 use Rattle.cb_index.specs.Spreads.{SpreadsInto}
 use Rattle.cb_index.specs.steps.Found.{keys_for, posting_items}
@@ -30,6 +30,8 @@ use Rattle.cb_index.specs.declared.entry.Shown.{Shown}
 use Rattle.cb_index.specs.declared.rows.FactSort.{FactSort}
 use Rattle.cb_index.specs.declared.rows.FactSort.TheVariants.{Uses, Callees, Callers}
 use Rattle.cb_index.proofs.FactLemmas.{Suffix, callee_numbered, caller_numbered, postings_from, use_numbered}
+use Rattle.cb_index.proofs.PrefixLemmas.{IsTold, entry_told, key_decides, names_told, tags_told}
+use Rattle.cb_index.proofs.RestLemmas.{drop_next}
 use Rattle.cb_index.proofs.RowLemmas.{kept_key}
 
 range_next : (n count : ℕ) → range_with_len n (suc count) ≡ n ∷ range_with_len (suc n) count
@@ -75,17 +77,22 @@ module _ (a : Archived) (s : Shown) (text : List ℕ) (there : slice_get a.texts
         ∙ ap (map (row_under s)) (items_with_are key keys ∙ numbers_kept item_key key 0 keys numbered)
 
   -- where an entry is a definition
-  module _ (keyer : Keyer) where
-    def_rows : (n : ℕ) (ds : List Def) → rows_in None a (filter (has_key keyer a 0 key)
-        (entries_from n s.name s.version (map def_prefix ds)))
+  module _ (front : List ℕ → List ℕ) (keyer : Keyer) (prefixed : List ℕ → Def → ℕ) (told : IsTold front keyer prefixed) where
+    abbrev has_front : Entry → Bool
+    has_front e = has_key keyer a (key_prefix (front key)) key e
+
+    def_rows : (n : ℕ) (ds : List Def) → drop n (facts_of text).defs ≡ ds
+        → rows_in None a (filter has_front (entries_from n s.name s.version (map (prefixed text) ds)))
         ≡ map (row_under s) (filter (has_item (keyer (slice_get a.texts s.version) (name_of a s.name)) key) (range_with_len n (length ds)))
-    unfolding def_prefix
-    def_rows n [] = refl
-    def_rows n (d ∷ ds) =
+    def_rows n [] is = refl
+    def_rows n (d ∷ ds) is =
         let has = has_item (keyer (slice_get a.texts s.version) (name_of a s.name)) key in
-        let e : Entry = record { prefix = 0; name = s.name; version = s.version; number = n } in
-        step (has n) e (filter (has_key keyer a 0 key) (entries_from (suc n) s.name s.version (map def_prefix ds)))
-        n (filter has (range_with_len (suc n) (length ds))) refl (def_rows (suc n) ds)
+        let e : Entry = record { prefix = prefixed text d; name = s.name; version = s.version; number = n } in
+        let es = filter has_front (entries_from (suc n) s.name s.version (map (prefixed text) ds)) in
+        ap (λ b. rows_in None a (cond b (e ∷ es) es))
+        (key_decides front keyer a key e (entry_told front keyer prefixed told a s text there n d ds is))
+        ∙ step (has n) e es n (filter has (range_with_len (suc n) (length ds))) refl
+        (def_rows (suc n) ds (drop_next n (facts_of text).defs ∙ ap (drop 1) is))
         ∙ sym (ap (λ l. map (row_under s) (filter has l)) (range_next n (length ds)))
       where
         step : (b : Bool) (e : Entry) (es : List Entry) (n : ℕ) (items : List ℕ)
@@ -137,11 +144,14 @@ module _ (a : Archived) (s : Shown) (text : List ℕ) (there : slice_get a.texts
       ∙ ap (λ n. map (row_under s) (filter has (range_with_len 0 n))) (length-map (facts_of text).calls (λ (c : Call). bytes_of text c.caller))
       ∙ known caller_item_key call_count
 
-  def_version : (keyer : Keyer) → rows_in None a (filter (has_key keyer a 0 key) (entries_of def_prefixes a s))
+  def_version : (front : List ℕ → List ℕ) (keyer : Keyer) (prefixed : List ℕ → Def → ℕ) → IsTold front keyer prefixed
+      → (prefixer : Prefixer) → prefixer (Some text) ≡ map (prefixed text) (facts_of text).defs
+      → rows_in None a (filter (has_key keyer a (key_prefix (front key)) key) (entries_of prefixer a s))
       ≡ rows_with keyer def_count a key s
-  def_version keyer =
-      ap (λ o. rows_in None a (filter (has_key keyer a 0 key) (entries_from 0 s.name s.version (def_prefixes o)))) there
-      ∙ def_rows keyer 0 (facts_of text).defs
+  def_version front keyer prefixed told prefixer some =
+      ap (λ o. rows_in None a (filter (has_key keyer a (key_prefix (front key)) key) (entries_from 0 s.name s.version (prefixer o)))) there
+      ∙ ap (λ ps. rows_in None a (filter (has_key keyer a (key_prefix (front key)) key) (entries_from 0 s.name s.version ps))) some
+      ∙ def_rows front keyer prefixed told 0 (facts_of text).defs refl
       ∙ ap (λ t. map (row_under s) (filter (has_item (keyer (slice_get a.texts s.version) (name_of a s.name)) key) (range_with_len 0 (def_count t)))) (sym there)
 
 -- ---- all versions
@@ -171,6 +181,12 @@ callees_spread = index_rows (Some Callees) callee_key callee_prefixes key_prefix
 pub callers_spread : SpreadsInto caller_key caller_prefixes key_prefix (Some Callers) caller_item_key call_count
 callers_spread = index_rows (Some Callers) caller_key caller_prefixes key_prefix caller_item_key call_count caller_version
 
-pub defs_spread : (keyer : Keyer) → SpreadsInto keyer def_prefixes no_prefix None keyer def_count
-defs_spread keyer =
-    index_rows None keyer def_prefixes no_prefix keyer def_count (λ a s text there key. def_version a s text there key keyer)
+pub defs_spread : SpreadsInto def_key def_prefixes key_prefix None def_key def_count
+defs_spread =
+    index_rows None def_key def_prefixes key_prefix def_key def_count
+    (λ a s text there key. def_version a s text there key (λ k. k) def_key def_prefix names_told def_prefixes refl)
+
+pub tags_spread : SpreadsInto tag_key tag_prefixes tag_key_prefix None tag_key def_count
+tags_spread =
+    index_rows None tag_key tag_prefixes tag_key_prefix tag_key def_count
+    (λ a s text there key. def_version a s text there key tag_front tag_key tag_prefix tags_told tag_prefixes refl)

@@ -1,5 +1,5 @@
 -- The five orders.
-use Rattle.std.specs.Prelude.{ℕ, List, [], map, Option, Some, None, slice_get, slice_index_or}
+use Rattle.std.specs.Prelude.{ℕ, List, [], ◌∷◌, map, codes, nat_eq, Option, Some, None, slice_get, slice_index_or, if◌then◌else◌}
 use Rattle.std.specs.Option.{option_map}
 use Rattle.cb_scan.specs.declared.facts.Call.{Call}
 use Rattle.cb_scan.specs.declared.facts.Def.{Def}
@@ -7,10 +7,10 @@ use Rattle.cb_scan.specs.declared.facts.Use.{Use}
 use Rattle.cb_scan.specs.declared.lex.piece.Span.{Span}
 use Rattle.cb_scan.specs.Definitions.{facts_of}
 use Rattle.cb_scan.specs.FactKeys.{keys_of}
-use Rattle.cb_scan.specs.Keys.{ItemsByKey}
+use Rattle.cb_scan.specs.Keys.{ItemsByKey, key_prefix}
 use Rattle.cb_scan.specs.TextFacts.{TextFacts}
 use Rattle.cb_tags.specs.TagNames.{tag_name}
-use Rattle.cb_index.specs.Bytes.{bytes_at}
+use Rattle.cb_index.specs.Bytes.{bytes_at, cut}
 
 -- the first item of a posting
 abbrev pub first_item : ItemsByKey → ℕ → ℕ
@@ -59,23 +59,34 @@ abbrev pub caller_prefixes : Option (List ℕ) → List ℕ
 caller_prefixes None = []
 caller_prefixes (Some text) = (keys_of text).callers.prefixes
 
--- ---- definitions: an entry is a definition, and all have the prefix 0
-unfoldable pub def_prefix : Def → ℕ
-def_prefix d = 0
-
-abbrev pub def_prefixes : Option (List ℕ) → List ℕ
-def_prefixes None = []
-def_prefixes (Some text) = map def_prefix (facts_of text).defs
-
--- the prefix that all keys have
-abbrev pub no_prefix : List ℕ → ℕ
-no_prefix key = 0
-
--- ---- by name
+-- ---- definitions by name: an entry is a definition
 abbrev pub def_key : Option (List ℕ) → List ℕ → ℕ → List ℕ
 def_key None file number = []
 def_key (Some text) file number = bytes_at text (def_span (facts_of text) number)
 
--- ---- by tag name
+unfoldable pub def_prefix : List ℕ → Def → ℕ
+def_prefix text d = key_prefix (cut text d.name)
+
+abbrev pub def_prefixes : Option (List ℕ) → List ℕ
+def_prefixes None = []
+def_prefixes (Some text) = map (def_prefix text) (facts_of text).defs
+
+-- ---- definitions by tag name: an entry is a definition
 abbrev pub tag_key : Option (List ℕ) → List ℕ → ℕ → List ℕ
 tag_key text file number = tag_name (def_key text file number) file
+
+-- what the prefix of a tag name is made of: the tag name, but only the `M` of one that begins with
+-- it. So a `main`, which has another tag name in each file, has one prefix in all of them
+unfoldable pub tag_front : List ℕ → List ℕ
+tag_front [] = []
+tag_front (b ∷ bs) = if nat_eq b 77 then codes "M" else b ∷ bs
+
+abbrev pub tag_key_prefix : List ℕ → ℕ
+tag_key_prefix key = key_prefix (tag_front key)
+
+unfoldable pub tag_prefix : List ℕ → Def → ℕ
+tag_prefix text d = tag_key_prefix (tag_name (cut text d.name) [])
+
+abbrev pub tag_prefixes : Option (List ℕ) → List ℕ
+tag_prefixes None = []
+tag_prefixes (Some text) = map (tag_prefix text) (facts_of text).defs

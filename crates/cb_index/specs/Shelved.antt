@@ -9,7 +9,7 @@ use Rattle.cb_index.specs.Archived.{Archived, name_of}
 use Rattle.cb_index.specs.Entries.{Keyer, sort_key}
 use Rattle.cb_index.specs.Files.{AreApart, AreAscending, File, IsThere, call_count, def_count, files_of, is_shown, total, use_count}
 use Rattle.cb_index.specs.Held.{Prefixer, all_entries}
-use Rattle.cb_index.specs.Orders.{callee_key, callee_prefixes, caller_key, caller_prefixes, def_key, def_prefixes, tag_key, use_key, use_prefixes}
+use Rattle.cb_index.specs.Orders.{callee_key, callee_prefixes, caller_key, caller_prefixes, def_key, def_prefixes, tag_key, tag_prefixes, use_key, use_prefixes}
 use Rattle.cb_index.specs.declared.entry.Entry.{Entry}
 use Rattle.cb_index.specs.declared.entry.Shown.{Shown}
 use Rattle.cb_index.specs.declared.totals.Totals.{Totals}
@@ -84,7 +84,7 @@ pub record AreKept (a : Archived) (shown : List Shown)
   pub there : AllByRecursion (IsThere a) shown
   pub ascending : AreAscending a shown
   pub defs : IsIndexOf def_key def_prefixes a shown in_defs
-  pub tags : IsIndexOf tag_key def_prefixes a shown in_tags
+  pub tags : IsIndexOf tag_key tag_prefixes a shown in_tags
   pub uses : IsIndexOf use_key use_prefixes a shown in_uses
   pub callees : IsIndexOf callee_key callee_prefixes a shown in_callees
   pub callers : IsIndexOf caller_key caller_prefixes a shown in_callers

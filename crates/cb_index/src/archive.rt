@@ -3,8 +3,10 @@ ghost use Rattle.std.specs.Prelude.{◌≡◌, ◌<◌, ◌≤◌, ◌+◌, ◌^
 ghost use Rattle.std.specs.Option.{option_copied};
 ghost use Rattle.cb_scan.specs.Definitions.{facts_of};
 ghost use Rattle.cb_scan.specs.FactKeys.{keys_of};
-ghost use Rattle.cb_index.specs.Archived.{name_of};
+ghost use Rattle.std.specs.List.{AllByRecursion};
+ghost use Rattle.cb_index.specs.Archived.{AreBytes, name_of};
 
+use crate::bytes::read_bytes;
 use crate::memory::OutOfMemory;
 use cb_scan::{FactKeys, Facts, Source};
 use std::alloc::Global;
@@ -73,7 +75,8 @@ pub struct Archive {
 
 impl Model for Archive {
     ghost use Rattle.std.specs.Prelude.{map, min, vec_capacity};
-    ghost use Rattle.cb_index.specs.Archived.{Archived};
+    ghost use Rattle.std.specs.List.{AllByRecursion};
+    ghost use Rattle.cb_index.specs.Archived.{AreBytes, Archived};
 
     ghost Value = { Archived };
 
@@ -83,6 +86,8 @@ impl Model for Archive {
       name_room = min (vec_capacity a.names) 4294967295;
       version_room = min (vec_capacity a.versions) 4294967295;
     } };
+
+    ghost invariant = { λ a. AllByRecursion AreBytes a.versions.items };
 }
 
 impl Archive {
@@ -144,6 +149,7 @@ impl Archive {
         ensures name_room { self.new.name_room ≡ self.old.name_room }
     {
         let number = self.versions.len() as u32;
+        read_bytes(version.source().bytes());
         if self.versions.push(version).is_err() {
             unreachable!()
         }
@@ -159,6 +165,13 @@ impl Archive {
     {
         self.versions.truncate(versions as usize);
         self.names.truncate(names as usize);
+    }
+
+    /// Says that all texts are lists of bytes. It does nothing.
+    pub(crate) fn read_texts(&self)
+        ensures { AllByRecursion AreBytes self.now.texts }
+    {
+        let _versions = self.versions.len();
     }
 
     /// How many names are kept.

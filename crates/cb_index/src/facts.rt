@@ -2,13 +2,13 @@
 ghost use Rattle.std.specs.Prelude.{◌≡◌, ◌++◌, ◌∷◌, [], MatchOption};
 ghost use Rattle.std.specs.Iterator.{YieldsFirstBy, item_count};
 ghost use Rattle.cb_index.specs.steps.Found.{facts_at, facts_in, keys_for, posting_items};
-ghost use Rattle.cb_index.specs.steps.Left.{fact_of, facts_left, posting_left, posting_left_if};
+ghost use Rattle.cb_index.specs.steps.Left.{fact_of, fact_of_spot, facts_left, posting_left, posting_left_if, spots_left};
 ghost use Rattle.cb_index.specs.steps.Runs.{run_entries};
 
 use crate::archive::{Archive, Version};
 use crate::bytes::number_at;
 use crate::entry::Entry;
-use crate::rows::{FactRow, FactSort, fact_at};
+use crate::rows::{FactRow, FactSort, FactSpot, fact_at};
 use crate::run::Run;
 use cb_scan::{FactKeys, KeyList};
 
@@ -21,13 +21,19 @@ pub(crate) struct Posting<'a> {
     items: &'a [u32],
 }
 
-/// Uses or calls. They take no memory.
+/// Uses or calls, without their lines. They take no memory.
 #[derive(Clone, Copy)]
-pub struct FactRows<'a> {
+pub struct FactSpots<'a> {
     sort: FactSort,
     archive: &'a Archive,
     entries: Run<'a>,
     posting: Option<Posting<'a>>,
+}
+
+/// Uses or calls, each with its line. They take no memory.
+#[derive(Clone, Copy)]
+pub struct FactRows<'a> {
+    spots: FactSpots<'a>,
 }
 
 pub(crate) fn keys_for(sort: FactSort, keys: &FactKeys) -> &KeyList
@@ -63,49 +69,42 @@ fn posting_of<'a>(sort: FactSort, archive: &'a Archive, entry: Entry) -> Option<
     })
 }
 
-/// The first row of a posting, and what is left after it.
-fn next_row<'a>(posting: Option<Posting<'a>>) -> Option<(FactRow<'a>, Posting<'a>)>
-    ensures { MatchOption result (posting_left_if posting.entry ≡ [])
-        (λ r. posting_left_if posting.entry ≡ fact_of r.0 ∷ posting_left r.1) }
+/// Takes the first fact of a posting.
+fn take_spot<'a>(posting: &mut Posting<'a>) -> Option<FactSpot<'a>>
+    ensures { MatchOption result (posting_left posting.old ≡ [])
+        (λ s. posting_left posting.old ≡ fact_of_spot s ∷ posting_left posting.new) }
 {
-    let posting = posting?;
     let (item, rest) = posting.items.split_first()?;
-    let row = fact_at(posting.sort, posting.file, posting.version, *item);
-    Some((
-        row,
-        Posting {
-            sort: posting.sort,
-            file: posting.file,
-            version: posting.version,
-            items: rest,
-        },
-    ))
+    posting.items = rest;
+    Some(fact_at(posting.sort, posting.file, posting.version, *item))
 }
 
-/// A row, what is left of its posting, and the entries after that.
+/// A fact, what is left of its posting, and the entries after that.
 #[derive(Clone, Copy)]
 struct Step<'a> {
-    row: FactRow<'a>,
+    spot: FactSpot<'a>,
     posting: Posting<'a>,
     entries: Run<'a>,
 }
 
-/// The first row of some entries.
-fn first_row<'a>(sort: FactSort, archive: &'a Archive, entries: Run<'a>) -> Option<Step<'a>>
+/// The first fact of some entries.
+fn first_spot<'a>(sort: FactSort, archive: &'a Archive, entries: Run<'a>) -> Option<Step<'a>>
     ensures { MatchOption result (facts_in sort archive.now (run_entries entries.entry) ≡ [])
         (λ r. facts_in sort archive.now (run_entries entries.entry)
-        ≡ fact_of r.row
+        ≡ fact_of_spot r.spot
         ∷ (posting_left r.posting ++ facts_in sort archive.now (run_entries r.entries))) }
 {
     let mut left = entries;
     while let Some((entry, rest)) = left.split_first() {
         left = rest;
-        if let Some((row, posting)) = next_row(posting_of(sort, archive, *entry)) {
-            return Some(Step {
-                row,
-                posting,
-                entries: left,
-            });
+        if let Some(mut posting) = posting_of(sort, archive, *entry) {
+            if let Some(spot) = take_spot(&mut posting) {
+                return Some(Step {
+                    spot,
+                    posting,
+                    entries: left,
+                });
+            }
         }
     }
     None
@@ -116,11 +115,41 @@ impl<'a> FactRows<'a> {
         ensures { facts_left result ≡ facts_in sort archive.now (run_entries entries.entry) }
     {
         FactRows {
-            sort,
-            archive,
-            entries,
-            posting: None,
+            spots: FactSpots {
+                sort,
+                archive,
+                entries,
+                posting: None,
+            },
         }
+    }
+
+    /// The same without their lines.
+    pub fn spots(self) -> FactSpots<'a>
+        ensures { spots_left result ≡ facts_left self.entry }
+    {
+        self.spots
+    }
+}
+
+impl<'a> Iterator for FactSpots<'a> {
+    type Item = FactSpot<'a>;
+
+    ghost next_gives = { YieldsFirstBy fact_of_spot spots_left };
+
+    ghost remaining = { item_count spots_left };
+
+    fn next(&mut self) -> Option<FactSpot<'a>> {
+        if let Some(posting) = &mut self.posting {
+            if let Some(spot) = take_spot(posting) {
+                return Some(spot);
+            }
+        }
+        self.posting = None;
+        let found = first_spot(self.sort, self.archive, self.entries)?;
+        self.posting = Some(found.posting);
+        self.entries = found.entries;
+        Some(found.spot)
     }
 }
 
@@ -132,14 +161,7 @@ impl<'a> Iterator for FactRows<'a> {
     ghost remaining = { item_count facts_left };
 
     fn next(&mut self) -> Option<FactRow<'a>> {
-        if let Some((row, posting)) = next_row(self.posting) {
-            self.posting = Some(posting);
-            return Some(row);
-        }
-        self.posting = None;
-        let found = first_row(self.sort, self.archive, self.entries)?;
-        self.posting = Some(found.posting);
-        self.entries = found.entries;
-        Some(found.row)
+        let spot = self.spots.next()?;
+        Some(spot.row())
     }
 }

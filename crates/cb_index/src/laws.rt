@@ -8,7 +8,7 @@ ghost use Rattle.cb_scan.specs.Keys.{key_prefix};
 ghost use Rattle.cb_index.specs.Archived.{Archived};
 ghost use Rattle.cb_index.specs.Entries.{sort_key};
 ghost use Rattle.cb_index.specs.Files.{call_count, def_count, use_count};
-ghost use Rattle.cb_index.specs.Orders.{callee_key, callee_prefixes, caller_key, caller_prefixes, def_key, def_prefixes, no_prefix, tag_key, use_key, use_prefixes};
+ghost use Rattle.cb_index.specs.Orders.{callee_key, callee_prefixes, caller_key, caller_prefixes, def_key, def_prefixes, tag_key, tag_key_prefix, tag_prefixes, use_key, use_prefixes};
 ghost use Rattle.cb_index.specs.RowOrders.{callee_item_key, caller_item_key, row_cmp, row_key, use_item_key};
 ghost use Rattle.cb_index.specs.Spreads.{SpreadsInto};
 ghost use Rattle.cb_index.specs.declared.entry.Entry.{Entry};
@@ -52,8 +52,8 @@ pub fn rows_of_a_key_stand_together<O: RowOrder>()
 /// The entries of a key in an index of files, spread out into rows, are the rows of these files
 /// that have the key, by file name and then by item; so for each of the five orders.
 pub fn ranges_have_the_rows_of_their_keys()
-    ensures defs { SpreadsInto def_key def_prefixes no_prefix None def_key def_count }
-    ensures tags { SpreadsInto tag_key def_prefixes no_prefix None tag_key def_count }
+    ensures defs { SpreadsInto def_key def_prefixes key_prefix None def_key def_count }
+    ensures tags { SpreadsInto tag_key tag_prefixes tag_key_prefix None tag_key def_count }
     ensures uses { SpreadsInto use_key use_prefixes key_prefix (Some Uses) use_item_key use_count }
     ensures callees { SpreadsInto callee_key callee_prefixes key_prefix (Some Callees)
         callee_item_key call_count }

@@ -1,12 +1,12 @@
 //! The five orders.
-ghost use Rattle.std.specs.Prelude.{◌≡◌, ◌+◌, ◌≤◌, ◌<◌, ◌^◌, ◌++◌, length, map, slice_get, vec_len, vec_capacity};
+ghost use Rattle.std.specs.Prelude.{◌≡◌, ◌+◌, ◌≤◌, ◌<◌, ◌^◌, ◌++◌, [], length, map, slice_get, vec_len, vec_capacity};
 ghost use Rattle.cb_scan.specs.Definitions.{facts_of};
 ghost use Rattle.cb_index.specs.Entries.{entries_from, key_of};
-ghost use Rattle.cb_index.specs.Held.{prefixes_of};
-ghost use Rattle.cb_index.specs.Orders.{callee_key, callee_span, caller_key, caller_span, def_key, def_prefix, def_prefixes, def_span, first_item, use_key, use_span};
+ghost use Rattle.cb_tags.specs.TagNames.{tag_name};
+ghost use Rattle.cb_index.specs.Orders.{callee_key, callee_span, caller_key, caller_span, def_key, def_prefix, def_span, first_item, tag_front, tag_prefix, use_key, use_span};
 
 use crate::archive::{Archive, Version};
-use crate::bytes::{bytes_at, number_at};
+use crate::bytes::{bytes_at, cut, number_at};
 use crate::entry::{Entry, Shown};
 use crate::order::EntryOrder;
 use crate::rows::FactSort;
@@ -289,34 +289,73 @@ pub(crate) fn defs_of(version: &Version) -> &[Def]
     version.facts().defs()
 }
 
-fn def_count(archive: &Archive, version: u32) -> usize
-    ensures { result ≡ length (prefixes_of def_prefixes archive.now version) }
-{
-    match archive.version(version) {
-        Some(version) => version.facts().defs().len(),
-        None => 0,
+/// An order in which each definition is an entry.
+trait DefOrder {
+    ghost use Rattle.std.specs.Prelude.{ℕ, List};
+    ghost use Rattle.cb_scan.specs.declared.facts.Def.{Def};
+
+    ghost prefixed: { List ℕ → Def → ℕ };
+
+    /// The prefix of a definition in a text.
+    fn def_prefix(text: &[u8], def: &Def) -> u64
+        ensures { result ≡ prefixed text.now def.now };
+}
+
+impl DefOrder for DefsByName {
+    ghost use Rattle.cb_index.specs.Orders.{def_prefix};
+
+    ghost prefixed = { def_prefix };
+
+    #[tactic(auto, unfolding(crate::specs::Orders::def_prefix))]
+    fn def_prefix(text: &[u8], def: &Def) -> u64 {
+        key_prefix(cut(text, def.name))
     }
 }
 
-/// The prefix of all definitions: their keys are compared whole.
-#[tactic(auto, unfolding(crate::specs::Orders::def_prefix))]
-fn def_prefix(_def: &Def) -> u64
-    ensures { result ≡ def_prefix _def.now }
+/// What the prefix of a tag name is made of.
+#[tactic(auto, unfolding(crate::specs::Orders::tag_front))]
+fn tag_front(key: &[u8]) -> &[u8]
+    ensures { result.now ≡ tag_front key.now }
 {
-    0
+    match key {
+        [b'M', ..] => b"M",
+        _ => key,
+    }
+}
+
+/// What the prefix of the tag name of a definition is made of: of its name, in any file.
+fn front_of_tag(name: &[u8]) -> &[u8]
+    ensures { result.now ≡ tag_front (tag_name name.now []) }
+{
+    if name == b"main".as_slice() {
+        b"M"
+    } else {
+        tag_front(name)
+    }
+}
+
+impl DefOrder for DefsByTagName {
+    ghost use Rattle.cb_index.specs.Orders.{tag_prefix};
+
+    ghost prefixed = { tag_prefix };
+
+    #[tactic(auto, unfolding(crate::specs::Orders::tag_prefix))]
+    fn def_prefix(text: &[u8], def: &Def) -> u64 {
+        key_prefix(front_of_tag(cut(text, def.name)))
+    }
 }
 
 /// Puts the entries of definitions behind others.
-fn append_defs(defs: &[Def], shown: Shown, entries: &mut Vec<Entry>)
+fn append_defs<O: DefOrder>(text: &[u8], defs: &[Def], shown: Shown, entries: &mut Vec<Entry>)
     requires room { vec_len entries.old + length defs.now ≤ vec_capacity entries.old }
     requires few { length defs.now < 2 ^ 32 }
-    ensures entries { entries.new.items
-        ≡ entries.old.items ++ entries_from 0 shown.name shown.version (map def_prefix defs.now) }
+    ensures entries { entries.new.items ≡ entries.old.items
+        ++ entries_from 0 shown.name shown.version (map (O.prefixed text.now) defs.now) }
     ensures room { vec_capacity entries.old ≤ vec_capacity entries.new }
 {
     for (i, def) in defs.iter().enumerate() {
         let entry = Entry {
-            prefix: def_prefix(def),
+            prefix: O::def_prefix(text, def),
             name: shown.name,
             version: shown.version,
             number: i as u32,
@@ -326,14 +365,15 @@ fn append_defs(defs: &[Def], shown: Shown, entries: &mut Vec<Entry>)
 }
 
 impl EntryOrder for DefsByName {
-    ghost use Rattle.cb_index.specs.Orders.{def_key, def_prefixes, no_prefix};
+    ghost use Rattle.cb_scan.specs.Keys.{key_prefix};
+    ghost use Rattle.cb_index.specs.Orders.{def_key, def_prefixes};
     ghost use Rattle.std.specs.Prelude.{None};
 
     ghost keyer = { def_key };
 
     ghost prefixer = { def_prefixes };
 
-    ghost prefix_of = { no_prefix };
+    ghost prefix_of = { key_prefix };
 
     ghost sort = { None };
 
@@ -349,30 +389,33 @@ impl EntryOrder for DefsByName {
         key.cmp(def_key(archive, entry))
     }
 
-    fn prefix(_key: &[u8]) -> u64 {
-        0
+    fn prefix(key: &[u8]) -> u64 {
+        key_prefix(key)
     }
 
     fn count(archive: &Archive, version: u32) -> usize {
-        def_count(archive, version)
+        match archive.version(version) {
+            Some(version) => version.facts().defs().len(),
+            None => 0,
+        }
     }
 
     fn append(archive: &Archive, shown: Shown, entries: &mut Vec<Entry>) {
         if let Some(kept) = archive.version(shown.version) {
-            append_defs(defs_of(kept), shown, entries);
+            append_defs::<DefsByName>(kept.source().bytes(), defs_of(kept), shown, entries);
         }
     }
 }
 
 impl EntryOrder for DefsByTagName {
-    ghost use Rattle.cb_index.specs.Orders.{def_prefixes, no_prefix, tag_key};
+    ghost use Rattle.cb_index.specs.Orders.{tag_key, tag_key_prefix, tag_prefixes};
     ghost use Rattle.std.specs.Prelude.{None};
 
     ghost keyer = { tag_key };
 
-    ghost prefixer = { def_prefixes };
+    ghost prefixer = { tag_prefixes };
 
-    ghost prefix_of = { no_prefix };
+    ghost prefix_of = { tag_key_prefix };
 
     ghost sort = { None };
 
@@ -390,17 +433,20 @@ impl EntryOrder for DefsByTagName {
         compare_tag_key(key, def_key(archive, entry), archive.name(entry.name))
     }
 
-    fn prefix(_key: &[u8]) -> u64 {
-        0
+    fn prefix(key: &[u8]) -> u64 {
+        key_prefix(tag_front(key))
     }
 
     fn count(archive: &Archive, version: u32) -> usize {
-        def_count(archive, version)
+        match archive.version(version) {
+            Some(version) => version.facts().defs().len(),
+            None => 0,
+        }
     }
 
     fn append(archive: &Archive, shown: Shown, entries: &mut Vec<Entry>) {
         if let Some(kept) = archive.version(shown.version) {
-            append_defs(defs_of(kept), shown, entries);
+            append_defs::<DefsByTagName>(kept.source().bytes(), defs_of(kept), shown, entries);
         }
     }
 }

@@ -4,7 +4,7 @@ ghost use Rattle.std.specs.Option.{option_copied};
 ghost use Rattle.cb_scan.specs.Lines.{line_text};
 ghost use Rattle.cb_tags.specs.TagLines.{tag_of};
 ghost use Rattle.cb_index.specs.steps.Found.{fact_at, fact_of_call, fact_of_use, no_fact, no_tag, tag_at, tag_of_def};
-ghost use Rattle.cb_index.specs.steps.Left.{fact_of};
+ghost use Rattle.cb_index.specs.steps.Left.{fact_of, fact_of_spot};
 
 use crate::archive::{Archive, Version};
 use crate::bytes::bytes_at;
@@ -23,6 +23,19 @@ pub struct FactRow<'a> {
     pub line: u32,
     /// The whole shown line.
     pub text: &'a [u8],
+}
+
+/// A use or a call, and the text that it is in. Its line is looked up only where it is asked for.
+#[derive(Clone, Copy)]
+pub struct FactSpot<'a> {
+    pub file: &'a [u8],
+    pub name: &'a [u8],
+    /// The name of the function or macro around it.
+    pub scope: Option<&'a [u8]>,
+    /// From 1.
+    pub line: u32,
+    /// The text of the file.
+    pub source: &'a Source,
 }
 
 /// What is looked up in the key lists.
@@ -89,20 +102,20 @@ pub(crate) fn tag_at(archive: &Archive, entry: Entry) -> TagRow<'_>
     }
 }
 
-fn no_fact(file: &[u8]) -> FactRow<'_>
-    ensures { fact_of result ≡ no_fact file.now }
+fn no_fact<'a>(file: &'a [u8], source: &'a Source) -> FactSpot<'a>
+    ensures { fact_of_spot result ≡ no_fact file.now }
 {
-    FactRow {
+    FactSpot {
         file,
         name: b"",
         scope: None,
         line: 0,
-        text: b"",
+        source,
     }
 }
 
-fn fact_of_use<'a>(file: &'a [u8], source: &'a Source, found: Option<&Use>) -> FactRow<'a>
-    ensures { fact_of result ≡ fact_of_use file.now source.now (option_copied found.entry) }
+fn fact_of_use<'a>(file: &'a [u8], source: &'a Source, found: Option<&Use>) -> FactSpot<'a>
+    ensures { fact_of_spot result ≡ fact_of_use file.now source.now (option_copied found.entry) }
 {
     match found {
         Some(found) => {
@@ -110,41 +123,56 @@ fn fact_of_use<'a>(file: &'a [u8], source: &'a Source, found: Option<&Use>) -> F
                 Some(scope) => Some(bytes_at(source.bytes(), Some(scope))),
                 None => None,
             };
-            FactRow {
+            FactSpot {
                 file,
                 name: bytes_at(source.bytes(), Some(found.name)),
                 scope,
                 line: found.line,
-                text: shown_line(source, found.line),
+                source,
             }
         }
-        None => no_fact(file),
+        None => no_fact(file, source),
     }
 }
 
-fn fact_of_call<'a>(file: &'a [u8], source: &'a Source, found: Option<&Call>) -> FactRow<'a>
-    ensures { fact_of result ≡ fact_of_call file.now source.now (option_copied found.entry) }
+fn fact_of_call<'a>(file: &'a [u8], source: &'a Source, found: Option<&Call>) -> FactSpot<'a>
+    ensures { fact_of_spot result ≡ fact_of_call file.now source.now (option_copied found.entry) }
 {
     match found {
-        Some(found) => FactRow {
+        Some(found) => FactSpot {
             file,
             name: bytes_at(source.bytes(), Some(found.callee)),
             scope: Some(bytes_at(source.bytes(), Some(found.caller))),
             line: found.line,
-            text: shown_line(source, found.line),
+            source,
         },
-        None => no_fact(file),
+        None => no_fact(file, source),
     }
 }
 
-/// The row of an item.
+impl<'a> FactSpot<'a> {
+    /// The row, with the shown line.
+    pub fn row(&self) -> FactRow<'a>
+        ensures { fact_of result ≡ fact_of_spot self.now }
+    {
+        FactRow {
+            file: self.file,
+            name: self.name,
+            scope: self.scope,
+            line: self.line,
+            text: shown_line(self.source, self.line),
+        }
+    }
+}
+
+/// The fact of an item.
 pub(crate) fn fact_at<'a>(
     sort: FactSort,
     file: &'a [u8],
     version: &'a Version,
     item: u32,
-) -> FactRow<'a>
-    ensures { fact_of result ≡ fact_at sort file.now version.now item }
+) -> FactSpot<'a>
+    ensures { fact_of_spot result ≡ fact_at sort file.now version.now item }
 {
     let facts = version.facts();
     let source = version.source();

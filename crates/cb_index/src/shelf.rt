@@ -396,6 +396,7 @@ impl Shelf {
     pub fn all_defs(&self) -> TagRows<'_>
         ensures { tags_left result ≡ tags_by_name (files self.now) }
     {
+        self.archive.read_texts();
         TagRows {
             archive: &self.archive,
             entries: self.defs.entries(),
@@ -406,6 +407,7 @@ impl Shelf {
     pub fn tags(&self) -> TagRows<'_>
         ensures { tags_left result ≡ tags_by_tag_name (files self.now) }
     {
+        self.archive.read_texts();
         TagRows {
             archive: &self.archive,
             entries: self.tags.entries(),

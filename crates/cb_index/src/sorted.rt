@@ -22,6 +22,7 @@ use crate::order::{EntryOrder, compare};
 use crate::place::{Bound, Place, place_of};
 use crate::range::Rows;
 use crate::run::Run;
+use crate::sort::sort;
 use std::alloc::Global;
 use std::cmp::Ordering;
 use std::marker::{Model, PhantomData};
@@ -55,20 +56,6 @@ impl<O> Model for Sorted<O> {
 
     ghost invariant = { λ s. (length (joined s.blocks.used) ≤ vec_capacity s.scratch)
         × (length (joined s.blocks.used) ≤ 128 * s.blocks.count) };
-}
-
-/// Puts entries in order.
-fn sort<O: EntryOrder>(archive: &Archive, entries: &mut Vec<Entry>)
-    ensures items { entries.new.items
-        ≡ in_order (sort_key O.keyer archive.now) entries.old.items }
-    ensures room { vec_capacity entries.new ≡ vec_capacity entries.old }
-{
-    entries.sort_unstable_by(
-        |a: &Entry, b: &Entry| -> Ordering
-            ensures { result ≡ slice_cmp nat_cmp (sort_key O.keyer archive.entry.now a.now)
-                (sort_key O.keyer archive.entry.now b.now) }
-        { compare::<O>(archive, *a, *b) },
-    );
 }
 
 /// Whether an entry does not go behind another.

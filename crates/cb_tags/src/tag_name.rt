@@ -64,10 +64,15 @@ fn compare(a: &NameParts<'_>, b: &NameParts<'_>) -> Ordering
 
 /// The order of the plain tag names of two definitions by their bytes: of each its name and its
 /// file's name.
+#[tactic(auto, unfolding(crate::specs::TagNames::tag_name))]
 pub fn compare_tag_names(a_name: &[u8], a_file: &[u8], b_name: &[u8], b_file: &[u8]) -> Ordering
     ensures { result ≡ slice_cmp nat_cmp (tag_name a_name.now a_file.now) (tag_name b_name.now b_file.now) }
 {
-    compare(&tag_name(a_name, a_file), &tag_name(b_name, b_file))
+    if a_name != b"main".as_slice() && b_name != b"main".as_slice() {
+        a_name.cmp(b_name)
+    } else {
+        compare(&tag_name(a_name, a_file), &tag_name(b_name, b_file))
+    }
 }
 
 /// The order of a key and the plain tag name of a definition by their bytes.

@@ -1,17 +1,21 @@
 -- What iterators over a shelf still give.
 use Rattle.std.specs.Prelude.{ℕ, List, codes, filter, map, Option, Some, None}
 use Rattle.std.specs.List.{flat_map}
+use Rattle.cb_scan.specs.Lines.{line_text}
 use Rattle.cb_tags.specs.TagLines.{Tag}
 use Rattle.cb_index.specs.Rows.{Fact}
 use Rattle.cb_index.specs.Shelved.{ShownFile}
 use Rattle.cb_index.specs.steps.Includes.{includes_left}
-use Rattle.cb_index.specs.steps.Left.{entries_left, facts_left, tags_left}
+use Rattle.cb_index.specs.steps.Left.{entries_left, spots_left, tags_left}
 use Rattle.cb_desk.specs.Answer.{AnswerRow, file_rows, is_header, unindented}
 use Rattle.cb_desk.specs.World.{File}
 use Rattle.cb_desk.specs.declared.answers.found.FoundRows.{FoundRows}
 use Rattle.cb_desk.specs.declared.answers.found.FoundRows.TheVariants.{Around, Named, Defs, Headers, Names}
 use Rattle.cb_desk.specs.declared.answers.headers.HeaderRows.{HeaderRows}
 use Rattle.cb_desk.specs.declared.answers.names.NameRows.{NameRows}
+use Rattle.cb_desk.specs.declared.answers.row_spot.RowSpot.{RowSpot}
+use Rattle.cb_desk.specs.declared.answers.row_spot.SpotText.{SpotText}
+use Rattle.cb_desk.specs.declared.answers.row_spot.SpotText.TheVariants.{LineOf, Whole}
 
 -- a file that is shown, without what is found in it
 abbrev pub without_facts : ShownFile → File
@@ -34,6 +38,15 @@ row_named f = record { file = f.file; function = f.name; line = f.line; text = u
 abbrev pub row_of_tag : Tag → AnswerRow
 row_of_tag t = record { file = t.file; function = t.name; line = t.line; text = unindented t.text }
 
+-- the text of a row on a line
+abbrev pub spot_text : ℕ → SpotText → List ℕ
+spot_text line (LineOf source) = unindented (line_text source.now line)
+spot_text line (Whole text) = text.now
+
+-- the row that stands at a spot
+abbrev pub spot_row : RowSpot → AnswerRow
+spot_row s = record { file = s.file.now; function = s.function.now; line = s.line; text = spot_text s.line s.text }
+
 -- the includes that a pattern asks for
 abbrev pub headers_left : HeaderRows → List Fact
 headers_left r = filter (λ (f : Fact). is_header r.pattern.now f.name) (includes_left r.rest)
@@ -44,8 +57,8 @@ names_left r = flat_map (λ (f : ShownFile). file_rows r.pattern.now f.name) (en
 
 -- the rows of a question
 abbrev pub found_left : FoundRows → List AnswerRow
-found_left (Around r) = map row_around (facts_left r)
-found_left (Named r) = map row_named (facts_left r)
+found_left (Around r) = map row_around (spots_left r)
+found_left (Named r) = map row_named (spots_left r)
 found_left (Defs r) = map row_of_tag (tags_left r)
 found_left (Headers r) = map row_around (headers_left r)
 found_left (Names r) = names_left r

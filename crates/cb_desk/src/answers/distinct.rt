@@ -2,22 +2,21 @@
 ghost use Rattle.std.specs.Prelude.{◌≡◌, ◌<◌, ◌^◌, length};
 ghost use Rattle.std.specs.Iterator.{YieldsFirstBy, item_count};
 ghost use Rattle.cb_desk.specs.Answer.{distinct};
-ghost use Rattle.cb_desk.specs.Models.{row_of};
-ghost use Rattle.cb_desk.specs.steps.Lent.{found_left};
+ghost use Rattle.cb_desk.specs.steps.Lent.{found_left, spot_row};
 ghost use Rattle.cb_desk.specs.steps.LookBack.{HaveLineTexts};
 
 use crate::answers::found::FoundRows;
 use crate::answers::look_back::{LookBack, next_new};
-use crate::rows::RefRow;
+use crate::answers::row_spot::RowSpot;
 use std::marker::Model;
 
-/// The rows that are left, of equal ones the first. They take no memory.
+/// The rows that are left, of equal ones the first, without their texts. They take no memory.
 #[derive(Drop)]
-pub(crate) struct DistinctRows<'a, 'p> {
+pub(crate) struct DistinctSpots<'a, 'p> {
     left: LookBack<'a, 'p>,
 }
 
-impl<'a, 'p> Model for DistinctRows<'a, 'p> {
+impl<'a, 'p> Model for DistinctSpots<'a, 'p> {
     ghost use Rattle.std.specs.Prelude.{List, ◌<◌, ◌^◌, length};
     ghost use Rattle.cb_desk.specs.Answer.{AnswerRow};
     ghost use Rattle.cb_desk.specs.steps.LookBack.{IsLookBack, news_left};
@@ -29,13 +28,13 @@ impl<'a, 'p> Model for DistinctRows<'a, 'p> {
     ghost invariant = { λ d. IsLookBack d.left × (length (news_left d.left) < 2 ^ 64) };
 }
 
-impl<'a, 'p> DistinctRows<'a, 'p> {
-    pub(crate) fn new(rows: FoundRows<'a, 'p>) -> DistinctRows<'a, 'p>
+impl<'a, 'p> DistinctSpots<'a, 'p> {
+    pub(crate) fn new(rows: FoundRows<'a, 'p>) -> DistinctSpots<'a, 'p>
         requires texts { HaveLineTexts (found_left rows) }
         requires few { length (found_left rows) < 2 ^ 64 }
         ensures { result ≡ distinct (found_left rows.entry) }
     {
-        DistinctRows {
+        DistinctSpots {
             left: LookBack::new(rows),
         }
     }
@@ -44,21 +43,19 @@ impl<'a, 'p> DistinctRows<'a, 'p> {
     pub(crate) fn count_left(&self) -> usize
         ensures { result ≡ length self.now }
     {
-        let rows = DistinctRows { left: self.left };
-        rows.count()
+        let spots = DistinctSpots { left: self.left };
+        spots.count()
     }
 }
 
-impl<'a, 'p> Iterator for DistinctRows<'a, 'p> {
-    type Item = RefRow<'a>;
+impl<'a, 'p> Iterator for DistinctSpots<'a, 'p> {
+    type Item = RowSpot<'a>;
 
-    ghost next_gives = { YieldsFirstBy row_of (λ rows. rows) };
+    ghost next_gives = { YieldsFirstBy spot_row (λ rows. rows) };
 
     ghost remaining = { item_count (λ rows. rows) };
 
-    fn next(&mut self) -> Option<RefRow<'a>> {
-        let (row, left) = next_new(self.left)?;
-        self.left = left;
-        Some(row)
+    fn next(&mut self) -> Option<RowSpot<'a>> {
+        next_new(&mut self.left)
     }
 }

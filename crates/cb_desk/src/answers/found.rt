@@ -2,24 +2,25 @@
 ghost use Rattle.std.specs.Prelude.{◌≡◌};
 ghost use Rattle.std.specs.Iterator.{YieldsFirstBy, item_count};
 ghost use Rattle.std.specs.Option.{option_map};
-ghost use Rattle.cb_index.specs.steps.Left.{fact_of};
+ghost use Rattle.cb_index.specs.steps.Left.{fact_of, fact_of_spot};
 ghost use Rattle.cb_tags.specs.TagLines.{tag_of};
 ghost use Rattle.cb_desk.specs.Models.{row_of};
-ghost use Rattle.cb_desk.specs.steps.Lent.{column, found_left, row_around, row_named, row_of_tag};
+ghost use Rattle.cb_desk.specs.steps.Lent.{column, found_left, row_around, row_named, row_of_tag, spot_row};
 
 use crate::answers::headers::HeaderRows;
 use crate::answers::names::NameRows;
+use crate::answers::row_spot::{RowSpot, SpotText};
 use crate::rows::{RefRow, unindented};
-use cb_index::{FactRow, FactRows, TagRows};
+use cb_index::{FactRow, FactSpot, FactSpots, TagRows};
 use cb_tags::TagRow;
 
 /// The rows of a question, by file and place.
 #[derive(Clone, Copy)]
 pub(crate) enum FoundRows<'a, 'p> {
     /// Facts, each with the name around it.
-    Around(FactRows<'a>),
+    Around(FactSpots<'a>),
     /// Facts, each with its own name.
-    Named(FactRows<'a>),
+    Named(FactSpots<'a>),
     /// Definitions.
     Defs(TagRows<'a>),
     /// Includes.
@@ -38,72 +39,89 @@ fn column(scope: Option<&[u8]>) -> &[u8]
     }
 }
 
-fn row_around(fact: FactRow<'_>) -> RefRow<'_>
-    ensures { row_of result ≡ row_around (fact_of fact.entry) }
+fn spot_around(fact: FactSpot<'_>) -> RowSpot<'_>
+    ensures { spot_row result ≡ row_around (fact_of_spot fact.entry) }
 {
-    RefRow {
+    RowSpot {
         file: fact.file,
         function: column(fact.scope),
         line: fact.line,
-        text: unindented(fact.text),
+        text: SpotText::LineOf(fact.source),
     }
 }
 
-fn row_named(fact: FactRow<'_>) -> RefRow<'_>
-    ensures { row_of result ≡ row_named (fact_of fact.entry) }
+fn spot_named(fact: FactSpot<'_>) -> RowSpot<'_>
+    ensures { spot_row result ≡ row_named (fact_of_spot fact.entry) }
 {
-    RefRow {
+    RowSpot {
         file: fact.file,
         function: fact.name,
         line: fact.line,
-        text: unindented(fact.text),
+        text: SpotText::LineOf(fact.source),
     }
 }
 
-fn row_of_tag(tag: TagRow<'_>) -> RefRow<'_>
-    ensures { row_of result ≡ row_of_tag (tag_of tag.entry) }
+fn spot_of_include(include: FactRow<'_>) -> RowSpot<'_>
+    ensures { spot_row result ≡ row_around (fact_of include.entry) }
 {
-    RefRow {
+    RowSpot {
+        file: include.file,
+        function: column(include.scope),
+        line: include.line,
+        text: SpotText::Whole(unindented(include.text)),
+    }
+}
+
+fn spot_of_tag(tag: TagRow<'_>) -> RowSpot<'_>
+    ensures { spot_row result ≡ row_of_tag (tag_of tag.entry) }
+{
+    RowSpot {
         file: tag.file,
         function: tag.name,
         line: tag.line,
-        text: unindented(tag.text),
+        text: SpotText::Whole(unindented(tag.text)),
+    }
+}
+
+fn spot_of_row(row: RefRow<'_>) -> RowSpot<'_>
+    ensures { spot_row result ≡ row_of row.entry }
+{
+    RowSpot {
+        file: row.file,
+        function: row.function,
+        line: row.line,
+        text: SpotText::Whole(row.text),
     }
 }
 
 impl<'a, 'p> Iterator for FoundRows<'a, 'p> {
-    type Item = RefRow<'a>;
+    type Item = RowSpot<'a>;
 
-    ghost next_gives = { YieldsFirstBy row_of found_left };
+    ghost next_gives = { YieldsFirstBy spot_row found_left };
 
     ghost remaining = { item_count found_left };
 
-    fn next(&mut self) -> Option<RefRow<'a>> {
-        match *self {
-            FoundRows::Around(mut rows) => {
-                let row = rows.next()?;
-                *self = FoundRows::Around(rows);
-                Some(row_around(row))
+    fn next(&mut self) -> Option<RowSpot<'a>> {
+        match self {
+            FoundRows::Around(rows) => {
+                let fact = rows.next()?;
+                Some(spot_around(fact))
             }
-            FoundRows::Named(mut rows) => {
-                let row = rows.next()?;
-                *self = FoundRows::Named(rows);
-                Some(row_named(row))
+            FoundRows::Named(rows) => {
+                let fact = rows.next()?;
+                Some(spot_named(fact))
             }
-            FoundRows::Defs(mut rows) => {
-                let row = rows.next()?;
-                *self = FoundRows::Defs(rows);
-                Some(row_of_tag(row))
+            FoundRows::Defs(rows) => {
+                let tag = rows.next()?;
+                Some(spot_of_tag(tag))
             }
-            FoundRows::Headers(mut rows) => {
-                let row = rows.next()?;
-                *self = FoundRows::Headers(rows);
-                Some(row_around(row))
+            FoundRows::Headers(rows) => {
+                let include = rows.next()?;
+                Some(spot_of_include(include))
             }
-            FoundRows::Names(mut rows) => {
+            FoundRows::Names(rows) => {
                 let row = rows.next()?;
-                *self = FoundRows::Names(rows);
-                Some(row)
+                Some(spot_of_row(row))
             }
         }
     }

@@ -4,13 +4,12 @@ ghost use Rattle.std.specs.List.{list_any};
 ghost use Rattle.std.specs.Cmp.Lexicographic.{slice_cmp};
 ghost use Rattle.std.specs.Ordering.{nat_cmp};
 ghost use Rattle.cb_desk.specs.Answer.{distinct, row_eq};
-ghost use Rattle.cb_desk.specs.Models.{row_of};
 ghost use Rattle.cb_desk.specs.World.{place_key};
-ghost use Rattle.cb_desk.specs.steps.Lent.{found_left};
+ghost use Rattle.cb_desk.specs.steps.Lent.{found_left, spot_row};
 ghost use Rattle.cb_desk.specs.steps.LookBack.{HaveLineTexts, IsLookBack, alike, news_left, row_key, seen};
 
 use crate::answers::found::FoundRows;
-use crate::rows::RefRow;
+use crate::answers::row_spot::RowSpot;
 use std::cmp::Ordering;
 
 /// Rows that are left, and copies of the iterator to look back from. Rows that are equal are in one
@@ -32,17 +31,9 @@ pub(crate) struct LookBack<'a, 'p> {
     passed: usize,
 }
 
-/// A row, whether no row before is equal to it, and what is left after it.
-#[derive(Clone, Copy)]
-pub(crate) struct Step<'a, 'p> {
-    pub row: RefRow<'a>,
-    pub is_new: bool,
-    pub left: LookBack<'a, 'p>,
-}
-
 /// Whether one of the first rows, so many, is equal to a row but for its text.
-fn has_like(rows: FoundRows<'_, '_>, count: usize, row: &RefRow<'_>) -> bool
-    ensures { result ≡ list_any (alike (row_of row.now)) (take count (found_left rows.entry)) }
+fn has_like(rows: FoundRows<'_, '_>, count: usize, row: &RowSpot<'_>) -> bool
+    ensures { result ≡ list_any (alike (spot_row row.now)) (take count (found_left rows.entry)) }
 {
     let mut left = rows;
     let mut count = count;
@@ -61,9 +52,9 @@ fn has_like(rows: FoundRows<'_, '_>, count: usize, row: &RefRow<'_>) -> bool
 }
 
 /// The order of a line and that of a row: by the bytes of the files' names, and then by number.
-fn compare(file: &[u8], line: u32, row: &RefRow<'_>) -> Ordering
+fn compare(file: &[u8], line: u32, row: &RowSpot<'_>) -> Ordering
     ensures { result ≡ slice_cmp nat_cmp (place_key (record { file = file.now; line = line }))
-        (row_key (row_of row.now)) }
+        (row_key (spot_row row.now)) }
 {
     match file.cmp(row.file) {
         Ordering::Equal => line.cmp(&row.line),
@@ -93,10 +84,10 @@ impl<'a, 'p> LookBack<'a, 'p> {
 }
 
 /// Whether no row before is equal to the next one.
-fn is_new<'a, 'p>(left: LookBack<'a, 'p>, row: &RefRow<'a>, rest: FoundRows<'a, 'p>) -> bool
-    requires kept { IsLookBack left }
-    requires next { found_left left.rest ≡ row_of row.now ∷ found_left rest }
-    ensures { result ≡ not (list_any (row_eq (row_of row.now)) (seen left.entry)) }
+fn is_new<'a, 'p>(left: &LookBack<'a, 'p>, row: &RowSpot<'a>, rest: &FoundRows<'a, 'p>) -> bool
+    requires kept { IsLookBack left.now }
+    requires next { found_left left.now.rest ≡ spot_row row.now ∷ found_left rest.now }
+    ensures { result ≡ not (list_any (row_eq (spot_row row.now)) (seen left.now)) }
 {
     match compare(left.file, left.line, row) {
         Ordering::Less => true,
@@ -105,71 +96,59 @@ fn is_new<'a, 'p>(left: LookBack<'a, 'p>, row: &RefRow<'a>, rest: FoundRows<'a, 
     }
 }
 
-/// What is left after the next row.
-fn after<'a, 'p>(
-    left: LookBack<'a, 'p>,
-    row: &RefRow<'a>,
-    rest: FoundRows<'a, 'p>,
-) -> LookBack<'a, 'p>
-    requires kept { IsLookBack left }
-    requires next { found_left left.rest ≡ row_of row.now ∷ found_left rest }
-    ensures kept { IsLookBack result }
-    ensures seen { seen result ≡ seen left.entry ++ row_of row.now ∷ [] }
-    ensures rest { found_left result.rest ≡ found_left rest.entry }
+/// Goes on after the next row.
+fn pass<'a, 'p>(left: &mut LookBack<'a, 'p>, row: &RowSpot<'a>, rest: FoundRows<'a, 'p>)
+    requires kept { IsLookBack left.old }
+    requires next { found_left left.old.rest ≡ spot_row row.now ∷ found_left rest }
+    ensures kept { IsLookBack left.new }
+    ensures seen { seen left.new ≡ seen left.old ++ spot_row row.now ∷ [] }
+    ensures rest { found_left left.new.rest ≡ found_left rest.entry }
 {
     match compare(left.file, left.line, row) {
-        Ordering::Less => LookBack {
-            all: left.all,
-            file: row.file,
-            line: row.line,
-            group: left.rest,
-            first: left.passed,
-            rest,
-            passed: left.passed + 1,
-        },
-        _ => LookBack {
-            all: left.all,
-            file: left.file,
-            line: left.line,
-            group: left.group,
-            first: left.first,
-            rest,
-            passed: left.passed + 1,
-        },
+        Ordering::Less => {
+            left.file = row.file;
+            left.line = row.line;
+            left.group = left.rest;
+            left.first = left.passed;
+            left.rest = rest;
+            left.passed += 1;
+        }
+        _ => {
+            left.rest = rest;
+            left.passed += 1;
+        }
     }
 }
 
-/// The next row.
+/// The next row, and whether no row before is equal to it.
 #[tactic(auto, unfolding(crate::specs::steps::LookBack::fresh))]
-fn next_row<'a, 'p>(left: LookBack<'a, 'p>) -> Option<Step<'a, 'p>>
-    requires { IsLookBack left }
-    ensures rows { MatchOption result (news_left left.entry ≡ []) (λ s. news_left left.entry
-        ≡ (if s.is_new then row_of s.row ∷ news_left s.left else news_left s.left)) }
-    ensures kept { MatchOption result ⊤ (λ s. IsLookBack s.left) }
+fn next_row<'a, 'p>(left: &mut LookBack<'a, 'p>) -> Option<(RowSpot<'a>, bool)>
+    requires { IsLookBack left.old }
+    ensures rows { MatchOption result (left.new ≡ left.old) (λ r. news_left left.old
+        ≡ (if r.1 then spot_row r.0 ∷ news_left left.new else news_left left.new)) }
+    ensures none { MatchOption result (news_left left.old ≡ []) (λ _. ⊤) }
+    ensures kept { IsLookBack left.new }
     ensures fewer { MatchOption result ⊤
-        (λ s. length (found_left s.left.rest) < length (found_left left.entry.rest)) }
+        (λ _. length (found_left left.new.rest) < length (found_left left.old.rest)) }
 {
     let mut rest = left.rest;
     let row = rest.next()?;
-    Some(Step {
-        row,
-        is_new: is_new(left, &row, rest),
-        left: after(left, &row, rest),
-    })
+    let is_new = is_new(left, &row, &rest);
+    pass(left, &row, rest);
+    Some((row, is_new))
 }
 
-/// The next row that is equal to none before, and what is left after it.
-pub(crate) fn next_new<'a, 'p>(left: LookBack<'a, 'p>) -> Option<(RefRow<'a>, LookBack<'a, 'p>)>
-    requires { IsLookBack left }
-    ensures rows { MatchOption result (news_left left.entry ≡ [])
-        (λ r. news_left left.entry ≡ row_of r.0 ∷ news_left r.1) }
-    ensures kept { MatchOption result ⊤ (λ r. IsLookBack r.1) }
+/// The next row that is equal to none before.
+pub(crate) fn next_new<'a, 'p>(left: &mut LookBack<'a, 'p>) -> Option<RowSpot<'a>>
+    requires { IsLookBack left.old }
+    ensures rows { MatchOption result (news_left left.old ≡ [])
+        (λ r. news_left left.old ≡ spot_row r ∷ news_left left.new) }
+    ensures none { MatchOption result (news_left left.new ≡ []) (λ _. ⊤) }
+    ensures kept { IsLookBack left.new }
 {
-    let mut left = left;
-    while let Some(step) = next_row(left) {
-        left = step.left;
-        if step.is_new {
-            return Some((step.row, left));
+    while let Some((row, is_new)) = next_row(left) {
+        if is_new {
+            return Some(row);
         }
     }
     None

@@ -9,7 +9,7 @@ ghost use Rattle.cb_desk.specs.Models.{row_of};
 ghost use Rattle.cb_desk.specs.World.{AreValidFiles};
 ghost use Rattle.cb_desk.specs.steps.Lent.{found_left};
 
-use crate::answers::distinct::DistinctRows;
+use crate::answers::distinct::DistinctSpots;
 use crate::answers::files::Files;
 use crate::answers::found::FoundRows;
 use crate::answers::headers::HeaderRows;
@@ -23,7 +23,7 @@ use std::marker::Model;
 #[derive(Drop)]
 enum RowSource<'a, 'p> {
     Lines(TextRows<'a, 'p>),
-    Others(DistinctRows<'a, 'p>),
+    Others(DistinctSpots<'a, 'p>),
 }
 
 /// The rows of an answer, by file and place; equal ones once. They take no memory.
@@ -55,7 +55,7 @@ impl<'a, 'p> Rows<'a, 'p> {
                 source: RowSource::Lines(TextRows::new(files, pattern)),
             },
             _ => Rows {
-                source: RowSource::Others(DistinctRows::new(found_rows(shelf, field, pattern))),
+                source: RowSource::Others(DistinctSpots::new(found_rows(shelf, field, pattern))),
             },
         }
     }
@@ -81,7 +81,10 @@ impl<'a, 'p> Iterator for Rows<'a, 'p> {
     fn next(&mut self) -> Option<RefRow<'a>> {
         match &mut self.source {
             RowSource::Lines(rows) => rows.next(),
-            RowSource::Others(rows) => rows.next(),
+            RowSource::Others(spots) => {
+                let spot = spots.next()?;
+                Some(spot.row())
+            }
         }
     }
 }
@@ -94,14 +97,14 @@ fn found_rows<'a, 'p>(shelf: &'a Shelf, field: Field, pattern: &'p [u8]) -> Foun
     ensures few { length (found_left result) < 2 ^ 64 }
 {
     match field {
-        Field::Symbol => FoundRows::Around(shelf.uses(pattern)),
+        Field::Symbol => FoundRows::Around(shelf.uses(pattern).spots()),
         Field::Definition => {
             let rows = shelf.defs(pattern);
             let _count = rows.len();
             FoundRows::Defs(rows)
         }
-        Field::Called => FoundRows::Named(shelf.called_by(pattern)),
-        Field::Calling => FoundRows::Around(shelf.calling(pattern)),
+        Field::Called => FoundRows::Named(shelf.called_by(pattern).spots()),
+        Field::Calling => FoundRows::Around(shelf.calling(pattern).spots()),
         Field::Including => FoundRows::Headers(HeaderRows {
             rest: shelf.includes(),
             pattern,

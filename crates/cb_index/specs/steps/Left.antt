@@ -3,6 +3,7 @@ use Rattle.std.specs.Prelude.{ℕ, List, [], ◌∷◌, ◌++◌, Option, Some, 
 use Rattle.std.specs.Borrow.{Bor}
 use Rattle.std.specs.Option.{option_map}
 use Rattle.cb_scan.specs.Definitions.{facts_of}
+use Rattle.cb_scan.specs.Lines.{line_text}
 use Rattle.cb_scan.specs.TextFacts.{TextFacts}
 use Rattle.cb_tags.specs.TagLines.{Tag}
 use Rattle.cb_index.specs.Archived.{Archived, name_of}
@@ -13,7 +14,9 @@ use Rattle.cb_index.specs.steps.Runs.{run_entries}
 use Rattle.cb_index.specs.declared.entries.Entries.{Entries}
 use Rattle.cb_index.specs.declared.entry.Shown.{Shown}
 use Rattle.cb_index.specs.declared.rows.FactRow.{FactRow}
+use Rattle.cb_index.specs.declared.rows.FactSpot.{FactSpot}
 use Rattle.cb_index.specs.declared.facts.FactRows.{FactRows}
+use Rattle.cb_index.specs.declared.facts.FactSpots.{FactSpots}
 use Rattle.cb_index.specs.declared.facts.Posting.{Posting}
 use Rattle.cb_index.specs.declared.tags.TagRows.{TagRows}
 
@@ -27,6 +30,16 @@ fact_of r = record {
   text = r.text.now;
 }
 
+-- what is said where a fact is found: of its line the text, which is looked up later
+abbrev pub fact_of_spot : FactSpot → Fact
+fact_of_spot s = record {
+  file = s.file.now;
+  name = s.name.now;
+  scope = option_map (λ n. n.now) s.scope;
+  line = s.line;
+  text = line_text s.source.now s.line;
+}
+
 abbrev pub tags_left : TagRows → List Tag
 tags_left r = map (tag_at r.archive.now) (run_entries r.entries)
 
@@ -37,8 +50,11 @@ abbrev pub posting_left_if : Option Posting → List Fact
 posting_left_if None = []
 posting_left_if (Some p) = posting_left p
 
+abbrev pub spots_left : FactSpots → List Fact
+spots_left r = posting_left_if r.posting ++ facts_in r.sort r.archive.now (run_entries r.entries)
+
 abbrev pub facts_left : FactRows → List Fact
-facts_left r = posting_left_if r.posting ++ facts_in r.sort r.archive.now (run_entries r.entries)
+facts_left r = spots_left r.spots
 
 -- a file that is lent
 abbrev pub shown_file : Bor (List ℕ) × Bor (List ℕ) × Bor TextFacts → ShownFile

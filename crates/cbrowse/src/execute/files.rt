@@ -6,7 +6,7 @@ use crate::execute::finish::Finish;
 use cb_session::{Ended, Fault, Operand, Operands};
 use std::alloc::{AllocError, Global};
 use std::fs::{self, OpenFile};
-use std::io::{self, BufWriter, ErrorKind, Read};
+use std::io::{self, BufWriter, ErrorKind, Read, Write};
 use std::rt::Files;
 
 /// One more than the most bytes of a file, so that a larger one is seen to be too large.
@@ -87,12 +87,35 @@ pub(crate) fn read_operands<R: Files + AllocGlobal>(
     Ok(operands)
 }
 
-/// Makes or empties a tags file.
+/// A file behind a buffer: it is opened once the buffer's memory is there, since a file that is opened
+/// to be written is emptied.
+#[derive(Drop)]
+pub(crate) struct LateFile<F: Write + Drop> {
+    file: Option<F>,
+}
+
+impl<F: Write + Drop> Write for LateFile<F> {
+    fn write(&mut self, buf: &[u8]) -> io::Result<usize> {
+        match &mut self.file {
+            Some(file) => file.write(buf),
+            None => Err(io::Error::from(ErrorKind::NotConnected)),
+        }
+    }
+
+    fn flush(&mut self) -> io::Result<()> {
+        match &mut self.file {
+            Some(file) => file.flush(),
+            None => Err(io::Error::from(ErrorKind::NotConnected)),
+        }
+    }
+}
+
+/// Makes or empties a tags file. Where memory is refused, the old one stays as it was.
 pub(crate) fn make_file<R: Files + AllocGlobal>(
     rt: &R,
     folder: &str,
     name: &str,
-) -> Result<BufWriter<R::File>, Finish>
+) -> Result<BufWriter<LateFile<R::File>>, Finish>
     ensures { IfErr result EndsIntoFile }
 {
     match open_new(rt, folder, name) {
@@ -106,8 +129,9 @@ fn open_new<R: Files + AllocGlobal>(
     rt: &R,
     folder: &str,
     name: &str,
-) -> io::Result<BufWriter<R::File>> {
+) -> io::Result<BufWriter<LateFile<R::File>>> {
     let path = path_of(rt.alloc(), folder, name)?;
-    let file = fs::create(rt, path.as_str())?;
-    Ok(BufWriter::new(rt.alloc(), file)?)
+    let mut writer = BufWriter::new(rt.alloc(), LateFile { file: None })?;
+    writer.get_mut().file = Some(fs::create(rt, path.as_str())?);
+    Ok(writer)
 }

@@ -3,8 +3,8 @@ use Rattle.cb_desk.specs.steps.Lent.{found_left}
 use Rattle.cb_desk.specs.steps.LookBack.{IsLookBack, news_left}
 use Rattle.cb_desk.proofs.answers.look_back.next_new.Given as goal
 
-abbrev pub decreases-loop-step : goal.decreases-loop-step
-decreases-loop-step l = length (found_left l.left.rest)
+abbrev pub decreases-loop-row : goal.decreases-loop-row
+decreases-loop-row l = length (found_left l.left.rest)
 
-abbrev pub invariant-loop-step : goal.invariant-loop-step
-invariant-loop-step l = IsLookBack l.left × (news_left l.left ≡ news_left l.fn.left)
+abbrev pub invariant-loop-row : goal.invariant-loop-row
+invariant-loop-row l = IsLookBack l.left × (news_left l.left ≡ news_left l.fn.left)

@@ -16,7 +16,7 @@ pub returns-in-Symbol : goal.returns-in-Symbol
 returns-in-Symbol c =
     let fs = files c.args.shelf.now in
     let p = c.args.pattern.now in
-    let rows = ap (map row_around) c.uses.ensures ∙ symbol-rows p fs in
+    let rows = ap (map row_around) (c.spots.ensures ∙ c.uses.ensures) ∙ symbol-rows p fs in
     let long = ap length rows in
     record {
       rows = rows ∙ ap (λ field. flat_map (field_rows field p) fs) (sym c.in-Symbol.is);
@@ -38,7 +38,7 @@ pub returns-in-Called : goal.returns-in-Called
 returns-in-Called c =
     let fs = files c.args.shelf.now in
     let p = c.args.pattern.now in
-    let rows = ap (map row_named) c.called_by.ensures ∙ called-rows p fs in
+    let rows = ap (map row_named) (c.spots-in-Called.ensures ∙ c.called_by.ensures) ∙ called-rows p fs in
     let long = ap length rows in
     record {
       rows = rows ∙ ap (λ field. flat_map (field_rows field p) fs) (sym c.in-Called.is);
@@ -49,7 +49,7 @@ pub returns-in-Calling : goal.returns-in-Calling
 returns-in-Calling c =
     let fs = files c.args.shelf.now in
     let p = c.args.pattern.now in
-    let rows = ap (map row_around) c.calling.ensures ∙ calling-rows p fs in
+    let rows = ap (map row_around) (c.spots-in-Calling.ensures ∙ c.calling.ensures) ∙ calling-rows p fs in
     let long = ap length rows in
     record {
       rows = rows ∙ ap (λ field. flat_map (field_rows field p) fs) (sym c.in-Calling.is);

@@ -9,5 +9,5 @@ pub returns : goal.returns
 returns c =
     ap (map (tag_at c.self.inside.archive)) c.entries.ensures
     ∙ rows_by_name c.self.inside.archive c.self.inside.shown.items c.self.invariant.0.there c.self.invariant.0.ascending
-    c.self.inside.defs.entries c.self.invariant.0.defs
+    c.self.inside.defs.entries c.read_texts.ensures c.self.invariant.0.defs
     ∙ ap (λ (s : Shelved). tags_by_name (files s)) c.self.view_is

@@ -2,7 +2,7 @@ use Rattle.std.proofs.Common.{rules, ◌∙◌, refl, sym, ap, filter}
 use Rattle.std.proofs.lemmas.Fn.{filter_same}
 use Rattle.cb_index.specs.Files.{call_count, def_count, shown_under, use_count}
 use Rattle.cb_index.specs.Held.{all_entries}
-use Rattle.cb_index.specs.Orders.{callee_key, callee_prefixes, caller_key, caller_prefixes, def_key, def_prefixes, tag_key, use_key, use_prefixes}
+use Rattle.cb_index.specs.Orders.{callee_key, callee_prefixes, caller_key, caller_prefixes, def_key, def_prefixes, tag_key, tag_prefixes, use_key, use_prefixes}
 use Rattle.cb_index.specs.Shelved.{Shelved}
 use Rattle.cb_index.proofs.IndexLemmas.{indexed_out, is_other, none_under}
 use Rattle.cb_index.proofs.KeptLemmas.{kept_filtered, kept_moved}
@@ -23,8 +23,8 @@ pub take_all-requires-2 : goal.take_all-requires-2
 take_all-requires-2 c =
     let a = c.self.inside.archive in
     let under = ap (shown_under c.args.name) (sym c.as_slice.ensures.value) ∙ sym c.shown_under.ensures ∙ c.in-Some.is in (
-      all_entries def_prefixes a (filter (is_other a c.args.name) c.self.inside.shown.items),
-      indexed_out a c.args.name tag_key def_prefixes c.self.inside.shown.items c.in-Some.one c.self.inside.tags.entries under
+      all_entries tag_prefixes a (filter (is_other a c.args.name) c.self.inside.shown.items),
+      indexed_out a c.args.name tag_key tag_prefixes c.self.inside.shown.items c.in-Some.one c.self.inside.tags.entries under
           c.self.invariant.0.ascending c.self.invariant.0.tags,
     )
 
@@ -79,8 +79,8 @@ invariant_of-self-2 c =
           (filter_same _ stays _ (λ e r f k. (search (rules, k), search (rules, k))) _ _ c.retain.ensures.filtered)
           (c.take_all.ensures.entries (all_entries def_prefixes a (filter stays shown))
           (indexed_out a c.args.name def_key def_prefixes shown c.in-Some.one c.self.inside.defs.entries under c.self.invariant.0.ascending c.self.invariant.0.defs))
-          (c.take_all-2.ensures.entries (all_entries def_prefixes a (filter stays shown))
-          (indexed_out a c.args.name tag_key def_prefixes shown c.in-Some.one c.self.inside.tags.entries under c.self.invariant.0.ascending c.self.invariant.0.tags))
+          (c.take_all-2.ensures.entries (all_entries tag_prefixes a (filter stays shown))
+          (indexed_out a c.args.name tag_key tag_prefixes shown c.in-Some.one c.self.inside.tags.entries under c.self.invariant.0.ascending c.self.invariant.0.tags))
           (c.take_all-3.ensures.entries (all_entries use_prefixes a (filter stays shown))
           (indexed_out a c.args.name use_key use_prefixes shown c.in-Some.one c.self.inside.uses.entries under c.self.invariant.0.ascending c.self.invariant.0.uses))
           (c.take_all-4.ensures.entries (all_entries callee_prefixes a (filter stays shown))

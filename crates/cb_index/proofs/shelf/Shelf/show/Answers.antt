@@ -5,10 +5,10 @@ use Rattle.std.proofs.Math.Nat.{min-le_left, min-le_right, le_trans}
 use Rattle.cb_scan.specs.Order.{put}
 use Rattle.cb_index.specs.Archived.{name_of}
 use Rattle.cb_index.specs.Files.{IsThere, call_count, def_count, shown_name, total, use_count}
-use Rattle.cb_index.specs.Orders.{callee_key, callee_prefixes, caller_key, caller_prefixes, def_key, def_prefixes, tag_key, use_key, use_prefixes}
+use Rattle.cb_index.specs.Orders.{callee_key, callee_prefixes, caller_key, caller_prefixes, def_key, def_prefixes, tag_key, tag_prefixes, use_key, use_prefixes}
 use Rattle.cb_index.specs.Shelved.{Shelved}
 use Rattle.cb_index.specs.declared.entry.Shown.{Shown}
-use Rattle.cb_index.proofs.FewerLemmas.{fewer_callees, fewer_callers, fewer_defs, fewer_uses}
+use Rattle.cb_index.proofs.FewerLemmas.{fewer_callees, fewer_callers, fewer_defs, fewer_tags, fewer_uses}
 use Rattle.cb_index.proofs.IndexLemmas.{fits}
 use Rattle.cb_index.proofs.KeptLemmas.{kept_moved, kept_shown, others}
 use Rattle.cb_index.proofs.RowLemmas.{again}
@@ -28,8 +28,8 @@ put_all-requires c = record {
 
 pub put_all-requires-2 : goal.put_all-requires-2
 put_all-requires-2 c = record {
-  order = again tag_key def_prefixes c.self.inside.archive c.self.inside.shown.items c.self.inside.tags.entries c.self.invariant.0.tags;
-  room = fits def_prefixes def_count fewer_defs c.self.inside.archive tag_key
+  order = again tag_key tag_prefixes c.self.inside.archive c.self.inside.shown.items c.self.inside.tags.entries c.self.invariant.0.tags;
+  room = fits tag_prefixes def_count fewer_tags c.self.inside.archive tag_key
       c.self.inside.shown.items c.self.inside.tags.entries (record { name = c.args.name; version = c.args.version })
       c.self.inside.tags.room c.self.invariant.0.tags (le_trans (subst (λ (s : Shelved). total def_count s.archive s.shown + def_count (slice_get s.archive.texts c.args.version) ≤ s.def_room)
       (sym c.self.view_is) c.requires.defs)

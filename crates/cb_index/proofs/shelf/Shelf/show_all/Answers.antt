@@ -2,9 +2,9 @@ use Rattle.std.proofs.Common.{◌∙◌, ◌++◌, refl, sym, ap, subst}
 use Rattle.std.proofs.Math.Nat.{le_trans, min-le_left, min-le_right}
 use Rattle.cb_scan.specs.Order.{in_order}
 use Rattle.cb_index.specs.Files.{call_count, def_count, shown_name, use_count}
-use Rattle.cb_index.specs.Orders.{callee_key, callee_prefixes, caller_key, caller_prefixes, def_key, def_prefixes, tag_key, use_key, use_prefixes}
+use Rattle.cb_index.specs.Orders.{callee_key, callee_prefixes, caller_key, caller_prefixes, def_key, def_prefixes, tag_key, tag_prefixes, use_key, use_prefixes}
 use Rattle.cb_index.specs.Shelved.{CanShowAll, Shelved}
-use Rattle.cb_index.proofs.FewerLemmas.{fewer_callees, fewer_callers, fewer_defs, fewer_uses}
+use Rattle.cb_index.proofs.FewerLemmas.{fewer_callees, fewer_callers, fewer_defs, fewer_tags, fewer_uses}
 use Rattle.cb_index.proofs.IndexLemmas.{each_fits}
 use Rattle.cb_index.proofs.KeptLemmas.{kept_moved}
 use Rattle.cb_index.proofs.ListedLemmas.{apart_both, kept_each}
@@ -34,10 +34,10 @@ put_each-requires c = record {
 
 pub put_each-requires-2 : goal.put_each-requires-2
 put_each-requires-2 c = record {
-  order = again tag_key def_prefixes c.self.inside.archive c.self.inside.shown.items c.self.inside.tags.entries c.self.invariant.0.tags;
+  order = again tag_key tag_prefixes c.self.inside.archive c.self.inside.shown.items c.self.inside.tags.entries c.self.invariant.0.tags;
   room =
       let asked = subst (λ (s : Shelved). CanShowAll s c.args.news.now) (sym c.self.view_is) c.requires in
-      each_fits def_prefixes def_count fewer_defs c.self.inside.archive tag_key c.self.inside.shown.items c.args.news.now
+      each_fits tag_prefixes def_count fewer_tags c.self.inside.archive tag_key c.self.inside.shown.items c.args.news.now
       c.self.inside.tags.entries c.self.inside.tags.room c.self.invariant.0.tags
       (le_trans asked.defs (min-le_right c.self.inside.defs.room c.self.inside.tags.room));
 }

@@ -9,5 +9,5 @@ pub returns : goal.returns
 returns c =
     ap (map (tag_at c.self.inside.archive)) c.entries.ensures
     ∙ rows_by_tag_name c.self.inside.archive c.self.inside.shown.items c.self.invariant.0.there c.self.invariant.0.ascending
-    c.self.inside.tags.entries c.self.invariant.0.tags
+    c.self.inside.tags.entries c.read_texts.ensures c.self.invariant.0.tags
     ∙ ap (λ (s : Shelved). tags_by_tag_name (files s)) c.self.view_is

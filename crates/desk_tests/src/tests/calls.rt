@@ -1,7 +1,7 @@
 //! Each public call once, with all the memory that it asks for. Expected rows and frames are worked
 //! out by hand.
 use super::{NINE_LINES, are_tags, load_text, load_text_or_refused};
-use crate::{Change, Desk, Field, Format, RefRow, Refusal};
+use cb_desk::{Change, Desk, Field, Format, RefRow, Refusal};
 use cb_scan::Kind;
 use cb_tags::TagRow;
 use std::alloc::{AllocError, Global};

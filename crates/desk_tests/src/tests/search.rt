@@ -1,22 +1,20 @@
 //! The lines that hold a text. Expected lines are counted by hand.
 ghost use Rattle.std.specs.Prelude.{◌≢◌, []};
 
-use super::load_text;
-use crate::search::TextLines;
-use crate::{Desk, Field, Refusal};
-use cb_scan::{ScanError, Source};
-use memchr::memmem::Finder;
+use super::{load_text, load_text_or_refused};
+use cb_desk::{Desk, Field, Refusal};
 use std::alloc::{AllocError, Global};
 use std::process::Abort;
 
-/// Whether the lines of a source that hold a pattern are these.
-fn are_lines(source: &Source, finder: &Finder<'_>, lines: &[u32]) -> bool
-    requires { finder.now ≢ [] }
+/// Whether the lines of the present files that hold a pattern are these.
+fn are_lines(desk: &Desk, pattern: &[u8], lines: &[u32]) -> bool
+    requires { pattern.now ≢ [] }
 {
-    let mut found = TextLines::new(source, finder);
+    let mut found = desk.rows(Field::Text, pattern);
     for line in lines {
-        if found.next() != Some(*line) {
-            return false;
+        match found.next() {
+            Some(row) if row.line == *line => {}
+            _ => return false,
         }
     }
     found.next().is_none()
@@ -32,10 +30,10 @@ fn has_lines(
     if pattern.is_empty() {
         return Ok(false);
     }
-    match Source::new(alloc, Vec::from_slice(alloc, text)?) {
-        Ok(source) => Ok(are_lines(&source, &Finder::new(pattern), lines)),
-        Err(ScanError::OutOfMemory) => Err(AllocError),
-        Err(ScanError::TooLarge) => Ok(false),
+    let mut desk = Desk::new(alloc);
+    match load_text_or_refused(&mut desk, alloc, b"a.c", text) {
+        Ok(()) => Ok(are_lines(&desk, pattern, lines)),
+        Err(_refusal) => Err(AllocError),
     }
 }
 

@@ -1,7 +1,7 @@
 //! Drops, renames, the tag stack, undo and redo. Expected frames and refusals are worked out by
 //! hand.
 use super::{NINE_LINES, load, load_text, load_text_or_refused, shows};
-use crate::{Change, Desk, Refusal};
+use cb_desk::{Change, Desk, Refusal};
 use std::alloc::{AllocError, Global};
 use std::process::Abort;
 

@@ -8,14 +8,14 @@ use Rattle.std.specs.Ordering.{is_lt, nat_cmp}
 use Rattle.cb_scan.proofs.OrderLemmas.{neighbours, sorted_is}
 use Rattle.cb_index.specs.Entries.{sort_key}
 use Rattle.cb_index.proofs.EntryLemmas.{sort_exact}
-use Rattle.cb_index.proofs.sorted.sort.Goals as goal
+use Rattle.cb_index.proofs.sort.sort_whole.Goals as goal
 
-pub returns-clause-items : goal.returns-clause-items
-returns-clause-items g c =
+pub returns : goal.returns
+returns g c =
     let keyer = g.O.EntryOrder.keyer in
     let key = sort_key keyer c.args.archive.now in
-    let before = c.args.entries.now.items in
-    let after = c.sort_unstable_by.new.self.items in
+    let before = c.args.entries.now in
+    let after = c.sort_unstable_by.new.self in
     let moved = c.sort_unstable_by.ensures in
     let adjacent = moved.sorted (λ e f. is_lt (slice_cmp nat_cmp (key e) (key f)))
     (ranks_by nat_list_cmp_total key) (always_returns_same _ _ _ (λ a r q k. (search (rules, k), search (rules, k)))) in

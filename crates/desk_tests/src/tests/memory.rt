@@ -4,7 +4,7 @@
 use super::marks::marked_files;
 use super::moves::{has_frames, two_files};
 use super::{load_text_or_refused, shows};
-use crate::{Change, Desk, Refusal};
+use cb_desk::{Change, Desk, Refusal};
 use std::alloc::Global;
 use std::process::Abort;
 

@@ -2,7 +2,7 @@
 //! by hand.
 use super::moves::{has_frames, has_text, two_files};
 use super::{NINE_LINES, load, load_text_or_refused};
-use crate::{Change, Desk, Refusal};
+use cb_desk::{Change, Desk, Refusal};
 use std::alloc::{AllocError, Global};
 use std::process::Abort;
 

@@ -4,7 +4,7 @@ use super::marks::{has_marks, marked_files, wants};
 use super::memory::{begin, marked_with_a_future};
 use super::moves::{has_text, two_files};
 use super::{NINE_LINES, load_text_or_refused, shows};
-use crate::{Change, Desk, Field, Format, Refusal};
+use cb_desk::{Change, Desk, Field, Format, Refusal};
 use std::alloc::{AllocError, Global};
 use std::process::Abort;
 

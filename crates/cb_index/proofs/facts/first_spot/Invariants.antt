@@ -1,7 +1,7 @@
 use Rattle.std.proofs.Common.{◌≡◌, length}
 use Rattle.cb_index.specs.steps.Found.{facts_in}
 use Rattle.cb_index.specs.steps.Runs.{run_entries}
-use Rattle.cb_index.proofs.facts.first_row.Given as goal
+use Rattle.cb_index.proofs.facts.first_spot.Given as goal
 
 abbrev pub decreases-loop-entry : goal.decreases-loop-entry
 decreases-loop-entry l = length (run_entries l.left)

@@ -3,7 +3,7 @@
 use super::marks::{has_marks, wants};
 use super::moves::{has_frames, has_text, two_files};
 use super::{NINE_LINES, has_tags, load_text_or_refused, shows};
-use crate::{Change, Desk, Format, Refusal};
+use cb_desk::{Change, Desk, Format, Refusal};
 use cb_scan::Kind;
 use std::alloc::{AllocError, Global};
 use std::process::Abort;

@@ -7,7 +7,7 @@ mod refused;
 mod reloads;
 mod search;
 
-use super::*;
+use cb_desk::{Change, Desk, Format, Refusal};
 use cb_scan::Kind;
 use cb_tags::TagRow;
 use std::alloc::{AllocError, Global};
