@@ -12,7 +12,7 @@ use Rattle.cbrowse.specs.declared.execute.finish.Finish.TheVariants.{Ran, Unread
 use Rattle.cbrowse.specs.declared.job.Job.{Job}
 use Rattle.cbrowse.specs.declared.job.Job.TheVariants.{Line, Find, Tags}
 use Rattle.cbrowse.specs.Messages.{files_of}
-use Rattle.cbrowse.specs.Program.{DoesFrom, DoesJob, DoesLoaded, EndsIntoFile, Reaches, Works, most_line_bytes, most_lines, writes_file}
+use Rattle.cbrowse.specs.Program.{DoesFrom, DoesJob, DoesLoaded, EndsIntoFile, Reaches, Works, WritesFile, WritesText, file_text, most_line_bytes, most_lines, writes_file}
 
 -- operands under the names of a job's files are contents of those files
 pub reaches : (job : Job) (ops : List Operand) (end : Result Timeline RefusedOperand) → map (λ o. o.name.items) ops ≡ files_of job
@@ -32,6 +32,31 @@ stopped job ops feed out (StoppedAt place why) named p =
 stopped job ops feed out Done named p = absurd p
 stopped job ops feed out Cut named p = absurd p
 stopped job ops feed out (Fault fault) named p = absurd p
+
+-- a job that writes a tags file writes its text, and leaves the reader alone
+pub file_written : (job : Job) (lines limit : ℕ) (t : Timeline) (feed feed' : Reader) (old new : Writer) (ended : Ended) → writes_file job ≡ true
+    → DoesJob job lines limit t feed feed' old new ended → (feed' ≡ feed) × WritesText (file_text job t.present) old new ended
+file_written (Line files) lines limit t feed feed' old new ended writes does = absurd (true≢false (sym writes))
+file_written (Find field pattern files) lines limit t feed feed' old new ended writes does = absurd (true≢false (sym writes))
+file_written (Tags listing tagsfile format files) lines limit t feed feed' old new ended writes does = does
+
+-- where no write failed the whole text was written
+pub whole_file : (text : List ℕ) (old new : Writer) (ended : Ended) → WritesText text old new ended → ended ≢ Fault Write
+    → (ended ≡ Done) × WritesText text old new Done
+whole_file text old new Done written fine = (refl, written)
+whole_file text old new Cut written fine = absurd written
+whole_file text old new (Fault Read) written fine = absurd written
+whole_file text old new (Fault Write) written fine = absurd (fine refl)
+whole_file text old new (Fault Memory) written fine = absurd written
+whole_file text old new (Fault LongLine) written fine = absurd written
+whole_file text old new (Fault ManyLines) written fine = absurd written
+whole_file text old new (StoppedAt place why) written fine = absurd written
+
+-- a tags file ends as a job into a file does
+pub ends_file : (text : List ℕ) (old new : Writer) (f : Finish) → WritesFile text old new f → EndsIntoFile f
+ends_file text old new (Ran ended) written = subst EndsFile (sym written.0) unit
+ends_file text old new Unwritable written = unit
+ends_file text old new (Unreadable place) written = absurd written
 
 -- a job that writes a tags file
 pub into_file : (job : Job) (t : Timeline) (feed feed' : Reader) (out : Writer) (f : Finish) → writes_file job ≡ true → Reaches job (Ok t)
