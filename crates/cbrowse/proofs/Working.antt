@@ -1,7 +1,10 @@
 -- A job over files: from the loads to what is done.
-use Rattle.std.proofs.Common.{◌≡◌, ◌∙◌, ap, refl, inr, true, false, List, [], ◌∷◌, map, Result, Ok, Err}
+use Rattle.std.proofs.Common.{◌≡◌, ◌∙◌, ap, subst, sym, refl, inr, ℕ, true, false, List, [], ◌∷◌, map, Result, Ok, Err}
+use Rattle.std.proofs.lemmas.Bool.{true≢false}
 use Rattle.cb_desk.specs.Timeline.{Timeline, new_timeline}
 use Rattle.cb_session.specs.declared.input.Ended.{Ended}
+use Rattle.cb_session.specs.declared.input.Fault.{Fault as WhatFailed}
+use Rattle.cb_session.specs.declared.input.Fault.TheVariants.{Write}
 use Rattle.cb_session.specs.declared.input.Ended.TheVariants.{Done, Cut, Fault, Operand as StoppedAt}
 use Rattle.cb_session.specs.declared.operands.Operand.{Operand}
 use Rattle.cb_session.specs.Devices.{Reader}
@@ -40,23 +43,12 @@ file_written (Line files) lines limit t feed feed' old new ended writes does = a
 file_written (Find field pattern files) lines limit t feed feed' old new ended writes does = absurd (true≢false (sym writes))
 file_written (Tags listing tagsfile format files) lines limit t feed feed' old new ended writes does = does
 
--- where no write failed the whole text was written
-pub whole_file : (text : List ℕ) (old new : Writer) (ended : Ended) → WritesText text old new ended → ended ≢ Fault Write
-    → (ended ≡ Done) × WritesText text old new Done
-whole_file text old new Done written fine = (refl, written)
-whole_file text old new Cut written fine = absurd written
-whole_file text old new (Fault Read) written fine = absurd written
-whole_file text old new (Fault Write) written fine = absurd (fine refl)
-whole_file text old new (Fault Memory) written fine = absurd written
-whole_file text old new (Fault LongLine) written fine = absurd written
-whole_file text old new (Fault ManyLines) written fine = absurd written
-whole_file text old new (StoppedAt place why) written fine = absurd written
-
--- a tags file ends as a job into a file does
-pub ends_file : (text : List ℕ) (old new : Writer) (f : Finish) → WritesFile text old new f → EndsIntoFile f
-ends_file text old new (Ran ended) written = subst EndsFile (sym written.0) unit
-ends_file text old new Unwritable written = unit
-ends_file text old new (Unreadable place) written = absurd written
+-- where a write failed the file can't be written
+pub failed_file : (job : Job) (lines limit : ℕ) (t : Timeline) (feed feed' : Reader) (old new : Writer) (why : WhatFailed) → writes_file job ≡ true
+    → DoesJob job lines limit t feed feed' old new (Fault why) → why ≡ Write → WritesFile (file_text job t.present) old new Unwritable
+failed_file job lines limit t feed feed' old new why writes does is =
+    subst (λ fault. WritesText (file_text job t.present) old new (Fault fault)) is
+    (file_written job lines limit t feed feed' old new (Fault why) writes does).1
 
 -- a job that writes a tags file
 pub into_file : (job : Job) (t : Timeline) (feed feed' : Reader) (out : Writer) (f : Finish) → writes_file job ≡ true → Reaches job (Ok t)
