@@ -1,0 +1,144 @@
+#!/usr/bin/env python3
+"""Runs editors/cbrowse-tree on trees of odd names, in full folders and with programs that fail.
+
+A person runs this by hand; no gate does. It needs the built program.
+
+    make && clients/trees.py
+    clients/trees.py --cbrowse PATH      or: CBROWSE=PATH clients/trees.py
+
+Whole      the tags file, plain and extended, and the listing of a tree are those of one `cbrowse tags` over its files, byte
+           for byte, by one process and by four.
+Odd names  what cbrowse does not take is told and left out, the status is 1, and all else is there; folders named `!`, `(`
+           and `-x`, and a tags file named `-t`, are taken as they are.
+Failures   an old tags file stays as it was, and the status is 1, where a folder is not there, where the program or `sort`
+           fails, and where the temporary folder is full: each size of a small one is tried (as root alone, with `mount`).
+"""
+
+import argparse
+import os
+import pathlib
+import subprocess
+import sys
+import tempfile
+
+TOP = pathlib.Path(__file__).resolve().parent.parent
+TREE = TOP / "editors" / "cbrowse-tree"
+failed = 0
+
+
+def check(what, is_right, said=""):
+    """A line for each thing that is tried."""
+    global failed
+    failed += not is_right
+    print(("ok     " if is_right else "FAILED ") + what + (f": {said}" if said and not is_right else ""), flush=True)
+
+
+class Place:
+    """A folder in which the script runs."""
+
+    def __init__(self, folder, cbrowse):
+        self.folder, self.cbrowse = pathlib.Path(folder), cbrowse
+
+    def put(self, name, text):
+        path = self.folder / name
+        path.parent.mkdir(parents=True, exist_ok=True)
+        path.write_text(text)
+
+    def run(self, *words, **more):
+        env = {**os.environ, "CBROWSE": self.cbrowse, **{name: str(value) for name, value in more.items()}}
+        done = subprocess.run(["sh", TREE, *words], cwd=self.folder, env=env, stdout=subprocess.PIPE, stderr=subprocess.PIPE)
+        return done.returncode, done.stdout, done.stderr.decode()
+
+    def one(self, names, *words):
+        """What one run of cbrowse makes of these files."""
+        subprocess.run([self.cbrowse, "tags", "-f", "whole", *words, "--", *names], cwd=self.folder, check=True)
+        return (self.folder / "whole").read_bytes()
+
+
+def whole(place):
+    names = []
+    for number in range(1500):
+        names.append(f"many/d{number % 7}/f{number}.{'ch'[number % 2]}")
+        place.put(names[-1], f"int f{number % 100}(void) {{\n}}\n#define M{number} 1\nstruct s {{\nint x;\n}};\nint main(void) {{\n}}\n")
+    for words in ([], ["--format", "2"]):
+        for jobs in "1", "4":
+            status, _, said = place.run("-j", jobs, "-f", "parts", *words, "many")
+            same = (place.folder / "parts").read_bytes() == place.one(sorted(names), *words)
+            check(f"one tags file {' '.join(words)} by {jobs}", status == 0 and same, said)
+    listing = subprocess.run([place.cbrowse, "tags", "-x", "--", *sorted(names)], cwd=place.folder, stdout=subprocess.PIPE).stdout
+    status, out, said = place.run("-x", "many")
+    check("one listing", status == 0 and out == listing, said)
+
+
+def odd_names(place):
+    text = "int g(void) {\n}\n"
+    for name in ("odd/a b.c", "odd/\u00e9.c", "odd/'$(x)*.c", "odd/good.c", "!/a.c", "(/a.c", "-x/a.c"):
+        place.put(name, text)
+    place.put("odd/large.c", " " * 1_000_001)
+    status, _, said = place.run("-f", "odd.tags", "odd")
+    lines = (place.folder / "odd.tags").read_text().splitlines()
+    check("odd names", status == 1 and len(said.splitlines()) == 3 and [line.split("\t")[1] for line in lines]
+          == ["odd/'$(x)*.c", "odd/good.c"], said)
+    for folder in "!", "(", "./-x":
+        status, _, said = place.run("-f", "-t", folder)
+        check(f"a folder named {folder}", status == 0 and (place.folder / "-t").read_text().startswith("g\t"), said)
+
+
+def stays(place, what, *words, **more):
+    """The old tags file stays, nothing else is left, and the status is 1."""
+    place.put("old", "old\n")
+    before = sorted(os.listdir(place.folder))
+    status, _, said = place.run("-f", "old", *words, **more)
+    rest = sorted(os.listdir(place.folder))
+    check(what, status == 1 and (place.folder / "old").read_text() == "old\n" and rest == before and said != "", (status, said))
+    return said
+
+
+def failures(place):
+    stays(place, "a folder that is not there", "many", "nowhere")
+    stays(place, "a program that says nothing", "many", CBROWSE="/bin/false")
+    place.put("bin/sort", '#!/bin/sh\ncase "$*" in *-m*) echo no >&2; exit 2;; esac\nPATH=${PATH#*:}; exec sort "$@"\n')
+    (place.folder / "bin" / "sort").chmod(0o755)
+    stays(place, "a sort that fails", "many", PATH=f"{place.folder}/bin:{os.environ['PATH']}")
+    small = place.folder / "small"
+    small.mkdir()
+    if os.geteuid() != 0:
+        print("       a full folder is not tried: that takes root")
+        return
+    for blocks in (*range(1, 40), *range(40, 240, 8)):
+        mounted = subprocess.run(["mount", "-t", "tmpfs", "-o", f"size={blocks * 4}k", "tmpfs", small], stderr=subprocess.DEVNULL)
+        if mounted.returncode:
+            print("       a full folder is not tried: nothing can be mounted here")
+            return
+        try:
+            place.put("old", "old\n")
+            status, _, said = place.run("-j", "1", "-f", "old", "many/d0", TMPDIR=small)
+            held = (place.folder / "old").read_text()
+            if status == 0:
+                check(f"a temporary folder of {blocks * 4} kB is enough", held == place.one(
+                    sorted(str(path.relative_to(place.folder)) for path in (place.folder / "many/d0").iterdir())).decode(), said)
+                return
+            if held != "old\n" or said == "":
+                check(f"a temporary folder of {blocks * 4} kB", False, (status, said, held[:80]))
+        finally:
+            subprocess.run(["umount", small], check=True)
+    check("a temporary folder is never enough", False)
+
+
+def main():
+    options = argparse.ArgumentParser(description=__doc__, formatter_class=argparse.RawDescriptionHelpFormatter)
+    options.add_argument("--cbrowse", default=os.environ.get("CBROWSE", TOP / "bin" / "cbrowse"), help="the program")
+    cbrowse = str(pathlib.Path(options.parse_args().cbrowse).resolve())
+    if not os.path.isfile(cbrowse):
+        sys.exit(f"{cbrowse}: there is no such program; make builds it")
+    with tempfile.TemporaryDirectory() as folder:
+        place = Place(folder, cbrowse)
+        whole(place)
+        odd_names(place)
+        failures(place)
+    print(f"{failed} failed")
+    sys.exit(failed > 0)
+
+
+if __name__ == "__main__":
+    main()
