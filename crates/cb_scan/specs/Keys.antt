@@ -1,6 +1,6 @@
 -- The items of a list by their keys.
-use Rattle.std.specs.Prelude.{ℕ, zero, suc, ◌+◌, ◌*◌, ◌^◌, ◌≤◌, List, [], ◌∷◌, length, map, filter, if◌then◌else◌}
-use Rattle.std.specs.List.{AllByRecursion, flat_map}
+use Rattle.std.specs.Prelude.{ℕ, zero, suc, ◌+◌, ◌*◌, ◌^◌, ◌%◌, ◌≤◌, Bool, ◌&&◌, nat_lt, List, [], ◌∷◌, length, map, filter, if◌then◌else◌}
+use Rattle.std.specs.List.{AllByRecursion, flat_map, list_all}
 use Rattle.std.specs.Cmp.Lexicographic.{slice_cmp}
 use Rattle.std.specs.Ordering.{nat_cmp, is_gt, is_lt}
 use Rattle.std.specs.Str.{bytes_eq}
@@ -11,9 +11,21 @@ leading zero key = 0
 leading (suc n) [] = 0
 leading (suc n) (b ∷ bs) = b * 256 ^ n + leading n bs
 
--- the first eight bytes of a key as a number
-abbrev pub key_prefix : List ℕ → ℕ
-key_prefix key = leading 8 key
+-- whether a key has at most seven bytes, and nothing but bytes
+abbrev pub is_short : List ℕ → Bool
+is_short key = nat_lt (length key) 8 && list_all (λ b. nat_lt b 256) key
+
+-- how many bytes a key has; 8 stands for all that are not short
+abbrev pub count_of : List ℕ → ℕ
+count_of key = if is_short key then length key else 8
+
+-- the first seven bytes of a key and their count as a number
+unfoldable pub key_prefix : List ℕ → ℕ
+key_prefix key = leading 7 key * 256 + count_of key
+
+-- whether a prefix is that of a short key, which it tells whole
+abbrev pub is_whole : ℕ → Bool
+is_whole prefix = nat_lt (prefix % 256) 8
 
 -- a key and the numbers of the items that have it
 pub record Posting : Type 0 where

@@ -60,7 +60,7 @@ impl KeyList {
         self.starts.as_slice()
     }
 
-    /// The first eight bytes of the key of each posting, as a big-endian number.
+    /// The prefix of the key of each posting.
     pub fn prefixes(&self) -> &[u64]
         ensures value { result.now ≡ self.now.prefixes }
         ensures few { length result.now < 2 ^ 32 }

@@ -1,5 +1,5 @@
 //! An item, its key and the key's prefix.
-ghost use Rattle.std.specs.Prelude.{◌≡◌, ◌<◌, get_or};
+ghost use Rattle.std.specs.Prelude.{◌≡◌, ◌<◌};
 ghost use Rattle.std.specs.List.{All};
 ghost use Rattle.cb_scan.specs.Keys.{key_prefix};
 
@@ -11,35 +11,4 @@ pub(crate) struct Place<'a> {
     pub item: u32,
     ghost prefixed: { prefix ≡ key_prefix key.now },
     ghost bytes: { All (λ b. b < 256) key.now },
-}
-
-/// The byte at a place, or 0 past the end.
-fn byte_at(key: &[u8], at: usize) -> u64
-    ensures value { result ≡ get_or key.now at 0 }
-    ensures small { result < 256 }
-{
-    if at < key.len() { key[at] as u64 } else { 0 }
-}
-
-/// The first eight bytes of a key as a big-endian number; where it has fewer, zeros follow.
-pub fn key_prefix(key: &[u8]) -> u64
-    ensures { result ≡ key_prefix key.now }
-{
-    byte_at(key, 0) * 0x0100_0000_0000_0000
-        + byte_at(key, 1) * 0x0001_0000_0000_0000
-        + byte_at(key, 2) * 0x0000_0100_0000_0000
-        + byte_at(key, 3) * 0x0000_0001_0000_0000
-        + byte_at(key, 4) * 0x0000_0000_0100_0000
-        + byte_at(key, 5) * 0x0000_0000_0001_0000
-        + byte_at(key, 6) * 0x0000_0000_0000_0100
-        + byte_at(key, 7)
-}
-
-/// Says that the elements of a slice of bytes are bytes. It does nothing.
-pub(crate) fn read_bytes(key: &[u8])
-    ensures { All (λ b. b < 256) key.now }
-{
-    for byte in key {
-        let _byte = *byte;
-    }
 }

@@ -9,7 +9,8 @@ ghost use Rattle.cb_scan.specs.Order.{in_order};
 ghost use Rattle.cb_scan.specs.steps.Keys.{numbered, sort_key};
 ghost use Rattle.cb_scan.specs.steps.Places.{keyed};
 
-use crate::keys::place::{Place, key_prefix, read_bytes};
+use crate::keys::place::Place;
+use crate::keys::prefix::{key_prefix, read_bytes};
 use crate::lex::piece::Span;
 use std::alloc::{AllocError, Global};
 use std::cmp::Ordering;

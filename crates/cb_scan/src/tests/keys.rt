@@ -1,6 +1,6 @@
 //! The facts of a text by their keys.
 use crate::keys::facts::FactKeys;
-use crate::keys::place::key_prefix;
+use crate::keys::prefix::{is_whole, key_prefix};
 use crate::meter::Meter;
 use crate::scanner::scan;
 use crate::source::Source;
@@ -21,10 +21,10 @@ fn facts_go_by_key(rt: HostRuntime) -> Result<(), Fail> {
     assert_eq!(rt;
         defs.prefixes(),
         [
-            0x5457_4943_4500_0000,
-            0x6164_6400_0000_0000,
-            0x6d61_696e_0000_0000,
-            0x776f_7264_0000_0000
+            0x5457_4943_4500_0005,
+            0x6164_6400_0000_0003,
+            0x6d61_696e_0000_0004,
+            0x776f_7264_0000_0004
         ]
         .as_slice()
     );
@@ -41,11 +41,20 @@ fn facts_go_by_key(rt: HostRuntime) -> Result<(), Fail> {
     Ok(())
 }
 
+/// Keys with their prefixes: seven bytes, and how many there are.
 #[test]
-fn prefixes_are_the_first_eight_bytes(rt: HostRuntime) -> Result<(), Fail> {
-    assert_eq!(rt; key_prefix(b""), 0);
-    assert_eq!(rt; key_prefix(b"a"), 0x6100_0000_0000_0000);
-    assert_eq!(rt; key_prefix(b"sqlite3_"), 0x7371_6c69_7465_335f);
-    assert_eq!(rt; key_prefix(b"sqlite3_open"), 0x7371_6c69_7465_335f);
+fn prefixes_are_the_first_seven_bytes_and_a_count(rt: HostRuntime) -> Result<(), Fail> {
+    let cases = [
+        (b"".as_slice(), 0, true),
+        (b"a", 0x6100_0000_0000_0001, true),
+        (b"sqlite3", 0x7371_6c69_7465_3307, true),
+        (b"sqlite3_", 0x7371_6c69_7465_3308, false),
+        (b"sqlite3_open", 0x7371_6c69_7465_3308, false),
+    ];
+    for (key, number, whole) in cases {
+        let prefix = key_prefix(key);
+        assert_eq!(rt; prefix, number);
+        assert_eq!(rt; is_whole(prefix), whole);
+    }
     Ok(())
 }
