@@ -1,14 +1,31 @@
 -- Entries in order.
-use Rattle.std.proofs.Common.{◌≡◌, ◌∙◌, sym, subst}
+use Rattle.std.proofs.Common.{◌≡◌, ◌∙◌, ℕ, true, false, List, [], sym, ap, subst}
 use Rattle.std.proofs.lemmas.Cmp.{nat_list_cmp_total, tied_itself}
+use Rattle.std.specs.Prelude.{cond}
 use Rattle.std.specs.Cmp.Lexicographic.{slice_cmp}
 use Rattle.std.specs.Ordering.{nat_cmp, ordering_then}
 use Rattle.std.specs.declared.cmp.Ordering.TheVariants.{Equal}
+use Rattle.cb_scan.specs.Keys.{is_whole}
 use Rattle.cb_scan.proofs.KeyOrder.{both_equal, ended, same_number}
 use Rattle.cb_index.specs.Archived.{Archived, name_of}
-use Rattle.cb_index.specs.Entries.{Keyer, bytes_key, file_key, key_of, numbers, sort_key}
+use Rattle.cb_index.specs.Entries.{Keyer, beyond, bytes_key, file_key, numbers, rest_of, sort_key}
 use Rattle.cb_index.specs.declared.entry.Entry.{Entry}
 
+-- ---- what keys have beyond one prefix
+module _ (p q : ℕ) (j k : List ℕ) (same : p ≡ q) where
+  pub rests_whole : is_whole p ≡ true → Equal ≡ slice_cmp nat_cmp (beyond p j) (beyond q k)
+  unfolding beyond
+  rests_whole whole =
+      let other : is_whole q ≡ true = sym (ap is_whole same) ∙ whole in
+      λ i. slice_cmp nat_cmp (cond (sym whole i) [] j) (cond (sym other i) [] k)
+
+  pub rests_more : is_whole p ≡ false → slice_cmp nat_cmp j k ≡ slice_cmp nat_cmp (beyond p j) (beyond q k)
+  unfolding beyond
+  rests_more more =
+      let other : is_whole q ≡ false = sym (ap is_whole same) ∙ more in
+      λ i. slice_cmp nat_cmp (cond (sym more i) [] j) (cond (sym other i) [] k)
+
+-- ---- the order of entries
 module _ (a : Archived) (e f : Entry) where
   pub file_cmp : ordering_then (slice_cmp nat_cmp (name_of a e.name) (name_of a f.name))
       (slice_cmp nat_cmp (numbers e) (numbers f))
@@ -16,10 +33,10 @@ module _ (a : Archived) (e f : Entry) where
   file_cmp = sym (ended (name_of a e.name) (name_of a f.name) (numbers e) (numbers f))
 
 module _ (keyer : Keyer) (a : Archived) (e f : Entry) where
-  pub bytes_cmp : ordering_then (slice_cmp nat_cmp (key_of keyer a e) (key_of keyer a f))
+  pub bytes_cmp : ordering_then (slice_cmp nat_cmp (rest_of keyer a e) (rest_of keyer a f))
       (slice_cmp nat_cmp (file_key a e) (file_key a f))
       ≡ slice_cmp nat_cmp (bytes_key keyer a e) (bytes_key keyer a f)
-  bytes_cmp = sym (ended (key_of keyer a e) (key_of keyer a f) (file_key a e) (file_key a f))
+  bytes_cmp = sym (ended (rest_of keyer a e) (rest_of keyer a f) (file_key a e) (file_key a f))
 
   -- no two entries are equal in order
   pub sort_exact : sort_key keyer a e ≡ sort_key keyer a f → e ≡ f

@@ -1,12 +1,9 @@
 -- The rows of the uses and calls that are shown.
 use Rattle.std.proofs.Common.{◌≡◌, ◌∙◌, ◌≤◌, ◌+◌, ◌-◌, ℕ, zero, suc, Bool, true, false, List, [], ◌∷◌, ◌++◌, Some, None, refl, sym, ap, length, map, take, drop, filter, get_or, min, arith, zero-add}
-use Rattle.std.proofs.lemmas.Bool.{false≢true}
-use Rattle.std.proofs.lemmas.Bool.Decides.{Decides-eqb}
 use Rattle.std.proofs.lemmas.List.{drop-drop, length-append, length-drop, map-append}
 use Rattle.std.proofs.lemmas.List.Concat.{flat_map-append}
 use Rattle.std.proofs.lemmas.List.Elements.{filter-append}
 use Rattle.std.proofs.lemmas.Option.{slice_get-get_or}
-use Rattle.std.proofs.lemmas.Slice.Eq.{bytes_eq-Decides}
 use Rattle.std.proofs.Math.Nat.{min-eq_left}
 use Rattle.std.proofs.Math.Seq.{drop-append_seam, take-append_seam}
 use Rattle.std.specs.Prelude.{cond, nat_eq, slice_get, slice_range, Option, ◌&&◌}
@@ -22,9 +19,10 @@ use Rattle.cb_scan.specs.Keys.{AllNumbered, HoldsOf, Posting, items_by_key, item
 use Rattle.cb_scan.specs.lex.Tokens.{bytes_of}
 use Rattle.cb_scan.proofs.FactsWithin.{facts_lie}
 use Rattle.cb_scan.proofs.KeyLaws.{holds_of_postings, items_with_are}
+use Rattle.cb_scan.proofs.KeyOrder.{whole_same}
 use Rattle.cb_index.specs.Archived.{Archived, name_of}
 use Rattle.cb_index.specs.Bytes.{bytes_at, cut}
-use Rattle.cb_index.specs.Entries.{Keyer, entries_from, has_key}
+use Rattle.cb_index.specs.Entries.{Keyer, beyond, entries_from, has_key}
 use Rattle.cb_index.specs.Files.{AreAscending, File, IsThere, files_of}
 use Rattle.cb_index.specs.Held.{Prefixer, all_entries, entries_of}
 use Rattle.cb_index.specs.Orders.{callee_key, callee_prefixes, callee_span, caller_key, caller_prefixes, caller_span, first_item, use_key, use_prefixes, use_span}
@@ -35,6 +33,7 @@ use Rattle.cb_index.specs.declared.entry.Entry.{Entry}
 use Rattle.cb_index.specs.declared.entry.Shown.{Shown}
 use Rattle.cb_index.specs.declared.rows.FactSort.{FactSort}
 use Rattle.cb_index.specs.declared.rows.FactSort.TheVariants.{Uses, Callees, Callers}
+use Rattle.cb_index.proofs.PrefixLemmas.{prefix_decides}
 use Rattle.cb_index.proofs.RestLemmas.{at_front, drop_next}
 use Rattle.cb_index.proofs.RowLemmas.{cut_is, kept_key}
 
@@ -62,16 +61,6 @@ part_is items front back at is some =
     (λ i. slice_range items (start i) (end i)) ∙ (λ i. take (wide i) (is i)) ∙ take-append_seam front back
 
 -- ---- the entries of postings
-and_same : (b c : Bool) → (c ≡ true → b ≡ true) → (b && c) ≡ c
-and_same true c imply = refl
-and_same false true imply = absurd (false≢true (imply refl))
-and_same false false imply = refl
-
-prefix_and_key : (key other : List ℕ) → (nat_eq (key_prefix key) (key_prefix other) && bytes_eq key other) ≡ bytes_eq key other
-prefix_and_key key other =
-    and_same (nat_eq (key_prefix key) (key_prefix other)) (bytes_eq key other)
-    (λ is. (Decides-eqb (key_prefix key) (key_prefix other)).1 (ap key_prefix ((bytes_eq-Decides key other).0 is)))
-
 module _ {Y : Type 0} (fact : ℕ → Y) (item_key : ℕ → List ℕ) (key items starts : List ℕ) where
   -- the facts of a posting and its key, by its number
   pub record Suffix (number at : ℕ) (ps : List Posting) : Type 0 where
@@ -111,7 +100,7 @@ module _ {Y : Type 0} (fact : ℕ → Y) (item_key : ℕ → List ℕ) (key item
       (gives : (prefix number : ℕ) → give (record { prefix = prefix; name = name; version = version; number = number })
       ≡ map fact (part items (get_or starts number 0) (get_or starts (suc number) 0)))
       (tests : (prefix number : ℕ) → has (record { prefix = prefix; name = name; version = version; number = number })
-      ≡ (nat_eq (key_prefix key) prefix && bytes_eq key (item_key (get_or items (get_or starts number 0) 0)))) where
+      ≡ (nat_eq (key_prefix key) prefix && bytes_eq (beyond (key_prefix key) key) (beyond prefix (item_key (get_or items (get_or starts number 0) 0))))) where
     kept_postings : (b : Bool) (e : Entry) (es : List Entry) (p : Posting) (ps : List Posting) → give e ≡ map fact p.items
         → flat_map give es ≡ map fact (items_of ps)
         → flat_map give (cond b (e ∷ es) es) ≡ map fact (items_of (cond b (p ∷ ps) ps))
@@ -128,8 +117,8 @@ module _ {Y : Type 0} (fact : ℕ → Y) (item_key : ℕ → List ℕ) (key item
         let rest = filter has (entries_from (suc number) name version (map (λ (q : Posting). key_prefix q.key) ps)) in
         let kept : has e ≡ bytes_eq key p.key =
         tests (key_prefix p.key) number
-        ∙ ap (λ k. nat_eq (key_prefix key) (key_prefix p.key) && bytes_eq key k) (key_is number at p ps s holds.0)
-        ∙ prefix_and_key key p.key in
+        ∙ ap (λ k. nat_eq (key_prefix key) (key_prefix p.key) && bytes_eq (beyond (key_prefix key) key) (beyond (key_prefix p.key) k)) (key_is number at p ps s holds.0)
+        ∙ prefix_decides (λ k. k) whole_same key p.key (key_prefix p.key) refl in
         ap (λ b. flat_map give (cond b (e ∷ rest) rest)) kept
         ∙ kept_postings (bytes_eq key p.key) e rest p (filter (λ (q : Posting). bytes_eq key q.key) ps)
         (gives (key_prefix p.key) number ∙ ap (map fact) (items_are number at p ps s holds.0))
@@ -176,7 +165,7 @@ module _ {X : Type 0} (sort : FactSort) (keyer : Keyer) (a : Archived) (s : Show
       postings_from fact item_key key (items_by_key keys).items (items_by_key keys).starts
       (facts_at sort a) (has_key keyer a (key_prefix key) key) s.name s.version
       (λ prefix number. ap (facts_in_text sort (name_of a s.name) number) there ∙ facts_are number)
-      (λ prefix number. ap (λ k. nat_eq (key_prefix key) prefix && bytes_eq key k)
+      (λ prefix number. ap (λ k. nat_eq (key_prefix key) prefix && bytes_eq (beyond (key_prefix key) key) (beyond prefix k))
       (ap (λ t. keyer t (name_of a s.name) number) there ∙ keys_are number))
       0 0 (postings keys) suffix (holds_of_postings (λ i k. item_key i ≡ k) keys numbered)
       ∙ ap (map fact) (items_with_are key keys)

@@ -18,7 +18,7 @@ use Rattle.cb_scan.proofs.FunctionsRise.{all_implied}
 use Rattle.cb_scan.proofs.OrderLemmas.{in_order_sum}
 use Rattle.cb_scan.proofs.WithinLemmas.{all-append}
 use Rattle.cb_index.specs.Archived.{Archived, name_of}
-use Rattle.cb_index.specs.Entries.{Keyer, entries_from, file_key, numbers, sort_key}
+use Rattle.cb_index.specs.Entries.{Keyer, beyond, entries_from, file_key, numbers, sort_key}
 use Rattle.cb_index.specs.Files.{AreAscending, shown_name, shown_under, total}
 use Rattle.cb_index.specs.Held.{Prefixer, all_entries, entries_of, prefixes_of}
 use Rattle.cb_index.specs.Shelved.{IsIndexOf}
@@ -210,7 +210,7 @@ module _ (keyer : Keyer) (prefixer : Prefixer) (a b : Archived) where
       let text : slice_get a.texts e.version ≡ slice_get b.texts e.version =
       ap (slice_get a.texts) of.1 ∙ sym same.0 ∙ sym (ap (slice_get b.texts) of.1) in
       let name : name_of a e.name ≡ name_of b e.name = ap (name_of a) of.0 ∙ sym same.1 ∙ sym (ap (name_of b) of.0) in
-      λ i. e.prefix ∷ (map suc (keyer (text i) (name i) e.number) ++ (0 ∷ (map suc (name i) ++ (0 ∷ numbers e))))
+      λ i. e.prefix ∷ (map suc (beyond e.prefix (keyer (text i) (name i) e.number)) ++ (0 ∷ (map suc (name i) ++ (0 ∷ numbers e))))
 
   same_keys : (shown : List Shown) → AllByRecursion (IsSame a b) shown
       → AllByRecursion (λ e. sort_key keyer a e ≡ sort_key keyer b e) (all_entries prefixer a shown)

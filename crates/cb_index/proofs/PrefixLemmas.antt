@@ -1,9 +1,10 @@
 -- The prefixes of definitions, and the keys that they are made of.
-use Rattle.std.proofs.Common.{◌≡◌, ◌∙◌, ◌-◌, ◌<◌, ℕ, zero, suc, Bool, true, false, List, [], ◌∷◌, ◌++◌, Some, None, refl, sym, ap, subst, map, drop, length, min, arith}
+use Rattle.std.proofs.Common.{◌≡◌, ◌∙◌, ◌-◌, ◌<◌, ℕ, zero, suc, Bool, true, false, List, [], ◌∷◌, ◌++◌, Some, None, refl, sym, ap, subst, map, drop, length, min, arith, inl, inr, ⊎_elim}
 use Rattle.std.proofs.lemmas.Bool.{true≢false}
 use Rattle.std.proofs.lemmas.Bool.Decides.{Decides-eqb}
+use Rattle.std.proofs.lemmas.Cmp.{nat_list_cmp_total, tied_itself}
 use Rattle.std.proofs.lemmas.Slice.Eq.{bytes_eq-Decides}
-use Rattle.std.specs.Prelude.{cond, nat_eq, slice_get, codes, Option, ◌&&◌}
+use Rattle.std.specs.Prelude.{cond, nat_eq, slice_get, codes, Option, ◌&&◌, ◌⊎◌}
 use Rattle.std.specs.Cmp.Lexicographic.{slice_cmp}
 use Rattle.std.specs.List.{AllByRecursion}
 use Rattle.std.specs.Option.{option_map}
@@ -14,17 +15,18 @@ use Rattle.std.specs.declared.cmp.Ordering.TheVariants.{Less, Equal, Greater}
 use Rattle.cb_scan.specs.declared.facts.Def.{Def}
 use Rattle.cb_scan.specs.declared.lex.piece.Span.{Span}
 use Rattle.cb_scan.specs.Definitions.{facts_of}
-use Rattle.cb_scan.specs.Keys.{key_prefix}
-use Rattle.cb_scan.proofs.KeyOrder.{prefix_first, same_number, then_assoc}
+use Rattle.cb_scan.specs.Keys.{is_whole, key_prefix}
+use Rattle.cb_scan.proofs.KeyOrder.{prefix_first, same_number, then_assoc, whole_same}
 use Rattle.cb_scan.proofs.WithinLemmas.{all-append, all-drop, all-take}
 use Rattle.cb_tags.specs.TagNames.{base_name, tag_name, without_c}
 use Rattle.cb_index.specs.Archived.{Archived, AreBytes, name_of}
 use Rattle.cb_index.specs.Bytes.{bytes_at, cut}
-use Rattle.cb_index.specs.Entries.{Keyer, entries_from, has_key, key_of}
+use Rattle.cb_index.specs.Entries.{Keyer, beyond, entries_from, has_key, key_of}
 use Rattle.cb_index.specs.Held.{Prefixer, all_entries, entries_of}
 use Rattle.cb_index.specs.Orders.{def_key, def_prefix, def_prefixes, tag_front, tag_key, tag_prefix, tag_prefixes}
 use Rattle.cb_index.specs.declared.entry.Entry.{Entry}
 use Rattle.cb_index.specs.declared.entry.Shown.{Shown}
+use Rattle.cb_index.proofs.EntryLemmas.{rests_more, rests_whole}
 use Rattle.cb_index.proofs.RestLemmas.{at_front, drop_next}
 
 -- ---- bytes of a text
@@ -64,7 +66,7 @@ decided Greater p q untied = refl
 pub whole_first : GoesFirst (λ key. key)
 whole_first a b = then_same (slice_cmp nat_cmp a b)
 
--- the key, or its first byte where that is `M`
+-- the key, or one text where it begins with `M`
 other_byte : (x y : ℕ) → nat_eq x 77 ≡ true → nat_eq y 77 ≡ false → ¬ (nat_cmp x y ≡ Equal)
 other_byte x y is isnt tied =
     true≢false (sym is ∙ ap (λ n. nat_eq n 77) (same_number x y tied) ∙ isnt)
@@ -73,26 +75,26 @@ other_byte_too : (x y : ℕ) → nat_eq x 77 ≡ false → nat_eq y 77 ≡ true 
 other_byte_too x y isnt is tied =
     true≢false (sym is ∙ sym (ap (λ n. nat_eq n 77) (same_number x y tied)) ∙ isnt)
 
-empty_first : (b : Bool) (y : ℕ) (ys : List ℕ) → slice_cmp nat_cmp [] (cond b (codes "M") (y ∷ ys)) ≡ Less
+empty_first : (b : Bool) (y : ℕ) (ys : List ℕ) → slice_cmp nat_cmp [] (cond b (codes "MMMMMMMM") (y ∷ ys)) ≡ Less
 empty_first true y ys = refl
 empty_first false y ys = refl
 
-empty_last : (b : Bool) (x : ℕ) (xs : List ℕ) → slice_cmp nat_cmp (cond b (codes "M") (x ∷ xs)) [] ≡ Greater
+empty_last : (b : Bool) (x : ℕ) (xs : List ℕ) → slice_cmp nat_cmp (cond b (codes "MMMMMMMM") (x ∷ xs)) [] ≡ Greater
 empty_last true x xs = refl
 empty_last false x xs = refl
 
 first_bytes : (x y : ℕ) (xs ys : List ℕ) (b c : Bool) → nat_eq x 77 ≡ b → nat_eq y 77 ≡ c
-    → ordering_then (slice_cmp nat_cmp (cond b (codes "M") (x ∷ xs)) (cond c (codes "M") (y ∷ ys)))
+    → ordering_then (slice_cmp nat_cmp (cond b (codes "MMMMMMMM") (x ∷ xs)) (cond c (codes "MMMMMMMM") (y ∷ ys)))
     (slice_cmp nat_cmp (x ∷ xs) (y ∷ ys)) ≡ slice_cmp nat_cmp (x ∷ xs) (y ∷ ys)
 first_bytes x y xs ys true true is_x is_y = refl
 first_bytes x y xs ys true false is_x is_y =
-    subst (λ n. ordering_then (slice_cmp nat_cmp (n ∷ []) (y ∷ ys)) (slice_cmp nat_cmp (x ∷ xs) (y ∷ ys)) ≡ slice_cmp nat_cmp (x ∷ xs) (y ∷ ys))
+    subst (λ n. ordering_then (slice_cmp nat_cmp (n ∷ codes "MMMMMMM") (y ∷ ys)) (slice_cmp nat_cmp (x ∷ xs) (y ∷ ys)) ≡ slice_cmp nat_cmp (x ∷ xs) (y ∷ ys))
     ((Decides-eqb x 77).0 is_x)
-    (decided (nat_cmp x y) (slice_cmp nat_cmp [] ys) (slice_cmp nat_cmp xs ys) (other_byte x y is_x is_y))
+    (decided (nat_cmp x y) (slice_cmp nat_cmp (codes "MMMMMMM") ys) (slice_cmp nat_cmp xs ys) (other_byte x y is_x is_y))
 first_bytes x y xs ys false true is_x is_y =
-    subst (λ n. ordering_then (slice_cmp nat_cmp (x ∷ xs) (n ∷ [])) (slice_cmp nat_cmp (x ∷ xs) (y ∷ ys)) ≡ slice_cmp nat_cmp (x ∷ xs) (y ∷ ys))
+    subst (λ n. ordering_then (slice_cmp nat_cmp (x ∷ xs) (n ∷ codes "MMMMMMM")) (slice_cmp nat_cmp (x ∷ xs) (y ∷ ys)) ≡ slice_cmp nat_cmp (x ∷ xs) (y ∷ ys))
     ((Decides-eqb y 77).0 is_y)
-    (decided (nat_cmp x y) (slice_cmp nat_cmp xs []) (slice_cmp nat_cmp xs ys) (other_byte_too x y is_x is_y))
+    (decided (nat_cmp x y) (slice_cmp nat_cmp xs (codes "MMMMMMM")) (slice_cmp nat_cmp xs ys) (other_byte_too x y is_x is_y))
 first_bytes x y xs ys false false is_x is_y = then_same (slice_cmp nat_cmp (x ∷ xs) (y ∷ ys))
 
 pub tag_front_first : GoesFirst tag_front
@@ -113,6 +115,77 @@ prefixes_first front first a b in_a in_b =
     ∙ ap (λ o. ordering_then o (slice_cmp nat_cmp a b)) (prefix_first (front a) (front b) in_a in_b)
     ∙ first a b
 
+-- ---- what tells its key whole
+abbrev pub TellsWhole : (List ℕ → List ℕ) → Type 0
+TellsWhole front = (a b : List ℕ) → key_prefix (front a) ≡ key_prefix (front b) → is_whole (key_prefix (front a)) ≡ true → a ≡ b
+
+front_is : (a : List ℕ) → (tag_front a ≡ a) ⊎ (tag_front a ≡ codes "MMMMMMMM")
+unfolding tag_front
+front_is [] = inl refl
+front_is (b ∷ bs) =
+    elim (nat_eq b 77) as (λ c. (cond c (codes "MMMMMMMM") (b ∷ bs) ≡ b ∷ bs) ⊎ (cond c (codes "MMMMMMMM") (b ∷ bs) ≡ codes "MMMMMMMM"))
+    [ true ↦ inr refl | false ↦ inl refl ]
+
+not_whole : is_whole (key_prefix (codes "MMMMMMMM")) ≡ false
+unfolding key_prefix
+not_whole = refl
+
+pub tag_front_tells : TellsWhole tag_front
+tag_front_tells a b same whole =
+    let fronts : tag_front a ≡ tag_front b = whole_same (tag_front a) (tag_front b) same whole in
+    ⊎_elim
+    (λ in_a. ⊎_elim (λ in_b. sym in_a ∙ fronts ∙ in_b)
+    (λ in_b. absurd (true≢false (sym whole ∙ ap (λ k. is_whole (key_prefix k)) (fronts ∙ in_b) ∙ not_whole))) (front_is b))
+    (λ in_a. absurd (true≢false (sym whole ∙ ap (λ k. is_whole (key_prefix k)) in_a ∙ not_whole)))
+    (front_is a)
+
+module _ (front : List ℕ → List ℕ) (tells : TellsWhole front) where
+  -- keys with equal prefixes are equal where what they have beyond them is
+  beyond_decides : (key other : List ℕ) (q p : ℕ) → q ≡ key_prefix (front key) → p ≡ key_prefix (front other) → q ≡ p
+      → (b : Bool) → is_whole q ≡ b → bytes_eq (beyond q key) (beyond p other) ≡ bytes_eq key other
+  unfolding beyond
+  beyond_decides key other q p in_key in_other same true whole =
+      let also : is_whole p ≡ true = sym (ap is_whole same) ∙ whole in
+      let keys : key ≡ other = tells key other (sym in_key ∙ same ∙ in_other) (sym (ap is_whole in_key) ∙ whole) in
+      (λ i. bytes_eq (cond (whole i) [] key) (cond (also i) [] other)) ∙ sym ((bytes_eq-Decides key other).1 keys)
+  beyond_decides key other q p in_key in_other same false more =
+      let also : is_whole p ≡ false = sym (ap is_whole same) ∙ more in
+      λ i. bytes_eq (cond (more i) [] key) (cond (also i) [] other)
+
+  -- keys are equal where their prefixes and what they have beyond them are
+  pub prefix_decides : (key other : List ℕ) (p : ℕ) → p ≡ key_prefix (front other)
+      → (nat_eq (key_prefix (front key)) p && bytes_eq (beyond (key_prefix (front key)) key) (beyond p other)) ≡ bytes_eq key other
+  prefix_decides key other p told = by_prefix (key_prefix (front key)) refl (nat_eq (key_prefix (front key)) p) refl
+    where
+      by_key : (q : ℕ) → q ≡ key_prefix (front key) → nat_eq q p ≡ false → (b : Bool) → bytes_eq key other ≡ b → false ≡ b
+      by_key q in_key apart true is =
+          let same : q ≡ p = in_key ∙ ap (λ k. key_prefix (front k)) ((bytes_eq-Decides key other).0 is) ∙ sym told in
+          absurd (true≢false (sym ((Decides-eqb q p).1 same) ∙ apart))
+      by_key q in_key apart false is = refl
+
+      by_prefix : (q : ℕ) → q ≡ key_prefix (front key) → (b : Bool) → nat_eq q p ≡ b
+          → (b && bytes_eq (beyond q key) (beyond p other)) ≡ bytes_eq key other
+      by_prefix q in_key true is = beyond_decides key other q p in_key told ((Decides-eqb q p).0 is) (is_whole q) refl
+      by_prefix q in_key false apart = by_key q in_key apart (bytes_eq key other) refl
+
+  -- and they are in the same order
+  pub rests_in_order : (p q : ℕ) (j k : List ℕ) → p ≡ key_prefix (front j) → q ≡ key_prefix (front k)
+      → ordering_then (nat_cmp p q) (slice_cmp nat_cmp (beyond p j) (beyond q k)) ≡ ordering_then (nat_cmp p q) (slice_cmp nat_cmp j k)
+  rests_in_order p q j k in_j in_k = by_order (nat_cmp p q) refl
+    where
+      by_whole : p ≡ q → (b : Bool) → is_whole p ≡ b → slice_cmp nat_cmp (beyond p j) (beyond q k) ≡ slice_cmp nat_cmp j k
+      by_whole same true whole =
+          let keys : j ≡ k = tells j k (sym in_j ∙ same ∙ in_k) (sym (ap is_whole in_j) ∙ whole) in
+          sym (rests_whole p q j k same whole)
+          ∙ sym (subst (λ x. slice_cmp nat_cmp j x ≡ Equal) keys (tied_itself nat_list_cmp_total j))
+      by_whole same false more = sym (rests_more p q j k same more)
+
+      by_order : (o : Ordering) → nat_cmp p q ≡ o
+          → ordering_then o (slice_cmp nat_cmp (beyond p j) (beyond q k)) ≡ ordering_then o (slice_cmp nat_cmp j k)
+      by_order Less is = refl
+      by_order Greater is = refl
+      by_order Equal is = by_whole (same_number p q is) (is_whole p) refl
+
 -- ---- the front of a tag name is that of its definition's name in any file
 pub any_file : (name f g : List ℕ) → tag_front (tag_name name f) ≡ tag_front (tag_name name g)
 unfolding tag_front tag_name
@@ -123,7 +196,7 @@ any_file name f g = by_name (bytes_eq name (codes "main"))
     by_name true = refl
     by_name false = refl
 
-pub front_of_main : (name : List ℕ) → bytes_eq name (codes "main") ≡ true → tag_front (tag_name name []) ≡ codes "M"
+pub front_of_main : (name : List ℕ) → bytes_eq name (codes "main") ≡ true → tag_front (tag_name name []) ≡ codes "MMMMMMMM"
 unfolding tag_front tag_name
 front_of_main name is = ap (λ b. tag_front (cond b (codes "M" ++ without_c (base_name [])) name)) is
 
@@ -131,36 +204,35 @@ pub front_of_other : (name : List ℕ) → bytes_eq name (codes "main") ≡ fals
 unfolding tag_name
 front_of_other name isnt = ap (λ b. tag_front (cond b (codes "M" ++ without_c (base_name [])) name)) isnt
 
+eight_bytes : AreBytes (codes "MMMMMMMM")
+eight_bytes = let small : 77 < 256 = omega arith in
+    (small, (small, (small, (small, (small, (small, (small, (small, tt))))))))
+
 front_bytes : (name : List ℕ) → AreBytes name → AreBytes (tag_front name)
 unfolding tag_front
 front_bytes [] bytes = tt
 front_bytes (b ∷ bs) bytes =
-    elim (nat_eq b 77) as (λ c. AreBytes (cond c (codes "M") (b ∷ bs))) [ true ↦ (omega arith, tt) | false ↦ bytes ]
+    elim (nat_eq b 77) as (λ c. AreBytes (cond c (codes "MMMMMMMM") (b ∷ bs))) [ true ↦ eight_bytes | false ↦ bytes ]
 
 tag_bytes : (name file : List ℕ) → AreBytes name → AreBytes (tag_front (tag_name name file))
 unfolding tag_front tag_name
 tag_bytes name file bytes =
     elim (bytes_eq name (codes "main")) as (λ c. AreBytes (tag_front (cond c (codes "M" ++ without_c (base_name file)) name)))
-    [ true ↦ (omega arith, tt) | false ↦ front_bytes name bytes ]
+    [ true ↦ eight_bytes | false ↦ front_bytes name bytes ]
 
 -- ---- entries that have the prefixes of their keys
 abbrev pub HasPrefix : (List ℕ → List ℕ) → Keyer → Archived → Entry → Type 0
 HasPrefix front keyer a e = (e.prefix ≡ key_prefix (front (key_of keyer a e))) × AreBytes (front (key_of keyer a e))
 
 -- such an entry has a key where the keys are equal
-pub key_decides : (front : List ℕ → List ℕ) (keyer : Keyer) (a : Archived) (key : List ℕ) (e : Entry)
+pub key_decides : (front : List ℕ → List ℕ) → TellsWhole front → (keyer : Keyer) (a : Archived) (key : List ℕ) (e : Entry)
     → e.prefix ≡ key_prefix (front (key_of keyer a e))
     → has_key keyer a (key_prefix (front key)) key e ≡ bytes_eq key (key_of keyer a e)
-key_decides front keyer a key e told = by_key (bytes_eq key (key_of keyer a e)) refl
-  where
-    by_key : (b : Bool) → bytes_eq key (key_of keyer a e) ≡ b → (nat_eq (key_prefix (front key)) e.prefix && b) ≡ b
-    by_key true is =
-        let same : key ≡ key_of keyer a e = (bytes_eq-Decides key (key_of keyer a e)).0 is in
-        ap (λ b. b && true) ((Decides-eqb (key_prefix (front key)) e.prefix).1 (ap (λ k. key_prefix (front k)) same ∙ sym told))
-    by_key false is = elim (nat_eq (key_prefix (front key)) e.prefix) as (λ b. (b && false) ≡ false) [ true ↦ refl | false ↦ refl ]
+key_decides front tells keyer a key e told = prefix_decides front tells key (key_of keyer a e) e.prefix told
 
 -- ---- an order in which an entry is a definition
 pub record IsTold (front : List ℕ → List ℕ) (keyer : Keyer) (prefixed : List ℕ → Def → ℕ) : Type 0 where
+  pub whole : TellsWhole front
   pub prefix : (text file : List ℕ) (n : ℕ) (d : Def) → slice_get (facts_of text).defs n ≡ Some d
       → prefixed text d ≡ key_prefix (front (keyer (Some text) file n))
   pub bytes : (text file : List ℕ) (n : ℕ) → AreBytes text → AreBytes (front (keyer (Some text) file n))
@@ -172,6 +244,7 @@ name_is text file n d is = sym (ap (λ o. bytes_at text (option_map (λ (x : Def
 pub names_told : IsTold (λ key. key) def_key def_prefix
 unfolding def_prefix
 names_told = record {
+  whole = whole_same;
   prefix = λ text file n d is. ap key_prefix (name_is text file n d is);
   bytes = λ text file n bytes. span_bytes text (option_map (λ (x : Def). x.name) (slice_get (facts_of text).defs n)) bytes;
 }
@@ -179,6 +252,7 @@ names_told = record {
 pub tags_told : IsTold tag_front tag_key tag_prefix
 unfolding tag_prefix
 tags_told = record {
+  whole = tag_front_tells;
   prefix = λ text file n d is. ap (λ name. key_prefix (tag_front (tag_name name []))) (name_is text file n d is)
       ∙ ap key_prefix (any_file (def_key (Some text) file n) [] file);
   bytes = λ text file n bytes. tag_bytes (def_key (Some text) file n) file

@@ -17,7 +17,7 @@ use Rattle.cb_scan.specs.Order.{goes_first, in_order}
 use Rattle.cb_scan.proofs.KeyOrder.{then_assoc}
 use Rattle.cb_scan.proofs.OrderLemmas.{Sorted, first_trans, goes_itself, in_order_sorted}
 use Rattle.cb_index.specs.Archived.{Archived}
-use Rattle.cb_index.specs.Entries.{Keyer, file_key, has_key, key_cmp, key_of, sort_key}
+use Rattle.cb_index.specs.Entries.{Keyer, beyond, file_key, has_key, key_cmp, rest_of, sort_key}
 use Rattle.cb_index.specs.steps.Bounds.{is_ahead}
 use Rattle.cb_index.specs.declared.entry.Entry.{Entry}
 use Rattle.cb_index.specs.declared.place.Bound.{Bound}
@@ -58,14 +58,14 @@ turned_lt x y = ap is_lt (heads_total.antisymm x y) ∙ reversed (heads y x)
 module _ (keyer : Keyer) (a : Archived) where
   -- what goes first has no greater prefix and key
   head_first : (e f : Entry) → goes_first (sort_key keyer a) e f ≡ true
-      → is_gt (heads (e.prefix, (key_of keyer a e)) (f.prefix, (key_of keyer a f))) ≡ false
+      → is_gt (heads (e.prefix, (rest_of keyer a e)) (f.prefix, (rest_of keyer a f))) ≡ false
   unfolding sort_key
   head_first e f is =
       let split : slice_cmp nat_cmp (sort_key keyer a e) (sort_key keyer a f)
-      ≡ ordering_then (heads (e.prefix, (key_of keyer a e)) (f.prefix, (key_of keyer a f)))
+      ≡ ordering_then (heads (e.prefix, (rest_of keyer a e)) (f.prefix, (rest_of keyer a f)))
       (slice_cmp nat_cmp (file_key a e) (file_key a f)) =
       ap (ordering_then (nat_cmp e.prefix f.prefix)) (sym (bytes_cmp keyer a e f))
-      ∙ sym (then_assoc (nat_cmp e.prefix f.prefix) (slice_cmp nat_cmp (key_of keyer a e) (key_of keyer a f))
+      ∙ sym (then_assoc (nat_cmp e.prefix f.prefix) (slice_cmp nat_cmp (rest_of keyer a e) (rest_of keyer a f))
       (slice_cmp nat_cmp (file_key a e) (file_key a f))) in
       first_not_gt _ _ (ap (λ o. not (is_gt o)) (sym split) ∙ is)
 
@@ -95,11 +95,11 @@ module _ (keyer : Keyer) (a : Archived) where
         by_test (is_gt (key_cmp keyer a prefix key e)) refl first
       where
         by_test : (b : Bool) → is_gt (key_cmp keyer a prefix key (get_or es i d)) ≡ b
-            → is_gt (heads ((get_or es i d).prefix, (key_of keyer a (get_or es i d))) ((get_or es j d).prefix, (key_of keyer a (get_or es j d)))) ≡ false
+            → is_gt (heads ((get_or es i d).prefix, (rest_of keyer a (get_or es i d))) ((get_or es j d).prefix, (rest_of keyer a (get_or es j d)))) ≡ false
             → is_gt (key_cmp keyer a prefix key (get_or es i d)) ≡ true
         by_test true e first = e
-        by_test false e first = absurd (true≢false (sym is ∙ upto heads_total (prefix, key)
-            ((get_or es i d).prefix, (key_of keyer a (get_or es i d))) ((get_or es j d).prefix, (key_of keyer a (get_or es j d))) e first))
+        by_test false e first = absurd (true≢false (sym is ∙ upto heads_total (prefix, beyond prefix key)
+            ((get_or es i d).prefix, (rest_of keyer a (get_or es i d))) ((get_or es j d).prefix, (rest_of keyer a (get_or es j d))) e first))
 
     -- where an entry is not above the key, those before it are not
     pub upto_parted : (es : List Entry) → Sorted (sort_key keyer a) es
@@ -108,10 +108,10 @@ module _ (keyer : Keyer) (a : Archived) where
         let e = get_or es i d in
         let f = get_or es j d in
         let first = head_first e f (sorted_far es s i j d upward below) in
-        let reaches : is_gt (heads (f.prefix, (key_of keyer a f)) (prefix, key)) ≡ false =
-        sym (turned_lt (prefix, key) (f.prefix, (key_of keyer a f))) ∙ not_true _ is in
-        not_false _ (turned_lt (prefix, key) (e.prefix, (key_of keyer a e))
-        ∙ upto heads_total (e.prefix, (key_of keyer a e)) (f.prefix, (key_of keyer a f)) (prefix, key) first reaches)
+        let reaches : is_gt (heads (f.prefix, (rest_of keyer a f)) (prefix, beyond prefix key)) ≡ false =
+        sym (turned_lt (prefix, beyond prefix key) (f.prefix, (rest_of keyer a f))) ∙ not_true _ is in
+        not_false _ (turned_lt (prefix, beyond prefix key) (e.prefix, (rest_of keyer a e))
+        ∙ upto heads_total (e.prefix, (rest_of keyer a e)) (f.prefix, (rest_of keyer a f)) (prefix, beyond prefix key) first reaches)
 
     -- the three tests
     both_same : (o p : Ordering) → is_eq (ordering_then o p) ≡ (is_eq o && is_eq p)
@@ -124,8 +124,8 @@ module _ (keyer : Keyer) (a : Archived) where
 
     tested : (e : Entry) → has_key keyer a prefix key e ≡ is_eq (key_cmp keyer a prefix key e)
     tested e =
-        (λ i. sym (nat_same prefix e.prefix) i && sym (is_eq-slice_cmp key (key_of keyer a e)) i)
-        ∙ sym (both_same (nat_cmp prefix e.prefix) (slice_cmp nat_cmp key (key_of keyer a e)))
+        (λ i. sym (nat_same prefix e.prefix) i && sym (is_eq-slice_cmp (beyond prefix key) (rest_of keyer a e)) i)
+        ∙ sym (both_same (nat_cmp prefix e.prefix) (slice_cmp nat_cmp (beyond prefix key) (rest_of keyer a e)))
 
     pub has_not_above : (e : Entry) → is_gt (key_cmp keyer a prefix key e) ≡ true → has_key keyer a prefix key e ≡ false
     has_not_above e is = tested e ∙ no_equal (key_cmp keyer a prefix key e) is

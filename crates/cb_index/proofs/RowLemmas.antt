@@ -23,13 +23,13 @@ use Rattle.cb_scan.specs.Keys.{key_prefix}
 use Rattle.cb_scan.specs.lex.Tokens.{bytes_of}
 use Rattle.cb_scan.specs.Order.{AreOrdered, goes_first, in_order}
 use Rattle.cb_scan.proofs.FactsWithin.{facts_lie}
-use Rattle.cb_scan.proofs.KeyOrder.{then_assoc}
+use Rattle.cb_scan.proofs.KeyOrder.{then_assoc, whole_same}
 use Rattle.cb_scan.proofs.OrderLemmas.{in_order_sum}
 use Rattle.cb_tags.specs.TagLines.{Tag}
 use Rattle.cb_tags.specs.TagNames.{tag_name}
 use Rattle.cb_index.specs.Archived.{Archived, AreBytes, name_of}
 use Rattle.cb_index.specs.Bytes.{bytes_at, cut}
-use Rattle.cb_index.specs.Entries.{Keyer, entries_from, file_key, has_key, key_of, sort_key}
+use Rattle.cb_index.specs.Entries.{Keyer, beyond, entries_from, file_key, has_key, key_of, rest_of, sort_key}
 use Rattle.cb_index.specs.Files.{AreAscending, File, IsThere, file_of, files_of}
 use Rattle.cb_index.specs.Held.{Prefixer, all_entries, entries_of}
 use Rattle.cb_index.specs.Orders.{def_key, def_prefix, def_prefixes, tag_front, tag_key, tag_prefix, tag_prefixes}
@@ -42,7 +42,7 @@ use Rattle.cb_index.specs.declared.entry.Shown.{Shown}
 use Rattle.cb_index.proofs.EntryLemmas.{bytes_cmp, sort_exact}
 use Rattle.cb_index.proofs.InOrderLemmas.{filter_kept, in_order_agree, map_in_order, same_order}
 use Rattle.cb_index.proofs.IndexLemmas.{ComesFirst, all_ordered}
-use Rattle.cb_index.proofs.PrefixLemmas.{GoesFirst, HasPrefix, defs_told, entry_told, key_decides, names_told, prefixes_first, tag_front_first, tag_names_told, whole_first}
+use Rattle.cb_index.proofs.PrefixLemmas.{GoesFirst, HasPrefix, TellsWhole, defs_told, entry_told, key_decides, names_told, prefixes_first, rests_in_order, tag_front_first, tag_front_tells, tag_names_told, whole_first}
 use Rattle.cb_index.proofs.RestLemmas.{at_front, drop_next}
 
 -- ---- an index is in order
@@ -81,7 +81,7 @@ split_and false c is = absurd (false≢true is)
 module _ (keyer : Keyer) (a : Archived) where
   ordered_cmp : (e f : Entry) → slice_cmp nat_cmp (sort_key keyer a e) (sort_key keyer a f)
       ≡ ordering_then (nat_cmp e.prefix f.prefix)
-      (ordering_then (slice_cmp nat_cmp (key_of keyer a e) (key_of keyer a f)) (slice_cmp nat_cmp (file_key a e) (file_key a f)))
+      (ordering_then (slice_cmp nat_cmp (rest_of keyer a e) (rest_of keyer a f)) (slice_cmp nat_cmp (file_key a e) (file_key a f)))
   unfolding sort_key
   ordered_cmp e f = ap (ordering_then (nat_cmp e.prefix f.prefix)) (sym (bytes_cmp keyer a e f))
 
@@ -89,26 +89,30 @@ module _ (keyer : Keyer) (a : Archived) where
   one_key : (prefix : ℕ) (key : List ℕ) (e f : Entry) → ComesFirst a e f → has_key keyer a prefix key e ≡ true
       → has_key keyer a prefix key f ≡ true → goes_first (sort_key keyer a) e f ≡ true
   one_key prefix key e f first has_e has_f =
-      let in_e = split_and (nat_eq prefix e.prefix) (bytes_eq key (key_of keyer a e)) has_e in
-      let in_f = split_and (nat_eq prefix f.prefix) (bytes_eq key (key_of keyer a f)) has_f in
+      let in_e = split_and (nat_eq prefix e.prefix) (bytes_eq (beyond prefix key) (rest_of keyer a e)) has_e in
+      let in_f = split_and (nat_eq prefix f.prefix) (bytes_eq (beyond prefix key) (rest_of keyer a f)) has_f in
       let prefixes : e.prefix ≡ f.prefix =
       sym ((Decides-eqb prefix e.prefix).0 in_e.0) ∙ (Decides-eqb prefix f.prefix).0 in_f.0 in
-      let keys : key_of keyer a e ≡ key_of keyer a f =
-      sym ((bytes_eq-Decides key (key_of keyer a e)).0 in_e.1) ∙ (bytes_eq-Decides key (key_of keyer a f)).0 in_f.1 in
+      let keys : rest_of keyer a e ≡ rest_of keyer a f =
+      sym ((bytes_eq-Decides (beyond prefix key) (rest_of keyer a e)).0 in_e.1)
+      ∙ (bytes_eq-Decides (beyond prefix key) (rest_of keyer a f)).0 in_f.1 in
       let prefix_tied : nat_cmp e.prefix f.prefix ≡ Equal =
       subst (λ n. nat_cmp e.prefix n ≡ Equal) prefixes (tied_itself nat_cmp_total e.prefix) in
-      let key_tied : slice_cmp nat_cmp (key_of keyer a e) (key_of keyer a f) ≡ Equal =
-      subst (λ k. slice_cmp nat_cmp (key_of keyer a e) k ≡ Equal) keys (tied_itself nat_list_cmp_total (key_of keyer a e)) in
+      let key_tied : slice_cmp nat_cmp (rest_of keyer a e) (rest_of keyer a f) ≡ Equal =
+      subst (λ k. slice_cmp nat_cmp (rest_of keyer a e) k ≡ Equal) keys (tied_itself nat_list_cmp_total (rest_of keyer a e)) in
       ap (λ o. not (is_gt o)) (ordered_cmp e f
       ∙ (λ i. ordering_then (prefix_tied i) (ordering_then (key_tied i) (slice_cmp nat_cmp (file_key a e) (file_key a f))))) ∙ first
 
   -- entries that have the prefixes of their keys go by key
-  by_key : (front : List ℕ → List ℕ) → GoesFirst front → (e f : Entry) → HasPrefix front keyer a e → HasPrefix front keyer a f
+  by_key : (front : List ℕ → List ℕ) → TellsWhole front → GoesFirst front → (e f : Entry) → HasPrefix front keyer a e → HasPrefix front keyer a f
       → ComesFirst a e f → goes_first (sort_key keyer a) e f ≡ goes_first (key_of keyer a) e f
-  by_key front front_first e f of_e of_f first =
+  by_key front tells front_first e f of_e of_f first =
       let keys = slice_cmp nat_cmp (key_of keyer a e) (key_of keyer a f) in
       let files = slice_cmp nat_cmp (file_key a e) (file_key a f) in
-      ap (λ o. not (is_gt o)) (ordered_cmp e f ∙ sym (then_assoc (nat_cmp e.prefix f.prefix) keys files)
+      let rests = slice_cmp nat_cmp (rest_of keyer a e) (rest_of keyer a f) in
+      ap (λ o. not (is_gt o)) (ordered_cmp e f ∙ sym (then_assoc (nat_cmp e.prefix f.prefix) rests files)
+      ∙ ap (λ o. ordering_then o files)
+      (rests_in_order front tells e.prefix f.prefix (key_of keyer a e) (key_of keyer a f) of_e.0 of_f.0)
       ∙ (λ i. ordering_then (ordering_then (nat_cmp (of_e.0 i) (of_f.0 i)) keys) files)
       ∙ ap (λ o. ordering_then o files) (prefixes_first front front_first (key_of keyer a e) (key_of keyer a f) of_e.1 of_f.1))
       ∙ settled keys files first
@@ -131,12 +135,12 @@ module _ (keyer : Keyer) (a : Archived) where
         (all_entries prefixer a shown) (all_any (all_entries prefixer a shown)) (all_ordered a prefixer shown up))
 
     -- an index of entries that have the prefixes of their keys goes by key
-    pub kept_order : (front : List ℕ → List ℕ) → GoesFirst front → AllByRecursion (HasPrefix front keyer a) (all_entries prefixer a shown)
+    pub kept_order : (front : List ℕ → List ℕ) → TellsWhole front → GoesFirst front → AllByRecursion (HasPrefix front keyer a) (all_entries prefixer a shown)
         → (es : List Entry) → IsIndexOf keyer prefixer a shown es → es ≡ in_order (key_of keyer a) (all_entries prefixer a shown)
-    kept_order front front_first told es is =
+    kept_order front tells front_first told es is =
         is ∙ in_order_agree (sort_key keyer a) (key_of keyer a) (all_entries prefixer a shown)
         (ordered_with (ComesFirst a) (λ e f. goes_first (sort_key keyer a) e f ≡ goes_first (key_of keyer a) e f)
-        (HasPrefix front keyer a) (by_key front front_first) (all_entries prefixer a shown) told (all_ordered a prefixer shown up))
+        (HasPrefix front keyer a) (by_key front tells front_first) (all_entries prefixer a shown) told (all_ordered a prefixer shown up))
 
 -- ---- the tags of definitions
 -- the name of a tag is the key of its entry
@@ -214,7 +218,7 @@ module _ (a : Archived) (s : Shown) (text : List ℕ) (there : slice_get a.texts
       let here = entry (def_prefix text d) n in
       let kept = filter (has_key def_key a (key_prefix name) name) (entries_from (suc n) s.name s.version (map (def_prefix text) defs)) in
       ap (λ b. map (tag_at a) (cond b (here ∷ kept) kept))
-      (key_decides (λ key. key) def_key a name here (entry_told (λ key. key) def_key def_prefix names_told a s text there n d defs is)
+      (key_decides (λ key. key) whole_same def_key a name here (entry_told (λ key. key) def_key def_prefix names_told a s text there n d defs is)
       ∙ ap (bytes_eq name) (key_is (def_prefix text d) n d defs is within.0))
       ∙ kept_or_not (tag_at a) (tag_in file) (bytes_eq name (bytes_of text d.name)) here kept d
       (filter (λ (x : Def). bytes_eq name (bytes_of text x.name)) defs) (tag_is (def_prefix text d) n d defs is within.0) later
@@ -252,7 +256,7 @@ module _ (a : Archived) where
       pub rows_by_name : IsIndexOf def_key def_prefixes a shown es → map (tag_at a) es ≡ tags_by_name (files_of a shown)
       unfolding tags_by_name
       rows_by_name is =
-          ap (map (tag_at a)) (kept_order def_key a def_prefixes shown up (λ key. key) whole_first (defs_told a bytes shown) es is)
+          ap (map (tag_at a)) (kept_order def_key a def_prefixes shown up (λ key. key) whole_same whole_first (defs_told a bytes shown) es is)
           ∙ map_in_order (key_of def_key a) (λ (t : Tag). t.name) (tag_at a) (all_entries def_prefixes a shown)
           (all_of (λ e. key_of def_key a e ≡ (tag_at a e).name) (key_is_name a) (all_entries def_prefixes a shown))
           ∙ ap (in_order (λ (t : Tag). t.name)) (all_tags def_prefixes def_prefix (λ text. refl) shown all)
@@ -260,7 +264,7 @@ module _ (a : Archived) where
       pub rows_by_tag_name : IsIndexOf tag_key tag_prefixes a shown es → map (tag_at a) es ≡ tags_by_tag_name (files_of a shown)
       unfolding tags_by_tag_name
       rows_by_tag_name is =
-          ap (map (tag_at a)) (kept_order tag_key a tag_prefixes shown up tag_front tag_front_first (tag_names_told a bytes shown) es is)
+          ap (map (tag_at a)) (kept_order tag_key a tag_prefixes shown up tag_front tag_front_tells tag_front_first (tag_names_told a bytes shown) es is)
           ∙ map_in_order (key_of tag_key a) (λ (t : Tag). tag_name t.name t.file) (tag_at a) (all_entries tag_prefixes a shown)
           (all_of (λ e. key_of tag_key a e ≡ tag_name (tag_at a e).name (tag_at a e).file) (key_is_tag_name a) (all_entries tag_prefixes a shown))
           ∙ ap (in_order (λ (t : Tag). tag_name t.name t.file)) (all_tags tag_prefixes tag_prefix (λ text. refl) shown all)

@@ -17,7 +17,7 @@ use Rattle.cb_scan.specs.lex.Tokens.{bytes_of}
 use Rattle.cb_scan.proofs.FactsWithin.{facts_lie}
 use Rattle.cb_scan.proofs.KeyLaws.{holds_of_postings, items_with_are}
 use Rattle.cb_index.specs.Archived.{Archived, name_of}
-use Rattle.cb_index.specs.Entries.{Keyer, entries_from, has_key}
+use Rattle.cb_index.specs.Entries.{Keyer, beyond, entries_from, has_key}
 use Rattle.cb_index.specs.Files.{IsThere, call_count, def_count, use_count}
 use Rattle.cb_index.specs.Held.{Prefixer, all_entries, entries_of}
 use Rattle.cb_index.specs.Orders.{callee_key, callee_prefixes, caller_key, caller_prefixes, def_key, def_prefix, def_prefixes, first_item, tag_front, tag_key, tag_key_prefix, tag_prefix, tag_prefixes, use_key, use_prefixes}
@@ -71,7 +71,7 @@ module _ (a : Archived) (s : Shown) (text : List ℕ) (there : slice_get a.texts
         (rows_at (Some sort) a) (has_key keyer a (key_prefix key) key) s.name s.version
         (λ prefix number. ap (λ t. map (row_under s) (items_in_text sort number t)) there
         ∙ ap (λ k. map (row_under s) (posting_items k number)) lists_are)
-        (λ prefix number. ap (λ k. nat_eq (key_prefix key) prefix && bytes_eq key k)
+        (λ prefix number. ap (λ k. nat_eq (key_prefix key) prefix && bytes_eq (beyond (key_prefix key) key) (beyond prefix k))
         (ap (λ t. keyer t (name_of a s.name) number) there ∙ keys_are number))
         0 0 (postings keys) suffix (holds_of_postings (λ i k. item_key i ≡ k) keys numbered)
         ∙ ap (map (row_under s)) (items_with_are key keys ∙ numbers_kept item_key key 0 keys numbered)
@@ -90,7 +90,7 @@ module _ (a : Archived) (s : Shown) (text : List ℕ) (there : slice_get a.texts
         let e : Entry = record { prefix = prefixed text d; name = s.name; version = s.version; number = n } in
         let es = filter has_front (entries_from (suc n) s.name s.version (map (prefixed text) ds)) in
         ap (λ b. rows_in None a (cond b (e ∷ es) es))
-        (key_decides front keyer a key e (entry_told front keyer prefixed told a s text there n d ds is))
+        (key_decides front told.whole keyer a key e (entry_told front keyer prefixed told a s text there n d ds is))
         ∙ step (has n) e es n (filter has (range_with_len (suc n) (length ds))) refl
         (def_rows (suc n) ds (drop_next n (facts_of text).defs ∙ ap (drop 1) is))
         ∙ sym (ap (λ l. map (row_under s) (filter has l)) (range_next n (length ds)))

@@ -1,9 +1,10 @@
 -- Entries and their order.
-use Rattle.std.specs.Prelude.{ℕ, suc, Bool, ◌&&◌, nat_eq, List, [], ◌∷◌, ◌++◌, map, Option, slice_get}
+use Rattle.std.specs.Prelude.{ℕ, suc, Bool, ◌&&◌, nat_eq, List, [], ◌∷◌, ◌++◌, map, Option, slice_get, if◌then◌else◌}
 use Rattle.std.specs.Cmp.Lexicographic.{slice_cmp}
 use Rattle.std.specs.Ordering.{nat_cmp, ordering_then}
 use Rattle.std.specs.Str.{bytes_eq}
 use Rattle.std.specs.declared.cmp.Ordering.{Ordering}
+use Rattle.cb_scan.specs.Keys.{is_whole}
 use Rattle.cb_index.specs.Archived.{Archived, name_of}
 use Rattle.cb_index.specs.declared.entry.Entry.{Entry}
 
@@ -16,6 +17,14 @@ Keyer = Option (List ℕ) → List ℕ → ℕ → List ℕ
 abbrev pub key_of : Keyer → Archived → Entry → List ℕ
 key_of keyer a e = keyer (slice_get a.texts e.version) (name_of a e.name) e.number
 
+-- what a key has beyond its prefix: nothing where the prefix tells it whole, else all of it
+unfoldable pub beyond : ℕ → List ℕ → List ℕ
+beyond prefix key = if is_whole prefix then [] else key
+
+-- what is compared of the key of an entry where prefixes are equal
+abbrev pub rest_of : Keyer → Archived → Entry → List ℕ
+rest_of keyer a e = beyond e.prefix (key_of keyer a e)
+
 -- the numbers of an entry; of one version its own numbers go by place
 abbrev pub numbers : Entry → List ℕ
 numbers e = e.name ∷ e.version ∷ e.number ∷ []
@@ -25,9 +34,9 @@ numbers e = e.name ∷ e.version ∷ e.number ∷ []
 abbrev pub file_key : Archived → Entry → List ℕ
 file_key a e = map suc (name_of a e.name) ++ 0 ∷ numbers e
 
--- those of one prefix: the key goes before
+-- those of one prefix: what the key has beyond it goes before
 abbrev pub bytes_key : Keyer → Archived → Entry → List ℕ
-bytes_key keyer a e = map suc (key_of keyer a e) ++ 0 ∷ file_key a e
+bytes_key keyer a e = map suc (rest_of keyer a e) ++ 0 ∷ file_key a e
 
 -- what entries are compared by, number by number
 unfoldable pub sort_key : Keyer → Archived → Entry → List ℕ
@@ -43,11 +52,12 @@ entries_from number name version (p ∷ ps) =
 -- a key with its prefix against an entry
 abbrev pub key_cmp : Keyer → Archived → ℕ → List ℕ → Entry → Ordering
 key_cmp keyer a prefix key e =
-    ordering_then (nat_cmp prefix e.prefix) (slice_cmp nat_cmp key (key_of keyer a e))
+    ordering_then (nat_cmp prefix e.prefix) (slice_cmp nat_cmp (beyond prefix key) (rest_of keyer a e))
 
 -- whether an entry has the key
 abbrev pub has_key : Keyer → Archived → ℕ → List ℕ → Entry → Bool
-has_key keyer a prefix key e = nat_eq prefix e.prefix && bytes_eq key (key_of keyer a e)
+has_key keyer a prefix key e =
+    nat_eq prefix e.prefix && bytes_eq (beyond prefix key) (rest_of keyer a e)
 
 -- whether an entry is one of the version under the name
 abbrev pub is_of : ℕ → ℕ → Entry → Bool

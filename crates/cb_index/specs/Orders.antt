@@ -75,11 +75,12 @@ def_prefixes (Some text) = map (def_prefix text) (facts_of text).defs
 abbrev pub tag_key : Option (List ℕ) → List ℕ → ℕ → List ℕ
 tag_key text file number = tag_name (def_key text file number) file
 
--- what the prefix of a tag name is made of: the tag name, but only the `M` of one that begins with
--- it. So a `main`, which has another tag name in each file, has one prefix in all of them
+-- what the prefix of a tag name is made of: the tag name, but the same for all that begin with `M`,
+-- and more than a prefix tells whole. So a `main`, which has another tag name in each file, has one
+-- prefix in all of them
 unfoldable pub tag_front : List ℕ → List ℕ
 tag_front [] = []
-tag_front (b ∷ bs) = if nat_eq b 77 then codes "M" else b ∷ bs
+tag_front (b ∷ bs) = if nat_eq b 77 then codes "MMMMMMMM" else b ∷ bs
 
 abbrev pub tag_key_prefix : List ℕ → ℕ
 tag_key_prefix key = key_prefix (tag_front key)

@@ -6,9 +6,8 @@ ghost use Rattle.cb_scan.specs.FactKeys.{keys_of};
 ghost use Rattle.std.specs.List.{AllByRecursion};
 ghost use Rattle.cb_index.specs.Archived.{AreBytes, name_of};
 
-use crate::bytes::read_bytes;
 use crate::memory::OutOfMemory;
-use cb_scan::{FactKeys, Facts, Source};
+use cb_scan::{FactKeys, Facts, Source, read_bytes};
 use std::alloc::Global;
 use std::marker::Model;
 

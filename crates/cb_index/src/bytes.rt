@@ -1,6 +1,5 @@
 //! The bytes that spans name.
-ghost use Rattle.std.specs.Prelude.{◌≡◌, ◌<◌, get_or};
-ghost use Rattle.std.specs.List.{All};
+ghost use Rattle.std.specs.Prelude.{◌≡◌, get_or};
 ghost use Rattle.cb_index.specs.Bytes.{cut, bytes_at};
 
 use cb_scan::Span;
@@ -21,15 +20,6 @@ pub(crate) fn bytes_at(text: &[u8], span: Option<Span>) -> &[u8]
     match span {
         Some(span) => cut(text, span),
         None => &[],
-    }
-}
-
-/// Says that the elements of a text are bytes. It does nothing.
-pub(crate) fn read_bytes(text: &[u8])
-    ensures { All (λ b. b < 256) text.now }
-{
-    for byte in text {
-        let _byte = *byte;
     }
 }
 

@@ -1,8 +1,8 @@
 //! What an index keeps.
 
 /// An entry of an index: a posting (for uses and calls) or a definition, by its number in a version
-/// that is kept under a name. The prefix is the first eight bytes of its key as a big-endian
-/// number.
+/// that is kept under a name. The prefix is the first bytes of its key and their count, which tell a
+/// short key whole.
 #[derive(Clone, Copy, Debug, PartialEq, Eq)]
 pub struct Entry {
     pub prefix: u64,

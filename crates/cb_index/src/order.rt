@@ -2,17 +2,19 @@
 ghost use Rattle.std.specs.Prelude.{◌≡◌, ◌+◌, ◌≤◌, ◌++◌, length, vec_len, vec_capacity};
 ghost use Rattle.std.specs.Cmp.Lexicographic.{slice_cmp};
 ghost use Rattle.std.specs.Ordering.{nat_cmp};
-ghost use Rattle.cb_index.specs.Entries.{bytes_key, file_key, key_of, numbers, sort_key};
+ghost use Rattle.cb_index.specs.Entries.{bytes_key, file_key, key_of, numbers, rest_of, sort_key};
 ghost use Rattle.cb_index.specs.Held.{entries_of, prefixes_of};
 
 use crate::archive::Archive;
 use crate::entry::{Entry, Shown};
 use crate::rows::FactSort;
+use cb_scan::is_whole;
 use std::cmp::Ordering;
 
 /// An order of the entries of versions. Entries are compared by prefix, key, file name and then by
 /// their own numbers. Key and name are looked up in the archive; so what is pushed there changes
-/// nothing of the order of entries that are held. Of one key in one file the numbers go by place.
+/// nothing of the order of entries that are held. A key that its prefix tells whole is not looked
+/// up. Of one key in one file the numbers go by place.
 pub trait EntryOrder {
     ghost use Rattle.std.specs.Prelude.{ℕ, List, Option};
     ghost use Rattle.cb_index.specs.Entries.{Keyer};
@@ -74,12 +76,25 @@ fn compare_files(archive: &Archive, a: Entry, b: Entry) -> Ordering
     }
 }
 
+/// The order of two entries with one prefix by what their keys have beyond it.
+fn compare_rests<O: EntryOrder>(archive: &Archive, a: Entry, b: Entry) -> Ordering
+    requires { a.prefix ≡ b.prefix }
+    ensures { result
+        ≡ slice_cmp nat_cmp (rest_of O.keyer archive.now a) (rest_of O.keyer archive.now b) }
+{
+    if is_whole(a.prefix) {
+        return Ordering::Equal;
+    }
+    O::compare_keys(archive, a, b)
+}
+
 /// The order of two entries with one prefix.
 fn compare_bytes<O: EntryOrder>(archive: &Archive, a: Entry, b: Entry) -> Ordering
+    requires { a.prefix ≡ b.prefix }
     ensures { result
         ≡ slice_cmp nat_cmp (bytes_key O.keyer archive.now a) (bytes_key O.keyer archive.now b) }
 {
-    match O::compare_keys(archive, a, b) {
+    match compare_rests::<O>(archive, a, b) {
         Ordering::Less => Ordering::Less,
         Ordering::Greater => Ordering::Greater,
         Ordering::Equal => compare_files(archive, a, b),

@@ -318,7 +318,7 @@ fn tag_front(key: &[u8]) -> &[u8]
     ensures { result.now ≡ tag_front key.now }
 {
     match key {
-        [b'M', ..] => b"M",
+        [b'M', ..] => b"MMMMMMMM",
         _ => key,
     }
 }
@@ -328,7 +328,7 @@ fn front_of_tag(name: &[u8]) -> &[u8]
     ensures { result.now ≡ tag_front (tag_name name.now []) }
 {
     if name == b"main".as_slice() {
-        b"M"
+        b"MMMMMMMM"
     } else {
         tag_front(name)
     }

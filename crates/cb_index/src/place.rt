@@ -1,16 +1,19 @@
 //! Places of entries, which are looked up by halves.
 ghost use Rattle.std.specs.Prelude.{◌≡◌, ◌≤◌, true, false, length, take, drop};
+ghost use Rattle.std.specs.Cmp.Lexicographic.{slice_cmp};
 ghost use Rattle.std.specs.List.{AllByRecursion};
 ghost use Rattle.std.specs.List.Sorted.{IsPartitionPoint, IsPartitionedBy};
+ghost use Rattle.std.specs.Ordering.{nat_cmp};
 ghost use Rattle.cb_scan.specs.Order.{in_order};
 ghost use Rattle.cb_index.specs.Blocks.{IsFilled, IsPlace, before, head_is, joined};
-ghost use Rattle.cb_index.specs.Entries.{key_cmp, sort_key};
+ghost use Rattle.cb_index.specs.Entries.{beyond, key_cmp, rest_of, sort_key};
 ghost use Rattle.cb_index.specs.steps.Bounds.{is_ahead};
 
 use crate::archive::Archive;
 use crate::block::Block;
 use crate::entry::Entry;
 use crate::order::{EntryOrder, compare};
+use cb_scan::is_whole;
 use std::cmp::Ordering;
 
 /// What parts entries that are in order into those ahead of it and those behind it.
@@ -31,6 +34,18 @@ pub(crate) struct Place {
     pub(crate) at: usize,
 }
 
+/// What a key has beyond its prefix against an entry with this prefix.
+fn compare_rest<O: EntryOrder>(archive: &Archive, prefix: u64, key: &[u8], entry: Entry) -> Ordering
+    requires { prefix ≡ entry.prefix }
+    ensures { result
+        ≡ slice_cmp nat_cmp (beyond prefix key.now) (rest_of O.keyer archive.now entry) }
+{
+    if is_whole(prefix) {
+        return Ordering::Equal;
+    }
+    O::compare_key(archive, key, entry)
+}
+
 /// A key with its prefix against an entry.
 fn compare_key<O: EntryOrder>(archive: &Archive, prefix: u64, key: &[u8], entry: Entry) -> Ordering
     ensures { result ≡ key_cmp O.keyer archive.now prefix key.now entry }
@@ -38,7 +53,7 @@ fn compare_key<O: EntryOrder>(archive: &Archive, prefix: u64, key: &[u8], entry:
     match prefix.cmp(&entry.prefix) {
         Ordering::Less => Ordering::Less,
         Ordering::Greater => Ordering::Greater,
-        Ordering::Equal => O::compare_key(archive, key, entry),
+        Ordering::Equal => compare_rest::<O>(archive, prefix, key, entry),
     }
 }
 

@@ -1,5 +1,5 @@
-//! Entries are sorted by what stands in them, and only those of one prefix by their keys, which are
-//! looked up in the archive.
+//! Entries are sorted by what stands in them, and only those of one prefix by their file names and,
+//! where the prefix does not tell them whole, their keys, which are looked up in the archive.
 ghost use Rattle.std.specs.Prelude.{◌≡◌, ◌≤◌, length, nat_le, nat_lt, vec_capacity};
 ghost use Rattle.std.specs.Cmp.Lexicographic.{slice_cmp};
 ghost use Rattle.std.specs.List.Sorted.{IsNonDecreasingBy, IsPartitionPoint, IsPermutation};

@@ -24,7 +24,7 @@ const FIRST: &[u8] =
 /// One function.
 const SECOND: &[u8] = b"int main(void) {\n\treturn 0;\n}\n";
 
-/// Names that share their first eight bytes.
+/// Names that share their first seven bytes, and have more.
 const THIRD: &[u8] =
     b"int sqlite3_open(void) { }\nint sqlite3_(void) { }\nint sqlite3_close(void) { }\n";
 

@@ -58,7 +58,7 @@ fn has_call_of_add(
 ) -> Result<(), Fail> {
     let found = range_of(alloc, archive, index, b"add")?;
     let wanted = [Entry {
-        prefix: 0x6164_6400_0000_0000,
+        prefix: 0x6164_6400_0000_0003,
         name: 0,
         version: 0,
         number: 1,

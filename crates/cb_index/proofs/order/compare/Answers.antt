@@ -1,8 +1,12 @@
 use Rattle.std.proofs.Common.{◌∙◌, sym}
 use Rattle.std.specs.Cmp.Lexicographic.{slice_cmp}
 use Rattle.std.specs.Ordering.{nat_cmp, ordering_then}
+use Rattle.cb_scan.proofs.KeyOrder.{same_number}
 use Rattle.cb_index.specs.Entries.{bytes_key, sort_key}
 use Rattle.cb_index.proofs.order.compare.Goals as goal
+
+pub compare_bytes-requires : goal.compare_bytes-requires
+compare_bytes-requires g c = same_number c.args.a.prefix c.args.b.prefix (sym c.cmp.ensures ∙ c.in-Equal.is)
 
 pub returns-in-Less : goal.returns-in-Less
 unfolding sort_key

@@ -11,7 +11,7 @@ returns-in-Less g c =
     let archive = c.args.archive.now in
     let e = c.args.a in
     let f = c.args.b in
-    (λ i. ordering_then ((sym c.in-Less.is ∙ c.compare_keys.ensures) i)
+    (λ i. ordering_then ((sym c.in-Less.is ∙ c.compare_rests.ensures) i)
     (slice_cmp nat_cmp (file_key archive e) (file_key archive f))) ∙ bytes_cmp keyer archive e f
 
 pub returns-in-Greater : goal.returns-in-Greater
@@ -20,7 +20,7 @@ returns-in-Greater g c =
     let archive = c.args.archive.now in
     let e = c.args.a in
     let f = c.args.b in
-    (λ i. ordering_then ((sym c.in-Greater.is ∙ c.compare_keys.ensures) i)
+    (λ i. ordering_then ((sym c.in-Greater.is ∙ c.compare_rests.ensures) i)
     (slice_cmp nat_cmp (file_key archive e) (file_key archive f))) ∙ bytes_cmp keyer archive e f
 
 pub returns-in-Equal : goal.returns-in-Equal
@@ -29,5 +29,5 @@ returns-in-Equal g c =
     let archive = c.args.archive.now in
     let e = c.args.a in
     let f = c.args.b in
-    (λ i. ordering_then ((sym c.in-Equal.is ∙ c.compare_keys.ensures) i)
+    (λ i. ordering_then ((sym c.in-Equal.is ∙ c.compare_rests.ensures) i)
     (c.compare_files.ensures i)) ∙ bytes_cmp keyer archive e f
