@@ -28,7 +28,7 @@ pub unmarked_text : (old new text : List ℕ) → replaced_text old new [] text 
 unfolding replaced_text
 unmarked_text old new text = nothing_marked old new 1 (lines_of text) ∙ bytes-of [] text
 
-none_in : (name : List ℕ) (marks : List Place) → list_any (is_in name) marks ≡ false → marked_lines name marks ≡ []
+pub none_in : (name : List ℕ) (marks : List Place) → list_any (is_in name) marks ≡ false → marked_lines name marks ≡ []
 none_in name [] none = refl
 none_in name (m ∷ marks) none =
     (elim (is_in name m) as (λ b. b || list_any (is_in name) marks ≡ false

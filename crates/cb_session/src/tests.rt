@@ -5,6 +5,7 @@ mod each_byte;
 mod frames;
 mod marks;
 mod memory;
+mod meter;
 mod operands;
 mod queries;
 mod reloads;

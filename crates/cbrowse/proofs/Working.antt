@@ -1,7 +1,10 @@
 -- A job over files: from the loads to what is done.
-use Rattle.std.proofs.Common.{◌≡◌, ◌∙◌, ap, refl, inr, true, false, List, [], ◌∷◌, map, Result, Ok, Err}
+use Rattle.std.proofs.Common.{◌≡◌, ◌∙◌, ap, subst, sym, refl, inr, ℕ, true, false, List, [], ◌∷◌, map, Result, Ok, Err}
+use Rattle.std.proofs.lemmas.Bool.{true≢false}
 use Rattle.cb_desk.specs.Timeline.{Timeline, new_timeline}
 use Rattle.cb_session.specs.declared.input.Ended.{Ended}
+use Rattle.cb_session.specs.declared.input.Fault.{Fault as WhatFailed}
+use Rattle.cb_session.specs.declared.input.Fault.TheVariants.{Write}
 use Rattle.cb_session.specs.declared.input.Ended.TheVariants.{Done, Cut, Fault, Operand as StoppedAt}
 use Rattle.cb_session.specs.declared.operands.Operand.{Operand}
 use Rattle.cb_session.specs.Devices.{Reader}
@@ -12,7 +15,7 @@ use Rattle.cbrowse.specs.declared.execute.finish.Finish.TheVariants.{Ran, Unread
 use Rattle.cbrowse.specs.declared.job.Job.{Job}
 use Rattle.cbrowse.specs.declared.job.Job.TheVariants.{Line, Find, Tags}
 use Rattle.cbrowse.specs.Messages.{files_of}
-use Rattle.cbrowse.specs.Program.{DoesFrom, DoesJob, DoesLoaded, EndsIntoFile, Reaches, Works, most_line_bytes, most_lines, writes_file}
+use Rattle.cbrowse.specs.Program.{DoesFrom, DoesJob, DoesLoaded, EndsIntoFile, Reaches, Works, WritesFile, WritesText, file_text, most_line_bytes, most_lines, writes_file}
 
 -- operands under the names of a job's files are contents of those files
 pub reaches : (job : Job) (ops : List Operand) (end : Result Timeline RefusedOperand) → map (λ o. o.name.items) ops ≡ files_of job
@@ -32,6 +35,20 @@ stopped job ops feed out (StoppedAt place why) named p =
 stopped job ops feed out Done named p = absurd p
 stopped job ops feed out Cut named p = absurd p
 stopped job ops feed out (Fault fault) named p = absurd p
+
+-- a job that writes a tags file writes its text, and leaves the reader alone
+pub file_written : (job : Job) (lines limit : ℕ) (t : Timeline) (feed feed' : Reader) (old new : Writer) (ended : Ended) → writes_file job ≡ true
+    → DoesJob job lines limit t feed feed' old new ended → (feed' ≡ feed) × WritesText (file_text job t.present) old new ended
+file_written (Line files) lines limit t feed feed' old new ended writes does = absurd (true≢false (sym writes))
+file_written (Find field pattern files) lines limit t feed feed' old new ended writes does = absurd (true≢false (sym writes))
+file_written (Tags listing tagsfile format files) lines limit t feed feed' old new ended writes does = does
+
+-- where a write failed the file can't be written
+pub failed_file : (job : Job) (lines limit : ℕ) (t : Timeline) (feed feed' : Reader) (old new : Writer) (why : WhatFailed) → writes_file job ≡ true
+    → DoesJob job lines limit t feed feed' old new (Fault why) → why ≡ Write → WritesFile (file_text job t.present) old new Unwritable
+failed_file job lines limit t feed feed' old new why writes does is =
+    subst (λ fault. WritesText (file_text job t.present) old new (Fault fault)) is
+    (file_written job lines limit t feed feed' old new (Fault why) writes does).1
 
 -- a job that writes a tags file
 pub into_file : (job : Job) (t : Timeline) (feed feed' : Reader) (out : Writer) (f : Finish) → writes_file job ≡ true → Reaches job (Ok t)

@@ -92,6 +92,18 @@ EndsFile Done = Unit {0}
 EndsFile (Fault Memory) = Unit {0}
 EndsFile _ = ⊥
 
+-- the text of the tags file that a job writes
+abbrev pub file_text : Job → World → List ℕ
+file_text (Line files) w = []
+file_text (Find field pattern files) w = []
+file_text (Tags listing tagsfile format files) w = tags_output listing format w
+
+-- the whole text was written into a file and handed on; or the file can't be written, and a prefix was written
+abbrev pub WritesFile : List ℕ → Writer → Writer → Finish → Type 0
+WritesFile text old new (Ran ended) = (ended ≡ Done) × WritesText text old new Done
+WritesFile text old new Unwritable = WritesText text old new (Fault Write)
+WritesFile text old new (Unreadable place) = ⊥
+
 -- a tags file was written, or can't be
 abbrev pub EndsIntoFile : Finish → Type 0
 EndsIntoFile (Ran ended) = EndsFile ended

@@ -6,7 +6,7 @@ ghost use Rattle.cb_desk.specs.Answer.{answer};
 ghost use Rattle.cb_session.specs.Output.{row_line};
 ghost use Rattle.cbrowse.specs.Endings.{EndsJob, EndsUsage};
 ghost use Rattle.cbrowse.specs.Messages.{tagsfile_of};
-ghost use Rattle.cbrowse.specs.Program.{HasPattern, output_format, output_text, tags_output, writes_file, WritesText, DoesJob, EndsIntoFile, Works};
+ghost use Rattle.cbrowse.specs.Program.{HasPattern, output_format, output_text, tags_output, file_text, writes_file, WritesFile, WritesText, DoesJob, EndsIntoFile, Works};
 ghost use Rattle.cb_session.specs.Writing.{Puts};
 
 mod files;
@@ -133,6 +133,26 @@ fn output_file(job: &Job) -> Option<&str>
     }
 }
 
+/// Does a job of tags into a file that is open. Where a write or the last flush fails, the file can't
+/// be written.
+fn run_job_over<I: BufRead, W: Write>(
+    alloc: Global,
+    job: &Job,
+    session: Session,
+    feed: &mut Feed<I>,
+    out: &mut Sink<W>,
+) -> Finish
+    requires file { writes_file job.now ≡ true }
+    requires pattern { HasPattern job.now }
+    ensures written { WritesFile (file_text job.now session.present) out.old out.new result }
+    ensures feed { feed.new ≡ feed.old }
+{
+    match run_job(alloc, job, &LIMITS, session, feed, out) {
+        Ended::Fault(Fault::Write) => Finish::Unwritable,
+        ended => Finish::Ran(ended),
+    }
+}
+
 /// Does a job of tags into a file of this name.
 fn run_job_into<R: Files + AllocGlobal, I: BufRead>(
     rt: &R,
@@ -152,10 +172,7 @@ fn run_job_into<R: Files + AllocGlobal, I: BufRead>(
         Err(end) => return end,
     };
     let mut out = Sink::new(writer);
-    match run_job(rt.alloc(), job, &LIMITS, session, feed, &mut out) {
-        Ended::Fault(Fault::Write) => Finish::Unwritable,
-        ended => Finish::Ran(ended),
-    }
+    run_job_over(rt.alloc(), job, session, feed, &mut out)
 }
 
 /// Does a job: every file is read, then all are loaded, and only then a tags file is made or emptied.

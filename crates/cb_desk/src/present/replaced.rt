@@ -25,11 +25,21 @@ use cb_scan::{Meter, Source};
 use std::alloc::{AllocError, Global};
 use std::cmp::Ordering;
 
+/// Marks that are so few are first looked through one by one, since most files have none of them.
+const FEW: usize = 8;
+
 /// Whether a place is in the file of that name.
 fn is_in(archive: &Archive, place: NumberedPlace, name: &[u8]) -> bool
     ensures { result ≡ is_in name.now (place_in archive.now place) }
 {
     archive.name(place.name) == name
+}
+
+/// Whether one of some marks is in the file of that name.
+fn has_any(archive: &Archive, marks: &[NumberedPlace], name: &[u8]) -> bool
+    ensures { result ≡ list_any (λ m. is_in name.now (place_in archive.now m)) marks.now }
+{
+    marks.iter().any(|mark| is_in(archive, *mark, name))
 }
 
 /// How many marks at the front are in the file of that name.
@@ -73,8 +83,8 @@ pub(crate) struct Replacing<'a> {
 }
 
 impl<'a> Replacing<'a> {
-    /// The marks of the file of that name, which stand one after another.
-    fn marks_of(self, name: &[u8]) -> &'a [NumberedPlace]
+    /// The marks of the file of that name, which stand one after another. It looks by halves.
+    fn marks_between(self, name: &[u8]) -> &'a [NumberedPlace]
         ensures lines { map (λ m. m.line) result.now
             ≡ marked_lines name.now (places_in self.entry.archive.now self.entry.marks.now) }
         ensures ascending { IsStrictlySortedBy nat_cmp (map (λ m. m.line) result.now) }
@@ -83,6 +93,18 @@ impl<'a> Replacing<'a> {
         let rest = self.marks.split_at(start).1;
         let count = count_in(self.archive, rest, name);
         rest.split_at(count).0
+    }
+
+    /// The marks of the file of that name, which stand one after another.
+    fn marks_of(self, name: &[u8]) -> &'a [NumberedPlace]
+        ensures lines { map (λ m. m.line) result.now
+            ≡ marked_lines name.now (places_in self.entry.archive.now self.entry.marks.now) }
+        ensures ascending { IsStrictlySortedBy nat_cmp (map (λ m. m.line) result.now) }
+    {
+        if self.marks.len() <= FEW && !has_any(self.archive, self.marks, name) {
+            return &[];
+        }
+        self.marks_between(name)
     }
 
     /// Whether a file has a mark.

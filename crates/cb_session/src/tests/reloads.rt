@@ -1,11 +1,8 @@
 //! Reloads. The expected bytes are worked out by hand from the rules of commands and replies.
 use super::frames::{ONE, TWO};
-use super::operands::{operands, run_with};
+use super::operands::run_with;
 use super::{WIDE, writes};
-use crate::{Ended, Feed, Session, prepare};
-use cb_tags::Sink;
-use std::alloc::Global;
-use std::process::Abort;
+use crate::Ended;
 use std::test::Fail;
 
 #[test]
@@ -20,45 +17,6 @@ fn a_reload_and_its_undo(rt: HostRuntime) -> Result<(), Fail> {
         b">> cscope: done\n>> cscope: done\n>> cscope: 2 lines\na.c <unknown> 5 return a + b;\na.c <unknown> 8 return add(1, 2) / TWICE(3);\n>> cscope: done\n>> cscope: done\n>> cscope: 0 lines\n>> cscope: 1 lines\nm.c <unknown> 1 int Mb(void) {\n>> cscope: refused: nothing marked\n>> cscope: 2 lines\nMa\ta.c\t/^int Ma(void) {$/\nMb\tm.c\t/^int Mb(void) {$/\n>> cscope: done\n>> cscope: 2 lines\na.c <unknown> 5 return a + b;\na.c <unknown> 8 return add(1, 2) / TWICE(3);\n>> cscope: 2 lines\na.c <unknown> 4 static int add(int a, int b) {\nm.c <unknown> 1 int Mb(void) {\n>> ".as_slice()
     );
     assert_eq!(rt; ended, Ended::Done);
-    Ok(())
-}
-
-/// Serves an input; what is written comes behind what stands there.
-fn serve(session: &mut Session, alloc: Global, input: &[u8], written: &mut Vec<u8>) {
-    let mut feed = Feed::new(input);
-    let mut sink = Sink::new(written);
-    let _ended = session.serve(alloc, &WIDE, &mut feed, &mut sink);
-}
-
-/// A session does one input.
-fn does(rt: &impl Abort, session: &mut Session, alloc: Global, input: &[u8]) {
-    let mut written = Vec::new(alloc);
-    serve(session, alloc, input, &mut written);
-    assert_eq!(rt; written.as_slice(), b">> cscope: done\n>> ".as_slice());
-}
-
-/// A reload scans the bytes that it brings; undo and redo scan nothing.
-fn reload_undo_and_redo(rt: &impl Abort, session: &mut Session, alloc: Global) {
-    assert_eq!(rt; session.desk().meter(), 192);
-    let moves = [
-        b":reload a.c 17\nint Ma(void) {\n}\n".as_slice(),
-        b":undo\n",
-        b":redo\n",
-    ];
-    for input in moves {
-        does(rt, session, alloc, input);
-        assert_eq!(rt; session.desk().meter(), 209);
-    }
-}
-
-#[test]
-fn a_reload_scans_its_bytes_once(rt: HostRuntime) -> Result<(), Fail> {
-    let alloc = rt.alloc();
-    let Ok(mut session) = prepare(alloc, operands(alloc, TWO)?) else {
-        assert!(rt; false, "the operands were refused");
-        return Ok(());
-    };
-    reload_undo_and_redo(&rt, &mut session, alloc);
     Ok(())
 }
 
