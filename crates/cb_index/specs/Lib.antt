@@ -1,4 +1,5 @@
 pub mod Archived
+pub mod Asked
 pub mod Blocks
 pub mod Bytes
 pub mod Entries

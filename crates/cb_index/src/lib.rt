@@ -15,6 +15,7 @@ mod entries;
 mod entry;
 mod facts;
 mod includes;
+mod index;
 pub mod laws;
 mod listed;
 mod memory;

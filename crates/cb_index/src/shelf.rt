@@ -6,7 +6,9 @@ ghost use Rattle.std.specs.Cmp.Lexicographic.{slice_cmp};
 ghost use Rattle.std.specs.Ordering.{is_gt, nat_cmp};
 ghost use Rattle.std.specs.Str.{bytes_eq};
 ghost use Rattle.cb_scan.specs.Order.{goes_first, in_order, put};
+ghost use Rattle.std.specs.Borrow.{sem};
 ghost use Rattle.cb_index.specs.Archived.{name_of};
+ghost use Rattle.cb_index.specs.Asked.{StaysAsked};
 ghost use Rattle.cb_index.specs.Files.{AreAscending, IsThere, shown_name};
 ghost use Rattle.cb_index.specs.Names.{is_among, names_of};
 ghost use Rattle.cb_index.specs.Rows.{calls_in, calls_of, tags_by_name, tags_by_tag_name, tags_named, uses_of};
@@ -19,15 +21,13 @@ use crate::counted::{Counted, has_room, has_room_for};
 use crate::entries::Entries;
 use crate::entry::Shown;
 use crate::facts::FactRows;
-use crate::listed::{
-    are_there, ascend, has_any_name, has_name, put_all_shown, put_shown, shown_under,
-};
+use crate::index::Index;
+use crate::listed::{are_there, ascend, has_any_name, has_name, put_all_shown, shown_under};
 use crate::memory::OutOfMemory;
 use crate::names::Names;
 use crate::orders::{CallsByCallee, CallsByCaller, DefsByName, DefsByTagName, UsesByName};
 use crate::room::Room;
 use crate::rows::FactSort;
-use crate::sorted::Sorted;
 use crate::tags::TagRows;
 use crate::totals::Totals;
 use std::alloc::Global;
@@ -39,38 +39,49 @@ const FEW: usize = 8;
 
 /// An archive, the versions that are shown of it, each under a file name, and five indexes of what
 /// is found in these. No two versions are shown under one file name. Only `reserve` takes memory.
+///
+/// A version that is shown costs hardly anything at first: its entries wait. A question puts those
+/// of the one index that it reads in order, so that many versions are sorted together.
 #[derive(Drop)]
 pub struct Shelf {
     archive: Archive,
     shown: Vec<Shown>,
-    defs: Sorted<DefsByName>,
-    tags: Sorted<DefsByTagName>,
-    uses: Sorted<UsesByName>,
-    callees: Sorted<CallsByCallee>,
-    callers: Sorted<CallsByCaller>,
+    defs: Index<DefsByName>,
+    tags: Index<DefsByTagName>,
+    uses: Index<UsesByName>,
+    callees: Index<CallsByCallee>,
+    callers: Index<CallsByCaller>,
     totals: Totals,
     turns: u64,
 }
 
 impl Model for Shelf {
     ghost use Rattle.std.specs.Prelude.{min, vec_capacity};
-    ghost use Rattle.cb_index.specs.Shelved.{AreKept, AreTotals, Shelved};
+    ghost use Rattle.cb_index.specs.Shelved.{AreKept, AreTotals, AreWithin, Shelved};
 
     ghost Value = { Shelved };
 
     ghost view = { λ s. record {
       archive = s.archive;
       shown = s.shown.items;
+      waiting = record {
+        defs = s.defs.waiting;
+        tags = s.tags.waiting;
+        uses = s.uses.waiting;
+        callees = s.callees.waiting;
+        callers = s.callers.waiting;
+      };
       turns = s.turns;
-      entry_room = vec_capacity s.shown;
+      entry_room = min (vec_capacity s.shown) (min (min s.defs.version_room s.tags.version_room)
+          (min s.uses.version_room (min s.callees.version_room s.callers.version_room)));
       def_room = min s.defs.room s.tags.room;
       use_room = s.uses.room;
       call_room = min s.callees.room s.callers.room;
     } };
 
-    ghost invariant = { λ s. AreKept s.archive s.shown.items s.defs.entries s.tags.entries
-        s.uses.entries s.callees.entries s.callers.entries
-        × AreTotals s.archive s.shown.items s.totals };
+    ghost invariant = { λ s. AreKept s.archive s.shown.items s.defs s.tags s.uses s.callees s.callers
+        × AreTotals s.archive s.shown.items s.totals
+        × AreWithin s.totals s.defs s.tags s.uses s.callees s.callers };
 }
 
 impl Shelf {
@@ -84,11 +95,11 @@ impl Shelf {
         Shelf {
             archive: Archive::new(alloc),
             shown: Vec::new(alloc),
-            defs: Sorted::new(alloc),
-            tags: Sorted::new(alloc),
-            uses: Sorted::new(alloc),
-            callees: Sorted::new(alloc),
-            callers: Sorted::new(alloc),
+            defs: Index::new(alloc),
+            tags: Index::new(alloc),
+            uses: Index::new(alloc),
+            callees: Index::new(alloc),
+            callers: Index::new(alloc),
             totals: Totals {
                 defs: 0,
                 uses: 0,
@@ -152,23 +163,23 @@ impl Shelf {
             Ok(()) => {}
             Err(_) => return Err(OutOfMemory),
         }
-        match self.defs.reserve(room.defs) {
+        match self.defs.reserve(room.defs, room.entries) {
             Ok(()) => {}
             Err(_) => return Err(OutOfMemory),
         }
-        match self.tags.reserve(room.defs) {
+        match self.tags.reserve(room.defs, room.entries) {
             Ok(()) => {}
             Err(_) => return Err(OutOfMemory),
         }
-        match self.uses.reserve(room.uses) {
+        match self.uses.reserve(room.uses, room.entries) {
             Ok(()) => {}
             Err(_) => return Err(OutOfMemory),
         }
-        match self.callees.reserve(room.calls) {
+        match self.callees.reserve(room.calls, room.entries) {
             Ok(()) => {}
             Err(_) => return Err(OutOfMemory),
         }
-        self.callers.reserve(room.calls)
+        self.callers.reserve(room.calls, room.entries)
     }
 
     /// Keeps a name under the number that is answered: the count of names before.
@@ -210,6 +221,17 @@ impl Shelf {
         self.archive.truncate(versions, names);
     }
 
+    /// For how many versions there is room.
+    fn entry_room(&self) -> usize
+        ensures { result ≡ self.now.entry_room }
+    {
+        let defs = self.defs.version_room().min(self.tags.version_room());
+        let calls = self.callees.version_room().min(self.callers.version_room());
+        self.shown
+            .capacity()
+            .min(defs.min(self.uses.version_room().min(calls)))
+    }
+
     /// Whether a version can be shown under a name: both are there, no file of that name is shown,
     /// and there is room.
     pub fn can_show(&self, name: u32, version: u32) -> bool
@@ -222,7 +244,7 @@ impl Shelf {
             return false;
         }
         let shown = self.shown.as_slice();
-        if has_name(&self.archive, name, shown) || shown.len() >= self.shown.capacity() {
+        if has_name(&self.archive, name, shown) || shown.len() >= self.entry_room() {
             return false;
         }
         let def_room = self.defs.room().min(self.tags.room());
@@ -250,7 +272,7 @@ impl Shelf {
         if has_any_name(&self.archive, news, shown) {
             return false;
         }
-        if news.len() > self.shown.capacity() - shown.len() {
+        if shown.len() + news.len() > self.entry_room() {
             return false;
         }
         let def_room = self.defs.room().min(self.tags.room());
@@ -269,20 +291,12 @@ impl Shelf {
         ensures turns { self.new.turns ≡ min (self.old.turns + 1) (2 ^ 64 - 1) }
         ensures room { KeepsRoom self.old self.new }
     {
-        let one = Shown { name, version };
-        let _rooms = (self.defs.room(), self.uses.room(), self.callees.room());
-        self.totals = self.totals.with(&self.archive, &[one]);
-        put_shown(&self.archive, one, &mut self.shown);
-        self.defs.put_all(&self.archive, one);
-        self.tags.put_all(&self.archive, one);
-        self.uses.put_all(&self.archive, one);
-        self.callees.put_all(&self.archive, one);
-        self.callers.put_all(&self.archive, one);
-        self.turns = self.turns.saturating_add(1);
+        // No two of the versions that are shown have one file name.
+        let _shown = self.shown().len();
+        self.show_all(&[Shown { name, version }]);
     }
 
-    /// Shows versions together, each under its name, in the room that is there. Each index is put
-    /// in order once. It takes no memory.
+    /// Shows versions together, each under its name, in the room that is there. It takes no memory.
     pub fn show_all(&mut self, news: &[Shown])
         requires { CanShowAll self.old news.now }
         ensures shown { self.new.shown
@@ -294,11 +308,11 @@ impl Shelf {
         let _rooms = (self.defs.room(), self.uses.room(), self.callees.room());
         self.totals = self.totals.with(&self.archive, news);
         put_all_shown(&self.archive, news, &mut self.shown);
-        self.defs.put_each(&self.archive, news);
-        self.tags.put_each(&self.archive, news);
-        self.uses.put_each(&self.archive, news);
-        self.callees.put_each(&self.archive, news);
-        self.callers.put_each(&self.archive, news);
+        self.defs.put(news);
+        self.tags.put(news);
+        self.uses.put(news);
+        self.callees.put(news);
+        self.callers.put(news);
         self.turns = self.turns.saturating_add(news.len() as u64);
     }
 
@@ -321,11 +335,11 @@ impl Shelf {
             { s.name != name },
         );
         self.totals = self.totals.without(&self.archive, one.version);
-        self.defs.take_all(&self.archive, one);
-        self.tags.take_all(&self.archive, one);
-        self.uses.take_all(&self.archive, one);
-        self.callees.take_all(&self.archive, one);
-        self.callers.take_all(&self.archive, one);
+        self.defs.take(&self.archive, one);
+        self.tags.take(&self.archive, one);
+        self.uses.take(&self.archive, one);
+        self.callees.take(&self.archive, one);
+        self.callers.take(&self.archive, one);
     }
 
     /// Hides what is shown under the names of many files, the number of each name below that of the
@@ -383,58 +397,76 @@ impl Shelf {
     }
 
     /// The definitions of a name, by file and place.
-    pub fn defs(&self, name: &[u8]) -> TagRows<'_>
-        ensures { tags_left result ≡ tags_named name.now (files self.now) }
+    pub fn defs(&mut self, name: &[u8]) -> TagRows<'_>
+        ensures tags { tags_left result ≡ tags_named name.now (files self.old) }
+        ensures* after_borrow { sem 𝓛 (StaysAsked self.entry) }
     {
+        self.defs.settle(&self.archive);
+        let settled: &Shelf = self;
         TagRows {
-            archive: &self.archive,
-            entries: self.defs.with_key(&self.archive, name),
+            archive: &settled.archive,
+            entries: settled.defs.with_key(&settled.archive, name),
         }
     }
 
     /// All definitions, by name.
-    pub fn all_defs(&self) -> TagRows<'_>
-        ensures { tags_left result ≡ tags_by_name (files self.now) }
+    pub fn all_defs(&mut self) -> TagRows<'_>
+        ensures tags { tags_left result ≡ tags_by_name (files self.old) }
+        ensures* after_borrow { sem 𝓛 (StaysAsked self.entry) }
     {
-        self.archive.read_texts();
+        self.defs.settle(&self.archive);
+        let settled: &Shelf = self;
+        settled.archive.read_texts();
         TagRows {
-            archive: &self.archive,
-            entries: self.defs.entries(),
+            archive: &settled.archive,
+            entries: settled.defs.entries(),
         }
     }
 
     /// All definitions, by the names that a plain tags file has for them.
-    pub fn tags(&self) -> TagRows<'_>
-        ensures { tags_left result ≡ tags_by_tag_name (files self.now) }
+    pub fn tags(&mut self) -> TagRows<'_>
+        ensures tags { tags_left result ≡ tags_by_tag_name (files self.old) }
+        ensures* after_borrow { sem 𝓛 (StaysAsked self.entry) }
     {
-        self.archive.read_texts();
+        self.tags.settle(&self.archive);
+        let settled: &Shelf = self;
+        settled.archive.read_texts();
         TagRows {
-            archive: &self.archive,
-            entries: self.tags.entries(),
+            archive: &settled.archive,
+            entries: settled.tags.entries(),
         }
     }
 
     /// The uses of a name, by file and place.
-    pub fn uses(&self, name: &[u8]) -> FactRows<'_>
-        ensures { facts_left result ≡ uses_of name.now (files self.now) }
+    pub fn uses(&mut self, name: &[u8]) -> FactRows<'_>
+        ensures facts { facts_left result ≡ uses_of name.now (files self.old) }
+        ensures* after_borrow { sem 𝓛 (StaysAsked self.entry) }
     {
-        let found = self.uses.with_key(&self.archive, name);
-        FactRows::new(FactSort::Uses, &self.archive, found)
+        self.uses.settle(&self.archive);
+        let settled: &Shelf = self;
+        let found = settled.uses.with_key(&settled.archive, name);
+        FactRows::new(FactSort::Uses, &settled.archive, found)
     }
 
     /// The calls of a name, by file and place.
-    pub fn calling(&self, name: &[u8]) -> FactRows<'_>
-        ensures { facts_left result ≡ calls_of name.now (files self.now) }
+    pub fn calling(&mut self, name: &[u8]) -> FactRows<'_>
+        ensures facts { facts_left result ≡ calls_of name.now (files self.old) }
+        ensures* after_borrow { sem 𝓛 (StaysAsked self.entry) }
     {
-        let found = self.callees.with_key(&self.archive, name);
-        FactRows::new(FactSort::Callees, &self.archive, found)
+        self.callees.settle(&self.archive);
+        let settled: &Shelf = self;
+        let found = settled.callees.with_key(&settled.archive, name);
+        FactRows::new(FactSort::Callees, &settled.archive, found)
     }
 
     /// The calls that stand in what has that name, by file and place.
-    pub fn called_by(&self, name: &[u8]) -> FactRows<'_>
-        ensures { facts_left result ≡ calls_in name.now (files self.now) }
+    pub fn called_by(&mut self, name: &[u8]) -> FactRows<'_>
+        ensures facts { facts_left result ≡ calls_in name.now (files self.old) }
+        ensures* after_borrow { sem 𝓛 (StaysAsked self.entry) }
     {
-        let found = self.callers.with_key(&self.archive, name);
-        FactRows::new(FactSort::Callers, &self.archive, found)
+        self.callers.settle(&self.archive);
+        let settled: &Shelf = self;
+        let found = settled.callers.with_key(&settled.archive, name);
+        FactRows::new(FactSort::Callers, &settled.archive, found)
     }
 }
