@@ -12,7 +12,7 @@ ghost use Rattle.cb_index.specs.Asked.{StaysAsked};
 ghost use Rattle.cb_index.specs.Files.{AreAscending, IsThere, shown_name};
 ghost use Rattle.cb_index.specs.Names.{is_among, names_of};
 ghost use Rattle.cb_index.specs.Rows.{calls_in, calls_of, tags_by_name, tags_by_tag_name, tags_named, uses_of};
-ghost use Rattle.cb_index.specs.Shelved.{AreTotals, CanShow, CanShowAll, KeepsRoom, files, with_facts};
+ghost use Rattle.cb_index.specs.Shelved.{AreTotals, CanShow, CanShowAll, IsStill, KeepsRoom, files, with_facts};
 ghost use Rattle.cb_index.specs.declared.entry.Shown.{Shown};
 ghost use Rattle.cb_index.specs.steps.Left.{entries_left, facts_left, tags_left};
 
@@ -396,17 +396,33 @@ impl Shelf {
         }
     }
 
+    /// Puts the definitions by name in order. It takes no memory.
+    pub fn settle_defs(&mut self)
+        ensures waiting { self.new.waiting.defs ≡ [] }
+        ensures still { IsStill self.old self.new }
+    {
+        self.defs.settle(&self.archive);
+    }
+
+    /// The definitions of a name, by file and place, where those by name are in order.
+    pub fn settled_defs(&self, name: &[u8]) -> TagRows<'_>
+        requires { self.now.waiting.defs ≡ [] }
+        ensures { tags_left result ≡ tags_named name.now (files self.now) }
+    {
+        TagRows {
+            archive: &self.archive,
+            entries: self.defs.with_key(&self.archive, name),
+        }
+    }
+
     /// The definitions of a name, by file and place.
     pub fn defs(&mut self, name: &[u8]) -> TagRows<'_>
         ensures tags { tags_left result ≡ tags_named name.now (files self.old) }
         ensures* after_borrow { sem 𝓛 (StaysAsked self.entry) }
     {
-        self.defs.settle(&self.archive);
+        self.settle_defs();
         let settled: &Shelf = self;
-        TagRows {
-            archive: &settled.archive,
-            entries: settled.defs.with_key(&settled.archive, name),
-        }
+        settled.settled_defs(name)
     }
 
     /// All definitions, by name.
