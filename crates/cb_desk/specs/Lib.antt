@@ -1,4 +1,5 @@
 pub mod Answer
+pub mod AskedDesk
 pub mod Desk
 pub mod Files
 pub mod Laws

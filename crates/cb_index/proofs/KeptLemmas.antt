@@ -17,7 +17,7 @@ use Rattle.cb_index.specs.Entries.{Keyer, sort_key}
 use Rattle.cb_index.specs.Held.{Indexed, Prefixer, all_entries}
 use Rattle.cb_index.specs.Names.{is_among, names_of}
 use Rattle.cb_index.specs.Orders.{callee_key, callee_prefixes, caller_key, caller_prefixes, def_key, def_prefixes, tag_key, tag_prefixes, use_key, use_prefixes}
-use Rattle.cb_index.specs.Shelved.{AreKept, AreWithin, Covers, IsStill, KeepsRoom, Shelved}
+use Rattle.cb_index.specs.Shelved.{AreKept, AreWithin, Covers, KeepsRoom, Shelved}
 use Rattle.cb_index.specs.declared.entry.Entry.{Entry}
 use Rattle.cb_index.specs.declared.entry.Shown.{Shown}
 use Rattle.cb_index.specs.declared.totals.Totals.{Totals}
@@ -382,7 +382,3 @@ keeps_trans a b c first second = record {
   uses = le_trans first.uses second.uses;
   calls = le_trans first.calls second.calls;
 }
-
--- a shelf that is still as another, where that is the one before
-pub still_as : (old before after : Shelved) → before ≡ old → IsStill before after → IsStill old after
-still_as old before after same is = subst (λ s. IsStill s after) same is

@@ -1,5 +1,4 @@
 pub mod Archived
-pub mod Asked
 pub mod Blocks
 pub mod Bytes
 pub mod Entries

@@ -1,5 +1,5 @@
 -- What a shelf keeps and shows.
-use Rattle.std.specs.Prelude.{ℕ, ◌≡◌, ◌≤◌, ◌<◌, ◌+◌, ◌++◌, false, List, length, slice_get}
+use Rattle.std.specs.Prelude.{ℕ, ◌≡◌, ◌≤◌, ◌<◌, ◌+◌, ◌++◌, false, List, [], length, slice_get}
 use Rattle.std.specs.List.{AllByRecursion, list_any}
 use Rattle.std.specs.Str.{bytes_eq}
 use Rattle.cb_scan.specs.Definitions.{facts_of}
@@ -10,6 +10,8 @@ use Rattle.cb_index.specs.Entries.{Keyer, sort_key}
 use Rattle.cb_index.specs.Files.{AreApart, AreAscending, File, IsThere, call_count, def_count, files_of, is_shown, shown_name, total, use_count}
 use Rattle.cb_index.specs.Held.{Indexed, Prefixer, all_entries}
 use Rattle.cb_index.specs.Orders.{callee_key, callee_prefixes, caller_key, caller_prefixes, def_key, def_prefixes, tag_key, tag_prefixes, use_key, use_prefixes}
+use Rattle.cb_index.specs.declared.asked.Asked.{Asked}
+use Rattle.cb_index.specs.declared.asked.Asked.TheVariants.{Defs, Tags, Uses, Callees, Callers}
 use Rattle.cb_index.specs.declared.entry.Entry.{Entry}
 use Rattle.cb_index.specs.declared.entry.Shown.{Shown}
 use Rattle.cb_index.specs.declared.totals.Totals.{Totals}
@@ -21,6 +23,18 @@ pub record Waiting : Type 0 where
   pub uses : List Shown
   pub callees : List Shown
   pub callers : List Shown
+
+-- nothing waits
+abbrev pub nothing : Waiting
+nothing = record { defs = []; tags = []; uses = []; callees = []; callers = [] }
+
+-- nothing waits in the index that answers
+abbrev pub settled : Asked → Waiting → Waiting
+settled Defs w = record w { defs = [] }
+settled Tags w = record w { tags = [] }
+settled Uses w = record w { uses = [] }
+settled Callees w = record w { callees = [] }
+settled Callers w = record w { callers = [] }
 
 -- the archive, what is shown of it, by file name, what waits of it, how often it changed, and for
 -- how many entries, definitions, uses and calls there is room
@@ -121,10 +135,3 @@ pub record AreTotals (a : Archived) (shown : List Shown) (n : Totals) : Type 0 w
   pub defs : n.defs ≡ total def_count a shown
   pub uses : n.uses ≡ total use_count a shown
   pub calls : n.calls ≡ total call_count a shown
-
--- all but what waits is as before, and the room is as large
-pub record IsStill (old new : Shelved) : Type 0 where
-  pub archive : new.archive ≡ old.archive
-  pub shown : new.shown ≡ old.shown
-  pub turns : new.turns ≡ old.turns
-  pub room : KeepsRoom old new

@@ -7,6 +7,7 @@
 #![tactic(auto)]
 
 mod archive;
+mod asked;
 mod block;
 mod blocks;
 mod bytes;
@@ -36,6 +37,7 @@ mod tags;
 mod totals;
 
 pub use archive::{Archive, Version};
+pub use asked::Asked;
 pub use entries::Entries;
 pub use entry::{Entry, Shown};
 pub use facts::{FactRows, FactSpots};

@@ -6,17 +6,16 @@ ghost use Rattle.std.specs.Cmp.Lexicographic.{slice_cmp};
 ghost use Rattle.std.specs.Ordering.{is_gt, nat_cmp};
 ghost use Rattle.std.specs.Str.{bytes_eq};
 ghost use Rattle.cb_scan.specs.Order.{goes_first, in_order, put};
-ghost use Rattle.std.specs.Borrow.{sem};
 ghost use Rattle.cb_index.specs.Archived.{name_of};
-ghost use Rattle.cb_index.specs.Asked.{StaysAsked};
 ghost use Rattle.cb_index.specs.Files.{AreAscending, IsThere, shown_name};
 ghost use Rattle.cb_index.specs.Names.{is_among, names_of};
 ghost use Rattle.cb_index.specs.Rows.{calls_in, calls_of, tags_by_name, tags_by_tag_name, tags_named, uses_of};
-ghost use Rattle.cb_index.specs.Shelved.{AreTotals, CanShow, CanShowAll, IsStill, KeepsRoom, files, with_facts};
+ghost use Rattle.cb_index.specs.Shelved.{AreTotals, CanShow, CanShowAll, KeepsRoom, files, nothing, settled, with_facts};
 ghost use Rattle.cb_index.specs.declared.entry.Shown.{Shown};
 ghost use Rattle.cb_index.specs.steps.Left.{entries_left, facts_left, tags_left};
 
 use crate::archive::{Archive, Version};
+use crate::asked::Asked;
 use crate::counted::{Counted, has_room, has_room_for};
 use crate::entries::Entries;
 use crate::entry::Shown;
@@ -40,8 +39,9 @@ const FEW: usize = 8;
 /// An archive, the versions that are shown of it, each under a file name, and five indexes of what
 /// is found in these. No two versions are shown under one file name. Only `reserve` takes memory.
 ///
-/// A version that is shown costs hardly anything at first: its entries wait. A question puts those
-/// of the one index that it reads in order, so that many versions are sorted together.
+/// A version that is shown costs hardly anything at first: its entries wait. Before a question,
+/// `settle` puts what waits in order in the one index that answers it, so that many versions are
+/// sorted together.
 #[derive(Drop)]
 pub struct Shelf {
     archive: Archive,
@@ -90,6 +90,7 @@ impl Shelf {
         ensures names { result.archive.names ≡ [] }
         ensures texts { result.archive.texts ≡ [] }
         ensures shown { result.shown ≡ [] }
+        ensures waiting { result.waiting ≡ nothing }
         ensures turns { result.turns ≡ 0 }
     {
         Shelf {
@@ -396,16 +397,26 @@ impl Shelf {
         }
     }
 
-    /// Puts the definitions by name in order. It takes no memory.
-    pub fn settle_defs(&mut self)
-        ensures waiting { self.new.waiting.defs ≡ [] }
-        ensures still { IsStill self.old self.new }
+    /// Puts what waits in order in the index that answers a question, in the room that is there. It
+    /// takes no memory.
+    pub fn settle(&mut self, asked: Asked)
+        ensures waiting { self.new.waiting ≡ settled asked self.old.waiting }
+        ensures archive { self.new.archive ≡ self.old.archive }
+        ensures shown { self.new.shown ≡ self.old.shown }
+        ensures turns { self.new.turns ≡ self.old.turns }
+        ensures room { KeepsRoom self.old self.new }
     {
-        self.defs.settle(&self.archive);
+        match asked {
+            Asked::Defs => self.defs.settle(&self.archive),
+            Asked::Tags => self.tags.settle(&self.archive),
+            Asked::Uses => self.uses.settle(&self.archive),
+            Asked::Callees => self.callees.settle(&self.archive),
+            Asked::Callers => self.callers.settle(&self.archive),
+        }
     }
 
-    /// The definitions of a name, by file and place, where those by name are in order.
-    pub fn settled_defs(&self, name: &[u8]) -> TagRows<'_>
+    /// The definitions of a name, by file and place. None of them waits.
+    pub fn defs(&self, name: &[u8]) -> TagRows<'_>
         requires { self.now.waiting.defs ≡ [] }
         ensures { tags_left result ≡ tags_named name.now (files self.now) }
     {
@@ -415,74 +426,54 @@ impl Shelf {
         }
     }
 
-    /// The definitions of a name, by file and place.
-    pub fn defs(&mut self, name: &[u8]) -> TagRows<'_>
-        ensures tags { tags_left result ≡ tags_named name.now (files self.old) }
-        ensures* after_borrow { sem 𝓛 (StaysAsked self.entry) }
+    /// All definitions, by name. None of them waits.
+    pub fn all_defs(&self) -> TagRows<'_>
+        requires { self.now.waiting.defs ≡ [] }
+        ensures { tags_left result ≡ tags_by_name (files self.now) }
     {
-        self.settle_defs();
-        let settled: &Shelf = self;
-        settled.settled_defs(name)
-    }
-
-    /// All definitions, by name.
-    pub fn all_defs(&mut self) -> TagRows<'_>
-        ensures tags { tags_left result ≡ tags_by_name (files self.old) }
-        ensures* after_borrow { sem 𝓛 (StaysAsked self.entry) }
-    {
-        self.defs.settle(&self.archive);
-        let settled: &Shelf = self;
-        settled.archive.read_texts();
+        self.archive.read_texts();
         TagRows {
-            archive: &settled.archive,
-            entries: settled.defs.entries(),
+            archive: &self.archive,
+            entries: self.defs.entries(),
         }
     }
 
-    /// All definitions, by the names that a plain tags file has for them.
-    pub fn tags(&mut self) -> TagRows<'_>
-        ensures tags { tags_left result ≡ tags_by_tag_name (files self.old) }
-        ensures* after_borrow { sem 𝓛 (StaysAsked self.entry) }
+    /// All definitions, by the names that a plain tags file has for them. None of them waits.
+    pub fn tags(&self) -> TagRows<'_>
+        requires { self.now.waiting.tags ≡ [] }
+        ensures { tags_left result ≡ tags_by_tag_name (files self.now) }
     {
-        self.tags.settle(&self.archive);
-        let settled: &Shelf = self;
-        settled.archive.read_texts();
+        self.archive.read_texts();
         TagRows {
-            archive: &settled.archive,
-            entries: settled.tags.entries(),
+            archive: &self.archive,
+            entries: self.tags.entries(),
         }
     }
 
-    /// The uses of a name, by file and place.
-    pub fn uses(&mut self, name: &[u8]) -> FactRows<'_>
-        ensures facts { facts_left result ≡ uses_of name.now (files self.old) }
-        ensures* after_borrow { sem 𝓛 (StaysAsked self.entry) }
+    /// The uses of a name, by file and place. None of them waits.
+    pub fn uses(&self, name: &[u8]) -> FactRows<'_>
+        requires { self.now.waiting.uses ≡ [] }
+        ensures { facts_left result ≡ uses_of name.now (files self.now) }
     {
-        self.uses.settle(&self.archive);
-        let settled: &Shelf = self;
-        let found = settled.uses.with_key(&settled.archive, name);
-        FactRows::new(FactSort::Uses, &settled.archive, found)
+        let found = self.uses.with_key(&self.archive, name);
+        FactRows::new(FactSort::Uses, &self.archive, found)
     }
 
-    /// The calls of a name, by file and place.
-    pub fn calling(&mut self, name: &[u8]) -> FactRows<'_>
-        ensures facts { facts_left result ≡ calls_of name.now (files self.old) }
-        ensures* after_borrow { sem 𝓛 (StaysAsked self.entry) }
+    /// The calls of a name, by file and place. None of them waits.
+    pub fn calling(&self, name: &[u8]) -> FactRows<'_>
+        requires { self.now.waiting.callees ≡ [] }
+        ensures { facts_left result ≡ calls_of name.now (files self.now) }
     {
-        self.callees.settle(&self.archive);
-        let settled: &Shelf = self;
-        let found = settled.callees.with_key(&settled.archive, name);
-        FactRows::new(FactSort::Callees, &settled.archive, found)
+        let found = self.callees.with_key(&self.archive, name);
+        FactRows::new(FactSort::Callees, &self.archive, found)
     }
 
-    /// The calls that stand in what has that name, by file and place.
-    pub fn called_by(&mut self, name: &[u8]) -> FactRows<'_>
-        ensures facts { facts_left result ≡ calls_in name.now (files self.old) }
-        ensures* after_borrow { sem 𝓛 (StaysAsked self.entry) }
+    /// The calls that stand in what has that name, by file and place. None of them waits.
+    pub fn called_by(&self, name: &[u8]) -> FactRows<'_>
+        requires { self.now.waiting.callers ≡ [] }
+        ensures { facts_left result ≡ calls_in name.now (files self.now) }
     {
-        self.callers.settle(&self.archive);
-        let settled: &Shelf = self;
-        let found = settled.callers.with_key(&settled.archive, name);
-        FactRows::new(FactSort::Callers, &settled.archive, found)
+        let found = self.callers.with_key(&self.archive, name);
+        FactRows::new(FactSort::Callers, &self.archive, found)
     }
 }

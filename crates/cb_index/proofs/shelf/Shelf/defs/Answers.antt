@@ -5,7 +5,7 @@ use Rattle.cb_index.specs.Shelved.{Shelved, files}
 use Rattle.cb_index.specs.steps.Found.{tag_at}
 use Rattle.cb_index.proofs.CoverLemmas.{covers_read}
 use Rattle.cb_index.proofs.RowLemmas.{again, rows_named}
-use Rattle.cb_index.proofs.shelf.Shelf.settled_defs.Goals as goal
+use Rattle.cb_index.proofs.shelf.Shelf.defs.Goals as goal
 
 pub with_key-requires : goal.with_key-requires
 with_key-requires c =
