@@ -1,5 +1,4 @@
 pub mod Answer
-pub mod AskedDesk
 pub mod Desk
 pub mod Files
 pub mod Laws

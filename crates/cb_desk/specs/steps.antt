@@ -10,8 +10,6 @@ pub mod Records
 pub mod Replaced
 pub mod Room
 pub mod Search
-pub mod Settled
-pub mod Still
 pub mod Named
 pub mod Texts
 pub mod TextsLeft

@@ -1,15 +1,5 @@
 //! The present world, and the records that lead back and on from it.
-ghost use Rattle.std.specs.Prelude.{◌≡◌, ◌≢◌, ◌<◌, [], ◌∷◌, ⊤, length, nat_le, MatchOption, MatchResult};
-ghost use Rattle.std.specs.Borrow.{sem};
-ghost use Rattle.std.specs.Option.{option_map};
-ghost use Rattle.cb_desk.specs.Answer.{answer};
-ghost use Rattle.cb_desk.specs.Models.{step_of};
-ghost use Rattle.cb_desk.specs.Step.{place_of};
-ghost use Rattle.cb_desk.specs.Tags.{tags};
-ghost use Rattle.cb_desk.specs.declared.spot.NumberedPlace.{NumberedPlace};
-ghost use Rattle.cb_desk.specs.steps.Records.{place_in, world_in};
-ghost use Rattle.cb_desk.specs.steps.Settled.{StaysRecorded};
-ghost use Rattle.cb_desk.specs.steps.Still.{IsStillRecorded};
+ghost use Rattle.std.specs.Prelude.{◌≡◌, ◌<◌, [], ◌∷◌, length, nat_le, MatchResult};
 ghost use Rattle.cb_desk.specs.declared.limits.TheConstants.{MOST_CHANGES};
 ghost use Rattle.cb_desk.specs.World.{World, IsValidWorld};
 ghost use Rattle.cb_desk.specs.steps.Plans.{IsPlan};
@@ -17,10 +7,7 @@ ghost use Rattle.cb_desk.specs.Timeline.{IsValidTimeline, Moves, moved_on, new_t
 ghost use Rattle.cb_desk.specs.Turns.{Turns};
 ghost use Rattle.cb_desk.specs.steps.Walks.{IsKept, IsRecorded, timeline_in};
 
-use crate::rows::Field;
-use crate::spot::NumberedPlace;
-use crate::tags::Format;
-use crate::{Change, Refusal, Rows, TagRows};
+use crate::Refusal;
 use crate::limits::MOST_CHANGES;
 use crate::plan::Plan;
 use crate::present::Present;
@@ -82,33 +69,6 @@ impl History {
         ensures valid { IsValidTimeline (timeline_in self.now) }
     {
         &self.present
-    }
-
-    /// The place that a change asks for, if it asks for one and that is there.
-    pub(crate) fn place_of(&mut self, change: &Change<'_>) -> Option<NumberedPlace>
-        ensures place { option_map (place_in self.new.kept.archive) result
-            ≡ place_of (world_in self.new.kept.archive self.new.kept.now) (step_of change.now) }
-        ensures there { MatchOption result ⊤ (λ (p : NumberedPlace). p.name < self.new.kept.now.names) }
-        ensures still { IsStillRecorded self.old self.new }
-    {
-        self.present.place_of(change)
-    }
-
-    /// The rows that answer a question; equal ones once.
-    pub(crate) fn rows<'a, 'p>(&'a mut self, field: Field, pattern: &'p [u8]) -> Rows<'a, 'p>
-        requires { pattern.now ≢ [] }
-        ensures rows { result ≡ answer (timeline_in self.old).present field pattern.now }
-        ensures* after_borrow { sem 𝓛 (StaysRecorded self.entry) }
-    {
-        self.present.rows(field, pattern)
-    }
-
-    /// All definitions as tags, in the order of a format.
-    pub(crate) fn tag_rows(&mut self, format: Format) -> TagRows<'_>
-        ensures tags { result ≡ tags format (timeline_in self.old).present }
-        ensures* after_borrow { sem 𝓛 (StaysRecorded self.entry) }
-    {
-        self.present.tag_rows(format)
     }
 
     /// Whether the past is as long as it may be.

@@ -1,9 +1,7 @@
 //! The state of a session.
 ghost use Rattle.std.specs.Prelude.{◌≡◌, ◌≢◌, [], IfErr};
 ghost use Rattle.std.specs.Option.{option_copied};
-ghost use Rattle.std.specs.Borrow.{sem};
 ghost use Rattle.cb_desk.specs.Answer.{answer};
-ghost use Rattle.cb_desk.specs.AskedDesk.{StaysAsked};
 ghost use Rattle.cb_desk.specs.Desk.{Counts, CountsUpTo, bytes_in, scanned};
 ghost use Rattle.cb_desk.specs.Models.{step_of};
 ghost use Rattle.cb_desk.specs.Tags.{tags};
@@ -19,8 +17,7 @@ use std::alloc::{AllocError, Global};
 use std::marker::Model;
 
 /// The files with their past and future. A text is scanned as it comes in, and not once more: undo
-/// and redo go along records, and answers are read from indexes. None of these takes memory. A
-/// question first puts what came in since the last one in order.
+/// and redo go along records, and answers are read from indexes. None of these takes memory.
 #[derive(Drop)]
 pub struct Desk {
     history: History,
@@ -85,8 +82,8 @@ impl Desk {
     {
         // A growth can fail only after all is judged. All growths come before the first move.
         let _counted = self.meter.read();
-        let place = self.history.place_of(&change);
         let present = self.history.present();
+        let place = present.place_of(&change);
         if let Some(refusal) = present.refusal_of(&change, place) {
             return Err(refusal);
         }
@@ -179,19 +176,17 @@ impl Desk {
     }
 
     /// The rows that answer a question, by file and place; equal ones once.
-    pub fn rows<'a, 'p>(&'a mut self, field: Field, pattern: &'p [u8]) -> Rows<'a, 'p>
+    pub fn rows<'a, 'p>(&'a self, field: Field, pattern: &'p [u8]) -> Rows<'a, 'p>
         requires { pattern.now ≢ [] }
-        ensures rows { result ≡ answer self.old.timeline.present field pattern.now }
-        ensures* after_borrow { sem 𝓛 (StaysAsked self.entry) }
+        ensures { result ≡ answer self.now.timeline.present field pattern.now }
     {
-        self.history.rows(field, pattern)
+        self.history.present().rows(field, pattern)
     }
 
     /// All definitions of the present world as tags, in the order of a format.
-    pub fn tag_rows(&mut self, format: Format) -> TagRows<'_>
-        ensures tags { result ≡ tags format self.old.timeline.present }
-        ensures* after_borrow { sem 𝓛 (StaysAsked self.entry) }
+    pub fn tag_rows(&self, format: Format) -> TagRows<'_>
+        ensures { result ≡ tags format self.now.timeline.present }
     {
-        self.history.tag_rows(format)
+        self.history.present().tag_rows(format)
     }
 }

@@ -3,8 +3,6 @@ ghost use Rattle.std.specs.Prelude.{◌≡◌, ◌≢◌, ◌<◌, ◌^◌, [], 
 ghost use Rattle.cb_desk.specs.declared.rows.Field.{Field};
 ghost use Rattle.std.specs.Iterator.{YieldsFirstBy, item_count};
 ghost use Rattle.std.specs.List.{flat_map};
-ghost use Rattle.std.specs.Borrow.{sem};
-ghost use Rattle.cb_index.specs.Asked.{StaysAsked};
 ghost use Rattle.cb_index.specs.Shelved.{files};
 ghost use Rattle.cb_desk.specs.Answer.{distinct, field_rows};
 ghost use Rattle.cb_desk.specs.Models.{row_of};
@@ -46,17 +44,15 @@ impl<'a, 'p> Model for Rows<'a, 'p> {
 
 impl<'a, 'p> Rows<'a, 'p> {
     /// The rows that answer a question.
-    pub(crate) fn new(shelf: &'a mut Shelf, field: Field, pattern: &'p [u8]) -> Rows<'a, 'p>
+    pub(crate) fn new(shelf: &'a Shelf, field: Field, pattern: &'p [u8]) -> Rows<'a, 'p>
         requires some { pattern.now ≢ [] }
-        requires valid { AreValidFiles (files shelf.old) }
-        ensures rows { result ≡ distinct (flat_map (field_rows field pattern.now) (files shelf.old)) }
-        ensures* after_borrow { sem 𝓛 (StaysAsked shelf.entry) }
+        requires valid { AreValidFiles (files shelf.now) }
+        ensures { result ≡ distinct (flat_map (field_rows field pattern.now) (files shelf.now)) }
     {
-        // The names of the files ascend.
-        let _files = Files::new(shelf);
+        let files = Files::new(shelf);
         match field {
             Field::Text => Rows {
-                source: RowSource::Lines(TextRows::new(Files::new(shelf), pattern)),
+                source: RowSource::Lines(TextRows::new(files, pattern)),
             },
             _ => Rows {
                 source: RowSource::Others(DistinctSpots::new(found_rows(shelf, field, pattern))),
@@ -94,12 +90,11 @@ impl<'a, 'p> Iterator for Rows<'a, 'p> {
 }
 
 /// The rows of facts and of names of files, by file and place, equal ones included.
-fn found_rows<'a, 'p>(shelf: &'a mut Shelf, field: Field, pattern: &'p [u8]) -> FoundRows<'a, 'p>
+fn found_rows<'a, 'p>(shelf: &'a Shelf, field: Field, pattern: &'p [u8]) -> FoundRows<'a, 'p>
     requires field { field ≢ Field.Text }
-    requires valid { AreValidFiles (files shelf.old) }
-    ensures rows { found_left result ≡ flat_map (field_rows field pattern.now) (files shelf.old) }
+    requires valid { AreValidFiles (files shelf.now) }
+    ensures rows { found_left result ≡ flat_map (field_rows field pattern.now) (files shelf.now) }
     ensures few { length (found_left result) < 2 ^ 64 }
-    ensures* after_borrow { sem 𝓛 (StaysAsked shelf.entry) }
 {
     match field {
         Field::Symbol => FoundRows::Around(shelf.uses(pattern).spots()),

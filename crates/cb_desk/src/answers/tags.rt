@@ -3,8 +3,6 @@ ghost use Rattle.std.specs.Prelude.{◌≡◌, length};
 ghost use Rattle.std.specs.Iterator.{YieldsFirstBy, item_count};
 ghost use Rattle.std.specs.List.{flat_map};
 ghost use Rattle.cb_scan.specs.Order.{in_order};
-ghost use Rattle.std.specs.Borrow.{sem};
-ghost use Rattle.cb_index.specs.Asked.{StaysAsked};
 ghost use Rattle.cb_index.specs.Shelved.{files};
 ghost use Rattle.cb_tags.specs.TagLines.{tag_of};
 ghost use Rattle.cb_desk.specs.Tags.{file_tags, tag_key};
@@ -52,9 +50,8 @@ impl<'a> Iterator for TagRows<'a> {
 }
 
 /// All definitions as tags, in the order of a format.
-pub(crate) fn tag_rows(shelf: &mut Shelf, format: Format) -> TagRows<'_>
-    ensures tags { result ≡ in_order (tag_key format) (flat_map file_tags (files shelf.old)) }
-    ensures* after_borrow { sem 𝓛 (StaysAsked shelf.entry) }
+pub(crate) fn tag_rows(shelf: &Shelf, format: Format) -> TagRows<'_>
+    ensures { result ≡ in_order (tag_key format) (flat_map file_tags (files shelf.now)) }
 {
     match format {
         Format::Plain => TagRows { rest: shelf.tags() },

@@ -1,14 +1,11 @@
-//! What is read of the present world. None of it takes memory. A question may put in order what
-//! came in since the last one.
+//! What is read of the present world. None of it takes memory.
 ghost use Rattle.std.specs.Prelude.{◌≡◌, ◌≢◌, [], map};
 ghost use Rattle.std.specs.Option.{option_copied};
-ghost use Rattle.std.specs.Borrow.{sem};
 ghost use Rattle.cb_index.specs.Files.{files_of};
 ghost use Rattle.cb_desk.specs.Answer.{answer};
 ghost use Rattle.cb_desk.specs.Tags.{tags};
 ghost use Rattle.cb_desk.specs.World.{AreValidFiles, text_named};
 ghost use Rattle.cb_desk.specs.steps.Records.{place_in, world_in};
-ghost use Rattle.cb_desk.specs.steps.Settled.{StaysPresent};
 
 use crate::answers::{Files, Rows, TagRows, source, tag_rows};
 use crate::places::Places;
@@ -64,21 +61,19 @@ impl Present {
     }
 
     /// The rows that answer a question; equal ones once.
-    pub(crate) fn rows<'a, 'p>(&'a mut self, field: Field, pattern: &'p [u8]) -> Rows<'a, 'p>
+    pub(crate) fn rows<'a, 'p>(&'a self, field: Field, pattern: &'p [u8]) -> Rows<'a, 'p>
         requires some { pattern.now ≢ [] }
-        requires valid { AreValidFiles (files_of self.old.archive self.old.now.shown) }
-        ensures rows { result ≡ answer (world_in self.old.archive self.old.now) field pattern.now }
-        ensures* after_borrow { sem 𝓛 (StaysPresent self.entry) }
+        requires valid { AreValidFiles (files_of self.now.archive self.now.now.shown) }
+        ensures { result ≡ answer (world_in self.now.archive self.now.now) field pattern.now }
     {
-        Rows::new(&mut self.shelf, field, pattern)
+        Rows::new(&self.shelf, field, pattern)
     }
 
     /// All definitions as tags, in the order of a format.
     #[tactic(auto, unfolding(crate::specs::Tags::tags))]
-    pub(crate) fn tag_rows(&mut self, format: Format) -> TagRows<'_>
-        ensures tags { result ≡ tags format (world_in self.old.archive self.old.now) }
-        ensures* after_borrow { sem 𝓛 (StaysPresent self.entry) }
+    pub(crate) fn tag_rows(&self, format: Format) -> TagRows<'_>
+        ensures { result ≡ tags format (world_in self.now.archive self.now.now) }
     {
-        tag_rows(&mut self.shelf, format)
+        tag_rows(&self.shelf, format)
     }
 }
