@@ -18,7 +18,8 @@ pub mod IncludeLines
 pub mod Lengths
 pub mod KeyLaws
 pub mod KeyOrder
-pub mod KeyPlaces
+pub mod KeyRanks
+pub mod KeyRuns
 pub mod KeyPostings
 pub mod LineLemmas
 pub mod LineTable

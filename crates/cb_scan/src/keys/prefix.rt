@@ -1,17 +1,6 @@
-//! An item, its key and the key's prefix.
+//! The first bytes of a key as a number.
 ghost use Rattle.std.specs.Prelude.{◌≡◌, ◌<◌, get_or};
-ghost use Rattle.std.specs.List.{All};
 ghost use Rattle.cb_scan.specs.Keys.{key_prefix};
-
-/// An item with its key, and the first bytes of the key as a number, which settle most comparisons.
-#[derive(Clone, Copy)]
-pub(crate) struct Place<'a> {
-    pub prefix: u64,
-    pub key: &'a [u8],
-    pub item: u32,
-    ghost prefixed: { prefix ≡ key_prefix key.now },
-    ghost bytes: { All (λ b. b < 256) key.now },
-}
 
 /// The byte at a place, or 0 past the end.
 fn byte_at(key: &[u8], at: usize) -> u64
@@ -33,13 +22,4 @@ pub fn key_prefix(key: &[u8]) -> u64
         + byte_at(key, 5) * 0x0000_0000_0001_0000
         + byte_at(key, 6) * 0x0000_0000_0000_0100
         + byte_at(key, 7)
-}
-
-/// Says that the elements of a slice of bytes are bytes. It does nothing.
-pub(crate) fn read_bytes(key: &[u8])
-    ensures { All (λ b. b < 256) key.now }
-{
-    for byte in key {
-        let _byte = *byte;
-    }
 }

@@ -1,0 +1,41 @@
+//! Items with what settles most comparisons of their keys.
+ghost use Rattle.std.specs.Prelude.{◌≡◌, ◌<◌, ◌^◌, length, map, IfOk};
+ghost use Rattle.cb_scan.specs.lex.Tokens.{bytes_of};
+ghost use Rattle.cb_scan.specs.steps.Ranks.{rank, ranks};
+
+use crate::keys::prefix::key_prefix;
+use crate::keys::spelling::Spelling;
+use std::alloc::{AllocError, Global};
+
+/// An item, and what is compared before its key is looked up: the prefix of the key, and how many
+/// bytes the key has, or 9 if it goes on behind its prefix.
+#[derive(Clone, Copy)]
+pub(crate) struct Ranked {
+    pub prefix: u64,
+    pub size: u32,
+    pub item: u32,
+}
+
+fn rank(item: u32, key: &[u8]) -> Ranked
+    ensures { result ≡ rank item key.now }
+{
+    Ranked {
+        prefix: key_prefix(key),
+        size: key.len().min(9) as u32,
+        item,
+    }
+}
+
+/// The items, first to last.
+pub(crate) fn rank_all(alloc: Global, spelling: Spelling<'_>) -> Result<Vec<Ranked>, AllocError>
+    requires { length spelling.spans.now < 2 ^ 32 }
+    ensures { IfOk result
+        (λ rs. rs.items ≡ ranks 0 (map (bytes_of spelling.entry.text.now) spelling.entry.spans.now)) }
+{
+    let mut found = Vec::with_capacity(alloc, spelling.spans.len())?;
+    for (i, span) in spelling.spans.iter().enumerate() {
+        let key = &spelling.text[span.start as usize..span.end as usize];
+        found.push(rank(i as u32, key))?;
+    }
+    Ok(found)
+}
