@@ -1,5 +1,5 @@
 -- The order of keys, by their prefixes and by all of their bytes.
-use Rattle.std.proofs.Common.{◌≡◌, ◌∙◌, ◌<◌, ◌≤◌, ◌+◌, ◌*◌, ◌^◌, ◌++◌, ℕ, zero, suc, List, [], ◌∷◌, refl, sym, ap, subst, length, map, arith}
+use Rattle.std.proofs.Common.{◌≡◌, ◌∙◌, ◌<◌, ◌≤◌, ◌+◌, ◌*◌, ◌^◌, ◌++◌, ℕ, zero, suc, List, [], ◌∷◌, refl, sym, ap, subst, get_or, length, map, arith}
 use Rattle.std.proofs.Math.Nat.{mul-le-mul_right, pow-succ', suc-mul}
 use Rattle.std.proofs.lemmas.Bool.Decides.{nat_tests}
 use Rattle.std.proofs.lemmas.Cmp.{by_ranked, nat_list_cmp_total, ranked, tied_itself}
@@ -21,6 +21,10 @@ pub by_recursion : {X : Type 0} (P : X → Type 0) (xs : List X) → All P xs �
 by_recursion P [] a = tt
 by_recursion P (x ∷ xs) a = (a 0 x (omega arith), by_recursion P xs (λ k d below. a (suc k) d (omega (arith, below))))
 
+pub are_bytes : (bytes : List ℕ) → ((i : ℕ) → get_or bytes i 0 < 256) → AreBytes bytes
+are_bytes [] small = tt
+are_bytes (b ∷ bs) small = (small 0, are_bytes bs (λ i. small (suc i)))
+
 -- ---- numbers
 byte_worth : (b p q : ℕ) → b < 256 → q < p → b * p + q < 256 * p
 byte_worth b p q small below =
@@ -36,7 +40,7 @@ after_same : (x y p q r : ℕ) → x ≡ y → x * p + q < y * p + r → q < r
 after_same x y p q r same less =
     let products : x * p ≡ y * p = ap (λ n. n * p) same in omega (arith, products, less)
 
-leading_below : (n : ℕ) (key : List ℕ) → AreBytes key → leading n key < 256 ^ n
+pub leading_below : (n : ℕ) (key : List ℕ) → AreBytes key → leading n key < 256 ^ n
 leading_below zero key bytes = omega arith
 leading_below (suc n) [] bytes =
     let some : leading n [] < 256 ^ n = leading_below n [] tt in

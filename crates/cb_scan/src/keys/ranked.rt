@@ -1,9 +1,9 @@
 //! Items with what settles most comparisons of their keys.
-ghost use Rattle.std.specs.Prelude.{◌≡◌, ◌<◌, ◌^◌, length, map, IfOk};
+ghost use Rattle.std.specs.Prelude.{◌≡◌, ◌≤◌, ◌<◌, ◌^◌, length, map, take, IfOk};
 ghost use Rattle.cb_scan.specs.lex.Tokens.{bytes_of};
 ghost use Rattle.cb_scan.specs.steps.Ranks.{rank, ranks};
 
-use crate::keys::prefix::key_prefix;
+use crate::keys::prefix::prefix_of_front;
 use crate::keys::spelling::Spelling;
 use std::alloc::{AllocError, Global};
 
@@ -16,12 +16,14 @@ pub(crate) struct Ranked {
     pub item: u32,
 }
 
-fn rank(item: u32, key: &[u8]) -> Ranked
-    ensures { result ≡ rank item key.now }
+/// An item whose key a text begins with.
+fn rank(item: u32, text: &[u8], len: usize) -> Ranked
+    requires { len ≤ length text.now }
+    ensures { result ≡ rank item (take len text.now) }
 {
     Ranked {
-        prefix: key_prefix(key),
-        size: key.len().min(9) as u32,
+        prefix: prefix_of_front(text, len),
+        size: len.min(9) as u32,
         item,
     }
 }
@@ -34,8 +36,8 @@ pub(crate) fn rank_all(alloc: Global, spelling: Spelling<'_>) -> Result<Vec<Rank
 {
     let mut found = Vec::with_capacity(alloc, spelling.spans.len())?;
     for (i, span) in spelling.spans.iter().enumerate() {
-        let key = &spelling.text[span.start as usize..span.end as usize];
-        found.push(rank(i as u32, key))?;
+        let rest = &spelling.text[span.start as usize..];
+        found.push(rank(i as u32, rest, (span.end - span.start) as usize))?;
     }
     Ok(found)
 }

@@ -16,22 +16,12 @@ pub(crate) struct Spelling<'a> {
     ghost bytes: { All (λ b. b < 256) text.now },
 }
 
-/// Says that the elements of a text are bytes. It does nothing.
-fn read_bytes(text: &[u8])
-    ensures { All (λ b. b < 256) text.now }
-{
-    for byte in text {
-        let _byte = *byte;
-    }
-}
-
 impl<'a> Spelling<'a> {
     pub(crate) fn new(text: &'a [u8], spans: &'a [Span]) -> Spelling<'a>
         requires { AllByRecursion (IsWithin text.now) spans.now }
         ensures text { result.text.now ≡ text.now }
         ensures spans { result.spans.now ≡ spans.now }
     {
-        read_bytes(text);
         Spelling { text, spans }
     }
 
