@@ -10,7 +10,7 @@ use Rattle.std.specs.List.{All, AllByRecursion}
 use Rattle.std.specs.Ordering.{is_eq, nat_cmp, ordering_reverse, ordering_then}
 use Rattle.std.specs.declared.cmp.Ordering.{Ordering}
 use Rattle.std.specs.declared.cmp.Ordering.TheVariants.{Less, Equal, Greater}
-use Rattle.cb_scan.specs.Keys.{leading}
+use Rattle.cb_scan.specs.Keys.{key_prefix, leading}
 use Rattle.cb_scan.specs.steps.Keys.{Keyed, sort_key}
 
 -- each number is a byte
@@ -77,6 +77,19 @@ first_bytes_first (suc n) (x ∷ xs) (y ∷ ys) in_a in_b less =
 pub turned : (a b : List ℕ) → slice_cmp nat_cmp b a ≡ Less → slice_cmp nat_cmp a b ≡ Greater
 turned a b is = nat_list_cmp_total.antisymm a b ∙ ap ordering_reverse is
 
+-- prefixes settle no comparison otherwise than the keys do
+pub prefix_first : (a b : List ℕ) → AreBytes a → AreBytes b
+    → ordering_then (nat_cmp (key_prefix a) (key_prefix b)) (slice_cmp nat_cmp a b) ≡ slice_cmp nat_cmp a b
+prefix_first a b in_a in_b =
+    let first = nat_cmp (key_prefix a) (key_prefix b) in
+    by_ranked (key_prefix a < key_prefix b) (key_prefix a ≡ key_prefix b) (key_prefix b < key_prefix a)
+    first (ranked (key_prefix a) (key_prefix b) first refl)
+    (λ e below. ap (λ o. ordering_then o (slice_cmp nat_cmp a b)) e ∙ sym (first_bytes_first 8 a b in_a in_b below))
+    (λ e same. ap (λ o. ordering_then o (slice_cmp nat_cmp a b)) e)
+    (λ e above. ap (λ o. ordering_then o (slice_cmp nat_cmp a b)) e
+    ∙ sym (turned a b (first_bytes_first 8 b a in_b in_a above)))
+
+-- ---- numbers in order
 suc_cmp : (x y : ℕ) → nat_cmp (suc x) (suc y) ≡ nat_cmp x y
 suc_cmp x y = grind (arith, nat_tests)
 
@@ -86,6 +99,7 @@ zero_cmp y = grind (arith, nat_tests)
 cmp_zero : (x : ℕ) → nat_cmp (suc x) 0 ≡ Greater
 cmp_zero x = grind (arith, nat_tests)
 
+-- ---- lengths settle what a prefix does not
 -- where the prefixes are one and a key does not go on behind it, the keys are in the order of their
 -- lengths
 pub settled : (n : ℕ) (a b : List ℕ) → AreBytes a → AreBytes b → leading n a ≡ leading n b → length a ≤ n

@@ -15,7 +15,6 @@ use Rattle.cb_scan.specs.Order.{goes_first, in_order, put}
 use Rattle.cb_scan.specs.steps.Keys.{Keyed, item_of, numbered, prefixes_on, sort_key, starts_on}
 use Rattle.cb_scan.proofs.FactsWithin.{all_in_order}
 use Rattle.cb_scan.proofs.KeyOrder.{same_bytes, sort_key_cmp}
-use Rattle.cb_scan.proofs.OrderLemmas.{length_in_order}
 
 abbrev Keys : List ℕ → List ℕ → Ordering
 Keys = slice_cmp nat_cmp
@@ -245,11 +244,3 @@ module _ (keys : List (List ℕ)) where
   } ≡ items_by_key keys
   unfolding items_by_key
   built i = record { items = items_are i; starts = starts_are i; prefixes = prefixes_are i }
-
--- ---- how many there are
-length_numbered : (n : ℕ) (keys : List (List ℕ)) → length (numbered n keys) ≡ length keys
-length_numbered n [] = refl
-length_numbered n (key ∷ keys) = ap suc (length_numbered (suc n) keys)
-
-pub length_ordered : (keys : List (List ℕ)) → length (in_order sort_key (numbered 0 keys)) ≡ length keys
-length_ordered keys = length_in_order sort_key (numbered 0 keys) ∙ length_numbered 0 keys

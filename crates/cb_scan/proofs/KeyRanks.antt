@@ -1,5 +1,5 @@
 -- Prefixes and sizes order items as their keys do.
-use Rattle.std.proofs.Common.{◌≡◌, ◌∙◌, ◌≤◌, ◌<◌, ◌-◌, ℕ, zero, suc, true, false, List, [], ◌∷◌, Option, Some, None, refl, sym, ap, subst, length, map, drop, arith, ⊎_elim}
+use Rattle.std.proofs.Common.{◌≡◌, ◌∙◌, ◌≤◌, ◌<◌, ◌-◌, ℕ, zero, suc, Bool, true, false, List, [], ◌∷◌, Option, Some, None, refl, sym, ap, subst, length, map, drop, arith, ⊎_elim}
 use Rattle.std.proofs.Math.Nat.{min-eq_left, min-eq_right}
 use Rattle.std.proofs.lemmas.Bool.{cases_lt}
 use Rattle.std.proofs.lemmas.Bool.Decides.{nat_tests}
@@ -19,7 +19,10 @@ use Rattle.cb_scan.specs.lex.Tokens.{bytes_of}
 use Rattle.cb_scan.specs.steps.Keys.{numbered, sort_key}
 use Rattle.cb_scan.specs.steps.Ranks.{IsRanked, key_in, key_of, keyed, rank_key, ranks, size_of}
 use Rattle.cb_scan.proofs.FactsWithin.{all_in_order}
-use Rattle.cb_scan.proofs.KeyOrder.{AreBytes, first_bytes_first, settled, sort_key_cmp, then_equal, turned}
+use Rattle.cb_scan.proofs.KeyOrder.{AreBytes, first_bytes_first, same_number, settled, sort_exact, sort_key_cmp, then_equal, turned}
+use Rattle.cb_scan.proofs.OrderLemmas.{in_order_sorted, in_order_sum, unique}
+use Rattle.std.specs.List.Sorted.{IsPermutation}
+use Rattle.std.proofs.lemmas.List.Sorted.{sum_by-IsPermutation}
 use Rattle.cb_scan.proofs.KeyPostings.{alike}
 use Rattle.cb_scan.proofs.WithinLemmas.{all-drop, all-take}
 
@@ -40,6 +43,57 @@ is_within x y within = grind (arith, nat_tests, within)
 
 pub is_beyond : (x y : ℕ) → y < x → nat_le x y ≡ false
 is_beyond x y beyond = grind (arith, nat_tests, beyond)
+
+-- ---- what items are sorted by
+module _ (text : List ℕ) (spans : List Span) where
+  left_of : Ranked → List ℕ
+  left_of r = cond (nat_le r.size 8) (r.item ∷ []) (sort_key (keyed text spans r))
+
+  same_item : (r s : Ranked) → r.size ≡ s.size → left_of r ≡ left_of s → r.item ≡ s.item
+  unfolding left_of keyed
+  same_item r s size is = by_test (nat_le r.size 8) refl
+    where
+      by_test : (b : Bool) → nat_le r.size 8 ≡ b → r.item ≡ s.item
+      by_test true short =
+          let there : nat_le s.size 8 ≡ true = ap (λ n. nat_le n 8) (sym size) ∙ short in
+          let lists : r.item ∷ [] ≡ s.item ∷ [] =
+          sym (ap (λ b. cond b (r.item ∷ []) (sort_key (keyed text spans r))) short) ∙ is
+          ∙ ap (λ b. cond b (s.item ∷ []) (sort_key (keyed text spans s))) there in
+          cc
+      by_test false long =
+          let there : nat_le s.size 8 ≡ false = ap (λ n. nat_le n 8) (sym size) ∙ long in
+          let lists : sort_key (keyed text spans r) ≡ sort_key (keyed text spans s) =
+          sym (ap (λ b. cond b (r.item ∷ []) (sort_key (keyed text spans r))) long) ∙ is
+          ∙ ap (λ b. cond b (s.item ∷ []) (sort_key (keyed text spans s))) there in
+          ap (λ k. k.item) (sort_exact (keyed text spans r) (keyed text spans s) lists)
+
+  pub rank_exact : (r s : Ranked) → rank_key text spans r ≡ rank_key text spans s → r ≡ s
+  unfolding rank_key left_of
+  rank_exact r s is =
+      let prefix : r.prefix ≡ s.prefix = cc in
+      let size : r.size ≡ s.size = cc in
+      let rest : left_of r ≡ left_of s = cc in
+      let item : r.item ≡ s.item = same_item r s size rest in
+      λ i. record { prefix = prefix i; size = size i; item = item i }
+
+  -- two items whose keys go on behind their prefixes
+  pub long_is : (r s : Ranked) → nat_cmp r.prefix s.prefix ≡ Equal → nat_cmp r.size s.size ≡ Equal → 8 < r.size
+      → ordering_then (Keys (key_of text spans r.item) (key_of text spans s.item)) (nat_cmp r.item s.item)
+      ≡ Keys (rank_key text spans r) (rank_key text spans s)
+  unfolding rank_key left_of keyed
+  long_is r s prefix size long =
+      let here : nat_le r.size 8 ≡ false = is_beyond r.size 8 long in
+      let there : nat_le s.size 8 ≡ false = ap (λ n. nat_le n 8) (sym (same_number r.size s.size size)) ∙ here in
+      sym (sort_key_cmp (keyed text spans r) (keyed text spans s))
+      ∙ (λ i. ordering_then (sym prefix i) (ordering_then (sym size i)
+      (Keys (cond (sym here i) (r.item ∷ []) (sort_key (keyed text spans r))) (cond (sym there i) (s.item ∷ []) (sort_key (keyed text spans s))))))
+
+  -- the same items are one list in order
+  pub same_order : (rs ss : List Ranked) → IsPermutation rs ss → in_order (rank_key text spans) ss ≡ in_order (rank_key text spans) rs
+  same_order rs ss moved =
+      let key = rank_key text spans in
+      unique key rank_exact (in_order key ss) (in_order key rs) (in_order_sorted key ss) (in_order_sorted key rs)
+      (λ f. in_order_sum key f ss ∙ sum_by-IsPermutation f rs ss moved ∙ sym (in_order_sum key f rs))
 
 -- ---- two keys
 -- a key that its prefix and size tell apart from all others

@@ -20,7 +20,6 @@ pub mod KeyFronts
 pub mod KeyLaws
 pub mod KeyOrder
 pub mod KeyRanks
-pub mod KeyRuns
 pub mod KeyPostings
 pub mod LineLemmas
 pub mod LineTable

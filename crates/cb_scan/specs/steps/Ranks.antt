@@ -1,10 +1,9 @@
 -- Items with what settles most comparisons of their keys.
-use Rattle.std.specs.Prelude.{◌≡◌, ℕ, suc, List, [], ◌∷◌, Option, Some, None, true, length, min, nat_le, if◌then◌else◌}
-use Rattle.std.specs.List.{AllByRecursion, slice_get}
+use Rattle.std.specs.Prelude.{◌≡◌, ℕ, suc, List, [], ◌∷◌, Option, Some, None, length, min, nat_le, if◌then◌else◌}
+use Rattle.std.specs.List.{slice_get}
 use Rattle.cb_scan.specs.declared.keys.ranked.Ranked.{Ranked}
 use Rattle.cb_scan.specs.declared.lex.piece.Span.{Span}
 use Rattle.cb_scan.specs.Keys.{key_prefix}
-use Rattle.cb_scan.specs.Order.{AreOrdered, goes_first}
 use Rattle.cb_scan.specs.lex.Tokens.{bytes_of}
 use Rattle.cb_scan.specs.steps.Keys.{Keyed, sort_key}
 
@@ -39,20 +38,8 @@ abbrev pub IsRanked : List ℕ → List Span → Ranked → Type 0
 IsRanked text spans r =
     (r.prefix ≡ key_prefix (key_of text spans r.item)) × (r.size ≡ size_of (key_of text spans r.item))
 
--- what stands in an item
-abbrev pub quick_key : Ranked → List ℕ
-quick_key r = r.prefix ∷ r.size ∷ r.item ∷ []
-
--- what items are sorted by: where the key goes on behind its prefix, the key settles what prefix
--- and size do not
+-- what items are sorted by: where the key goes on behind its prefix, it settles what prefix and size
+-- do not
 unfoldable pub rank_key : List ℕ → List Span → Ranked → List ℕ
 rank_key text spans r =
     r.prefix ∷ r.size ∷ (if nat_le r.size 8 then r.item ∷ [] else sort_key (keyed text spans r))
-
--- the items are in the order of what stands in them
-abbrev pub AreRising : List Ranked → Type 0
-AreRising rs = AreOrdered (λ r s. goes_first quick_key r s ≡ true) rs
-
--- each of some items goes before each of others
-abbrev pub GoBefore : (Ranked → List ℕ) → List Ranked → List Ranked → Type 0
-GoBefore key rs ss = AllByRecursion (λ r. AllByRecursion (λ s. goes_first key r s ≡ true) ss) rs

@@ -2,7 +2,6 @@
 ghost use Rattle.std.specs.Prelude.{◌≡◌, ◌<◌, ◌^◌, ⊤, length, map, None, IfOk};
 ghost use Rattle.std.specs.List.{AllByRecursion};
 ghost use Rattle.std.specs.Option.{MatchOption, option_map};
-ghost use Rattle.std.specs.Str.{bytes_eq};
 ghost use Rattle.cb_scan.specs.declared.keys.ranked.Ranked.{Ranked};
 ghost use Rattle.cb_scan.specs.Definitions.{IsWithin};
 ghost use Rattle.cb_scan.specs.Keys.{items_by_key};
@@ -11,7 +10,7 @@ ghost use Rattle.cb_scan.specs.steps.Keys.{goes_on, prefixes_on, starts_on};
 ghost use Rattle.cb_scan.specs.steps.Ranks.{IsRanked, key_of, keyed};
 
 use crate::keys::list::KeyList;
-use crate::keys::ranked::Ranked;
+use crate::keys::ranked::{Ranked, have_one_key};
 use crate::keys::sorted::sorted;
 use crate::keys::spelling::Spelling;
 use crate::lex::piece::Span;
@@ -33,25 +32,6 @@ fn items(alloc: Global, ranked: &[Ranked]) -> Result<Vec<u32>, AllocError>
         items.push(one.item)?;
     }
     Ok(items)
-}
-
-/// Whether two items have one key.
-fn have_one_key(spelling: Spelling<'_>, a: Ranked, b: Ranked) -> bool
-    requires a { IsRanked spelling.text.now spelling.spans.now a }
-    requires b { IsRanked spelling.text.now spelling.spans.now b }
-    ensures { result ≡ bytes_eq (key_of spelling.entry.text.now spelling.entry.spans.now a.item)
-        (key_of spelling.entry.text.now spelling.entry.spans.now b.item) }
-{
-    if a.prefix != b.prefix {
-        return false;
-    }
-    if a.size != b.size {
-        return false;
-    }
-    if b.size <= 8 {
-        return true;
-    }
-    spelling.key(a.item) == spelling.key(b.item)
 }
 
 /// Whether an item has the key of the one before it.

@@ -1,7 +1,8 @@
 //! Items with what settles most comparisons of their keys.
 ghost use Rattle.std.specs.Prelude.{◌≡◌, ◌≤◌, ◌<◌, ◌^◌, length, map, take, IfOk};
+ghost use Rattle.std.specs.Str.{bytes_eq};
 ghost use Rattle.cb_scan.specs.lex.Tokens.{bytes_of};
-ghost use Rattle.cb_scan.specs.steps.Ranks.{rank, ranks};
+ghost use Rattle.cb_scan.specs.steps.Ranks.{IsRanked, key_of, rank, ranks};
 
 use crate::keys::prefix::prefix_of_front;
 use crate::keys::spelling::Spelling;
@@ -40,4 +41,24 @@ pub(crate) fn rank_all(alloc: Global, spelling: Spelling<'_>) -> Result<Vec<Rank
         found.push(rank(i as u32, rest, (span.end - span.start) as usize))?;
     }
     Ok(found)
+}
+
+/// Whether two items have one key.
+#[inline]
+pub(crate) fn have_one_key(spelling: Spelling<'_>, a: Ranked, b: Ranked) -> bool
+    ensures { IsRanked spelling.entry.text.now spelling.entry.spans.now a
+        → IsRanked spelling.entry.text.now spelling.entry.spans.now b
+        → result ≡ bytes_eq (key_of spelling.entry.text.now spelling.entry.spans.now a.item)
+        (key_of spelling.entry.text.now spelling.entry.spans.now b.item) }
+{
+    if a.prefix != b.prefix {
+        return false;
+    }
+    if a.size != b.size {
+        return false;
+    }
+    if b.size <= 8 {
+        return true;
+    }
+    spelling.key(a.item) == spelling.key(b.item)
 }

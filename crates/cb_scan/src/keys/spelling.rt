@@ -26,6 +26,7 @@ impl<'a> Spelling<'a> {
     }
 
     /// The key of an item, or no bytes if there is no such item.
+    #[inline]
     pub(crate) fn key(self, item: u32) -> &'a [u8]
         ensures { result.now ≡ key_of self.entry.text.now self.entry.spans.now item }
     {

@@ -13,17 +13,17 @@ use Rattle.cb_scan.proofs.OrderLemmas.{length_in_order}
 use Rattle.cb_scan.proofs.keys.sorted.sorted.Goals as goal
 
 -- the list holds all items in order
-all : goal.After-found-3-1 → List Ranked
+all : goal.After-drop-places → List Ranked
 all c = in_order (rank_key c.args.spelling.text.now c.args.spelling.spans.now)
     (ranks 0 (map (bytes_of c.args.spelling.text.now) c.args.spelling.spans.now))
 
-holds : (c : goal.After-found-3-1)
-    → take c.in_ok-found.found.len (c.sort.new.ranked ++ drop (length c.sort.new.ranked) c.in_ok-found.found.items) ≡ all c
+holds : (c : goal.After-drop-places)
+    → take c.in_ok-found.found.len (c.lay_and_sort.new.ranked ++ drop (length c.lay_and_sort.new.ranked) c.in_ok-found.found.items) ≡ all c
 unfolding all
 holds c =
     let key = rank_key c.args.spelling.text.now c.args.spelling.spans.now in
-    take_at c.sort.new.ranked _ c.in_ok-found.found.len (c.sort.ensures.len ∙ c.as_mut_slice.ensures.len)
-    ∙ c.sort.ensures.items ∙ ap (in_order key) (c.as_mut_slice.ensures.value ∙ c.in_ok-found.ensures)
+    take_at c.lay_and_sort.new.ranked _ c.in_ok-found.found.len (c.lay_and_sort.ensures.len ∙ c.as_mut_slice.ensures.len)
+    ∙ c.lay_and_sort.ensures.items ∙ ap (in_order key) (c.as_mut_slice.ensures.value ∙ c.in_ok-found.ensures)
 
 pub returns-clause-items : goal.returns-clause-items
 unfolding all
