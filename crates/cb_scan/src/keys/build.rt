@@ -58,9 +58,11 @@ fn find_postings(
     requires few { length ranked.now < 2 ^ 32 }
     requires ranked { AllByRecursion (IsRanked spelling.text.now spelling.spans.now) ranked.now }
     ensures starts { IfOk result (λ s. s.starts.items
-        ≡ starts_on None 0 (map (keyed spelling.entry.text.now spelling.entry.spans.now) ranked.now)) }
+        ≡ starts_on None 0
+        (map (keyed spelling.entry.text.now spelling.entry.spans.now) ranked.now)) }
     ensures prefixes { IfOk result (λ s. s.prefixes.items
-        ≡ prefixes_on None (map (keyed spelling.entry.text.now spelling.entry.spans.now) ranked.now)) }
+        ≡ prefixes_on None
+        (map (keyed spelling.entry.text.now spelling.entry.spans.now) ranked.now)) }
 {
     let mut starts = Vec::new(alloc);
     let mut prefixes = Vec::new(alloc);

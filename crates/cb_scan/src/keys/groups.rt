@@ -23,8 +23,9 @@ struct Groups {
 /// do, but no text makes the search long.
 const PROBES: usize = 64;
 
-/// A number that is one for items with one key, and for others seldom. Short keys stand in the upper
-/// half of the prefix, and the lower bits of a product know nothing of upper ones, so it is folded.
+/// A number that is one for items with one key, and for others seldom. Short keys stand in the
+/// upper half of the prefix, and the lower bits of a product know nothing of upper ones, so it is
+/// folded.
 fn hash(spelling: Spelling<'_>, one: Ranked) -> u64 {
     let end = if one.size > 8 {
         let key = spelling.key(one.item);

@@ -32,8 +32,8 @@ fn rank(item: u32, text: &[u8], len: usize) -> Ranked
 /// The items, first to last.
 pub(crate) fn rank_all(alloc: Global, spelling: Spelling<'_>) -> Result<Vec<Ranked>, AllocError>
     requires { length spelling.spans.now < 2 ^ 32 }
-    ensures { IfOk result
-        (λ rs. rs.items ≡ ranks 0 (map (bytes_of spelling.entry.text.now) spelling.entry.spans.now)) }
+    ensures { IfOk result (λ rs. rs.items
+        ≡ ranks 0 (map (bytes_of spelling.entry.text.now) spelling.entry.spans.now)) }
 {
     let mut found = Vec::with_capacity(alloc, spelling.spans.len())?;
     for (i, span) in spelling.spans.iter().enumerate() {

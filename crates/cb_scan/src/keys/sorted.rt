@@ -32,7 +32,8 @@ fn compare_keys(spelling: Spelling<'_>, a: u32, b: u32) -> Ordering
 /// The order of items.
 #[tactic(auto, unfolding(crate::specs::steps::Ranks::rank_key))]
 fn compare(spelling: Spelling<'_>, a: Ranked, b: Ranked) -> Ordering
-    ensures { result ≡ slice_cmp nat_cmp (rank_key spelling.entry.text.now spelling.entry.spans.now a)
+    ensures { result ≡ slice_cmp nat_cmp
+        (rank_key spelling.entry.text.now spelling.entry.spans.now a)
         (rank_key spelling.entry.text.now spelling.entry.spans.now b) }
 {
     match a.prefix.cmp(&b.prefix) {

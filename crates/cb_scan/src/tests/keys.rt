@@ -58,7 +58,7 @@ fn prefixes_are_the_first_eight_bytes(rt: HostRuntime) -> Result<(), Fail> {
 
 /// `sqlite3` has seven bytes, `sqlite3_` eight; all others go on behind their first eight bytes.
 const LONG: &[u8] =
-    b"int sqlite3_open, sqlite3, sqlite3_, sqlite3_close, sqlite3_op, sqlite3_open, sqlite3, sqlite3_, sqlite3_close;";
+    b"int sqlite3_open, sqlite3, sqlite3_, sqlite3_close, sqlite3_op,\n  sqlite3_open, sqlite3, sqlite3_, sqlite3_close;";
 
 #[test]
 fn keys_with_the_same_first_eight_bytes_are_told_apart(rt: HostRuntime) -> Result<(), Fail> {
