@@ -14,13 +14,13 @@ ghost use Rattle.cb_desk.specs.Timeline.{IsValidTimeline, Moves, moved_on, new_t
 ghost use Rattle.cb_desk.specs.Turns.{Turns};
 ghost use Rattle.cb_desk.specs.steps.Walks.{IsKept, IsRecorded, timeline_in};
 
-use crate::spot::NumberedPlace;
-use crate::{Change, Refusal};
-use cb_index::Asked;
 use crate::limits::MOST_CHANGES;
 use crate::plan::Plan;
 use crate::present::Present;
 use crate::record::Record;
+use crate::spot::NumberedPlace;
+use crate::{Change, Refusal};
+use cb_index::Asked;
 use std::alloc::{AllocError, Global};
 use std::marker::Model;
 

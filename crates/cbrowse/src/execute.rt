@@ -57,12 +57,7 @@ fn put_output<W: Write>(
 }
 
 /// Writes the tags of a desk, and hands them on.
-fn write_tags<W: Write>(
-    listing: bool,
-    format: Format,
-    mut desk: Desk,
-    out: &mut Sink<W>,
-) -> Ended
+fn write_tags<W: Write>(listing: bool, format: Format, mut desk: Desk, out: &mut Sink<W>) -> Ended
     ensures { WritesText (tags_output listing format desk.entry.timeline.present) out.old out.new result }
 {
     desk.settle_tags(output_format(listing, format));
@@ -78,12 +73,7 @@ fn write_tags<W: Write>(
 }
 
 /// Writes the rows that answer a question, and hands them on.
-fn write_rows<W: Write>(
-    field: Field,
-    pattern: &[u8],
-    mut desk: Desk,
-    out: &mut Sink<W>,
-) -> Ended
+fn write_rows<W: Write>(field: Field, pattern: &[u8], mut desk: Desk, out: &mut Sink<W>) -> Ended
     requires { pattern.now ≢ [] }
     ensures { WritesText (flat_map row_line (answer desk.entry.timeline.present field pattern.now)) out.old out.new result }
 {
