@@ -1,5 +1,5 @@
 -- An index whose newest versions wait.
-use Rattle.std.proofs.Common.{◌≡◌, ◌∙◌, ◌≤◌, ◌<◌, ◌+◌, ℕ, Bool, true, false, List, [], ◌∷◌, ◌++◌, Some, None, refl, sym, ap, append-nil, append_assoc, subst, length, filter, cond, arith}
+use Rattle.std.proofs.Common.{◌≡◌, ◌∙◌, ◌≤◌, ◌<◌, ◌+◌, ℕ, Bool, true, false, List, [], ◌∷◌, ◌++◌, Some, None, refl, sym, ap, append-nil, append_assoc, subst, length, filter, take, drop, cond, suc, arith}
 use Rattle.std.proofs.lemmas.Bool.{true≢false, false≢true}
 use Rattle.std.proofs.lemmas.Bool.Decides.{Decides-eqb}
 use Rattle.std.proofs.lemmas.List.Elements.{filter-append}
@@ -8,7 +8,7 @@ use Rattle.std.proofs.lemmas.List.Sums.{sum_by-append, sum_by-cons}
 use Rattle.std.proofs.lemmas.Option.{none-some}
 use Rattle.std.proofs.lemmas.Slice.Eq.{bytes_eq-Decides}
 use Rattle.std.specs.Prelude.{nat_eq, not, sum_by, slice_get, Option, ◌||◌}
-use Rattle.std.specs.List.{AllByRecursion, list_any}
+use Rattle.std.specs.List.{AllByRecursion, list_any, prefix_len}
 use Rattle.std.specs.Str.{bytes_eq}
 use Rattle.cb_scan.specs.Order.{AreOrdered, goes_first, in_order, put}
 use Rattle.cb_scan.proofs.FactsWithin.{all_in_order}
@@ -56,6 +56,11 @@ module _ (a : Archived) where
   apart_front [] ys apart = tt
   apart_front (x ∷ xs) ys apart = (all_front (shown_name a) (IsApart a x) xs ys apart.0, apart_front xs ys apart.1)
 
+  pub apart_back : (xs ys : List Shown) → AreApart a (xs ++ ys) → AreApart a ys
+  unfolding AreOrdered
+  apart_back [] ys apart = apart
+  apart_back (x ∷ xs) ys apart = apart_back xs ys apart.1
+
   pub apart_filter : (p : Shown → Bool) (xs : List Shown) → AreApart a xs → AreApart a (filter p xs)
   unfolding AreOrdered
   apart_filter p [] apart = tt
@@ -81,7 +86,7 @@ module _ (a : Archived) where
 
 -- ---- the version under a name
 module _ (a : Archived) (name : ℕ) where
-  abbrev has : Shown → Bool
+  abbrev pub has : Shown → Bool
   has s = nat_eq s.name name
 
   abbrev name_or : ℕ → Option Shown → ℕ
@@ -183,6 +188,49 @@ module _ (a : Archived) (name : ℕ) where
       by_test true eq later = absurd (true≢false (sym some ∙ none_named x eq ys (all_back x xs ys apart.0)))
       by_test false eq later = ap (λ l. x ∷ l) later
 
+-- ---- where a version waits
+module _ (a : Archived) (name : ℕ) where
+  abbrev others_before : List Shown → ℕ
+  others_before ys = prefix_len (λ (s : Shown). not (nat_eq s.name name)) ys
+
+  -- none waits under the name where all are passed
+  pub none_waits : (ys : List Shown) → others_before ys ≡ length ys → list_any (has a name) ys ≡ false
+  none_waits [] all = refl
+  none_waits (y ∷ ys) all = by_test (nat_eq y.name name) (λ rest. none_waits ys rest) all
+    where
+      by_test : (b : Bool) → (others_before ys ≡ length ys → list_any (has a name) ys ≡ false)
+          → cond (not b) (1 + others_before ys) 0 ≡ suc (length ys) → (b || list_any (has a name) ys) ≡ false
+      by_test true later all = absurd (omega (arith, all))
+      by_test false later all = later (omega (arith, all))
+
+  -- one waits where not all are passed
+  pub one_waits : (ys : List Shown) → others_before ys < length ys → list_any (has a name) ys ≡ true
+  one_waits [] less = absurd (omega (arith, less))
+  one_waits (y ∷ ys) less = by_test (nat_eq y.name name) (λ rest. one_waits ys rest) less
+    where
+      by_test : (b : Bool) → (others_before ys < length ys → list_any (has a name) ys ≡ true)
+          → cond (not b) (1 + others_before ys) 0 < suc (length ys) → (b || list_any (has a name) ys) ≡ true
+      by_test true later less = refl
+      by_test false later less = later (omega (arith, less))
+
+  -- without it the others are left
+  pub others_left : (ys : List Shown) → AreApart a ys → others_before ys < length ys
+      → take (others_before ys) ys ++ drop (suc (others_before ys)) ys ≡ filter (λ (s : Shown). not (nat_eq s.name name)) ys
+  unfolding AreOrdered
+  others_left [] apart less = absurd (omega (arith, less))
+  others_left (y ∷ ys) apart less = by_test (nat_eq y.name name) refl (λ rest. others_left ys apart.1 rest) less
+    where
+      by_test : (b : Bool) → nat_eq y.name name ≡ b
+          → (others_before ys < length ys → take (others_before ys) ys ++ drop (suc (others_before ys)) ys ≡ filter (is_other a name) ys)
+          → cond (not b) (1 + others_before ys) 0 < suc (length ys)
+          → take (cond (not b) (1 + others_before ys) 0) (y ∷ ys) ++ drop (suc (cond (not b) (1 + others_before ys) 0)) (y ∷ ys)
+          ≡ cond (not b) (y ∷ filter (is_other a name) ys) (filter (is_other a name) ys)
+      by_test true eq later less = sym (last_stay a name ys (none_named a name y eq ys apart.0))
+      by_test false eq later less =
+          let step : 1 + others_before ys ≡ suc (others_before ys) = omega arith in
+          subst (λ n. take n (y ∷ ys) ++ drop (suc n) (y ∷ ys) ≡ y ∷ filter (is_other a name) ys) (sym step)
+          (ap (λ l. y ∷ l) (later (omega (arith, less))))
+
 -- ---- what is there, what waits and what is held
 module _ (keyer : Keyer) (prefixer : Prefixer) (a : Archived) where
   pub covers_none : (shown : List Shown) (x : Indexed) → shown ≡ [] → x.held ≡ [] → x.waiting ≡ [] → Covers keyer prefixer a shown x
@@ -252,13 +300,15 @@ module _ (keyer : Keyer) (prefixer : Prefixer) (a : Archived) where
       (held ∙ indexed_take prefixer a stays keyer is.sorted x.held is.held) waiting)
 
   -- one that waits goes
-  pub covers_unwaited : (name : ℕ) (shown : List Shown) (x y : Indexed) → list_any (λ (s : Shown). nat_eq s.name name) x.waiting ≡ true
-      → y.held ≡ x.held → y.waiting ≡ filter (λ (s : Shown). not (nat_eq s.name name)) x.waiting → Covers keyer prefixer a shown x
+  pub covers_unwaited : (name : ℕ) (shown : List Shown) (x y : Indexed) → others_before a name x.waiting < length x.waiting
+      → y.held ≡ x.held → y.waiting ≡ take (others_before a name x.waiting) x.waiting ++ drop (suc (others_before a name x.waiting)) x.waiting
+      → Covers keyer prefixer a shown x
       → Covers keyer prefixer a (filter (λ (s : Shown). not (nat_eq s.name name)) shown) y
-  covers_unwaited name shown x y some held waiting is =
+  covers_unwaited name shown x y less held waiting is =
       covers_fewer (λ (s : Shown). not (nat_eq s.name name)) shown x y is
       (held ∙ is.held ∙ ap (λ l. in_order (sort_key keyer a) (all_entries prefixer a l))
-      (sym (first_stay a name is.sorted x.waiting is.apart some))) waiting
+      (sym (first_stay a name is.sorted x.waiting is.apart (one_waits a name x.waiting less))))
+      (waiting ∙ others_left a name x.waiting (apart_back a is.sorted x.waiting is.apart) less)
 
   -- one that is held goes
   pub covers_held : (one : Shown) (shown : List Shown) (x : Indexed) → list_any (λ (s : Shown). nat_eq s.name one.name) x.waiting ≡ false

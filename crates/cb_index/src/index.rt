@@ -1,6 +1,6 @@
 //! An index, whose newest versions wait until something is asked of it.
 ghost use Rattle.std.specs.Prelude.{◌≡◌, ◌+◌, ◌≤◌, ◌++◌, [], List, length, filter, nat_eq, not, OnOk};
-ghost use Rattle.std.specs.List.{list_any};
+ghost use Rattle.std.specs.List.{prefix_len};
 ghost use Rattle.std.specs.List.Sorted.{IsStrictlyIncreasing};
 ghost use Rattle.cb_scan.specs.Order.{in_order};
 ghost use Rattle.cb_index.specs.Entries.{has_key, sort_key};
@@ -44,11 +44,12 @@ impl<O> Model for Index<O> {
     } };
 }
 
-/// Whether a version waits under the number of a name.
-fn is_waiting(name: u32, waiting: &[Shown]) -> bool
-    ensures { result ≡ list_any (λ (s : Shown). nat_eq s.name name) waiting.now }
+/// How many versions wait before the one under the number of a name; all that wait where none does.
+fn place_of(name: u32, waiting: &[Shown]) -> usize
+    ensures place { result ≡ prefix_len (λ (s : Shown). not (nat_eq s.name name)) waiting.now }
+    ensures bound { result ≤ length waiting.now }
 {
-    waiting.iter().any(|s| s.name == name)
+    waiting.iter().take_while(|s| s.name != name).count()
 }
 
 impl<O: EntryOrder> Index<O> {
@@ -122,15 +123,12 @@ impl<O: EntryOrder> Index<O> {
         ensures room { self.old.room ≤ self.new.room }
         ensures version_room { self.old.version_room ≤ self.new.version_room }
     {
-        if !is_waiting(one.name, self.waiting.as_slice()) {
+        let at = place_of(one.name, self.waiting.as_slice());
+        if at == self.waiting.len() {
             self.sorted.take_all(archive, one);
             return;
         }
-        self.waiting.retain(
-            |s: &Shown| -> bool
-                ensures { result ≡ not (nat_eq s.now.name one.name) }
-            { s.name != one.name },
-        );
+        let _one = self.waiting.remove(at);
     }
 
     /// Takes the versions under the names of many files away, in one pass. It takes no memory, and
