@@ -9,7 +9,7 @@ use Rattle.cb_index.specs.Archived.{Archived, name_of}
 use Rattle.cb_index.specs.Files.{AreApart, call_count, def_count, files_of, shown_name, total, use_count}
 use Rattle.cb_index.specs.declared.entry.Shown.{Shown}
 use Rattle.cb_index.proofs.InOrderLemmas.{in_order_cong}
-use Rattle.cb_index.proofs.KeptLemmas.{get_or_front, get_or_left, slice_get_front, slice_get_left}
+use Rattle.cb_index.proofs.FrontLemmas.{get_or_front, get_or_left, slice_get_front, slice_get_left}
 use Rattle.cb_desk.specs.declared.spot.NumberedPlace.{NumberedPlace}
 use Rattle.cb_desk.specs.Timeline.{IsValidTimeline}
 use Rattle.cb_desk.specs.Turns.{touched}

@@ -14,7 +14,7 @@ use Rattle.cb_index.specs.declared.entry.Shown.{Shown}
 use Rattle.cb_index.specs.declared.room.Room.{Room}
 use Rattle.cb_index.specs.declared.totals.Totals.{Totals}
 use Rattle.cb_index.proofs.InOrderLemmas.{length_in_order}
-use Rattle.cb_index.proofs.KeptLemmas.{ascending_sorted}
+use Rattle.cb_index.proofs.AscendLemmas.{ascending_sorted}
 use Rattle.cb_index.proofs.ListedLemmas.{ascending_apart, ascending_in_order}
 use Rattle.cb_index.proofs.TotalLemmas.{same_total, total_append, total_in_order, total_more}
 use Rattle.cb_tags.specs.Names.{is_file_name}

@@ -7,7 +7,7 @@ use Rattle.cb_scan.proofs.OrderLemmas.{Sorted}
 use Rattle.cb_index.specs.Archived.{Archived}
 use Rattle.cb_index.specs.Files.{AreAscending, AreApart, call_count, def_count, files_of, shown_name, total, use_count}
 use Rattle.cb_index.specs.declared.entry.Shown.{Shown}
-use Rattle.cb_index.proofs.KeptLemmas.{ascending_sorted}
+use Rattle.cb_index.proofs.AscendLemmas.{ascending_sorted}
 use Rattle.cb_index.proofs.ListedLemmas.{ascending_apart}
 use Rattle.cb_desk.specs.declared.edits.Edit.{Edit}
 use Rattle.cb_desk.specs.declared.spot.NumberedPlace.{NumberedPlace}

@@ -10,7 +10,7 @@ use Rattle.cb_index.specs.declared.entry.Shown.{Shown}
 use Rattle.cb_index.specs.declared.room.Room.{Room}
 use Rattle.cb_index.specs.declared.totals.Totals.{Totals}
 use Rattle.cb_index.proofs.InOrderLemmas.{length_in_order}
-use Rattle.cb_index.proofs.KeptLemmas.{length_front}
+use Rattle.cb_index.proofs.FrontLemmas.{length_front}
 use Rattle.cb_index.proofs.TotalLemmas.{same_total, total_append, total_filter, total_front, total_in_order, total_more}
 use Rattle.cb_desk.specs.steps.Plans.{HasRoomFor, Keeps, Planned}
 use Rattle.cb_desk.specs.steps.Records.{AreThere, Kept, Rooms, other, without}

@@ -20,7 +20,7 @@ use Rattle.cb_index.specs.Files.{AreApart, AreAscending, file_of, files_of, is_s
 use Rattle.cb_index.specs.Names.{is_among, names_of}
 use Rattle.cb_index.specs.declared.entry.Shown.{Shown}
 use Rattle.cb_index.proofs.InOrderLemmas.{same_order}
-use Rattle.cb_index.proofs.KeptLemmas.{ascending_filter, ascending_sorted}
+use Rattle.cb_index.proofs.AscendLemmas.{ascending_filter, ascending_sorted}
 use Rattle.cb_index.proofs.ListedLemmas.{apart_both, ascending_apart, bytes_other, order_by_name, other_turned, shown_exact}
 use Rattle.cb_desk.specs.Files.{is_before, with_file, without_file}
 use Rattle.cb_desk.specs.World.{File, is_named, has_file, text_of_file}
@@ -259,7 +259,7 @@ module _ (a : Archived) where
 
   pub hides_one : (shown : List Shown) (h : Shown) (i : ℕ) → slice_get shown i ≡ Some h → AreAscending a shown → Hides a shown (h ∷ [])
   hides_one shown h i is up =
-      let left = ascending_filter a (λ n. true) (λ (s : Shown). not (is_among (names_of (h ∷ [])) s.name)) shown up in
+      let left = ascending_filter a (λ (s : Shown). not (is_among (names_of (h ∷ [])) s.name)) shown up in
       let other = others a shown h i is up in
       record {
         rise = λ i below. absurd (omega (arith, below));

@@ -17,7 +17,7 @@ use Rattle.cb_index.specs.Files.{AreApart, AreAscending, shown_key, shown_name}
 use Rattle.cb_index.specs.Names.{is_among, names_of}
 use Rattle.cb_index.specs.declared.entry.Shown.{Shown}
 use Rattle.cb_index.proofs.InOrderLemmas.{same_order}
-use Rattle.cb_index.proofs.KeptLemmas.{ascending_filter, ascending_sorted}
+use Rattle.cb_index.proofs.AscendLemmas.{ascending_filter, ascending_sorted}
 use Rattle.cb_index.proofs.ListedLemmas.{ascending_apart, order_by_name, other_turned, shown_exact}
 use Rattle.cb_desk.specs.declared.present.renewal.Renewal.{Renewal}
 use Rattle.cb_desk.specs.steps.Records.{without}
@@ -233,7 +233,7 @@ module _ (a : Archived) (shown : List Shown) (up : AreAscending a shown) (p : Sh
   numbers_rise =
       IsStrictlyIncreasing-from_distinct numbers (level_names rs level)
       (IsDistinct-IsPermutation (λ m n. m == n) eq_turned (names_of (filter p shown)) numbers numbers_moved
-      (numbers_differ a (filter p shown) (ascending_filter a (λ n. true) p shown up)))
+      (numbers_differ a (filter p shown) (ascending_filter a p shown up)))
 
   -- whether a file passes, by the number of its name
   among : AllByRecursion (λ (s : Shown). is_among numbers s.name ≡ p s) shown
@@ -273,7 +273,7 @@ module _ (a : Archived) (shown : List Shown) (up : AreAscending a shown) (p : Sh
   pub hides_renewed : Hides a shown hides
   hides_renewed = record {
     rise = subst IsStrictlyIncreasing (sym (old_names rs)) numbers_rise;
-    left = ascending_filter a (λ n. true) (λ (s : Shown). not (is_among (names_of hides) s.name)) shown up;
+    left = ascending_filter a (λ (s : Shown). not (is_among (names_of hides) s.name)) shown up;
     apart = subst (λ ss. AreApart a (ss ++ hides)) (sym rest_is) (apart_again a shown (rest ++ hides) up olds_moved);
     back = ap (λ ss. in_order (shown_name a) (ss ++ hides)) rest_is ∙ order_again a shown (rest ++ hides) up olds_moved;
   }

@@ -10,6 +10,7 @@ pub mod Records
 pub mod Replaced
 pub mod Room
 pub mod Search
+pub mod Still
 pub mod Named
 pub mod Texts
 pub mod TextsLeft

@@ -1,5 +1,12 @@
 //! The present world, and the records that lead back and on from it.
-ghost use Rattle.std.specs.Prelude.{◌≡◌, ◌<◌, [], ◌∷◌, length, nat_le, MatchResult};
+ghost use Rattle.std.specs.Prelude.{◌≡◌, ◌<◌, [], ◌∷◌, ⊤, length, nat_le, MatchOption, MatchResult};
+ghost use Rattle.std.specs.Option.{option_map};
+ghost use Rattle.cb_index.specs.Shelved.{settled};
+ghost use Rattle.cb_desk.specs.Models.{step_of};
+ghost use Rattle.cb_desk.specs.Step.{place_of};
+ghost use Rattle.cb_desk.specs.declared.spot.NumberedPlace.{NumberedPlace};
+ghost use Rattle.cb_desk.specs.steps.Records.{place_in, world_in};
+ghost use Rattle.cb_desk.specs.steps.Still.{AreStill};
 ghost use Rattle.cb_desk.specs.declared.limits.TheConstants.{MOST_CHANGES};
 ghost use Rattle.cb_desk.specs.World.{World, IsValidWorld};
 ghost use Rattle.cb_desk.specs.steps.Plans.{IsPlan};
@@ -7,11 +14,13 @@ ghost use Rattle.cb_desk.specs.Timeline.{IsValidTimeline, Moves, moved_on, new_t
 ghost use Rattle.cb_desk.specs.Turns.{Turns};
 ghost use Rattle.cb_desk.specs.steps.Walks.{IsKept, IsRecorded, timeline_in};
 
-use crate::Refusal;
 use crate::limits::MOST_CHANGES;
 use crate::plan::Plan;
 use crate::present::Present;
 use crate::record::Record;
+use crate::spot::NumberedPlace;
+use crate::{Change, Refusal};
+use cb_index::Asked;
 use std::alloc::{AllocError, Global};
 use std::marker::Model;
 
@@ -69,6 +78,24 @@ impl History {
         ensures valid { IsValidTimeline (timeline_in self.now) }
     {
         &self.present
+    }
+
+    /// Puts what waits in order where a question is answered from. It takes no memory.
+    pub(crate) fn settle(&mut self, asked: Asked)
+        ensures waiting { self.new.kept.waiting ≡ settled asked self.old.kept.waiting }
+        ensures still { AreStill self.old self.new }
+    {
+        self.present.settle(asked);
+    }
+
+    /// The place that a change asks for, if it asks for one and that is there.
+    pub(crate) fn place_of(&mut self, change: &Change<'_>) -> Option<NumberedPlace>
+        ensures place { option_map (place_in self.new.kept.archive) result
+            ≡ place_of (world_in self.new.kept.archive self.new.kept.now) (step_of change.now) }
+        ensures there { MatchOption result ⊤ (λ (p : NumberedPlace). p.name < self.new.kept.now.names) }
+        ensures still { AreStill self.old self.new }
+    {
+        self.present.place_of(change)
     }
 
     /// Whether the past is as long as it may be.

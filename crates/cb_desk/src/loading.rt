@@ -195,11 +195,11 @@ impl Loading {
             records,
             meter,
         } = self;
-        if records.is_empty() {
+        let count = records.len() as u32;
+        if count == 0 {
             return Ok(Desk::over(History::new(alloc), meter));
         }
         show(&mut shelf, shown.as_slice())?;
-        let count = records.len() as u32;
         let present = Present::loaded(alloc, shelf, count);
         Ok(Desk::over(History::loaded(present, records), meter))
     }

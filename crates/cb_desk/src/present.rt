@@ -3,13 +3,14 @@ ghost use Rattle.std.specs.Prelude.{◌≡◌, ◌≤◌, ◌+◌, ◌++◌, [],
 ghost use Rattle.cb_scan.specs.Order.{in_order};
 ghost use Rattle.cb_index.specs.Files.{shown_name};
 ghost use Rattle.cb_index.specs.Names.{names_of};
-ghost use Rattle.cb_index.specs.Shelved.{CanShowAll, KeepsRoom};
+ghost use Rattle.cb_index.specs.Shelved.{CanShowAll, KeepsRoom, settled};
 ghost use Rattle.std.specs.List.Sorted.{IsStrictlyIncreasing};
 ghost use Rattle.cb_desk.specs.Desk.{counted};
 ghost use Rattle.cb_desk.specs.steps.Edits.{turned_edits, edited};
 ghost use Rattle.cb_desk.specs.steps.Plans.{HasRoomFor};
 ghost use Rattle.cb_desk.specs.steps.Records.{AreThere, Fits, IsTurn, KeepsRooms, hidden, kept_wanted, no_numbers, other, other_wanted, turned, without};
 ghost use Rattle.cb_desk.specs.steps.Room.{IsRoomFor};
+ghost use Rattle.cb_desk.specs.steps.Still.{IsStill};
 ghost use Rattle.cb_desk.specs.steps.Texts.{bytes_if, bytes_if_other};
 
 mod changes;
@@ -30,7 +31,7 @@ use crate::edits::{Edit, turn_edits};
 use crate::place_list::PlaceList;
 use crate::plan::Plan;
 use crate::record::Record;
-use cb_index::{Room, Shelf, Shown, Version};
+use cb_index::{Asked, Room, Shelf, Shown, Version};
 use counts::with_versions;
 use std::alloc::{AllocError, Global};
 use std::marker::Model;
@@ -73,6 +74,7 @@ impl Model for Present {
         marks = p.marks.room;
         frames = p.frames.room;
       };
+      waiting = p.shelf.waiting;
     } };
 }
 
@@ -208,6 +210,14 @@ impl Present {
         turn_places(&mut self.frames, &mut way.frames);
         mem::swap(&mut self.names, &mut way.names);
         mem::swap(&mut self.versions, &mut way.versions);
+    }
+
+    /// Puts what waits in order where a question is answered from. It takes no memory.
+    pub(crate) fn settle(&mut self, asked: Asked)
+        ensures waiting { self.new.waiting ≡ settled asked self.old.waiting }
+        ensures still { IsStill self.old self.new }
+    {
+        self.shelf.settle(asked);
     }
 
     /// The room for what a plan brings, for all that is shown and for all that it shows, if its

@@ -4,6 +4,7 @@ ghost use Rattle.std.specs.Option.{option_copied};
 ghost use Rattle.cb_desk.specs.Answer.{answer};
 ghost use Rattle.cb_desk.specs.Desk.{Counts, CountsUpTo, bytes_in, scanned};
 ghost use Rattle.cb_desk.specs.Models.{step_of};
+ghost use Rattle.cb_desk.specs.Settled.{AreTagsSettled, IsSettled};
 ghost use Rattle.cb_desk.specs.Tags.{tags};
 ghost use Rattle.cb_desk.specs.Timeline.{Changes, IsValidTimeline, Moves, new_timeline, redone, undone};
 ghost use Rattle.cb_desk.specs.Turns.{Turns};
@@ -12,6 +13,7 @@ ghost use Rattle.cb_desk.specs.steps.Walks.{timeline_in};
 
 use crate::history::History;
 use crate::{Change, Field, Files, Format, Places, Refusal, Rows, TagRows};
+use cb_index::Asked;
 use cb_scan::{Meter, Source, scan};
 use std::alloc::{AllocError, Global};
 use std::marker::Model;
@@ -35,6 +37,7 @@ impl Model for Desk {
       timeline = timeline_in d.history;
       meter = d.meter;
       turns = d.history.kept.turns;
+      waiting = d.history.kept.waiting;
     } };
 
     ghost invariant = { λ d. IsValidTimeline (timeline_in d.history) };
@@ -56,7 +59,9 @@ fn scan_files(alloc: Global, meter: &mut Meter, files: Files<'_>) -> Result<(), 
 impl Desk {
     /// The empty world with no past and no future. It takes no memory.
     pub fn new(alloc: Global) -> Desk
-        ensures { result ≡ record { timeline = new_timeline; meter = 0; turns = 0 } }
+        ensures timeline { result.timeline ≡ new_timeline }
+        ensures meter { result.meter ≡ 0 }
+        ensures turns { result.turns ≡ 0 }
     {
         Desk {
             history: History::new(alloc),
@@ -82,8 +87,8 @@ impl Desk {
     {
         // A growth can fail only after all is judged. All growths come before the first move.
         let _counted = self.meter.read();
+        let place = self.history.place_of(&change);
         let present = self.history.present();
-        let place = present.place_of(&change);
         if let Some(refusal) = present.refusal_of(&change, place) {
             return Err(refusal);
         }
@@ -175,16 +180,50 @@ impl Desk {
         self.history.present().frames()
     }
 
-    /// The rows that answer a question, by file and place; equal ones once.
+    /// Puts in order what questions of a field read, where files came in since the last one. It
+    /// takes no memory.
+    pub fn settle(&mut self, field: Field)
+        ensures settled { IsSettled field self.new.waiting }
+        ensures timeline { self.new.timeline ≡ self.old.timeline }
+        ensures meter { self.new.meter ≡ self.old.meter }
+        ensures turns { self.new.turns ≡ self.old.turns }
+    {
+        match field {
+            Field::Symbol => self.history.settle(Asked::Uses),
+            Field::Definition => self.history.settle(Asked::Defs),
+            Field::Called => self.history.settle(Asked::Callers),
+            Field::Calling => self.history.settle(Asked::Callees),
+            Field::Text | Field::File | Field::Including => {}
+        }
+    }
+
+    /// Puts in order what a tags file of a format reads, where files came in since the last one. It
+    /// takes no memory.
+    pub fn settle_tags(&mut self, format: Format)
+        ensures settled { AreTagsSettled format self.new.waiting }
+        ensures timeline { self.new.timeline ≡ self.old.timeline }
+        ensures meter { self.new.meter ≡ self.old.meter }
+        ensures turns { self.new.turns ≡ self.old.turns }
+    {
+        match format {
+            Format::Plain => self.history.settle(Asked::Tags),
+            Format::Extended => self.history.settle(Asked::Defs),
+        }
+    }
+
+    /// The rows that answer a question, by file and place; equal ones once. `settle` comes before.
     pub fn rows<'a, 'p>(&'a self, field: Field, pattern: &'p [u8]) -> Rows<'a, 'p>
-        requires { pattern.now ≢ [] }
+        requires some { pattern.now ≢ [] }
+        requires settled { IsSettled field self.now.waiting }
         ensures { result ≡ answer self.now.timeline.present field pattern.now }
     {
         self.history.present().rows(field, pattern)
     }
 
-    /// All definitions of the present world as tags, in the order of a format.
+    /// All definitions of the present world as tags, in the order of a format. `settle_tags` comes
+    /// before.
     pub fn tag_rows(&self, format: Format) -> TagRows<'_>
+        requires { AreTagsSettled format self.now.waiting }
         ensures { result ≡ tags format self.now.timeline.present }
     {
         self.history.present().tag_rows(format)

@@ -1,16 +1,18 @@
 -- What an index holds while versions come and go.
 use Rattle.std.proofs.Common.{◌≡◌, ◌∙◌, ◌≤◌, ◌<◌, ◌+◌, ℕ, suc, Bool, true, false, List, [], ◌∷◌, ◌++◌, Some, None, refl, sym, ap, subst, length, map, drop, drop-cons, filter, get_or, arith}
-use Rattle.std.proofs.lemmas.Bool.{false≢true}
+use Rattle.std.proofs.lemmas.Bool.{true≢false}
 use Rattle.std.proofs.lemmas.Bool.Decides.{Decides-eqb}
 use Rattle.std.proofs.lemmas.Cmp.{nat_cmp_total, nat_list_cmp_total, tied_itself}
 use Rattle.std.proofs.lemmas.List.Elements.{filter-append}
 use Rattle.std.proofs.lemmas.List.{length-append}
 use Rattle.std.proofs.lemmas.List.Sums.{sum_by-append, sum_by-cons}
 use Rattle.std.proofs.lemmas.Option.{none-some}
+use Rattle.std.proofs.lemmas.Slice.Eq.{bytes_eq-Decides}
 use Rattle.std.specs.Prelude.{cond, nat_eq, not, slice_get, sum_by, Option}
 use Rattle.std.specs.Cmp.{nat_cmp_is}
 use Rattle.std.specs.Cmp.Lexicographic.{slice_cmp}
 use Rattle.std.specs.List.{AllByRecursion}
+use Rattle.std.specs.Str.{bytes_eq}
 use Rattle.std.specs.Ordering.{is_gt, is_lt, nat_cmp, ordering_then}
 use Rattle.std.specs.declared.cmp.Ordering.TheVariants.{Less, Equal}
 use Rattle.cb_scan.specs.Order.{AreOrdered, in_order, put}
@@ -19,7 +21,7 @@ use Rattle.cb_scan.proofs.OrderLemmas.{in_order_sum}
 use Rattle.cb_scan.proofs.WithinLemmas.{all-append}
 use Rattle.cb_index.specs.Archived.{Archived, name_of}
 use Rattle.cb_index.specs.Entries.{Keyer, entries_from, file_key, numbers, sort_key}
-use Rattle.cb_index.specs.Files.{AreAscending, shown_name, shown_under, total}
+use Rattle.cb_index.specs.Files.{AreApart, AreAscending, shown_name, shown_under, total}
 use Rattle.cb_index.specs.Held.{Prefixer, all_entries, entries_of, prefixes_of}
 use Rattle.cb_index.specs.Shelved.{IsIndexOf}
 use Rattle.cb_index.specs.declared.entry.Entry.{Entry}
@@ -133,18 +135,17 @@ module _ (a : Archived) (name : ℕ) where
           ap (λ b. cond (not b) (s ∷ filter is_other shown) (filter is_other shown)) eq
           ∙ ap (λ l. s ∷ l) (later (sym (ap (λ b. cond b (Some s) (shown_under name shown)) eq) ∙ is))
 
-  -- all that come after another file name stay
+  -- all that have another file name stay
   later_stay : (s : Shown) → s.name ≡ name → (shown : List Shown)
-      → AllByRecursion (λ (t : Shown). slice_cmp nat_cmp (name_of a s.name) (name_of a t.name) ≡ Less) shown
+      → AllByRecursion (λ (t : Shown). bytes_eq (name_of a s.name) (name_of a t.name) ≡ false) shown
       → filter (λ (t : Shown). not (nat_eq t.name name)) shown ≡ shown
-  later_stay s same [] up = refl
-  later_stay s same (t ∷ shown) up = by_test (nat_eq t.name name) refl (later_stay s same shown up.1)
+  later_stay s same [] apart = refl
+  later_stay s same (t ∷ shown) apart = by_test (nat_eq t.name name) refl (later_stay s same shown apart.1)
     where
       by_test : (b : Bool) → nat_eq t.name name ≡ b → filter is_other shown ≡ shown → filter is_other (t ∷ shown) ≡ t ∷ shown
       by_test true eq later =
           let equal : s.name ≡ t.name = same ∙ sym ((Decides-eqb t.name name).0 eq) in
-          absurd (false≢true (ap is_lt (sym (tied_itself nat_list_cmp_total (name_of a s.name))
-          ∙ ap (λ n. slice_cmp nat_cmp (name_of a s.name) (name_of a n)) equal ∙ up.0)))
+          absurd (true≢false (sym ((bytes_eq-Decides (name_of a s.name) (name_of a t.name)).1 (ap (name_of a) equal)) ∙ apart.0))
       by_test false eq later =
           ap (λ b. cond (not b) (t ∷ filter is_other shown) (filter is_other shown)) eq ∙ ap (λ l. t ∷ l) later
 
@@ -154,7 +155,7 @@ module _ (a : Archived) (name : ℕ) where
 
   -- what is shown under the name, and the others
   module _ (size : Shown → ℕ) where
-    pub out_sum : (shown : List Shown) (one : Shown) → shown_under name shown ≡ Some one → AreAscending a shown
+    pub out_sum : (shown : List Shown) (one : Shown) → shown_under name shown ≡ Some one → AreApart a shown
         → sum_by size shown ≡ size one + sum_by size (filter (λ (s : Shown). not (nat_eq s.name name)) shown)
     unfolding AreOrdered
     out_sum [] one is up = absurd (none-some one is)
@@ -179,7 +180,7 @@ module _ (a : Archived) (name : ℕ) where
 
   -- an index has the entries of what is shown under the name, and those of the others
   pub indexed_out : (keyer : Keyer) (prefixer : Prefixer) (shown : List Shown) (one : Shown) (es : List Entry)
-      → shown_under name shown ≡ Some one → AreAscending a shown → IsIndexOf keyer prefixer a shown es
+      → shown_under name shown ≡ Some one → AreApart a shown → IsIndexOf keyer prefixer a shown es
       → es ≡ in_order (sort_key keyer a)
       (entries_of prefixer a one ++ all_entries prefixer a (filter (λ (s : Shown). not (nat_eq s.name name)) shown))
   indexed_out keyer prefixer shown one es under up is =
@@ -230,7 +231,7 @@ module _ (keyer : Keyer) (prefixer : Prefixer) (a b : Archived) where
 
 -- ---- there is room for the entries where there is room for the facts
 module _ (prefixer : Prefixer) (count : Option (List ℕ) → ℕ) (fewer : (t : Option (List ℕ)) → length (prefixer t) ≤ count t) (a : Archived) where
-  length_all : (shown : List Shown) → length (all_entries prefixer a shown) ≤ total count a shown
+  pub length_all : (shown : List Shown) → length (all_entries prefixer a shown) ≤ total count a shown
   length_all [] = omega arith
   length_all (s ∷ shown) =
       let both : length (entries_of prefixer a s ++ all_entries prefixer a shown)

@@ -1,51 +1,46 @@
 -- What a shelf keeps while versions come and go.
 use Rattle.std.proofs.Common.{◌≡◌, ◌∙◌, ◌≤◌, ◌<◌, ◌+◌, ℕ, zero, suc, Bool, true, false, List, [], ◌∷◌, ◌++◌, refl, sym, ap, subst, length, take, drop, drop-cons, drop_of_length-le, filter, get_or, arith}
-use Rattle.std.proofs.lemmas.Bool.{true≢false, false≢true}
-use Rattle.std.proofs.lemmas.Cmp.{nat_list_cmp_total}
 use Rattle.std.proofs.lemmas.List.{length-append}
-use Rattle.std.proofs.lemmas.Map.Text.{is_eq-slice_cmp}
-use Rattle.std.proofs.Math.Nat.{le_trans}
-use Rattle.std.specs.Prelude.{cond, nat_eq, not, slice_get, ◌||◌}
+use Rattle.std.proofs.Math.Nat.{le_trans, min-le_left, min-le_right}
+use Rattle.std.specs.Prelude.{cond, min, nat_eq, not, slice_get, ◌||◌}
 use Rattle.std.specs.Cmp.Lexicographic.{slice_cmp}
 use Rattle.std.specs.List.{AllByRecursion, list_any}
-use Rattle.std.specs.Ordering.{is_eq, is_gt, nat_cmp, ordering_reverse}
-use Rattle.std.specs.Str.{bytes_eq}
-use Rattle.std.specs.declared.cmp.Ordering.{Ordering}
-use Rattle.std.specs.declared.cmp.Ordering.TheVariants.{Less, Equal, Greater}
-use Rattle.cb_scan.specs.Order.{AreOrdered, goes_first, in_order, put}
-use Rattle.cb_scan.proofs.FactsWithin.{all_put}
+use Rattle.std.specs.Ordering.{nat_cmp}
+use Rattle.std.specs.declared.cmp.Ordering.TheVariants.{Less}
+use Rattle.cb_scan.specs.Order.{AreOrdered, in_order}
+use Rattle.cb_scan.proofs.FactsWithin.{all_in_order}
 use Rattle.cb_scan.proofs.FunctionsRise.{all_implied}
-use Rattle.cb_scan.proofs.OrderLemmas.{Sorted}
+use Rattle.cb_scan.proofs.WithinLemmas.{all-append}
 use Rattle.cb_index.specs.Archived.{Archived, name_of}
+use Rattle.cb_index.specs.Files.{AreApart, AreAscending, IsThere, is_shown, shown_name}
 use Rattle.cb_index.specs.Entries.{Keyer, sort_key}
-use Rattle.cb_index.specs.Files.{AreAscending, IsThere, shown_name}
-use Rattle.cb_index.specs.Held.{Prefixer, all_entries, entries_of}
+use Rattle.cb_index.specs.Held.{Indexed, Prefixer, all_entries}
 use Rattle.cb_index.specs.Names.{is_among, names_of}
 use Rattle.cb_index.specs.Orders.{callee_key, callee_prefixes, caller_key, caller_prefixes, def_key, def_prefixes, tag_key, tag_prefixes, use_key, use_prefixes}
-use Rattle.cb_index.specs.Shelved.{AreKept, IsIndexOf, KeepsRoom, Shelved}
+use Rattle.cb_index.specs.Shelved.{AreKept, AreWithin, Covers, KeepsRoom, Shelved}
 use Rattle.cb_index.specs.declared.entry.Entry.{Entry}
 use Rattle.cb_index.specs.declared.entry.Shown.{Shown}
+use Rattle.cb_index.specs.declared.totals.Totals.{Totals}
+use Rattle.cb_index.proofs.AscendLemmas.{ascending_filter}
+use Rattle.cb_index.proofs.CoverLemmas.{covers_as, covers_hidden, covers_more, covers_none, covers_same, covers_settled}
+use Rattle.cb_index.proofs.FrontLemmas.{get_or_front, get_or_left, length_front, slice_get_front, slice_get_left}
 use Rattle.cb_index.proofs.InOrderLemmas.{all_filter}
-use Rattle.cb_index.proofs.IndexLemmas.{IsSame, indexed_put, indexed_same, indexed_take}
+use Rattle.cb_index.proofs.IndexLemmas.{IsSame}
+use Rattle.cb_index.proofs.ListedLemmas.{apart_both, ascending_in_order}
 
 -- ---- nothing is kept
-empty_index : (keyer : Keyer) (prefixer : Prefixer) (a : Archived) (shown : List Shown) (es : List Entry)
-    → shown ≡ [] → es ≡ [] → IsIndexOf keyer prefixer a shown es
-unfolding in_order
-empty_index keyer prefixer a shown es none is =
-    is ∙ sym (ap (λ l. in_order (sort_key keyer a) (all_entries prefixer a l)) none)
-
-pub kept_none : (a : Archived) (shown : List Shown) (d t u c e : List Entry) → shown ≡ [] → d ≡ [] → t ≡ [] → u ≡ [] → c ≡ []
-    → e ≡ [] → AreKept a shown d t u c e
+pub kept_none : (a : Archived) (shown : List Shown) (d t u c e : Indexed) → shown ≡ []
+    → d.held ≡ [] → d.waiting ≡ [] → t.held ≡ [] → t.waiting ≡ [] → u.held ≡ [] → u.waiting ≡ []
+    → c.held ≡ [] → c.waiting ≡ [] → e.held ≡ [] → e.waiting ≡ [] → AreKept a shown d t u c e
 unfolding AreOrdered
-kept_none a shown d t u c e none nd nt nu nc ne = record {
+kept_none a shown d t u c e none dh dw th tw uh uw ch cw eh ew = record {
   there = subst (AllByRecursion (IsThere a)) (sym none) tt;
   ascending = subst (AreAscending a) (sym none) tt;
-  defs = empty_index def_key def_prefixes a shown d none nd;
-  tags = empty_index tag_key tag_prefixes a shown t none nt;
-  uses = empty_index use_key use_prefixes a shown u none nu;
-  callees = empty_index callee_key callee_prefixes a shown c none nc;
-  callers = empty_index caller_key caller_prefixes a shown e none ne;
+  defs = covers_none def_key def_prefixes a shown d none dh dw;
+  tags = covers_none tag_key tag_prefixes a shown t none th tw;
+  uses = covers_none use_key use_prefixes a shown u none uh uw;
+  callees = covers_none callee_key callee_prefixes a shown c none ch cw;
+  callers = covers_none caller_key caller_prefixes a shown e none eh ew;
 }
 
 -- ---- the archive changes elsewhere
@@ -62,67 +57,47 @@ module _ (a b : Archived) where
   same_ascending [] all up = tt
   same_ascending (s ∷ shown) all up = (later_names s all.0 shown all.1 up.0, same_ascending shown all.1 up.1)
 
-  pub kept_same : (shown : List Shown) (d t u c e : List Entry) → AllByRecursion (IsSame a b) shown
+  pub kept_same : (shown : List Shown) (d t u c e : Indexed) → AllByRecursion (IsSame a b) shown
       → AllByRecursion (IsThere b) shown → AreKept a shown d t u c e → AreKept b shown d t u c e
   kept_same shown d t u c e all there kept = record {
     there = there;
     ascending = same_ascending shown all kept.ascending;
-    defs = indexed_same def_key def_prefixes a b shown d all kept.defs;
-    tags = indexed_same tag_key tag_prefixes a b shown t all kept.tags;
-    uses = indexed_same use_key use_prefixes a b shown u all kept.uses;
-    callees = indexed_same callee_key callee_prefixes a b shown c all kept.callees;
-    callers = indexed_same caller_key caller_prefixes a b shown e all kept.callers;
+    defs = covers_same def_key def_prefixes a b shown d all kept.defs;
+    tags = covers_same tag_key tag_prefixes a b shown t all kept.tags;
+    uses = covers_same use_key use_prefixes a b shown u all kept.uses;
+    callees = covers_same callee_key callee_prefixes a b shown c all kept.callees;
+    callers = covers_same caller_key caller_prefixes a b shown e all kept.callers;
   }
 
   -- the same names and texts
-  pub kept_moved : (shown : List Shown) (d t u c e : List Entry) (shown_then : List Shown) (d_then t_then u_then c_then e_then : List Entry)
-      → b.names ≡ a.names → b.texts ≡ a.texts → shown_then ≡ shown → d_then ≡ d → t_then ≡ t → u_then ≡ u → c_then ≡ c → e_then ≡ e
-      → AreKept a shown d t u c e → AreKept b shown_then d_then t_then u_then c_then e_then
-  kept_moved shown d t u c e shown_then d_then t_then u_then c_then e_then names texts ss dd tt-is uu cc-is ee kept =
+  pub kept_moved : (shown : List Shown) (d t u c e : Indexed) → b.names ≡ a.names → b.texts ≡ a.texts
+      → AreKept a shown d t u c e → AreKept b shown d t u c e
+  kept_moved shown d t u c e names texts kept =
       let there : AllByRecursion (IsThere b) shown =
       all_implied (IsThere a) (IsThere b)
       (λ s is. (subst (λ l. s.name < length l) (sym names) is.0, subst (λ l. s.version < length l) (sym texts) is.1)) shown kept.there in
       let same : AllByRecursion (IsSame a b) shown =
       all_implied (IsThere a) (IsSame a b)
       (λ s is. (ap (λ l. slice_get l s.version) texts, ap (λ l. get_or l s.name []) names)) shown kept.there in
-      subst (λ l. AreKept b l d_then t_then u_then c_then e_then) (sym ss)
-      (subst (λ l. AreKept b shown l t_then u_then c_then e_then) (sym dd)
-      (subst (λ l. AreKept b shown d l u_then c_then e_then) (sym tt-is)
-      (subst (λ l. AreKept b shown d t l c_then e_then) (sym uu)
-      (subst (λ l. AreKept b shown d t u l e_then) (sym cc-is)
-      (subst (λ l. AreKept b shown d t u c l) (sym ee) (kept_same shown d t u c e same there kept))))))
+      kept_same shown d t u c e same there kept
+
+-- the same is held and waits
+pub kept_as : (a : Archived) (shown then : List Shown) (d t u c e dd td ud cd ed : Indexed) → then ≡ shown
+    → (dd.held ≡ d.held) × (dd.waiting ≡ d.waiting) → (td.held ≡ t.held) × (td.waiting ≡ t.waiting)
+    → (ud.held ≡ u.held) × (ud.waiting ≡ u.waiting) → (cd.held ≡ c.held) × (cd.waiting ≡ c.waiting)
+    → (ed.held ≡ e.held) × (ed.waiting ≡ e.waiting) → AreKept a shown d t u c e → AreKept a then dd td ud cd ed
+kept_as a shown then d t u c e dd td ud cd ed same ds ts us cs es kept = record {
+  there = subst (AllByRecursion (IsThere a)) (sym same) kept.there;
+  ascending = subst (AreAscending a) (sym same) kept.ascending;
+  defs = covers_as def_key def_prefixes a shown then d dd same ds.0 ds.1 kept.defs;
+  tags = covers_as tag_key tag_prefixes a shown then t td same ts.0 ts.1 kept.tags;
+  uses = covers_as use_key use_prefixes a shown then u ud same us.0 us.1 kept.uses;
+  callees = covers_as callee_key callee_prefixes a shown then c cd same cs.0 cs.1 kept.callees;
+  callers = covers_as caller_key caller_prefixes a shown then e ed same es.0 es.1 kept.callers;
+}
 
 -- ---- more is kept
-pub slice_get_left : (xs ys : List (List ℕ)) (i : ℕ) → i < length xs → slice_get (xs ++ ys) i ≡ slice_get xs i
-slice_get_left [] ys i below = absurd (omega (arith, below))
-slice_get_left (x ∷ xs) ys zero below = refl
-slice_get_left (x ∷ xs) ys (suc i) below = slice_get_left xs ys i (omega (arith, below))
-
-pub get_or_left : (xs ys : List (List ℕ)) (i : ℕ) → i < length xs → get_or (xs ++ ys) i [] ≡ get_or xs i []
-get_or_left [] ys i below = absurd (omega (arith, below))
-get_or_left (x ∷ xs) ys zero below = refl
-get_or_left (x ∷ xs) ys (suc i) below = get_or_left xs ys i (omega (arith, below))
-
-pub slice_get_front : (n : ℕ) (xs : List (List ℕ)) (i : ℕ) → i < n → slice_get (take n xs) i ≡ slice_get xs i
-slice_get_front zero xs i below = absurd (omega (arith, below))
-slice_get_front (suc n) [] i below = refl
-slice_get_front (suc n) (x ∷ xs) zero below = refl
-slice_get_front (suc n) (x ∷ xs) (suc i) below = slice_get_front n xs i (omega (arith, below))
-
-pub get_or_front : (n : ℕ) (xs : List (List ℕ)) (i : ℕ) → i < n → get_or (take n xs) i [] ≡ get_or xs i []
-get_or_front zero xs i below = absurd (omega (arith, below))
-get_or_front (suc n) [] i below = refl
-get_or_front (suc n) (x ∷ xs) zero below = refl
-get_or_front (suc n) (x ∷ xs) (suc i) below = get_or_front n xs i (omega (arith, below))
-
-pub length_front : (n : ℕ) (xs : List (List ℕ)) (i : ℕ) → i < n → i < length xs → i < length (take n xs)
-length_front zero xs i below within = absurd (omega (arith, below))
-length_front (suc n) [] i below within = within
-length_front (suc n) (x ∷ xs) zero below within = omega arith
-length_front (suc n) (x ∷ xs) (suc i) below within =
-    let later = length_front n xs i (omega (arith, below)) (omega (arith, within)) in omega (arith, later)
-
-module _ (a b : Archived) (shown : List Shown) (d t u c e : List Entry) (names texts : List (List ℕ)) where
+module _ (a b : Archived) (shown : List Shown) (d t u c e : Indexed) (names texts : List (List ℕ)) where
   pub kept_more : b.names ≡ a.names ++ names → b.texts ≡ a.texts ++ texts → AreKept a shown d t u c e → AreKept b shown d t u c e
   kept_more named kept_texts kept =
       let name_count = length-append a.names names in
@@ -140,7 +115,7 @@ module _ (a b : Archived) (shown : List Shown) (d t u c e : List Entry) (names t
       )) shown kept.there) kept
 
 -- ---- the last are let go
-module _ (a b : Archived) (shown : List Shown) (d t u c e : List Entry) (versions names : ℕ) where
+module _ (a b : Archived) (shown : List Shown) (d t u c e : Indexed) (versions names : ℕ) where
   both : (ss : List Shown) → AllByRecursion (IsThere a) ss → AllByRecursion (λ (s : Shown). (s.version < versions) × (s.name < names)) ss
       → AllByRecursion (λ (s : Shown). IsThere a s × ((s.version < versions) × (s.name < names))) ss
   both [] p q = tt
@@ -162,139 +137,190 @@ module _ (a b : Archived) (shown : List Shown) (d t u c e : List Entry) (version
       ))
       shown (both shown kept.there below)) kept
 
--- ---- a version is shown
-abbrev Names : List ℕ → List ℕ → Ordering
-Names = slice_cmp nat_cmp
-
-sorted_later : (a : Archived) (s : Shown) (shown : List Shown)
-    → AllByRecursion (λ (t : Shown). Names (name_of a s.name) (name_of a t.name) ≡ Less) shown
-    → AllByRecursion (λ (t : Shown). goes_first (shown_name a) s t ≡ true) shown
-sorted_later a s [] up = tt
-sorted_later a s (t ∷ shown) up = (ap (λ o. not (is_gt o)) up.0, sorted_later a s shown up.1)
-
-pub ascending_sorted : (a : Archived) (shown : List Shown) → AreAscending a shown → Sorted (shown_name a) shown
-unfolding AreOrdered
-ascending_sorted a [] up = tt
-ascending_sorted a (s ∷ shown) up = (sorted_later a s shown up.0, ascending_sorted a shown up.1)
-
-module _ (a : Archived) (s : Shown) where
-  abbrev IsOther : Shown → Type 0
-  IsOther t = bytes_eq (name_of a s.name) (name_of a t.name) ≡ false
-
-  pub split_or : (p q : Bool) → (p || q) ≡ false → (p ≡ false) × (q ≡ false)
-  split_or true q is = absurd (true≢false is)
-  split_or false q is = (refl, is)
-
-  pub others : (shown : List Shown) → list_any (λ (t : Shown). bytes_eq (name_of a s.name) (name_of a t.name)) shown ≡ false
-      → AllByRecursion (λ (t : Shown). bytes_eq (name_of a s.name) (name_of a t.name) ≡ false) shown
-  others [] none = tt
-  others (t ∷ shown) none =
-      let parts = split_or (bytes_eq (name_of a s.name) (name_of a t.name))
-      (list_any (λ (t : Shown). bytes_eq (name_of a s.name) (name_of a t.name)) shown) none in
-      (parts.0, others shown parts.1)
-
-  pub strict : (x y : List ℕ) → not (is_gt (Names x y)) ≡ true → bytes_eq x y ≡ false → Names x y ≡ Less
-  strict x y first other = by_order (Names x y) refl first
-    where
-      by_order : (o : Ordering) → Names x y ≡ o → not (is_gt o) ≡ true → Names x y ≡ Less
-      by_order Less is le = is
-      by_order Equal is le = absurd (true≢false (sym (sym (is_eq-slice_cmp x y) ∙ ap is_eq is) ∙ other))
-      by_order Greater is le = absurd (false≢true le)
-
-  turned_less : (x y : List ℕ) → not (is_gt (Names x y)) ≡ false → Names y x ≡ Less
-  turned_less x y isnt = by_order (Names x y) refl isnt
-    where
-      by_order : (o : Ordering) → Names x y ≡ o → not (is_gt o) ≡ false → Names y x ≡ Less
-      by_order Less is le = absurd (true≢false le)
-      by_order Equal is le = absurd (true≢false le)
-      by_order Greater is le = nat_list_cmp_total.antisymm y x ∙ ap ordering_reverse is
-
-  abbrev pub After : Shown → Shown → Type 0
-  After r t = Names (name_of a r.name) (name_of a t.name) ≡ Less
-
-  pub before_all : (t : Shown) (shown : List Shown) → After s t → AllByRecursion (After t) shown → AllByRecursion (After s) shown
-  before_all t [] less up = tt
-  before_all t (r ∷ shown) less up =
-      (nat_list_cmp_total.trans (name_of a s.name) (name_of a t.name) (name_of a r.name) less up.0, before_all t shown less up.1)
-
-  pub ascending_put : (shown : List Shown) → AllByRecursion (λ (t : Shown). bytes_eq (name_of a s.name) (name_of a t.name) ≡ false) shown
-      → AreAscending a shown → AreAscending a (put (shown_name a) s shown)
-  unfolding put AreOrdered
-  ascending_put [] other up = (tt, tt)
-  ascending_put (t ∷ shown) other up =
-      by_test (goes_first (shown_name a) s t) refl (ascending_put shown other.1 up.1)
-    where
-      by_test : (b : Bool) → goes_first (shown_name a) s t ≡ b → AreAscending a (put (shown_name a) s shown)
-          → AreAscending a (put (shown_name a) s (t ∷ shown))
-      by_test true first later =
-          let less = strict (name_of a s.name) (name_of a t.name) first other.0 in
-          subst (λ b. AreAscending a (cond b (s ∷ t ∷ shown) (t ∷ put (shown_name a) s shown))) (sym first)
-          ((less, before_all t shown less up.0), up)
-      by_test false isnt later =
-          subst (λ b. AreAscending a (cond b (s ∷ t ∷ shown) (t ∷ put (shown_name a) s shown))) (sym isnt)
-          (all_put (shown_name a) (After t) s shown (turned_less (name_of a s.name) (name_of a t.name) isnt) up.0, later)
-
-  pub kept_shown : (shown : List Shown) (d t u c e : List Entry) → IsThere a s
-      → AllByRecursion (λ (r : Shown). bytes_eq (name_of a s.name) (name_of a r.name) ≡ false) shown → AreKept a shown d t u c e
-      → AreKept a (put (shown_name a) s shown) (in_order (sort_key def_key a) (d ++ entries_of def_prefixes a s))
-      (in_order (sort_key tag_key a) (t ++ entries_of tag_prefixes a s)) (in_order (sort_key use_key a) (u ++ entries_of use_prefixes a s))
-      (in_order (sort_key callee_key a) (c ++ entries_of callee_prefixes a s)) (in_order (sort_key caller_key a) (e ++ entries_of caller_prefixes a s))
-  kept_shown shown d t u c e here other kept = record {
-    there = all_put (shown_name a) (IsThere a) s shown here kept.there;
-    ascending = ascending_put shown other kept.ascending;
-    defs = indexed_put def_key def_prefixes a s shown d kept.defs;
-    tags = indexed_put tag_key tag_prefixes a s shown t kept.tags;
-    uses = indexed_put use_key use_prefixes a s shown u kept.uses;
-    callees = indexed_put callee_key callee_prefixes a s shown c kept.callees;
-    callers = indexed_put caller_key caller_prefixes a s shown e kept.callers;
-  }
+-- ---- versions are shown
+module _ (a : Archived) (shown news : List Shown) (d t u c e dd td ud cd ed : Indexed) where
+  pub kept_each : AllByRecursion (IsThere a) news → AreApart a news → list_any (is_shown a shown) news ≡ false
+      → (dd.held ≡ d.held) × (dd.waiting ≡ d.waiting ++ news) → (td.held ≡ t.held) × (td.waiting ≡ t.waiting ++ news)
+      → (ud.held ≡ u.held) × (ud.waiting ≡ u.waiting ++ news) → (cd.held ≡ c.held) × (cd.waiting ≡ c.waiting ++ news)
+      → (ed.held ≡ e.held) × (ed.waiting ≡ e.waiting ++ news) → AreKept a shown d t u c e
+      → AreKept a (in_order (shown_name a) (shown ++ news)) dd td ud cd ed
+  kept_each there apart none ds ts us cs es kept =
+      let up = kept.ascending in
+      record {
+        there = all_in_order (shown_name a) (IsThere a) (shown ++ news) (all-append (IsThere a) shown news kept.there there);
+        ascending = ascending_in_order a (shown ++ news) (apart_both a shown news up apart none);
+        defs = covers_more def_key def_prefixes a shown news d dd up apart none ds.0 ds.1 kept.defs;
+        tags = covers_more tag_key tag_prefixes a shown news t td up apart none ts.0 ts.1 kept.tags;
+        uses = covers_more use_key use_prefixes a shown news u ud up apart none us.0 us.1 kept.uses;
+        callees = covers_more callee_key callee_prefixes a shown news c cd up apart none cs.0 cs.1 kept.callees;
+        callers = covers_more caller_key caller_prefixes a shown news e ed up apart none es.0 es.1 kept.callers;
+      }
 
 -- ---- what is shown under some names is hidden
 module _ (a : Archived) (stays : ℕ → Bool) where
   abbrev shown_stays : Shown → Bool
   shown_stays s = stays s.name
 
-  abbrev entry_stays : Entry → Bool
-  entry_stays e = stays e.name
+  -- y has what stays of x
+  abbrev pub HasLeft : Indexed → Indexed → Type 0
+  HasLeft x y = (y.held ≡ filter (λ (e : Entry). stays e.name) x.held) × (y.waiting ≡ filter (λ (s : Shown). stays s.name) x.waiting)
 
-  pub ascending_filter : (p : Shown → Bool) (shown : List Shown) → AreAscending a shown → AreAscending a (filter p shown)
-  unfolding AreOrdered
-  ascending_filter p [] up = tt
-  ascending_filter p (s ∷ shown) up =
-      elim (p s) as (λ b. AreAscending a (cond b (s ∷ filter p shown) (filter p shown))) [
-        | true ↦ (all_filter p (λ (t : Shown). Names (name_of a s.name) (name_of a t.name) ≡ Less) shown up.0, ascending_filter p shown up.1)
-        | false ↦ ascending_filter p shown up.1
-      ]
-
-  pub kept_hidden : (shown : List Shown) (d t u c e : List Entry) → AreKept a shown d t u c e
-      → AreKept a (filter shown_stays shown) (filter entry_stays d) (filter entry_stays t) (filter entry_stays u)
-      (filter entry_stays c) (filter entry_stays e)
-  kept_hidden shown d t u c e kept = record {
-    there = all_filter shown_stays (IsThere a) shown kept.there;
-    ascending = ascending_filter shown_stays shown kept.ascending;
-    defs = indexed_take def_prefixes a stays def_key shown d kept.defs;
-    tags = indexed_take tag_prefixes a stays tag_key shown t kept.tags;
-    uses = indexed_take use_prefixes a stays use_key shown u kept.uses;
-    callees = indexed_take callee_prefixes a stays callee_key shown c kept.callees;
-    callers = indexed_take caller_prefixes a stays caller_key shown e kept.callers;
+  pub kept_hidden : (shown then : List Shown) (d t u c e dd td ud cd ed : Indexed) → then ≡ filter (λ (s : Shown). stays s.name) shown
+      → HasLeft d dd → HasLeft t td → HasLeft u ud → HasLeft c cd → HasLeft e ed
+      → AreKept a shown d t u c e → AreKept a then dd td ud cd ed
+  kept_hidden shown then d t u c e dd td ud cd ed left ds ts us cs es kept = record {
+    there = subst (AllByRecursion (IsThere a)) (sym left) (all_filter shown_stays (IsThere a) shown kept.there);
+    ascending = subst (AreAscending a) (sym left) (ascending_filter a shown_stays shown kept.ascending);
+    defs = covers_hidden def_key def_prefixes a stays shown then d dd left ds.0 ds.1 kept.defs;
+    tags = covers_hidden tag_key tag_prefixes a stays shown then t td left ts.0 ts.1 kept.tags;
+    uses = covers_hidden use_key use_prefixes a stays shown then u ud left us.0 us.1 kept.uses;
+    callees = covers_hidden callee_key callee_prefixes a stays shown then c cd left cs.0 cs.1 kept.callees;
+    callers = covers_hidden caller_key caller_prefixes a stays shown then e ed left es.0 es.1 kept.callers;
   }
 
--- ---- what is left of what is shown
-module _ (a : Archived) where
-  pub kept_filtered : (p : Shown → Bool) (shown : List Shown) (d t u c e : List Entry) → AreKept a shown d t u c e
-      → AreKept a (filter p shown) (in_order (sort_key def_key a) (all_entries def_prefixes a (filter p shown)))
-      (in_order (sort_key tag_key a) (all_entries tag_prefixes a (filter p shown)))
-      (in_order (sort_key use_key a) (all_entries use_prefixes a (filter p shown)))
-      (in_order (sort_key callee_key a) (all_entries callee_prefixes a (filter p shown)))
-      (in_order (sort_key caller_key a) (all_entries caller_prefixes a (filter p shown)))
-  kept_filtered p shown d t u c e kept = record {
-    there = all_filter p (IsThere a) shown kept.there;
-    ascending = ascending_filter a (λ n. true) p shown kept.ascending;
-    defs = refl;
-    tags = refl;
-    uses = refl;
-    callees = refl;
-    callers = refl;
+-- ---- one version goes
+module _ (a : Archived) (name : ℕ) (shown then : List Shown) (one : Shown) (dd td ud cd ed : Indexed) where
+  abbrev IsLeft : Keyer → Prefixer → ℕ → Indexed → Type 0
+  IsLeft keyer prefixer n x = Covers keyer prefixer a (filter (λ (s : Shown). not (nat_eq s.name n)) shown) x
+
+  pub kept_taken : (d t u c e : Indexed) → then ≡ filter (λ (s : Shown). not (nat_eq s.name name)) shown → one.name ≡ name
+      → IsLeft def_key def_prefixes one.name dd → IsLeft tag_key tag_prefixes one.name td → IsLeft use_key use_prefixes one.name ud
+      → IsLeft callee_key callee_prefixes one.name cd → IsLeft caller_key caller_prefixes one.name ed
+      → AreKept a shown d t u c e → AreKept a then dd td ud cd ed
+  kept_taken d t u c e left named ds ts us cs es kept =
+      let other : Shown → Bool = λ s. not (nat_eq s.name name) in
+      subst (λ l. AreKept a l dd td ud cd ed) (sym left) (record {
+        there = all_filter other (IsThere a) shown kept.there;
+        ascending = ascending_filter a other shown kept.ascending;
+        defs = subst (λ n. IsLeft def_key def_prefixes n dd) named ds;
+        tags = subst (λ n. IsLeft tag_key tag_prefixes n td) named ts;
+        uses = subst (λ n. IsLeft use_key use_prefixes n ud) named us;
+        callees = subst (λ n. IsLeft callee_key callee_prefixes n cd) named cs;
+        callers = subst (λ n. IsLeft caller_key caller_prefixes n ed) named es;
+      })
+
+-- ---- room for versions
+-- what fits in the least of six rooms fits in each
+pub each_room : (s d t u c e n : ℕ) → n ≤ min s (min (min d t) (min u (min c e)))
+    → (n ≤ s) × (n ≤ d) × (n ≤ t) × (n ≤ u) × (n ≤ c) × (n ≤ e)
+each_room s d t u c e n fits =
+    let five = le_trans fits (min-le_right s (min (min d t) (min u (min c e)))) in
+    let two = le_trans five (min-le_left (min d t) (min u (min c e))) in
+    let three = le_trans five (min-le_right (min d t) (min u (min c e))) in
+    let last = le_trans three (min-le_right u (min c e)) in (
+      le_trans fits (min-le_left s (min (min d t) (min u (min c e)))),
+      le_trans two (min-le_left d t),
+      le_trans two (min-le_right d t),
+      le_trans three (min-le_left u (min c e)),
+      le_trans last (min-le_left c e),
+      le_trans last (min-le_right c e),
+    )
+
+-- ---- what waits in one index is put in order
+module _ (a : Archived) (shown : List Shown) (d t u c e x : Indexed) (n : Totals) where
+  pub settled_defs : x.held ≡ in_order (sort_key def_key a) (d.held ++ all_entries def_prefixes a d.waiting) → x.waiting ≡ []
+      → AreKept a shown d t u c e → AreKept a shown x t u c e
+  settled_defs held waiting kept = record {
+    there = kept.there;
+    ascending = kept.ascending;
+    defs = covers_settled def_key def_prefixes a shown d x held waiting kept.defs;
+    tags = kept.tags;
+    uses = kept.uses;
+    callees = kept.callees;
+    callers = kept.callers;
+  }
+
+  pub within_defs : d.room ≤ x.room → AreWithin n d t u c e → AreWithin n x t u c e
+  within_defs room is = record {
+    defs = le_trans is.defs room;
+    tags = is.tags;
+    uses = is.uses;
+    callees = is.callees;
+    callers = is.callers;
+  }
+
+  pub settled_tags : x.held ≡ in_order (sort_key tag_key a) (t.held ++ all_entries tag_prefixes a t.waiting) → x.waiting ≡ []
+      → AreKept a shown d t u c e → AreKept a shown d x u c e
+  settled_tags held waiting kept = record {
+    there = kept.there;
+    ascending = kept.ascending;
+    defs = kept.defs;
+    tags = covers_settled tag_key tag_prefixes a shown t x held waiting kept.tags;
+    uses = kept.uses;
+    callees = kept.callees;
+    callers = kept.callers;
+  }
+
+  pub within_tags : t.room ≤ x.room → AreWithin n d t u c e → AreWithin n d x u c e
+  within_tags room is = record {
+    defs = is.defs;
+    tags = le_trans is.tags room;
+    uses = is.uses;
+    callees = is.callees;
+    callers = is.callers;
+  }
+
+  pub settled_uses : x.held ≡ in_order (sort_key use_key a) (u.held ++ all_entries use_prefixes a u.waiting) → x.waiting ≡ []
+      → AreKept a shown d t u c e → AreKept a shown d t x c e
+  settled_uses held waiting kept = record {
+    there = kept.there;
+    ascending = kept.ascending;
+    defs = kept.defs;
+    tags = kept.tags;
+    uses = covers_settled use_key use_prefixes a shown u x held waiting kept.uses;
+    callees = kept.callees;
+    callers = kept.callers;
+  }
+
+  pub within_uses : u.room ≤ x.room → AreWithin n d t u c e → AreWithin n d t x c e
+  within_uses room is = record {
+    defs = is.defs;
+    tags = is.tags;
+    uses = le_trans is.uses room;
+    callees = is.callees;
+    callers = is.callers;
+  }
+
+  pub settled_callees : x.held ≡ in_order (sort_key callee_key a) (c.held ++ all_entries callee_prefixes a c.waiting) → x.waiting ≡ []
+      → AreKept a shown d t u c e → AreKept a shown d t u x e
+  settled_callees held waiting kept = record {
+    there = kept.there;
+    ascending = kept.ascending;
+    defs = kept.defs;
+    tags = kept.tags;
+    uses = kept.uses;
+    callees = covers_settled callee_key callee_prefixes a shown c x held waiting kept.callees;
+    callers = kept.callers;
+  }
+
+  pub within_callees : c.room ≤ x.room → AreWithin n d t u c e → AreWithin n d t u x e
+  within_callees room is = record {
+    defs = is.defs;
+    tags = is.tags;
+    uses = is.uses;
+    callees = le_trans is.callees room;
+    callers = is.callers;
+  }
+
+  pub settled_callers : x.held ≡ in_order (sort_key caller_key a) (e.held ++ all_entries caller_prefixes a e.waiting) → x.waiting ≡ []
+      → AreKept a shown d t u c e → AreKept a shown d t u c x
+  settled_callers held waiting kept = record {
+    there = kept.there;
+    ascending = kept.ascending;
+    defs = kept.defs;
+    tags = kept.tags;
+    uses = kept.uses;
+    callees = kept.callees;
+    callers = covers_settled caller_key caller_prefixes a shown e x held waiting kept.callers;
+  }
+
+  pub within_callers : e.room ≤ x.room → AreWithin n d t u c e → AreWithin n d t u c x
+  within_callers room is = record {
+    defs = is.defs;
+    tags = is.tags;
+    uses = is.uses;
+    callees = is.callees;
+    callers = le_trans is.callers room;
   }
 
 -- ---- filters by one number after another

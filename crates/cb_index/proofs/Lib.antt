@@ -1,7 +1,10 @@
+pub mod AscendLemmas
 pub mod BlockLemmas
+pub mod CoverLemmas
 pub mod EntryLemmas
 pub mod FactLemmas
 pub mod FewerLemmas
+pub mod FrontLemmas
 pub mod InOrderLemmas
 pub mod IncludeLemmas
 pub mod IndexLemmas

@@ -20,16 +20,10 @@ use Rattle.cb_scan.proofs.KeyOrder.{both_equal, ended, same_number}
 use Rattle.cb_scan.proofs.OrderLemmas.{Sorted}
 use Rattle.cb_scan.proofs.WithinLemmas.{all-append}
 use Rattle.cb_index.specs.Archived.{Archived, name_of}
-use Rattle.cb_index.specs.Entries.{sort_key}
 use Rattle.cb_index.specs.Files.{AreApart, AreAscending, IsThere, is_shown, shown_key, shown_name}
-use Rattle.cb_index.specs.Held.{all_entries}
-use Rattle.cb_index.specs.Orders.{callee_key, callee_prefixes, caller_key, caller_prefixes, def_key, def_prefixes, tag_key, tag_prefixes, use_key, use_prefixes}
-use Rattle.cb_index.specs.Shelved.{AreKept}
-use Rattle.cb_index.specs.declared.entry.Entry.{Entry}
 use Rattle.cb_index.specs.declared.entry.Shown.{Shown}
 use Rattle.cb_index.proofs.InOrderLemmas.{in_order_agree, same_order}
-use Rattle.cb_index.proofs.IndexLemmas.{indexed_each}
-use Rattle.cb_index.proofs.KeptLemmas.{After, ascending_put, ascending_sorted, before_all, others, split_or, strict}
+use Rattle.cb_index.proofs.AscendLemmas.{After, ascending_put, ascending_sorted, before_all, others, split_or, strict}
 
 abbrev Names : List ℕ → List ℕ → Ordering
 Names = slice_cmp nat_cmp
@@ -76,7 +70,7 @@ other_turned x y isnt =
     (cases_Bool (bytes_eq y x))
 
 module _ (a : Archived) where
-  abbrev IsApart : Shown → Shown → Type 0
+  abbrev pub IsApart : Shown → Shown → Type 0
   IsApart s t = bytes_eq (name_of a s.name) (name_of a t.name) ≡ false
 
   all_settled : (s : Shown) (shown : List Shown) → AllByRecursion (IsApart s) shown
@@ -112,13 +106,13 @@ module _ (a : Archived) where
   ascending_apart [] up = tt
   ascending_apart (s ∷ shown) up = (later_apart s shown up.0, ascending_apart shown up.1)
 
-  none_shown : (old news : List Shown) → list_any (is_shown a old) news ≡ false → AllByRecursion (λ n. AllByRecursion (IsApart n) old) news
+  pub none_shown : (old news : List Shown) → list_any (is_shown a old) news ≡ false → AllByRecursion (λ n. AllByRecursion (IsApart n) old) news
   none_shown old [] none = tt
   none_shown old (n ∷ news) none =
       let parts = split_or a n (is_shown a old n) (list_any (is_shown a old) news) none in
       (others a n old parts.0, none_shown old news parts.1)
 
-  apart_append : (old news : List Shown) → AreApart a old → AreApart a news
+  pub apart_append : (old news : List Shown) → AreApart a old → AreApart a news
       → AllByRecursion (λ n. AllByRecursion (IsApart n) old) news → AreApart a (old ++ news)
   unfolding AreOrdered
   apart_append [] news front back across = back
@@ -262,22 +256,3 @@ module _ (a : Archived) where
       less_if Less is = refl
       less_if Equal is = absurd (false≢true is)
       less_if Greater is = absurd (false≢true is)
-
--- ---- many versions are shown
-module _ (a : Archived) (shown news : List Shown) (d t u c e : List Entry) where
-  pub kept_each : AllByRecursion (IsThere a) news → AreApart a (shown ++ news) → AreKept a shown d t u c e
-      → AreKept a (in_order (shown_name a) (shown ++ news))
-      (in_order (sort_key def_key a) (d ++ all_entries def_prefixes a news))
-      (in_order (sort_key tag_key a) (t ++ all_entries tag_prefixes a news))
-      (in_order (sort_key use_key a) (u ++ all_entries use_prefixes a news))
-      (in_order (sort_key callee_key a) (c ++ all_entries callee_prefixes a news))
-      (in_order (sort_key caller_key a) (e ++ all_entries caller_prefixes a news))
-  kept_each there apart kept = record {
-    there = all_in_order (shown_name a) (IsThere a) (shown ++ news) (all-append (IsThere a) shown news kept.there there);
-    ascending = ascending_in_order a (shown ++ news) apart;
-    defs = indexed_each def_key def_prefixes a shown news d kept.defs;
-    tags = indexed_each tag_key tag_prefixes a shown news t kept.tags;
-    uses = indexed_each use_key use_prefixes a shown news u kept.uses;
-    callees = indexed_each callee_key callee_prefixes a shown news c kept.callees;
-    callers = indexed_each caller_key caller_prefixes a shown news e kept.callers;
-  }

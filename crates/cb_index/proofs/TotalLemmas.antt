@@ -11,7 +11,8 @@ use Rattle.cb_index.specs.Shelved.{AreTotals}
 use Rattle.cb_index.specs.declared.entry.Shown.{Shown}
 use Rattle.cb_index.specs.declared.totals.Totals.{Totals}
 use Rattle.cb_index.proofs.IndexLemmas.{out_sum}
-use Rattle.cb_index.proofs.KeptLemmas.{slice_get_front, slice_get_left}
+use Rattle.cb_index.proofs.ListedLemmas.{ascending_apart}
+use Rattle.cb_index.proofs.FrontLemmas.{slice_get_front, slice_get_left}
 
 -- ---- one count of what is shown
 module _ (count : Option (List ℕ) → ℕ) (a : Archived) where
@@ -56,7 +57,7 @@ module _ (count : Option (List ℕ) → ℕ) (a : Archived) where
       → total count a shown
       ≡ count (slice_get a.texts one.version) + total count a (filter (λ (s : Shown). not (nat_eq s.name name)) shown)
   total_out name shown one is up =
-      total_sum shown ∙ out_sum a name size shown one is up
+      total_sum shown ∙ out_sum a name size shown one is (ascending_apart a shown up)
       ∙ ap (λ n. size one + n) (sym (total_sum (filter (λ (s : Shown). not (nat_eq s.name name)) shown)))
 
   -- its facts are no more than those of all

@@ -11,6 +11,14 @@ pub record Held : Type 0 where
   pub entries : List Entry
   pub room : ℕ
 
+-- an index: the entries that it holds in order, the versions whose entries wait to be put among
+-- them, and for how many entries and versions there is room
+pub record Indexed : Type 0 where
+  pub held : List Entry
+  pub waiting : List Shown
+  pub room : ℕ
+  pub version_room : ℕ
+
 -- the prefixes that an order gives the entries of a text, if it is there
 abbrev pub Prefixer : Type 0
 Prefixer = Option (List ℕ) → List ℕ

@@ -1,5 +1,5 @@
 -- What a shelf keeps and shows.
-use Rattle.std.specs.Prelude.{ℕ, ◌≡◌, ◌≤◌, ◌<◌, ◌+◌, false, List, length, slice_get}
+use Rattle.std.specs.Prelude.{ℕ, ◌≡◌, ◌≤◌, ◌<◌, ◌+◌, ◌++◌, false, List, [], length, slice_get}
 use Rattle.std.specs.List.{AllByRecursion, list_any}
 use Rattle.std.specs.Str.{bytes_eq}
 use Rattle.cb_scan.specs.Definitions.{facts_of}
@@ -7,18 +7,41 @@ use Rattle.cb_scan.specs.Order.{in_order}
 use Rattle.cb_scan.specs.TextFacts.{TextFacts}
 use Rattle.cb_index.specs.Archived.{Archived, name_of}
 use Rattle.cb_index.specs.Entries.{Keyer, sort_key}
-use Rattle.cb_index.specs.Files.{AreApart, AreAscending, File, IsThere, call_count, def_count, files_of, is_shown, total, use_count}
-use Rattle.cb_index.specs.Held.{Prefixer, all_entries}
+use Rattle.cb_index.specs.Files.{AreApart, AreAscending, File, IsThere, call_count, def_count, files_of, is_shown, shown_name, total, use_count}
+use Rattle.cb_index.specs.Held.{Indexed, Prefixer, all_entries}
 use Rattle.cb_index.specs.Orders.{callee_key, callee_prefixes, caller_key, caller_prefixes, def_key, def_prefixes, tag_key, tag_prefixes, use_key, use_prefixes}
+use Rattle.cb_index.specs.declared.asked.Asked.{Asked}
+use Rattle.cb_index.specs.declared.asked.Asked.TheVariants.{Defs, Tags, Uses, Callees, Callers}
 use Rattle.cb_index.specs.declared.entry.Entry.{Entry}
 use Rattle.cb_index.specs.declared.entry.Shown.{Shown}
 use Rattle.cb_index.specs.declared.totals.Totals.{Totals}
 
--- the archive, what is shown of it, by file name, how often that changed, and for how many entries,
--- definitions, uses and calls there is room
+-- the versions that wait, of each index
+pub record Waiting : Type 0 where
+  pub defs : List Shown
+  pub tags : List Shown
+  pub uses : List Shown
+  pub callees : List Shown
+  pub callers : List Shown
+
+-- nothing waits
+abbrev pub nothing : Waiting
+nothing = record { defs = []; tags = []; uses = []; callees = []; callers = [] }
+
+-- nothing waits in the index that answers
+abbrev pub settled : Asked → Waiting → Waiting
+settled Defs w = record w { defs = [] }
+settled Tags w = record w { tags = [] }
+settled Uses w = record w { uses = [] }
+settled Callees w = record w { callees = [] }
+settled Callers w = record w { callers = [] }
+
+-- the archive, what is shown of it, by file name, what waits of it, how often it changed, and for
+-- how many entries, definitions, uses and calls there is room
 pub record Shelved : Type 0 where
   pub archive : Archived
   pub shown : List Shown
+  pub waiting : Waiting
   pub turns : ℕ
   pub entry_room : ℕ
   pub def_room : ℕ
@@ -78,16 +101,34 @@ abbrev pub IsIndexOf : Keyer → Prefixer → Archived → List Shown → List E
 IsIndexOf keyer prefixer a shown es =
     es ≡ in_order (sort_key keyer a) (all_entries prefixer a shown)
 
--- the five indexes hold what is shown, whose numbers are there, by file name
+-- an index is one of what is shown: it holds the entries of some versions in order, the others
+-- wait, and no two of all these have one file name
+pub record Covers (keyer : Keyer) (prefixer : Prefixer) (a : Archived) (shown : List Shown)
+    (x : Indexed) : Type 0 where
+  pub sorted : List Shown
+  pub held : IsIndexOf keyer prefixer a sorted x.held
+  pub all : shown ≡ in_order (shown_name a) (sorted ++ x.waiting)
+  pub apart : AreApart a (sorted ++ x.waiting)
+
+-- the five indexes are those of what is shown, whose numbers are there, by file name
 pub record AreKept (a : Archived) (shown : List Shown)
-    (in_defs in_tags in_uses in_callees in_callers : List Entry) : Type 0 where
+    (defs_in tags_in uses_in callees_in callers_in : Indexed) : Type 0 where
   pub there : AllByRecursion (IsThere a) shown
   pub ascending : AreAscending a shown
-  pub defs : IsIndexOf def_key def_prefixes a shown in_defs
-  pub tags : IsIndexOf tag_key tag_prefixes a shown in_tags
-  pub uses : IsIndexOf use_key use_prefixes a shown in_uses
-  pub callees : IsIndexOf callee_key callee_prefixes a shown in_callees
-  pub callers : IsIndexOf caller_key caller_prefixes a shown in_callers
+  pub defs : Covers def_key def_prefixes a shown defs_in
+  pub tags : Covers tag_key tag_prefixes a shown tags_in
+  pub uses : Covers use_key use_prefixes a shown uses_in
+  pub callees : Covers callee_key callee_prefixes a shown callees_in
+  pub callers : Covers caller_key caller_prefixes a shown callers_in
+
+-- the five indexes have room for so many facts of each kind
+pub record AreWithin (n : Totals)
+    (defs_in tags_in uses_in callees_in callers_in : Indexed) : Type 0 where
+  pub defs : n.defs ≤ defs_in.room
+  pub tags : n.defs ≤ tags_in.room
+  pub uses : n.uses ≤ uses_in.room
+  pub callees : n.calls ≤ callees_in.room
+  pub callers : n.calls ≤ callers_in.room
 
 -- all that is shown has so many facts of each kind
 pub record AreTotals (a : Archived) (shown : List Shown) (n : Totals) : Type 0 where

@@ -7,6 +7,7 @@
 #![tactic(auto)]
 
 mod archive;
+mod asked;
 mod block;
 mod blocks;
 mod bytes;
@@ -15,6 +16,7 @@ mod entries;
 mod entry;
 mod facts;
 mod includes;
+mod index;
 pub mod laws;
 mod listed;
 mod memory;
@@ -35,6 +37,7 @@ mod tags;
 mod totals;
 
 pub use archive::{Archive, Version};
+pub use asked::Asked;
 pub use entries::Entries;
 pub use entry::{Entry, Shown};
 pub use facts::{FactRows, FactSpots};

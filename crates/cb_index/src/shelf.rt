@@ -10,24 +10,23 @@ ghost use Rattle.cb_index.specs.Archived.{name_of};
 ghost use Rattle.cb_index.specs.Files.{AreAscending, IsThere, shown_name};
 ghost use Rattle.cb_index.specs.Names.{is_among, names_of};
 ghost use Rattle.cb_index.specs.Rows.{calls_in, calls_of, tags_by_name, tags_by_tag_name, tags_named, uses_of};
-ghost use Rattle.cb_index.specs.Shelved.{AreTotals, CanShow, CanShowAll, KeepsRoom, files, with_facts};
+ghost use Rattle.cb_index.specs.Shelved.{AreTotals, CanShow, CanShowAll, KeepsRoom, files, nothing, settled, with_facts};
 ghost use Rattle.cb_index.specs.declared.entry.Shown.{Shown};
 ghost use Rattle.cb_index.specs.steps.Left.{entries_left, facts_left, tags_left};
 
 use crate::archive::{Archive, Version};
+use crate::asked::Asked;
 use crate::counted::{Counted, has_room, has_room_for};
 use crate::entries::Entries;
 use crate::entry::Shown;
 use crate::facts::FactRows;
-use crate::listed::{
-    are_there, ascend, has_any_name, has_name, put_all_shown, put_shown, shown_under,
-};
+use crate::index::Index;
+use crate::listed::{are_there, ascend, has_any_name, has_name, put_all_shown, shown_under};
 use crate::memory::OutOfMemory;
 use crate::names::Names;
 use crate::orders::{CallsByCallee, CallsByCaller, DefsByName, DefsByTagName, UsesByName};
 use crate::room::Room;
 use crate::rows::FactSort;
-use crate::sorted::Sorted;
 use crate::tags::TagRows;
 use crate::totals::Totals;
 use std::alloc::Global;
@@ -39,38 +38,50 @@ const FEW: usize = 8;
 
 /// An archive, the versions that are shown of it, each under a file name, and five indexes of what
 /// is found in these. No two versions are shown under one file name. Only `reserve` takes memory.
+///
+/// A version that is shown costs hardly anything at first: its entries wait. Before a question,
+/// `settle` puts what waits in order in the one index that answers it, so that many versions are
+/// sorted together.
 #[derive(Drop)]
 pub struct Shelf {
     archive: Archive,
     shown: Vec<Shown>,
-    defs: Sorted<DefsByName>,
-    tags: Sorted<DefsByTagName>,
-    uses: Sorted<UsesByName>,
-    callees: Sorted<CallsByCallee>,
-    callers: Sorted<CallsByCaller>,
+    defs: Index<DefsByName>,
+    tags: Index<DefsByTagName>,
+    uses: Index<UsesByName>,
+    callees: Index<CallsByCallee>,
+    callers: Index<CallsByCaller>,
     totals: Totals,
     turns: u64,
 }
 
 impl Model for Shelf {
     ghost use Rattle.std.specs.Prelude.{min, vec_capacity};
-    ghost use Rattle.cb_index.specs.Shelved.{AreKept, AreTotals, Shelved};
+    ghost use Rattle.cb_index.specs.Shelved.{AreKept, AreTotals, AreWithin, Shelved};
 
     ghost Value = { Shelved };
 
     ghost view = { λ s. record {
       archive = s.archive;
       shown = s.shown.items;
+      waiting = record {
+        defs = s.defs.waiting;
+        tags = s.tags.waiting;
+        uses = s.uses.waiting;
+        callees = s.callees.waiting;
+        callers = s.callers.waiting;
+      };
       turns = s.turns;
-      entry_room = vec_capacity s.shown;
+      entry_room = min (vec_capacity s.shown) (min (min s.defs.version_room s.tags.version_room)
+          (min s.uses.version_room (min s.callees.version_room s.callers.version_room)));
       def_room = min s.defs.room s.tags.room;
       use_room = s.uses.room;
       call_room = min s.callees.room s.callers.room;
     } };
 
-    ghost invariant = { λ s. AreKept s.archive s.shown.items s.defs.entries s.tags.entries
-        s.uses.entries s.callees.entries s.callers.entries
-        × AreTotals s.archive s.shown.items s.totals };
+    ghost invariant = { λ s. AreKept s.archive s.shown.items s.defs s.tags s.uses s.callees s.callers
+        × AreTotals s.archive s.shown.items s.totals
+        × AreWithin s.totals s.defs s.tags s.uses s.callees s.callers };
 }
 
 impl Shelf {
@@ -79,16 +90,17 @@ impl Shelf {
         ensures names { result.archive.names ≡ [] }
         ensures texts { result.archive.texts ≡ [] }
         ensures shown { result.shown ≡ [] }
+        ensures waiting { result.waiting ≡ nothing }
         ensures turns { result.turns ≡ 0 }
     {
         Shelf {
             archive: Archive::new(alloc),
             shown: Vec::new(alloc),
-            defs: Sorted::new(alloc),
-            tags: Sorted::new(alloc),
-            uses: Sorted::new(alloc),
-            callees: Sorted::new(alloc),
-            callers: Sorted::new(alloc),
+            defs: Index::new(alloc),
+            tags: Index::new(alloc),
+            uses: Index::new(alloc),
+            callees: Index::new(alloc),
+            callers: Index::new(alloc),
             totals: Totals {
                 defs: 0,
                 uses: 0,
@@ -152,23 +164,23 @@ impl Shelf {
             Ok(()) => {}
             Err(_) => return Err(OutOfMemory),
         }
-        match self.defs.reserve(room.defs) {
+        match self.defs.reserve(room.defs, room.entries) {
             Ok(()) => {}
             Err(_) => return Err(OutOfMemory),
         }
-        match self.tags.reserve(room.defs) {
+        match self.tags.reserve(room.defs, room.entries) {
             Ok(()) => {}
             Err(_) => return Err(OutOfMemory),
         }
-        match self.uses.reserve(room.uses) {
+        match self.uses.reserve(room.uses, room.entries) {
             Ok(()) => {}
             Err(_) => return Err(OutOfMemory),
         }
-        match self.callees.reserve(room.calls) {
+        match self.callees.reserve(room.calls, room.entries) {
             Ok(()) => {}
             Err(_) => return Err(OutOfMemory),
         }
-        self.callers.reserve(room.calls)
+        self.callers.reserve(room.calls, room.entries)
     }
 
     /// Keeps a name under the number that is answered: the count of names before.
@@ -210,6 +222,17 @@ impl Shelf {
         self.archive.truncate(versions, names);
     }
 
+    /// For how many versions there is room.
+    fn entry_room(&self) -> usize
+        ensures { result ≡ self.now.entry_room }
+    {
+        let defs = self.defs.version_room().min(self.tags.version_room());
+        let calls = self.callees.version_room().min(self.callers.version_room());
+        self.shown
+            .capacity()
+            .min(defs.min(self.uses.version_room().min(calls)))
+    }
+
     /// Whether a version can be shown under a name: both are there, no file of that name is shown,
     /// and there is room.
     pub fn can_show(&self, name: u32, version: u32) -> bool
@@ -222,7 +245,7 @@ impl Shelf {
             return false;
         }
         let shown = self.shown.as_slice();
-        if has_name(&self.archive, name, shown) || shown.len() >= self.shown.capacity() {
+        if has_name(&self.archive, name, shown) || shown.len() >= self.entry_room() {
             return false;
         }
         let def_room = self.defs.room().min(self.tags.room());
@@ -250,7 +273,7 @@ impl Shelf {
         if has_any_name(&self.archive, news, shown) {
             return false;
         }
-        if news.len() > self.shown.capacity() - shown.len() {
+        if shown.len() + news.len() > self.entry_room() {
             return false;
         }
         let def_room = self.defs.room().min(self.tags.room());
@@ -269,20 +292,12 @@ impl Shelf {
         ensures turns { self.new.turns ≡ min (self.old.turns + 1) (2 ^ 64 - 1) }
         ensures room { KeepsRoom self.old self.new }
     {
-        let one = Shown { name, version };
-        let _rooms = (self.defs.room(), self.uses.room(), self.callees.room());
-        self.totals = self.totals.with(&self.archive, &[one]);
-        put_shown(&self.archive, one, &mut self.shown);
-        self.defs.put_all(&self.archive, one);
-        self.tags.put_all(&self.archive, one);
-        self.uses.put_all(&self.archive, one);
-        self.callees.put_all(&self.archive, one);
-        self.callers.put_all(&self.archive, one);
-        self.turns = self.turns.saturating_add(1);
+        // No two of the versions that are shown have one file name.
+        let _shown = self.shown().len();
+        self.show_all(&[Shown { name, version }]);
     }
 
-    /// Shows versions together, each under its name, in the room that is there. Each index is put
-    /// in order once. It takes no memory.
+    /// Shows versions together, each under its name, in the room that is there. It takes no memory.
     pub fn show_all(&mut self, news: &[Shown])
         requires { CanShowAll self.old news.now }
         ensures shown { self.new.shown
@@ -294,11 +309,11 @@ impl Shelf {
         let _rooms = (self.defs.room(), self.uses.room(), self.callees.room());
         self.totals = self.totals.with(&self.archive, news);
         put_all_shown(&self.archive, news, &mut self.shown);
-        self.defs.put_each(&self.archive, news);
-        self.tags.put_each(&self.archive, news);
-        self.uses.put_each(&self.archive, news);
-        self.callees.put_each(&self.archive, news);
-        self.callers.put_each(&self.archive, news);
+        self.defs.put(news);
+        self.tags.put(news);
+        self.uses.put(news);
+        self.callees.put(news);
+        self.callers.put(news);
         self.turns = self.turns.saturating_add(news.len() as u64);
     }
 
@@ -321,11 +336,11 @@ impl Shelf {
             { s.name != name },
         );
         self.totals = self.totals.without(&self.archive, one.version);
-        self.defs.take_all(&self.archive, one);
-        self.tags.take_all(&self.archive, one);
-        self.uses.take_all(&self.archive, one);
-        self.callees.take_all(&self.archive, one);
-        self.callers.take_all(&self.archive, one);
+        self.defs.take(&self.archive, one);
+        self.tags.take(&self.archive, one);
+        self.uses.take(&self.archive, one);
+        self.callees.take(&self.archive, one);
+        self.callers.take(&self.archive, one);
     }
 
     /// Hides what is shown under the names of many files, the number of each name below that of the
@@ -382,8 +397,27 @@ impl Shelf {
         }
     }
 
-    /// The definitions of a name, by file and place.
+    /// Puts what waits in order in the index that answers a question, in the room that is there. It
+    /// takes no memory.
+    pub fn settle(&mut self, asked: Asked)
+        ensures waiting { self.new.waiting ≡ settled asked self.old.waiting }
+        ensures archive { self.new.archive ≡ self.old.archive }
+        ensures shown { self.new.shown ≡ self.old.shown }
+        ensures turns { self.new.turns ≡ self.old.turns }
+        ensures room { KeepsRoom self.old self.new }
+    {
+        match asked {
+            Asked::Defs => self.defs.settle(&self.archive),
+            Asked::Tags => self.tags.settle(&self.archive),
+            Asked::Uses => self.uses.settle(&self.archive),
+            Asked::Callees => self.callees.settle(&self.archive),
+            Asked::Callers => self.callers.settle(&self.archive),
+        }
+    }
+
+    /// The definitions of a name, by file and place. None of them waits.
     pub fn defs(&self, name: &[u8]) -> TagRows<'_>
+        requires { self.now.waiting.defs ≡ [] }
         ensures { tags_left result ≡ tags_named name.now (files self.now) }
     {
         TagRows {
@@ -392,8 +426,9 @@ impl Shelf {
         }
     }
 
-    /// All definitions, by name.
+    /// All definitions, by name. None of them waits.
     pub fn all_defs(&self) -> TagRows<'_>
+        requires { self.now.waiting.defs ≡ [] }
         ensures { tags_left result ≡ tags_by_name (files self.now) }
     {
         self.archive.read_texts();
@@ -403,8 +438,9 @@ impl Shelf {
         }
     }
 
-    /// All definitions, by the names that a plain tags file has for them.
+    /// All definitions, by the names that a plain tags file has for them. None of them waits.
     pub fn tags(&self) -> TagRows<'_>
+        requires { self.now.waiting.tags ≡ [] }
         ensures { tags_left result ≡ tags_by_tag_name (files self.now) }
     {
         self.archive.read_texts();
@@ -414,24 +450,27 @@ impl Shelf {
         }
     }
 
-    /// The uses of a name, by file and place.
+    /// The uses of a name, by file and place. None of them waits.
     pub fn uses(&self, name: &[u8]) -> FactRows<'_>
+        requires { self.now.waiting.uses ≡ [] }
         ensures { facts_left result ≡ uses_of name.now (files self.now) }
     {
         let found = self.uses.with_key(&self.archive, name);
         FactRows::new(FactSort::Uses, &self.archive, found)
     }
 
-    /// The calls of a name, by file and place.
+    /// The calls of a name, by file and place. None of them waits.
     pub fn calling(&self, name: &[u8]) -> FactRows<'_>
+        requires { self.now.waiting.callees ≡ [] }
         ensures { facts_left result ≡ calls_of name.now (files self.now) }
     {
         let found = self.callees.with_key(&self.archive, name);
         FactRows::new(FactSort::Callees, &self.archive, found)
     }
 
-    /// The calls that stand in what has that name, by file and place.
+    /// The calls that stand in what has that name, by file and place. None of them waits.
     pub fn called_by(&self, name: &[u8]) -> FactRows<'_>
+        requires { self.now.waiting.callers ≡ [] }
         ensures { facts_left result ≡ calls_in name.now (files self.now) }
     {
         let found = self.callers.with_key(&self.archive, name);

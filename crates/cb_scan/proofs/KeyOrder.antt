@@ -1,5 +1,5 @@
 -- The order of keys, by their prefixes and by all of their bytes.
-use Rattle.std.proofs.Common.{◌≡◌, ◌∙◌, ◌<◌, ◌≤◌, ◌+◌, ◌*◌, ◌^◌, ◌++◌, ℕ, zero, suc, List, [], ◌∷◌, refl, sym, ap, subst, map, arith}
+use Rattle.std.proofs.Common.{◌≡◌, ◌∙◌, ◌<◌, ◌≤◌, ◌+◌, ◌*◌, ◌^◌, ◌++◌, ℕ, zero, suc, List, [], ◌∷◌, refl, sym, ap, subst, get_or, length, map, arith}
 use Rattle.std.proofs.Math.Nat.{mul-le-mul_right, pow-succ', suc-mul}
 use Rattle.std.proofs.lemmas.Bool.Decides.{nat_tests}
 use Rattle.std.proofs.lemmas.Cmp.{by_ranked, nat_list_cmp_total, ranked, tied_itself}
@@ -21,6 +21,10 @@ pub by_recursion : {X : Type 0} (P : X → Type 0) (xs : List X) → All P xs �
 by_recursion P [] a = tt
 by_recursion P (x ∷ xs) a = (a 0 x (omega arith), by_recursion P xs (λ k d below. a (suc k) d (omega (arith, below))))
 
+pub are_bytes : (bytes : List ℕ) → ((i : ℕ) → get_or bytes i 0 < 256) → AreBytes bytes
+are_bytes [] small = tt
+are_bytes (b ∷ bs) small = (small 0, are_bytes bs (λ i. small (suc i)))
+
 -- ---- numbers
 byte_worth : (b p q : ℕ) → b < 256 → q < p → b * p + q < 256 * p
 byte_worth b p q small below =
@@ -36,7 +40,7 @@ after_same : (x y p q r : ℕ) → x ≡ y → x * p + q < y * p + r → q < r
 after_same x y p q r same less =
     let products : x * p ≡ y * p = ap (λ n. n * p) same in omega (arith, products, less)
 
-leading_below : (n : ℕ) (key : List ℕ) → AreBytes key → leading n key < 256 ^ n
+pub leading_below : (n : ℕ) (key : List ℕ) → AreBytes key → leading n key < 256 ^ n
 leading_below zero key bytes = omega arith
 leading_below (suc n) [] bytes =
     let some : leading n [] < 256 ^ n = leading_below n [] tt in
@@ -44,6 +48,16 @@ leading_below (suc n) [] bytes =
 leading_below (suc n) (b ∷ bs) bytes =
     subst (λ m. b * 256 ^ n + leading n bs < m) (sym (pow-succ' 256 n))
     (byte_worth b (256 ^ n) (leading n bs) bytes.0 (leading_below n bs bytes.1))
+
+next_differs : (x y p q r : ℕ) → y < x → r < p → x * p + q ≡ y * p + r → ⊥
+next_differs x y p q r above below same =
+    let more : suc y * p ≤ x * p = mul-le-mul_right p (omega (arith, above)) in
+    let step : suc y * p ≡ y * p + p = suc-mul y p in
+    omega (arith, more, step, below, same)
+
+rest_same : (x y p q r : ℕ) → x ≡ y → x * p + q ≡ y * p + r → q ≡ r
+rest_same x y p q r first same =
+    let products : x * p ≡ y * p = ap (λ n. n * p) first in omega (arith, products, same)
 
 -- ---- a smaller prefix is that of a smaller key
 pub first_bytes_first : (n : ℕ) (a b : List ℕ) → AreBytes a → AreBytes b → leading n a < leading n b
@@ -60,7 +74,7 @@ first_bytes_first (suc n) (x ∷ xs) (y ∷ ys) in_a in_b less =
     (λ e above. absurd (next_worth x y (256 ^ n) (leading n xs) (leading n ys) above
     (leading_below n ys in_b.1) less))
 
-turned : (a b : List ℕ) → slice_cmp nat_cmp b a ≡ Less → slice_cmp nat_cmp a b ≡ Greater
+pub turned : (a b : List ℕ) → slice_cmp nat_cmp b a ≡ Less → slice_cmp nat_cmp a b ≡ Greater
 turned a b is = nat_list_cmp_total.antisymm a b ∙ ap ordering_reverse is
 
 -- prefixes settle no comparison otherwise than the keys do
@@ -75,17 +89,7 @@ prefix_first a b in_a in_b =
     (λ e above. ap (λ o. ordering_then o (slice_cmp nat_cmp a b)) e
     ∙ sym (turned a b (first_bytes_first 8 b a in_b in_a above)))
 
--- ---- keys and then numbers
-then_equal : (o : Ordering) → ordering_then o Equal ≡ o
-then_equal Less = refl
-then_equal Equal = refl
-then_equal Greater = refl
-
-pub then_assoc : (o p q : Ordering) → ordering_then (ordering_then o p) q ≡ ordering_then o (ordering_then p q)
-then_assoc Less p q = refl
-then_assoc Equal p q = refl
-then_assoc Greater p q = refl
-
+-- ---- numbers in order
 suc_cmp : (x y : ℕ) → nat_cmp (suc x) (suc y) ≡ nat_cmp x y
 suc_cmp x y = grind (arith, nat_tests)
 
@@ -94,6 +98,38 @@ zero_cmp y = grind (arith, nat_tests)
 
 cmp_zero : (x : ℕ) → nat_cmp (suc x) 0 ≡ Greater
 cmp_zero x = grind (arith, nat_tests)
+
+-- ---- lengths settle what a prefix does not
+-- where the prefixes are one and a key does not go on behind it, the keys are in the order of their
+-- lengths
+pub settled : (n : ℕ) (a b : List ℕ) → AreBytes a → AreBytes b → leading n a ≡ leading n b → length a ≤ n
+    → slice_cmp nat_cmp a b ≡ nat_cmp (length a) (length b)
+settled zero [] [] in_a in_b same short = refl
+settled zero [] (y ∷ ys) in_a in_b same short = sym (zero_cmp (length ys))
+settled zero (x ∷ xs) b in_a in_b same short = absurd (omega (arith, short))
+settled (suc n) [] [] in_a in_b same short = refl
+settled (suc n) [] (y ∷ ys) in_a in_b same short = sym (zero_cmp (length ys))
+settled (suc n) (x ∷ xs) [] in_a in_b same short = sym (cmp_zero (length xs))
+settled (suc n) (x ∷ xs) (y ∷ ys) in_a in_b same short =
+    by_ranked (x < y) (x ≡ y) (y < x) (nat_cmp x y) (ranked x y (nat_cmp x y) refl)
+    (λ e below. absurd (next_differs y x (256 ^ n) (leading n ys) (leading n xs) below
+    (leading_below n xs in_a.1) (sym same)))
+    (λ e first. ap (λ o. ordering_then o (slice_cmp nat_cmp xs ys)) e
+    ∙ settled n xs ys in_a.1 in_b.1 (rest_same x y (256 ^ n) (leading n xs) (leading n ys) first same) (omega (arith, short))
+    ∙ sym (suc_cmp (length xs) (length ys)))
+    (λ e above. absurd (next_differs x y (256 ^ n) (leading n xs) (leading n ys) above
+    (leading_below n ys in_b.1) same))
+
+-- ---- keys and then numbers
+pub then_equal : (o : Ordering) → ordering_then o Equal ≡ o
+then_equal Less = refl
+then_equal Equal = refl
+then_equal Greater = refl
+
+pub then_assoc : (o p q : Ordering) → ordering_then (ordering_then o p) q ≡ ordering_then o (ordering_then p q)
+then_assoc Less p q = refl
+then_assoc Equal p q = refl
+then_assoc Greater p q = refl
 
 -- lists that begin with bytes, ended by a 0, are ordered by the bytes and then by what follows
 pub ended : (a b xs ys : List ℕ) → slice_cmp nat_cmp (map suc a ++ 0 ∷ xs) (map suc b ++ 0 ∷ ys)

@@ -117,7 +117,7 @@ module _ (key : List ℕ) (item : ℕ) (p : Posting) (ps : List Posting) where
 pub differ_less : (a b : List ℕ) → Keys a b ≡ Less → bytes_eq a b ≡ false
 differ_less a b is = sym (is_eq-slice_cmp a b) ∙ ap is_eq is
 
-alike : (a b : List ℕ) → Keys a b ≡ Equal → bytes_eq a b ≡ true
+pub alike : (a b : List ℕ) → Keys a b ≡ Equal → bytes_eq a b ≡ true
 alike a b is = sym (is_eq-slice_cmp a b) ∙ ap is_eq is
 
 pub turned : (a b : List ℕ) (o : Ordering) → Keys a b ≡ o → Keys b a ≡ ordering_reverse o
@@ -244,23 +244,3 @@ module _ (keys : List (List ℕ)) where
   } ≡ items_by_key keys
   unfolding items_by_key
   built i = record { items = items_are i; starts = starts_are i; prefixes = prefixes_are i }
-
--- ---- how many there are
-length_put : (k : Keyed) (ks : List Keyed) → length (put sort_key k ks) ≡ suc (length ks)
-unfolding put
-length_put k [] = refl
-length_put k (l ∷ ls) =
-    elim (goes_first sort_key k l) as (λ b. length (cond b (k ∷ l ∷ ls) (l ∷ put sort_key k ls)) ≡ suc (suc (length ls)))
-    [ true ↦ refl | false ↦ ap suc (length_put k ls) ]
-
-length_in_order : (ks : List Keyed) → length (in_order sort_key ks) ≡ length ks
-unfolding in_order
-length_in_order [] = refl
-length_in_order (k ∷ ks) = length_put k (in_order sort_key ks) ∙ ap suc (length_in_order ks)
-
-length_numbered : (n : ℕ) (keys : List (List ℕ)) → length (numbered n keys) ≡ length keys
-length_numbered n [] = refl
-length_numbered n (key ∷ keys) = ap suc (length_numbered (suc n) keys)
-
-pub length_ordered : (keys : List (List ℕ)) → length (in_order sort_key (numbered 0 keys)) ≡ length keys
-length_ordered keys = length_in_order (numbered 0 keys) ∙ length_numbered 0 keys

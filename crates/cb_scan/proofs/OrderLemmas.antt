@@ -120,6 +120,18 @@ module _ {X : Type 0} (key : X → List ℕ) where
   in_order_sorted [] = tt
   in_order_sorted (x ∷ xs) = put_sorted x (in_order key xs) (in_order_sorted xs)
 
+  length_put : (x : X) (ys : List X) → length (put key x ys) ≡ suc (length ys)
+  unfolding put
+  length_put x [] = refl
+  length_put x (y ∷ ys) =
+      elim (goes_first key x y) as (λ b. length (cond b (x ∷ y ∷ ys) (y ∷ put key x ys)) ≡ suc (suc (length ys)))
+      [ true ↦ refl | false ↦ ap suc (length_put x ys) ]
+
+  pub length_in_order : (xs : List X) → length (in_order key xs) ≡ length xs
+  unfolding in_order
+  length_in_order [] = refl
+  length_in_order (x ∷ xs) = length_put x (in_order key xs) ∙ ap suc (length_in_order xs)
+
   -- the elements stay, each as often
   pub put_sum : (f : X → ℕ) (x : X) (ys : List X) → sum_by f (put key x ys) ≡ f x + sum_by f ys
   unfolding put

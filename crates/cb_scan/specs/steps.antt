@@ -7,7 +7,7 @@ pub mod Keys
 pub mod Lanes
 pub mod LineStarts
 pub mod Lined
-pub mod Places
+pub mod Ranks
 pub mod Quote
 pub mod Scopes
 pub mod Structures

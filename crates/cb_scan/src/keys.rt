@@ -1,5 +1,9 @@
 pub(crate) mod build;
 pub(crate) mod facts;
+pub(crate) mod groups;
+pub(crate) mod laid;
 pub(crate) mod list;
-pub(crate) mod place;
+pub(crate) mod prefix;
+pub(crate) mod ranked;
 pub(crate) mod sorted;
+pub(crate) mod spelling;

@@ -18,7 +18,7 @@ mod source;
 pub use facts::{Call, Def, Facts, Include, Kind, Use};
 pub use keys::facts::FactKeys;
 pub use keys::list::KeyList;
-pub use keys::place::key_prefix;
+pub use keys::prefix::key_prefix;
 pub use lex::cut::pieces;
 pub use lex::name::is_name;
 pub use lex::piece::{Class, Piece, Pieces, Span};

@@ -89,6 +89,13 @@ Does-query t desk e field pattern rows out out' result same h is p =
     subst (λ x. (out_of_memory : Bool) × Does (outcome out_of_memory t x) t out out' result) (sym h)
     (false, (refl, subst (λ l. Puts out out' result l) (ap answer_lines is ∙ ap (λ v. answer_lines (answer v.present field pattern)) same) p))
 
+-- what is put in order on the way leaves all as it is
+pub Does-still : {A : Type 0} (t new : Timeline) (e : Request) (out out' : Writer) (result : Result A Fault) (start : Timeline)
+    → new ≡ t → (out_of_memory : Bool) × Does (outcome out_of_memory start e) t out out' result
+    → (out_of_memory : Bool) × Does (outcome out_of_memory start e) new out out' result
+Does-still t new e out out' result start same is =
+    subst (λ n. (out_of_memory : Bool) × Does (outcome out_of_memory start e) n out out' result) (sym same) is
+
 pub Does-marks : {A : Type 0} (t desk : Timeline) (e : Request) (out out' : Writer) (result : Result A Fault)
     → desk ≡ t → e ≡ marks → Puts out out' result (answer_lines (mark_rows desk.present)) → (out_of_memory : Bool) × Does (outcome out_of_memory t e) t out out' result
 unfolding outcome

@@ -1,5 +1,5 @@
 -- What is known of a reader, and what a call does to it.
-use Rattle.std.specs.Prelude.{◌≡◌, ◌≢◌, ℕ, List, [], ◌∷◌, ◌++◌, Option, None, Some, Result, Ok, Err}
+use Rattle.std.specs.Prelude.{◌≡◌, ◌≢◌, ◌<◌, ◌≤◌, ℕ, Bool, true, false, List, [], ◌∷◌, ◌++◌, length, Option, None, Some, Result, Ok, Err}
 use Rattle.std.specs.Io.KnownBytes.{Consumes, Keeps, IsAtEnd}
 use Rattle.cb_session.specs.declared.feed.ReadFault.{ReadFault}
 use Rattle.cb_session.specs.declared.feed.Stage.{Stage}
@@ -25,6 +25,15 @@ abbrev pub GivesByte : Reader → Reader → Result (Option ℕ) ReadFault → T
 GivesByte old new (Ok (Some b)) = (old.stage ≡ Open) × (new.stage ≡ Open) × Consumes old.bytes new.bytes (b ∷ [])
 GivesByte old new (Ok None) = (old.stage ≢ Failed) × (new.stage ≡ Ended) × IsAtEnd old.bytes × (new.bytes ≡ Some [])
 GivesByte old new (Err e) = (old.stage ≢ Ended) × (new.stage ≡ Failed) × Keeps old.bytes new.bytes
+
+-- some bytes, put behind those that are kept, up to so many in all; or, with nothing kept, the end or
+-- a fault
+abbrev pub GivesPiece : Reader → Reader → ℕ → List ℕ → List ℕ → Result Bool ReadFault → Type 0
+GivesPiece old new count kept more (Ok true) =
+    (old.stage ≡ Open) × (new.stage ≡ Open) × (length kept < length more) × (length more ≤ count)
+    × ((read : List ℕ) × (more ≡ kept ++ read) × Consumes old.bytes new.bytes read)
+GivesPiece old new count kept more (Ok false) = GivesByte old new (Ok None) × (more ≡ kept)
+GivesPiece old new count kept more (Err e) = GivesByte old new (Err e) × (more ≡ kept)
 
 -- bytes were read, the first of those that were left; after the end of input none are read, and the
 -- end stays

@@ -29,10 +29,9 @@ fn read_block<R: BufRead>(
         Ok(block) => block,
         Err(_) => return Err(Fault::Memory),
     };
-    'bytes: for _read in 0..count {
-        match feed.byte()? {
-            Some(byte) => block.push_reserved(byte),
-            None => return Ok(None),
+    'pieces: while block.len() < count as usize {
+        if !feed.piece(count as usize, &mut block)? {
+            return Ok(None);
         }
     }
     Ok(Some(block))

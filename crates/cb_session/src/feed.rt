@@ -1,6 +1,6 @@
-//! Input, a byte at a time.
-ghost use Rattle.std.specs.Prelude.{◌≡◌, ◌↔◌, IsTrue};
-ghost use Rattle.cb_session.specs.Devices.{GivesByte};
+//! Input, a byte or a piece at a time.
+ghost use Rattle.std.specs.Prelude.{◌≡◌, ◌↔◌, ◌≤◌, ◌<◌, ◌-◌, ◌++◌, IsTrue, length, min, take, vec_capacity};
+ghost use Rattle.cb_session.specs.Devices.{GivesByte, GivesPiece};
 
 use std::io::BufRead;
 use std::marker::Model;
@@ -71,10 +71,50 @@ impl<R: BufRead> Feed<R> {
         Ok(first)
     }
 
+    /// Puts the next bytes behind those that are kept, at least one, up to so many in all; `false`
+    /// at the end of input and ever after. After a fault each further call is a fault.
+    pub fn piece(&mut self, count: usize, kept: &mut Vec<u8>) -> Result<bool, ReadFault>
+        requires { (length kept.old.items < count) × (count ≤ vec_capacity kept.old) }
+        ensures piece { GivesPiece self.old self.new count kept.old.items kept.new.items result }
+        ensures room { vec_capacity kept.old ≤ vec_capacity kept.new }
+    {
+        if self.failed() {
+            return Err(ReadFault);
+        }
+        if self.stage == Stage::Ended {
+            return Ok(false);
+        }
+        let Ok(bytes) = self.reader.fill_buf() else {
+            self.stage = Stage::Failed;
+            return Err(ReadFault);
+        };
+        let taken = keep_front(bytes, count, kept);
+        if taken == 0 {
+            self.stage = Stage::Ended;
+            return Ok(false);
+        }
+        self.reader.consume(taken);
+        Ok(true)
+    }
+
     /// Whether the reader has failed.
     pub fn failed(&self) -> bool
         ensures { IsTrue result ↔ (self.now.stage ≡ Stage.Failed) }
     {
         matches!(self.stage, Stage::Failed)
     }
+}
+
+/// Puts the first of these bytes behind those that are kept, up to so many in all. How many.
+fn keep_front(bytes: &[u8], count: usize, kept: &mut Vec<u8>) -> usize
+    requires { (length kept.old.items < count) × (count ≤ vec_capacity kept.old) }
+    ensures taken { result ≡ min (length bytes.now) (count - length kept.old.items) }
+    ensures kept { kept.new.items ≡ kept.old.items ++ take result bytes.now }
+    ensures room { vec_capacity kept.old ≤ vec_capacity kept.new }
+{
+    let taken = bytes.len().min(count - kept.len());
+    if kept.extend_from_slice(&bytes[..taken]).is_err() {
+        unreachable!();
+    }
+    taken
 }

@@ -16,6 +16,7 @@ mod limits;
 mod line;
 mod operands;
 mod places;
+mod queries;
 mod reply;
 mod state;
 mod tags;

@@ -13,10 +13,10 @@ ghost use Rattle.cb_session.specs.Requests.{change as change_asked};
 ghost use Rattle.cb_session.specs.Writing.{Puts};
 
 use crate::places::{put_marks, put_stack};
-use crate::reply::{put_move, put_prompt, put_refusal, put_rows};
-use crate::tags::{put_listing_reply, put_tags_reply};
+use crate::queries::{put_listing, put_query, put_tags};
+use crate::reply::{put_move, put_prompt, put_refusal};
 use crate::{Command, Ended, Fault, Feed, Going, Input, Intake, Limits};
-use cb_desk::{Change, Desk, Field, Format};
+use cb_desk::{Change, Desk, Field};
 use cb_tags::Sink;
 use std::alloc::Global;
 use std::io::{BufRead, Write};
@@ -60,6 +60,13 @@ impl Session {
         &self.desk
     }
 
+    /// The session's desk, with nothing of the session left.
+    pub fn into_desk(self) -> Desk
+        ensures { result.timeline ≡ self }
+    {
+        self.desk
+    }
+
     /// Does what was read at a prompt, and writes the reply. At a fault of the sink the move is
     /// made all the same.
     pub fn one<W: Write>(
@@ -94,13 +101,13 @@ impl Session {
             Input::Command(command) => command,
         };
         match command {
-            Command::Query(field, pattern) => put_rows(out, self.desk.rows(field, pattern)),
+            Command::Query(field, pattern) => put_query(out, &mut self.desk, field, pattern),
             Command::Change(change) => self.change(alloc, change, out),
             Command::Rebuild => put_move(out, self.desk.rebuild(alloc)),
             Command::Undo => put_move(out, self.desk.undo()),
             Command::Redo => put_move(out, self.desk.redo()),
-            Command::Tags(format) => put_tags_reply(out, format, self.desk.tag_rows(format)),
-            Command::Listing => put_listing_reply(out, self.desk.tag_rows(Format::Extended)),
+            Command::Tags(format) => put_tags(out, &mut self.desk, format),
+            Command::Listing => put_listing(out, &mut self.desk),
             Command::Marks => put_marks(out, &self.desk),
             Command::Stack => put_stack(out, &self.desk),
         }
@@ -126,9 +133,10 @@ impl Session {
         ensures { (out_of_memory : Bool) × Does (outcome out_of_memory self.old (change_asked (want text.now))) self.new out.old out.new result }
     {
         match self.desk.change(alloc, Change::Want(text)) {
-            Ok(()) => put_rows(out, self.desk.rows(Field::Text, text)),
-            Err(refusal) => put_refusal(out, refusal),
+            Ok(()) => {}
+            Err(refusal) => return put_refusal(out, refusal),
         }
+        put_query(out, &mut self.desk, Field::Text, text)
     }
 
     /// Prompts, reads and replies, until the run ends.

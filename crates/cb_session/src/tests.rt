@@ -1,4 +1,5 @@
 //! Runs over memory. The expected bytes are written by hand from the rules of commands and replies.
+mod blocks;
 mod definitions;
 mod devices;
 mod each_byte;

@@ -57,9 +57,10 @@ fn put_output<W: Write>(
 }
 
 /// Writes the tags of a desk, and hands them on.
-fn write_tags<W: Write>(listing: bool, format: Format, desk: &Desk, out: &mut Sink<W>) -> Ended
-    ensures { WritesText (tags_output listing format desk.now.timeline.present) out.old out.new result }
+fn write_tags<W: Write>(listing: bool, format: Format, mut desk: Desk, out: &mut Sink<W>) -> Ended
+    ensures { WritesText (tags_output listing format desk.entry.timeline.present) out.old out.new result }
 {
+    desk.settle_tags(output_format(listing, format));
     let rows = desk.tag_rows(output_format(listing, format));
     match put_output(out, listing, format, rows) {
         Ok(()) => {}
@@ -72,10 +73,11 @@ fn write_tags<W: Write>(listing: bool, format: Format, desk: &Desk, out: &mut Si
 }
 
 /// Writes the rows that answer a question, and hands them on.
-fn write_rows<W: Write>(field: Field, pattern: &[u8], desk: &Desk, out: &mut Sink<W>) -> Ended
+fn write_rows<W: Write>(field: Field, pattern: &[u8], mut desk: Desk, out: &mut Sink<W>) -> Ended
     requires { pattern.now ≢ [] }
-    ensures { WritesText (flat_map row_line (answer desk.now.timeline.present field pattern.now)) out.old out.new result }
+    ensures { WritesText (flat_map row_line (answer desk.entry.timeline.present field pattern.now)) out.old out.new result }
 {
+    desk.settle(field);
     match put_answer(out, desk.rows(field, pattern)) {
         Ok(()) => {}
         Err(fault) => return Ended::Fault(fault),
@@ -103,14 +105,14 @@ pub fn run_job<R: BufRead, W: Write>(
         Job::Find { field, pattern, .. } => write_rows(
             *field,
             pattern.as_bytes(),
-            session.desk(),
+            session.into_desk(),
             out,
         ),
         Job::Tags {
             listing,
             format,
             ..
-        } => write_tags(*listing, *format, session.desk(), out),
+        } => write_tags(*listing, *format, session.into_desk(), out),
     }
 }
 

@@ -148,7 +148,8 @@ fn load_text(
 }
 
 /// Whether the tags of the present files are these, in this order: name, file, line and kind.
-fn has_tags(desk: &Desk, format: Format, tags: &[(&[u8], &[u8], u32, Kind)]) -> bool {
+fn has_tags(desk: &mut Desk, format: Format, tags: &[(&[u8], &[u8], u32, Kind)]) -> bool {
+    desk.settle_tags(format);
     let rows = desk.tag_rows(format);
     let mut same = rows.len() == tags.len();
     for (row, (name, file, line, kind)) in rows.zip(tags) {
@@ -160,7 +161,8 @@ fn has_tags(desk: &Desk, format: Format, tags: &[(&[u8], &[u8], u32, Kind)]) -> 
 }
 
 /// Whether the tags of the present files are these, in this order.
-fn are_tags(desk: &Desk, format: Format, tags: &[TagRow<'_>]) -> bool {
+fn are_tags(desk: &mut Desk, format: Format, tags: &[TagRow<'_>]) -> bool {
+    desk.settle_tags(format);
     let mut rows = desk.tag_rows(format);
     for tag in tags {
         if rows.next() != Some(*tag) {
@@ -175,7 +177,7 @@ const NINE_LINES: &[u8] =
     b"#include \"a.h\"\n#define TWICE(x) ((x) + add(x, 0))\ntypedef unsigned long word;\nstatic int add(int a, int b) {\n\treturn a + b;\n}\nint main(void) {\n\treturn add(1, 2) / TWICE(3);\n}\n";
 
 /// A macro, two functions and a typedef, in both orders.
-fn four_definitions_are_shown(rt: &impl Abort, desk: &Desk) {
+fn four_definitions_are_shown(rt: &impl Abort, desk: &mut Desk) {
     let twice = TagRow {
         name: b"TWICE",
         file: b"a.c",
@@ -217,12 +219,12 @@ fn tags_show_their_definitions(rt: HostRuntime) -> Result<(), AllocError> {
     let alloc = rt.alloc();
     let mut desk = Desk::new(alloc);
     assert!(rt; load_text(&mut desk, alloc, b"a.c", NINE_LINES)? == Ok(()));
-    four_definitions_are_shown(&rt, &desk);
+    four_definitions_are_shown(&rt, &mut desk);
     Ok(())
 }
 
 /// Five definitions in both orders.
-fn five_tags_go_by_file_and_place(rt: &impl Abort, desk: &Desk) {
+fn five_tags_go_by_file_and_place(rt: &impl Abort, desk: &mut Desk) {
     let plain = [
         (b"main".as_slice(), b"d/m.c".as_slice(), 1, Kind::Function),
         (b"Mm", b"m.c", 1, Kind::Function),
@@ -256,12 +258,12 @@ fn load_two_names(rt: &impl Abort, alloc: Global, desk: &mut Desk) -> Result<(),
 fn tags_of_one_key_go_by_file_and_place(rt: HostRuntime) -> Result<(), AllocError> {
     let mut desk = Desk::new(rt.alloc());
     load_two_names(&rt, rt.alloc(), &mut desk)?;
-    five_tags_go_by_file_and_place(&rt, &desk);
+    five_tags_go_by_file_and_place(&rt, &mut desk);
     Ok(())
 }
 
 /// Two equal tags in both orders.
-fn two_equal_tags_are_there(rt: &impl Abort, desk: &Desk) {
+fn two_equal_tags_are_there(rt: &impl Abort, desk: &mut Desk) {
     let twice = [
         (b"f".as_slice(), b"a.c".as_slice(), 1, Kind::Function),
         (b"f", b"a.c", 1, Kind::Function),
@@ -275,7 +277,7 @@ fn equal_tags_all_stay(rt: HostRuntime) -> Result<(), AllocError> {
     let alloc = rt.alloc();
     let mut desk = Desk::new(alloc);
     assert!(rt; load_text(&mut desk, alloc, b"a.c", b"f(){}f(){}")? == Ok(()));
-    two_equal_tags_are_there(&rt, &desk);
+    two_equal_tags_are_there(&rt, &mut desk);
     Ok(())
 }
 

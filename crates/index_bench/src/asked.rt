@@ -1,6 +1,9 @@
 //! Names that are asked for.
+ghost use Rattle.std.specs.Prelude.{◌≡◌};
+ghost use Rattle.cb_index.specs.Shelved.{nothing};
+
 use crate::failed::Failed;
-use crate::timed::{clock, put};
+use crate::timed::{clock, put, settle_all};
 use cb_index::Shelf;
 use std::time::CpuClock;
 
@@ -53,7 +56,9 @@ enum Question {
 }
 
 /// Whether a question has a first row.
-fn has_first(shelf: &Shelf, question: Question, name: &[u8]) -> bool {
+fn has_first(shelf: &Shelf, question: Question, name: &[u8]) -> bool
+    requires { shelf.now.waiting ≡ nothing }
+{
     match question {
         Question::Defs => shelf.defs(name).next().is_some(),
         Question::Uses => shelf.uses(name).next().is_some(),
@@ -69,7 +74,9 @@ fn ask_name<R: CpuClock>(
     question: Question,
     name: &[u8],
     times: &mut Times,
-) -> Result<(), Failed> {
+) -> Result<(), Failed>
+    requires { shelf.now.waiting ≡ nothing }
+{
     let start = clock(rt)?;
     let found = has_first(shelf, question, name);
     let end = clock(rt)?;
@@ -83,7 +90,9 @@ fn ask_names<R: Print + CpuClock>(
     shelf: &Shelf,
     question: Question,
     label: &str,
-) -> Result<(), Failed> {
+) -> Result<(), Failed>
+    requires { shelf.now.waiting ≡ nothing }
+{
     let mut times = Times::new();
     let mut skipped = 0;
     for row in shelf.all_defs() {
@@ -97,8 +106,9 @@ fn ask_names<R: Print + CpuClock>(
     times.put(rt, label)
 }
 
-/// Asks all questions.
-pub(crate) fn ask<R: Print + CpuClock>(rt: &R, shelf: &Shelf) -> Result<(), Failed> {
+/// Asks all questions, once nothing waits.
+pub(crate) fn ask<R: Print + CpuClock>(rt: &R, shelf: &mut Shelf) -> Result<(), Failed> {
+    settle_all(shelf);
     ask_names(rt, shelf, Question::Defs, "first_defs")?;
     ask_names(rt, shelf, Question::Uses, "first_uses")?;
     ask_names(rt, shelf, Question::Calling, "first_calling")?;

@@ -60,7 +60,7 @@ fn measure_kept<R: Files + Print + CpuClock + AllocGlobal>(
     kept.put_counts(rt)?;
     measure_memory(rt, kept)?;
     measure_together(rt, kept)?;
-    asked::ask(rt, &kept.shelf)?;
+    asked::ask(rt, &mut kept.shelf)?;
     measure_one(rt, "median", median, kept)?;
     measure_one(rt, "largest", largest, kept)?;
     measure_each(rt, kept)

@@ -6,7 +6,7 @@ use Rattle.cb_scan.specs.Order.{in_order, put}
 use Rattle.cb_index.specs.Archived.{Archived, name_of}
 use Rattle.cb_index.specs.Files.{AreApart, call_count, def_count, files_of, shown_name, total, use_count}
 use Rattle.cb_index.specs.Names.{is_among, names_of}
-use Rattle.cb_index.specs.Shelved.{Shelved}
+use Rattle.cb_index.specs.Shelved.{Shelved, Waiting}
 use Rattle.cb_index.specs.declared.entry.Shown.{Shown}
 use Rattle.cb_desk.specs.declared.edits.Edit.{Edit}
 use Rattle.cb_desk.specs.declared.spot.NumberedPlace.{NumberedPlace}
@@ -154,12 +154,14 @@ pub record PlacesHeld : Type 0 where
   pub places : List NumberedPlace
   pub room : ℕ
 
--- a world in the numbers of an archive; how often something was shown or hidden; and the room
+-- a world in the numbers of an archive; how often something was shown or hidden; the room; and what
+-- waits to be put in order
 pub record Kept : Type 0 where
   pub archive : Archived
   pub turns : ℕ
   pub now : Numbered
   pub rooms : Rooms
+  pub waiting : Waiting
 
 -- the world without a file, in numbers
 abbrev pub no_numbers : Numbered

@@ -6,6 +6,7 @@ ghost use Rattle.std.specs.List.{flat_map};
 ghost use Rattle.cb_index.specs.Shelved.{files};
 ghost use Rattle.cb_desk.specs.Answer.{distinct, field_rows};
 ghost use Rattle.cb_desk.specs.Models.{row_of};
+ghost use Rattle.cb_desk.specs.Settled.{IsSettled};
 ghost use Rattle.cb_desk.specs.World.{AreValidFiles};
 ghost use Rattle.cb_desk.specs.steps.Lent.{found_left};
 
@@ -47,6 +48,7 @@ impl<'a, 'p> Rows<'a, 'p> {
     pub(crate) fn new(shelf: &'a Shelf, field: Field, pattern: &'p [u8]) -> Rows<'a, 'p>
         requires some { pattern.now ≢ [] }
         requires valid { AreValidFiles (files shelf.now) }
+        requires settled { IsSettled field shelf.now.waiting }
         ensures { result ≡ distinct (flat_map (field_rows field pattern.now) (files shelf.now)) }
     {
         let files = Files::new(shelf);
@@ -93,6 +95,7 @@ impl<'a, 'p> Iterator for Rows<'a, 'p> {
 fn found_rows<'a, 'p>(shelf: &'a Shelf, field: Field, pattern: &'p [u8]) -> FoundRows<'a, 'p>
     requires field { field ≢ Field.Text }
     requires valid { AreValidFiles (files shelf.now) }
+    requires settled { IsSettled field shelf.now.waiting }
     ensures rows { found_left result ≡ flat_map (field_rows field pattern.now) (files shelf.now) }
     ensures few { length (found_left result) < 2 ^ 64 }
 {

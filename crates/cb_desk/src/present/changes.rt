@@ -11,6 +11,7 @@ ghost use Rattle.cb_desk.specs.World.{IsValidWorld};
 ghost use Rattle.cb_desk.specs.declared.spot.NumberedPlace.{NumberedPlace};
 ghost use Rattle.cb_desk.specs.steps.Plans.{IsPlan};
 ghost use Rattle.cb_desk.specs.steps.Records.{place_in, world_in};
+ghost use Rattle.cb_desk.specs.steps.Still.{IsStill};
 ghost use Rattle.cb_desk.specs.steps.Walks.{IsKept};
 
 use crate::answers::shown_as;
@@ -25,12 +26,13 @@ use std::alloc::{AllocError, Global};
 
 impl Present {
     /// The place that a change asks for, if it asks for one and that is there.
-    pub(crate) fn place_of(&self, change: &Change<'_>) -> Option<NumberedPlace>
-        requires kept { IsKept self.now.rooms self.now.archive self.now.now }
-        requires valid { IsValidWorld (world_in self.now.archive self.now.now) }
-        ensures place { option_map (place_in self.now.archive) result
-            ≡ place_of (world_in self.now.archive self.now.now) (step_of change.now) }
-        ensures there { MatchOption result ⊤ (λ (p : NumberedPlace). p.name < self.now.now.names) }
+    pub(crate) fn place_of(&mut self, change: &Change<'_>) -> Option<NumberedPlace>
+        requires kept { IsKept self.old.rooms self.old.archive self.old.now }
+        requires valid { IsValidWorld (world_in self.old.archive self.old.now) }
+        ensures place { option_map (place_in self.old.archive) result
+            ≡ place_of (world_in self.old.archive self.old.now) (step_of change.now) }
+        ensures there { MatchOption result ⊤ (λ (p : NumberedPlace). p.name < self.old.now.names) }
+        ensures still { IsStill self.old self.new }
     {
         match change {
             Change::Mark(n) => self.nth_wanted(*n),

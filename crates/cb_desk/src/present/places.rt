@@ -8,6 +8,7 @@ ghost use Rattle.cb_desk.specs.Stack.{places, popped, pushed};
 ghost use Rattle.cb_desk.specs.declared.spot.NumberedPlace.{NumberedPlace};
 ghost use Rattle.cb_desk.specs.steps.Plans.{AreEdits, IsPlan, with_marks, with_places};
 ghost use Rattle.cb_desk.specs.steps.Records.{place_in, world_in};
+ghost use Rattle.cb_desk.specs.steps.Still.{IsStill};
 ghost use Rattle.cb_desk.specs.steps.Texts.{bytes_if_other};
 ghost use Rattle.cb_desk.specs.steps.Walks.{IsKept};
 
@@ -17,6 +18,7 @@ use crate::plan::Plan;
 use crate::present::Present;
 use crate::record::Record;
 use crate::spot::NumberedPlace;
+use cb_index::Asked;
 use std::alloc::{AllocError, Global};
 
 impl Present {
@@ -51,12 +53,14 @@ impl Present {
     }
 
     /// The place of the nth definition of a name, by file and place, counted from 1, if there is one.
-    pub(crate) fn nth_tag(&self, name: &[u8], n: u64) -> Option<NumberedPlace>
-        requires { IsKept self.now.rooms self.now.archive self.now.now }
-        ensures place { option_map (place_in self.now.archive) result
-            ≡ nth n (places (world_in self.now.archive self.now.now).files name.now) }
-        ensures there { MatchOption result ⊤ (λ (p : NumberedPlace). p.name < self.now.now.names) }
+    pub(crate) fn nth_tag(&mut self, name: &[u8], n: u64) -> Option<NumberedPlace>
+        requires { IsKept self.old.rooms self.old.archive self.old.now }
+        ensures place { option_map (place_in self.old.archive) result
+            ≡ nth n (places (world_in self.old.archive self.old.now).files name.now) }
+        ensures there { MatchOption result ⊤ (λ (p : NumberedPlace). p.name < self.old.now.names) }
+        ensures still { IsStill self.old self.new }
     {
+        self.shelf.settle(Asked::Defs);
         let (file, line) = nth_definition(&self.shelf, name, n)?;
         let found = shown_as(&self.shelf, file)?;
         Some(NumberedPlace {

@@ -1,5 +1,6 @@
 //! Files whose entries fill many blocks, in no more room than they want.
 use super::shelves::{hide_all, keep_name_in, keep_version_in, show, show_all};
+use crate::asked::Asked;
 use crate::entry::Shown;
 use crate::room::Room;
 use crate::shelf::Shelf;
@@ -59,7 +60,8 @@ pub(super) fn filled_shelf(alloc: Global) -> Result<(Shelf, Vec<Shown>), Fail> {
 }
 
 /// Whether each file that is shown, and no other, uses a name once.
-fn each_uses(shelf: &Shelf, name: &[u8]) -> bool {
+fn each_uses(shelf: &mut Shelf, name: &[u8]) -> bool {
+    shelf.settle(Asked::Uses);
     let mut rows = shelf.uses(name);
     for one in shelf.shown() {
         match rows.next() {
@@ -75,9 +77,11 @@ fn each_uses(shelf: &Shelf, name: &[u8]) -> bool {
 }
 
 /// The indexes have what is shown.
-pub(super) fn all_agree(rt: &impl Abort, shelf: &Shelf) {
+pub(super) fn all_agree(rt: &impl Abort, shelf: &mut Shelf) {
     let defs = shelf.shown().len().saturating_mul(FUNCTIONS);
+    shelf.settle(Asked::Tags);
     assert_eq!(rt; shelf.tags().len(), defs);
+    shelf.settle(Asked::Defs);
     assert_eq!(rt; shelf.all_defs().len(), defs);
     assert!(rt; each_uses(shelf, b"shared0"));
     assert!(rt; each_uses(shelf, b"shared7"));
@@ -99,20 +103,23 @@ pub(super) fn turn(shelf: &mut Shelf, file: Shown) -> Result<(), Fail> {
     show(shelf, file.name, file.version)
 }
 
-/// Shows or hides each of these files, and then many of them at random.
+/// Shows or hides each of these files, and then many of them at random. Only after every third is
+/// asked, so that some are hidden while they wait, and others wait beside many that are in order.
 fn turn_many(rt: &impl Abort, shelf: &mut Shelf, files: &[Shown]) -> Result<(), Fail> {
     for file in files {
         turn(shelf, *file)?;
     }
     all_agree(rt, shelf);
     let mut seed: u64 = 3;
-    for _ in 0..200 {
+    for step in 0..300 {
         seed = next(seed);
         match files.get((seed >> 33) as usize % FILES as usize) {
             Some(file) => turn(shelf, *file)?,
             None => return Err(Fail::from("too few files")),
         }
-        all_agree(rt, shelf);
+        if step % 3 == 2 {
+            all_agree(rt, shelf);
+        }
     }
     Ok(())
 }

@@ -6,6 +6,7 @@ use super::shelf::{one, shown_in_turn, shows_both};
 use super::shelves::{hide_all, show_all};
 use super::{FIRST, index_of, three_files};
 use crate::archive::{Archive, Version};
+use crate::asked::Asked;
 use crate::entry::Shown;
 use crate::memory::OutOfMemory;
 use crate::orders::UsesByName;
@@ -86,7 +87,8 @@ fn show_file(alloc: Global, shelf: &mut Shelf) -> Option<()> {
 }
 
 /// How many tags a shelf lends.
-fn tag_count(shelf: &Shelf) -> u32 {
+fn tag_count(shelf: &mut Shelf) -> u32 {
+    shelf.settle(Asked::Tags);
     let mut count: u32 = 0;
     for _ in shelf.tags() {
         count = count.saturating_add(1);
@@ -112,12 +114,14 @@ fn shelf_meets_a_refusal(rt: &impl Abort, alloc: Global) -> bool {
     if show_file(alloc, &mut shelf).is_none() {
         return true;
     }
+    // One index is in order, and the others wait.
+    assert_eq!(rt; tag_count(&mut shelf), 4);
     begin(alloc);
     let refused = meets_a_refusal(rt, &mut shelf);
-    assert_eq!(rt; tag_count(&shelf), 4);
+    assert_eq!(rt; tag_count(&mut shelf), 4);
     if refused {
         assert!(rt; !meets_a_refusal(rt, &mut shelf));
-        assert_eq!(rt; tag_count(&shelf), 4);
+        assert_eq!(rt; tag_count(&mut shelf), 4);
     }
     refused
 }
@@ -208,7 +212,7 @@ fn no_growth_of_shows_and_hides(rt: HostRuntime) -> Result<(), Fail> {
 }
 
 /// Two files are there.
-fn lends_two_files(rt: &impl Abort, shelf: &Shelf) -> Result<(), Fail> {
+fn lends_two_files(rt: &impl Abort, shelf: &mut Shelf) -> Result<(), Fail> {
     shows_both(rt, shelf)?;
     let mut entries = shelf.entries();
     assert!(rt; entries.next().is_some());
@@ -221,7 +225,7 @@ fn lends_two_files(rt: &impl Abort, shelf: &Shelf) -> Result<(), Fail> {
 /// What a shelf lends of two files.
 #[test]
 fn no_growth_of_readers(rt: HostRuntime) -> Result<(), Fail> {
-    let shelf = shown_in_turn(rt.alloc(), &[one(0, 0), one(1, 1)])?;
+    let mut shelf = shown_in_turn(rt.alloc(), &[one(0, 0), one(1, 1)])?;
     begin(rt.alloc());
-    lends_two_files(&rt, &shelf)
+    lends_two_files(&rt, &mut shelf)
 }

@@ -1,5 +1,6 @@
 //! Random showing and hiding, against a walk over all facts of all files that are shown.
 use super::shelves::{hide_all, keep_name, keep_version, make_room, show, show_all};
+use crate::asked::Asked;
 use crate::bytes::bytes_at;
 use crate::entry::Shown;
 use crate::facts::FactRows;
@@ -69,7 +70,8 @@ fn is_key(source: &Source, span: Span, key: &[u8]) -> bool {
 }
 
 /// The uses of a name are those that a walk finds.
-fn uses_agree(rt: &impl Abort, shelf: &Shelf, key: &[u8]) {
+fn uses_agree(rt: &impl Abort, shelf: &mut Shelf, key: &[u8]) {
+    shelf.settle(Asked::Uses);
     let mut rows = shelf.uses(key);
     for (file, source, facts) in shelf.entries() {
         for found in facts.uses() {
@@ -82,7 +84,8 @@ fn uses_agree(rt: &impl Abort, shelf: &Shelf, key: &[u8]) {
 }
 
 /// The definitions of a name are those that a walk finds.
-fn defs_agree(rt: &impl Abort, shelf: &Shelf, key: &[u8]) {
+fn defs_agree(rt: &impl Abort, shelf: &mut Shelf, key: &[u8]) {
+    shelf.settle(Asked::Defs);
     let mut rows = shelf.defs(key);
     for (file, source, facts) in shelf.entries() {
         for found in facts.defs() {
@@ -95,7 +98,8 @@ fn defs_agree(rt: &impl Abort, shelf: &Shelf, key: &[u8]) {
 }
 
 /// The calls of a name are those that a walk finds.
-fn calls_agree(rt: &impl Abort, shelf: &Shelf, key: &[u8]) {
+fn calls_agree(rt: &impl Abort, shelf: &mut Shelf, key: &[u8]) {
+    shelf.settle(Asked::Callees);
     let mut rows = shelf.calling(key);
     for (file, source, facts) in shelf.entries() {
         for found in facts.calls() {
@@ -108,7 +112,8 @@ fn calls_agree(rt: &impl Abort, shelf: &Shelf, key: &[u8]) {
 }
 
 /// The calls that stand in what has a name are those that a walk finds.
-fn callers_agree(rt: &impl Abort, shelf: &Shelf, key: &[u8]) {
+fn callers_agree(rt: &impl Abort, shelf: &mut Shelf, key: &[u8]) {
+    shelf.settle(Asked::Callers);
     let mut rows = shelf.called_by(key);
     for (file, source, facts) in shelf.entries() {
         for found in facts.calls() {
@@ -121,7 +126,8 @@ fn callers_agree(rt: &impl Abort, shelf: &Shelf, key: &[u8]) {
 }
 
 /// No tag goes before the one ahead of it.
-fn tags_ascend(rt: &impl Abort, shelf: &Shelf) {
+fn tags_ascend(rt: &impl Abort, shelf: &mut Shelf) {
+    shelf.settle(Asked::Tags);
     let mut last = shelf.tags().next();
     for row in shelf.tags() {
         if let Some(before) = last {
@@ -133,7 +139,7 @@ fn tags_ascend(rt: &impl Abort, shelf: &Shelf) {
 }
 
 /// All rows are those that a walk finds.
-fn all_agree(rt: &impl Abort, shelf: &Shelf) {
+fn all_agree(rt: &impl Abort, shelf: &mut Shelf) {
     for key in &KEYS {
         uses_agree(rt, shelf, key);
         defs_agree(rt, shelf, key);
@@ -149,11 +155,12 @@ fn next(seed: u64) -> u64 {
         .wrapping_add(1_442_695_040_888_963_407)
 }
 
-/// Shows or hides files at random, one after another.
+/// Shows or hides files at random, one after another. Only after every third is asked, which puts
+/// what waits in order: so some are hidden while they wait.
 fn turn_files(rt: &impl Abort, alloc: Global, shelf: &mut Shelf) -> Result<(), Fail> {
     keep_all(alloc, shelf)?;
     let mut seed: u64 = 1;
-    for _ in 0..60 {
+    for step in 0..180 {
         seed = next(seed);
         let name = ((seed >> 33) % 6) as u32;
         let version = ((seed >> 43) % 5) as u32;
@@ -162,9 +169,11 @@ fn turn_files(rt: &impl Abort, alloc: Global, shelf: &mut Shelf) -> Result<(), F
         } else {
             show(shelf, name, version)?;
         }
-        all_agree(rt, shelf);
+        if step % 3 == 2 {
+            all_agree(rt, shelf);
+        }
     }
-    assert_eq!(rt; shelf.turns(), 60);
+    assert_eq!(rt; shelf.turns(), 180);
     Ok(())
 }
 
@@ -183,9 +192,11 @@ fn is_next_row(rows: &mut TagRows<'_>, row: &TagRow<'_>) -> bool {
 }
 
 /// Both show the same files and the same definitions.
-fn shows_the_same(rt: &impl Abort, one: &Shelf, other: &Shelf) {
+fn shows_the_same(rt: &impl Abort, one: &mut Shelf, other: &mut Shelf) {
     assert!(rt; one.shown() == other.shown());
     assert_eq!(rt; one.turns(), other.turns());
+    one.settle(Asked::Defs);
+    other.settle(Asked::Defs);
     let mut rows = other.all_defs();
     for row in one.all_defs() {
         assert!(rt; is_next_row(&mut rows, &row));
@@ -225,7 +236,8 @@ fn exchange(
     show_all(many, news.as_slice())
 }
 
-/// Exchanges files at random on two shelves that keep the same.
+/// Exchanges files at random on two shelves that keep the same. Only after every third exchange is
+/// asked, which puts what waits in order: so some are hidden while they wait.
 fn exchange_files(
     rt: &impl Abort,
     alloc: Global,
@@ -235,12 +247,14 @@ fn exchange_files(
     keep_all(alloc, single)?;
     keep_all(alloc, many)?;
     let mut seed: u64 = 7;
-    for _ in 0..40 {
+    for step in 0..120 {
         seed = next(seed);
         let version = ((seed >> 43) % 5) as u32;
         exchange(alloc, single, many, seed >> 33, version)?;
-        shows_the_same(rt, single, many);
-        all_agree(rt, many);
+        if step % 3 == 2 {
+            shows_the_same(rt, single, many);
+            all_agree(rt, many);
+        }
     }
     Ok(())
 }

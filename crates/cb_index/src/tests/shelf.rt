@@ -2,6 +2,7 @@
 use super::shelves::{
     has_facts, has_tags, hide_all, keep_name, keep_version, make_room, show, show_all,
 };
+use crate::asked::Asked;
 use crate::entry::Shown;
 use crate::names::are_rising;
 use crate::shelf::Shelf;
@@ -28,18 +29,23 @@ fn keep_two_files(alloc: Global, shelf: &mut Shelf) -> Result<(), Fail> {
     Ok(())
 }
 
-pub(super) fn shows_both(rt: &impl Abort, shelf: &Shelf) -> Result<(), Fail> {
+pub(super) fn shows_both(rt: &impl Abort, shelf: &mut Shelf) -> Result<(), Fail> {
     let tags: [&[u8]; 5] = [b"Mb", b"main", b"TWICE", b"add", b"word"];
+    shelf.settle(Asked::Tags);
     has_tags(rt, shelf.tags(), &tags)?;
     let names: [&[u8]; 5] = [b"Mb", b"TWICE", b"add", b"main", b"word"];
+    shelf.settle(Asked::Defs);
     has_tags(rt, shelf.all_defs(), &names)?;
     let one: [&[u8]; 1] = [b"add"];
     has_tags(rt, shelf.defs(b"add"), &one)?;
     let adds: [&[u8]; 2] = [b"add", b"add"];
+    shelf.settle(Asked::Callees);
     has_facts(rt, shelf.calling(b"add"), &adds, &[2, 8])?;
     let called: [&[u8]; 2] = [b"add", b"TWICE"];
+    shelf.settle(Asked::Callers);
     has_facts(rt, shelf.called_by(b"main"), &called, &[8, 8])?;
     let uses: [&[u8]; 3] = [b"x", b"x", b"x"];
+    shelf.settle(Asked::Uses);
     has_facts(rt, shelf.uses(b"x"), &uses, &[2, 2, 2])
 }
 
@@ -49,8 +55,10 @@ fn show_and_hide_one_file(rt: &impl Abort, alloc: Global, shelf: &mut Shelf) -> 
     let version = keep_version(alloc, shelf, super::FIRST)?;
     show(shelf, name, version)?;
     let tags: [&[u8]; 4] = [b"main", b"TWICE", b"add", b"word"];
+    shelf.settle(Asked::Tags);
     has_tags(rt, shelf.tags(), &tags)?;
     shelf.hide(name);
+    shelf.settle(Asked::Tags);
     has_tags(rt, shelf.tags(), &[])?;
     assert_eq!(rt; shelf.turns(), 2);
     Ok(())
@@ -138,12 +146,51 @@ fn a_file_is_hidden_and_shown_again(rt: HostRuntime) -> Result<(), Fail> {
     hide_and_show_again(&rt, rt.alloc(), &mut shelf)
 }
 
+/// The tag of `m.c` alone is there, and no use of `x`.
+fn shows_the_second(rt: &impl Abort, shelf: &mut Shelf) -> Result<(), Fail> {
+    shelf.settle(Asked::Tags);
+    has_tags(rt, shelf.tags(), &[b"Mb".as_slice()])?;
+    shelf.settle(Asked::Uses);
+    has_facts(rt, shelf.uses(b"x"), &[], &[])
+}
+
+/// The tags of `z/b.c` alone are there, and its uses of `x`.
+fn shows_the_first(rt: &impl Abort, shelf: &mut Shelf) -> Result<(), Fail> {
+    let tags: [&[u8]; 4] = [b"main", b"TWICE", b"add", b"word"];
+    shelf.settle(Asked::Tags);
+    has_tags(rt, shelf.tags(), &tags)?;
+    let uses: [&[u8]; 3] = [b"x", b"x", b"x"];
+    shelf.settle(Asked::Uses);
+    has_facts(rt, shelf.uses(b"x"), &uses, &[2, 2, 2])
+}
+
+/// The first file is hidden while it waits, the second while it is in order.
+fn hide_one_that_waits(rt: &impl Abort, alloc: Global, shelf: &mut Shelf) -> Result<(), Fail> {
+    show_in_turn(alloc, shelf, &[one(0, 0)])?;
+    shelf.hide(0);
+    show(shelf, 1, 1)?;
+    shows_the_second(rt, shelf)?;
+    shelf.hide(1);
+    show(shelf, 0, 0)?;
+    shows_the_first(rt, shelf)?;
+    assert_eq!(rt; shelf.turns(), 5);
+    Ok(())
+}
+
+#[test]
+fn a_file_that_waits_is_hidden(rt: HostRuntime) -> Result<(), Fail> {
+    let mut shelf = Shelf::new(rt.alloc());
+    hide_one_that_waits(&rt, rt.alloc(), &mut shelf)
+}
+
 fn show_and_hide_together(rt: &impl Abort, alloc: Global, shelf: &mut Shelf) -> Result<(), Fail> {
     keep_two_files(alloc, shelf)?;
     show_all(shelf, &[one(1, 1), one(0, 0)])?;
     assert_eq!(rt; shelf.turns(), 2);
     hide_all(shelf, &[one(0, 0), one(1, 1)])?;
+    shelf.settle(Asked::Tags);
     has_tags(rt, shelf.tags(), &[])?;
+    shelf.settle(Asked::Uses);
     has_facts(rt, shelf.uses(b"x"), &[], &[])?;
     assert_eq!(rt; shelf.turns(), 4);
     Ok(())
@@ -173,6 +220,7 @@ fn hide_beside_another(rt: &impl Abort, alloc: Global, shelf: &mut Shelf) -> Res
     show_all(shelf, &[one(1, 1), one(0, 0)])?;
     hide_all(shelf, &[one(1, 1)])?;
     assert!(rt; shelf.shown() == [one(0, 0)].as_slice());
+    shelf.settle(Asked::Defs);
     has_tags(rt, shelf.defs(b"main"), &[b"main".as_slice()])?;
     hide_all(shelf, &[])?;
     assert_eq!(rt; shelf.turns(), 3);

@@ -1,83 +1,96 @@
-//! Items in the order of their keys.
-ghost use Rattle.std.specs.Prelude.{◌≡◌, ◌≤◌, ◌<◌, ◌^◌, length, map, IfOk};
-ghost use Rattle.std.specs.List.{AllByRecursion};
+//! Items in the order of their keys. They are laid where a table of the keys expects them, and the
+//! sort after that finds them in order.
+ghost use Rattle.std.specs.Prelude.{◌≡◌, ◌<◌, ◌^◌, length, map, IfOk};
 ghost use Rattle.std.specs.Cmp.Lexicographic.{slice_cmp};
-ghost use Rattle.std.specs.Ordering.{nat_cmp};
+ghost use Rattle.std.specs.List.{AllByRecursion};
+ghost use Rattle.std.specs.Ordering.{nat_cmp, ordering_then};
 ghost use Rattle.cb_scan.specs.lex.Tokens.{bytes_of};
-ghost use Rattle.cb_scan.specs.Definitions.{IsWithin};
 ghost use Rattle.cb_scan.specs.Order.{in_order};
 ghost use Rattle.cb_scan.specs.steps.Keys.{numbered, sort_key};
-ghost use Rattle.cb_scan.specs.steps.Places.{keyed};
+ghost use Rattle.cb_scan.specs.steps.Ranks.{IsRanked, key_of, keyed, rank_key};
 
-use crate::keys::place::{Place, key_prefix, read_bytes};
-use crate::lex::piece::Span;
+use crate::keys::groups::places;
+use crate::keys::laid::lay;
+use crate::keys::ranked::{Ranked, rank_all};
+use crate::keys::spelling::Spelling;
 use std::alloc::{AllocError, Global};
 use std::cmp::Ordering;
 
-/// The order of keys, and of items with one key. Prefixes are compared first.
-fn compare(a: &Place<'_>, b: &Place<'_>) -> Ordering
-    ensures { result ≡ slice_cmp nat_cmp (sort_key (keyed a.now)) (sort_key (keyed b.now)) }
+/// The order of keys, and of items with one key.
+fn compare_keys(spelling: Spelling<'_>, a: u32, b: u32) -> Ordering
+    ensures { result ≡ ordering_then
+        (slice_cmp nat_cmp (key_of spelling.entry.text.now spelling.entry.spans.now a)
+        (key_of spelling.entry.text.now spelling.entry.spans.now b)) (nat_cmp a b) }
+{
+    match spelling.key(a).cmp(spelling.key(b)) {
+        Ordering::Less => Ordering::Less,
+        Ordering::Greater => Ordering::Greater,
+        Ordering::Equal => a.cmp(&b),
+    }
+}
+
+/// The order of items.
+#[tactic(auto, unfolding(crate::specs::steps::Ranks::rank_key))]
+fn compare(spelling: Spelling<'_>, a: Ranked, b: Ranked) -> Ordering
+    ensures { result ≡ slice_cmp nat_cmp
+        (rank_key spelling.entry.text.now spelling.entry.spans.now a)
+        (rank_key spelling.entry.text.now spelling.entry.spans.now b) }
 {
     match a.prefix.cmp(&b.prefix) {
         Ordering::Less => Ordering::Less,
         Ordering::Greater => Ordering::Greater,
-        Ordering::Equal => match a.key.cmp(b.key) {
+        Ordering::Equal => match a.size.cmp(&b.size) {
             Ordering::Less => Ordering::Less,
             Ordering::Greater => Ordering::Greater,
-            Ordering::Equal => a.item.cmp(&b.item),
+            Ordering::Equal => {
+                if a.size <= 8 {
+                    a.item.cmp(&b.item)
+                } else {
+                    compare_keys(spelling, a.item, b.item)
+                }
+            }
         },
     }
 }
 
-fn place(key: &[u8], item: u32) -> Place<'_>
-    ensures key { result.key.now ≡ key.now }
-    ensures item { result.item ≡ item }
+/// Puts items in order. Where they are in order already, it only looks at each once.
+pub(crate) fn sort(spelling: Spelling<'_>, ranked: &mut [Ranked])
+    ensures items { ranked.new
+        ≡ in_order (rank_key spelling.entry.text.now spelling.entry.spans.now) ranked.old }
+    ensures len { length ranked.new ≡ length ranked.old }
 {
-    read_bytes(key);
-    Place {
-        prefix: key_prefix(key),
-        key,
-        item,
-    }
-}
-
-/// The spans of a text as items, numbered from 0.
-#[tactic(auto, unfolding(crate::specs::steps::Places::keyed))]
-fn places<'a>(alloc: Global, text: &'a [u8], spans: &[Span]) -> Result<Vec<Place<'a>>, AllocError>
-    requires within { AllByRecursion (IsWithin text.now) spans.now }
-    requires few { length spans.now < 2 ^ 32 }
-    ensures { IfOk result (λ ps. map keyed ps.items ≡ numbered 0 (map (bytes_of text.now) spans.now)) }
-{
-    let mut found = Vec::with_capacity(alloc, spans.len())?;
-    for (i, span) in spans.iter().enumerate() {
-        let key = &text[span.start as usize..span.end as usize];
-        found.push(place(key, i as u32))?;
-    }
-    Ok(found)
-}
-
-fn sort(places: &mut [Place<'_>])
-    ensures { map keyed places.new ≡ in_order sort_key (map keyed places.old) }
-{
-    places.sort_unstable_by(
-        |a: &Place<'_>, b: &Place<'_>| -> Ordering
-            ensures { result ≡ slice_cmp nat_cmp (sort_key (keyed a.now)) (sort_key (keyed b.now)) }
-        { compare(a, b) },
+    ranked.sort_unstable_by(
+        |a: &Ranked, b: &Ranked| -> Ordering
+            ensures { result ≡ slice_cmp nat_cmp
+                (rank_key spelling.entry.text.now spelling.entry.spans.now a.now)
+                (rank_key spelling.entry.text.now spelling.entry.spans.now b.now) }
+        { compare(spelling, *a, *b) },
     );
 }
 
-/// The spans of a text as items, numbered from 0, by their bytes and then by number.
-pub(crate) fn sorted_places<'a>(
-    alloc: Global,
-    text: &'a [u8],
-    spans: &[Span],
-) -> Result<Vec<Place<'a>>, AllocError>
-    requires within { AllByRecursion (IsWithin text.now) spans.now }
-    requires few { length spans.now < 2 ^ 32 }
-    ensures { IfOk result (λ ps. map keyed ps.items
-        ≡ in_order sort_key (numbered 0 (map (bytes_of text.now) spans.now))) }
+/// Puts items in order, by way of places that may be theirs in that order.
+fn lay_and_sort(spelling: Spelling<'_>, ranked: &mut [Ranked], places: &mut [u32])
+    ensures items { ranked.new
+        ≡ in_order (rank_key spelling.entry.text.now spelling.entry.spans.now) ranked.old }
+    ensures len { length ranked.new ≡ length ranked.old }
 {
-    let mut found = places(alloc, text, spans)?;
-    sort(found.as_mut_slice());
+    lay(ranked, places);
+    sort(spelling, ranked);
+}
+
+/// The items by their keys and then by number.
+pub(crate) fn sorted(alloc: Global, spelling: Spelling<'_>) -> Result<Vec<Ranked>, AllocError>
+    requires { length spelling.spans.now < 2 ^ 32 }
+    ensures items { IfOk result
+        (λ rs. map (keyed spelling.entry.text.now spelling.entry.spans.now) rs.items
+        ≡ in_order sort_key
+        (numbered 0 (map (bytes_of spelling.entry.text.now) spelling.entry.spans.now))) }
+    ensures len { IfOk result (λ rs. length rs.items ≡ length spelling.entry.spans.now) }
+    ensures ranked { IfOk result (λ rs. AllByRecursion
+        (IsRanked spelling.entry.text.now spelling.entry.spans.now) rs.items) }
+{
+    let mut found = rank_all(alloc, spelling)?;
+    let mut places = places(alloc, spelling, found.as_slice())?;
+    lay_and_sort(spelling, found.as_mut_slice(), places.as_mut_slice());
     Ok(found)
 }

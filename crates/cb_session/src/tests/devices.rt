@@ -95,12 +95,13 @@ fn a_failed_flush_ends_the_run(rt: HostRuntime) {
     assert_eq!(rt; feed.byte(), Ok(Some(b':')));
 }
 
-/// A reader that gives so many of its bytes one by one, and then fails; at its end it says so once,
-/// and then fails too.
+/// A reader that gives so many of its bytes, so many at a time at most, and then fails; at its end it
+/// says so once, and then fails too.
 #[derive(Drop)]
 pub(super) struct Broken<'a> {
     pub(super) bytes: &'a [u8],
     pub(super) left: usize,
+    pub(super) shown: usize,
     pub(super) ended: bool,
 }
 
@@ -119,7 +120,8 @@ impl BufRead for Broken<'_> {
             self.ended = true;
             return Ok(&[]);
         }
-        Ok(&self.bytes[..1])
+        let shown = self.shown.min(self.left).min(self.bytes.len());
+        Ok(&self.bytes[..shown])
     }
 
     fn consume(&mut self, amount: usize) {
@@ -136,6 +138,7 @@ fn run_over_broken(rt: &impl Abort, alloc: Global, left: usize, written: &mut Ve
     let mut feed = Feed::new(Broken {
         bytes: INPUT,
         left,
+        shown: 1,
         ended: false,
     });
     let ended = serve(alloc, &mut feed, &mut sink);
@@ -318,6 +321,7 @@ fn run_over_one_command(rt: &impl Abort, alloc: Global, writer: &mut Flushed) {
     let mut feed = Feed::new(Broken {
         bytes: b":undo\n:undo\n",
         left: 6,
+        shown: 1,
         ended: false,
     });
     let ended = serve(alloc, &mut feed, &mut sink);

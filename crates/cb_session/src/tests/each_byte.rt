@@ -91,6 +91,7 @@ fn over_a_broken_reader(rt: &impl Abort, alloc: Global, input: &[u8], output: &[
     let mut feed = Feed::new(Broken {
         bytes: input,
         left,
+        shown: 1,
         ended: false,
     });
     let mut sink = Sink::new(&mut written);

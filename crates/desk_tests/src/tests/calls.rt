@@ -42,10 +42,11 @@ fn is_row(shown: &RefRow<'_>, row: &RefRow<'_>) -> bool {
 }
 
 /// Whether the rows of the definitions of a name are these, in this order.
-fn finds(desk: &Desk, pattern: &[u8], rows: &[RefRow<'_>]) -> bool {
+fn finds(desk: &mut Desk, pattern: &[u8], rows: &[RefRow<'_>]) -> bool {
     if pattern.is_empty() {
         return false;
     }
+    desk.settle(Field::Definition);
     let list = desk.rows(Field::Definition, pattern);
     let mut same = list.count_left() == rows.len();
     for (found, row) in list.zip(rows) {
@@ -57,7 +58,7 @@ fn finds(desk: &Desk, pattern: &[u8], rows: &[RefRow<'_>]) -> bool {
 }
 
 /// Three definitions of one name.
-fn three_definitions_are_found(rt: &impl Abort, desk: &Desk) {
+fn three_definitions_are_found(rt: &impl Abort, desk: &mut Desk) {
     let rows = [
         row_of_f(b"a.h", 1, b"static int f() {}"),
         row_of_f(b"b.c", 1, b"#define f(x) x"),
@@ -70,13 +71,13 @@ fn three_definitions_are_found(rt: &impl Abort, desk: &Desk) {
 #[test]
 fn the_rows_of_a_definition_have_file_name_line_and_text(rt: HostRuntime) -> Result<(), Refusal> {
     let alloc = rt.alloc();
-    let desk = loaded(alloc)?;
-    three_definitions_are_found(&rt, &desk);
+    let mut desk = loaded(alloc)?;
+    three_definitions_are_found(&rt, &mut desk);
     Ok(())
 }
 
 /// Two definitions on one line are one row.
-fn one_row_is_found(rt: &impl Abort, desk: &Desk) {
+fn one_row_is_found(rt: &impl Abort, desk: &mut Desk) {
     let row = row_of_f(b"a.c", 1, b"int f(){}int f(){}");
     assert!(rt; finds(desk, b"f", &[row]));
 }
@@ -85,12 +86,12 @@ fn one_row_is_found(rt: &impl Abort, desk: &Desk) {
 fn equal_rows_are_one_row(rt: HostRuntime) -> Result<(), Refusal> {
     let mut desk = Desk::new(rt.alloc());
     load_text_or_refused(&mut desk, rt.alloc(), b"a.c", b"int f(){}int f(){}")?;
-    one_row_is_found(&rt, &desk);
+    one_row_is_found(&rt, &mut desk);
     Ok(())
 }
 
 /// Two definitions with one text on two lines are two rows.
-fn two_rows_are_found(rt: &impl Abort, desk: &Desk) {
+fn two_rows_are_found(rt: &impl Abort, desk: &mut Desk) {
     let rows = [
         row_of_f(b"a.c", 1, b"int f(){}"),
         row_of_f(b"a.c", 2, b"int f(){}"),
@@ -102,12 +103,12 @@ fn two_rows_are_found(rt: &impl Abort, desk: &Desk) {
 fn equal_texts_on_two_lines_are_two_rows(rt: HostRuntime) -> Result<(), Refusal> {
     let mut desk = Desk::new(rt.alloc());
     load_text_or_refused(&mut desk, rt.alloc(), b"a.c", b"int f(){}\nint f(){}")?;
-    two_rows_are_found(&rt, &desk);
+    two_rows_are_found(&rt, &mut desk);
     Ok(())
 }
 
 /// Four tags in both orders.
-fn four_tags_are_whole(rt: &impl Abort, desk: &Desk) {
+fn four_tags_are_whole(rt: &impl Abort, desk: &mut Desk) {
     let static_f = TagRow {
         name: b"f",
         file: b"a.h",
@@ -142,14 +143,15 @@ fn four_tags_are_whole(rt: &impl Abort, desk: &Desk) {
     };
     assert!(rt; are_tags(desk, Format::Plain, &[static_f, macro_f, f, other]));
     assert!(rt; are_tags(desk, Format::Extended, &[static_f, macro_f, f, other]));
+    desk.settle_tags(Format::Extended);
     assert_eq!(rt; desk.tag_rows(Format::Extended).len(), 4);
 }
 
 #[test]
 fn the_tags_of_a_world_are_whole_rows(rt: HostRuntime) -> Result<(), Refusal> {
     let alloc = rt.alloc();
-    let desk = loaded(alloc)?;
-    four_tags_are_whole(&rt, &desk);
+    let mut desk = loaded(alloc)?;
+    four_tags_are_whole(&rt, &mut desk);
     Ok(())
 }
 

@@ -13,10 +13,11 @@ fn is_row(shown: &RefRow<'_>, row: &Row<'_>) -> bool {
 }
 
 /// Whether the rows that answer a question are these, in this order.
-fn answers(desk: &Desk, field: Field, pattern: &[u8], rows: &[Row<'_>]) -> bool {
+fn answers(desk: &mut Desk, field: Field, pattern: &[u8], rows: &[Row<'_>]) -> bool {
     if pattern.is_empty() {
         return false;
     }
+    desk.settle(field);
     let list = desk.rows(field, pattern);
     let mut same = list.count_left() == rows.len();
     for (found, row) in list.zip(rows) {
@@ -51,7 +52,7 @@ const TWICE: &[u8] = b"#define TWICE(x) ((x) + add(x, 0))";
 const CALLS: &[u8] = b"return add(1, 2) / TWICE(3);";
 
 /// The fields that tell of names.
-fn names_are_answered(rt: &impl Abort, desk: &Desk) {
+fn names_are_answered(rt: &impl Abort, desk: &mut Desk) {
     let twice: Row<'_> = (b"a.c", b"TWICE", 2, TWICE);
     let main: Row<'_> = (b"a.c", b"main", 8, CALLS);
     let add: Row<'_> = (b"a.c", b"add", 4, b"static int add(int a, int b) {");
@@ -64,7 +65,7 @@ fn names_are_answered(rt: &impl Abort, desk: &Desk) {
 }
 
 /// The fields that tell of texts, files and headers.
-fn texts_and_files_are_answered(rt: &impl Abort, desk: &Desk) {
+fn texts_and_files_are_answered(rt: &impl Abort, desk: &mut Desk) {
     let text: [Row<'_>; 1] = [(b"a.c", b"<unknown>", 3, b"typedef unsigned long word;")];
     assert!(rt; answers(desk, Field::Text, b"long", &text));
     let file: [Row<'_>; 1] = [(b"a.c", b"<unknown>", 1, b"<unknown>")];
@@ -76,14 +77,14 @@ fn texts_and_files_are_answered(rt: &impl Abort, desk: &Desk) {
 
 #[test]
 fn each_field_of_one_file(rt: HostRuntime) -> Result<(), AllocError> {
-    let desk = desk_with(rt.alloc(), b"a.c", NINE_LINES)?;
-    names_are_answered(&rt, &desk);
-    texts_and_files_are_answered(&rt, &desk);
+    let mut desk = desk_with(rt.alloc(), b"a.c", NINE_LINES)?;
+    names_are_answered(&rt, &mut desk);
+    texts_and_files_are_answered(&rt, &mut desk);
     Ok(())
 }
 
 /// Neither a shorter nor a longer name is that of a row.
-fn no_part_of_a_name_is_found(rt: &impl Abort, desk: &Desk) {
+fn no_part_of_a_name_is_found(rt: &impl Abort, desk: &mut Desk) {
     for field in [
         Field::Symbol,
         Field::Definition,
@@ -97,13 +98,13 @@ fn no_part_of_a_name_is_found(rt: &impl Abort, desk: &Desk) {
 
 #[test]
 fn names_are_compared_whole(rt: HostRuntime) -> Result<(), AllocError> {
-    let desk = desk_with(rt.alloc(), b"a.c", NINE_LINES)?;
-    no_part_of_a_name_is_found(&rt, &desk);
+    let mut desk = desk_with(rt.alloc(), b"a.c", NINE_LINES)?;
+    no_part_of_a_name_is_found(&rt, &mut desk);
     Ok(())
 }
 
 /// The lines that include headers with such names.
-fn headers_are_found(rt: &impl Abort, desk: &Desk) {
+fn headers_are_found(rt: &impl Abort, desk: &mut Desk) {
     let rows: [Row<'_>; 3] = [
         (b"x.c", b"<global>", 1, b"#include <b.h>"),
         (b"x.c", b"<global>", 3, b"#include \"d/b.h\""),
@@ -119,8 +120,8 @@ fn headers_are_found(rt: &impl Abort, desk: &Desk) {
 fn a_header_is_the_pattern_or_ends_in_it_behind_a_slash(rt: HostRuntime) -> Result<(), AllocError> {
     let text =
         b"#include <b.h>\n#include \"ab.h\"\n#include \"d/b.h\"\nint f(void) {\n#include <d/e/b.h>\n}\n";
-    let desk = desk_with(rt.alloc(), b"x.c", text)?;
-    headers_are_found(&rt, &desk);
+    let mut desk = desk_with(rt.alloc(), b"x.c", text)?;
+    headers_are_found(&rt, &mut desk);
     Ok(())
 }
 
@@ -128,7 +129,7 @@ fn a_header_is_the_pattern_or_ends_in_it_behind_a_slash(rt: HostRuntime) -> Resu
 const CALLS_AGAIN: &[u8] = b"int f(void) { a(); b(); a(); }";
 
 /// Each function that is called once.
-fn each_callee_is_one_row(rt: &impl Abort, desk: &Desk) {
+fn each_callee_is_one_row(rt: &impl Abort, desk: &mut Desk) {
     let rows: [Row<'_>; 2] = [
         (b"f.c", b"a", 1, CALLS_AGAIN),
         (b"f.c", b"b", 1, CALLS_AGAIN),
@@ -138,13 +139,13 @@ fn each_callee_is_one_row(rt: &impl Abort, desk: &Desk) {
 
 #[test]
 fn equal_rows_that_are_not_neighbours_are_one_row(rt: HostRuntime) -> Result<(), AllocError> {
-    let desk = desk_with(rt.alloc(), b"f.c", CALLS_AGAIN)?;
-    each_callee_is_one_row(&rt, &desk);
+    let mut desk = desk_with(rt.alloc(), b"f.c", CALLS_AGAIN)?;
+    each_callee_is_one_row(&rt, &mut desk);
     Ok(())
 }
 
 /// Equal texts on three lines of two files.
-fn three_rows_are_found(rt: &impl Abort, desk: &Desk) {
+fn three_rows_are_found(rt: &impl Abort, desk: &mut Desk) {
     let rows: [Row<'_>; 3] = [
         (b"a.c", b"<global>", 1, b"x;x;"),
         (b"b.c", b"<global>", 1, b"x;x;"),
@@ -159,12 +160,12 @@ fn rows_of_equal_texts_on_two_lines_or_in_two_files_stay(
 ) -> Result<(), AllocError> {
     let mut desk = desk_with(rt.alloc(), b"b.c", b"x;x;\nx;x;\n")?;
     one_more_is_loaded(&rt, rt.alloc(), &mut desk, b"a.c", b"x;x;\n")?;
-    three_rows_are_found(&rt, &desk);
+    three_rows_are_found(&rt, &mut desk);
     Ok(())
 }
 
 /// Two files by parts of their names.
-fn two_files_are_found(rt: &impl Abort, desk: &Desk) {
+fn two_files_are_found(rt: &impl Abort, desk: &mut Desk) {
     let rows: [Row<'_>; 2] = [
         (b"by.h", b"<unknown>", 1, b"<unknown>"),
         (b"lib/y.c", b"<unknown>", 1, b"<unknown>"),
@@ -178,7 +179,7 @@ fn two_files_are_found(rt: &impl Abort, desk: &Desk) {
 fn files_are_found_by_a_part_of_their_name(rt: HostRuntime) -> Result<(), AllocError> {
     let mut desk = desk_with(rt.alloc(), b"lib/y.c", b"")?;
     one_more_is_loaded(&rt, rt.alloc(), &mut desk, b"by.h", b"")?;
-    two_files_are_found(&rt, &desk);
+    two_files_are_found(&rt, &mut desk);
     Ok(())
 }
 

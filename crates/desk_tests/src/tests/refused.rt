@@ -9,7 +9,8 @@ use std::alloc::{AllocError, Global};
 use std::process::Abort;
 
 /// Whether the first plain tag is that of this name in this file.
-fn begins_with_tag(desk: &Desk, name: &[u8], file: &[u8]) -> bool {
+fn begins_with_tag(desk: &mut Desk, name: &[u8], file: &[u8]) -> bool {
+    desk.settle_tags(Format::Plain);
     match desk.tag_rows(Format::Plain).next() {
         Some(row) => row.name == name && row.file == file,
         None => false,
@@ -17,7 +18,7 @@ fn begins_with_tag(desk: &Desk, name: &[u8], file: &[u8]) -> bool {
 }
 
 /// Whether the lines of `a.c` that hold `add` are marked, and its tags are there.
-fn is_marked(desk: &Desk) -> bool {
+fn is_marked(desk: &mut Desk) -> bool {
     has_marks(desk, &[(b"a.c".as_slice(), 2), (b"a.c", 4), (b"a.c", 8)])
         && begins_with_tag(desk, b"main", b"a.c")
         && desk.meter() == 192
@@ -168,7 +169,8 @@ fn redoes(desk: &mut Desk, count: u32) -> bool {
 }
 
 /// Whether the definitions of `g` are those of the 64 files, by the bytes of their names.
-fn defines_g(desk: &Desk) -> bool {
+fn defines_g(desk: &mut Desk) -> bool {
+    desk.settle(Field::Definition);
     let mut rows = desk.rows(Field::Definition, b"g");
     let count = rows.count_left();
     let first = matches!(rows.next(), Some(row) if row.file == b"g1.c".as_slice());
@@ -325,7 +327,7 @@ fn no_growth_of_moves_over_each_change(rt: HostRuntime) -> Result<(), Refusal> {
 }
 
 /// The rows of each field are counted.
-fn rows_are_counted(rt: &impl Abort, desk: &Desk) {
+fn rows_are_counted(rt: &impl Abort, desk: &mut Desk) {
     let counts = [
         (Field::Symbol, 3),
         (Field::Definition, 1),
@@ -336,14 +338,17 @@ fn rows_are_counted(rt: &impl Abort, desk: &Desk) {
         (Field::Including, 0),
     ];
     for (field, count) in counts {
+        desk.settle(field);
         assert_eq!(rt; desk.rows(field, b"add").count_left(), count);
         assert_eq!(rt; desk.rows(field, b"add").count(), count);
     }
 }
 
 /// What is shown beside rows is counted.
-fn all_else_is_counted(rt: &impl Abort, desk: &Desk) {
+fn all_else_is_counted(rt: &impl Abort, desk: &mut Desk) {
+    desk.settle_tags(Format::Plain);
     assert_eq!(rt; desk.tag_rows(Format::Plain).count(), 5);
+    desk.settle_tags(Format::Extended);
     assert_eq!(rt; desk.tag_rows(Format::Extended).count(), 5);
     assert_eq!(rt; desk.marks().count(), 3);
     assert_eq!(rt; desk.frames().count(), 0);
@@ -357,9 +362,9 @@ fn all_else_is_counted(rt: &impl Abort, desk: &Desk) {
 /// A question of each kind.
 #[test]
 fn no_growth_of_questions(rt: HostRuntime) -> Result<(), Refusal> {
-    let desk = marked_files(rt.alloc())?;
+    let mut desk = marked_files(rt.alloc())?;
     begin(rt.alloc());
-    rows_are_counted(&rt, &desk);
-    all_else_is_counted(&rt, &desk);
+    rows_are_counted(&rt, &mut desk);
+    all_else_is_counted(&rt, &mut desk);
     Ok(())
 }

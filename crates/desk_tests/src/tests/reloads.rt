@@ -57,7 +57,7 @@ fn is_as_made(desk: &Desk) -> bool {
 const OTHER: &[u8] = b"int Ma(void) {\n}\n";
 
 /// Whether the first file has that text, without marks and frames.
-fn is_reloaded(desk: &Desk) -> bool {
+fn is_reloaded(desk: &mut Desk) -> bool {
     let tags = [
         (b"Ma".as_slice(), b"a.c".as_slice(), 1, Kind::Function),
         (b"Mb", b"m.c", 1, Kind::Function),

@@ -7,9 +7,10 @@ use std::alloc::{AllocError, Global};
 use std::process::Abort;
 
 /// Whether the lines of the present files that hold a pattern are these.
-fn are_lines(desk: &Desk, pattern: &[u8], lines: &[u32]) -> bool
+fn are_lines(desk: &mut Desk, pattern: &[u8], lines: &[u32]) -> bool
     requires { pattern.now ≢ [] }
 {
+    desk.settle(Field::Text);
     let mut found = desk.rows(Field::Text, pattern);
     for line in lines {
         match found.next() {
@@ -32,7 +33,7 @@ fn has_lines(
     }
     let mut desk = Desk::new(alloc);
     match load_text_or_refused(&mut desk, alloc, b"a.c", text) {
-        Ok(()) => Ok(are_lines(&desk, pattern, lines)),
+        Ok(()) => Ok(are_lines(&mut desk, pattern, lines)),
         Err(_refusal) => Err(AllocError),
     }
 }
@@ -77,12 +78,13 @@ fn load_three(rt: &impl Abort, desk: &mut Desk, alloc: Global) -> Result<(), All
 }
 
 /// The rows of a text in these files, each with the count of the rows that are left before it.
-fn has_rows(rt: &impl Abort, desk: &Desk) {
+fn has_rows(rt: &impl Abort, desk: &mut Desk) {
     let rows: [(usize, &[u8], u32, &[u8]); 3] = [
         (3, b"a.c", 2, b"ab"),
         (2, b"b.c", 1, b"int ab;"),
         (1, b"b.c", 3, b"ab ab"),
     ];
+    desk.settle(Field::Text);
     let mut found = desk.rows(Field::Text, b"ab");
     for (left, file, line, text) in rows {
         assert_eq!(rt; found.count_left(), left);

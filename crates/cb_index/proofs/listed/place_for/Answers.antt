@@ -6,7 +6,7 @@ use Rattle.cb_index.specs.Archived.{name_of}
 use Rattle.cb_index.specs.Files.{shown_name}
 use Rattle.cb_index.specs.declared.entry.Shown.{Shown}
 use Rattle.cb_index.proofs.InOrderLemmas.{put_parted}
-use Rattle.cb_index.proofs.KeptLemmas.{ascending_sorted}
+use Rattle.cb_index.proofs.AscendLemmas.{ascending_sorted}
 use Rattle.cb_index.proofs.listed.place_for.Goals as goal
 
 pub returns-clause-parted : goal.returns-clause-parted

@@ -1,4 +1,4 @@
-use Rattle.std.proofs.Common.{◌≡◌, ◌∙◌, sym, ap, filter, length, map, arith, List}
+use Rattle.std.proofs.Common.{◌≡◌, ◌∙◌, sym, ap, subst, filter, length, map, arith, List}
 use Rattle.std.specs.List.{flat_map}
 use Rattle.std.proofs.lemmas.List.{length-map}
 use Rattle.cb_index.specs.Rows.{Fact}
@@ -7,6 +7,7 @@ use Rattle.cb_index.specs.steps.Left.{tags_left}
 use Rattle.cb_desk.specs.declared.rows.Field.{Field}
 use Rattle.cb_desk.specs.declared.rows.Field.TheVariants.{Symbol, Called, Calling, File as FileName, Including}
 use Rattle.cb_desk.specs.Answer.{AnswerRow, field_rows, file_rows, is_header}
+use Rattle.cb_desk.specs.Settled.{IsSettled}
 use Rattle.cb_desk.specs.steps.Lent.{row_around, row_named, row_of_tag}
 use Rattle.cb_desk.proofs.AnswerRows.{called-rows, calling-rows, definition-rows, including-rows, name-rows, symbol-rows}
 use Rattle.cb_desk.proofs.RowsFew.{called-rows-few, calling-rows-few, including-rows-few, name-rows-few, uses-rows-few}
@@ -77,3 +78,16 @@ returns-in-File c =
       rows = rows ∙ ap (λ field. flat_map (field_rows field p) fs) (sym c.in-File.is);
       few = omega (arith, long, name-rows-few p fs c.requires.valid);
     }
+
+-- nothing waits that the field reads
+pub uses-requires : goal.uses-requires
+uses-requires c = subst (λ f. IsSettled f c.args.shelf.now.waiting) c.in-Symbol.is c.requires.settled
+
+pub defs-rows-requires : goal.defs-rows-requires
+defs-rows-requires c = subst (λ f. IsSettled f c.args.shelf.now.waiting) c.in-Definition.is c.requires.settled
+
+pub called_by-requires : goal.called_by-requires
+called_by-requires c = subst (λ f. IsSettled f c.args.shelf.now.waiting) c.in-Called.is c.requires.settled
+
+pub calling-requires : goal.calling-requires
+calling-requires c = subst (λ f. IsSettled f c.args.shelf.now.waiting) c.in-Calling.is c.requires.settled

@@ -7,8 +7,8 @@ use Rattle.cb_desk.specs.steps.Walks.{timeline_in}
 use Rattle.cb_desk.proofs.LoadingLemmas.{all_there, empty_list, nothing_loaded, refused_with, rooms_kept, shown_recorded, shown_timeline, some_past}
 use Rattle.cb_desk.proofs.loading.Loading.desk.Goals as goal
 
-pub returns-then-is_empty : goal.returns-then-is_empty
-returns-then-is_empty c =
+pub returns-then-count-eq0 : goal.returns-then-count-eq0
+returns-then-count-eq0 c =
     let a = c.self.inside.shelf.archive in
     let shown = c.self.inside.shown.items in
     let records = c.self.inside.records.items in
@@ -30,7 +30,8 @@ returns-in_err-show c =
     let a = c.self.inside.shelf.archive in
     let shown = c.self.inside.shown.items in
     let records = c.self.inside.records.items in
-    let some : 1 ≤ length records = search rules in
+    let count : c.len-count.result ≡ length records = search rules in
+    let some : 1 ≤ length records = omega (arith, count, c.if-count-eq0.false) in
     refused_with _ _ c.from_residual.result c.from_residual.ensures.0
     (λ none. some_past a c.self.inside.shelf.shown shown records c.self.invariant some
     (ap (λ (l : Loaded). l.timeline.past) c.self.view_is ∙ none))

@@ -1,14 +1,12 @@
-use Rattle.std.proofs.Common.{◌∙◌, ◌++◌, refl, sym, ap, subst}
+use Rattle.std.proofs.Common.{◌∙◌, ◌++◌, refl, sym, ap, subst, arith}
 use Rattle.std.proofs.Math.Nat.{le_trans, min-le_left, min-le_right}
 use Rattle.cb_scan.specs.Order.{in_order}
-use Rattle.cb_index.specs.Files.{call_count, def_count, shown_name, use_count}
+use Rattle.cb_index.specs.Files.{shown_name}
 use Rattle.cb_index.specs.Orders.{callee_key, callee_prefixes, caller_key, caller_prefixes, def_key, def_prefixes, tag_key, tag_prefixes, use_key, use_prefixes}
-use Rattle.cb_index.specs.Shelved.{CanShowAll, Shelved}
-use Rattle.cb_index.proofs.FewerLemmas.{fewer_callees, fewer_callers, fewer_defs, fewer_tags, fewer_uses}
-use Rattle.cb_index.proofs.IndexLemmas.{each_fits}
-use Rattle.cb_index.proofs.KeptLemmas.{kept_moved}
-use Rattle.cb_index.proofs.ListedLemmas.{apart_both, kept_each}
-use Rattle.cb_index.proofs.RowLemmas.{again}
+use Rattle.cb_index.specs.Shelved.{AreKept, CanShowAll, Shelved}
+use Rattle.cb_index.proofs.CoverLemmas.{covers_length}
+use Rattle.cb_index.proofs.KeptLemmas.{each_room, kept_each}
+use Rattle.cb_index.proofs.ListedLemmas.{apart_both}
 use Rattle.cb_index.proofs.TotalLemmas.{totals_each}
 use Rattle.cb_index.proofs.shelf.Shelf.show_all.Goals as goal
 
@@ -18,75 +16,65 @@ put_all_shown-requires c =
     let asked = subst (λ (s : Shelved). CanShowAll s c.args.news.now) (sym c.self.view_is) c.requires in record {
       ascending = c.self.invariant.0.ascending;
       apart = apart_both c.self.inside.archive c.self.inside.shown.items c.args.news.now c.self.invariant.0.ascending asked.apart asked.other;
-      room = asked.entries;
+      room = (each_room _ _ _ _ _ _ _ asked.entries).0;
     }
 
--- there is room for the entries where there is room for the facts
-pub put_each-requires : goal.put_each-requires
-put_each-requires c = record {
-  order = again def_key def_prefixes c.self.inside.archive c.self.inside.shown.items c.self.inside.defs.entries c.self.invariant.0.defs;
-  room =
-      let asked = subst (λ (s : Shelved). CanShowAll s c.args.news.now) (sym c.self.view_is) c.requires in
-      each_fits def_prefixes def_count fewer_defs c.self.inside.archive def_key c.self.inside.shown.items c.args.news.now
-      c.self.inside.defs.entries c.self.inside.defs.room c.self.invariant.0.defs
-      (le_trans asked.defs (min-le_left c.self.inside.defs.room c.self.inside.tags.room));
-}
+pub put-requires : goal.put-requires
+put-requires c =
+    let asked = subst (λ (s : Shelved). CanShowAll s c.args.news.now) (sym c.self.view_is) c.requires in
+    let fits = (each_room _ _ _ _ _ _ _ asked.entries).1 in
+    let fewer = covers_length def_key def_prefixes c.self.inside.archive c.self.inside.shown.items c.self.inside.defs c.self.invariant.0.defs in
+    omega (arith, fits, fewer)
 
-pub put_each-requires-2 : goal.put_each-requires-2
-put_each-requires-2 c = record {
-  order = again tag_key tag_prefixes c.self.inside.archive c.self.inside.shown.items c.self.inside.tags.entries c.self.invariant.0.tags;
-  room =
-      let asked = subst (λ (s : Shelved). CanShowAll s c.args.news.now) (sym c.self.view_is) c.requires in
-      each_fits tag_prefixes def_count fewer_tags c.self.inside.archive tag_key c.self.inside.shown.items c.args.news.now
-      c.self.inside.tags.entries c.self.inside.tags.room c.self.invariant.0.tags
-      (le_trans asked.defs (min-le_right c.self.inside.defs.room c.self.inside.tags.room));
-}
+pub put-requires-2 : goal.put-requires-2
+put-requires-2 c =
+    let asked = subst (λ (s : Shelved). CanShowAll s c.args.news.now) (sym c.self.view_is) c.requires in
+    let fits = (each_room _ _ _ _ _ _ _ asked.entries).2 in
+    let fewer = covers_length tag_key tag_prefixes c.self.inside.archive c.self.inside.shown.items c.self.inside.tags c.self.invariant.0.tags in
+    omega (arith, fits, fewer)
 
-pub put_each-requires-3 : goal.put_each-requires-3
-put_each-requires-3 c = record {
-  order = again use_key use_prefixes c.self.inside.archive c.self.inside.shown.items c.self.inside.uses.entries c.self.invariant.0.uses;
-  room =
-      let asked = subst (λ (s : Shelved). CanShowAll s c.args.news.now) (sym c.self.view_is) c.requires in
-      each_fits use_prefixes use_count fewer_uses c.self.inside.archive use_key c.self.inside.shown.items c.args.news.now
-      c.self.inside.uses.entries c.self.inside.uses.room c.self.invariant.0.uses asked.uses;
-}
+pub put-requires-3 : goal.put-requires-3
+put-requires-3 c =
+    let asked = subst (λ (s : Shelved). CanShowAll s c.args.news.now) (sym c.self.view_is) c.requires in
+    let fits = (each_room _ _ _ _ _ _ _ asked.entries).3 in
+    let fewer = covers_length use_key use_prefixes c.self.inside.archive c.self.inside.shown.items c.self.inside.uses c.self.invariant.0.uses in
+    omega (arith, fits, fewer)
 
-pub put_each-requires-4 : goal.put_each-requires-4
-put_each-requires-4 c = record {
-  order = again callee_key callee_prefixes c.self.inside.archive c.self.inside.shown.items c.self.inside.callees.entries c.self.invariant.0.callees;
-  room =
-      let asked = subst (λ (s : Shelved). CanShowAll s c.args.news.now) (sym c.self.view_is) c.requires in
-      each_fits callee_prefixes call_count fewer_callees c.self.inside.archive callee_key c.self.inside.shown.items c.args.news.now
-      c.self.inside.callees.entries c.self.inside.callees.room c.self.invariant.0.callees
-      (le_trans asked.calls (min-le_left c.self.inside.callees.room c.self.inside.callers.room));
-}
+pub put-requires-4 : goal.put-requires-4
+put-requires-4 c =
+    let asked = subst (λ (s : Shelved). CanShowAll s c.args.news.now) (sym c.self.view_is) c.requires in
+    let fits = (each_room _ _ _ _ _ _ _ asked.entries).4 in
+    let fewer = covers_length callee_key callee_prefixes c.self.inside.archive c.self.inside.shown.items c.self.inside.callees c.self.invariant.0.callees in
+    omega (arith, fits, fewer)
 
-pub put_each-requires-5 : goal.put_each-requires-5
-put_each-requires-5 c = record {
-  order = again caller_key caller_prefixes c.self.inside.archive c.self.inside.shown.items c.self.inside.callers.entries c.self.invariant.0.callers;
-  room =
-      let asked = subst (λ (s : Shelved). CanShowAll s c.args.news.now) (sym c.self.view_is) c.requires in
-      each_fits caller_prefixes call_count fewer_callers c.self.inside.archive caller_key c.self.inside.shown.items c.args.news.now
-      c.self.inside.callers.entries c.self.inside.callers.room c.self.invariant.0.callers
-      (le_trans asked.calls (min-le_right c.self.inside.callees.room c.self.inside.callers.room));
-}
+pub put-requires-5 : goal.put-requires-5
+put-requires-5 c =
+    let asked = subst (λ (s : Shelved). CanShowAll s c.args.news.now) (sym c.self.view_is) c.requires in
+    let fits = (each_room _ _ _ _ _ _ _ asked.entries).5 in
+    let fewer = covers_length caller_key caller_prefixes c.self.inside.archive c.self.inside.shown.items c.self.inside.callers c.self.invariant.0.callers in
+    omega (arith, fits, fewer)
 
--- the indexes hold what is shown now
+-- the indexes are those of what is shown now
 pub invariant_of-self : goal.invariant_of-self
 invariant_of-self c =
-    let a = c.self.inside.archive in
-    let shown = c.self.inside.shown.items in
-    let asked = subst (λ (s : Shelved). CanShowAll s c.args.news.now) (sym c.self.view_is) c.requires in (
-      kept_moved a a _ _ _ _ _ _ c.put_all_shown.new.shown.items c.put_each.new.self.entries c.put_each-2.new.self.entries
-          c.put_each-3.new.self.entries c.put_each-4.new.self.entries c.put_each-5.new.self.entries refl refl
-          c.put_all_shown.ensures.items c.put_each.ensures.entries c.put_each-2.ensures.entries c.put_each-3.ensures.entries
-          c.put_each-4.ensures.entries c.put_each-5.ensures.entries
-          (kept_each a shown c.args.news.now c.self.inside.defs.entries c.self.inside.tags.entries c.self.inside.uses.entries
-          c.self.inside.callees.entries c.self.inside.callers.entries asked.there
-          (apart_both a shown c.args.news.now c.self.invariant.0.ascending asked.apart asked.other) c.self.invariant.0),
-      totals_each a (shown_name a) shown c.args.news.now c.put_all_shown.new.shown.items c.self.inside.totals c.with-self-inside.result
-          (record { defs = c.with-self-inside.ensures.defs; uses = c.with-self-inside.ensures.uses; calls = c.with-self-inside.ensures.calls })
-          c.put_all_shown.ensures.items c.self.invariant.1,
+    let x = c.self.inside in
+    let asked = subst (λ (s : Shelved). CanShowAll s c.args.news.now) (sym c.self.view_is) c.requires in
+    let are = c.self.invariant.1 in
+    let more = c.with-self-inside.ensures in (
+      subst (λ l. AreKept x.archive l c.put.new.self c.put-2.new.self c.put-3.new.self c.put-4.new.self c.put-5.new.self) (sym c.put_all_shown.ensures.items)
+          (kept_each x.archive x.shown.items c.args.news.now x.defs x.tags x.uses x.callees x.callers c.put.new.self c.put-2.new.self c.put-3.new.self c.put-4.new.self c.put-5.new.self
+          asked.there asked.apart asked.other
+          (c.put.ensures.held, c.put.ensures.waiting) (c.put-2.ensures.held, c.put-2.ensures.waiting) (c.put-3.ensures.held, c.put-3.ensures.waiting) (c.put-4.ensures.held, c.put-4.ensures.waiting) (c.put-5.ensures.held, c.put-5.ensures.waiting)
+          c.self.invariant.0),
+      totals_each x.archive (shown_name x.archive) x.shown.items c.args.news.now c.put_all_shown.new.shown.items x.totals c.with-self-inside.result
+          (record { defs = more.defs; uses = more.uses; calls = more.calls }) c.put_all_shown.ensures.items are,
+      record {
+        defs = let fits = le_trans asked.defs (min-le_left c.self.inside.defs.room c.self.inside.tags.room) in let room = c.put.ensures.room in omega (arith, fits, room, are.defs, more.defs);
+        tags = let fits = le_trans asked.defs (min-le_right c.self.inside.defs.room c.self.inside.tags.room) in let room = c.put-2.ensures.room in omega (arith, fits, room, are.defs, more.defs);
+        uses = let fits = asked.uses in let room = c.put-3.ensures.room in omega (arith, fits, room, are.uses, more.uses);
+        callees = let fits = le_trans asked.calls (min-le_left c.self.inside.callees.room c.self.inside.callers.room) in let room = c.put-4.ensures.room in omega (arith, fits, room, are.calls, more.calls);
+        callers = let fits = le_trans asked.calls (min-le_right c.self.inside.callees.room c.self.inside.callers.room) in let room = c.put-5.ensures.room in omega (arith, fits, room, are.calls, more.calls);
+      },
     )
 
 pub returns-clause-shown : goal.returns-clause-shown

@@ -8,7 +8,7 @@ use Rattle.cb_index.proofs.shelf.Shelf.truncate.Goals as goal
 -- what is shown is among the first
 pub invariant_of-self : goal.invariant_of-self
 invariant_of-self c = (
-  kept_front c.self.inside.archive c.truncate.new.self c.self.inside.shown.items c.self.inside.defs.entries c.self.inside.tags.entries c.self.inside.uses.entries c.self.inside.callees.entries c.self.inside.callers.entries
+  kept_front c.self.inside.archive c.truncate.new.self c.self.inside.shown.items c.self.inside.defs c.self.inside.tags c.self.inside.uses c.self.inside.callees c.self.inside.callers
       c.args.versions c.args.names
       (subst (AllByRecursion (λ (s : Shown). (s.version < c.args.versions) × (s.name < c.args.names))) (sym (ap (λ s. s.shown) c.self.view_is)) c.requires)
       c.truncate.ensures.names c.truncate.ensures.texts c.self.invariant.0,
@@ -16,4 +16,5 @@ invariant_of-self c = (
       c.args.versions c.args.names c.truncate.ensures.texts
       (subst (AllByRecursion (λ (s : Shown). (s.version < c.args.versions) × (s.name < c.args.names))) (sym (ap (λ s. s.shown) c.self.view_is)) c.requires)
       c.self.invariant.1,
+  c.self.invariant.2,
 )

@@ -1,57 +1,92 @@
 use Rattle.std.proofs.Common.{rules, ◌≡◌, ◌∙◌, ◌<◌, ◌≤◌, ◌^◌, ℕ, List, None, length, map, sym, ap, subst}
 use Rattle.std.proofs.lemmas.List.{length-map}
+use Rattle.std.specs.List.{AllByRecursion}
+use Rattle.cb_scan.specs.declared.keys.ranked.Ranked.{Ranked}
+use Rattle.cb_scan.specs.declared.lex.piece.Span.{Span}
 use Rattle.cb_scan.specs.Order.{in_order}
 use Rattle.cb_scan.specs.lex.Tokens.{bytes_of}
 use Rattle.cb_scan.specs.steps.Keys.{item_of, numbered, prefixes_on, sort_key, starts_on}
-use Rattle.cb_scan.specs.steps.Places.{keyed}
+use Rattle.cb_scan.specs.steps.Ranks.{IsRanked, keyed}
 use Rattle.cb_scan.proofs.KeyLaws.{item_count, prefix_count}
-use Rattle.cb_scan.proofs.KeyPostings.{built, length_ordered}
+use Rattle.cb_scan.proofs.KeyPostings.{built}
+use Rattle.cb_scan.proofs.KeyRanks.{map_mapped}
 use Rattle.cb_scan.proofs.keys.build.key_list.Goals as goal
 
 -- there are as many items as spans
-pub find_postings-requires : goal.find_postings-requires
-find_postings-requires c =
-    let places = c.as_slice.result.now in
-    let spans = c.args.spans.now in
-    let keys = map (bytes_of c.args.text.now) spans in
-    let ordered : map keyed places ≡ in_order sort_key (numbered 0 keys) = ap (map keyed) c.as_slice.ensures.value ∙ c.in_ok-places.ensures in
-    let counted : length places ≡ length spans =
-    sym (length-map places keyed) ∙ ap length ordered ∙ length_ordered keys ∙ length-map spans (bytes_of c.args.text.now) in
+pub find_postings-requires-clause-few : goal.find_postings-requires-clause-few
+find_postings-requires-clause-few c =
+    let counted = ap length c.as_slice.ensures.value ∙ c.in_ok-sorted.ensures.len ∙ ap length c.new-spelling.ensures.spans in
     subst (λ n. n < 2 ^ 32) (sym counted) (search (rules, c.if-spans.false))
+
+pub find_postings-requires-clause-ranked : goal.find_postings-requires-clause-ranked
+find_postings-requires-clause-ranked c =
+    subst (AllByRecursion (IsRanked c.new-spelling.result.text.now c.new-spelling.result.spans.now))
+    (sym c.as_slice.ensures.value) c.in_ok-sorted.ensures.ranked
 
 pub new-requires-clause-few : goal.new-requires-clause-few
 new-requires-clause-few c =
-    let spans = c.args.spans.now in
-    let keys = map (bytes_of c.args.text.now) spans in
-    let items = c.in_ok-items.ensures ∙ ap (λ ps. map item_of (map keyed ps)) c.as_slice-2.ensures.value ∙ ap (map item_of) c.in_ok-places.ensures in
-    let counted = ap length items ∙ length-map (in_order sort_key (numbered 0 keys)) item_of ∙ length_ordered keys ∙ length-map spans (bytes_of c.args.text.now) in
+    let sorted = c.in_ok-sorted.sorted.items in
+    let counted = ap length (c.in_ok-items.ensures ∙ ap (map (λ (r : Ranked). r.item)) c.as_slice-2.ensures.value)
+    ∙ length-map sorted (λ (r : Ranked). r.item) ∙ c.in_ok-sorted.ensures.len ∙ ap length c.new-spelling.ensures.spans in
     subst (λ n. n < 2 ^ 32) (sym counted) (search (rules, c.if-spans.false))
+
+-- the items in order
+record Ordered (keys : List (List ℕ)) (items starts prefixes : List ℕ) : Type 0 where
+  items_are : items ≡ map item_of (in_order sort_key (numbered 0 keys))
+  starts_are : starts ≡ starts_on None 0 (in_order sort_key (numbered 0 keys))
+  prefixes_are : prefixes ≡ prefixes_on None (in_order sort_key (numbered 0 keys))
+
+few : (keys : List (List ℕ)) (items starts prefixes : List ℕ) → Ordered keys items starts prefixes → length prefixes ≤ length items
+few keys items starts prefixes o =
+    subst (λ n. length prefixes ≤ n) (sym (ap length o.items_are ∙ ap (λ k. length k.items) (built keys) ∙ item_count keys))
+    (subst (λ n. n ≤ length keys) (sym (ap length o.prefixes_are ∙ ap (λ k. length k.prefixes) (built keys))) (prefix_count keys))
+
+module _ (text keys_text : List ℕ) (spans keys_spans : List Span) (sorted : List Ranked)
+    (text_is : text ≡ keys_text) (spans_are : spans ≡ keys_spans)
+    (sorted_are : map (keyed text spans) sorted ≡ in_order sort_key (numbered 0 (map (bytes_of text) spans))) where
+  keys : List (List ℕ)
+  keys = map (bytes_of keys_text) keys_spans
+
+  order : map (keyed text spans) sorted ≡ in_order sort_key (numbered 0 keys)
+  unfolding keys
+  order = sorted_are ∙ (λ i. in_order sort_key (numbered 0 (map (bytes_of (text_is i)) (spans_are i))))
+
+  ordered : (items starts prefixes : List ℕ) → items ≡ map (λ (r : Ranked). r.item) sorted
+      → starts ≡ starts_on None 0 (map (keyed text spans) sorted) → prefixes ≡ prefixes_on None (map (keyed text spans) sorted)
+      → Ordered (map (bytes_of keys_text) keys_spans) items starts prefixes
+  unfolding keys keyed
+  ordered items starts prefixes items_are starts_are prefixes_are = record {
+    items_are = items_are ∙ sym (map_mapped item_of (keyed text spans) sorted) ∙ ap (map item_of) order;
+    starts_are = starts_are ∙ ap (starts_on None 0) order;
+    prefixes_are = prefixes_are ∙ ap (prefixes_on None) order;
+  }
 
 pub new-requires-clause-postings : goal.new-requires-clause-postings
 new-requires-clause-postings c =
-    let keys = map (bytes_of c.args.text.now) c.args.spans.now in
-    let ordered = c.in_ok-places.ensures in
-    let items = c.in_ok-items.ensures ∙ ap (λ ps. map item_of (map keyed ps)) c.as_slice-2.ensures.value ∙ ap (map item_of) ordered in
-    let prefixes = c.in_ok-prefixes.ensures ∙ c.as_slice-4.ensures.value ∙ c.in_ok-found.ensures.prefixes
-    ∙ ap (λ ps. prefixes_on None (map keyed ps)) c.as_slice.ensures.value ∙ ap (prefixes_on None) ordered in
-    few keys _ _ items prefixes
-  where
-    few : (keys : List (List ℕ)) (items prefixes : List ℕ) → items ≡ map item_of (in_order sort_key (numbered 0 keys))
-        → prefixes ≡ prefixes_on None (in_order sort_key (numbered 0 keys)) → length prefixes ≤ length items
-    few keys items prefixes items_are prefixes_are =
-        let enough = prefix_count keys in
-        let counted = item_count keys in
-        subst (λ n. length prefixes ≤ n) (sym (ap length items_are ∙ ap (λ k. length k.items) (built keys) ∙ counted))
-        (subst (λ n. n ≤ length keys) (sym (ap length prefixes_are ∙ ap (λ k. length k.prefixes) (built keys))) enough)
+    let text = c.new-spelling.result.text.now in
+    let spans = c.new-spelling.result.spans.now in
+    few (map (bytes_of c.args.text.now) c.args.spans.now) c.in_ok-items.items.items c.in_ok-starts.starts.items c.in_ok-prefixes.prefixes.items
+    (ordered text c.args.text.now spans c.args.spans.now c.in_ok-sorted.sorted.items
+    c.new-spelling.ensures.text c.new-spelling.ensures.spans c.in_ok-sorted.ensures.items
+    c.in_ok-items.items.items c.in_ok-starts.starts.items c.in_ok-prefixes.prefixes.items
+    (c.in_ok-items.ensures ∙ ap (map (λ (r : Ranked). r.item)) c.as_slice-2.ensures.value)
+    (c.in_ok-starts.ensures ∙ c.as_slice-3.ensures.value ∙ c.in_ok-found.ensures.starts
+    ∙ ap (λ rs. starts_on None 0 (map (keyed text spans) rs)) c.as_slice.ensures.value)
+    (c.in_ok-prefixes.ensures ∙ c.as_slice-4.ensures.value ∙ c.in_ok-found.ensures.prefixes
+    ∙ ap (λ rs. prefixes_on None (map (keyed text spans) rs)) c.as_slice.ensures.value))
 
 -- what is built of the items in order
 pub returns : goal.returns
 returns c =
-    let keys = map (bytes_of c.args.text.now) c.args.spans.now in
-    let ordered = c.in_ok-places.ensures in
-    let starts = c.in_ok-starts.ensures ∙ c.as_slice-3.ensures.value ∙ c.in_ok-found.ensures.starts
-    ∙ ap (λ ps. starts_on None 0 (map keyed ps)) c.as_slice.ensures.value ∙ ap (starts_on None 0) ordered in
-    let prefixes = c.in_ok-prefixes.ensures ∙ c.as_slice-4.ensures.value ∙ c.in_ok-found.ensures.prefixes
-    ∙ ap (λ ps. prefixes_on None (map keyed ps)) c.as_slice.ensures.value ∙ ap (prefixes_on None) ordered in
-    let items = c.in_ok-items.ensures ∙ ap (λ ps. map item_of (map keyed ps)) c.as_slice-2.ensures.value ∙ ap (map item_of) ordered in
-    c.new.ensures ∙ (λ i. record { items = items i; starts = starts i; prefixes = prefixes i }) ∙ built keys
+    let text = c.new-spelling.result.text.now in
+    let spans = c.new-spelling.result.spans.now in
+    let o = ordered text c.args.text.now spans c.args.spans.now c.in_ok-sorted.sorted.items
+    c.new-spelling.ensures.text c.new-spelling.ensures.spans c.in_ok-sorted.ensures.items
+    c.in_ok-items.items.items c.in_ok-starts.starts.items c.in_ok-prefixes.prefixes.items
+    (c.in_ok-items.ensures ∙ ap (map (λ (r : Ranked). r.item)) c.as_slice-2.ensures.value)
+    (c.in_ok-starts.ensures ∙ c.as_slice-3.ensures.value ∙ c.in_ok-found.ensures.starts
+    ∙ ap (λ rs. starts_on None 0 (map (keyed text spans) rs)) c.as_slice.ensures.value)
+    (c.in_ok-prefixes.ensures ∙ c.as_slice-4.ensures.value ∙ c.in_ok-found.ensures.prefixes
+    ∙ ap (λ rs. prefixes_on None (map (keyed text spans) rs)) c.as_slice.ensures.value) in
+    c.new.ensures ∙ (λ i. record { items = o.items_are i; starts = o.starts_are i; prefixes = o.prefixes_are i })
+    ∙ built (map (bytes_of c.args.text.now) c.args.spans.now)

@@ -7,7 +7,7 @@ use Rattle.cb_scan.specs.Definitions.{IsScopeWithin, IsWithin}
 use Rattle.cb_scan.specs.FactKeys.{keys_of_facts}
 use Rattle.cb_scan.specs.Keys.{items_by_key}
 use Rattle.cb_scan.specs.lex.Tokens.{bytes_of}
-use Rattle.cb_scan.proofs.KeyPlaces.{all_mapped, map_mapped}
+use Rattle.cb_scan.proofs.KeyRanks.{all_mapped, map_mapped}
 use Rattle.cb_scan.proofs.keys.facts.fact_keys.Goals as goal
 
 -- the names lie in the text, since the facts do

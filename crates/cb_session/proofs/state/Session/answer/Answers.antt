@@ -1,6 +1,6 @@
 use Rattle.std.proofs.Common.{◌∙◌, ap, refl}
 use Rattle.cb_session.specs.Models.{command_of, request_of}
-use Rattle.cb_session.proofs.Outcomes.{Does-asked, Does-listing, Does-marks, Does-nothing, Does-query, Does-quit, Does-rebuild, Does-redo, Does-refused, Does-stack, Does-tags, Does-undo}
+use Rattle.cb_session.proofs.Outcomes.{Does-asked, Does-listing, Does-marks, Does-nothing, Does-query, Does-quit, Does-rebuild, Does-redo, Does-refused, Does-stack, Does-tags, Does-still, Does-undo}
 use Rattle.cb_session.proofs.state.Session.answer.Goals as goal
 
 pub returns-in-Nothing : goal.returns-in-Nothing
@@ -14,7 +14,8 @@ returns-in-Refused g c = Does-refused _ _ _ _ _ _ (ap request_of c.in-Refused.is
 
 pub returns-in-Query : goal.returns-in-Query
 returns-in-Query g c =
-    Does-query _ _ _ _ _ _ _ _ _ c.self.view_is (ap request_of c.in-Command.is ∙ ap command_of c.in-Query.is) c.rows.ensures c.put_rows.ensures
+    Does-still _ _ _ _ _ _ _ (c.put_query.ensures.timeline ∙ c.self.view_is)
+    (Does-query _ _ _ _ _ _ _ _ _ c.self.view_is (ap request_of c.in-Command.is ∙ ap command_of c.in-Query.is) refl c.put_query.ensures.written)
 
 pub returns-in-Change : goal.returns-in-Change
 returns-in-Change g c = Does-asked _ _ _ _ _ _ _ (ap request_of c.in-Command.is ∙ ap command_of c.in-Change.is) c.change.ensures
@@ -33,11 +34,13 @@ returns-in-Redo g c =
 
 pub returns-in-Tags : goal.returns-in-Tags
 returns-in-Tags g c =
-    Does-tags _ _ _ _ _ _ _ _ c.self-in-Tags.view_is (ap request_of c.in-Command.is ∙ ap command_of c.in-Tags.is) c.tag_rows.ensures c.put_tags_reply.ensures
+    Does-still _ _ _ _ _ _ _ (c.put_tags.ensures.timeline ∙ c.self-in-Tags.view_is)
+    (Does-tags _ _ _ _ _ _ _ _ c.self-in-Tags.view_is (ap request_of c.in-Command.is ∙ ap command_of c.in-Tags.is) refl c.put_tags.ensures.written)
 
 pub returns-in-Listing : goal.returns-in-Listing
 returns-in-Listing g c =
-    Does-listing _ _ _ _ _ _ _ c.self-in-Listing.view_is (ap request_of c.in-Command.is ∙ ap command_of c.in-Listing.is) c.tag_rows-in-Listing.ensures c.put_listing_reply.ensures
+    Does-still _ _ _ _ _ _ _ (c.put_listing.ensures.timeline ∙ c.self-in-Listing.view_is)
+    (Does-listing _ _ _ _ _ _ _ c.self-in-Listing.view_is (ap request_of c.in-Command.is ∙ ap command_of c.in-Listing.is) refl c.put_listing.ensures.written)
 
 pub returns-in-Stack : goal.returns-in-Stack
 returns-in-Stack g c =

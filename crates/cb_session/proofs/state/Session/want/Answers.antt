@@ -1,14 +1,15 @@
 use Rattle.std.proofs.Common.{◌≡◌, ◌∙◌, ap, sym, subst}
-use Rattle.cb_session.proofs.Outcomes.{Does-want, wanted-some}
+use Rattle.cb_session.proofs.Outcomes.{Does-still, Does-want, wanted-some}
 use Rattle.cb_session.proofs.state.Session.want.Goals as goal
-use Rattle.cb_session.proofs.state.Session.want.Goals.{in-Ok, in-Err}
 
-pub rows-requires : goal.rows-requires
-rows-requires g c = let done = c.in-Ok.ensures.timeline in wanted-some _ done.0 _ _ done.1
+pub put_query-requires : goal.put_query-requires
+put_query-requires g c = let done = rw c.in-Ok.is at c.change.ensures.timeline in wanted-some _ done.0 _ _ done.1
+
+pub returns-in-Err : goal.returns-in-Err
+returns-in-Err g c =
+    Does-want _ _ _ _ c.change.result _ _ _ c.self.view_is c.change.ensures.timeline (rw c.in-Err.is c.put_refusal.ensures)
 
 pub returns : goal.returns
 returns g c =
-    Does-want _ _ _ _ c.change.result _ _ _ c.self.view_is c.change.ensures.timeline (elim c.match-change.branch [
-      | in-Ok w ↦ rw (w.out-is, w.result-is, w.in-Ok.is, ← w.rows.ensures) w.put_rows.ensures
-      | in-Err w ↦ rw (w.out-is, w.result-is, w.in-Err.is) w.put_refusal.ensures
-    ])
+    Does-still _ _ _ _ _ _ _ c.put_query.ensures.timeline
+    (Does-want _ _ _ _ c.change.result _ _ _ c.self.view_is c.change.ensures.timeline (rw c.in-Ok.is c.put_query.ensures.written))

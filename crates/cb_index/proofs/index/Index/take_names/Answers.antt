@@ -1,0 +1,12 @@
+use Rattle.std.proofs.Common.{rules, ◌∙◌, ap, filter}
+use Rattle.std.proofs.lemmas.Fn.{filter_same}
+use Rattle.std.specs.Prelude.{not}
+use Rattle.cb_index.specs.Held.{Indexed}
+use Rattle.cb_index.specs.Names.{is_among, names_of}
+use Rattle.cb_index.specs.declared.entry.Shown.{Shown}
+use Rattle.cb_index.proofs.index.Index.take_names.Goals as goal
+
+pub returns-clause-waiting : goal.returns-clause-waiting
+returns-clause-waiting g c =
+    filter_same _ (λ (s : Shown). not (is_among (names_of c.args.files.now) s.name)) _ (λ e r f k. (search (rules, k), search (rules, k))) _ _ c.retain.ensures.filtered
+    ∙ ap (λ (x : Indexed). filter (λ (s : Shown). not (is_among (names_of c.args.files.now) s.name)) x.waiting) c.self.view_is
