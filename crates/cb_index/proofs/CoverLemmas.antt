@@ -7,7 +7,7 @@ use Rattle.std.proofs.lemmas.List.{length-append}
 use Rattle.std.proofs.lemmas.List.Sums.{sum_by-append, sum_by-cons}
 use Rattle.std.proofs.lemmas.Option.{none-some}
 use Rattle.std.proofs.lemmas.Slice.Eq.{bytes_eq-Decides}
-use Rattle.std.specs.Prelude.{nat_eq, not, sum_by, slice_get, Option, ◌||◌}
+use Rattle.std.specs.Prelude.{nat_eq, not, sum_by, slice_get, slice_index_or, Option, ◌||◌}
 use Rattle.std.specs.List.{AllByRecursion, list_any, prefix_len}
 use Rattle.std.specs.Str.{bytes_eq}
 use Rattle.cb_scan.specs.Order.{AreOrdered, goes_first, in_order, put}
@@ -19,6 +19,7 @@ use Rattle.cb_index.specs.Archived.{Archived, name_of}
 use Rattle.cb_index.specs.Entries.{Keyer, sort_key}
 use Rattle.cb_index.specs.Files.{AreApart, AreAscending, is_shown, shown_key, shown_name, shown_under, total}
 use Rattle.cb_index.specs.Held.{Indexed, Prefixer, all_entries, entries_of}
+use Rattle.cb_index.specs.Names.{AreSingle}
 use Rattle.cb_index.specs.Shelved.{Covers, IsIndexOf}
 use Rattle.cb_index.specs.declared.entry.Entry.{Entry}
 use Rattle.cb_index.specs.declared.entry.Shown.{Shown}
@@ -60,6 +61,23 @@ module _ (a : Archived) where
   unfolding AreOrdered
   apart_back [] ys apart = apart
   apart_back (x ∷ xs) ys apart = apart_back xs ys apart.1
+
+  all_single : (x : Shown) (xs : List Shown) → AllByRecursion (IsApart a x) xs
+      → AllByRecursion (λ (y : Shown). nat_eq x.name y.name ≡ false) xs
+  all_single x [] apart = tt
+  all_single x (y ∷ xs) apart = (by_test (nat_eq x.name y.name) refl, all_single x xs apart.1)
+    where
+      by_test : (b : Bool) → nat_eq x.name y.name ≡ b → b ≡ false
+      by_test true eq = absurd (true≢false
+          (sym ((bytes_eq-Decides (name_of a x.name) (name_of a y.name)).1
+          (ap (name_of a) ((Decides-eqb x.name y.name).0 eq))) ∙ apart.0))
+      by_test false eq = refl
+
+  -- names that are apart have numbers of their own
+  pub apart_single : (xs : List Shown) → AreApart a xs → AreSingle xs
+  unfolding AreOrdered
+  apart_single [] apart = tt
+  apart_single (x ∷ xs) apart = (all_single x xs apart.0, apart_single xs apart.1)
 
   pub apart_filter : (p : Shown → Bool) (xs : List Shown) → AreApart a xs → AreApart a (filter p xs)
   unfolding AreOrdered
@@ -140,7 +158,8 @@ module _ (a : Archived) (name : ℕ) where
       under_put s (in_order (shown_name a) shown) (all_in_order (shown_name a) (IsApart a s) shown apart.0)
       ∙ ap (λ o. cond (nat_eq s.name name) (Some s) o) (under_in_order shown apart.1)
 
-  none_if : (ys : List Shown) → list_any has ys ≡ false → shown_under name ys ≡ None
+  -- none is shown under a name that none has
+  pub none_if : (ys : List Shown) → list_any has ys ≡ false → shown_under name ys ≡ None
   none_if [] none = refl
   none_if (y ∷ ys) none = by_test (nat_eq y.name name) (λ rest. none_if ys rest) none
     where
@@ -212,6 +231,23 @@ module _ (a : Archived) (name : ℕ) where
           → cond (not b) (1 + others_before ys) 0 < suc (length ys) → (b || list_any (has a name) ys) ≡ true
       by_test true later less = refl
       by_test false later less = later (omega (arith, less))
+
+  -- it is the one that stands there
+  pub one_there : (ys : List Shown) (d : Shown) → others_before ys < length ys
+      → shown_under name ys ≡ Some (slice_index_or ys (others_before ys) d)
+  one_there [] d less = absurd (omega (arith, less))
+  one_there (y ∷ ys) d less = by_test (nat_eq y.name name) (λ rest. one_there ys d rest) less
+    where
+      by_test : (b : Bool)
+          → (others_before ys < length ys → shown_under name ys ≡ Some (slice_index_or ys (others_before ys) d))
+          → cond (not b) (1 + others_before ys) 0 < suc (length ys)
+          → cond b (Some y) (shown_under name ys)
+          ≡ Some (slice_index_or (y ∷ ys) (cond (not b) (1 + others_before ys) 0) d)
+      by_test true later less = refl
+      by_test false later less =
+          let step : 1 + others_before ys ≡ suc (others_before ys) = omega arith in
+          subst (λ n. shown_under name ys ≡ Some (slice_index_or (y ∷ ys) n d)) (sym step)
+          (later (omega (arith, less)))
 
   -- without it the others are left
   pub others_left : (ys : List Shown) → AreApart a ys → others_before ys < length ys

@@ -46,7 +46,7 @@ impl Version {
         }
     }
 
-    pub(crate) fn source(&self) -> &Source
+    pub fn source(&self) -> &Source
         ensures { result.now ≡ self.now }
     {
         &self.source

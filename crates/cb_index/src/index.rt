@@ -1,6 +1,5 @@
 //! An index, whose newest versions wait until something is asked of it.
 ghost use Rattle.std.specs.Prelude.{◌≡◌, ◌+◌, ◌≤◌, ◌++◌, [], List, length, filter, nat_eq, not, OnOk};
-ghost use Rattle.std.specs.List.{prefix_len};
 ghost use Rattle.std.specs.List.Sorted.{IsStrictlyIncreasing};
 ghost use Rattle.cb_scan.specs.Order.{in_order};
 ghost use Rattle.cb_index.specs.Entries.{has_key, sort_key};
@@ -14,6 +13,7 @@ ghost use Rattle.cb_index.specs.steps.Runs.{run_entries};
 
 use crate::archive::Archive;
 use crate::entry::Shown;
+use crate::listed::place_of;
 use crate::memory::OutOfMemory;
 use crate::names::Names;
 use crate::order::EntryOrder;
@@ -44,12 +44,15 @@ impl<O> Model for Index<O> {
     } };
 }
 
-/// How many versions wait before the one under the number of a name; all that wait where none does.
-fn place_of(name: u32, waiting: &[Shown]) -> usize
-    ensures place { result ≡ prefix_len (λ (s : Shown). not (nat_eq s.name name)) waiting.now }
-    ensures bound { result ≤ length waiting.now }
-{
-    waiting.iter().take_while(|s| s.name != name).count()
+/// Where the version under the number of a name is likely to wait: at the end, where the newest
+/// one stands, or where it is found by halves, since most numbers rise.
+fn likely_place(name: u32, waiting: &[Shown]) -> usize {
+    if let Some(newest) = waiting.last()
+        && newest.name == name
+    {
+        return waiting.len() - 1;
+    }
+    waiting.partition_point(|s: &Shown| -> bool { s.name < name })
 }
 
 impl<O: EntryOrder> Index<O> {
@@ -123,7 +126,8 @@ impl<O: EntryOrder> Index<O> {
         ensures room { self.old.room ≤ self.new.room }
         ensures version_room { self.old.version_room ≤ self.new.version_room }
     {
-        let at = place_of(one.name, self.waiting.as_slice());
+        let waiting = self.waiting.as_slice();
+        let at = place_of(one.name, likely_place(one.name, waiting), waiting);
         if at == self.waiting.len() {
             self.sorted.take_all(archive, one);
             return;

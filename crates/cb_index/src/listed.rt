@@ -1,13 +1,14 @@
 //! The list of the versions that are shown, by file name.
-ghost use Rattle.std.specs.Prelude.{◌≡◌, ◌+◌, ◌≤◌, ◌<◌, ◌++◌, ◌∷◌, ◌&&◌, [], true, false, length, take, drop, nat_lt, vec_capacity};
+ghost use Rattle.std.specs.Prelude.{◌≡◌, ◌+◌, ◌≤◌, ◌<◌, ◌++◌, ◌∷◌, ◌&&◌, [], true, false, filter, length, take, drop, nat_eq, nat_lt, not, vec_capacity};
 ghost use Rattle.std.specs.Cmp.Lexicographic.{slice_cmp};
-ghost use Rattle.std.specs.List.{AllByRecursion, list_all, list_any};
+ghost use Rattle.std.specs.List.{AllByRecursion, list_all, list_any, prefix_len};
 ghost use Rattle.std.specs.List.Sorted.{IsPartitionPoint};
 ghost use Rattle.std.specs.Ordering.{is_gt, is_lt, nat_cmp};
 ghost use Rattle.std.specs.Str.{bytes_eq};
 ghost use Rattle.cb_scan.specs.Order.{in_order, put};
 ghost use Rattle.cb_index.specs.Archived.{name_of};
 ghost use Rattle.cb_index.specs.Files.{AreApart, AreAscending, IsThere, is_shown, shown_key, shown_name, shown_under};
+ghost use Rattle.cb_index.specs.Names.{AreSingle};
 ghost use Rattle.cb_index.specs.declared.entry.Shown.{Shown};
 
 use crate::archive::Archive;
@@ -119,16 +120,33 @@ pub(crate) fn has_name(archive: &Archive, name: u32, shown: &[Shown]) -> bool
     at < shown.len() && archive.name(name) == archive.name(shown[at].name)
 }
 
-/// What is shown under the number of a name.
-pub(crate) fn shown_under(name: u32, shown: &[Shown]) -> Option<Shown>
-    ensures { result ≡ shown_under name shown.now }
+/// How many versions stand before the one under the number of a name; all where none does. A place
+/// where it is likely to stand is looked at first.
+pub(crate) fn place_of(name: u32, likely: usize, listed: &[Shown]) -> usize
+    requires { AreSingle listed.now }
+    ensures place { result ≡ prefix_len (λ (s : Shown). not (nat_eq s.name name)) listed.now }
+    ensures bound { result ≤ length listed.now }
 {
-    for one in shown {
-        if one.name == name {
-            return Some(*one);
-        }
+    if likely < listed.len() && listed[likely].name == name {
+        return likely;
     }
-    None
+    listed.iter().take_while(|s| s.name != name).count()
+}
+
+/// Takes what is shown under the number of a name away. It is looked for by its file name.
+pub(crate) fn take_under(archive: &Archive, name: u32, shown: &mut Vec<Shown>) -> Option<Shown>
+    requires { AreAscending archive.now shown.old.items }
+    ensures value { result ≡ shown_under name shown.old.items }
+    ensures items { shown.new.items
+        ≡ filter (λ (s : Shown). not (nat_eq s.name name)) shown.old.items }
+    ensures room { vec_capacity shown.old ≤ vec_capacity shown.new }
+{
+    let listed = shown.as_slice();
+    let at = place_of(name, place_for(archive, name, listed), listed);
+    if at == listed.len() {
+        return None;
+    }
+    Some(shown.remove(at))
 }
 
 /// Whether a file of the name of one of these is shown.

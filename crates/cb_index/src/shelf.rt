@@ -21,7 +21,7 @@ use crate::entries::Entries;
 use crate::entry::Shown;
 use crate::facts::FactRows;
 use crate::index::Index;
-use crate::listed::{are_there, ascend, has_any_name, has_name, put_all_shown, shown_under};
+use crate::listed::{are_there, ascend, has_any_name, has_name, put_all_shown, take_under};
 use crate::memory::OutOfMemory;
 use crate::names::Names;
 use crate::orders::{CallsByCallee, CallsByCaller, DefsByName, DefsByTagName, UsesByName};
@@ -326,15 +326,10 @@ impl Shelf {
         ensures room { KeepsRoom self.old self.new }
     {
         self.turns = self.turns.saturating_add(1);
-        let one = match shown_under(name, self.shown.as_slice()) {
+        let one = match take_under(&self.archive, name, &mut self.shown) {
             Some(one) => one,
             None => return,
         };
-        self.shown.retain(
-            |s: &Shown| -> bool
-                ensures { result ≡ not (nat_eq s.now.name name) }
-            { s.name != name },
-        );
         self.totals = self.totals.without(&self.archive, one.version);
         self.defs.take(&self.archive, one);
         self.tags.take(&self.archive, one);

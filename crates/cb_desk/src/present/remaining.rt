@@ -1,22 +1,23 @@
 //! Frames of lines that are still there after a replacement.
 ghost use Rattle.std.specs.Prelude.{◌≡◌, ◌≤◌, true, false, length, IfOk};
 ghost use Rattle.std.specs.Cmp.Lexicographic.{slice_cmp};
+ghost use Rattle.std.specs.List.{AllByRecursion};
 ghost use Rattle.std.specs.List.Sorted.{IsPartitionPoint};
 ghost use Rattle.std.specs.Ordering.{is_lt, nat_cmp};
 ghost use Rattle.cb_index.specs.Archived.{name_of};
-ghost use Rattle.cb_index.specs.Files.{AreAscending};
+ghost use Rattle.cb_index.specs.Files.{AreAscending, IsThere};
 ghost use Rattle.cb_index.specs.declared.entry.Shown.{Shown};
 ghost use Rattle.cb_scan.specs.Lines.{lines};
 ghost use Rattle.cb_desk.specs.Places.{is_place_of};
 ghost use Rattle.cb_desk.specs.World.{text_of_file};
 ghost use Rattle.cb_desk.specs.steps.Edits.{IsDifference};
 ghost use Rattle.cb_desk.specs.steps.Records.{place_in};
-ghost use Rattle.cb_desk.specs.steps.Replaced.{files_then, line_counts, remaining};
+ghost use Rattle.cb_desk.specs.steps.Replaced.{files_changed, files_then, line_counts, remaining, texts_of};
 
 use crate::edits::{Edit, difference};
 use crate::present::replaced::Replacing;
 use crate::spot::NumberedPlace;
-use cb_index::{Archive, Shown};
+use cb_index::{Archive, Shown, Version};
 use std::alloc::{AllocError, Global};
 use std::cmp::Ordering;
 
@@ -89,21 +90,27 @@ impl<'a> Replacing<'a> {
         Ok(kept)
     }
 
-    /// The edits that take away the places of lines that are gone then.
+    /// The edits that take away the places of lines that are gone then. Where there is no place, no
+    /// lines are counted.
     pub(crate) fn edits_remaining(
         self,
         alloc: Global,
         shown: &[Shown],
-        counts: &[u32],
+        versions: &[Version],
         places: &[NumberedPlace],
     ) -> Result<Vec<Edit>, AllocError>
+        requires there { AllByRecursion (IsThere self.archive.now) shown.now }
         requires ascending { AreAscending self.archive.now shown.now }
-        requires counts { counts.now ≡ line_counts
-            (files_then self.archive.now self.marks.now self.old.now self.new.now shown.now) }
+        requires versions { versions.now
+            ≡ texts_of (files_changed self.archive.now self.marks.now self.old.now self.new.now shown.now) }
         ensures { IfOk result (λ edits. IsDifference edits.items places.now (remaining self.entry.archive.now
             (files_then self.entry.archive.now self.entry.marks.now self.entry.old.now self.entry.new.now shown.now) places.now)) }
     {
-        let kept = self.remaining(alloc, shown, counts, places)?;
+        if places.is_empty() {
+            return Ok(Vec::new(alloc));
+        }
+        let counts = self.line_counts(alloc, shown, versions)?;
+        let kept = self.remaining(alloc, shown, counts.as_slice(), places)?;
         difference(alloc, None, places, kept.as_slice())
     }
 }

@@ -1,12 +1,12 @@
 //! The replacement of the wanted text on the marked lines.
-ghost use Rattle.std.specs.Prelude.{◌≡◌, ◌≤◌, true, length, None, Some, IfOk};
+ghost use Rattle.std.specs.Prelude.{◌≡◌, ◌≤◌, true, filter, length, None, Some, IfOk};
 ghost use Rattle.cb_scan.specs.Bytes.{line_feed};
 ghost use Rattle.cb_desk.specs.Desk.{CountsUpTo, bytes_in, new_texts};
 ghost use Rattle.cb_desk.specs.Marks.{replace_refusal, replaced_files, replaced_on_marks, with_files};
 ghost use Rattle.cb_desk.specs.World.{IsValidWorld, is_short};
 ghost use Rattle.cb_desk.specs.steps.Plans.{IsPlan};
 ghost use Rattle.cb_desk.specs.steps.Records.{world_in};
-ghost use Rattle.cb_desk.specs.steps.Replaced.{files_changed, files_then, line_counts, texts_of};
+ghost use Rattle.cb_desk.specs.steps.Replaced.{files_changed, has_mark, texts_of};
 ghost use Rattle.cb_desk.specs.steps.Walks.{IsKept};
 
 use crate::Refusal;
@@ -14,9 +14,10 @@ use crate::edits::difference;
 use crate::plan::Plan;
 use crate::present::refusals::is_short;
 use crate::present::renewal::{new_versions, old_versions, sorted_renewals};
-use crate::present::replaced::{NewTexts, Replacing, new_texts};
+use crate::present::replaced::Replacing;
 use crate::present::{Present, sum};
 use crate::record::Record;
+use cb_index::{Shown, Version};
 use cb_scan::Meter;
 use std::alloc::{AllocError, Global};
 
@@ -68,28 +69,27 @@ impl Present {
         &self,
         alloc: Global,
         replacing: Replacing<'_>,
-        texts: NewTexts,
+        marked: &[Shown],
+        made: Vec<Version>,
     ) -> Result<Plan, AllocError>
         requires kept { IsKept self.now.rooms self.now.archive self.now.now }
         requires archive { replacing.archive.now ≡ self.now.archive }
         requires marks { replacing.marks.now ≡ self.now.now.marks }
-        requires versions { texts.versions.items ≡ texts_of
+        requires marked { marked.now ≡ filter (has_mark self.now.archive self.now.now.marks) self.now.now.shown }
+        requires versions { made.items ≡ texts_of
             (files_changed self.now.archive self.now.now.marks replacing.old.now replacing.new.now self.now.now.shown) }
-        requires lines { texts.lines.items ≡ line_counts
-            (files_then self.now.archive self.now.now.marks replacing.old.now replacing.new.now self.now.now.shown) }
         ensures { IfOk result (λ p. IsPlan self.now p (with_files (world_in self.now.archive self.now.now)
             (replaced_files replacing.entry.old.now replacing.entry.new.now (world_in self.now.archive self.now.now)))) }
     {
         let shown = self.shelf.shown();
-        let marked = replacing.marked_files(alloc, shown)?;
-        let renewals = sorted_renewals(alloc, marked.as_slice(), self.versions)?;
-        let lines = texts.lines.as_slice();
-        let frames = replacing.edits_remaining(alloc, shown, lines, self.frames.as_slice())?;
+        let renewals = sorted_renewals(alloc, marked, self.versions)?;
+        let places = self.frames.as_slice();
+        let frames = replacing.edits_remaining(alloc, shown, made.as_slice(), places)?;
         let marks = difference(alloc, None, self.marks.as_slice(), &[])?;
-        let versions = sum(self.versions, texts.versions.len()).ok_or(AllocError)?;
+        let versions = sum(self.versions, made.len()).ok_or(AllocError)?;
         Ok(Plan {
             names: Vec::new(alloc),
-            versions: texts.versions,
+            versions: made,
             record: Record {
                 hides: old_versions(alloc, renewals.as_slice())?,
                 shows: new_versions(alloc, renewals.as_slice())?,
@@ -123,7 +123,8 @@ impl Present {
             return Err(AllocError);
         };
         let replacing = self.replacing(wanted.as_slice(), text);
-        let texts = new_texts(alloc, meter, replacing, self.shelf.shown())?;
-        self.plan_renewed(alloc, replacing, texts)
+        let marked = replacing.marked_files(alloc, self.shelf.shown())?;
+        let versions = replacing.versions_then(alloc, meter, marked.as_slice())?;
+        self.plan_renewed(alloc, replacing, marked.as_slice(), versions)
     }
 }

@@ -1,5 +1,5 @@
 //! Files with a text replaced on their marked lines, and new versions of them.
-ghost use Rattle.std.specs.Prelude.{◌≡◌, ◌≢◌, ◌≤◌, ◌++◌, ◌∷◌, [], true, false, length, drop, filter, map, IfOk};
+ghost use Rattle.std.specs.Prelude.{◌≡◌, ◌≢◌, ◌≤◌, ◌∷◌, [], List, true, false, length, drop, filter, map, IfOk};
 ghost use Rattle.std.proofs.lemmas.Map.Keys.{IsStrictlySortedBy-prop};
 ghost use Rattle.std.specs.Cmp.Lexicographic.{slice_cmp};
 ghost use Rattle.std.specs.List.{AllByRecursion, list_any, prefix_len};
@@ -140,8 +140,12 @@ impl<'a> Replacing<'a> {
     {
         let marks = self.marks_of(self.archive.name(file.name));
         let source = self.archive.source(file.version);
-        let _small = source.bytes();
-        !marks.is_empty() && replaced_len(source, self.old, self.new, marks) > MOST_BYTES as u64
+        if marks.is_empty() {
+            // Only what is said of the text is asked here, so that nothing of it is read.
+            let _small = source.bytes();
+            return false;
+        }
+        replaced_len(source, self.old, self.new, marks) > MOST_BYTES as u64
     }
 
     /// Whether one of several files would have too many bytes.
@@ -175,89 +179,91 @@ impl<'a> Replacing<'a> {
             Err(_) => Err(AllocError),
         }
     }
-}
 
-/// The new versions of the files that have a mark, and how many lines each file has then.
-#[derive(Drop)]
-pub(crate) struct NewTexts {
-    pub(crate) versions: Vec<Version>,
-    pub(crate) lines: Vec<u32>,
-}
-
-impl NewTexts {
-    /// Adds a file that is as it was.
-    fn keep(&mut self, source: &Source) -> Result<(), AllocError>
-        ensures versions { self.new.versions.items ≡ self.old.versions.items }
-        ensures lines { IfOk result (λ _. self.new.lines.items
-            ≡ self.old.lines.items ++ length (lines source.now) ∷ []) }
-    {
-        self.lines.push(source.line_count())?;
-        Ok(())
-    }
-
-    /// Adds a file with new contents, which are scanned.
-    fn renew(&mut self, alloc: Global, meter: &mut Meter, source: Source) -> Result<(), AllocError>
-        ensures versions { IfOk result (λ _. self.new.versions.items
-            ≡ self.old.versions.items ++ source ∷ []) }
-        ensures lines { IfOk result (λ _. self.new.lines.items
-            ≡ self.old.lines.items ++ length (lines source) ∷ []) }
-        ensures meter { CountsUpTo (length source) meter.old meter.new result }
-    {
-        let _counted = meter.read();
-        self.lines.push(source.line_count())?;
-        self.versions.push(scanned_source(alloc, meter, source)?)?;
-        Ok(())
-    }
-
-    /// Adds a file. Only one with a mark is scanned.
-    fn add(
-        &mut self,
+    /// The new version of a file. Its contents are scanned.
+    fn version_then(
+        self,
         alloc: Global,
         meter: &mut Meter,
-        replacing: Replacing<'_>,
         file: Shown,
-    ) -> Result<(), AllocError>
-        requires { IsThere replacing.archive.now file }
-        ensures versions { IfOk result (λ _. self.new.versions.items ≡ self.old.versions.items
-            ++ texts_of (files_changed replacing.entry.archive.now replacing.entry.marks.now replacing.entry.old.now replacing.entry.new.now (file ∷ []))) }
-        ensures lines { IfOk result (λ _. self.new.lines.items ≡ self.old.lines.items
-            ++ line_counts (files_then replacing.entry.archive.now replacing.entry.marks.now replacing.entry.old.now replacing.entry.new.now (file ∷ []))) }
-        ensures meter { CountsUpTo (bytes_in (files_changed replacing.entry.archive.now replacing.entry.marks.now replacing.entry.old.now replacing.entry.new.now (file ∷ [])))
+    ) -> Result<Version, AllocError>
+        requires { IsThere self.archive.now file }
+        ensures value { IfOk result (λ version. version
+            ≡ (file_then self.entry.archive.now self.entry.marks.now self.entry.old.now self.entry.new.now file).bytes) }
+        ensures meter { CountsUpTo (length (file_then self.entry.archive.now self.entry.marks.now self.entry.old.now self.entry.new.now file).bytes)
             meter.old meter.new result }
     {
         let _counted = meter.read();
-        if replacing.has_mark(file) {
-            self.renew(alloc, meter, replacing.source_then(alloc, file)?)
-        } else {
-            self.keep(replacing.archive.source(file.version))
+        let source = self.source_then(alloc, file)?;
+        scanned_source(alloc, meter, source)
+    }
+
+    /// The new versions of files. Their contents are scanned.
+    pub(crate) fn versions_then(
+        self,
+        alloc: Global,
+        meter: &mut Meter,
+        files: &[Shown],
+    ) -> Result<Vec<Version>, AllocError>
+        requires { AllByRecursion (IsThere self.archive.now) files.now }
+        ensures versions { IfOk result (λ made. made.items
+            ≡ texts_of (files_then self.entry.archive.now self.entry.marks.now self.entry.old.now self.entry.new.now files.now)) }
+        ensures meter { CountsUpTo (bytes_in (files_then self.entry.archive.now self.entry.marks.now self.entry.old.now self.entry.new.now files.now))
+            meter.old meter.new result }
+    {
+        let _counted = meter.read();
+        let mut made = Vec::new(alloc);
+        let mut rest = files;
+        while let Some((file, more)) = rest.split_first() {
+            made.push(self.version_then(alloc, meter, *file)?)?;
+            rest = more;
+        }
+        Ok(made)
+    }
+
+    /// How many lines the next file has then, and the new versions of the files after it. Only a file
+    /// with a mark has one.
+    fn lines_then<'v>(self, file: Shown, versions: &'v [Version]) -> (u32, &'v [Version])
+        requires there { IsThere self.archive.now file }
+        requires more { (more : List Shown) × (versions.now
+            ≡ texts_of (files_changed self.archive.now self.marks.now self.old.now self.new.now (file ∷ more))) }
+        ensures lines { result.0
+            ≡ length (lines (file_then self.entry.archive.now self.entry.marks.now self.entry.old.now self.entry.new.now file).bytes) }
+        ensures more { (more : List Shown) → versions.now
+            ≡ texts_of (files_changed self.entry.archive.now self.entry.marks.now self.entry.old.now self.entry.new.now (file ∷ more))
+            → result.1.now ≡ texts_of (files_changed self.entry.archive.now self.entry.marks.now self.entry.old.now self.entry.new.now more) }
+    {
+        if !self.has_mark(file) {
+            return (self.archive.source(file.version).line_count(), versions);
+        }
+        match versions.split_first() {
+            Some((version, more)) => (version.source().line_count(), more),
+            None => unreachable!(),
         }
     }
-}
 
-/// The new versions of the files that have a mark, and the lines of all files then.
-pub(crate) fn new_texts(
-    alloc: Global,
-    meter: &mut Meter,
-    replacing: Replacing<'_>,
-    shown: &[Shown],
-) -> Result<NewTexts, AllocError>
-    requires { AllByRecursion (IsThere replacing.archive.now) shown.now }
-    ensures versions { IfOk result (λ made. made.versions.items
-        ≡ texts_of (files_changed replacing.entry.archive.now replacing.entry.marks.now replacing.entry.old.now replacing.entry.new.now shown.now)) }
-    ensures lines { IfOk result (λ made. made.lines.items
-        ≡ line_counts (files_then replacing.entry.archive.now replacing.entry.marks.now replacing.entry.old.now replacing.entry.new.now shown.now)) }
-    ensures meter { CountsUpTo (bytes_in (files_changed replacing.entry.archive.now replacing.entry.marks.now replacing.entry.old.now replacing.entry.new.now shown.now))
-        meter.old meter.new result }
-{
-    let _counted = meter.read();
-    let mut made = NewTexts {
-        versions: Vec::new(alloc),
-        lines: Vec::new(alloc),
-    };
-    let mut rest = shown;
-    while let Some((file, more)) = rest.split_first() {
-        made.add(alloc, meter, replacing, *file)?;
-        rest = more;
+    /// How many lines each file has then. Those with a mark have new versions.
+    pub(crate) fn line_counts(
+        self,
+        alloc: Global,
+        shown: &[Shown],
+        versions: &[Version],
+    ) -> Result<Vec<u32>, AllocError>
+        requires there { AllByRecursion (IsThere self.archive.now) shown.now }
+        requires versions { versions.now
+            ≡ texts_of (files_changed self.archive.now self.marks.now self.old.now self.new.now shown.now) }
+        ensures { IfOk result (λ counts. counts.items
+            ≡ line_counts (files_then self.entry.archive.now self.entry.marks.now self.entry.old.now self.entry.new.now shown.now)) }
+    {
+        let mut counts = Vec::new(alloc);
+        let mut files = shown;
+        let mut news = versions;
+        while let Some((file, more)) = files.split_first() {
+            let (count, later) = self.lines_then(*file, news);
+            counts.push(count)?;
+            files = more;
+            news = later;
+        }
+        Ok(counts)
     }
-    Ok(made)
 }

@@ -16,24 +16,24 @@ nothing_in (x ∷ xs) e = absurd (grind (arith, e))
 not_large : (n : ℕ) → n ≤ MOST_BYTES → false ≡ nat_lt MOST_BYTES n
 not_large n small = grind (arith, small)
 
-pub returns-else-not-is_empty : goal.returns-else-not-is_empty
-returns-else-not-is_empty c =
+pub returns-then-is_empty : goal.returns-then-is_empty
+returns-then-is_empty c =
     let a = c.args.self.archive.now in
     let old = c.args.self.old.now in
     let new = c.args.self.new.now in
     let ns = marked_lines (name_of a c.args.file.name) (places_in a c.args.self.marks.now) in
     let bytes = slice_index_or a.texts c.args.file.version [] in
     let mine = c.marks_of-marks.result.now in
-    let none : mine ≡ [] = nothing_in mine (sym c.if-not-is_empty.false ∙ c.is_empty.ensures) in
+    let none : mine ≡ [] = nothing_in mine (sym c.if-is_empty.true ∙ c.is_empty.ensures) in
     let lines : map (λ (m : NumberedPlace). m.line) mine ≡ ns = search rules in
     let still : replaced_text old new ns bytes ≡ bytes =
     ap (λ ms. replaced_text old new ms bytes) (sym lines ∙ ap (map (λ (m : NumberedPlace). m.line)) none) ∙ unmarked_text old new bytes in
     let few : length bytes ≤ MOST_BYTES =
     subst (λ t. length t ≤ MOST_BYTES) (c.bytes-small.ensures.value ∙ c.source-source.ensures) c.bytes-small.ensures.small in
-    ap not c.if-not-is_empty.false ∙ not_large (length (replaced_text old new ns bytes)) (subst (λ t. length t ≤ MOST_BYTES) (sym still) few)
+    not_large (length (replaced_text old new ns bytes)) (subst (λ t. length t ≤ MOST_BYTES) (sym still) few)
 
-pub returns-then-not-is_empty : goal.returns-then-not-is_empty
-returns-then-not-is_empty c =
+pub returns : goal.returns
+returns c =
     let a = c.args.self.archive.now in
     let ns = marked_lines (name_of a c.args.file.name) (places_in a c.args.self.marks.now) in
     let lines : map (λ (m : NumberedPlace). m.line) c.marks_of-marks.result.now ≡ ns = search rules in
