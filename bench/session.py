@@ -13,6 +13,8 @@ time, which is that of the pipes between the programs, is printed first and take
 figure in the small session, and "times" the one as a multiple of the other: near 1 where a small change is a small work.
 
 One file      of median size: dropped, and that undone and redone; renamed; a text on one of its lines changed, and that undone.
+Pairs         a change of that file and what takes it back, 10,000 times in one go, where no reply is waited for: such changes
+              take less than the pipes do, so that their times one at a time say little. Nothing is taken away from these.
 All files     a text is changed in all of them, and that undone and redone. The change scans the new contents, so the time
               of `r`, which scans all files, is taken away from it. For this each file is copied with a comment at its end.
 Many changes  65,536 times `:mark 1`, and as many times `:undo`, in one go.
@@ -42,6 +44,7 @@ FEW = 10  # the small session has one file in so many
 TIMES = 9  # each change is made so often
 QUESTIONS = 1000
 MOST_CHANGES = 65_536
+PAIRS = 10_000
 PROMPT = b">> "
 LAST_LINE = b"\n/* a text in every file */\n"
 
@@ -144,8 +147,22 @@ def small_changes(session, name, text):
             for label, times in seen.items() if label}
 
 
+def pairs_of_changes(session, name):
+    """The seconds of a change of one file and of what takes it back, in one go, each an average."""
+    def pair(first, second):
+        return session.many([first + b"\n" + second + b"\n"] * PAIRS, 2 * PAIRS) / PAIRS
+
+    drop = b":drop " + name
+    seen = {"drop and undo": pair(drop, b":undo")}
+    session.do(drop)
+    seen["undo and redo of it"] = pair(b":undo", b":redo")
+    session.do(b":undo")
+    seen["rename and undo"] = pair(b":rename %s z/%s" % (name, name), b":undo")
+    return seen
+
+
 def put(label, milliseconds, beside=""):
-    print(f"{label:<34}{milliseconds:>12.3f} ms   {beside}".rstrip(), flush=True)
+    print(f"{label:<34}{milliseconds:>12.4f} ms   {beside}".rstrip(), flush=True)
 
 
 def one_file(cbrowse, folder, sizes):
@@ -158,12 +175,13 @@ def one_file(cbrowse, folder, sizes):
     figures = []
     for files in (names, few):
         session = Session([cbrowse, "line"] + files, folder)
-        figures.append(small_changes(session, os.fsencode(name), text))
+        figure = small_changes(session, os.fsencode(name), text)
+        figures.append(figure | pairs_of_changes(session, os.fsencode(name)))
         session.end()
     print(f"{name}, {sizes[name]} bytes, among {len(names)} files and among {len(few)}")
     for label in figures[0]:
         many, few = (figure[label] * 1000 for figure in figures)
-        put(label, many, f"few {few:.3f} ms, times {many / few:.2f}")
+        put(label, many, f"few {few:.4f} ms, times {many / few:.2f}")
 
 
 def all_files(cbrowse, folder, sizes):
