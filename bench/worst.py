@@ -1,0 +1,88 @@
+#!/usr/bin/env python3
+"""What the texts cost that are hardest for a scanner, beside ordinary code of the same size: time and memory.
+
+A person runs this by hand; no gate does, and nothing here passes or fails by its time.
+
+    make && bench/worst.py
+    bench/worst.py --cbrowse PATH      or: CBROWSE=PATH bench/worst.py
+
+Each text is one file of a million bytes, the most that a file may have: one shape again and again, most of them on a single
+line. Two rows more are a line of 100,000 uses of one name, and 4,096 files that all define one name. A session takes the
+files as operands, scans them again (`r`), and is asked for uses, definitions, callees and callers of the names in them.
+Shown are the processor time (user and system) of the whole session on one core, the least of several, and the most memory
+that it had resident; "times" is the time as a multiple of that of ordinary code in as many bytes and as many files.
+
+No tags are asked for: each tag shows its whole line, so a line of n definitions has n times its length of them.
+"""
+
+import argparse
+import pathlib
+import tempfile
+
+from measure import keep_to_one_core, processor_time, words_given
+from scan import code, lines
+from session import MOST_FILES, Session
+
+RUNS = 3
+MOST_BYTES = 1_000_000
+QUESTIONS = [b"r\n"] + [b"%d%s\n" % (field, name) for name in (b"a", b"f") for field in range(4)]
+SHAPES = [b"{", b"}", b"\n", b'"', b"\\", b"(", b"a(", b"#define a(", b"typedef a;", b"f(){}", b"/*", b"//\\\n", b"0.e+"]
+
+
+def again(shape, size=MOST_BYTES):
+    """A shape again and again."""
+    return (shape * (size // len(shape) + 1))[:size]
+
+
+def most_memory(session):
+    """The most that a session had resident, in megabytes, as Linux tells it."""
+    status = pathlib.Path("/proc", str(session.process.pid), "status").read_text()
+    return int(status.split("VmHWM:")[1].split()[0]) / 1024
+
+
+def asked(cbrowse, folder, texts):
+    """The least seconds of a session over these texts, and its memory in megabytes."""
+    with tempfile.TemporaryDirectory(dir=folder) as place:
+        names = [f"{number}.c" for number in range(len(texts))]
+        for name, text in zip(names, texts):
+            pathlib.Path(place, name).write_bytes(text)
+        words = [cbrowse, "line"] + names
+        seconds = min(processor_time(words, pathlib.Path(place), b"".join(QUESTIONS)) for _ in range(RUNS))
+        session = Session(words, place)
+        for question in QUESTIONS:
+            session.ask(question.rstrip())
+        memory = most_memory(session)
+        session.end()
+        return seconds, memory
+
+
+def put(label, found, ordinary=None):
+    """One row."""
+    times = f"{found[0] / ordinary[0]:>8.2f}" if ordinary else ""
+    print(f"{label:<34}{found[0] * 1000:>10.1f} ms{found[1]:>10.1f} MB{times}".rstrip(), flush=True)
+
+
+def main():
+    options = argparse.ArgumentParser(description=__doc__, formatter_class=argparse.RawDescriptionHelpFormatter)
+    given = words_given(options)
+    keep_to_one_core()
+    print(f"{'':<34}{'time':>13}{'memory':>13}{'times':>8}")
+    with tempfile.TemporaryDirectory() as folder:
+        def measured(texts):
+            return asked(given.cbrowse, folder, texts)
+
+        ordinary = measured([lines(code(), MOST_BYTES)])
+        put("ordinary code", ordinary)
+        for shape in SHAPES:
+            put(shape.decode().replace("\n", " LF"), measured([again(shape)]), ordinary)
+        line = b"int a;\nvoid f(void) {" + again(b" a;", 300_000) + b"}\n"
+        put("100,000 uses of a name on a line", measured([line]), measured([lines(code(), len(line))]))
+        one = b"int a(void) { return 1; }\n"
+        some = lines(code(), 4_000)
+        many = [some[at:at + len(one)] for at in range(0, len(one) * 100, len(one))]
+        put("4,096 files that define one name", measured([one] * MOST_FILES),
+            measured([many[number % len(many)] for number in range(MOST_FILES)]))
+
+
+if __name__ == "__main__":
+    main()
