@@ -57,8 +57,8 @@ fn put_output<W: Write>(
 }
 
 /// Writes the tags of a desk, and hands them on.
-fn write_tags<W: Write>(listing: bool, format: Format, mut desk: Desk, out: &mut Sink<W>) -> Ended
-    ensures { WritesText (tags_output listing format desk.entry.timeline.present) out.old out.new result }
+fn write_tags<W: Write>(listing: bool, format: Format, desk: &mut Desk, out: &mut Sink<W>) -> Ended
+    ensures { WritesText (tags_output listing format desk.old.timeline.present) out.old out.new result }
 {
     desk.settle_tags(output_format(listing, format));
     let rows = desk.tag_rows(output_format(listing, format));
@@ -73,9 +73,9 @@ fn write_tags<W: Write>(listing: bool, format: Format, mut desk: Desk, out: &mut
 }
 
 /// Writes the rows that answer a question, and hands them on.
-fn write_rows<W: Write>(field: Field, pattern: &[u8], mut desk: Desk, out: &mut Sink<W>) -> Ended
+fn write_rows<W: Write>(field: Field, pattern: &[u8], desk: &mut Desk, out: &mut Sink<W>) -> Ended
     requires { pattern.now ≢ [] }
-    ensures { WritesText (flat_map row_line (answer desk.entry.timeline.present field pattern.now)) out.old out.new result }
+    ensures { WritesText (flat_map row_line (answer desk.old.timeline.present field pattern.now)) out.old out.new result }
 {
     desk.settle(field);
     match put_answer(out, desk.rows(field, pattern)) {
@@ -86,6 +86,23 @@ fn write_rows<W: Write>(field: Field, pattern: &[u8], mut desk: Desk, out: &mut 
         Ok(()) => Ended::Done,
         Err(_failed) => Ended::Fault(Fault::Write),
     }
+}
+
+/// Answers a question of a session, and ends the session.
+fn find_in<W: Write>(session: Session, field: Field, pattern: &[u8], out: &mut Sink<W>) -> Ended
+    requires { pattern.now ≢ [] }
+    ensures { WritesText (flat_map row_line (answer session.present field pattern.now)) out.old out.new result }
+{
+    let mut desk = session.into_desk();
+    write_rows(field, pattern, &mut desk, out)
+}
+
+/// Writes the tags of a session, and ends the session.
+fn tags_of<W: Write>(session: Session, listing: bool, format: Format, out: &mut Sink<W>) -> Ended
+    ensures { WritesText (tags_output listing format session.present) out.old out.new result }
+{
+    let mut desk = session.into_desk();
+    write_tags(listing, format, &mut desk, out)
 }
 
 /// Does a job over input and output, from a session in which its files are loaded.
@@ -102,17 +119,12 @@ pub fn run_job<R: BufRead, W: Write>(
 {
     match job {
         Job::Line { .. } => session.serve(alloc, limits, feed, out),
-        Job::Find { field, pattern, .. } => write_rows(
-            *field,
-            pattern.as_bytes(),
-            session.into_desk(),
-            out,
-        ),
+        Job::Find { field, pattern, .. } => find_in(session, *field, pattern.as_bytes(), out),
         Job::Tags {
             listing,
             format,
             ..
-        } => write_tags(*listing, *format, session.into_desk(), out),
+        } => tags_of(session, *listing, *format, out),
     }
 }
 
