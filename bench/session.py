@@ -19,6 +19,7 @@ All files     a text is changed in all of them, and that undone and redone. The 
               of `r`, which scans all files, is taken away from it. For this each file is copied with a comment at its end.
 Many changes  65,536 times `:mark 1`, and as many times `:undo`, in one go.
 Loads         all files by `:load`, one after the other, in one go, as a multiple of the time of `r`.
+First         the first question of each kind in a new session, which puts an index in order, and the same once more.
 Questions     where a name is defined, for a thousand names; the median, and the one that 95 in 100 stay below.
               `cscope -d -q -l` answers the same in the same way.
 Tags          `:tags 2`.
@@ -224,6 +225,15 @@ def loads(cbrowse, folder, sizes, scanned):
     session.end()
 
 
+def first_questions(cbrowse, folder, sizes):
+    """The first question of each kind."""
+    session = Session([cbrowse, "line"] + list(sizes), folder)
+    for label, field in (("uses", b"0"), ("definitions", b"1"), ("callees", b"2"), ("callers", b"3")):
+        first, again = (session.do(field + b"NoSuchName") for _ in range(2))
+        put(f"first question about {label}", first * 1000, f"then {again * 1000:.4f} ms")
+    session.end()
+
+
 def defined(cbrowse, folder, sizes):
     """Names of definitions, evenly drawn, as many as there are questions."""
     with tempfile.TemporaryDirectory() as place:
@@ -272,6 +282,7 @@ def main():
         scanned = all_files(given.cbrowse, folder, sizes)
         many_changes(given.cbrowse, folder, sizes)
         loads(given.cbrowse, folder, sizes, scanned)
+        first_questions(given.cbrowse, folder, sizes)
         names = defined(given.cbrowse, folder, sizes)
         put_questions(f"{len(names):,} names, cbrowse", questions([given.cbrowse, "line"] + list(sizes), folder, names))
         if installed("cscope", "-V", "version"):
