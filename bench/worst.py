@@ -1,18 +1,21 @@
 #!/usr/bin/env python3
-"""What the texts cost that are hardest for a scanner, beside ordinary code of the same size: time and memory.
+"""What the texts cost that are hardest for a scanner: time and memory, beside ordinary code.
 
 A person runs this by hand; no gate does, and nothing here passes or fails by its time.
 
     make && bench/worst.py
     bench/worst.py --cbrowse PATH      or: CBROWSE=PATH bench/worst.py
 
-Each text is one file of a million bytes, the most that a file may have: one shape again and again, most of them on a single
-line. Two rows more are a line of 100,000 uses of one name, and 4,096 files that all define one name. A session takes the
-files as operands, scans them again (`r`), and is asked for uses, definitions, callees and callers of the names in them.
-Shown are the processor time (user and system) of the whole session on one core, the least of several, and the most memory
-that it had resident; "times" is the time as a multiple of that of ordinary code in as many bytes and as many files.
+Each text is one file of a million bytes, the most that a file may have: one shape again and again,
+most of them on a single line. Two rows more are a line of 100,000 uses of one name, and 4,096 files
+that all define one name. A session takes the files as operands, scans them again (`r`), and is
+asked for uses, definitions, callees and callers of the names in them. Shown are the processor time
+(user and system) of the whole session on one core, the least of several, and the most memory that
+it had resident; "times" is the time as a multiple of that of ordinary code in as many bytes and
+files.
 
-No tags are asked for: each tag shows its whole line, so a line of n definitions has n times its length of them.
+No tags are asked for: each tag shows its whole line, so that n definitions on one line have n times
+its length of them.
 """
 
 import argparse
@@ -26,7 +29,10 @@ from session import MOST_FILES, Session
 RUNS = 3
 MOST_BYTES = 1_000_000
 QUESTIONS = [b"r\n"] + [b"%d%s\n" % (field, name) for name in (b"a", b"f") for field in range(4)]
-SHAPES = [b"{", b"}", b"\n", b'"', b"\\", b"(", b"a(", b"#define a(", b"typedef a;", b"f(){}", b"/*", b"//\\\n", b"0.e+"]
+SHAPES = [
+    b"{", b"}", b"\n", b'"', b"\\", b"(", b"a(", b"#define a(", b"typedef a;", b"f(){}", b"/*",
+    b"//\\\n", b"0.e+",
+]
 
 
 def again(shape, size=MOST_BYTES):
@@ -47,7 +53,8 @@ def asked(cbrowse, folder, texts):
         for name, text in zip(names, texts):
             pathlib.Path(place, name).write_bytes(text)
         words = [cbrowse, "line"] + names
-        seconds = min(processor_time(words, pathlib.Path(place), b"".join(QUESTIONS)) for _ in range(RUNS))
+        asking = b"".join(QUESTIONS)
+        seconds = min(processor_time(words, pathlib.Path(place), asking) for _ in range(RUNS))
         session = Session(words, place)
         for question in QUESTIONS:
             session.ask(question.rstrip())
@@ -76,7 +83,8 @@ def main():
         for shape in SHAPES:
             put(shape.decode().replace("\n", " LF"), measured([again(shape)]), ordinary)
         line = b"int a;\nvoid f(void) {" + again(b" a;", 300_000) + b"}\n"
-        put("100,000 uses of a name on a line", measured([line]), measured([lines(code(), len(line))]))
+        put("100,000 uses of a name on a line", measured([line]),
+            measured([lines(code(), len(line))]))
         one = b"int a(void) { return 1; }\n"
         some = lines(code(), 4_000)
         many = [some[at:at + len(one)] for at in range(0, len(one) * 100, len(one))]
