@@ -39,7 +39,7 @@ TEST = re.compile(r"\bfn (?:%s)\w+" % "|".join(KINDS))
 MOST = 10_000  # growths of one call
 
 # Calls that have to meet fewer growths than this: their number must not rise with the files.
-FEWER_THAN = {("desk_tests", "want_with_64_files"): 64}
+FEWER_THAN = {("desk_memory_tests", "want_with_64_files"): 64}
 
 
 class Wrong(Exception):

@@ -1,29 +1,16 @@
 mod calls;
 mod marks;
-mod memory;
 mod moves;
 mod queries;
-mod refused;
 mod reloads;
 mod search;
 
+use crate::desks::{NINE_LINES, load_text, shows};
 use cb_desk::{Change, Desk, Format, Refusal};
 use cb_scan::Kind;
 use cb_tags::TagRow;
 use std::alloc::{AllocError, Global};
 use std::process::Abort;
-
-/// Whether the present files have these names, in this order.
-fn shows(desk: &Desk, names: &[&[u8]]) -> bool {
-    let mut files = desk.files();
-    for name in names {
-        match files.next() {
-            Some((shown, _)) if shown == *name => {}
-            _ => return false,
-        }
-    }
-    files.next().is_none()
-}
 
 /// A load of so many bytes `a`.
 fn load(
@@ -136,17 +123,6 @@ fn undo_takes_loads_back_one_by_one(rt: HostRuntime) -> Result<(), AllocError> {
     Ok(())
 }
 
-/// A load of a text.
-fn load_text(
-    desk: &mut Desk,
-    alloc: Global,
-    name: &[u8],
-    text: &[u8],
-) -> Result<Result<(), Refusal>, AllocError> {
-    let bytes = Vec::from_slice(alloc, text)?;
-    Ok(desk.change(alloc, Change::Load(name, bytes)))
-}
-
 /// Whether the tags of the present files are these, in this order: name, file, line and kind.
 fn has_tags(desk: &mut Desk, format: Format, tags: &[(&[u8], &[u8], u32, Kind)]) -> bool {
     desk.settle_tags(format);
@@ -171,10 +147,6 @@ fn are_tags(desk: &mut Desk, format: Format, tags: &[TagRow<'_>]) -> bool {
     }
     rows.next().is_none()
 }
-
-/// Nine lines with a definition of each kind, and `main`.
-const NINE_LINES: &[u8] =
-    b"#include \"a.h\"\n#define TWICE(x) ((x) + add(x, 0))\ntypedef unsigned long word;\nstatic int add(int a, int b) {\n\treturn a + b;\n}\nint main(void) {\n\treturn add(1, 2) / TWICE(3);\n}\n";
 
 /// A macro, two functions and a typedef, in both orders.
 fn four_definitions_are_shown(rt: &impl Abort, desk: &mut Desk) {
@@ -279,17 +251,4 @@ fn equal_tags_all_stay(rt: HostRuntime) -> Result<(), AllocError> {
     assert!(rt; load_text(&mut desk, alloc, b"a.c", b"f(){}f(){}")? == Ok(()));
     two_equal_tags_are_there(&rt, &mut desk);
     Ok(())
-}
-
-/// A load of a text whose bytes may be refused too.
-fn load_text_or_refused(
-    desk: &mut Desk,
-    alloc: Global,
-    name: &[u8],
-    text: &[u8],
-) -> Result<(), Refusal> {
-    match load_text(desk, alloc, name, text) {
-        Ok(outcome) => outcome,
-        Err(_error) => Err(Refusal::OutOfMemory),
-    }
 }

@@ -1,48 +1,18 @@
 //! Wanted text, marks, and the change of a text. Expected marks, texts and refusals are worked out
 //! by hand.
-use super::moves::{has_frames, has_text, two_files};
-use super::{NINE_LINES, load, load_text_or_refused};
+use super::load;
+use crate::desks::{
+    NINE_LINES, has_frames, has_marks, has_text, load_text_or_refused, marked_files, two_files,
+    wants,
+};
 use cb_desk::{Change, Desk, Refusal};
 use std::alloc::{AllocError, Global};
 use std::process::Abort;
-
-/// Whether the marks are these, by file and line.
-pub(crate) fn has_marks(desk: &Desk, marks: &[(&[u8], u32)]) -> bool {
-    let mut shown = desk.marks();
-    for (name, line) in marks {
-        match shown.next() {
-            Some((file, at)) if file == *name && at == *line => {}
-            _ => return false,
-        }
-    }
-    shown.next().is_none()
-}
-
-/// Whether that text is wanted.
-pub(crate) fn wants(desk: &Desk, text: &[u8]) -> bool {
-    match desk.wanted() {
-        Some(wanted) => wanted == text,
-        None => false,
-    }
-}
 
 /// A desk with one file.
 fn one_file(alloc: Global, text: &[u8]) -> Result<Desk, Refusal> {
     let mut desk = Desk::new(alloc);
     load_text_or_refused(&mut desk, alloc, b"x.c", text)?;
-    Ok(desk)
-}
-
-/// Every line that holds `add` is marked.
-fn mark_add(desk: &mut Desk, alloc: Global) -> Result<(), Refusal> {
-    desk.change(alloc, Change::Want(b"add"))?;
-    desk.change(alloc, Change::MarkAll)
-}
-
-/// Two files in which `add` is wanted and every line that holds it is marked.
-pub(crate) fn marked_files(alloc: Global) -> Result<Desk, Refusal> {
-    let mut desk = two_files(alloc)?;
-    mark_add(&mut desk, alloc)?;
     Ok(desk)
 }
 

@@ -1,21 +1,13 @@
 //! Drops, renames, the tag stack, undo and redo. Expected frames and refusals are worked out by
 //! hand.
-use super::{NINE_LINES, load, load_text, load_text_or_refused, shows};
+use super::load;
+use crate::desks::{
+    NINE_LINES, ONE_FUNCTION, has_frames, has_text, load_text, load_text_or_refused, shows,
+    two_files,
+};
 use cb_desk::{Change, Desk, Refusal};
 use std::alloc::{AllocError, Global};
 use std::process::Abort;
-
-/// Whether the frames are these, bottom first.
-pub(crate) fn has_frames(desk: &Desk, frames: &[(&[u8], u32)]) -> bool {
-    let mut shown = desk.frames();
-    for (name, line) in frames {
-        match shown.next() {
-            Some((file, at)) if file == *name && at == *line => {}
-            _ => return false,
-        }
-    }
-    shown.next().is_none()
-}
 
 /// Whether the frames are these, from the top of the stack down.
 fn has_frames_from_the_top(desk: &Desk, frames: &[(&[u8], u32)]) -> bool {
@@ -27,32 +19,6 @@ fn has_frames_from_the_top(desk: &Desk, frames: &[(&[u8], u32)]) -> bool {
         }
     }
     shown.next_back().is_none()
-}
-
-/// Whether the file of that name has that text.
-pub(crate) fn has_text(desk: &Desk, name: &[u8], text: &[u8]) -> bool {
-    for (file, source) in desk.files() {
-        if file == name {
-            return source.bytes() == text;
-        }
-    }
-    false
-}
-
-/// A file with one function.
-const ONE_FUNCTION: &[u8] = b"int Mb(void) {\n}\n";
-
-/// Loads two files.
-fn load_two(desk: &mut Desk, alloc: Global) -> Result<(), Refusal> {
-    load_text_or_refused(desk, alloc, b"a.c", NINE_LINES)?;
-    load_text_or_refused(desk, alloc, b"m.c", ONE_FUNCTION)
-}
-
-/// A desk with two files.
-pub(crate) fn two_files(alloc: Global) -> Result<Desk, Refusal> {
-    let mut desk = Desk::new(alloc);
-    load_two(&mut desk, alloc)?;
-    Ok(desk)
 }
 
 /// Pushes a frame for each of three definitions.

@@ -1,8 +1,9 @@
 //! Reloads: other bytes for a file in one change. Expected marks, frames and counts are worked out by
 //! hand.
-use super::marks::{has_marks, wants};
-use super::moves::{has_frames, has_text, two_files};
-use super::{NINE_LINES, has_tags, load_text_or_refused, shows};
+use super::has_tags;
+use crate::desks::{
+    NINE_LINES, has_frames, has_marks, has_text, load_text_or_refused, shows, two_files, wants,
+};
 use cb_desk::{Change, Desk, Format, Refusal};
 use cb_scan::Kind;
 use std::alloc::{AllocError, Global};

@@ -1,10 +1,10 @@
 //! Worked runs in which each growth of a change is refused in turn, and moves and questions in which
 //! every growth would be. `memory` says how the tests are named.
-use super::marks::{has_marks, marked_files, wants};
 use super::memory::{begin, marked_with_a_future};
-use super::moves::{has_text, two_files};
-use super::{NINE_LINES, load_text_or_refused, shows};
 use cb_desk::{Change, Desk, Field, Format, Refusal};
+use desk_tests::desks::{
+    NINE_LINES, has_marks, has_text, load_text_or_refused, marked_files, shows, two_files, wants,
+};
 use std::alloc::{AllocError, Global};
 use std::process::Abort;
 

@@ -1,0 +1,114 @@
+//! Desks that tests begin with, and what they ask of a desk.
+use cb_desk::{Change, Desk, Refusal};
+use std::alloc::{AllocError, Global};
+
+/// Nine lines with a definition of each kind, and `main`.
+pub const NINE_LINES: &[u8] =
+    b"#include \"a.h\"\n#define TWICE(x) ((x) + add(x, 0))\ntypedef unsigned long word;\nstatic int add(int a, int b) {\n\treturn a + b;\n}\nint main(void) {\n\treturn add(1, 2) / TWICE(3);\n}\n";
+
+/// A file with one function.
+pub const ONE_FUNCTION: &[u8] = b"int Mb(void) {\n}\n";
+
+/// Whether the present files have these names, in this order.
+pub fn shows(desk: &Desk, names: &[&[u8]]) -> bool {
+    let mut files = desk.files();
+    for name in names {
+        match files.next() {
+            Some((shown, _)) if shown == *name => {}
+            _ => return false,
+        }
+    }
+    files.next().is_none()
+}
+
+/// Whether the file of that name has that text.
+pub fn has_text(desk: &Desk, name: &[u8], text: &[u8]) -> bool {
+    for (file, source) in desk.files() {
+        if file == name {
+            return source.bytes() == text;
+        }
+    }
+    false
+}
+
+/// Whether the frames are these, bottom first.
+pub fn has_frames(desk: &Desk, frames: &[(&[u8], u32)]) -> bool {
+    let mut shown = desk.frames();
+    for (name, line) in frames {
+        match shown.next() {
+            Some((file, at)) if file == *name && at == *line => {}
+            _ => return false,
+        }
+    }
+    shown.next().is_none()
+}
+
+/// Whether the marks are these, by file and line.
+pub fn has_marks(desk: &Desk, marks: &[(&[u8], u32)]) -> bool {
+    let mut shown = desk.marks();
+    for (name, line) in marks {
+        match shown.next() {
+            Some((file, at)) if file == *name && at == *line => {}
+            _ => return false,
+        }
+    }
+    shown.next().is_none()
+}
+
+/// Whether that text is wanted.
+pub fn wants(desk: &Desk, text: &[u8]) -> bool {
+    match desk.wanted() {
+        Some(wanted) => wanted == text,
+        None => false,
+    }
+}
+
+/// A load of a text.
+pub fn load_text(
+    desk: &mut Desk,
+    alloc: Global,
+    name: &[u8],
+    text: &[u8],
+) -> Result<Result<(), Refusal>, AllocError> {
+    let bytes = Vec::from_slice(alloc, text)?;
+    Ok(desk.change(alloc, Change::Load(name, bytes)))
+}
+
+/// A load of a text whose bytes may be refused too.
+pub fn load_text_or_refused(
+    desk: &mut Desk,
+    alloc: Global,
+    name: &[u8],
+    text: &[u8],
+) -> Result<(), Refusal> {
+    match load_text(desk, alloc, name, text) {
+        Ok(outcome) => outcome,
+        Err(_error) => Err(Refusal::OutOfMemory),
+    }
+}
+
+/// Loads two files.
+fn load_two(desk: &mut Desk, alloc: Global) -> Result<(), Refusal> {
+    load_text_or_refused(desk, alloc, b"a.c", NINE_LINES)?;
+    load_text_or_refused(desk, alloc, b"m.c", ONE_FUNCTION)
+}
+
+/// A desk with two files.
+pub fn two_files(alloc: Global) -> Result<Desk, Refusal> {
+    let mut desk = Desk::new(alloc);
+    load_two(&mut desk, alloc)?;
+    Ok(desk)
+}
+
+/// Every line that holds `add` is marked.
+fn mark_add(desk: &mut Desk, alloc: Global) -> Result<(), Refusal> {
+    desk.change(alloc, Change::Want(b"add"))?;
+    desk.change(alloc, Change::MarkAll)
+}
+
+/// Two files in which `add` is wanted and every line that holds it is marked.
+pub fn marked_files(alloc: Global) -> Result<Desk, Refusal> {
+    let mut desk = two_files(alloc)?;
+    mark_add(&mut desk, alloc)?;
+    Ok(desk)
+}
