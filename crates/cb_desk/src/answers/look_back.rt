@@ -83,28 +83,44 @@ impl<'a, 'p> LookBack<'a, 'p> {
     }
 }
 
-/// Whether no row before is equal to the next one.
-fn is_new<'a, 'p>(left: &LookBack<'a, 'p>, row: &RowSpot<'a>, rest: &FoundRows<'a, 'p>) -> bool
+/// Whether no row before is equal to the next one, by the order of the greatest line and its own.
+fn is_new<'a, 'p>(
+    left: &LookBack<'a, 'p>,
+    order: Ordering,
+    row: &RowSpot<'a>,
+    rest: &FoundRows<'a, 'p>,
+) -> bool
     requires kept { IsLookBack left.now }
     requires next { found_left left.now.rest ≡ spot_row row.now ∷ found_left rest.now }
+    requires order { order ≡ slice_cmp nat_cmp
+        (place_key (record { file = left.now.file.now; line = left.now.line }))
+        (row_key (spot_row row.now)) }
     ensures { result ≡ not (list_any (row_eq (spot_row row.now)) (seen left.now)) }
 {
-    match compare(left.file, left.line, row) {
+    match order {
         Ordering::Less => true,
         Ordering::Equal => !has_like(left.group, left.passed - left.first, row),
         Ordering::Greater => !has_like(left.all, left.passed, row),
     }
 }
 
-/// Goes on after the next row.
-fn pass<'a, 'p>(left: &mut LookBack<'a, 'p>, row: &RowSpot<'a>, rest: FoundRows<'a, 'p>)
+/// Goes on after the next row, by the order of the greatest line and its own.
+fn pass<'a, 'p>(
+    left: &mut LookBack<'a, 'p>,
+    order: Ordering,
+    row: &RowSpot<'a>,
+    rest: FoundRows<'a, 'p>,
+)
     requires kept { IsLookBack left.old }
     requires next { found_left left.old.rest ≡ spot_row row.now ∷ found_left rest }
+    requires order { order ≡ slice_cmp nat_cmp
+        (place_key (record { file = left.old.file.now; line = left.old.line }))
+        (row_key (spot_row row.now)) }
     ensures kept { IsLookBack left.new }
     ensures seen { seen left.new ≡ seen left.old ++ spot_row row.now ∷ [] }
     ensures rest { found_left left.new.rest ≡ found_left rest.entry }
 {
-    match compare(left.file, left.line, row) {
+    match order {
         Ordering::Less => {
             left.file = row.file;
             left.line = row.line;
@@ -133,8 +149,9 @@ fn next_row<'a, 'p>(left: &mut LookBack<'a, 'p>) -> Option<(RowSpot<'a>, bool)>
 {
     let mut rest = left.rest;
     let row = rest.next()?;
-    let is_new = is_new(left, &row, &rest);
-    pass(left, &row, rest);
+    let order = compare(left.file, left.line, &row);
+    let is_new = is_new(left, order, &row, &rest);
+    pass(left, order, &row, rest);
     Some((row, is_new))
 }
 
