@@ -8,7 +8,7 @@ use Rattle.std.specs.List.{list_any}
 use Rattle.std.specs.Prelude.{nat_eq}
 use Rattle.cb_scan.specs.Order.{goes_first, in_order, put}
 use Rattle.cb_index.specs.Archived.{Archived}
-use Rattle.cb_desk.specs.steps.Records.{Kept, Numbered, Rooms, Turn, other}
+use Rattle.cb_desk.specs.steps.Records.{Numbered, Rooms, Turn, other}
 use Rattle.cb_desk.specs.steps.Walks.{IsAllUsed, LeadsBack, LeadsOn, Recorded, shows_name, shows_version, turns_back, turns_on, walk}
 
 -- ---- a list in order passes the tests of the list

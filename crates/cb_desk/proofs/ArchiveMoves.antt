@@ -1,5 +1,5 @@
 -- Worlds stay as they are when an archive changes behind what they use.
-use Rattle.std.proofs.Common.{◌≡◌, ◌∙◌, ◌≤◌, ◌<◌, ◌+◌, ℕ, Bool, true, false, List, [], ◌∷◌, ◌++◌, refl, sym, ap, subst, length, map, take, arith, length-append, length-take-le}
+use Rattle.std.proofs.Common.{◌≡◌, ◌∙◌, ◌≤◌, ◌<◌, ◌+◌, ℕ, false, List, [], ◌∷◌, ◌++◌, refl, sym, ap, subst, length, map, take, arith, length-append, length-take-le}
 use Rattle.std.specs.Prelude.{Option, slice_get, slice_index_or}
 use Rattle.std.specs.List.{AllByRecursion}
 use Rattle.std.specs.Str.{bytes_eq}

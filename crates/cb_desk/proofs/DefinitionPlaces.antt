@@ -1,5 +1,5 @@
 -- The places of the definitions of a name are those of its tags.
-use Rattle.std.proofs.Common.{◌≡◌, ◌∙◌, sym, ap, refl, ℕ, zero, suc, ◌-◌, ◌<◌, Bool, true, false, cond, List, [], ◌∷◌, ◌++◌, map, filter, Option, Some, None, arith}
+use Rattle.std.proofs.Common.{◌≡◌, ◌∙◌, ap, refl, ℕ, zero, suc, ◌-◌, ◌<◌, true, false, cond, List, [], ◌∷◌, ◌++◌, map, filter, Option, arith}
 use Rattle.std.specs.Prelude.{slice_get}
 use Rattle.std.specs.List.{flat_map}
 use Rattle.std.specs.Option.{option_map}
@@ -11,7 +11,7 @@ use Rattle.cb_tags.specs.TagLines.{Tag}
 use Rattle.cb_index.specs.Rows.{file_tags_named, tag_in, tags_named}
 use Rattle.cb_desk.specs.Answer.{defines, name_of}
 use Rattle.cb_desk.specs.Places.{nth}
-use Rattle.cb_desk.specs.Stack.{places, places_in}
+use Rattle.cb_desk.specs.Stack.{places}
 use Rattle.cb_desk.specs.World.{File, Place}
 use Rattle.cb_desk.proofs.BytesEqual.{bytes-turned}
 

@@ -4,7 +4,7 @@ use Rattle.std.proofs.Math.Seq.{take-append_seam, drop-append_seam, take-length}
 use Rattle.std.proofs.lemmas.List.{drop_all}
 use Rattle.cb_desk.specs.declared.edits.Edit.{Edit}
 use Rattle.cb_desk.specs.declared.spot.NumberedPlace.{NumberedPlace}
-use Rattle.cb_desk.specs.steps.Edits.{Begins, IsDifference, edited, turned_edit, turned_edits}
+use Rattle.cb_desk.specs.steps.Edits.{Begins, IsDifference, edited, turned_edits}
 
 -- edits after so many more places that stay
 abbrev pub raised : ℕ → List Edit → List Edit

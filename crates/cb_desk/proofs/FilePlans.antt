@@ -1,14 +1,14 @@
 -- Plans that change the files.
-use Rattle.std.proofs.Common.{◌≡◌, ◌∙◌, ◌≤◌, ◌<◌, ◌+◌, ℕ, Bool, true, false, List, [], ◌∷◌, ◌++◌, refl, sym, ap, subst, length, map, take, filter, not, cond, arith, append-nil, length-append, length-take-le, Option, Some, None}
+use Rattle.std.proofs.Common.{◌≡◌, ◌∙◌, ◌≤◌, ◌<◌, ◌+◌, ℕ, Bool, true, false, List, [], ◌∷◌, ◌++◌, refl, sym, ap, subst, length, map, take, not, cond, arith, append-nil, length-append, length-take-le, Option, None}
 use Rattle.std.proofs.Math.Seq.{get_or-append_seam}
-use Rattle.std.specs.Prelude.{nat_eq, slice_get, slice_index_or, ◌||◌}
+use Rattle.std.specs.Prelude.{nat_eq, slice_index_or, ◌||◌}
 use Rattle.std.specs.List.{AllByRecursion}
 use Rattle.std.specs.Str.{bytes_eq}
 use Rattle.cb_scan.specs.Order.{in_order}
 use Rattle.cb_scan.proofs.FactsWithin.{all_in_order}
 use Rattle.cb_scan.proofs.FunctionsRise.{all_implied}
 use Rattle.cb_index.specs.Archived.{Archived, name_of}
-use Rattle.cb_index.specs.Files.{AreAscending, file_of, files_of, shown_name}
+use Rattle.cb_index.specs.Files.{AreAscending, files_of, shown_name}
 use Rattle.cb_index.specs.Names.{is_among, names_of}
 use Rattle.cb_index.specs.declared.entry.Shown.{Shown}
 use Rattle.cb_index.proofs.InOrderLemmas.{map_in_order}
@@ -16,15 +16,15 @@ use Rattle.cb_index.proofs.AscendLemmas.{ascending_sorted}
 use Rattle.cb_index.proofs.ListedLemmas.{ascending_apart, ascending_in_order, other_turned}
 use Rattle.cb_desk.specs.declared.edits.Edit.{Edit}
 use Rattle.cb_desk.specs.declared.spot.NumberedPlace.{NumberedPlace}
-use Rattle.cb_desk.specs.Files.{loaded, reloaded, renamed, unloaded, with_file, without_file}
+use Rattle.cb_desk.specs.Files.{loaded, reloaded, renamed, unloaded, with_file}
 use Rattle.cb_desk.specs.Places.{is_in, renamed_place, renamed_places, without_places}
-use Rattle.cb_desk.specs.World.{File, Place, World, has_file, place_key}
+use Rattle.cb_desk.specs.World.{File, Place, has_file, place_key}
 use Rattle.cb_desk.specs.steps.Edits.{IsDifference, edited, turned_edits}
 use Rattle.cb_desk.specs.steps.Plans.{IsAmong, IsPlan, Keeps, LeadsTo, Planned, is_of, key_then, name_then, places_without, renumbered}
-use Rattle.cb_desk.specs.steps.Records.{AreThere, IsFew, IsTurn, Kept, Numbered, Turn, other, other_wanted, place_in, without, world_in}
+use Rattle.cb_desk.specs.steps.Records.{IsFew, Kept, other, other_wanted, place_in, without, world_in}
 use Rattle.cb_desk.specs.steps.Walks.{IsKept, shows_name, shows_version}
 use Rattle.cb_desk.proofs.AllUsed.{any_shown, none_new, only_new}
-use Rattle.cb_desk.proofs.ArchiveMoves.{Agree, agree_kept, apart_same, below_places, below_shown, files_same, order_same, places_same}
+use Rattle.cb_desk.proofs.ArchiveMoves.{Agree, agree_kept, apart_same, below_shown, files_same, order_same, places_same}
 use Rattle.cb_desk.proofs.PlacePlans.{settled, without_none}
 use Rattle.cb_desk.proofs.Placed.{map-filter}
 use Rattle.cb_desk.proofs.ShownMoves.{Hides, IsOther, Shows, all_among, file_put, files_without, hides_none, hides_one, number_below, number_itself, order_more, others, shows_none, shows_one, text_shown}

@@ -1,21 +1,19 @@
 -- Files with a text replaced on their marked lines, in the numbers of an archive and in a world.
-use Rattle.std.proofs.Common.{◌≡◌, ◌∙◌, ◌≤◌, ◌+◌, ◌==◌, refl, sym, ap, ℕ, suc, Bool, true, false, List, [], ◌∷◌, ◌++◌, length, map, filter, not, ◌||◌, cond, arith, append_assoc, Option, None, Some}
+use Rattle.std.proofs.Common.{◌≡◌, ◌∙◌, ◌+◌, ◌==◌, refl, sym, ap, ℕ, suc, true, false, List, [], ◌∷◌, ◌++◌, length, map, filter, not, ◌||◌, cond, arith, Some}
 use Rattle.std.proofs.lemmas.Bool.{true≢false}
-use Rattle.std.proofs.lemmas.List.{map-append}
-use Rattle.std.specs.List.{AllByRecursion, flat_map, list_any}
+use Rattle.std.specs.List.{flat_map, list_any}
 use Rattle.bstr.specs.Text.{lines_of}
-use Rattle.cb_scan.specs.Lines.{lines}
 use Rattle.cb_index.specs.Archived.{Archived}
 use Rattle.cb_index.specs.Files.{file_of, files_of}
 use Rattle.cb_index.specs.declared.entry.Shown.{Shown}
 use Rattle.cb_desk.specs.declared.spot.NumberedPlace.{NumberedPlace}
-use Rattle.cb_desk.specs.Desk.{bytes_in, is_marked, new_texts}
-use Rattle.cb_desk.specs.Marks.{is_too_large, marked_lines, replaced_file, replaced_files}
+use Rattle.cb_desk.specs.Desk.{is_marked, new_texts}
+use Rattle.cb_desk.specs.Marks.{marked_lines, replaced_file, replaced_files}
 use Rattle.cb_desk.specs.Places.{is_in}
 use Rattle.cb_desk.specs.Replacement.{marked_from, replaced_if_marked, replaced_text}
 use Rattle.cb_desk.specs.World.{File, Place}
 use Rattle.cb_desk.specs.steps.Records.{Numbered, world_in}
-use Rattle.cb_desk.specs.steps.Replaced.{file_then, files_changed, files_then, has_mark, line_counts, places_in, texts_of}
+use Rattle.cb_desk.specs.steps.Replaced.{file_then, files_changed, files_then, has_mark, places_in}
 use Rattle.cb_desk.proofs.MarkedLines.{bytes-of, first-part}
 
 -- ---- files without a mark
@@ -68,26 +66,8 @@ module _ (a : Archived) (marks : List NumberedPlace) (old new : List ℕ) where
         | false ↦ changed_replaced ss
       ]
 
-  -- the first file, and those after it
-  pub changed_first : (s : Shown) (ss : List Shown)
-      → files_changed a marks old new (s ∷ ss) ≡ files_changed a marks old new (s ∷ []) ++ files_changed a marks old new ss
-  changed_first s ss =
-      elim (has_mark a marks s) as (λ b. map (file_then a marks old new) (cond b (s ∷ filter (has_mark a marks) ss) (filter (has_mark a marks) ss))
-      ≡ map (file_then a marks old new) (cond b (s ∷ []) []) ++ files_changed a marks old new ss) [ true ↦ refl | false ↦ refl ]
-
-  -- a file with a mark, and one without
-  pub changed_one : (s : Shown) → has_mark a marks s ≡ true → files_changed a marks old new (s ∷ []) ≡ file_then a marks old new s ∷ []
-  changed_one s has = ap (λ b. map (file_then a marks old new) (cond b (s ∷ []) [])) has
-
-  pub changed_none : (s : Shown) → has_mark a marks s ≡ false → files_changed a marks old new (s ∷ []) ≡ []
-  changed_none s hasnt = ap (λ b. map (file_then a marks old new) (cond b (s ∷ []) [])) hasnt
-
   pub unmarked_then : (s : Shown) → has_mark a marks s ≡ false → file_then a marks old new s ≡ file_of a s
   unmarked_then s hasnt = unmarked_file old new (places_in a marks) (file_of a s) hasnt
-
-pub bytes_append : (fs gs : List File) → bytes_in (fs ++ gs) ≡ bytes_in fs + bytes_in gs
-bytes_append [] gs = omega arith
-bytes_append (f ∷ fs) gs = omega (arith, bytes_append fs gs)
 
 -- the files of a world in numbers
 pub world_replaced : (a : Archived) (w : Numbered) (old new : List ℕ)

@@ -1,7 +1,6 @@
 -- Rows that are equal to none before.
-use Rattle.std.proofs.Common.{◌≡◌, ◌∙◌, sym, ap, refl, subst, ℕ, zero, suc, ◌+◌, ◌≤◌, ◌<◌, Bool, true, false, not, ◌&&◌, ◌||◌, cond, List, [], ◌∷◌, ◌++◌, filter, length, take, drop, arith}
-use Rattle.std.specs.List.{AllByRecursion, list_any}
-use Rattle.std.proofs.lemmas.Bool.{false≢true}
+use Rattle.std.proofs.Common.{◌≡◌, ◌∙◌, sym, ap, refl, ◌+◌, ◌≤◌, Bool, true, false, not, ◌&&◌, ◌||◌, cond, List, [], ◌∷◌, ◌++◌, filter, length, arith}
+use Rattle.std.specs.List.{list_any}
 use Rattle.cb_desk.specs.Answer.{AnswerRow, row_eq, distinct}
 use Rattle.cb_desk.specs.steps.LookBack.{fresh}
 use Rattle.cb_desk.proofs.EqualRows.{row_same, row_itself}

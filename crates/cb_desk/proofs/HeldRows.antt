@@ -1,11 +1,11 @@
 -- The places that the answer to field 4 shows are those of the lines that hold the text.
-use Rattle.std.proofs.Common.{◌≡◌, ◌∙◌, sym, ap, refl, ℕ, List, [], ◌∷◌, ◌++◌, map, Option, Some, None}
+use Rattle.std.proofs.Common.{◌≡◌, ◌∙◌, ap, refl, ℕ, List, [], ◌∷◌, ◌++◌, map, Some}
 use Rattle.std.specs.List.{flat_map}
 use Rattle.cb_desk.specs.declared.rows.Field.TheVariants.{Text}
-use Rattle.cb_desk.specs.Answer.{AnswerRow, answer, text_rows_in, line_row, distinct}
+use Rattle.cb_desk.specs.Answer.{answer, text_rows_in, line_row}
 use Rattle.cb_desk.specs.Marks.{place_of_row, places_of_text, wanted_places}
 use Rattle.cb_desk.specs.Search.{lines_with}
-use Rattle.cb_desk.specs.World.{World, File, Place, IsAscending}
+use Rattle.cb_desk.specs.World.{World, File, IsAscending}
 use Rattle.cb_desk.specs.steps.Held.{held_in, held_places}
 use Rattle.cb_desk.proofs.TextRowsApart.{text_rows-distinct}
 

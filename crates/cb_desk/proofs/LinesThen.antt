@@ -1,5 +1,5 @@
 -- How many lines the file of a name has once a text is replaced.
-use Rattle.std.proofs.Common.{◌≡◌, ◌∙◌, ◌≤◌, ◌<◌, sym, ap, refl, subst, ℕ, Bool, true, false, cond, List, [], ◌∷◌, map, length, get_or, arith, Option, Some, None, bytes_eq}
+use Rattle.std.proofs.Common.{◌≡◌, ◌∙◌, ◌<◌, sym, ap, subst, ℕ, true, false, cond, List, [], length, get_or, arith, Some, None, bytes_eq}
 use Rattle.std.proofs.lemmas.List.{get_or-map, length-map}
 use Rattle.std.specs.List.{AllWithin}
 use Rattle.bstr.specs.Text.{lines_of, without_terminator}

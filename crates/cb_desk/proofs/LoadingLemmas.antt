@@ -1,7 +1,7 @@
 -- Files that are loaded before they are shown.
-use Rattle.std.proofs.Common.{◌≡◌, ◌∙◌, ◌≤◌, ◌<◌, ◌+◌, ℕ, Bool, true, false, List, [], ◌∷◌, ◌++◌, None, Ok, refl, sym, ap, subst, length, take, get_or, slice_set, arith, append-nil, length-append, Option}
+use Rattle.std.proofs.Common.{◌≡◌, ◌∙◌, ◌≤◌, ◌<◌, ◌+◌, ℕ, Bool, true, false, List, [], ◌∷◌, ◌++◌, None, Ok, refl, sym, ap, subst, length, take, get_or, slice_set, arith, length-append, Option}
 use Rattle.std.proofs.Math.Seq.{take-length, get_or-append_seam, set-append_seam}
-use Rattle.std.specs.Prelude.{cond, nat_le, not, slice_get, Some, Result, Err, IsErr, MatchResult}
+use Rattle.std.specs.Prelude.{cond, nat_le, not, Some, Result, Err, IsErr, MatchResult}
 use Rattle.std.specs.declared.alloc.AllocError.{AllocError}
 use Rattle.std.proofs.lemmas.Bool.{true≢false}
 use Rattle.std.specs.List.{AllByRecursion, list_any}
@@ -22,11 +22,11 @@ use Rattle.cb_desk.specs.declared.limits.TheConstants.{MOST_CHANGES}
 use Rattle.cb_desk.specs.declared.refusal.Refusal.{Refusal}
 use Rattle.cb_desk.specs.declared.refusal.Refusal.TheVariants.{BadName, FileExists}
 use Rattle.cb_desk.specs.Files.{load_refusal, loaded}
-use Rattle.cb_desk.specs.Timeline.{Timeline, moved_on, new_timeline, redone}
+use Rattle.cb_desk.specs.Timeline.{moved_on, new_timeline, redone}
 use Rattle.cb_desk.specs.World.{IsValidWorld, World, has_file}
 use Rattle.cb_desk.specs.steps.Loading.{AreLoaded, HasRoomToShow, just_room, loaded_numbers, loads_recorded}
 use Rattle.cb_desk.specs.steps.Plans.{HasRoomFor, IsPlan, Keeps, LeadsTo, Planned}
-use Rattle.cb_desk.specs.steps.Records.{AreThere, KeepsRooms, Kept, Numbered, Rooms, Turn, no_numbers, other, turned, without, world_in}
+use Rattle.cb_desk.specs.steps.Records.{AreThere, KeepsRooms, Kept, Rooms, Turn, no_numbers, other, turned, world_in}
 use Rattle.cb_desk.specs.steps.Room.{texts_with, with_texts}
 use Rattle.cb_desk.specs.steps.Walks.{IsRecorded, Recorded, timeline_in, turns_back}
 use Rattle.cb_desk.proofs.ArchiveMoves.{same_recorded, same_timeline}

@@ -1,5 +1,5 @@
 -- A row is equal to one before it if it is equal to one of its group.
-use Rattle.std.proofs.Common.{◌≡◌, ◌≢◌, ◌∙◌, sym, ap, refl, subst, ℕ, zero, suc, ◌+◌, ◌-◌, ◌≤◌, ◌<◌, Bool, true, false, not, ◌||◌, ◌&&◌, bytes_eq, List, [], ◌∷◌, ◌++◌, length, length-append, length-drop, take, drop, add-one, arith, Ordering, Less, Equal, Greater, nat_cmp}
+use Rattle.std.proofs.Common.{◌≡◌, ◌≢◌, ◌∙◌, sym, ap, refl, subst, ℕ, zero, suc, ◌+◌, ◌-◌, ◌≤◌, ◌<◌, true, false, ◌||◌, ◌&&◌, bytes_eq, List, [], ◌∷◌, ◌++◌, length, length-drop, take, drop, add-one, arith, Ordering, Less, Equal, Greater, nat_cmp}
 use Rattle.std.specs.Cmp.Lexicographic.{slice_cmp}
 use Rattle.std.specs.List.{AllByRecursion, list_any}
 use Rattle.std.specs.Ordering.{is_gt, ordering_reverse}
@@ -10,7 +10,7 @@ use Rattle.std.proofs.lemmas.Cmp.{nat_list_cmp_total, tied_itself}
 use Rattle.std.proofs.lemmas.List.{drop-take}
 use Rattle.cb_scan.proofs.KeyOrder.{same_bytes}
 use Rattle.cb_desk.specs.Answer.{AnswerRow, row_eq}
-use Rattle.cb_desk.specs.steps.LookBack.{HaveLineTexts, IsGrouped, IsTextedLike, alike, row_key}
+use Rattle.cb_desk.specs.steps.LookBack.{IsGrouped, IsTextedLike, alike, row_key}
 use Rattle.cb_desk.proofs.EqualRows.{and-left, and-right, row_same}
 use Rattle.cb_desk.proofs.TextRowsApart.{not-below}
 use Rattle.cb_desk.proofs.Valid.{all-along, all-join}

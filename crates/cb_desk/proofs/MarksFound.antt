@@ -1,5 +1,5 @@
 -- The marks of one file among marks that ascend by file and line.
-use Rattle.std.proofs.Common.{◌≡◌, ◌≢◌, ◌∙◌, ◌≤◌, ◌<◌, ◌+◌, sym, ap, refl, subst, ℕ, zero, suc, Bool, true, false, not, cond, List, [], ◌∷◌, map, filter, take, drop, length, get_or, arith, nat_cmp, is_eq, is_lt, Ordering, Less, Equal, Greater, bytes_eq}
+use Rattle.std.proofs.Common.{◌≡◌, ◌≢◌, ◌∙◌, ◌≤◌, ◌<◌, ◌+◌, sym, ap, refl, subst, ℕ, zero, suc, Bool, true, false, cond, List, [], ◌∷◌, map, filter, take, drop, length, get_or, arith, nat_cmp, is_eq, is_lt, Ordering, Less, Equal, Greater, bytes_eq}
 use Rattle.std.proofs.lemmas.Cmp.{nat_list_cmp_total}
 use Rattle.std.proofs.lemmas.List.Kept.{IsStrictlySortedBy-filter}
 use Rattle.std.proofs.lemmas.Map.Text.{is_eq-slice_cmp}

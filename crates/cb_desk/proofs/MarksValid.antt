@@ -1,17 +1,15 @@
 -- The marks stay valid by every change.
-use Rattle.std.proofs.Common.{◌≡◌, ◌≢◌, ◌∙◌, sym, ap, refl, subst, ℕ, zero, suc, ◌+◌, ◌<◌, ◌≤◌, Bool, true, false, not, ◌||◌, ◌&&◌, ◌==◌, nat_le, nat_lt, cond, List, [], ◌∷◌, ◌++◌, filter, map, length, Option, Some, None, arith, IsTrue, nat_cmp, Ordering, Less, Equal, Greater, bytes_eq}
-use Rattle.std.specs.List.{AllByRecursion, flat_map, list_any, range_with_len}
+use Rattle.std.proofs.Common.{◌≡◌, ◌≢◌, ◌∙◌, sym, ap, refl, subst, ℕ, zero, suc, ◌+◌, ◌<◌, ◌≤◌, true, false, not, ◌||◌, cond, List, [], ◌∷◌, ◌++◌, filter, map, length, Option, Some, None, arith, IsTrue, nat_cmp, Less, bytes_eq}
+use Rattle.std.specs.List.{AllByRecursion, list_any, range_with_len}
 use Rattle.std.specs.List.Sorted.{IsStrictlySortedBy}
 use Rattle.std.specs.Cmp.Lexicographic.{slice_cmp}
-use Rattle.std.specs.Ordering.{ordering_then}
 use Rattle.std.proofs.lemmas.List.{length-map}
 use Rattle.std.proofs.lemmas.List.Kept.{IsStrictlySortedBy-filter}
 use Rattle.std.proofs.lemmas.Slice.Eq.{bytes_eq-Decides}
-use Rattle.std.proofs.lemmas.Cmp.{nat_list_cmp_total}
 use Rattle.cb_scan.specs.Lines.{IsLineOf, lines, line_text}
 use Rattle.cb_scan.specs.Order.{put, in_order}
 use Rattle.cb_tags.specs.Names.{is_file_name}
-use Rattle.cb_desk.specs.declared.limits.TheConstants.{MOST_BYTES, MOST_FILES}
+use Rattle.cb_desk.specs.declared.limits.TheConstants.{MOST_BYTES}
 use Rattle.cb_desk.specs.Files.{with_file, without_file}
 use Rattle.cb_desk.specs.Marks.{toggled, replaced_file, is_too_large}
 use Rattle.cb_desk.specs.Places.{is_in, same_place, is_place_of, without_places, renamed_place, renamed_places}
@@ -21,7 +19,7 @@ use Rattle.cb_desk.specs.steps.Held.{held_in, held_places}
 use Rattle.cb_desk.specs.steps.Named.{file_named}
 use Rattle.cb_desk.proofs.Placed.{by_name}
 use Rattle.cb_desk.proofs.PlaceLemmas.{IsAt, place-there, places-with, places-without, places-renamed, moved, same-name, own-texts}
-use Rattle.cb_desk.proofs.PlaceOrder.{Apart, Strict, all-put, all-in_order, in_order-strict, put-strict, apart-from, cmp-places, one-place, nat-less, name-equal}
+use Rattle.cb_desk.proofs.PlaceOrder.{Apart, all-put, all-in_order, in_order-strict, put-strict, apart-from, cmp-places, one-place, nat-less, name-equal}
 use Rattle.cb_desk.proofs.Valid.{all-filter, all-join, all-along, all-both, all-passed}
 
 lies : (wanted text : List ℕ) (n : ℕ) → IsMarkIn wanted text n → IsLineOf text n

@@ -6,7 +6,7 @@ use Rattle.cb_desk.specs.declared.refusal.Refusal.{Refusal}
 use Rattle.cb_desk.specs.declared.refusal.Refusal.TheVariants.{HistoryFull, OutOfMemory}
 use Rattle.cb_desk.specs.World.{World, IsValidWorld}
 use Rattle.cb_desk.specs.Step.{Step, refusal_of, after, step}
-use Rattle.cb_desk.specs.Timeline.{Timeline, IsValidTimeline, moved_on, advanced, changed, back_to, undone, on_to, redone, judged, Changes, Moves}
+use Rattle.cb_desk.specs.Timeline.{Timeline, IsValidTimeline, moved_on, advanced, changed, back_to, undone, on_to, redone, Changes, Moves}
 use Rattle.cb_desk.specs.Laws.{UndoTakesBack, RedoTakesBack}
 use Rattle.cb_desk.proofs.StepsValid.{step_keeps_valid}
 

@@ -1,11 +1,11 @@
 -- Plans that leave the files as they are.
-use Rattle.std.proofs.Common.{◌≡◌, ◌∙◌, ◌≤◌, ◌<◌, ◌+◌, ◌-◌, ℕ, zero, suc, Bool, true, false, List, [], ◌∷◌, ◌++◌, refl, sym, ap, subst, length, map, take, drop, filter, not, arith, append-nil, length-append, length-take-le, take-append-drop}
+use Rattle.std.proofs.Common.{◌≡◌, ◌∙◌, ◌≤◌, ◌<◌, ◌+◌, ◌-◌, ℕ, zero, suc, true, false, List, [], ◌∷◌, ◌++◌, refl, sym, ap, subst, length, map, take, drop, arith, append-nil, length-append, length-take-le, take-append-drop}
 use Rattle.std.specs.Prelude.{Option, None, Result, Ok, Err, IfOk, cond}
 use Rattle.std.specs.List.{AllByRecursion}
 use Rattle.cb_scan.specs.Order.{AreOrdered, goes_first, in_order, put}
 use Rattle.cb_scan.proofs.OrderLemmas.{Sorted}
 use Rattle.cb_index.specs.Archived.{Archived}
-use Rattle.cb_index.specs.Files.{AreAscending, AreApart, call_count, def_count, files_of, shown_name, total, use_count}
+use Rattle.cb_index.specs.Files.{AreAscending, AreApart, files_of, shown_name}
 use Rattle.cb_index.specs.declared.entry.Shown.{Shown}
 use Rattle.cb_index.proofs.AscendLemmas.{ascending_sorted}
 use Rattle.cb_index.proofs.ListedLemmas.{ascending_apart}
@@ -16,12 +16,11 @@ use Rattle.cb_desk.specs.Stack.{popped}
 use Rattle.cb_desk.specs.World.{World}
 use Rattle.cb_desk.specs.steps.Edits.{IsDifference, edited, turned_edits}
 use Rattle.cb_desk.specs.steps.Plans.{AreEdits, IsPlan, Keeps, LeadsTo, Planned, with_places}
-use Rattle.cb_desk.specs.steps.Records.{AreThere, Fits, IsTurn, Kept, KeepsRooms, Numbered, Turn, other, other_wanted, place_in, without, world_in}
+use Rattle.cb_desk.specs.steps.Records.{Kept, Numbered, Turn, other, other_wanted, place_in, without, world_in}
 use Rattle.cb_desk.specs.steps.Walks.{IsKept, shows_name, shows_version}
 use Rattle.cb_desk.proofs.AllUsed.{none_new}
 use Rattle.cb_desk.proofs.TurnLemmas.{few_small}
-use Rattle.cb_desk.proofs.WalkLemmas.{kept_more}
-use Rattle.cb_desk.proofs.ArchiveMoves.{Agree, agree_kept, apart_same, below_places, below_shown, files_same, order_same, places_same, total_same}
+use Rattle.cb_desk.proofs.ArchiveMoves.{Agree, agree_kept, apart_same, below_shown, files_same, order_same, places_same}
 
 -- ---- the length of an edited list
 pub edited_length : (es : List Edit) (ps : List NumberedPlace) → length (edited es ps) ≤ length ps + length es

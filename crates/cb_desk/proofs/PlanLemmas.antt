@@ -1,7 +1,6 @@
 -- A plan makes its world the only one to come.
 use Rattle.std.proofs.Common.{◌≡◌, ◌∙◌, ◌≤◌, ◌<◌, ◌+◌, ℕ, true, false, List, [], ◌∷◌, ◌++◌, refl, sym, ap, subst, length, take, drop, reverse, arith, length-append, length-take-le}
 use Rattle.std.proofs.Math.Seq.{take-append_seam, drop-append_seam}
-use Rattle.cb_index.specs.Archived.{Archived}
 use Rattle.cb_desk.specs.declared.limits.TheConstants.{MOST_CHANGES}
 use Rattle.std.proofs.lemmas.Bool.{true≢false}
 use Rattle.std.specs.Prelude.{Result, Ok, Err, IsErr, MatchResult, is_err}
@@ -10,10 +9,10 @@ use Rattle.cb_desk.specs.declared.refusal.Refusal.{Refusal}
 use Rattle.cb_desk.specs.Timeline.{Timeline, IsValidTimeline, Moves, moved_on, redone}
 use Rattle.cb_desk.specs.World.{World, IsValidWorld}
 use Rattle.cb_desk.specs.steps.Plans.{HasRoomFor, IsPlan, Keeps, LeadsTo, Planned}
-use Rattle.cb_desk.specs.steps.Records.{AreThere, Fits, IsTurn, Kept, KeepsRooms, Numbered, Turn, other, world_in}
-use Rattle.cb_desk.specs.steps.Walks.{IsKept, IsNext, IsRecorded, LeadsBack, LeadsOn, Recorded, UsesAll, timeline_in, turns_back, turns_on, walk, worlds_in}
+use Rattle.cb_desk.specs.steps.Records.{AreThere, Fits, IsTurn, Kept, KeepsRooms, Turn, other, world_in}
+use Rattle.cb_desk.specs.steps.Walks.{IsKept, IsNext, IsRecorded, LeadsBack, LeadsOn, Recorded, UsesAll, timeline_in, turns_back, turns_on}
 use Rattle.cb_desk.proofs.AllUsed.{all_used}
-use Rattle.cb_desk.proofs.ArchiveMoves.{Agree, agree_kept, back_same, kept_same, walk_same, world_same}
+use Rattle.cb_desk.proofs.ArchiveMoves.{Agree, agree_kept, back_same, walk_same, world_same}
 use Rattle.cb_desk.proofs.WalkLemmas.{back_more, kept_back, kept_more, line}
 
 module _ (k l : Kept) (records : List Turn) (done : ℕ) (p : Planned) (within : done ≤ length records)

@@ -1,5 +1,5 @@
 -- The plan of a replacement.
-use Rattle.std.proofs.Common.{◌≡◌, ◌∙◌, ◌≤◌, ◌<◌, ◌+◌, ℕ, Bool, true, false, List, [], ◌∷◌, ◌++◌, refl, sym, ap, subst, length, map, take, filter, cond, arith, append_assoc, length-append, length-take-le, Option, Some, None, ⊎_elim}
+use Rattle.std.proofs.Common.{◌≡◌, ◌∙◌, ◌≤◌, ◌<◌, ◌+◌, ℕ, Bool, true, false, List, [], ◌∷◌, ◌++◌, refl, sym, ap, subst, length, map, take, filter, cond, arith, append_assoc, length-append, length-take-le, Some, None, ⊎_elim}
 use Rattle.std.proofs.Math.Bool.{or-true}
 use Rattle.std.proofs.lemmas.Bool.{cases_lt}
 use Rattle.std.proofs.lemmas.Bool.Decides.{nat_tests}
@@ -22,12 +22,12 @@ use Rattle.cb_desk.specs.Places.{is_place_of}
 use Rattle.cb_desk.specs.World.{File}
 use Rattle.cb_desk.specs.steps.Edits.{IsDifference}
 use Rattle.cb_desk.specs.steps.Plans.{IsPlan, Keeps, LeadsTo, Planned}
-use Rattle.cb_desk.specs.steps.Records.{IsFew, Kept, Turn, place_in, without, world_in}
+use Rattle.cb_desk.specs.steps.Records.{IsFew, Kept, place_in, without, world_in}
 use Rattle.cb_desk.specs.steps.Replaced.{file_then, files_changed, files_then, has_mark, new_of, old_of, remaining, renewals, texts_of}
 use Rattle.cb_desk.specs.steps.Walks.{IsKept, shows_name, shows_version}
 use Rattle.cb_desk.proofs.AllUsed.{none_new}
 use Rattle.cb_desk.proofs.ArchiveMoves.{Agree, Below, world_same}
-use Rattle.cb_desk.proofs.FilePlans.{Places, agree, all_below, file_leads, same_places, up}
+use Rattle.cb_desk.proofs.FilePlans.{agree, all_below, file_leads, same_places, up}
 use Rattle.cb_desk.proofs.FilesReplaced.{unmarked_then, world_replaced}
 use Rattle.cb_desk.proofs.Placed.{list_any-map, map-filter}
 use Rattle.cb_desk.proofs.ShownRenewed.{hides_renewed, renewed, shown_then, shows_renewed}

@@ -1,11 +1,11 @@
 -- A timeline and the changes that survive move together.
-use Rattle.std.proofs.Common.{◌≡◌, ◌∙◌, sym, ap, refl, ℕ, suc, Bool, true, false, cond, List, [], ◌∷◌, length, Result, Ok, Err, nat_le}
+use Rattle.std.proofs.Common.{◌≡◌, ◌∙◌, sym, ap, refl, suc, true, false, cond, List, [], ◌∷◌, length, Result, Ok, Err, nat_le}
 use Rattle.cb_desk.specs.declared.limits.TheConstants.{MOST_CHANGES}
 use Rattle.cb_desk.specs.declared.refusal.Refusal.{Refusal}
 use Rattle.cb_desk.specs.declared.refusal.Refusal.TheVariants.{HistoryFull}
 use Rattle.cb_desk.specs.Step.{Step, step}
 use Rattle.cb_desk.specs.Survivors.{Kept, Move, TimelineIsReplayed, change, joined, kept_after, kept_by, moved_after, moved_by, none_kept, or_before, or_stays, redo, replay, timeline_of, undo, worlds_after, worlds_before}
-use Rattle.cb_desk.specs.Timeline.{Timeline, advanced, changed, judged, moved_on, new_timeline, redone, undone}
+use Rattle.cb_desk.specs.Timeline.{Timeline, advanced, changed, judged, moved_on, redone, undone}
 use Rattle.cb_desk.specs.World.{World}
 
 worlds-counted : (ss : List Step) → length (worlds_before ss) ≡ length ss

@@ -1,6 +1,6 @@
 -- There is room for the world that a plan leads to.
 use Rattle.std.proofs.Common.{◌≡◌, ◌∙◌, ◌≤◌, ◌<◌, ◌+◌, ℕ, take, List, [], ◌∷◌, ◌++◌, refl, length, filter, not, cond, arith, true, false, length-append, Bool}
-use Rattle.std.specs.Prelude.{Err, Ok, OnOk, Option, Result, slice_get}
+use Rattle.std.specs.Prelude.{Err, Ok, OnOk, Option, Result}
 use Rattle.cb_scan.proofs.FunctionsRise.{all_implied}
 use Rattle.cb_index.specs.Archived.{Archived}
 use Rattle.cb_index.specs.Files.{call_count, def_count, shown_name, total, use_count}

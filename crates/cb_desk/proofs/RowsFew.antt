@@ -1,13 +1,13 @@
 -- How many rows a question can have.
-use Rattle.std.proofs.Common.{◌≡◌, ◌∙◌, ap, subst, ℕ, suc, ◌+◌, ◌*◌, ◌≤◌, ◌<◌, ◌^◌, Bool, true, false, cond, List, [], ◌∷◌, map, filter, length, length-append, arith, suc-mul}
-use Rattle.std.specs.List.{AllByRecursion, flat_map}
+use Rattle.std.proofs.Common.{ℕ, ◌*◌, ◌≤◌, ◌<◌, ◌^◌, true, false, cond, List, [], ◌∷◌, map, filter, length, arith}
+use Rattle.std.specs.List.{flat_map}
 use Rattle.std.proofs.lemmas.List.{length-map}
 use Rattle.cb_scan.specs.Definitions.{facts_of}
 use Rattle.cb_desk.specs.declared.found.Found.{Found}
-use Rattle.cb_desk.specs.declared.limits.TheConstants.{MOST_BYTES, MOST_FILES}
+use Rattle.cb_desk.specs.declared.limits.TheConstants.{MOST_BYTES}
 use Rattle.cb_desk.specs.declared.rows.Field.{Field}
 use Rattle.cb_desk.specs.declared.rows.Field.TheVariants.{Symbol, Called, Calling, File as FileName, Including}
-use Rattle.cb_desk.specs.Answer.{AnswerRow, bytes_of, field_rows, file_row, file_rows, found_in, found_called, found_calling, found_include, found_use, found_row, found_rows, is_asked}
+use Rattle.cb_desk.specs.Answer.{bytes_of, field_rows, file_row, found_called, found_calling, found_include, found_use, found_row, found_rows, is_asked}
 use Rattle.cb_desk.specs.Search.{holds}
 use Rattle.cb_desk.specs.World.{File, AreValidFiles}
 use Rattle.cb_scan.proofs.FactsFew.{calls-few, flat-few, includes-few, uses-few}

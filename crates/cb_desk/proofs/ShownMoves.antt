@@ -1,5 +1,5 @@
 -- A file is hidden, or another one is shown.
-use Rattle.std.proofs.Common.{◌≡◌, ◌∙◌, ◌≤◌, ◌<◌, ◌+◌, ℕ, zero, suc, Bool, true, false, List, [], ◌∷◌, ◌++◌, refl, sym, ap, subst, length, map, filter, not, ◌||◌, cond, arith, append-nil, Option, Some, ⊎_elim}
+use Rattle.std.proofs.Common.{◌≡◌, ◌∙◌, ◌<◌, ◌+◌, ℕ, zero, suc, Bool, true, false, List, [], ◌∷◌, ◌++◌, refl, sym, ap, subst, filter, not, ◌||◌, cond, arith, append-nil, Some, ⊎_elim}
 use Rattle.std.proofs.lemmas.Bool.{cases_Bool, true≢false}
 use Rattle.std.proofs.lemmas.Bool.Decides.{nat_tests}
 use Rattle.std.proofs.lemmas.Cmp.{nat_list_cmp_total}
@@ -7,14 +7,14 @@ use Rattle.std.proofs.lemmas.List.Sums.{sum_by-append, sum_by-cons}
 use Rattle.std.proofs.lemmas.Slice.Eq.{bytes_eq-Decides}
 use Rattle.std.specs.Prelude.{nat_eq, slice_get, slice_index_or, sum_by}
 use Rattle.std.specs.Cmp.Lexicographic.{slice_cmp}
-use Rattle.std.specs.List.{AllByRecursion, list_any}
+use Rattle.std.specs.List.{AllByRecursion}
 use Rattle.std.specs.List.Sorted.{IsStrictlyIncreasing}
 use Rattle.std.specs.Ordering.{is_gt, is_lt, nat_cmp, ordering_reverse}
 use Rattle.std.specs.Str.{bytes_eq}
 use Rattle.std.specs.declared.cmp.Ordering.{Ordering}
 use Rattle.std.specs.declared.cmp.Ordering.TheVariants.{Less, Equal, Greater}
 use Rattle.cb_scan.specs.Order.{AreOrdered, goes_first, in_order, put}
-use Rattle.cb_scan.proofs.OrderLemmas.{Sorted, not_less}
+use Rattle.cb_scan.proofs.OrderLemmas.{not_less}
 use Rattle.cb_index.specs.Archived.{Archived, name_of}
 use Rattle.cb_index.specs.Files.{AreApart, AreAscending, file_of, files_of, is_shown, shown_key, shown_name}
 use Rattle.cb_index.specs.Names.{is_among, names_of}
@@ -23,12 +23,10 @@ use Rattle.cb_index.proofs.InOrderLemmas.{same_order}
 use Rattle.cb_index.proofs.AscendLemmas.{ascending_filter, ascending_sorted}
 use Rattle.cb_index.proofs.ListedLemmas.{apart_both, ascending_apart, bytes_other, order_by_name, other_turned, shown_exact}
 use Rattle.cb_desk.specs.Files.{is_before, with_file, without_file}
-use Rattle.cb_desk.specs.World.{File, is_named, has_file, text_of_file}
-use Rattle.cb_desk.specs.steps.Plans.{IsAmong}
+use Rattle.cb_desk.specs.World.{File, text_of_file}
 use Rattle.cb_desk.specs.steps.Records.{without}
 use Rattle.cb_desk.proofs.Placed.{all_after, none_before}
 use Rattle.cb_desk.proofs.PlacePlans.{put_first, settled, without_none}
-use Rattle.cb_desk.proofs.ShownFiles.{files-ascend}
 
 -- what holds of all holds of one of them
 pub all_among : (P : Shown → Type 0) (ss : List Shown) (h : Shown) (i : ℕ) → slice_get ss i ≡ Some h → AllByRecursion P ss → P h

@@ -7,9 +7,9 @@ use Rattle.cb_desk.specs.declared.limits.TheConstants.{MOST_BYTES, MOST_FILES}
 use Rattle.cb_desk.specs.declared.refusal.Refusal.{Refusal}
 use Rattle.cb_desk.specs.declared.refusal.Refusal.TheVariants.{BadName, NoSuchFile, FileExists, BadText, TooLarge, TooManyFiles}
 use Rattle.cb_tags.specs.Names.{is_file_name}
-use Rattle.cb_desk.specs.World.{World, File, Place, has_file, text_of_file, is_short, IsAscending, IsPlaceOf, IsMarkIn, AreMarksFor, AreValidMarks, IsValidWorld}
+use Rattle.cb_desk.specs.World.{World, File, Place, has_file, text_of_file, is_short, IsPlaceOf, IsMarkIn, AreMarksFor, AreValidMarks, IsValidWorld}
 use Rattle.cb_desk.specs.Files.{load_refusal, loaded, reload_refusal, unloaded, rename_refusal, renamed, without_file}
-use Rattle.cb_desk.specs.Marks.{toggled, want_refusal, wanting, wanted_places, mark_refusal, toggled_at, mark_all_refusal, all_marked, marked_refusal, replace_refusal, replaced_on_marks, replaced_files, is_too_large}
+use Rattle.cb_desk.specs.Marks.{toggled, want_refusal, wanting, wanted_places, mark_refusal, toggled_at, mark_all_refusal, all_marked, marked_refusal, replaced_on_marks, replaced_files, is_too_large}
 use Rattle.cb_desk.specs.Places.{nth}
 use Rattle.cb_desk.specs.Stack.{pushed, places}
 use Rattle.cb_desk.specs.steps.Held.{held_places}

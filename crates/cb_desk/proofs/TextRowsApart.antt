@@ -1,5 +1,5 @@
 -- No two rows of lines that hold a text are equal.
-use Rattle.std.proofs.Common.{◌≡◌, ◌≢◌, ◌∙◌, sym, ap, refl, subst, ℕ, zero, suc, ◌+◌, ◌<◌, Bool, true, false, not, cond, List, [], ◌∷◌, ◌++◌, map, filter, length, arith, nat_cmp, is_eq, Less, bytes_eq}
+use Rattle.std.proofs.Common.{◌≡◌, ◌≢◌, ◌∙◌, sym, ap, refl, subst, ℕ, zero, suc, ◌+◌, ◌<◌, Bool, true, false, not, cond, List, [], ◌∷◌, ◌++◌, map, filter, length, arith, nat_cmp, is_eq, Less}
 use Rattle.std.specs.Bool.{⊤}
 use Rattle.std.specs.List.{AllByRecursion, flat_map, range_with_len}
 use Rattle.std.specs.List.Sorted.{IsStrictlySortedBy}
@@ -12,7 +12,6 @@ use Rattle.cb_scan.specs.Lines.{lines, line_text}
 use Rattle.cb_desk.specs.Search.{holds, lines_with}
 use Rattle.cb_desk.specs.Answer.{AnswerRow, row_eq, distinct, line_row, text_rows_in}
 use Rattle.cb_desk.proofs.EqualRows.{row_same}
-use Rattle.cb_desk.proofs.Placed.{by_name}
 use Rattle.cb_desk.proofs.Valid.{all-join, all-along}
 
 -- no two rows are equal

@@ -1,5 +1,5 @@
 -- How many rows of a text there can be.
-use Rattle.std.proofs.Common.{◌≡◌, ◌≤◌, ◌∙◌, ap, ℕ, suc, ◌+◌, ◌*◌, List, [], ◌∷◌, length, length-append, filter, arith, suc-mul}
+use Rattle.std.proofs.Common.{◌≤◌, ℕ, ◌*◌, List, [], ◌∷◌, length, length-append, arith, suc-mul}
 use Rattle.std.specs.List.{AllByRecursion, flat_map, range_with_len}
 use Rattle.std.proofs.lemmas.List.{length-map}
 use Rattle.std.proofs.lemmas.List.FromFn.{length-range_with_len}

@@ -1,18 +1,18 @@
 -- Lemmas on what is hidden and shown by a turn.
-use Rattle.std.proofs.Common.{◌≡◌, ◌∙◌, ◌≤◌, ◌<◌, ◌+◌, ℕ, Bool, true, false, List, [], ◌∷◌, ◌++◌, refl, sym, ap, length, arith, length-append}
-use Rattle.std.specs.Prelude.{cond, Option, slice_get, ◌||◌}
+use Rattle.std.proofs.Common.{◌≡◌, ◌∙◌, ◌≤◌, ◌<◌, ◌+◌, ℕ, true, false, List, [], ◌∷◌, ◌++◌, refl, length, arith, length-append}
+use Rattle.std.specs.Prelude.{cond}
 use Rattle.std.specs.List.{AllByRecursion, list_any}
 use Rattle.std.specs.Str.{bytes_eq}
 use Rattle.cb_scan.specs.Order.{AreOrdered, goes_first, in_order, put}
 use Rattle.cb_scan.proofs.FunctionsRise.{all_implied}
 use Rattle.cb_index.specs.Archived.{Archived, name_of}
-use Rattle.cb_index.specs.Files.{AreApart, IsThere, call_count, def_count, is_shown, shown_name, total, use_count}
+use Rattle.cb_index.specs.Files.{AreApart, IsThere, call_count, def_count, is_shown, shown_name, use_count}
 use Rattle.cb_index.specs.Shelved.{CanShowAll, Shelved}
 use Rattle.cb_index.specs.declared.entry.Shown.{Shown}
 use Rattle.cb_index.proofs.InOrderLemmas.{length_in_order}
 use Rattle.cb_index.proofs.ListedLemmas.{other_turned}
 use Rattle.cb_index.proofs.TotalLemmas.{total_both}
-use Rattle.cb_desk.specs.steps.Records.{AreThere, Fits, IsFew, IsTurn, Kept, Numbered, Rooms, Turn, hidden, other, without}
+use Rattle.cb_desk.specs.steps.Records.{AreThere, Fits, IsFew, IsTurn, Numbered, Rooms, Turn, hidden, other, without}
 
 -- ---- what holds of a list in order
 module _ {X : Type 0} (key : X → List ℕ) (P : X → Type 0) where

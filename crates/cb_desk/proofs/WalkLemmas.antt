@@ -1,5 +1,5 @@
 -- Records lead back and on.
-use Rattle.std.proofs.Common.{◌≡◌, ◌∙◌, sym, ap, refl, subst, ℕ, suc, ◌+◌, ◌-◌, ◌<◌, ◌≤◌, Bool, true, false, List, [], ◌∷◌, ◌++◌, take, drop, length, map, get_or, slice_set, reverse, Option, Some, None, Ok, Err, add-one, arith, length-take-le}
+use Rattle.std.proofs.Common.{◌≡◌, ◌∙◌, sym, ap, refl, subst, ℕ, suc, ◌+◌, ◌-◌, ◌<◌, ◌≤◌, Bool, true, false, List, [], ◌∷◌, ◌++◌, take, drop, length, get_or, slice_set, reverse, Option, Some, None, Ok, Err, add-one, arith, length-take-le}
 use Rattle.std.specs.Prelude.{not}
 use Rattle.std.proofs.Math.Seq.{drop-cons}
 use Rattle.std.proofs.lemmas.List.{reverse-append, take_more, take_more_set, take-set, drop-set, drop-set-lt, drop_all, length-map, length-reverse, length-set}
@@ -7,15 +7,13 @@ use Rattle.std.specs.List.Sorted.{IsStrictlySortedBy}
 use Rattle.cb_scan.specs.Order.{in_order}
 use Rattle.cb_index.specs.Archived.{Archived}
 use Rattle.cb_index.specs.Files.{AreApart, shown_name}
-use Rattle.cb_index.specs.declared.entry.Shown.{Shown}
 use Rattle.cb_desk.specs.declared.edits.Edit.{Edit}
-use Rattle.cb_desk.specs.declared.spot.NumberedPlace.{NumberedPlace}
 use Rattle.cb_desk.specs.declared.refusal.Refusal.TheVariants.{NothingToUndo, NothingToRedo}
 use Rattle.cb_desk.specs.Timeline.{IsValidTimeline, Timeline, new_timeline, undone, redone}
 use Rattle.cb_desk.specs.Turns.{touched}
 use Rattle.cb_desk.specs.World.{IsValidWorld, empty_world}
-use Rattle.cb_desk.specs.steps.Edits.{edited, turned_edit, turned_edits}
-use Rattle.cb_desk.specs.steps.Records.{AreThere, Fits, IsTurn, Kept, KeepsRooms, Numbered, no_numbers, Rooms, Turn, kept_wanted, other, other_wanted, turned, without, world_in}
+use Rattle.cb_desk.specs.steps.Edits.{edited, turned_edits}
+use Rattle.cb_desk.specs.steps.Records.{Fits, IsTurn, Kept, KeepsRooms, Numbered, no_numbers, Rooms, Turn, kept_wanted, other, other_wanted, turned, without, world_in}
 use Rattle.cb_desk.specs.steps.Walks.{IsKept, IsNext, IsRecorded, LeadsBack, LeadsOn, Recorded, timeline_in, turns_back, turns_on, walk, worlds_in}
 use Rattle.cb_desk.proofs.AllUsed.{all_used}
 use Rattle.cb_desk.proofs.Moves.{undo_keeps_valid, redo_keeps_valid}

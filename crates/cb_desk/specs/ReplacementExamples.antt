@@ -1,5 +1,5 @@
 -- Replacements that the check computes.
-use Rattle.std.specs.Prelude.{◌≡◌, ℕ, List, [], ◌∷◌, ◌++◌, codes, refl}
+use Rattle.std.specs.Prelude.{◌≡◌, [], ◌∷◌, codes, refl}
 use Rattle.bstr.proofs.Computing.{computing}
 use Rattle.cb_desk.specs.Replacement.{gaps_of, replaced, replaced_text}
 

@@ -1,20 +1,19 @@
 -- An index whose newest versions wait.
 use Rattle.std.proofs.Common.{◌≡◌, ◌∙◌, ◌≤◌, ◌<◌, ◌+◌, ℕ, Bool, true, false, List, [], ◌∷◌, ◌++◌, Some, None, refl, sym, ap, append-nil, append_assoc, subst, length, filter, take, drop, cond, suc, arith}
-use Rattle.std.proofs.lemmas.Bool.{true≢false, false≢true}
+use Rattle.std.proofs.lemmas.Bool.{true≢false}
 use Rattle.std.proofs.lemmas.Bool.Decides.{Decides-eqb}
 use Rattle.std.proofs.lemmas.List.Elements.{filter-append}
 use Rattle.std.proofs.lemmas.List.{length-append}
-use Rattle.std.proofs.lemmas.List.Sums.{sum_by-append, sum_by-cons}
+use Rattle.std.proofs.lemmas.List.Sums.{sum_by-append}
 use Rattle.std.proofs.lemmas.Option.{none-some}
 use Rattle.std.proofs.lemmas.Slice.Eq.{bytes_eq-Decides}
-use Rattle.std.specs.Prelude.{nat_eq, not, sum_by, slice_get, slice_index_or, Option, ◌||◌}
+use Rattle.std.specs.Prelude.{nat_eq, not, sum_by, slice_index_or, Option, ◌||◌}
 use Rattle.std.specs.List.{AllByRecursion, list_any, prefix_len}
 use Rattle.std.specs.Str.{bytes_eq}
 use Rattle.cb_scan.specs.Order.{AreOrdered, goes_first, in_order, put}
 use Rattle.cb_scan.proofs.FactsWithin.{all_in_order}
 use Rattle.cb_scan.proofs.FunctionsRise.{all_implied}
 use Rattle.cb_scan.proofs.OrderLemmas.{in_order_sum}
-use Rattle.cb_scan.proofs.WithinLemmas.{all-append}
 use Rattle.cb_index.specs.Archived.{Archived, name_of}
 use Rattle.cb_index.specs.Entries.{Keyer, sort_key}
 use Rattle.cb_index.specs.Files.{AreApart, AreAscending, is_shown, shown_key, shown_name, shown_under, total}
@@ -149,6 +148,11 @@ module _ (a : Archived) (name : ℕ) where
           → cond b (Some s) (shown_under name shown) ≡ Some one → one.name ≡ name
       by_test true eq later is = ap (λ o. name_or s.name o) (sym is) ∙ (Decides-eqb s.name name).0 eq
       by_test false eq later is = later is
+
+  -- it is what is shown under its own name
+  pub under_itself : (shown : List Shown) (one : Shown) → shown_under name shown ≡ Some one
+      → shown_under one.name shown ≡ Some one
+  under_itself shown one under = ap (λ n. shown_under n shown) (under_named shown one under) ∙ under
 
   -- it is found in any order
   under_in_order : (shown : List Shown) → AreApart a shown → shown_under name (in_order (shown_name a) shown) ≡ shown_under name shown

@@ -1,5 +1,5 @@
 -- What edits make of a list of places.
-use Rattle.std.specs.Prelude.{◌≡◌, ℕ, List, [], ◌∷◌, ◌++◌, take, drop, map, not, if◌then◌else◌}
+use Rattle.std.specs.Prelude.{◌≡◌, List, [], ◌∷◌, ◌++◌, take, drop, map, not, if◌then◌else◌}
 use Rattle.cb_desk.specs.declared.edits.Edit.{Edit}
 use Rattle.cb_desk.specs.declared.edits.Step.{Step}
 use Rattle.cb_desk.specs.declared.edits.Step.TheVariants.{Keep, Take, Put}

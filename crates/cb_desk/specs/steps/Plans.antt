@@ -1,5 +1,5 @@
 -- What a change brings to the archive, and the turn to the new world.
-use Rattle.std.specs.Prelude.{◌≡◌, ◌≤◌, ◌<◌, ℕ, Bool, List, ◌++◌, map, take, filter, nat_eq, not, slice_get, Option, Some, if◌then◌else◌}
+use Rattle.std.specs.Prelude.{◌≡◌, ◌<◌, ℕ, Bool, List, ◌++◌, map, take, filter, nat_eq, not, slice_get, Option, Some, if◌then◌else◌}
 use Rattle.std.specs.List.{AllByRecursion}
 use Rattle.std.specs.Str.{bytes_eq}
 use Rattle.cb_index.specs.Archived.{Archived, name_of}

@@ -1,5 +1,5 @@
 -- The replacement of a text on marked lines, in the numbers of an archive.
-use Rattle.std.specs.Prelude.{◌≡◌, ◌+◌, ℕ, Bool, List, [], ◌∷◌, filter, length, map}
+use Rattle.std.specs.Prelude.{◌+◌, ℕ, Bool, List, [], ◌∷◌, filter, length, map}
 use Rattle.cb_scan.specs.Lines.{lines}
 use Rattle.cb_index.specs.Archived.{Archived}
 use Rattle.cb_index.specs.Files.{file_of}

@@ -1,4 +1,4 @@
-use Rattle.std.proofs.Common.{rules, ◌≡◌}
+use Rattle.std.proofs.Common.{rules}
 use Rattle.std.proofs.lemmas.List.Edits.{map_over_more}
 use Rattle.cb_desk.specs.steps.Edits.{turned_edit}
 use Rattle.cb_desk.proofs.edits.turn_edits.Goals as goal

@@ -1,6 +1,4 @@
-use Rattle.std.proofs.Common.{rules, ◌≡◌, ◌∙◌, ◌≤◌, ◌++◌, ap, length}
-use Rattle.cb_scan.specs.Order.{in_order}
-use Rattle.cb_index.specs.Files.{AreAscending, shown_name}
+use Rattle.std.proofs.Common.{rules, ◌∙◌}
 use Rattle.cb_index.specs.Shelved.{AreTotals}
 use Rattle.cb_desk.proofs.LoadingLemmas.{ascending_then, can_show_loaded, shown_as_loaded}
 use Rattle.cb_desk.proofs.loading.show.Goals as goal

@@ -1,4 +1,4 @@
-use Rattle.std.proofs.Common.{rules, ◌≡◌, ◌∙◌, ◌<◌, List, Some, sym, ap, subst, length, nat_eq, filter, arith}
+use Rattle.std.proofs.Common.{◌∙◌, ◌<◌, Some, sym, ap, subst, length, nat_eq, arith}
 use Rattle.std.specs.List.{prefix_len, remove}
 use Rattle.std.specs.Prelude.{not, slice_index_or}
 use Rattle.cb_index.specs.Names.{AreSingle}

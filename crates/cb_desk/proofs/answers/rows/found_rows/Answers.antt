@@ -1,12 +1,10 @@
-use Rattle.std.proofs.Common.{◌≡◌, ◌∙◌, sym, ap, subst, filter, length, map, arith, List}
+use Rattle.std.proofs.Common.{◌∙◌, sym, ap, subst, filter, length, map, arith}
 use Rattle.std.specs.List.{flat_map}
 use Rattle.std.proofs.lemmas.List.{length-map}
 use Rattle.cb_index.specs.Rows.{Fact}
 use Rattle.cb_index.specs.Shelved.{ShownFile, files}
 use Rattle.cb_index.specs.steps.Left.{tags_left}
-use Rattle.cb_desk.specs.declared.rows.Field.{Field}
-use Rattle.cb_desk.specs.declared.rows.Field.TheVariants.{Symbol, Called, Calling, File as FileName, Including}
-use Rattle.cb_desk.specs.Answer.{AnswerRow, field_rows, file_rows, is_header}
+use Rattle.cb_desk.specs.Answer.{field_rows, file_rows, is_header}
 use Rattle.cb_desk.specs.Settled.{IsSettled}
 use Rattle.cb_desk.specs.steps.Lent.{row_around, row_named, row_of_tag}
 use Rattle.cb_desk.proofs.AnswerRows.{called-rows, calling-rows, definition-rows, including-rows, name-rows, symbol-rows}

@@ -1,5 +1,5 @@
-use Rattle.std.proofs.Common.{rules, ◌≡◌, ◌∙◌, ap, sym, [], ◌∷◌, Ok}
-use Rattle.cb_desk.specs.Timeline.{Timeline, moved_on, redone}
+use Rattle.std.proofs.Common.{rules, ap}
+use Rattle.cb_desk.specs.Timeline.{Timeline}
 use Rattle.cb_desk.specs.steps.Walks.{timeline_in}
 use Rattle.cb_desk.proofs.PlanLemmas.{redone_next, redone_not_refused, refused_as}
 use Rattle.cb_desk.proofs.TurnsCounted.{turns_next, turns_refused}

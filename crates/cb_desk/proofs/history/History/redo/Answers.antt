@@ -1,4 +1,4 @@
-use Rattle.std.proofs.Common.{rules, ◌≡◌, ◌∙◌, ◌<◌, ap, sym, subst, length, refl}
+use Rattle.std.proofs.Common.{rules, ◌≡◌, ◌∙◌, ap, sym, subst, length, refl}
 use Rattle.cb_desk.specs.Timeline.{redone}
 use Rattle.cb_desk.specs.steps.Walks.{Recorded, timeline_in}
 use Rattle.cb_desk.specs.Turns.{AreTurnsOf}

@@ -1,8 +1,7 @@
 use Rattle.std.proofs.Common.{rules, ◌≡◌, ◌∙◌, ◌++◌, ◌∷◌, [], ap, sym, subst, take, length, ◌<◌}
 use Rattle.cb_desk.specs.declared.limits.TheConstants.{MOST_CHANGES}
 use Rattle.cb_desk.specs.Timeline.{Timeline}
-use Rattle.cb_desk.specs.World.{World}
-use Rattle.cb_desk.specs.steps.Plans.{IsPlan, Keeps, Planned}
+use Rattle.cb_desk.specs.steps.Plans.{IsPlan, Keeps}
 use Rattle.cb_desk.specs.steps.Walks.{IsRecorded, Recorded, timeline_in}
 use Rattle.cb_desk.proofs.ArchiveMoves.{same_recorded, same_timeline}
 use Rattle.cb_desk.proofs.PlanLemmas.{next_is, next_recorded, plan_moved, refused_as, room_moved}

@@ -1,4 +1,4 @@
-use Rattle.std.proofs.Common.{rules, ◌≡◌, ◌∙◌, ◌<◌, ◌+◌, ◌-◌, ◌≤◌, ap, sym, subst, ℕ, refl, arith}
+use Rattle.std.proofs.Common.{◌≡◌, ◌∙◌, ◌<◌, ◌+◌, ◌-◌, ◌≤◌, ap, sym, subst, ℕ, refl, arith}
 use Rattle.cb_desk.specs.steps.Walks.{IsRecorded, Recorded, timeline_in}
 use Rattle.cb_desk.specs.Timeline.{undone}
 use Rattle.cb_desk.specs.Turns.{AreTurnsOf}

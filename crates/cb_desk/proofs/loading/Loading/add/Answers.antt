@@ -1,12 +1,12 @@
-use Rattle.std.proofs.Common.{rules, ◌≡◌, ◌∙◌, ◌<◌, ◌++◌, ◌∷◌, [], None, false, refl, sym, ap, subst, length, arith, MatchResult}
+use Rattle.std.proofs.Common.{rules, ◌≡◌, ◌∙◌, ◌<◌, ◌++◌, ◌∷◌, [], None, false, sym, ap, subst, length, arith}
 use Rattle.cb_scan.specs.Order.{in_order}
-use Rattle.cb_index.specs.Files.{AreApart, AreAscending, shown_name}
+use Rattle.cb_index.specs.Files.{shown_name}
 use Rattle.cb_index.specs.declared.entry.Shown.{Shown}
 use Rattle.cb_desk.specs.declared.limits.TheConstants.{MOST_CHANGES}
 use Rattle.cb_desk.specs.Files.{loaded as after}
 use Rattle.cb_desk.specs.Timeline.{moved_on}
 use Rattle.cb_desk.specs.World.{IsValidWorld, has_file}
-use Rattle.cb_desk.specs.steps.Loading.{AreLoaded, Loaded, loads_recorded}
+use Rattle.cb_desk.specs.steps.Loading.{Loaded, loads_recorded}
 use Rattle.cb_desk.specs.steps.Records.{Turn}
 use Rattle.cb_desk.specs.steps.Walks.{timeline_in}
 use Rattle.cb_desk.proofs.LoadingLemmas.{apart_then, ascending_before, one_more, one_more_timeline_as, roomier, roomier_timeline, turn_back}

@@ -1,9 +1,8 @@
-use Rattle.std.proofs.Common.{rules, ◌≡◌, ◌≢◌, ◌≤◌, ◌∙◌, [], sym, ap, subst, length, arith}
+use Rattle.std.proofs.Common.{rules, ◌≡◌, ◌≤◌, ◌∙◌, sym, ap, subst, length, arith}
 use Rattle.cb_index.specs.Archived.{Archived}
 use Rattle.cb_desk.specs.Timeline.{IsValidTimeline}
-use Rattle.cb_desk.specs.steps.Loading.{HasRoomToShow, Loaded, loaded_numbers, loads_recorded}
+use Rattle.cb_desk.specs.steps.Loading.{HasRoomToShow, Loaded, loaded_numbers}
 use Rattle.cb_desk.specs.steps.Records.{no_numbers}
-use Rattle.cb_desk.specs.steps.Walks.{timeline_in}
 use Rattle.cb_desk.proofs.LoadingLemmas.{all_there, empty_list, nothing_loaded, refused_with, rooms_kept, shown_recorded, shown_timeline, some_past}
 use Rattle.cb_desk.proofs.loading.Loading.desk.Goals as goal
 

@@ -1,11 +1,11 @@
-use Rattle.std.proofs.Common.{rules, ◌≡◌, ◌∙◌, ◌<◌, None, Err, refl, sym, ap, subst, length, nat_le, arith}
+use Rattle.std.proofs.Common.{rules, ◌≡◌, ◌∙◌, ◌<◌, Err, refl, sym, ap, subst, length}
 use Rattle.cb_index.specs.Files.{files_of}
 use Rattle.cb_desk.specs.declared.limits.TheConstants.{MOST_CHANGES}
 use Rattle.cb_desk.specs.declared.refusal.Refusal.TheVariants.{OutOfMemory}
 use Rattle.cb_desk.specs.Files.{load_refusal, loaded as after_load}
 use Rattle.cb_desk.specs.Step.{after, load, refusal_of}
 use Rattle.cb_desk.specs.Timeline.{moved_on}
-use Rattle.cb_desk.specs.World.{IsValidWorld, empty_world}
+use Rattle.cb_desk.specs.World.{empty_world}
 use Rattle.cb_desk.specs.steps.Loading.{Loaded, loaded_numbers}
 use Rattle.cb_desk.specs.steps.Records.{world_in}
 use Rattle.cb_desk.proofs.LoadingLemmas.{all_there, below_most, fresh_name}

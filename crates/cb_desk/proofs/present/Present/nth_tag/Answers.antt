@@ -4,7 +4,7 @@ use Rattle.cb_index.specs.Files.{file_of, files_of}
 use Rattle.cb_index.specs.declared.entry.Shown.{Shown}
 use Rattle.cb_desk.specs.Places.{nth}
 use Rattle.cb_desk.specs.Stack.{places}
-use Rattle.cb_desk.specs.World.{Place, has_file}
+use Rattle.cb_desk.specs.World.{Place}
 use Rattle.cb_desk.specs.steps.Named.{file_named}
 use Rattle.cb_desk.proofs.TagPlans.{all_contained, has_that_name, is_there, nth_is_placed}
 use Rattle.cb_desk.proofs.present.Present.nth_tag.Goals as goal

@@ -1,6 +1,5 @@
 use Rattle.std.proofs.Common.{◌≡◌, ◌∙◌, ap, refl, subst}
 use Rattle.std.specs.Option.{option_map}
-use Rattle.cb_desk.specs.Files.{loaded, reloaded}
 use Rattle.cb_desk.specs.Marks.{toggled_at}
 use Rattle.cb_desk.specs.Models.{step_of}
 use Rattle.cb_desk.specs.Step.{after, place_of}

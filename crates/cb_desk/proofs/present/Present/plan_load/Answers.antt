@@ -1,5 +1,4 @@
-use Rattle.std.proofs.Common.{rules, ◌≡◌, ap, subst, sym}
-use Rattle.cb_desk.specs.steps.Plans.{IsPlan}
+use Rattle.std.proofs.Common.{rules}
 use Rattle.cb_desk.proofs.FilePlans.{load_planned}
 use Rattle.cb_desk.proofs.present.Present.plan_load.Goals as goal
 

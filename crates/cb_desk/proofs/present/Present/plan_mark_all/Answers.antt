@@ -1,6 +1,4 @@
-use Rattle.std.proofs.Common.{rules, ◌≡◌, ◌∙◌, ◌<◌, ap, map, subst, sym, None}
-use Rattle.std.specs.List.{AllByRecursion}
-use Rattle.cb_desk.specs.declared.spot.NumberedPlace.{NumberedPlace}
+use Rattle.std.proofs.Common.{rules, ◌≡◌, ap, map, subst, None}
 use Rattle.cb_desk.specs.Marks.{all_marked, wanted_places}
 use Rattle.cb_desk.specs.steps.Plans.{IsPlan, with_marks}
 use Rattle.cb_desk.specs.steps.Records.{place_in, world_in}

@@ -1,6 +1,4 @@
-use Rattle.std.proofs.Common.{rules, ◌≡◌, ap, subst, sym}
-use Rattle.cb_desk.specs.steps.Plans.{IsPlan}
-use Rattle.cb_desk.specs.steps.Records.{Kept}
+use Rattle.std.proofs.Common.{rules}
 use Rattle.cb_desk.specs.steps.Texts.{bytes_if_other}
 use Rattle.cb_desk.proofs.PlacePlans.{places_planned}
 use Rattle.cb_desk.proofs.present.Present.plan_places.Goals as goal

@@ -1,6 +1,4 @@
-use Rattle.std.proofs.Common.{rules, ◌≡◌, ap, subst, sym}
-use Rattle.cb_desk.specs.steps.Edits.{IsDifference}
-use Rattle.cb_desk.specs.steps.Plans.{IsPlan, places_without}
+use Rattle.std.proofs.Common.{rules}
 use Rattle.cb_desk.proofs.FilePlans.{reload_planned}
 use Rattle.cb_desk.proofs.present.Present.plan_reload.Goals as goal
 

@@ -1,5 +1,4 @@
-use Rattle.std.proofs.Common.{rules, ◌≡◌, ap, subst, sym}
-use Rattle.cb_desk.specs.steps.Plans.{IsPlan}
+use Rattle.std.proofs.Common.{rules}
 use Rattle.cb_desk.proofs.ReplacePlans.{replace_planned}
 use Rattle.cb_desk.proofs.present.Present.plan_renewed.Goals as goal
 

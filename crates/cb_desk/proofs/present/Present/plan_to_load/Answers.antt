@@ -1,4 +1,4 @@
-use Rattle.std.proofs.Common.{◌≡◌, subst}
+use Rattle.std.proofs.Common.{subst}
 use Rattle.cb_desk.specs.Files.{loaded}
 use Rattle.cb_desk.specs.steps.Plans.{IsPlan}
 use Rattle.cb_desk.specs.steps.Records.{world_in}

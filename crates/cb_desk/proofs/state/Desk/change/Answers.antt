@@ -1,7 +1,7 @@
-use Rattle.std.proofs.Common.{rules, ◌≡◌, ◌≤◌, ◌<◌, ◌-◌, ◌^◌, ◌∙◌, ap, arith, length, nat_le, refl, subst, sym, Err, ℕ}
+use Rattle.std.proofs.Common.{rules, ◌≡◌, ◌≤◌, ◌<◌, ◌-◌, ◌^◌, ◌∙◌, ap, arith, length, nat_le, refl, subst, sym, Err}
 use Rattle.cb_desk.specs.declared.limits.TheConstants.{MOST_CHANGES}
 use Rattle.cb_desk.specs.declared.refusal.Refusal.TheVariants.{HistoryFull, OutOfMemory}
-use Rattle.cb_desk.specs.Desk.{Counts, DeskState, counted, scanned}
+use Rattle.cb_desk.specs.Desk.{Counts, DeskState, scanned}
 use Rattle.cb_desk.specs.Models.{step_of}
 use Rattle.cb_desk.specs.Step.{after}
 use Rattle.cb_desk.specs.Timeline.{Changes, IsValidTimeline, Timeline, moved_on}

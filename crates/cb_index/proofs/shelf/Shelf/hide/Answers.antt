@@ -1,8 +1,7 @@
-use Rattle.std.proofs.Common.{rules, ◌≡◌, ◌∙◌, Some, refl, sym, ap, subst, filter, arith}
-use Rattle.cb_index.specs.Files.{call_count, def_count, shown_under, use_count}
+use Rattle.std.proofs.Common.{◌≡◌, ◌∙◌, sym, ap, subst, filter, arith}
+use Rattle.cb_index.specs.Files.{call_count, def_count, use_count}
 use Rattle.cb_index.specs.Shelved.{AreKept, AreTotals, AreWithin, Shelved}
-use Rattle.cb_index.specs.declared.entry.Shown.{Shown}
-use Rattle.cb_index.proofs.CoverLemmas.{under_named}
+use Rattle.cb_index.proofs.CoverLemmas.{under_itself, under_named}
 use Rattle.cb_index.proofs.IndexLemmas.{is_other, none_under}
 use Rattle.cb_index.proofs.KeptLemmas.{kept_taken}
 use Rattle.cb_index.proofs.TotalLemmas.{total_over, totals_out}
@@ -11,43 +10,28 @@ use Rattle.cb_index.proofs.shelf.Shelf.hide.Goals as goal
 -- what is shown under the name is in each index
 pub take-requires : goal.take-requires
 take-requires c =
-    let shown = c.self.inside.shown.items in
-    let under = sym c.take_under.ensures.value ∙ c.in-Some.is in
-    let named = under_named c.self.inside.archive c.args.name shown c.in-Some.one under in
-    let itself : shown_under c.in-Some.one.name shown ≡ Some c.in-Some.one = ap (λ n. shown_under n shown) named ∙ under in
-    (shown, c.self.invariant.0.defs, itself)
+    let x = c.self.inside in
+    (x.shown.items, c.self.invariant.0.defs, under_itself x.archive c.args.name x.shown.items c.in-Some.one (sym c.take_under.ensures.value ∙ c.in-Some.is))
 
 pub take-requires-2 : goal.take-requires-2
 take-requires-2 c =
-    let shown = c.self.inside.shown.items in
-    let under = sym c.take_under.ensures.value ∙ c.in-Some.is in
-    let named = under_named c.self.inside.archive c.args.name shown c.in-Some.one under in
-    let itself : shown_under c.in-Some.one.name shown ≡ Some c.in-Some.one = ap (λ n. shown_under n shown) named ∙ under in
-    (shown, c.self.invariant.0.tags, itself)
+    let x = c.self.inside in
+    (x.shown.items, c.self.invariant.0.tags, under_itself x.archive c.args.name x.shown.items c.in-Some.one (sym c.take_under.ensures.value ∙ c.in-Some.is))
 
 pub take-requires-3 : goal.take-requires-3
 take-requires-3 c =
-    let shown = c.self.inside.shown.items in
-    let under = sym c.take_under.ensures.value ∙ c.in-Some.is in
-    let named = under_named c.self.inside.archive c.args.name shown c.in-Some.one under in
-    let itself : shown_under c.in-Some.one.name shown ≡ Some c.in-Some.one = ap (λ n. shown_under n shown) named ∙ under in
-    (shown, c.self.invariant.0.uses, itself)
+    let x = c.self.inside in
+    (x.shown.items, c.self.invariant.0.uses, under_itself x.archive c.args.name x.shown.items c.in-Some.one (sym c.take_under.ensures.value ∙ c.in-Some.is))
 
 pub take-requires-4 : goal.take-requires-4
 take-requires-4 c =
-    let shown = c.self.inside.shown.items in
-    let under = sym c.take_under.ensures.value ∙ c.in-Some.is in
-    let named = under_named c.self.inside.archive c.args.name shown c.in-Some.one under in
-    let itself : shown_under c.in-Some.one.name shown ≡ Some c.in-Some.one = ap (λ n. shown_under n shown) named ∙ under in
-    (shown, c.self.invariant.0.callees, itself)
+    let x = c.self.inside in
+    (x.shown.items, c.self.invariant.0.callees, under_itself x.archive c.args.name x.shown.items c.in-Some.one (sym c.take_under.ensures.value ∙ c.in-Some.is))
 
 pub take-requires-5 : goal.take-requires-5
 take-requires-5 c =
-    let shown = c.self.inside.shown.items in
-    let under = sym c.take_under.ensures.value ∙ c.in-Some.is in
-    let named = under_named c.self.inside.archive c.args.name shown c.in-Some.one under in
-    let itself : shown_under c.in-Some.one.name shown ≡ Some c.in-Some.one = ap (λ n. shown_under n shown) named ∙ under in
-    (shown, c.self.invariant.0.callers, itself)
+    let x = c.self.inside in
+    (x.shown.items, c.self.invariant.0.callers, under_itself x.archive c.args.name x.shown.items c.in-Some.one (sym c.take_under.ensures.value ∙ c.in-Some.is))
 
 -- its facts are among those that are counted
 pub without-self-inside-requires : goal.without-self-inside-requires
@@ -68,7 +52,7 @@ invariant_of-self-2 c =
     let shown = c.self.inside.shown.items in
     let under = sym c.take_under.ensures.value ∙ c.in-Some.is in
     let named = under_named c.self.inside.archive c.args.name shown c.in-Some.one under in
-    let itself : shown_under c.in-Some.one.name shown ≡ Some c.in-Some.one = ap (λ n. shown_under n shown) named ∙ under in
+    let itself = under_itself c.self.inside.archive c.args.name shown c.in-Some.one under in
     let left = c.take_under.ensures.items in
     let less = c.without-self-inside.ensures in
     let within = c.self.invariant.2 in (

@@ -1,4 +1,4 @@
-use Rattle.std.proofs.Common.{◌≡◌, ◌∙◌, false, List, [], ◌∷◌, sym, ap, subst, arith}
+use Rattle.std.proofs.Common.{◌∙◌, false, [], ◌∷◌, sym, ap, subst, arith}
 use Rattle.std.specs.Prelude.{◌||◌}
 use Rattle.cb_scan.specs.Order.{AreOrdered}
 use Rattle.cb_index.specs.Files.{AreApart, AreAscending}

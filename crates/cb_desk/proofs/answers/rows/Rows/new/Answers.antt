@@ -1,8 +1,7 @@
-use Rattle.std.proofs.Common.{◌≡◌, ◌∙◌, sym, ap, subst, length}
+use Rattle.std.proofs.Common.{◌∙◌, sym, ap, subst}
 use Rattle.std.specs.List.{flat_map}
 use Rattle.cb_index.specs.Shelved.{files}
 use Rattle.cb_desk.specs.Answer.{distinct, field_rows, text_rows_in}
-use Rattle.cb_desk.specs.declared.limits.TheConstants.{MOST_BYTES, MOST_FILES}
 use Rattle.cb_desk.specs.World.{AreValidFiles}
 use Rattle.cb_desk.specs.steps.LookBack.{HaveLineTexts}
 use Rattle.cb_desk.proofs.LineTexts.{line-texts}

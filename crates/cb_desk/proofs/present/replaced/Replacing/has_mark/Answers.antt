@@ -1,4 +1,4 @@
-use Rattle.std.proofs.Common.{rules, ◌≡◌, ◌∙◌, ◌==◌, ap, sym, not, length, map, take, drop, subst}
+use Rattle.std.proofs.Common.{rules, ◌≡◌, ◌∙◌, ◌==◌, ap, sym, not, length, map}
 use Rattle.std.proofs.lemmas.List.{length-map}
 use Rattle.cb_index.specs.Archived.{name_of}
 use Rattle.cb_desk.specs.declared.spot.NumberedPlace.{NumberedPlace}

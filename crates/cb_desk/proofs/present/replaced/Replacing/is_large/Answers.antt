@@ -1,4 +1,4 @@
-use Rattle.std.proofs.Common.{rules, ◌≡◌, ◌≤◌, ◌∙◌, ap, sym, subst, ℕ, Bool, true, false, not, List, [], ◌∷◌, refl, length, map, nat_lt, ◌==◌, arith}
+use Rattle.std.proofs.Common.{rules, ◌≡◌, ◌≤◌, ◌∙◌, ap, sym, subst, ℕ, true, false, List, [], ◌∷◌, refl, length, map, nat_lt, ◌==◌, arith}
 use Rattle.std.specs.Prelude.{slice_index_or}
 use Rattle.cb_index.specs.Archived.{name_of}
 use Rattle.cb_desk.specs.declared.limits.TheConstants.{MOST_BYTES}

@@ -1,6 +1,5 @@
-use Rattle.std.proofs.Common.{rules, ◌≡◌, ◌∙◌, ◌<◌, ap, sym, true, false, length, arith, get_or, bytes_eq}
+use Rattle.std.proofs.Common.{◌∙◌, ap, sym, true, false, arith, bytes_eq}
 use Rattle.std.specs.Prelude.{slice_index_or}
-use Rattle.cb_index.specs.Archived.{name_of}
 use Rattle.cb_index.specs.declared.entry.Shown.{Shown}
 use Rattle.cb_desk.proofs.LinesThen.{lines_at, no_lines_at}
 use Rattle.cb_desk.proofs.present.replaced.Replacing.line_count.Goals as goal

@@ -1,4 +1,4 @@
-use Rattle.std.proofs.Common.{rules, ◌≡◌, ◌∙◌, ap, sym, true, false, [], length}
+use Rattle.std.proofs.Common.{rules, ◌≡◌, ◌∙◌, ap, sym, false, length}
 use Rattle.cb_scan.specs.Lines.{lines}
 use Rattle.cb_desk.specs.World.{File}
 use Rattle.cb_desk.specs.steps.Replaced.{has_mark}
