@@ -4,13 +4,12 @@ use Rattle.cb_session.specs.declared.input.Fault.{Fault}
 use Rattle.cb_session.specs.declared.input.Fault.TheVariants.{Read, Write, Memory, LongLine, ManyLines}
 use Rattle.cb_session.specs.declared.input.Input.{Input}
 use Rattle.cb_session.specs.declared.intake.LineRead.TheVariants.{End, Line, Long}
-use Rattle.cb_session.specs.declared.line.Purpose.{Purpose}
 use Rattle.cb_desk.specs.declared.refusal.Refusal.TheVariants.{LineTooLong}
 use Rattle.cb_session.specs.Commands.{short_line}
 use Rattle.cb_session.specs.Devices.{Reader, WhateverFollows, leaving}
 use Rattle.cb_session.specs.Inputs.{First, first, with_block}
 use Rattle.cb_session.specs.Reading.{Reads}
-use Rattle.cb_session.specs.Requests.{Request, LineRequest, whole, block, quit, refused}
+use Rattle.cb_session.specs.Requests.{Request, LineRequest, whole, quit, refused}
 use Rattle.cb_session.specs.steps.Lines.{ReadsLine}
 use Rattle.cb_session.proofs.Blocks.{IsRead}
 use Rattle.cb_session.proofs.Follows.{Some-same, Follows-then}

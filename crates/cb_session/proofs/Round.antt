@@ -22,21 +22,22 @@ use Rattle.cb_session.proofs.Follows.{Follows-nothing, Follows-so}
 use Rattle.cb_tags.proofs.Prefixes.{AppendsPrefix-more, AppendsPrefix-after, AppendsPrefix-whole}
 
 -- a whole text with the ending that is meant
-Leaves-whole : (text : List ℕ) (meant : Option Ended) (old new : Writer) (ended : Ended) → meant ≡ Some ended → Appends old.bytes new.bytes text → Leaves text meant old new ended
-Leaves-whole text meant old new (Fault Read) e p = AppendsPrefix-whole old.bytes new.bytes text p
-Leaves-whole text meant old new (Fault Write) e p = AppendsPrefix-whole old.bytes new.bytes text p
-Leaves-whole text meant old new (Fault Memory) e p = AppendsPrefix-whole old.bytes new.bytes text p
-Leaves-whole text meant old new (Fault LongLine) e p = (e, p)
-Leaves-whole text meant old new (Fault ManyLines) e p = (e, p)
-Leaves-whole text meant old new Done e p = (e, p)
-Leaves-whole text meant old new Cut e p = (e, p)
-Leaves-whole text meant old new (Operand place why) e p = (e, p)
+Leaves-whole : (text : List ℕ) (meant : Option Ended) (rest : List ℕ) (feed : Reader) (old new : Writer) (ended : Ended) → meant ≡ Some ended → feed.bytes ≡ Some rest → Appends old.bytes new.bytes text
+    → Leaves text meant rest feed old new ended
+Leaves-whole text meant rest feed old new (Fault Read) e left p = AppendsPrefix-whole old.bytes new.bytes text p
+Leaves-whole text meant rest feed old new (Fault Write) e left p = AppendsPrefix-whole old.bytes new.bytes text p
+Leaves-whole text meant rest feed old new (Fault Memory) e left p = AppendsPrefix-whole old.bytes new.bytes text p
+Leaves-whole text meant rest feed old new (Fault LongLine) e left p = (e, p)
+Leaves-whole text meant rest feed old new (Fault ManyLines) e left p = (e, left, p)
+Leaves-whole text meant rest feed old new Done e left p = (e, left, p)
+Leaves-whole text meant rest feed old new Cut e left p = (e, left, p)
+Leaves-whole text meant rest feed old new (Operand place why) e left p = (e, left, p)
 
 -- a fault that is passed on
 passed_on : (out_of_memory : Bool) (f : First) (t next : Timeline) (feed : Reader) (old new : Writer) (r : Result (Option Ended) Reason) (fault : Reason)
-    → IsErrAnd r (λ e. e ≡ fault) → Leaves (exchange out_of_memory t f.request) (ending_of f.request) old new (Fault fault) → LeavesRound out_of_memory f t next feed old new r
+    → IsErrAnd r (λ e. e ≡ fault) → Leaves (exchange out_of_memory t f.request) (ending_of f.request) f.rest feed old new (Fault fault) → LeavesRound out_of_memory f t next feed old new r
 passed_on out_of_memory f t next feed old new (Ok x) fault e p = absurd e
-passed_on out_of_memory f t next feed old new (Err x) fault e p = subst (λ k. Leaves (exchange out_of_memory t f.request) (ending_of f.request) old new (Fault k)) (sym e) p
+passed_on out_of_memory f t next feed old new (Err x) fault e p = subst (λ k. Leaves (exchange out_of_memory t f.request) (ending_of f.request) f.rest feed old new (Fault k)) (sym e) p
 
 -- the prompt could not be written
 pub Round-unprompted : (f : First) (t next : Timeline) (feed : Reader) (old new : Writer) (r : Result (Option Ended) Reason) (fault : Reason)
@@ -51,7 +52,7 @@ overlong_exchange t e h = ap (exchange false t) h
 
 -- no input could be read
 unread : (f : First) (t : Timeline) (feed : Reader) (old new : Writer) (fault : Reason) → Reads f feed (Err fault) → Appends old.bytes new.bytes prompt
-    → Leaves (exchange false t f.request) (ending_of f.request) old new (Fault fault)
+    → Leaves (exchange false t f.request) (ending_of f.request) f.rest feed old new (Fault fault)
 unread f t feed old new Read h p = AppendsPrefix-more old.bytes new.bytes prompt (outcome false t f.request).reply (AppendsPrefix-whole old.bytes new.bytes prompt p)
 unread f t feed old new Write h p = absurd h
 unread f t feed old new Memory h p = AppendsPrefix-more old.bytes new.bytes prompt (outcome false t f.request).reply (AppendsPrefix-whole old.bytes new.bytes prompt p)
@@ -83,7 +84,7 @@ Round-answered A f t next feed old mid new None x request same left e p d =
     (d.0, (sym (e ∙ ap ending_of same), left, d.1.0 ∙ ap (λ y. (outcome d.0 t y).timeline) same, subst (λ y. Appends old.bytes new.bytes (exchange d.0 t y)) same text))
 Round-answered A f t next feed old mid new (Some ended) x request same left e p d =
     let text : Appends old.bytes new.bytes (exchange d.0 t request) = Appends-trans old.bytes mid.bytes new.bytes prompt (outcome d.0 t request).reply p d.1.1.0.2 in
-    (d.0, Leaves-whole (exchange d.0 t f.request) (ending_of f.request) old new ended (sym (e ∙ ap ending_of same)) (subst (λ y. Appends old.bytes new.bytes (exchange d.0 t y)) same text))
+    (d.0, Leaves-whole (exchange d.0 t f.request) (ending_of f.request) f.rest feed old new ended (sym (e ∙ ap ending_of same)) left (subst (λ y. Appends old.bytes new.bytes (exchange d.0 t y)) same text))
 
 -- one round, whatever follows what was read: what `round` promises
 abbrev FollowsRound : ℕ → Timeline → Timeline → Writer → Writer → Result (Option Ended) Reason → List ℕ → Reader → Type 0

@@ -8,7 +8,7 @@ use Rattle.cb_session.specs.declared.input.Fault.TheVariants.{Read, Write, Memor
 use Rattle.cb_desk.specs.Timeline.{Timeline}
 use Rattle.cb_tags.specs.Writers.{Writer}
 use Rattle.cb_session.specs.Devices.{Reader, WhateverFollows, leaving}
-use Rattle.cb_session.specs.Inputs.{Inputs, first, inputs, ending_of, begin_with}
+use Rattle.cb_session.specs.Inputs.{First, Inputs, first, inputs, ending_of, begin_with}
 use Rattle.cb_session.specs.Requests.{Request}
 use Rattle.cb_session.specs.Serving.{Leaves, LeavesRun}
 use Rattle.cb_session.specs.steps.Rounds.{LeavesRound}
@@ -19,24 +19,24 @@ use Rattle.cb_tags.proofs.Prefixes.{AppendsPrefix-more, AppendsPrefix-after, App
 
 -- the inputs after a request that doesn't end the run, and those of a request that does
 inputs-on : (n limit : ℕ) (rest : List ℕ) → ending_of (first limit rest).request ≡ None
-    → inputs (suc n) limit rest ≡ begin_with (first limit rest).request None (inputs n limit (first limit rest).rest)
+    → inputs (suc n) limit rest ≡ begin_with (first limit rest) None (inputs n limit (first limit rest).rest)
 unfolding inputs
-inputs-on n limit rest h = ap (λ e. begin_with (first limit rest).request e (inputs n limit (first limit rest).rest)) h
+inputs-on n limit rest h = ap (λ e. begin_with (first limit rest) e (inputs n limit (first limit rest).rest)) h
 
 inputs-last : (n limit : ℕ) (rest : List ℕ) (ended : Ended) → ending_of (first limit rest).request ≡ Some ended
-    → inputs (suc n) limit rest ≡ record { requests = (first limit rest).request ∷ []; ending = ended }
+    → inputs (suc n) limit rest ≡ record { requests = (first limit rest).request ∷ []; ending = ended; rest = (first limit rest).rest }
 unfolding inputs
-inputs-last n limit rest ended h = ap (λ e. begin_with (first limit rest).request e (inputs n limit (first limit rest).rest)) h
+inputs-last n limit rest ended h = ap (λ e. begin_with (first limit rest) e (inputs n limit (first limit rest).rest)) h
 
-begins : (e : Request) (o : Option Ended) (i : Inputs) → (es : List Request) × ((begin_with e o i).requests ≡ e ∷ es)
-begins e None i = (i.requests, refl)
-begins e (Some ended) i = ([], refl)
+begins : (f : First) (o : Option Ended) (i : Inputs) → (es : List Request) × ((begin_with f o i).requests ≡ f.request ∷ es)
+begins f None i = (i.requests, refl)
+begins f (Some ended) i = ([], refl)
 
 inputs-begin : (n limit : ℕ) (rest : List ℕ) → (es : List Request) × ((inputs (suc n) limit rest).requests ≡ (first limit rest).request ∷ es)
 unfolding inputs
-inputs-begin n limit rest = begins (first limit rest).request (ending_of (first limit rest).request) (inputs n limit (first limit rest).rest)
+inputs-begin n limit rest = begins (first limit rest) (ending_of (first limit rest).request) (inputs n limit (first limit rest).rest)
 
-inputs-out : (limit : ℕ) (rest : List ℕ) → inputs zero limit rest ≡ record { requests = []; ending = Fault ManyLines }
+inputs-out : (limit : ℕ) (rest : List ℕ) → inputs zero limit rest ≡ record { requests = []; ending = Fault ManyLines; rest = rest }
 unfolding inputs
 inputs-out limit rest = refl
 
@@ -58,6 +58,7 @@ pub record Rounds (lines limit : ℕ) (bytes : List ℕ) (start : Timeline) (old
   pub wrote : Appends old.bytes out.bytes so_far
   pub text : (ms : List Bool) → output (refusals ++ ms) start (inputs lines limit bytes).requests ≡ so_far ++ output ms t (inputs left limit rest).requests
   pub ending : (inputs lines limit bytes).ending ≡ (inputs left limit rest).ending
+  pub behind : (inputs lines limit bytes).rest ≡ (inputs left limit rest).rest
 
 pub Rounds-start : (lines limit : ℕ) (bytes : List ℕ) (start : Timeline) (old : Writer) (feed : Reader) → feed.bytes ≡ Some bytes
     → Rounds lines limit bytes start old lines start feed old
@@ -69,6 +70,7 @@ Rounds-start lines limit bytes start old feed h = record {
   wrote = Appends-nil old.bytes;
   text = λ ms. refl;
   ending = refl;
+  behind = refl;
 }
 
 -- one round more
@@ -92,6 +94,7 @@ Rounds-more lines limit bytes start old left t next feed after out new out_of_me
           ∙ ap (λ s. r.so_far ++ (exchange out_of_memory t f.request ++ output ms s (inputs left limit f.rest).requests)) (sym h.2)
           ∙ sym (append_assoc r.so_far (exchange out_of_memory t f.request) (output ms next (inputs left limit f.rest).requests));
       ending = r.ending ∙ ap (λ i. i.ending) on;
+      behind = r.behind ∙ ap (λ i. i.rest) on;
     }
 
 -- a fault in a round: a prefix of the output is written
@@ -108,44 +111,73 @@ Rounds-prefix lines limit bytes start old left t feed out new out_of_memory r h 
     (AppendsPrefix-after old.bytes out.bytes new.bytes r.so_far (exchange out_of_memory t f.request ++ after) r.wrote
     (AppendsPrefix-more out.bytes new.bytes (exchange out_of_memory t f.request) after h))
 
--- the last round: the whole output is written
+-- the last round: the whole output is written, and the bytes behind it are left
+pub record Ends (lines limit : ℕ) (bytes : List ℕ) (start : Timeline) (old : Writer) (refusals : List Bool) (left : List ℕ) (new : Writer) (ended : Ended) : Type 0 where
+  pub ending : Some (inputs lines limit bytes).ending ≡ Some ended
+  pub behind : left ≡ (inputs lines limit bytes).rest
+  pub wrote : Appends old.bytes new.bytes (output refusals start (inputs lines limit bytes).requests)
+
 Rounds-last : (lines limit : ℕ) (bytes : List ℕ) (start : Timeline) (old : Writer) (left : ℕ) (t : Timeline) (feed : Reader) (out new : Writer) (out_of_memory : Bool) (ended : Ended)
     → (r : Rounds lines limit bytes start old (suc left) t feed out) → ending_of (first limit r.rest).request ≡ Some ended
     → Appends out.bytes new.bytes (exchange out_of_memory t (first limit r.rest).request)
-    → (Some (inputs lines limit bytes).ending ≡ Some ended)
-    × Appends old.bytes new.bytes (output (r.refusals ++ out_of_memory ∷ []) start (inputs lines limit bytes).requests)
+    → Ends lines limit bytes start old (r.refusals ++ out_of_memory ∷ []) (first limit r.rest).rest new ended
 Rounds-last lines limit bytes start old left t feed out new out_of_memory ended r e h =
     let f = first limit r.rest in
     let last = inputs-last left limit r.rest ended e in
     let whole : output (r.refusals ++ out_of_memory ∷ []) start (inputs lines limit bytes).requests ≡ r.so_far ++ exchange out_of_memory t f.request =
     r.text (out_of_memory ∷ []) ∙ ap (λ i. r.so_far ++ output (out_of_memory ∷ []) t i.requests) last
-    ∙ ap (λ l. r.so_far ++ l) (output-cons out_of_memory [] t f.request [] ∙ ap (λ l. exchange out_of_memory t f.request ++ l) (output-nil [] (outcome out_of_memory t f.request).timeline) ∙ append-nil (exchange out_of_memory t f.request)) in (
-      ap Some (r.ending ∙ ap (λ i. i.ending) last),
-      subst (λ l. Appends old.bytes new.bytes l) (sym whole) (Appends-trans old.bytes out.bytes new.bytes r.so_far (exchange out_of_memory t f.request) r.wrote h),
-    )
+    ∙ ap (λ l. r.so_far ++ l) (output-cons out_of_memory [] t f.request [] ∙ ap (λ l. exchange out_of_memory t f.request ++ l) (output-nil [] (outcome out_of_memory t f.request).timeline) ∙ append-nil (exchange out_of_memory t f.request)) in
+    record {
+      ending = ap Some (r.ending ∙ ap (λ i. i.ending) last);
+      behind = sym (r.behind ∙ ap (λ i. i.rest) last);
+      wrote = subst (λ l. Appends old.bytes new.bytes l) (sym whole) (Appends-trans old.bytes out.bytes new.bytes r.so_far (exchange out_of_memory t f.request) r.wrote h);
+    }
+
+-- so it is left where nothing failed
+Rounds-whole : (lines limit : ℕ) (bytes : List ℕ) (start : Timeline) (old : Writer) (left : ℕ) (t : Timeline) (feed after : Reader) (out new : Writer) (out_of_memory : Bool) (ended : Ended)
+    → (r : Rounds lines limit bytes start old (suc left) t feed out) → ending_of (first limit r.rest).request ≡ Some ended
+    → after.bytes ≡ Some (first limit r.rest).rest
+    → Appends out.bytes new.bytes (exchange out_of_memory t (first limit r.rest).request)
+    → (Some (inputs lines limit bytes).ending ≡ Some ended) × (after.bytes ≡ Some (inputs lines limit bytes).rest)
+    × Appends old.bytes new.bytes (output (r.refusals ++ out_of_memory ∷ []) start (inputs lines limit bytes).requests)
+Rounds-whole lines limit bytes start old left t feed after out new out_of_memory ended r e unread h =
+    let last = Rounds-last lines limit bytes start old left t feed out new out_of_memory ended r e h in
+    (last.ending, unread ∙ ap Some last.behind, last.wrote)
 
 -- a round in which the run ends
-pub Rounds-end : (lines limit : ℕ) (bytes : List ℕ) (start : Timeline) (old : Writer) (left : ℕ) (t : Timeline) (feed : Reader) (out new : Writer) (out_of_memory : Bool) (ended : Ended)
+pub Rounds-end : (lines limit : ℕ) (bytes : List ℕ) (start : Timeline) (old : Writer) (left : ℕ) (t : Timeline) (feed after : Reader) (out new : Writer) (out_of_memory : Bool) (ended : Ended)
     → (r : Rounds lines limit bytes start old (suc left) t feed out)
-    → Leaves (exchange out_of_memory t (first limit r.rest).request) (ending_of (first limit r.rest).request) out new ended
-    → LeavesRun (inputs lines limit bytes) start old new ended
-Rounds-end lines limit bytes start old left t feed out new out_of_memory (Fault Read) r h = (r.refusals ++ out_of_memory ∷ [], Rounds-prefix lines limit bytes start old left t feed out new out_of_memory r h)
-Rounds-end lines limit bytes start old left t feed out new out_of_memory (Fault Write) r h = (r.refusals ++ out_of_memory ∷ [], Rounds-prefix lines limit bytes start old left t feed out new out_of_memory r h)
-Rounds-end lines limit bytes start old left t feed out new out_of_memory (Fault Memory) r h = (r.refusals ++ out_of_memory ∷ [], Rounds-prefix lines limit bytes start old left t feed out new out_of_memory r h)
-Rounds-end lines limit bytes start old left t feed out new out_of_memory (Fault LongLine) r h = (r.refusals ++ out_of_memory ∷ [], Rounds-last lines limit bytes start old left t feed out new out_of_memory (Fault LongLine) r h.0 h.1)
-Rounds-end lines limit bytes start old left t feed out new out_of_memory (Fault ManyLines) r h = (r.refusals ++ out_of_memory ∷ [], Rounds-last lines limit bytes start old left t feed out new out_of_memory (Fault ManyLines) r h.0 h.1)
-Rounds-end lines limit bytes start old left t feed out new out_of_memory Done r h = (r.refusals ++ out_of_memory ∷ [], Rounds-last lines limit bytes start old left t feed out new out_of_memory Done r h.0 h.1)
-Rounds-end lines limit bytes start old left t feed out new out_of_memory Cut r h = (r.refusals ++ out_of_memory ∷ [], Rounds-last lines limit bytes start old left t feed out new out_of_memory Cut r h.0 h.1)
-Rounds-end lines limit bytes start old left t feed out new out_of_memory (Operand place why) r h = (r.refusals ++ out_of_memory ∷ [], Rounds-last lines limit bytes start old left t feed out new out_of_memory (Operand place why) r h.0 h.1)
+    → Leaves (exchange out_of_memory t (first limit r.rest).request) (ending_of (first limit r.rest).request) (first limit r.rest).rest after out new ended
+    → LeavesRun (inputs lines limit bytes) start after old new ended
+Rounds-end lines limit bytes start old left t feed after out new out_of_memory (Fault Read) r h = (r.refusals ++ out_of_memory ∷ [], Rounds-prefix lines limit bytes start old left t feed out new out_of_memory r h)
+Rounds-end lines limit bytes start old left t feed after out new out_of_memory (Fault Write) r h = (r.refusals ++ out_of_memory ∷ [], Rounds-prefix lines limit bytes start old left t feed out new out_of_memory r h)
+Rounds-end lines limit bytes start old left t feed after out new out_of_memory (Fault Memory) r h = (r.refusals ++ out_of_memory ∷ [], Rounds-prefix lines limit bytes start old left t feed out new out_of_memory r h)
+Rounds-end lines limit bytes start old left t feed after out new out_of_memory (Fault LongLine) r h =
+    let last = Rounds-last lines limit bytes start old left t feed out new out_of_memory (Fault LongLine) r h.0 h.1 in
+    (r.refusals ++ out_of_memory ∷ [], (last.ending, last.wrote))
+Rounds-end lines limit bytes start old left t feed after out new out_of_memory (Fault ManyLines) r h =
+    (r.refusals ++ out_of_memory ∷ [], Rounds-whole lines limit bytes start old left t feed after out new out_of_memory (Fault ManyLines) r h.0 h.1 h.2)
+Rounds-end lines limit bytes start old left t feed after out new out_of_memory Done r h =
+    (r.refusals ++ out_of_memory ∷ [], Rounds-whole lines limit bytes start old left t feed after out new out_of_memory Done r h.0 h.1 h.2)
+Rounds-end lines limit bytes start old left t feed after out new out_of_memory Cut r h =
+    (r.refusals ++ out_of_memory ∷ [], Rounds-whole lines limit bytes start old left t feed after out new out_of_memory Cut r h.0 h.1 h.2)
+Rounds-end lines limit bytes start old left t feed after out new out_of_memory (Operand place why) r h =
+    (r.refusals ++ out_of_memory ∷ [], Rounds-whole lines limit bytes start old left t feed after out new out_of_memory (Operand place why) r h.0 h.1 h.2)
 
 -- no line is left
 pub Rounds-out : (lines limit : ℕ) (bytes : List ℕ) (start : Timeline) (old : Writer) (t : Timeline) (feed : Reader) (out : Writer)
-    → Rounds lines limit bytes start old zero t feed out → LeavesRun (inputs lines limit bytes) start old out (Fault ManyLines)
+    → Rounds lines limit bytes start old zero t feed out → LeavesRun (inputs lines limit bytes) start feed old out (Fault ManyLines)
 Rounds-out lines limit bytes start old t feed out r =
     let none = inputs-out limit r.rest in
     let whole : output (r.refusals ++ []) start (inputs lines limit bytes).requests ≡ r.so_far =
-    r.text [] ∙ ap (λ i. r.so_far ++ output [] t i.requests) none ∙ ap (λ l. r.so_far ++ l) (output-nil [] t) ∙ append-nil r.so_far in
-    (r.refusals ++ [], (ap Some (r.ending ∙ ap (λ i. i.ending) none), subst (λ l. Appends old.bytes out.bytes l) (sym whole) r.wrote))
+    r.text [] ∙ ap (λ i. r.so_far ++ output [] t i.requests) none ∙ ap (λ l. r.so_far ++ l) (output-nil [] t) ∙ append-nil r.so_far in (
+      r.refusals ++ [],
+      (
+        ap Some (r.ending ∙ ap (λ i. i.ending) none),
+        r.unread ∙ ap Some (sym (r.behind ∙ ap (λ i. i.rest) none)),
+        subst (λ l. Appends old.bytes out.bytes l) (sym whole) r.wrote,
+      ),
+    )
 
 -- a round in a run: what it leaves is known for all bytes that the feed may have
 pub Rounds-next : (lines limit : ℕ) (bytes : List ℕ) (start : Timeline) (old : Writer) (n left : ℕ) (t next : Timeline) (feed after : Reader) (out new : Writer)
@@ -157,14 +189,15 @@ Rounds-next lines limit bytes start old n left t next feed after out new e s h =
     let m = h r.rest r.unread in
     Rounds-more lines limit bytes start old left t next feed after out new m.0 r m.1
 
-pub Rounds-stop : (lines limit : ℕ) (bytes : List ℕ) (start : Timeline) (old : Writer) (n left : ℕ) (t : Timeline) (feed : Reader) (out new : Writer) (ended : Ended)
+pub Rounds-stop : (lines limit : ℕ) (bytes : List ℕ) (start : Timeline) (old : Writer) (n left : ℕ) (t : Timeline) (feed after : Reader) (out new : Writer) (ended : Ended)
     → n ≡ suc left → Rounds lines limit bytes start old n t feed out
-    → ((rest : List ℕ) → feed.bytes ≡ Some rest → (out_of_memory : Bool) × Leaves (exchange out_of_memory t (first limit rest).request) (ending_of (first limit rest).request) out new ended)
-    → LeavesRun (inputs lines limit bytes) start old new ended
-Rounds-stop lines limit bytes start old n left t feed out new ended e s h =
+    → ((rest : List ℕ) → feed.bytes ≡ Some rest
+    → (out_of_memory : Bool) × Leaves (exchange out_of_memory t (first limit rest).request) (ending_of (first limit rest).request) (first limit rest).rest after out new ended)
+    → LeavesRun (inputs lines limit bytes) start after old new ended
+Rounds-stop lines limit bytes start old n left t feed after out new ended e s h =
     let r : Rounds lines limit bytes start old (suc left) t feed out = subst (λ k. Rounds lines limit bytes start old k t feed out) e s in
     let m = h r.rest r.unread in
-    Rounds-end lines limit bytes start old left t feed out new m.0 ended r m.1
+    Rounds-end lines limit bytes start old left t feed after out new m.0 ended r m.1
 
 -- the same, whatever follows what was read
 pub Follows-start : (lines limit n : ℕ) (start : Timeline) (old : Writer) (feed : Reader) → lines ≡ n
@@ -187,61 +220,63 @@ Follows-next lines limit start old n left t next feed mid after out new e s h =
 
 pub Follows-stop : (lines limit : ℕ) (start : Timeline) (old : Writer) (n left : ℕ) (t : Timeline) (feed mid after : Reader) (out new : Writer) (ended : Ended) → n ≡ suc left
     → WhateverFollows feed mid (λ bytes at. Rounds lines limit bytes start old n t at out)
-    → WhateverFollows mid after (λ bytes at. (out_of_memory : Bool) × Leaves (exchange out_of_memory t (first limit bytes).request) (ending_of (first limit bytes).request) out new ended)
-    → WhateverFollows feed after (λ bytes at. LeavesRun (inputs lines limit bytes) start old new ended)
+    → WhateverFollows mid after (λ bytes at. (out_of_memory : Bool) × Leaves (exchange out_of_memory t (first limit bytes).request) (ending_of (first limit bytes).request) (first limit bytes).rest at out new ended)
+    → WhateverFollows feed after (λ bytes at. LeavesRun (inputs lines limit bytes) start at old new ended)
 Follows-stop lines limit start old n left t feed mid after out new ended e s h =
     Follows-then feed mid after (λ bytes at. Rounds lines limit bytes start old n t at out)
-    (λ bytes at. (out_of_memory : Bool) × Leaves (exchange out_of_memory t (first limit bytes).request) (ending_of (first limit bytes).request) out new ended)
-    (λ bytes at. LeavesRun (inputs lines limit bytes) start old new ended) s h
+    (λ bytes at. (out_of_memory : Bool) × Leaves (exchange out_of_memory t (first limit bytes).request) (ending_of (first limit bytes).request) (first limit bytes).rest at out new ended)
+    (λ bytes at. LeavesRun (inputs lines limit bytes) start at old new ended) s h
     (λ bytes more at rounds round.
-    Rounds-stop lines limit bytes start old n left t (leaving mid more) out new ended e rounds
+    Rounds-stop lines limit bytes start old n left t (leaving mid more) at out new ended e rounds
     (λ rest same.
-    subst (λ l. (out_of_memory : Bool) × Leaves (exchange out_of_memory t (first limit l).request) (ending_of (first limit l).request) out new ended)
+    subst (λ l. (out_of_memory : Bool) × Leaves (exchange out_of_memory t (first limit l).request) (ending_of (first limit l).request) (first limit l).rest at out new ended)
     (Some-same more rest same) round))
 
 pub Follows-out : (lines limit : ℕ) (start : Timeline) (old : Writer) (n : ℕ) (t : Timeline) (feed after : Reader) (out : Writer) → n ≡ zero
     → WhateverFollows feed after (λ bytes at. Rounds lines limit bytes start old n t at out)
-    → WhateverFollows feed after (λ bytes at. LeavesRun (inputs lines limit bytes) start old out (Fault ManyLines))
+    → WhateverFollows feed after (λ bytes at. LeavesRun (inputs lines limit bytes) start at old out (Fault ManyLines))
 Follows-out lines limit start old n t feed after out e s =
-    Follows-so feed after (λ bytes at. Rounds lines limit bytes start old n t at out) (λ bytes at. LeavesRun (inputs lines limit bytes) start old out (Fault ManyLines)) s
+    Follows-so feed after (λ bytes at. Rounds lines limit bytes start old n t at out) (λ bytes at. LeavesRun (inputs lines limit bytes) start at old out (Fault ManyLines)) s
     (λ bytes at rounds. Rounds-out lines limit bytes start old t at out (subst (λ k. Rounds lines limit bytes start old k t at out) e rounds))
 
 -- no memory for a line, and so no round
 pub Follows-none : (lines limit : ℕ) (start : Timeline) (out : Writer) (feed : Reader)
-    → WhateverFollows feed feed (λ bytes at. LeavesRun (inputs lines limit bytes) start out out (Fault Memory))
+    → WhateverFollows feed feed (λ bytes at. LeavesRun (inputs lines limit bytes) start at out out (Fault Memory))
 Follows-none lines limit start out feed =
-    Follows-nothing feed (λ bytes at. LeavesRun (inputs lines limit bytes) start out out (Fault Memory))
+    Follows-nothing feed (λ bytes at. LeavesRun (inputs lines limit bytes) start at out out (Fault Memory))
     (λ bytes at known. ([], ([], output [] start (inputs lines limit bytes).requests, refl, Appends-nil out.bytes)))
 
 -- a last flush that fails: of all that a run leaves, a prefix is left
-Leaves-prefix : (text : List ℕ) (meant : Option Ended) (old new : Writer) (ended : Ended) → Leaves text meant old new ended → AppendsPrefix old.bytes new.bytes text
-Leaves-prefix text meant old new (Fault Read) p = p
-Leaves-prefix text meant old new (Fault Write) p = p
-Leaves-prefix text meant old new (Fault Memory) p = p
-Leaves-prefix text meant old new (Fault LongLine) p = AppendsPrefix-whole old.bytes new.bytes text p.1
-Leaves-prefix text meant old new (Fault ManyLines) p = AppendsPrefix-whole old.bytes new.bytes text p.1
-Leaves-prefix text meant old new Done p = AppendsPrefix-whole old.bytes new.bytes text p.1
-Leaves-prefix text meant old new Cut p = AppendsPrefix-whole old.bytes new.bytes text p.1
-Leaves-prefix text meant old new (Operand place why) p = AppendsPrefix-whole old.bytes new.bytes text p.1
+Leaves-prefix : (text : List ℕ) (meant : Option Ended) (rest : List ℕ) (feed : Reader) (old new : Writer) (ended : Ended) → Leaves text meant rest feed old new ended
+    → AppendsPrefix old.bytes new.bytes text
+Leaves-prefix text meant rest feed old new (Fault Read) p = p
+Leaves-prefix text meant rest feed old new (Fault Write) p = p
+Leaves-prefix text meant rest feed old new (Fault Memory) p = p
+Leaves-prefix text meant rest feed old new (Fault LongLine) p = AppendsPrefix-whole old.bytes new.bytes text p.1
+Leaves-prefix text meant rest feed old new (Fault ManyLines) p = AppendsPrefix-whole old.bytes new.bytes text p.2
+Leaves-prefix text meant rest feed old new Done p = AppendsPrefix-whole old.bytes new.bytes text p.2
+Leaves-prefix text meant rest feed old new Cut p = AppendsPrefix-whole old.bytes new.bytes text p.2
+Leaves-prefix text meant rest feed old new (Operand place why) p = AppendsPrefix-whole old.bytes new.bytes text p.2
 
-pub LeavesRun-unflushed : (i : Inputs) (start : Timeline) (old mid new : Writer) (ended : Ended) → Keeps mid.bytes new.bytes → LeavesRun i start old mid ended
-    → LeavesRun i start old new (Fault Write)
-LeavesRun-unflushed i start old mid new ended kept run =
-    let p : AppendsPrefix old.bytes mid.bytes (output run.0 start i.requests) = Leaves-prefix (output run.0 start i.requests) (Some i.ending) old mid ended run.1 in
+pub LeavesRun-unflushed : (i : Inputs) (start : Timeline) (feed : Reader) (old mid new : Writer) (ended : Ended) → Keeps mid.bytes new.bytes → LeavesRun i start feed old mid ended
+    → LeavesRun i start feed old new (Fault Write)
+LeavesRun-unflushed i start feed old mid new ended kept run =
+    let p : AppendsPrefix old.bytes mid.bytes (output run.0 start i.requests) = Leaves-prefix (output run.0 start i.requests) (Some i.ending) i.rest feed old mid ended run.1 in
     (run.0, (p.0, p.1, p.2, Appends-kept old.bytes mid.bytes new.bytes p.0 p.3 kept))
 
 -- a last flush keeps what was written
-Leaves-kept : (text : List ℕ) (meant : Option Ended) (old mid new : Writer) (ended : Ended) → Keeps mid.bytes new.bytes → Leaves text meant old mid ended
-    → Leaves text meant old new ended
-Leaves-kept text meant old mid new (Fault Read) kept p = (p.0, p.1, p.2, Appends-kept old.bytes mid.bytes new.bytes p.0 p.3 kept)
-Leaves-kept text meant old mid new (Fault Write) kept p = (p.0, p.1, p.2, Appends-kept old.bytes mid.bytes new.bytes p.0 p.3 kept)
-Leaves-kept text meant old mid new (Fault Memory) kept p = (p.0, p.1, p.2, Appends-kept old.bytes mid.bytes new.bytes p.0 p.3 kept)
-Leaves-kept text meant old mid new (Fault LongLine) kept p = (p.0, Appends-kept old.bytes mid.bytes new.bytes text p.1 kept)
-Leaves-kept text meant old mid new (Fault ManyLines) kept p = (p.0, Appends-kept old.bytes mid.bytes new.bytes text p.1 kept)
-Leaves-kept text meant old mid new Done kept p = (p.0, Appends-kept old.bytes mid.bytes new.bytes text p.1 kept)
-Leaves-kept text meant old mid new Cut kept p = (p.0, Appends-kept old.bytes mid.bytes new.bytes text p.1 kept)
-Leaves-kept text meant old mid new (Operand place why) kept p = (p.0, Appends-kept old.bytes mid.bytes new.bytes text p.1 kept)
+Leaves-kept : (text : List ℕ) (meant : Option Ended) (rest : List ℕ) (feed : Reader) (old mid new : Writer) (ended : Ended) → Keeps mid.bytes new.bytes
+    → Leaves text meant rest feed old mid ended → Leaves text meant rest feed old new ended
+Leaves-kept text meant rest feed old mid new (Fault Read) kept p = (p.0, p.1, p.2, Appends-kept old.bytes mid.bytes new.bytes p.0 p.3 kept)
+Leaves-kept text meant rest feed old mid new (Fault Write) kept p = (p.0, p.1, p.2, Appends-kept old.bytes mid.bytes new.bytes p.0 p.3 kept)
+Leaves-kept text meant rest feed old mid new (Fault Memory) kept p = (p.0, p.1, p.2, Appends-kept old.bytes mid.bytes new.bytes p.0 p.3 kept)
+Leaves-kept text meant rest feed old mid new (Fault LongLine) kept p = (p.0, Appends-kept old.bytes mid.bytes new.bytes text p.1 kept)
+Leaves-kept text meant rest feed old mid new (Fault ManyLines) kept p = (p.0, p.1, Appends-kept old.bytes mid.bytes new.bytes text p.2 kept)
+Leaves-kept text meant rest feed old mid new Done kept p = (p.0, p.1, Appends-kept old.bytes mid.bytes new.bytes text p.2 kept)
+Leaves-kept text meant rest feed old mid new Cut kept p = (p.0, p.1, Appends-kept old.bytes mid.bytes new.bytes text p.2 kept)
+Leaves-kept text meant rest feed old mid new (Operand place why) kept p = (p.0, p.1, Appends-kept old.bytes mid.bytes new.bytes text p.2 kept)
 
-pub LeavesRun-flushed : (i : Inputs) (start : Timeline) (old mid new : Writer) (ended : Ended) → Keeps mid.bytes new.bytes → LeavesRun i start old mid ended
-    → LeavesRun i start old new ended
-LeavesRun-flushed i start old mid new ended kept run = (run.0, Leaves-kept (output run.0 start i.requests) (Some i.ending) old mid new ended kept run.1)
+pub LeavesRun-flushed : (i : Inputs) (start : Timeline) (feed : Reader) (old mid new : Writer) (ended : Ended) → Keeps mid.bytes new.bytes → LeavesRun i start feed old mid ended
+    → LeavesRun i start feed old new ended
+LeavesRun-flushed i start feed old mid new ended kept run =
+    (run.0, Leaves-kept (output run.0 start i.requests) (Some i.ending) i.rest feed old mid new ended kept run.1)

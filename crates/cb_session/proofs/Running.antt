@@ -13,18 +13,18 @@ use Rattle.cb_tags.specs.Writers.{Writer}
 
 -- the operands were loaded
 pub Follows-loaded : (files : List File) (lines limit : ℕ) (t : Timeline) (feed after : Reader) (old new : Writer) (ended : Ended) → Loads 0 new_timeline files (Ok t)
-    → WhateverFollows feed after (λ bytes at. LeavesRun (inputs lines limit bytes) t old new ended)
-    → WhateverFollows feed after (λ bytes at. Runs files (inputs lines limit bytes) old new ended)
+    → WhateverFollows feed after (λ bytes at. LeavesRun (inputs lines limit bytes) t at old new ended)
+    → WhateverFollows feed after (λ bytes at. Runs files lines limit bytes at old new ended)
 Follows-loaded files lines limit t feed after old new ended loads s =
-    Follows-so feed after (λ bytes at. LeavesRun (inputs lines limit bytes) t old new ended) (λ bytes at. Runs files (inputs lines limit bytes) old new ended) s
+    Follows-so feed after (λ bytes at. LeavesRun (inputs lines limit bytes) t at old new ended) (λ bytes at. Runs files lines limit bytes at old new ended) s
     (λ bytes at run. (Ok t, loads, run))
 
 -- an operand was refused
 pub Follows-refused : (files : List File) (lines limit : ℕ) (feed : Reader) (out : Writer) (ended : Ended) → Prepares files (Err ended)
-    → WhateverFollows feed feed (λ bytes at. Runs files (inputs lines limit bytes) out out ended)
+    → WhateverFollows feed feed (λ bytes at. Runs files lines limit bytes at out out ended)
 Follows-refused files lines limit feed out (Operand place why) p =
-    Follows-nothing feed (λ bytes at. Runs files (inputs lines limit bytes) out out (Operand place why))
-    (λ bytes at known. (Err (record { place = place; why = why }), p, (refl, refl)))
+    Follows-nothing feed (λ bytes at. Runs files lines limit bytes at out out (Operand place why))
+    (λ bytes at known. (Err (record { place = place; why = why }), p, (refl, known, refl)))
 Follows-refused files lines limit feed out Done p = absurd p
 Follows-refused files lines limit feed out Cut p = absurd p
 Follows-refused files lines limit feed out (Fault fault) p = absurd p

@@ -13,8 +13,6 @@ use Rattle.cb_tags.specs.Writers.{Writer}
 use Rattle.cb_tags.specs.Writing.{PutsAll, PutsPrefix}
 use Rattle.cb_tags.proofs.Prefixes.{PutsAll-after, PutsPrefix-more, PutsPrefix-after}
 use Rattle.cb_desk.specs.Answer.{AnswerRow, line_row, unindented}
-use Rattle.cb_desk.specs.declared.refusal.Refusal.{Refusal}
-use Rattle.std.specs.Prelude.{Ok, Err}
 use Rattle.cb_session.specs.Output.{row_line, count_line, answer_lines}
 use Rattle.cb_session.specs.Places.{place_row, stack_rows}
 use Rattle.cb_session.specs.Writing.{Puts}

@@ -60,18 +60,19 @@ ending_of overlong = Some (Fault LongLine)
 ending_of (refused r) = if is_cut r then Some Cut else None
 ending_of _ = None
 
--- the requests of a run and its ending
+-- the requests of a run, its ending, and the bytes that are left after its last request
 pub record Inputs : Type 0 where
   pub requests : List Request
   pub ending : Ended
+  pub rest : List ℕ
 
 -- the last request ends the inputs, and each other goes on with the inputs after it
-abbrev pub begin_with : Request → Option Ended → Inputs → Inputs
-begin_with e (Some ended) after = record { requests = e ∷ []; ending = ended }
-begin_with e None after = record { requests = e ∷ after.requests; ending = after.ending }
+abbrev pub begin_with : First → Option Ended → Inputs → Inputs
+begin_with f (Some ended) after = record { requests = f.request ∷ []; ending = ended; rest = f.rest }
+begin_with f None after = record after { requests = f.request ∷ after.requests }
 
 -- the inputs of a byte stream, where a run allows so many lines and at most `limit` bytes in each
 unfoldable pub inputs : ℕ → ℕ → List ℕ → Inputs
-inputs zero limit bytes = record { requests = []; ending = Fault ManyLines }
+inputs zero limit bytes = record { requests = []; ending = Fault ManyLines; rest = bytes }
 inputs (suc lines) limit bytes =
-    let f = first limit bytes in begin_with f.request (ending_of f.request) (inputs lines limit f.rest)
+    let f = first limit bytes in begin_with f (ending_of f.request) (inputs lines limit f.rest)

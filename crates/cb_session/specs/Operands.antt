@@ -1,5 +1,5 @@
 -- Operands: the files that are loaded before a run.
-use Rattle.std.specs.Prelude.{◌≡◌, ℕ, ◌+◌, List, [], ◌∷◌, Result, Ok, Err, IsOk}
+use Rattle.std.specs.Prelude.{◌≡◌, ℕ, ◌+◌, List, [], ◌∷◌, Some, Result, Ok, Err, IsOk}
 use Rattle.cb_desk.specs.declared.refusal.Refusal.{Refusal}
 use Rattle.cb_desk.specs.declared.refusal.Refusal.TheVariants.{OutOfMemory}
 use Rattle.cb_session.specs.declared.input.Ended.{Ended}
@@ -8,7 +8,8 @@ use Rattle.cb_session.specs.declared.operands.Operand.{Operand}
 use Rattle.cb_desk.specs.World.{File}
 use Rattle.cb_desk.specs.Step.{load}
 use Rattle.cb_desk.specs.Timeline.{Timeline, new_timeline, changed}
-use Rattle.cb_session.specs.Inputs.{Inputs}
+use Rattle.cb_session.specs.Devices.{Reader}
+use Rattle.cb_session.specs.Inputs.{inputs}
 use Rattle.cb_session.specs.Serving.{LeavesRun}
 use Rattle.cb_tags.specs.Writers.{Writer}
 
@@ -38,11 +39,14 @@ Prepares files (Ok t) = Loads 0 new_timeline files (Ok t)
 Prepares files (Err (StoppedAt place why)) = Loads 0 new_timeline files (Err (record { place = place; why = why }))
 Prepares files (Err _) = ⊥
 
--- a run that begins where the loads lead; where one is refused nothing is written
-abbrev pub RunsFrom : Result Timeline RefusedOperand → Inputs → Writer → Writer → Ended → Type 0
-RunsFrom (Ok t) i old new ended = LeavesRun i t old new ended
-RunsFrom (Err stop) i old new ended = (ended ≡ StoppedAt stop.place stop.why) × (new ≡ old)
+-- a run over these bytes, which allows so many lines and at most `limit` bytes in each, that begins
+-- where the loads lead; where one is refused nothing is read and nothing is written
+abbrev pub RunsFrom : Result Timeline RefusedOperand → (lines limit : ℕ) → List ℕ → Reader → Writer → Writer → Ended → Type 0
+RunsFrom (Ok t) lines limit bytes feed old new ended = LeavesRun (inputs lines limit bytes) t feed old new ended
+RunsFrom (Err stop) lines limit bytes feed old new ended =
+    (ended ≡ StoppedAt stop.place stop.why) × (feed.bytes ≡ Some bytes) × (new ≡ old)
 
 -- a run with operands
-abbrev pub Runs : List File → Inputs → Writer → Writer → Ended → Type 0
-Runs files i old new ended = (end : Result Timeline RefusedOperand) × Loads 0 new_timeline files end × RunsFrom end i old new ended
+abbrev pub Runs : List File → (lines limit : ℕ) → List ℕ → Reader → Writer → Writer → Ended → Type 0
+Runs files lines limit bytes feed old new ended =
+    (end : Result Timeline RefusedOperand) × Loads 0 new_timeline files end × RunsFrom end lines limit bytes feed old new ended

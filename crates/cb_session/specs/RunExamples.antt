@@ -33,26 +33,34 @@ running = tt
 pub lines_cut : inputs 9 5000 (codes ":undo\n\n1") ≡ record {
   requests = undo ∷ nothing ∷ refused NoPattern ∷ quit ∷ [];
   ending = Done;
+  rest = [];
 }
 unfolding reading
 lines_cut = refl
 
--- a block follows its line, and the next line follows the block at once
-pub block_cut : inputs 9 5000 (codes ":load a.c 2\n{}1f\nq") ≡ record {
+-- a block follows its line, and the next line follows the block at once; what comes behind `q` is
+-- left
+pub block_cut : inputs 9 5000 (codes ":load a.c 2\n{}1f\nq\n1f\n") ≡ record {
   requests = change (load (codes "a.c") (codes "{}")) ∷ query Definition (codes "f") ∷ quit ∷ [];
   ending = Done;
+  rest = codes "1f\n";
 }
 unfolding reading
 block_cut = refl
 
 -- so does the block of a reload, whatever its name is
 pub reload_cut : inputs 9 5000 (codes ":reload a 2\n{}:undo\n:reload a.c 1 \n:reload a.c\n")
-    ≡ record { requests = change (reload (codes "a") (codes "{}")) ∷ undo ∷ refused UnknownCommand ∷ refused BadCount ∷ quit ∷ []; ending = Done }
+    ≡ record {
+      requests = change (reload (codes "a") (codes "{}")) ∷ undo ∷ refused UnknownCommand ∷ refused BadCount ∷ quit ∷ [];
+      ending = Done;
+      rest = [];
+    }
 unfolding reading
 reload_cut = refl
 
 -- input that ends in a block ends the run
-pub short_block : inputs 9 5000 (codes ":load a.c 3\n{}") ≡ record { requests = refused InputEnded ∷ []; ending = Cut }
+pub short_block : inputs 9 5000 (codes ":load a.c 3\n{}")
+    ≡ record { requests = refused InputEnded ∷ []; ending = Cut; rest = [] }
 unfolding reading
 short_block = refl
 
@@ -60,16 +68,19 @@ short_block = refl
 pub words_cut : inputs 9 5000 (codes ":drop\n:rename a.c\n:tag f 2\n:tag f 2 \n:tag f x\n") ≡ record {
   requests = change (unload []) ∷ change (rename (codes "a.c") []) ∷ change (tag (codes "f") 2) ∷ refused UnknownCommand ∷ refused BadCount ∷ quit ∷ [];
   ending = Done;
+  rest = [];
 }
 unfolding reading
 words_cut = refl
 
 -- a line with a byte too many ends the run, and so does the last line that is allowed
-pub long_line : inputs 9 4 (codes ":undo") ≡ record { requests = overlong ∷ []; ending = Fault LongLine }
+pub long_line : inputs 9 4 (codes ":undo")
+    ≡ record { requests = overlong ∷ []; ending = Fault LongLine; rest = [] }
 unfolding reading
 long_line = refl
 
-pub many_lines : inputs 2 5 (codes ":undo\n:redo\n") ≡ record { requests = undo ∷ redo ∷ []; ending = Fault ManyLines }
+pub many_lines : inputs 2 5 (codes ":undo\n:redo\n1f\n")
+    ≡ record { requests = undo ∷ redo ∷ []; ending = Fault ManyLines; rest = codes "1f\n" }
 unfolding reading
 many_lines = refl
 

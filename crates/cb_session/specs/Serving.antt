@@ -4,7 +4,7 @@ use Rattle.std.specs.Io.KnownBytes.{Appends}
 use Rattle.cb_session.specs.declared.feed.Stage.TheVariants.{Failed}
 use Rattle.cb_session.specs.declared.input.Ended.{Ended}
 use Rattle.cb_session.specs.declared.input.Ended.TheVariants.{Fault}
-use Rattle.cb_session.specs.declared.input.Fault.TheVariants.{Read, Write, Memory}
+use Rattle.cb_session.specs.declared.input.Fault.TheVariants.{Read, Write, Memory, LongLine}
 use Rattle.cb_session.specs.declared.input.Fault.{Fault as Reason}
 use Rattle.cb_desk.specs.Timeline.{Timeline}
 use Rattle.cb_tags.specs.Writers.{Writer}
@@ -19,17 +19,19 @@ abbrev pub Does : {A : Type 0} → Outcome → Timeline → Writer → Writer �
 Does o next old new result = (next ≡ o.timeline) × Puts old new result o.reply
 
 -- after a fault of a device or of memory a prefix of the text is written; else the whole text is,
--- and the ending is the one meant
-abbrev pub Leaves : List ℕ → Option Ended → Writer → Writer → Ended → Type 0
-Leaves text meant old new (Fault Read) = AppendsPrefix old.bytes new.bytes text
-Leaves text meant old new (Fault Write) = AppendsPrefix old.bytes new.bytes text
-Leaves text meant old new (Fault Memory) = AppendsPrefix old.bytes new.bytes text
-Leaves text meant old new ended = (meant ≡ Some ended) × Appends old.bytes new.bytes text
+-- the ending is the one meant, and the bytes that are left are still to be read; of a line that is
+-- too long for the run they are not known
+abbrev pub Leaves : List ℕ → Option Ended → List ℕ → Reader → Writer → Writer → Ended → Type 0
+Leaves text meant rest feed old new (Fault Read) = AppendsPrefix old.bytes new.bytes text
+Leaves text meant rest feed old new (Fault Write) = AppendsPrefix old.bytes new.bytes text
+Leaves text meant rest feed old new (Fault Memory) = AppendsPrefix old.bytes new.bytes text
+Leaves text meant rest feed old new (Fault LongLine) = (meant ≡ Some (Fault LongLine)) × Appends old.bytes new.bytes text
+Leaves text meant rest feed old new ended = (meant ≡ Some ended) × (feed.bytes ≡ Some rest) × Appends old.bytes new.bytes text
 
--- a run over these inputs: its output, for some list that says which inputs memory refused, and its
--- ending
-abbrev pub LeavesRun : Inputs → Timeline → Writer → Writer → Ended → Type 0
-LeavesRun i t old new ended = (refusals : List Bool) × Leaves (output refusals t i.requests) (Some i.ending) old new ended
+-- a run over these inputs: its output, for some list that says which inputs memory refused, its
+-- ending, and no byte read behind its last request
+abbrev pub LeavesRun : Inputs → Timeline → Reader → Writer → Writer → Ended → Type 0
+LeavesRun i t feed old new ended = (refusals : List Bool) × Leaves (output refusals t i.requests) (Some i.ending) i.rest feed old new ended
 
 -- a fault of a device is answered only where that device has failed
 abbrev pub HasFailed : Reader → Writer → Reason → Type 0

@@ -1,7 +1,6 @@
 //! Files that are loaded before a run.
 ghost use Rattle.std.specs.Prelude.{◌≡◌, List, ℕ, Some, map};
 ghost use Rattle.cb_session.specs.Devices.{WhateverFollows};
-ghost use Rattle.cb_session.specs.Inputs.{inputs};
 ghost use Rattle.cb_session.specs.Serving.{HasFailed, IfFault, Tells, fault_of};
 ghost use Rattle.cb_session.specs.Operands.{file_of_operand, Prepares, Runs};
 
@@ -50,8 +49,8 @@ pub fn run<R: BufRead, W: Write>(
     out: &mut Sink<W>,
     operands: Operands,
 ) -> Ended
-    ensures output { (bytes : List ℕ) → feed.old.bytes ≡ Some bytes → Runs (map file_of_operand operands.items) (inputs limits.now.lines limits.now.line bytes) out.old out.new result }
-    ensures every_input { WhateverFollows feed.old feed.new (λ bytes _. Runs (map file_of_operand operands.items) (inputs limits.now.lines limits.now.line bytes) out.old out.new result) }
+    ensures output { (bytes : List ℕ) → feed.old.bytes ≡ Some bytes → Runs (map file_of_operand operands.items) limits.now.lines limits.now.line bytes feed.new out.old out.new result }
+    ensures every_input { WhateverFollows feed.old feed.new (λ bytes left. Runs (map file_of_operand operands.items) limits.now.lines limits.now.line bytes left out.old out.new result) }
     ensures failed { IfFault result (HasFailed feed.new out.new) }
     ensures told { Tells feed.old feed.new out.old out.new (fault_of result) }
 {

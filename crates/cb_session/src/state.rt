@@ -147,8 +147,8 @@ impl Session {
         feed: &mut Feed<R>,
         out: &mut Sink<W>,
     ) -> Ended
-        ensures output { (bytes : List ℕ) → feed.old.bytes ≡ Some bytes → LeavesRun (inputs limits.now.lines limits.now.line bytes) self.old out.old out.new result }
-        ensures every_input { WhateverFollows feed.old feed.new (λ bytes _. LeavesRun (inputs limits.now.lines limits.now.line bytes) self.old out.old out.new result) }
+        ensures output { (bytes : List ℕ) → feed.old.bytes ≡ Some bytes → LeavesRun (inputs limits.now.lines limits.now.line bytes) self.old feed.new out.old out.new result }
+        ensures every_input { WhateverFollows feed.old feed.new (λ bytes left. LeavesRun (inputs limits.now.lines limits.now.line bytes) self.old left out.old out.new result) }
         ensures failed { IfFault result (HasFailed feed.new out.new) }
         ensures told { Tells feed.old feed.new out.old out.new (fault_of result) }
     {
@@ -169,8 +169,8 @@ impl Session {
         feed: &mut Feed<R>,
         out: &mut Sink<W>,
     ) -> Ended
-        ensures output { (bytes : List ℕ) → feed.old.bytes ≡ Some bytes → LeavesRun (inputs limits.now.lines limits.now.line bytes) self.old out.old out.new result }
-        ensures every_input { WhateverFollows feed.old feed.new (λ bytes _. LeavesRun (inputs limits.now.lines limits.now.line bytes) self.old out.old out.new result) }
+        ensures output { (bytes : List ℕ) → feed.old.bytes ≡ Some bytes → LeavesRun (inputs limits.now.lines limits.now.line bytes) self.old feed.new out.old out.new result }
+        ensures every_input { WhateverFollows feed.old feed.new (λ bytes left. LeavesRun (inputs limits.now.lines limits.now.line bytes) self.old left out.old out.new result) }
         ensures failed { IfFault result (HasFailed feed.new out.new) }
         ensures told { Tells feed.old feed.new out.old out.new (fault_of result) }
     {

@@ -105,6 +105,30 @@ fn one_of_each(rt: HostRuntime) {
     assert_eq!(rt; ended, Ended::Done);
 }
 
+/// The first byte that a run over an input leaves unread.
+fn unread(alloc: Global, limits: &Limits, input: &[u8]) -> Option<u8> {
+    let mut session = Session::new(alloc);
+    let mut feed = Feed::new(input);
+    let mut written = Vec::new(alloc);
+    let mut sink = Sink::new(&mut written);
+    let _ended = session.serve(alloc, limits, &mut feed, &mut sink);
+    match feed.byte() {
+        Ok(byte) => byte,
+        Err(_) => None,
+    }
+}
+
+#[test]
+fn what_comes_behind_the_last_request_is_left(rt: HostRuntime) {
+    let two_lines = Limits { line: 9, lines: 2 };
+    assert_eq!(rt; unread(rt.alloc(), &WIDE, b"1f\nq\nz"), Some(b'z'));
+    assert_eq!(rt; unread(rt.alloc(), &WIDE, b":load a.c 3\n{}"), None);
+    assert_eq!(rt;
+        unread(rt.alloc(), &two_lines, b":undo\n:redo\nz"),
+        Some(b'z')
+    );
+}
+
 #[test]
 fn finds_a_macro(rt: HostRuntime) {
     let (written, ended) = run(

@@ -1,5 +1,5 @@
 -- What a run of the program leaves: the promise of `execute`.
-use Rattle.std.specs.Prelude.{◌≡◌, ◌⊎◌, ℕ, List}
+use Rattle.std.specs.Prelude.{◌≡◌, ℕ, List}
 use Rattle.clap.specs.Words.{subcommand_of}
 use Rattle.cb_session.specs.Devices.{Reader}
 use Rattle.cb_tags.specs.Writers.{Writer}

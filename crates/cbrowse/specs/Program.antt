@@ -66,8 +66,8 @@ HasPattern _ = Unit {0}
 -- run over these; the rows of a search and tags are written, and the reader is left alone
 abbrev pub DoesJob : Job → (lines limit : ℕ) → Timeline → Reader → Reader → Writer → Writer → Ended → Type 0
 DoesJob (Line files) lines limit t feed feed' old new ended =
-    ((bytes : List ℕ) → feed.bytes ≡ Some bytes → LeavesRun (inputs lines limit bytes) t old new ended)
-    × WhateverFollows feed feed' (λ bytes _. LeavesRun (inputs lines limit bytes) t old new ended)
+    ((bytes : List ℕ) → feed.bytes ≡ Some bytes → LeavesRun (inputs lines limit bytes) t feed' old new ended)
+    × WhateverFollows feed feed' (λ bytes left. LeavesRun (inputs lines limit bytes) t left old new ended)
     × IfFault ended (HasFailed feed' new) × Tells feed feed' old new (fault_of ended)
 DoesJob (Find field pattern files) lines limit t feed feed' old new ended =
     (feed' ≡ feed) × WritesText (flat_map row_line (answer t.present field (string_bytes pattern))) old new ended

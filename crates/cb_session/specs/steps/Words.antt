@@ -1,5 +1,5 @@
 -- The rest of a line as slices.
-use Rattle.std.specs.Prelude.{ℕ, List, [], ◌∷◌, Option, None, Some}
+use Rattle.std.specs.Prelude.{ℕ, List, ◌∷◌, Option, None, Some}
 use denote.Ref.{Bor}
 use Rattle.cb_session.specs.Commands.{words_in}
 

@@ -1,4 +1,4 @@
-use Rattle.std.proofs.Common.{rules, ◌≡◌, ◌++◌, ◌∙◌, ap, length, subst}
+use Rattle.std.proofs.Common.{◌≡◌, ◌++◌, ◌∙◌, ap, length, subst}
 use Rattle.std.specs.List.{flat_map}
 use Rattle.cb_desk.specs.World.{Place}
 use Rattle.cb_desk.specs.Models.{place_at}

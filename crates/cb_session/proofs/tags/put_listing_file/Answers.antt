@@ -1,5 +1,5 @@
 use Rattle.cb_tags.specs.TagLines.{listing_line, tag_of}
-use Rattle.cb_session.proofs.Puts.{Written-all, Written-fault, Written-more, Written-start}
+use Rattle.cb_session.proofs.Puts.{Written-all, Written-fault, Written-more}
 use Rattle.cb_session.proofs.tags.put_listing_file.Goals as goal
 
 pub returns-in_err-put_listed : goal.returns-in_err-put_listed

@@ -1,6 +1,6 @@
 use Rattle.cb_desk.specs.Tags.{tag_line}
 use Rattle.cb_tags.specs.TagLines.{tag_of}
-use Rattle.cb_session.proofs.Puts.{Written-all, Written-fault, Written-more, Written-start}
+use Rattle.cb_session.proofs.Puts.{Written-all, Written-fault, Written-more}
 use Rattle.cb_session.proofs.tags.put_tags.Goals as goal
 
 pub returns-in_err-put_tag : goal.returns-in_err-put_tag

@@ -1,4 +1,4 @@
-use Rattle.std.proofs.Common.{rules, ◌≡◌, [], append-nil, subst}
+use Rattle.std.proofs.Common.{rules, [], append-nil, subst}
 use Rattle.std.specs.List.{flat_map}
 use Rattle.cb_desk.specs.Answer.{answer}
 use Rattle.cb_session.specs.Output.{row_line}

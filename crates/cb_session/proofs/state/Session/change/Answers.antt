@@ -1,4 +1,3 @@
-use Rattle.std.proofs.Common.{◌≡◌}
 use Rattle.cb_session.proofs.Outcomes.{Does-other}
 use Rattle.cb_session.proofs.state.Session.change.Goals as goal
 

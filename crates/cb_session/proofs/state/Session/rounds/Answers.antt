@@ -20,12 +20,12 @@ rounds-init g c = record {
 pub returns-in-Ok-Some-clause-output : goal.returns-in-Ok-Some-clause-output
 returns-in-Ok-Some-clause-output g c = λ bytes e.
     let one_more : c.args.limits.now.lines - c.rounds._round ≡ suc (c.args.limits.now.lines - (c.rounds._round + 1)) = omega arith in
-    Rounds-stop _ _ bytes _ _ _ _ c.rounds.self c.rounds.feed c.rounds.out c.round.new.out c.in-Ok-Some.ended one_more (c.rounds.invariant.output bytes e) (rw c.in-Ok-Some.field-0-is at c.in-Ok-Some.ensures.round)
+    Rounds-stop _ _ bytes _ _ _ _ c.rounds.self c.rounds.feed c.round.new.feed c.rounds.out c.round.new.out c.in-Ok-Some.ended one_more (c.rounds.invariant.output bytes e) (rw c.in-Ok-Some.field-0-is at c.in-Ok-Some.ensures.round)
 
 pub returns-in-Err-round-clause-output : goal.returns-in-Err-round-clause-output
 returns-in-Err-round-clause-output g c = λ bytes e.
     let one_more : c.args.limits.now.lines - c.rounds._round ≡ suc (c.args.limits.now.lines - (c.rounds._round + 1)) = omega arith in
-    Rounds-stop _ _ bytes _ _ _ _ c.rounds.self c.rounds.feed c.rounds.out c.round.new.out (Fault c.in-Err-round.fault) one_more (c.rounds.invariant.output bytes e) c.in-Err-round.ensures.round
+    Rounds-stop _ _ bytes _ _ _ _ c.rounds.self c.rounds.feed c.round.new.feed c.rounds.out c.round.new.out (Fault c.in-Err-round.fault) one_more (c.rounds.invariant.output bytes e) c.in-Err-round.ensures.round
 
 pub rounds-preserved : goal.rounds-preserved
 rounds-preserved g c = record {

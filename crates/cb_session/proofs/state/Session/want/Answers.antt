@@ -1,4 +1,3 @@
-use Rattle.std.proofs.Common.{◌≡◌, ◌∙◌, ap, sym, subst}
 use Rattle.cb_session.proofs.Outcomes.{Does-still, Does-want, wanted-some}
 use Rattle.cb_session.proofs.state.Session.want.Goals as goal
 
