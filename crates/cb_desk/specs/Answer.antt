@@ -1,5 +1,7 @@
 -- What is asked of a world, and the rows that answer.
-use Rattle.std.specs.Prelude.{ℕ, ◌-◌, Bool, ◌&&◌, ◌||◌, ◌==◌, not, nat_le, if◌then◌else◌, Option, Some, None, List, [], ◌∷◌, length, drop, filter, map, codes, slice_range}
+use Rattle.std.specs.Prelude.{ℕ, ◌-◌, Bool, ◌&&◌, ◌||◌, ◌==◌, not, nat_le, if◌then◌else◌, Option}
+use Rattle.std.specs.Prelude.{Some, None, List, [], ◌∷◌, length, drop, filter}
+use Rattle.std.specs.Prelude.{map, codes, slice_range}
 use Rattle.std.specs.List.{flat_map}
 use Rattle.std.specs.Str.{bytes_eq}
 use Rattle.cb_scan.specs.declared.facts.Call.{Call}
@@ -12,7 +14,8 @@ use Rattle.cb_scan.specs.Lines.{line_text}
 use Rattle.cb_scan.specs.TextFacts.{TextFacts}
 use Rattle.cb_desk.specs.declared.found.Found.{Found}
 use Rattle.cb_desk.specs.declared.rows.Field.{Field}
-use Rattle.cb_desk.specs.declared.rows.Field.TheVariants.{Symbol, Definition, Called, Calling, Text, File as FileName, Including}
+use Rattle.cb_desk.specs.declared.rows.Field.TheVariants.{Symbol, Definition, Called, Calling}
+use Rattle.cb_desk.specs.declared.rows.Field.TheVariants.{Text, File as FileName, Including}
 use Rattle.cb_desk.specs.Search.{holds, lines_with}
 use Rattle.cb_desk.specs.World.{World, File}
 
@@ -37,7 +40,9 @@ pub record AnswerRow : Type 0 where
 
 -- two rows are equal in all four columns
 abbrev pub row_eq : AnswerRow → AnswerRow → Bool
-row_eq r q = bytes_eq r.file q.file && bytes_eq r.function q.function && r.line == q.line && bytes_eq r.text q.text
+row_eq r q =
+    bytes_eq r.file q.file && bytes_eq r.function q.function && r.line == q.line
+    && bytes_eq r.text q.text
 
 -- of equal rows only the first stays
 unfoldable pub distinct : List AnswerRow → List AnswerRow
@@ -118,7 +123,9 @@ found_in _ facts = []
 
 -- some bytes end in others
 abbrev pub ends_in : (suffix bytes : List ℕ) → Bool
-ends_in suffix bytes = nat_le (length suffix) (length bytes) && bytes_eq (drop (length bytes - length suffix) bytes) suffix
+ends_in suffix bytes =
+    nat_le (length suffix) (length bytes)
+    && bytes_eq (drop (length bytes - length suffix) bytes) suffix
 
 -- a header is the one asked for, or it ends in a slash and that one
 abbrev pub is_header : (pattern header : List ℕ) → Bool

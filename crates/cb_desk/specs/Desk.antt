@@ -1,13 +1,15 @@
 -- What a desk is: its timeline, how many bytes it has scanned, and how often its files were shown
 -- or hidden.
-use Rattle.std.specs.Prelude.{◌≡◌, ◌≤◌, ◌+◌, ◌-◌, ◌^◌, ℕ, Bool, min, List, [], ◌∷◌, length, filter, map, Option, None, Some, Result, Ok, Err}
+use Rattle.std.specs.Prelude.{◌≡◌, ◌≤◌, ◌+◌, ◌-◌, ◌^◌, ℕ, Bool, min, List, [], ◌∷◌, length, filter}
+use Rattle.std.specs.Prelude.{map, Option, None, Some, Result, Ok, Err}
 use Rattle.std.specs.List.{list_any}
 use Rattle.cb_index.specs.Shelved.{Waiting}
 use Rattle.cb_desk.specs.declared.refusal.Refusal.{Refusal}
 use Rattle.cb_desk.specs.declared.refusal.Refusal.TheVariants.{OutOfMemory}
 use Rattle.cb_desk.specs.Marks.{replaced_file}
 use Rattle.cb_desk.specs.Places.{is_in}
-use Rattle.cb_desk.specs.Step.{Step, load, reload, unload, rename, want, mark, mark_all, replace, tag, pop}
+use Rattle.cb_desk.specs.Step.{Step, load, reload, unload, rename, want, mark, mark_all}
+use Rattle.cb_desk.specs.Step.{replace, tag, pop}
 use Rattle.cb_desk.specs.Timeline.{Timeline}
 use Rattle.cb_desk.specs.World.{File, Place, World}
 
@@ -37,13 +39,14 @@ is_marked marks f = list_any (is_in f.name) marks
 -- the files with a mark, each with its new contents when the wanted text is replaced
 abbrev pub replaced_with_marks : Option (List ℕ) → World → List ℕ → List File
 replaced_with_marks None w text = []
-replaced_with_marks (Some old) w text = map (replaced_file old text w.marks) (filter (is_marked w.marks) w.files)
+replaced_with_marks (Some old) w text =
+    map (replaced_file old text w.marks) (filter (is_marked w.marks) w.files)
 
 abbrev pub new_texts : World → List ℕ → List File
 new_texts w text = replaced_with_marks w.wanted w text
 
--- the bytes that an accepted change scans: those that are loaded or reloaded, or the new contents of
--- the files with a mark
+-- the bytes that an accepted change scans: those that are loaded or reloaded, or the new contents
+-- of the files with a mark
 abbrev pub scanned : World → Step → ℕ
 scanned w (load name bytes) = length bytes
 scanned w (reload name bytes) = length bytes

@@ -1,11 +1,13 @@
 -- Changes of the files: load, reload, unload and rename.
-use Rattle.std.specs.Prelude.{ℕ, Bool, nat_le, nat_lt, List, ◌∷◌, ◌++◌, length, Option, None, Some, if◌then◌else◌, filter, not}
+use Rattle.std.specs.Prelude.{ℕ, Bool, nat_le, nat_lt, List, ◌∷◌, ◌++◌, length, Option, None, Some}
+use Rattle.std.specs.Prelude.{if◌then◌else◌, filter, not}
 use Rattle.std.specs.Ordering.{nat_cmp, is_lt}
 use Rattle.std.specs.Cmp.Lexicographic.{slice_cmp}
 use Rattle.cb_tags.specs.Names.{is_file_name}
 use Rattle.cb_desk.specs.declared.limits.TheConstants.{MOST_BYTES, MOST_FILES}
 use Rattle.cb_desk.specs.declared.refusal.Refusal.{Refusal}
-use Rattle.cb_desk.specs.declared.refusal.Refusal.TheVariants.{BadName, NoSuchFile, FileExists, TooLarge, TooManyFiles}
+use Rattle.cb_desk.specs.declared.refusal.Refusal.TheVariants.{BadName, NoSuchFile, FileExists}
+use Rattle.cb_desk.specs.declared.refusal.Refusal.TheVariants.{TooLarge, TooManyFiles}
 use Rattle.cb_scan.specs.Order.{in_order}
 use Rattle.cb_desk.specs.Places.{without_places, renamed_places}
 use Rattle.cb_desk.specs.World.{World, File, is_named, has_file, text_of_file, place_key}
@@ -82,7 +84,8 @@ rename_refusal w old new =
 -- anew, and the frames keep their places in the stack
 abbrev pub renamed : World → List ℕ → List ℕ → World
 renamed w old new = record w {
-  files = with_file (record { name = new; bytes = text_of_file w.files old }) (without_file old w.files);
+  files = with_file (record { name = new; bytes = text_of_file w.files old })
+      (without_file old w.files);
   marks = in_order place_key (renamed_places old new w.marks);
   frames = renamed_places old new w.frames;
 }

@@ -8,7 +8,8 @@ use Rattle.cb_desk.specs.Timeline.{Timeline, changed, undone, redone, IsValidTim
 -- the future
 abbrev pub UndoTakesBack : Type 0
 UndoTakesBack =
-    (t u : Timeline) (s : Step) → changed t s ≡ Ok u → undone u ≡ Ok (record t { future = u.present ∷ [] })
+    (t u : Timeline) (s : Step) → changed t s ≡ Ok u
+    → undone u ≡ Ok (record t { future = u.present ∷ [] })
 
 -- an undo followed by redo, and a redo followed by undo, give the timeline back
 pub record RedoTakesBack : Type 0 where
@@ -21,6 +22,7 @@ StepKeepsValid = (w v : World) (s : Step) → IsValidWorld w → step w s ≡ Ok
 
 -- a valid timeline stays valid by an accepted change, by an undo and by a redo
 pub record TimelineStaysValid : Type 0 where
-  pub by_change : (t u : Timeline) (s : Step) → IsValidTimeline t → changed t s ≡ Ok u → IsValidTimeline u
+  pub by_change : (t u : Timeline) (s : Step) → IsValidTimeline t
+      → changed t s ≡ Ok u → IsValidTimeline u
   pub by_undo : (t u : Timeline) → IsValidTimeline t → undone t ≡ Ok u → IsValidTimeline u
   pub by_redo : (t u : Timeline) → IsValidTimeline t → redone t ≡ Ok u → IsValidTimeline u

@@ -1,10 +1,13 @@
 -- Changes of the wanted text and of the marks, and the change of the text on the marked lines.
-use Rattle.std.specs.Prelude.{ℕ, Bool, nat_lt, List, [], ◌∷◌, length, Option, None, Some, if◌then◌else◌, filter, map, not}
+use Rattle.std.specs.Prelude.{ℕ, Bool, nat_lt, List, [], ◌∷◌, length, Option, None, Some}
+use Rattle.std.specs.Prelude.{if◌then◌else◌, filter, map, not}
 use Rattle.std.specs.List.{list_any}
 use Rattle.cb_scan.specs.Order.{put}
 use Rattle.cb_desk.specs.declared.limits.TheConstants.{MOST_BYTES}
 use Rattle.cb_desk.specs.declared.refusal.Refusal.{Refusal}
-use Rattle.cb_desk.specs.declared.refusal.Refusal.TheVariants.{BadText, TooLarge, NoPattern, NoSuchLine, NothingWanted, NothingMarked}
+use Rattle.cb_desk.specs.declared.refusal.Refusal.TheVariants.{BadText, TooLarge, NoPattern}
+use Rattle.cb_desk.specs.declared.refusal.Refusal.TheVariants.{NoSuchLine, NothingWanted}
+use Rattle.cb_desk.specs.declared.refusal.Refusal.TheVariants.{NothingMarked}
 use Rattle.cb_desk.specs.declared.rows.Field.TheVariants.{Text}
 use Rattle.cb_desk.specs.Answer.{AnswerRow, answer}
 use Rattle.cb_desk.specs.Places.{is_in, same_place, is_place_of}
@@ -46,7 +49,8 @@ mark_refusal (Some text) (Some p) = None
 -- the marks without a place that is among them, or with it at its place
 abbrev pub toggled : Place → List Place → List Place
 toggled p marks =
-    if list_any (same_place p) marks then filter (λ q. not (same_place p q)) marks else put place_key p marks
+    if list_any (same_place p) marks then filter (λ q. not (same_place p q)) marks
+    else put place_key p marks
 
 -- the world in which a place is marked, or no longer marked
 abbrev pub toggled_at : World → Option Place → World
@@ -70,7 +74,8 @@ marked_lines name marks = map (λ p. p.line) (filter (is_in name) marks)
 
 -- a file in which the old text is replaced on the marked lines
 abbrev pub replaced_file : (old new : List ℕ) → List Place → File → File
-replaced_file old new marks f = record f { bytes = replaced_text old new (marked_lines f.name marks) f.bytes }
+replaced_file old new marks f =
+    record f { bytes = replaced_text old new (marked_lines f.name marks) f.bytes }
 
 -- all files, those with a mark changed
 abbrev pub replaced_files : (old new : List ℕ) → World → List File
@@ -85,7 +90,8 @@ is_too_large f = nat_lt MOST_BYTES (length f.bytes)
 abbrev pub marked_refusal : World → Option (List ℕ) → List Place → List ℕ → Option Refusal
 marked_refusal w None marks new = Some NothingWanted
 marked_refusal w (Some old) [] new = Some NothingMarked
-marked_refusal w (Some old) (p ∷ ps) new = if list_any is_too_large (replaced_files old new w) then Some TooLarge else None
+marked_refusal w (Some old) (p ∷ ps) new =
+    if list_any is_too_large (replaced_files old new w) then Some TooLarge else None
 
 -- why the wanted text can't be replaced: the lowest refusal that applies
 abbrev pub replace_refusal : World → List ℕ → Option Refusal
@@ -94,7 +100,12 @@ replace_refusal w new = if is_short new then marked_refusal w w.wanted w.marks n
 -- the world with other files in which nothing is wanted and nothing is marked; a frame of a line
 -- that is gone leaves the stack
 abbrev pub with_files : World → List File → World
-with_files w files = record { files = files; wanted = None; marks = []; frames = filter (is_place_of files) w.frames }
+with_files w files = record {
+  files = files;
+  wanted = None;
+  marks = [];
+  frames = filter (is_place_of files) w.frames;
+}
 
 -- the world in which the wanted text is replaced on the marked lines
 abbrev pub replaced_on_marks : World → Option (List ℕ) → List ℕ → World

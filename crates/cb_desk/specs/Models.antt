@@ -2,10 +2,12 @@
 use Rattle.std.specs.Prelude.{ℕ, List}
 use Rattle.std.specs.Borrow.{Bor}
 use Rattle.cb_desk.specs.declared.change.Change.{Change}
-use Rattle.cb_desk.specs.declared.change.Change.TheVariants.{Load, Reload, Unload, Rename, Want, Mark, MarkAll, Replace, Tag, Pop}
+use Rattle.cb_desk.specs.declared.change.Change.TheVariants.{Load, Reload, Unload, Rename, Want}
+use Rattle.cb_desk.specs.declared.change.Change.TheVariants.{Mark, MarkAll, Replace, Tag, Pop}
 use Rattle.cb_desk.specs.declared.rows.RefRow.{RefRow}
 use Rattle.cb_desk.specs.World.{File, Place}
-use Rattle.cb_desk.specs.Step.{Step, load, reload, unload, rename, want, mark, mark_all, replace, tag, pop}
+use Rattle.cb_desk.specs.Step.{Step, load, reload, unload, rename, want, mark, mark_all}
+use Rattle.cb_desk.specs.Step.{replace, tag, pop}
 use Rattle.cb_desk.specs.Answer.{AnswerRow}
 
 -- the step that a change asks for

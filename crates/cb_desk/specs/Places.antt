@@ -1,5 +1,6 @@
 -- Places of a file, and what becomes of them when it goes away or gets another name.
-use Rattle.std.specs.Prelude.{ℕ, zero, suc, Bool, ◌==◌, ◌&&◌, nat_le, List, length, slice_get, Option, None, if◌then◌else◌, filter, map, not}
+use Rattle.std.specs.Prelude.{ℕ, zero, suc, Bool, ◌==◌, ◌&&◌, nat_le, List, length, slice_get}
+use Rattle.std.specs.Prelude.{Option, None, if◌then◌else◌, filter, map, not}
 use Rattle.std.specs.Str.{bytes_eq}
 use Rattle.cb_scan.specs.Lines.{lines}
 use Rattle.cb_desk.specs.World.{File, Place, text_of_file}

@@ -1,5 +1,6 @@
 -- A text with every match of a pattern replaced, on some of its lines.
-use Rattle.std.specs.Prelude.{◌≡◌, ◌≢◌, ℕ, ◌==◌, Bool, List, [], ◌∷◌, ◌++◌, length, drop, map, Some, None, if◌then◌else◌}
+use Rattle.std.specs.Prelude.{◌≡◌, ◌≢◌, ℕ, ◌==◌, Bool, List, [], ◌∷◌, ◌++◌, length, drop, map}
+use Rattle.std.specs.Prelude.{Some, None, if◌then◌else◌}
 use Rattle.std.specs.List.{flat_map, list_any, range_with_len, zip}
 use Rattle.bstr.specs.Owned.{joined}
 use Rattle.bstr.specs.Text.{lines_of, without_terminator, split_at}
@@ -10,7 +11,8 @@ use Rattle.memchr.specs.Find.{FindsNeedle, matches}
 unfoldable pub AreGaps : List ℕ → List (List ℕ) → Type 0
 AreGaps pattern [] = ⊥
 AreGaps pattern (g ∷ []) = FindsNeedle g pattern 0 None
-AreGaps pattern (g ∷ h ∷ gs) = FindsNeedle (g ++ pattern) pattern 0 (Some (length g)) × AreGaps pattern (h ∷ gs)
+AreGaps pattern (g ∷ h ∷ gs) =
+    FindsNeedle (g ++ pattern) pattern 0 (Some (length g)) × AreGaps pattern (h ∷ gs)
 
 -- a text is cut into gaps at its leftmost matches that do not overlap
 pub record IsCutInto (pattern text : List ℕ) (gaps : List (List ℕ)) : Type 0 where
@@ -44,9 +46,11 @@ replaced_if_marked old new l = if l.1 then replaced_line old new l.0 else l.0
 
 -- a text in which the old text is replaced on the lines of these numbers, from 1; the rest stays
 unfoldable pub replaced_text : (old new : List ℕ) (numbers : List ℕ) (text : List ℕ) → List ℕ
-replaced_text old new numbers text = flat_map (replaced_if_marked old new) (marked_from numbers 1 (lines_of text))
+replaced_text old new numbers text =
+    flat_map (replaced_if_marked old new) (marked_from numbers 1 (lines_of text))
 
 -- every text has a cut, which the matches give, and no other
 pub record HasOneCut : Type 0 where
   pub cut : (pattern text : List ℕ) → pattern ≢ [] → IsCutInto pattern text (gaps_of pattern text)
-  pub only : (pattern text : List ℕ) (gaps : List (List ℕ)) → pattern ≢ [] → IsCutInto pattern text gaps → gaps ≡ gaps_of pattern text
+  pub only : (pattern text : List ℕ) (gaps : List (List ℕ)) → pattern ≢ []
+      → IsCutInto pattern text gaps → gaps ≡ gaps_of pattern text

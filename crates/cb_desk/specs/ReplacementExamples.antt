@@ -23,11 +23,13 @@ unfolding computing
 all_taken_away = refl
 
 -- a line keeps its end, and one that is not marked stays as it is
-pub ends_kept : replaced_text (codes "a") (codes "b") (1 ∷ 3 ∷ []) (codes "a\r\na\na\n") ≡ codes "b\r\na\nb\n"
+pub ends_kept : replaced_text (codes "a") (codes "b") (1 ∷ 3 ∷ []) (codes "a\r\na\na\n")
+    ≡ codes "b\r\na\nb\n"
 unfolding computing replaced_text
 ends_kept = refl
 
 -- a last line without a line feed is shown whole, with its carriage return
-pub last_line_whole : replaced_text (codes "a\r") (codes "b") (1 ∷ 2 ∷ []) (codes "a\r\na\r") ≡ codes "a\r\nb"
+pub last_line_whole : replaced_text (codes "a\r") (codes "b") (1 ∷ 2 ∷ []) (codes "a\r\na\r")
+    ≡ codes "a\r\nb"
 unfolding computing replaced_text
 last_line_whole = refl

@@ -10,4 +10,5 @@ holds pattern text = list_any (occurs_at text pattern) (range_with_len 0 (length
 
 -- the numbers of the shown lines that hold a pattern, ascending from 1
 abbrev pub lines_with : List ℕ → List ℕ → List ℕ
-lines_with pattern text = filter (λ n. holds pattern (line_text text n)) (range_with_len 1 (length (lines text)))
+lines_with pattern text =
+    filter (λ n. holds pattern (line_text text n)) (range_with_len 1 (length (lines text)))

@@ -2,7 +2,8 @@
 use Rattle.std.specs.Prelude.{◌≡◌, []}
 use Rattle.cb_index.specs.Shelved.{Waiting}
 use Rattle.cb_desk.specs.declared.rows.Field.{Field}
-use Rattle.cb_desk.specs.declared.rows.Field.TheVariants.{Symbol, Definition, Called, Calling, Text, File, Including}
+use Rattle.cb_desk.specs.declared.rows.Field.TheVariants.{Symbol, Definition, Called, Calling}
+use Rattle.cb_desk.specs.declared.rows.Field.TheVariants.{Text, File, Including}
 use Rattle.cb_desk.specs.declared.tags.Format.{Format}
 use Rattle.cb_desk.specs.declared.tags.Format.TheVariants.{Plain, Extended}
 

@@ -1,5 +1,6 @@
 -- Changes of the tag stack.
-use Rattle.std.specs.Prelude.{ℕ, ◌-◌, List, [], ◌∷◌, ◌++◌, length, take, Option, None, Some, filter, map}
+use Rattle.std.specs.Prelude.{ℕ, ◌-◌, List, [], ◌∷◌, ◌++◌, length, take, Option, None}
+use Rattle.std.specs.Prelude.{Some, filter, map}
 use Rattle.std.specs.List.{flat_map}
 use Rattle.cb_scan.specs.declared.facts.Def.{Def}
 use Rattle.cb_scan.specs.Definitions.{definitions}
@@ -13,7 +14,8 @@ use Rattle.cb_desk.specs.World.{World, File, Place}
 -- the places of the definitions of a name in a file
 abbrev pub places_in : List ℕ → File → List Place
 places_in name f =
-    map (λ (d : Def). record { file = f.name; line = d.line }) (filter (defines f.bytes name) (definitions f.bytes))
+    map (λ (d : Def). record { file = f.name; line = d.line })
+    (filter (defines f.bytes name) (definitions f.bytes))
 
 -- those of all files, by file and place; equal ones all count
 abbrev pub places : List File → List ℕ → List Place

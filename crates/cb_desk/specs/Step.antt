@@ -2,8 +2,10 @@
 use Rattle.std.specs.Prelude.{ℕ, List, Option, None, Some, Result, Ok, Err}
 use Rattle.cb_desk.specs.declared.refusal.Refusal.{Refusal}
 use Rattle.cb_desk.specs.World.{World, Place}
-use Rattle.cb_desk.specs.Files.{load_refusal, loaded, reload_refusal, reloaded, unload_refusal, unloaded, rename_refusal, renamed}
-use Rattle.cb_desk.specs.Marks.{want_refusal, wanting, wanted_places, mark_refusal, toggled_at, mark_all_refusal, all_marked, replace_refusal, replaced_on_marks}
+use Rattle.cb_desk.specs.Files.{load_refusal, loaded, reload_refusal, reloaded, unload_refusal}
+use Rattle.cb_desk.specs.Files.{unloaded, rename_refusal, renamed}
+use Rattle.cb_desk.specs.Marks.{want_refusal, wanting, wanted_places, mark_refusal, toggled_at}
+use Rattle.cb_desk.specs.Marks.{mark_all_refusal, all_marked, replace_refusal, replaced_on_marks}
 use Rattle.cb_desk.specs.Places.{nth}
 use Rattle.cb_desk.specs.Stack.{places, push_refusal, pushed, pop_refusal, popped}
 

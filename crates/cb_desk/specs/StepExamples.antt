@@ -3,7 +3,8 @@ use Rattle.std.specs.Prelude.{◌≡◌, ℕ, List, [], ◌∷◌, Ok, Err, Some
 use Rattle.cb_scan.specs.Definitions.{definitions_from}
 use Rattle.cb_scan.specs.examples.Functions.{finding}
 use Rattle.cb_scan.specs.Order.{put, in_order}
-use Rattle.cb_desk.specs.declared.refusal.Refusal.TheVariants.{BadName, NoSuchFile, FileExists, NoSuchDefinition, StackEmpty}
+use Rattle.cb_desk.specs.declared.refusal.Refusal.TheVariants.{BadName, NoSuchFile, FileExists}
+use Rattle.cb_desk.specs.declared.refusal.Refusal.TheVariants.{NoSuchDefinition, StackEmpty}
 use Rattle.cb_desk.specs.World.{World, File, Place, empty_world, text_of_file}
 use Rattle.cb_desk.specs.Step.{step, load, reload, unload, rename, tag, pop}
 
@@ -32,7 +33,8 @@ abbrev at_b : Place
 at_b = frame (codes "b.h") 1
 
 abbrev three_files : World
-three_files = record empty_world { files = a ∷ b ∷ d ∷ []; frames = at_a 2 ∷ at_b ∷ at_a 1 ∷ at_b ∷ [] }
+three_files =
+    record empty_world { files = a ∷ b ∷ d ∷ []; frames = at_a 2 ∷ at_b ∷ at_a 1 ∷ at_b ∷ [] }
 
 -- a file is put between those of a lower and a higher name, and the frames stay
 pub loaded_in_order : step three_files (load (codes "c.c") (codes "new"))
@@ -48,7 +50,8 @@ loaded_first = refl
 
 -- a reloaded file stays at its place without its frames, and the others keep their order
 pub reloaded_in_place : step three_files (reload (codes "b.h") (codes "w;"))
-    ≡ Ok (record three_files { files = a ∷ file (codes "b.h") (codes "w;") ∷ d ∷ []; frames = at_a 2 ∷ at_a 1 ∷ [] })
+    ≡ Ok (record three_files
+    { files = a ∷ file (codes "b.h") (codes "w;") ∷ d ∷ []; frames = at_a 2 ∷ at_a 1 ∷ [] })
 unfolding step
 reloaded_in_place = refl
 
@@ -60,7 +63,8 @@ reloaded_the_same = refl
 
 -- two files with a mark for one text
 abbrev two_marked : World
-two_marked = record empty_world { files = a ∷ b ∷ []; wanted = Some (codes ";"); marks = at_a 2 ∷ at_b ∷ [] }
+two_marked =
+    record empty_world { files = a ∷ b ∷ []; wanted = Some (codes ";"); marks = at_a 2 ∷ at_b ∷ [] }
 
 -- its marks are gone, the wanted text and the marks of the other file stay
 pub reloaded_without_its_marks : step two_marked (reload (codes "a.c") (codes ";"))
@@ -79,10 +83,11 @@ abbrev c : File
 c = file (codes "c.h") (codes "x;\ny;")
 
 -- a renamed file goes to its new place, and its frames keep theirs
-pub renamed_in_place : step three_files (rename (codes "a.c") (codes "c.h")) ≡ Ok (record empty_world {
-  files = b ∷ c ∷ d ∷ [];
-  frames = frame (codes "c.h") 2 ∷ at_b ∷ frame (codes "c.h") 1 ∷ at_b ∷ [];
-})
+pub renamed_in_place : step three_files (rename (codes "a.c") (codes "c.h"))
+    ≡ Ok (record empty_world {
+      files = b ∷ c ∷ d ∷ [];
+      frames = frame (codes "c.h") 2 ∷ at_b ∷ frame (codes "c.h") 1 ∷ at_b ∷ [];
+    })
 unfolding step text_of_file in_order
 renamed_in_place = refl
 
@@ -124,7 +129,8 @@ pub bad_name_before_no_file : step three_files (rename (codes "q.c") (codes "b")
 unfolding step
 bad_name_before_no_file = refl
 
-pub no_file_before_file_exists : step three_files (rename (codes "q.c") (codes "a.c")) ≡ Err NoSuchFile
+pub no_file_before_file_exists : step three_files (rename (codes "q.c") (codes "a.c"))
+    ≡ Err NoSuchFile
 unfolding step
 no_file_before_file_exists = refl
 

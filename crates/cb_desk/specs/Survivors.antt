@@ -1,6 +1,7 @@
 -- The changes that survive a list of changes, undos and redos. No world is kept: the changes alone
 -- say where they lead.
-use Rattle.std.specs.Prelude.{◌≡◌, nat_le, Bool, true, false, List, [], ◌∷◌, length, Result, Ok, Err, if◌then◌else◌}
+use Rattle.std.specs.Prelude.{◌≡◌, nat_le, Bool, true, false, List, [], ◌∷◌, length, Result}
+use Rattle.std.specs.Prelude.{Ok, Err, if◌then◌else◌}
 use Rattle.cb_desk.specs.declared.limits.TheConstants.{MOST_CHANGES}
 use Rattle.cb_desk.specs.declared.refusal.Refusal.{Refusal}
 use Rattle.cb_desk.specs.Step.{Step, step}
@@ -67,8 +68,8 @@ survivors ms = (kept_after none_kept ms).done
 
 -- ---- where they lead
 
--- the worlds before that of some changes, the nearest first: their replays without the last, without
--- the last two, and so on
+-- the worlds before that of some changes, the nearest first: their replays without the last,
+-- without the last two, and so on
 unfoldable pub worlds_before : List Step → List World
 worlds_before [] = []
 worlds_before (s ∷ earlier) = replay earlier ∷ worlds_before earlier
@@ -107,4 +108,5 @@ moved_after t (m ∷ ms) = moved_after (moved_by t m) ms
 -- after any moves of a new timeline the present is the replay of the survivors, the past is the
 -- replays of what comes before each of them, and the future that of what is undone
 abbrev pub TimelineIsReplayed : Type 0
-TimelineIsReplayed = (ms : List Move) → moved_after new_timeline ms ≡ timeline_of (kept_after none_kept ms)
+TimelineIsReplayed =
+    (ms : List Move) → moved_after new_timeline ms ≡ timeline_of (kept_after none_kept ms)

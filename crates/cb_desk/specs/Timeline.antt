@@ -1,10 +1,12 @@
 -- The worlds of a session: those that undo leads back to, the present one, and those that redo
 -- leads to.
-use Rattle.std.specs.Prelude.{◌≡◌, ◌≤◌, ◌+◌, nat_le, Bool, true, false, List, [], ◌∷◌, length, Result, Ok, Err, if◌then◌else◌}
+use Rattle.std.specs.Prelude.{◌≡◌, ◌≤◌, ◌+◌, nat_le, Bool, true, false, List, [], ◌∷◌, length}
+use Rattle.std.specs.Prelude.{Result, Ok, Err, if◌then◌else◌}
 use Rattle.std.specs.List.{AllByRecursion}
 use Rattle.cb_desk.specs.declared.limits.TheConstants.{MOST_CHANGES}
 use Rattle.cb_desk.specs.declared.refusal.Refusal.{Refusal}
-use Rattle.cb_desk.specs.declared.refusal.Refusal.TheVariants.{NothingToUndo, NothingToRedo, HistoryFull, OutOfMemory}
+use Rattle.cb_desk.specs.declared.refusal.Refusal.TheVariants.{NothingToUndo, NothingToRedo}
+use Rattle.cb_desk.specs.declared.refusal.Refusal.TheVariants.{HistoryFull, OutOfMemory}
 use Rattle.cb_desk.specs.World.{World, empty_world, IsValidWorld}
 use Rattle.cb_desk.specs.Step.{Step, step}
 
@@ -32,7 +34,8 @@ moved_on t w = record { past = t.present ∷ t.past; present = w; future = [] }
 -- the timeline moved on to a new world, or why there is none
 abbrev pub advanced : Timeline → Result World Refusal → Result Timeline Refusal
 advanced t (Err r) = Err r
-advanced t (Ok w) = if nat_le MOST_CHANGES (length t.past) then Err HistoryFull else Ok (moved_on t w)
+advanced t (Ok w) =
+    if nat_le MOST_CHANGES (length t.past) then Err HistoryFull else Ok (moved_on t w)
 
 -- the timeline after a change
 unfoldable pub changed : Timeline → Step → Result Timeline Refusal
@@ -63,10 +66,12 @@ judged true s (Ok t) = Err OutOfMemory
 judged true s (Err r) = Err r
 
 -- a call moves the timeline as meant, or refuses for the reason meant and moves nothing
-abbrev pub Moves : Result Timeline Refusal → Timeline → Timeline → Result (Unit {0}) Refusal → Type 0
+abbrev pub Moves : Result Timeline Refusal → Timeline → Timeline
+    → Result (Unit {0}) Refusal → Type 0
 Moves meant old new (Ok _) = meant ≡ Ok new
 Moves meant old new (Err r) = (meant ≡ Err r) × (new ≡ old)
 
 -- a change moves the timeline as meant, or memory was refused to it
 abbrev pub Changes : Step → Timeline → Timeline → Result (Unit {0}) Refusal → Type 0
-Changes s old new result = (out_of_memory : Bool) × Moves (judged out_of_memory s (changed old s)) old new result
+Changes s old new result =
+    (out_of_memory : Bool) × Moves (judged out_of_memory s (changed old s)) old new result

@@ -1,5 +1,6 @@
 -- How often files are shown and hidden on the way from one world to another.
-use Rattle.std.specs.Prelude.{◌≡◌, ◌≤◌, ◌+◌, ◌*◌, ◌++◌, ◌&&◌, ◌||◌, ℕ, Bool, List, length, filter, not, Result, Ok, Err}
+use Rattle.std.specs.Prelude.{◌≡◌, ◌≤◌, ◌+◌, ◌*◌, ◌++◌, ◌&&◌, ◌||◌, ℕ, Bool, List, length, filter}
+use Rattle.std.specs.Prelude.{not, Result, Ok, Err}
 use Rattle.std.specs.List.{list_any}
 use Rattle.std.specs.Str.{bytes_eq}
 use Rattle.cb_desk.specs.Desk.{counted, is_marked}
@@ -30,8 +31,8 @@ abbrev pub touched : World → World → List File
 touched v w = filter (is_touched v w) v.files ++ only_in_second v w
 
 -- from one world to another, files are shown and hidden at least once for each file in which these
--- differ; at most twice, and twice more for each file in which they differ or one has a mark; all up
--- to the greatest number
+-- differ; at most twice, and twice more for each file in which they differ or one has a mark; all
+-- up to the greatest number
 pub record AreTurnsOf (v w : World) (old new : ℕ) : Type 0 where
   pub rise : old ≤ new
   pub some : counted old (length (differing v w)) ≤ new

@@ -1,6 +1,7 @@
 -- The files of a session at one moment, the text that is wanted with the lines that are marked for
 -- a change, and the tag stack.
-use Rattle.std.specs.Prelude.{◌≡◌, ℕ, suc, ◌≤◌, ◌==◌, Bool, ◌&&◌, not, nat_le, List, [], ◌∷◌, ◌++◌, length, map, IsTrue, Option, None, Some, if◌then◌else◌}
+use Rattle.std.specs.Prelude.{◌≡◌, ℕ, suc, ◌≤◌, ◌==◌, Bool, ◌&&◌, not, nat_le, List, [], ◌∷◌, ◌++◌}
+use Rattle.std.specs.Prelude.{length, map, IsTrue, Option, None, Some, if◌then◌else◌}
 use Rattle.std.specs.List.{list_any, AllByRecursion}
 use Rattle.std.specs.List.Sorted.{IsStrictlySortedBy}
 use Rattle.std.specs.Str.{bytes_eq}
@@ -87,7 +88,8 @@ IsMarkIn wanted text line = IsLineOf text line × IsTrue (holds wanted (line_tex
 pub record AreMarksFor (files : List File) (wanted : List ℕ) (marks : List Place) : Type 0 where
   pub short : IsTrue (is_short wanted)
   pub some : 1 ≤ length wanted
-  pub held : AllByRecursion (λ (p : Place). IsMarkIn wanted (text_of_file files p.file) p.line) marks
+  pub held : AllByRecursion
+      (λ (p : Place). IsMarkIn wanted (text_of_file files p.file) p.line) marks
   pub ascending : AreAscending marks
 
 -- the marks are those for the wanted text; where none is wanted there is no mark

@@ -1,6 +1,26 @@
 //! What a change does to a list of places, kept so that it can be taken back and done again.
-ghost use Rattle.std.specs.Prelude.{◌≡◌, ◌≤◌, ◌+◌, ◌-◌, ◌++◌, ◌∷◌, [], length, drop, take, vec_capacity, IfOk, MatchOption};
-ghost use Rattle.cb_desk.specs.steps.Edits.{IsDifference, IsFirstStep, edited, turned_edit, turned_edits};
+ghost use Rattle.std.specs.Prelude.{
+  ◌≡◌,
+  ◌≤◌,
+  ◌+◌,
+  ◌-◌,
+  ◌++◌,
+  ◌∷◌,
+  [],
+  length,
+  drop,
+  take,
+  vec_capacity,
+  IfOk,
+  MatchOption,
+};
+ghost use Rattle.cb_desk.specs.steps.Edits.{
+  IsDifference,
+  IsFirstStep,
+  edited,
+  turned_edit,
+  turned_edits,
+};
 
 use crate::spot::NumberedPlace;
 use std::alloc::{AllocError, Global};
@@ -92,7 +112,8 @@ enum Step {
 /// What is done first, if anything is left. Of two places that differ the old one is taken out if
 /// its file is gone or if more old places than new ones are left.
 fn first_step(gone: Option<u32>, olds: &[NumberedPlace], news: &[NumberedPlace]) -> Option<Step>
-    ensures { MatchOption result (IsDifference [] olds.now news.now) (λ step. IsFirstStep step olds.now news.now) }
+    ensures { MatchOption result (IsDifference [] olds.now news.now)
+        (λ step. IsFirstStep step olds.now news.now) }
 {
     match (olds.first(), news.first()) {
         (None, None) => None,
@@ -167,7 +188,8 @@ pub(crate) fn push_edits(
     places: &[NumberedPlace],
     place: NumberedPlace,
 ) -> Result<Vec<Edit>, AllocError>
-    ensures { IfOk result (λ edits. IsDifference edits.items places.now (places.now ++ place ∷ [])) }
+    ensures { IfOk result
+        (λ edits. IsDifference edits.items places.now (places.now ++ place ∷ [])) }
 {
     let kept = places.len();
     one_edit(
@@ -182,7 +204,8 @@ pub(crate) fn push_edits(
 
 /// The edits that take the last place out, if there is one.
 pub(crate) fn pop_edits(alloc: Global, places: &[NumberedPlace]) -> Result<Vec<Edit>, AllocError>
-    ensures { IfOk result (λ edits. IsDifference edits.items places.now (take (length places.now - 1) places.now)) }
+    ensures { IfOk result
+        (λ edits. IsDifference edits.items places.now (take (length places.now - 1) places.now)) }
 {
     match places.split_last() {
         Some((last, rest)) => one_edit(

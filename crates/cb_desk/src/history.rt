@@ -10,7 +10,14 @@ ghost use Rattle.cb_desk.specs.steps.Still.{AreStill};
 ghost use Rattle.cb_desk.specs.declared.limits.TheConstants.{MOST_CHANGES};
 ghost use Rattle.cb_desk.specs.World.{World, IsValidWorld};
 ghost use Rattle.cb_desk.specs.steps.Plans.{IsPlan};
-ghost use Rattle.cb_desk.specs.Timeline.{IsValidTimeline, Moves, moved_on, new_timeline, redone, undone};
+ghost use Rattle.cb_desk.specs.Timeline.{
+  IsValidTimeline,
+  Moves,
+  moved_on,
+  new_timeline,
+  redone,
+  undone,
+};
 ghost use Rattle.cb_desk.specs.Turns.{Turns};
 ghost use Rattle.cb_desk.specs.steps.Walks.{IsKept, IsRecorded, timeline_in};
 
@@ -42,7 +49,8 @@ impl Model for History {
 
     ghost view = { λ h. record { kept = h.present; records = h.records.items; done = h.done } };
 
-    ghost invariant = { λ h. IsRecorded (record { kept = h.present; records = h.records.items; done = h.done }) };
+    ghost invariant = { λ h. IsRecorded
+        (record { kept = h.present; records = h.records.items; done = h.done }) };
 }
 
 impl History {
@@ -60,8 +68,10 @@ impl History {
 
     /// A world, and the records of the changes that led to it.
     pub(crate) fn loaded(present: Present, records: Vec<Record>) -> History
-        requires { IsRecorded (record { kept = present; records = records.items; done = length records.items }) }
-        ensures { timeline_in result ≡ timeline_in (record { kept = present; records = records.items; done = length records.items }) }
+        requires { IsRecorded
+            (record { kept = present; records = records.items; done = length records.items }) }
+        ensures { timeline_in result ≡ timeline_in
+            (record { kept = present; records = records.items; done = length records.items }) }
     {
         let done = records.len();
         History {
@@ -92,7 +102,8 @@ impl History {
     pub(crate) fn place_of(&mut self, change: &Change<'_>) -> Option<NumberedPlace>
         ensures place { option_map (place_in self.new.kept.archive) result
             ≡ place_of (world_in self.new.kept.archive self.new.kept.now) (step_of change.now) }
-        ensures there { MatchOption result ⊤ (λ (p : NumberedPlace). p.name < self.new.kept.now.names) }
+        ensures there { MatchOption result ⊤
+            (λ (p : NumberedPlace). p.name < self.new.kept.now.names) }
         ensures still { AreStill self.old self.new }
     {
         self.present.place_of(change)
@@ -107,7 +118,8 @@ impl History {
 
     /// Takes the last change back.
     pub(crate) fn undo(&mut self) -> Result<(), Refusal>
-        ensures timeline { Moves (undone (timeline_in self.old)) (timeline_in self.old) (timeline_in self.new) result }
+        ensures timeline { Moves (undone (timeline_in self.old)) (timeline_in self.old)
+            (timeline_in self.new) result }
         ensures turns { Turns (timeline_in self.old).present (timeline_in self.new).present
             self.old.kept.turns self.new.kept.turns result }
     {
@@ -121,7 +133,8 @@ impl History {
 
     /// Makes the last change that was taken back again.
     pub(crate) fn redo(&mut self) -> Result<(), Refusal>
-        ensures timeline { Moves (redone (timeline_in self.old)) (timeline_in self.old) (timeline_in self.new) result }
+        ensures timeline { Moves (redone (timeline_in self.old)) (timeline_in self.old)
+            (timeline_in self.new) result }
         ensures turns { Turns (timeline_in self.old).present (timeline_in self.new).present
             self.old.kept.turns self.new.kept.turns result }
     {
@@ -135,9 +148,10 @@ impl History {
 
     /// Makes the world that a plan leads to the only one to come.
     fn set_next(&mut self, plan: Plan) -> Result<(), AllocError>
-        requires { (v : World) × IsPlan self.old.kept plan v × IsValidWorld v × (length (timeline_in self.old).past < MOST_CHANGES) }
-        ensures timeline { (v : World) → IsPlan self.old.kept plan v
-            → MatchResult result (λ _. timeline_in self.new ≡ record (timeline_in self.old) { future = v ∷ [] })
+        requires { (v : World) × IsPlan self.old.kept plan v × IsValidWorld v
+            × (length (timeline_in self.old).past < MOST_CHANGES) }
+        ensures timeline { (v : World) → IsPlan self.old.kept plan v → MatchResult result
+            (λ _. timeline_in self.new ≡ record (timeline_in self.old) { future = v ∷ [] })
             (λ _. timeline_in self.new ≡ timeline_in self.old) }
         ensures turns { self.new.kept.turns ≡ self.old.kept.turns }
     {
@@ -153,9 +167,11 @@ impl History {
 
     /// Goes to the world that a plan leads to. The future is gone.
     pub(crate) fn go(&mut self, plan: Plan) -> Result<(), AllocError>
-        requires { (v : World) × IsPlan self.old.kept plan v × IsValidWorld v × (length (timeline_in self.old).past < MOST_CHANGES) }
+        requires { (v : World) × IsPlan self.old.kept plan v × IsValidWorld v
+            × (length (timeline_in self.old).past < MOST_CHANGES) }
         ensures timeline { (v : World) → IsPlan self.old.kept plan v
-            → MatchResult result (λ _. timeline_in self.new ≡ moved_on (timeline_in self.old) v) (λ _. timeline_in self.new ≡ timeline_in self.old) }
+            → MatchResult result (λ _. timeline_in self.new ≡ moved_on (timeline_in self.old) v)
+            (λ _. timeline_in self.new ≡ timeline_in self.old) }
         ensures turns { Turns (timeline_in self.old).present (timeline_in self.new).present
             self.old.kept.turns self.new.kept.turns result }
     {

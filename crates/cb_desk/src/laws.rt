@@ -1,5 +1,10 @@
 //! What follows from the definitions alone: no code runs here.
-ghost use Rattle.cb_desk.specs.Laws.{UndoTakesBack, RedoTakesBack, StepKeepsValid, TimelineStaysValid};
+ghost use Rattle.cb_desk.specs.Laws.{
+  UndoTakesBack,
+  RedoTakesBack,
+  StepKeepsValid,
+  TimelineStaysValid,
+};
 ghost use Rattle.cb_desk.specs.Replacement.{HasOneCut};
 ghost use Rattle.cb_desk.specs.Survivors.{TimelineIsReplayed};
 

@@ -1,5 +1,18 @@
 //! Files that are loaded one after another before anything is asked of them.
-ghost use Rattle.std.specs.Prelude.{◌≡◌, ◌≢◌, ◌≤◌, ◌<◌, ◌∷◌, [], false, length, nat_le, MatchResult, OnOk, vec_capacity};
+ghost use Rattle.std.specs.Prelude.{
+  ◌≡◌,
+  ◌≢◌,
+  ◌≤◌,
+  ◌<◌,
+  ◌∷◌,
+  [],
+  false,
+  length,
+  nat_le,
+  MatchResult,
+  OnOk,
+  vec_capacity,
+};
 ghost use Rattle.std.specs.List.{AllByRecursion};
 ghost use Rattle.cb_index.specs.Files.{AreAscending, IsThere};
 ghost use Rattle.cb_desk.specs.declared.limits.TheConstants.{MOST_CHANGES};
@@ -44,7 +57,8 @@ impl Model for Loading {
       meter = l.meter;
     } };
 
-    ghost invariant = { λ l. AreLoaded l.shelf.archive l.shelf.shown l.shown.items l.records.items };
+    ghost invariant = { λ l. AreLoaded l.shelf.archive l.shelf.shown
+        l.shown.items l.records.items };
 }
 
 /// Makes room for one file more.
@@ -58,7 +72,8 @@ fn make_room(
     requires versions { length shelf.old.archive.texts ≡ count }
     requires few { count < MOST_CHANGES }
     ensures name { OnOk result (length shelf.new.archive.names < shelf.new.archive.name_room) }
-    ensures version { OnOk result (length shelf.new.archive.texts < shelf.new.archive.version_room) }
+    ensures version { OnOk result
+        (length shelf.new.archive.texts < shelf.new.archive.version_room) }
     ensures entry { OnOk result (length shown.new.items < vec_capacity shown.new) }
     ensures record_room { OnOk result (length records.new.items < vec_capacity records.new) }
     ensures same_names { shelf.new.archive.names ≡ shelf.old.archive.names }
@@ -136,8 +151,8 @@ impl Loading {
         requires fresh { has_file self.old.timeline.present.files name.items ≡ false }
         requires valid { IsValidWorld (loaded self.old.timeline.present name.items version) }
         requires few { length self.old.timeline.past < MOST_CHANGES }
-        ensures timeline { MatchResult result
-            (λ _. self.new.timeline ≡ moved_on self.old.timeline (loaded self.old.timeline.present name.items version))
+        ensures timeline { MatchResult result (λ _. self.new.timeline ≡ moved_on self.old.timeline
+            (loaded self.old.timeline.present name.items version))
             (λ _. self.new.timeline ≡ self.old.timeline) }
         ensures meter { self.new.meter ≡ self.old.meter }
     {
@@ -165,7 +180,8 @@ impl Loading {
 
     /// Loads a file. After a refusal what is loaded is as before.
     pub fn load(&mut self, alloc: Global, name: &[u8], bytes: Vec<u8>) -> Result<(), Refusal>
-        ensures timeline { Changes (load name.now bytes.items) self.old.timeline self.new.timeline result }
+        ensures timeline { Changes (load name.now bytes.items) self.old.timeline
+            self.new.timeline result }
         ensures meter { Counts (length bytes.items) self.old.meter self.new.meter result }
     {
         let _counted = self.meter.read();

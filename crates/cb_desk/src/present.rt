@@ -1,5 +1,17 @@
 //! The present world in memory, in the numbers of an archive.
-ghost use Rattle.std.specs.Prelude.{◌≡◌, ◌≤◌, ◌+◌, ◌++◌, [], ⊤, length, map, take, MatchOption, OnOk};
+ghost use Rattle.std.specs.Prelude.{
+  ◌≡◌,
+  ◌≤◌,
+  ◌+◌,
+  ◌++◌,
+  [],
+  ⊤,
+  length,
+  map,
+  take,
+  MatchOption,
+  OnOk,
+};
 ghost use Rattle.cb_scan.specs.Order.{in_order};
 ghost use Rattle.cb_index.specs.Files.{shown_name};
 ghost use Rattle.cb_index.specs.Names.{names_of};
@@ -8,7 +20,19 @@ ghost use Rattle.std.specs.List.Sorted.{IsStrictlyIncreasing};
 ghost use Rattle.cb_desk.specs.Desk.{counted};
 ghost use Rattle.cb_desk.specs.steps.Edits.{turned_edits, edited};
 ghost use Rattle.cb_desk.specs.steps.Plans.{HasRoomFor};
-ghost use Rattle.cb_desk.specs.steps.Records.{AreThere, Fits, IsTurn, KeepsRooms, hidden, kept_wanted, no_numbers, other, other_wanted, turned, without};
+ghost use Rattle.cb_desk.specs.steps.Records.{
+  AreThere,
+  Fits,
+  IsTurn,
+  KeepsRooms,
+  hidden,
+  kept_wanted,
+  no_numbers,
+  other,
+  other_wanted,
+  turned,
+  without,
+};
 ghost use Rattle.cb_desk.specs.steps.Room.{IsRoomFor};
 ghost use Rattle.cb_desk.specs.steps.Still.{IsStill};
 ghost use Rattle.cb_desk.specs.steps.Texts.{bytes_if, bytes_if_other};
@@ -37,8 +61,8 @@ use std::alloc::{AllocError, Global};
 use std::marker::Model;
 use std::mem;
 
-/// What is shown of an archive, the wanted text, the marks by file and line, the frames, bottom first;
-/// and how many names and versions of the archive this world and those before it use.
+/// What is shown of an archive, the wanted text, the marks by file and line, the frames, bottom
+/// first; and how many names and versions of the archive this world and those before it use.
 #[derive(Drop)]
 pub(crate) struct Present {
     shelf: Shelf,
@@ -87,7 +111,8 @@ fn turn_shown(shelf: &mut Shelf, hides: &mut Vec<Shown>, shows: &mut Vec<Shown>)
     ensures archive { shelf.new.archive ≡ shelf.old.archive }
     ensures hides { hides.new.items ≡ shows.old.items }
     ensures shows { shows.new.items ≡ hides.old.items }
-    ensures turns { shelf.new.turns ≡ counted shelf.old.turns (length hides.old.items + length shows.old.items) }
+    ensures turns { shelf.new.turns
+        ≡ counted shelf.old.turns (length hides.old.items + length shows.old.items) }
     ensures rise { shelf.old.turns ≤ shelf.new.turns }
     ensures room { KeepsRoom shelf.old shelf.new }
 {
@@ -100,8 +125,10 @@ fn turn_shown(shelf: &mut Shelf, hides: &mut Vec<Shown>, shows: &mut Vec<Shown>)
 
 /// Swaps the wanted text with another one, if there is another.
 fn turn_wanted(wanted: &mut Option<Vec<u8>>, other: &mut Option<Option<Vec<u8>>>)
-    ensures wanted { bytes_if wanted.new ≡ other_wanted (bytes_if_other other.old) (bytes_if wanted.old) }
-    ensures other { bytes_if_other other.new ≡ kept_wanted (bytes_if_other other.old) (bytes_if wanted.old) }
+    ensures wanted { bytes_if wanted.new
+        ≡ other_wanted (bytes_if_other other.old) (bytes_if wanted.old) }
+    ensures other { bytes_if_other other.new
+        ≡ kept_wanted (bytes_if_other other.old) (bytes_if wanted.old) }
 {
     if let Some(text) = other {
         mem::swap(text, wanted);
@@ -122,7 +149,8 @@ fn turn_places(places: &mut PlaceList, edits: &mut Vec<Edit>)
 /// Keeps names, in the room that is there.
 fn keep_names(shelf: &mut Shelf, names: Vec<Vec<u8>>)
     requires { length shelf.old.archive.names + length names.items ≤ shelf.old.archive.name_room }
-    ensures names { shelf.new.archive.names ≡ shelf.old.archive.names ++ map (λ n. n.items) names.items }
+    ensures names { shelf.new.archive.names
+        ≡ shelf.old.archive.names ++ map (λ n. n.items) names.items }
     ensures texts { shelf.new.archive.texts ≡ shelf.old.archive.texts }
     ensures shown { shelf.new.shown ≡ shelf.old.shown }
     ensures turns { shelf.new.turns ≡ shelf.old.turns }
@@ -135,7 +163,8 @@ fn keep_names(shelf: &mut Shelf, names: Vec<Vec<u8>>)
 
 /// Keeps versions, in the room that is there.
 fn keep_versions(shelf: &mut Shelf, versions: Vec<Version>)
-    requires { length shelf.old.archive.texts + length versions.items ≤ shelf.old.archive.version_room }
+    requires { length shelf.old.archive.texts + length versions.items
+        ≤ shelf.old.archive.version_room }
     ensures texts { shelf.new.archive.texts ≡ shelf.old.archive.texts ++ versions.items }
     ensures names { shelf.new.archive.names ≡ shelf.old.archive.names }
     ensures shown { shelf.new.shown ≡ shelf.old.shown }
@@ -175,7 +204,8 @@ impl Present {
 
     /// The world of a shelf that shows so many files, each under a name of its own.
     pub(crate) fn loaded(alloc: Global, shelf: Shelf, count: u32) -> Present
-        ensures now { result.now ≡ record no_numbers { shown = shelf.shown; names = count; versions = count } }
+        ensures now { result.now
+            ≡ record no_numbers { shown = shelf.shown; names = count; versions = count } }
         ensures archive { result.archive ≡ shelf.archive }
         ensures files { result.rooms.files ≡ shelf.entry_room }
         ensures defs { result.rooms.defs ≡ shelf.def_room }
@@ -196,11 +226,13 @@ impl Present {
     pub(crate) fn turn(&mut self, way: &mut Record)
         requires turn { IsTurn self.old.archive way.old self.old.now }
         requires there { AreThere self.old.archive (other self.old.archive way.old self.old.now) }
-        requires room { Fits self.old.rooms self.old.archive (other self.old.archive way.old self.old.now) }
+        requires room { Fits self.old.rooms self.old.archive
+            (other self.old.archive way.old self.old.now) }
         ensures now { self.new.now ≡ other self.old.archive way.old self.old.now }
         ensures way { way.new ≡ turned way.old self.old.now }
         ensures archive { self.new.archive ≡ self.old.archive }
-        ensures turns { self.new.turns ≡ counted self.old.turns (length way.old.hides + length way.old.shows) }
+        ensures turns { self.new.turns
+            ≡ counted self.old.turns (length way.old.hides + length way.old.shows) }
         ensures rise { self.old.turns ≤ self.new.turns }
         ensures rooms { KeepsRooms self.old.rooms self.new.rooms }
     {
@@ -245,9 +277,12 @@ impl Present {
     /// Makes room for the world that a plan leads to, and for what it brings.
     pub(crate) fn reserve_for(&mut self, plan: &Plan) -> Result<(), AllocError>
         requires { AreThere self.old.archive self.old.now }
-        ensures names { OnOk result (self.old.now.names + length plan.now.names ≤ self.new.archive.name_room) }
-        ensures versions { OnOk result (self.old.now.versions + length plan.now.texts ≤ self.new.archive.version_room) }
-        ensures fits { OnOk result (HasRoomFor self.new.rooms self.old.archive self.old.now plan.now) }
+        ensures names { OnOk result
+            (self.old.now.names + length plan.now.names ≤ self.new.archive.name_room) }
+        ensures versions { OnOk result
+            (self.old.now.versions + length plan.now.texts ≤ self.new.archive.version_room) }
+        ensures fits { OnOk result
+            (HasRoomFor self.new.rooms self.old.archive self.old.now plan.now) }
         ensures same_names { self.new.archive.names ≡ self.old.archive.names }
         ensures same_texts { self.new.archive.texts ≡ self.old.archive.texts }
         ensures now { self.new.now ≡ self.old.now }
@@ -268,7 +303,8 @@ impl Present {
     pub(crate) fn keep(&mut self, names: Vec<Vec<u8>>, versions: Vec<Version>)
         requires there { AreThere self.old.archive self.old.now }
         requires names { self.old.now.names + length names.items ≤ self.old.archive.name_room }
-        requires versions { self.old.now.versions + length versions.items ≤ self.old.archive.version_room }
+        requires versions { self.old.now.versions + length versions.items
+            ≤ self.old.archive.version_room }
         ensures names { self.new.archive.names
             ≡ take self.old.now.names self.old.archive.names ++ map (λ n. n.items) names.items }
         ensures texts { self.new.archive.texts

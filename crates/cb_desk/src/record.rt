@@ -5,9 +5,9 @@ use crate::edits::Edit;
 use cb_index::Shown;
 use std::marker::Model;
 
-/// What is hidden and then shown, which text is wanted if it is another, the edits of the marks and of
-/// the frames, and how many names and versions of the archive the other world uses. A record leads
-/// to the other world; once it is made it leads back.
+/// What is hidden and then shown, which text is wanted if it is another, the edits of the marks and
+/// of the frames, and how many names and versions of the archive the other world uses. A record
+/// leads to the other world; once it is made it leads back.
 #[derive(Drop)]
 pub(crate) struct Record {
     pub(crate) hides: Vec<Shown>,

@@ -1,5 +1,17 @@
 //! The lines of a text that hold another text.
-ghost use Rattle.std.specs.Prelude.{◌≡◌, ◌≢◌, ◌≤◌, ◌+◌, ◌==◌, [], ◌∷◌, length, count_by, MatchOption, ⊤};
+ghost use Rattle.std.specs.Prelude.{
+  ◌≡◌,
+  ◌≢◌,
+  ◌≤◌,
+  ◌+◌,
+  ◌==◌,
+  [],
+  ◌∷◌,
+  length,
+  count_by,
+  MatchOption,
+  ⊤,
+};
 ghost use Rattle.std.specs.Iterator.{YieldsFirst, item_count};
 ghost use Rattle.cb_scan.specs.Lines.{lines};
 ghost use Rattle.cb_desk.specs.declared.limits.TheConstants.{MOST_BYTES};
@@ -61,8 +73,10 @@ pub(crate) fn next_line<'t>(
 ) -> Option<(u32, LinesLeft<'t>)>
     requires some { finder.now ≢ [] }
     requires small { left.line + length (lines left.rest.now) ≤ MOST_BYTES + 1 }
-    ensures found { MatchOption result (found_in finder.now left.entry ≡ []) (λ r. found_in finder.now left.entry ≡ r.0 ∷ found_in finder.now r.1) }
-    ensures small { MatchOption result ⊤ (λ r. r.1.line + length (lines r.1.rest.now) ≤ MOST_BYTES + 1) }
+    ensures found { MatchOption result (found_in finder.now left.entry ≡ [])
+        (λ r. found_in finder.now left.entry ≡ r.0 ∷ found_in finder.now r.1) }
+    ensures small { MatchOption result ⊤
+        (λ r. r.1.line + length (lines r.1.rest.now) ≤ MOST_BYTES + 1) }
 {
     let mut left = left;
     while let Some(place) = finder.find(left.rest) {

@@ -6,7 +6,14 @@ ghost use Rattle.cb_desk.specs.Desk.{Counts, CountsUpTo, bytes_in, scanned};
 ghost use Rattle.cb_desk.specs.Models.{step_of};
 ghost use Rattle.cb_desk.specs.Settled.{AreTagsSettled, IsSettled};
 ghost use Rattle.cb_desk.specs.Tags.{tags};
-ghost use Rattle.cb_desk.specs.Timeline.{Changes, IsValidTimeline, Moves, new_timeline, redone, undone};
+ghost use Rattle.cb_desk.specs.Timeline.{
+  Changes,
+  IsValidTimeline,
+  Moves,
+  new_timeline,
+  redone,
+  undone,
+};
 ghost use Rattle.cb_desk.specs.Turns.{Turns};
 ghost use Rattle.cb_desk.specs.World.{IsValidWorld, text_named};
 ghost use Rattle.cb_desk.specs.steps.Walks.{timeline_in};
@@ -81,9 +88,12 @@ impl Desk {
     /// Makes a change. After a refusal the files, their past and their future are as before, and
     /// the bytes of the change are dropped.
     pub fn change(&mut self, alloc: Global, change: Change<'_>) -> Result<(), Refusal>
-        ensures timeline { Changes (step_of change.entry) self.old.timeline self.new.timeline result }
-        ensures meter { Counts (scanned self.old.timeline.present (step_of change.entry)) self.old.meter self.new.meter result }
-        ensures turns { Turns self.old.timeline.present self.new.timeline.present self.old.turns self.new.turns result }
+        ensures timeline { Changes (step_of change.entry) self.old.timeline
+            self.new.timeline result }
+        ensures meter { Counts (scanned self.old.timeline.present (step_of change.entry))
+            self.old.meter self.new.meter result }
+        ensures turns { Turns self.old.timeline.present self.new.timeline.present self.old.turns
+            self.new.turns result }
     {
         // A growth can fail only after all is judged. All growths come before the first move.
         let _counted = self.meter.read();
@@ -102,18 +112,22 @@ impl Desk {
 
     /// Takes the last change back.
     pub fn undo(&mut self) -> Result<(), Refusal>
-        ensures timeline { Moves (undone self.old.timeline) self.old.timeline self.new.timeline result }
+        ensures timeline { Moves (undone self.old.timeline) self.old.timeline
+            self.new.timeline result }
         ensures meter { self.new.meter ≡ self.old.meter }
-        ensures turns { Turns self.old.timeline.present self.new.timeline.present self.old.turns self.new.turns result }
+        ensures turns { Turns self.old.timeline.present self.new.timeline.present self.old.turns
+            self.new.turns result }
     {
         self.history.undo()
     }
 
     /// Makes the last change that was taken back again.
     pub fn redo(&mut self) -> Result<(), Refusal>
-        ensures timeline { Moves (redone self.old.timeline) self.old.timeline self.new.timeline result }
+        ensures timeline { Moves (redone self.old.timeline) self.old.timeline
+            self.new.timeline result }
         ensures meter { self.new.meter ≡ self.old.meter }
-        ensures turns { Turns self.old.timeline.present self.new.timeline.present self.old.turns self.new.turns result }
+        ensures turns { Turns self.old.timeline.present self.new.timeline.present self.old.turns
+            self.new.turns result }
     {
         self.history.redo()
     }
@@ -121,7 +135,8 @@ impl Desk {
     /// Scans every present file again. The files, their past and their future stay.
     pub fn rebuild(&mut self, alloc: Global) -> Result<(), Refusal>
         ensures timeline { self.new.timeline ≡ self.old.timeline }
-        ensures meter { Counts (bytes_in self.old.timeline.present.files) self.old.meter self.new.meter result }
+        ensures meter { Counts (bytes_in self.old.timeline.present.files) self.old.meter
+            self.new.meter result }
         ensures turns { self.new.turns ≡ self.old.turns }
         ensures memory { IfErr result (λ r. r ≡ Refusal.OutOfMemory) }
     {

@@ -9,7 +9,8 @@ use Rattle.cb_desk.specs.declared.spot.NumberedPlace.{NumberedPlace}
 abbrev pub edited : List Edit → List NumberedPlace → List NumberedPlace
 edited [] ps = ps
 edited (e ∷ es) ps = take e.kept ps
-    ++ (if e.is_put then e.place ∷ edited es (drop e.kept ps) else edited es (drop 1 (drop e.kept ps)))
+    ++ (if e.is_put then e.place ∷ edited es (drop e.kept ps)
+    else edited es (drop 1 (drop e.kept ps)))
 
 -- the edit that takes one back, and those that take several back
 abbrev pub turned_edit : Edit → Edit

@@ -10,7 +10,8 @@ use Rattle.cb_index.specs.steps.Left.{entries_left, spots_left, tags_left}
 use Rattle.cb_desk.specs.Answer.{AnswerRow, file_rows, is_header, unindented}
 use Rattle.cb_desk.specs.World.{File}
 use Rattle.cb_desk.specs.declared.answers.found.FoundRows.{FoundRows}
-use Rattle.cb_desk.specs.declared.answers.found.FoundRows.TheVariants.{Around, Named, Defs, Headers, Names}
+use Rattle.cb_desk.specs.declared.answers.found.FoundRows.TheVariants.{Around, Named, Defs, Headers}
+use Rattle.cb_desk.specs.declared.answers.found.FoundRows.TheVariants.{Names}
 use Rattle.cb_desk.specs.declared.answers.headers.HeaderRows.{HeaderRows}
 use Rattle.cb_desk.specs.declared.answers.names.NameRows.{NameRows}
 use Rattle.cb_desk.specs.declared.answers.row_spot.RowSpot.{RowSpot}
@@ -28,7 +29,8 @@ column (Some name) = name
 
 -- the row of a fact that shows the name around it
 abbrev pub row_around : Fact → AnswerRow
-row_around f = record { file = f.file; function = column f.scope; line = f.line; text = unindented f.text }
+row_around f =
+    record { file = f.file; function = column f.scope; line = f.line; text = unindented f.text }
 
 -- the row of a fact that shows its own name
 abbrev pub row_named : Fact → AnswerRow
@@ -45,7 +47,12 @@ spot_text line (Whole text) = text.now
 
 -- the row that stands at a spot
 abbrev pub spot_row : RowSpot → AnswerRow
-spot_row s = record { file = s.file.now; function = s.function.now; line = s.line; text = spot_text s.line s.text }
+spot_row s = record {
+  file = s.file.now;
+  function = s.function.now;
+  line = s.line;
+  text = spot_text s.line s.text;
+}
 
 -- the includes that a pattern asks for
 abbrev pub headers_left : HeaderRows → List Fact

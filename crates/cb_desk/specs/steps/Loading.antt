@@ -44,7 +44,8 @@ loads_recorded a shown records = record {
 }
 
 -- each load brought a name, a version and a record; a shelf does not show them yet
-pub record AreLoaded (a : Archived) (in_shelf shown : List Shown) (records : List Turn) : Type 0 where
+pub record AreLoaded (a : Archived) (in_shelf shown : List Shown)
+    (records : List Turn) : Type 0 where
   pub hidden : in_shelf ≡ []
   pub names : length a.names ≡ length records
   pub versions : length a.texts ≡ length records

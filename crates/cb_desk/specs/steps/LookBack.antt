@@ -1,5 +1,6 @@
 -- Rows of which equal ones are left out by looking back.
-use Rattle.std.specs.Prelude.{◌≡◌, ℕ, ◌≤◌, ◌<◌, ◌^◌, ◌==◌, ◌&&◌, Bool, false, List, [], ◌∷◌, ◌++◌, length, take, drop, if◌then◌else◌}
+use Rattle.std.specs.Prelude.{◌≡◌, ℕ, ◌≤◌, ◌<◌, ◌^◌, ◌==◌, ◌&&◌, Bool, false, List, [], ◌∷◌, ◌++◌}
+use Rattle.std.specs.Prelude.{length, take, drop, if◌then◌else◌}
 use Rattle.std.specs.Cmp.Lexicographic.{slice_cmp}
 use Rattle.std.specs.List.{AllByRecursion, list_any}
 use Rattle.std.specs.Ordering.{is_gt, nat_cmp}
@@ -28,21 +29,24 @@ IsTextedLike q r = r.file ≡ q.file → r.line ≡ q.line → r.text ≡ q.text
 -- the rows of one line of a file have one text
 abbrev pub HaveLineTexts : List AnswerRow → Type 0
 HaveLineTexts rows =
-    (text : List ℕ → ℕ → List ℕ) × AllByRecursion (λ (r : AnswerRow). r.text ≡ text r.file r.line) rows
+    (text : List ℕ → ℕ → List ℕ)
+    × AllByRecursion (λ (r : AnswerRow). r.text ≡ text r.file r.line) rows
 
 -- what the line of a row is ordered by
 abbrev pub row_key : AnswerRow → List ℕ
 row_key r = place_key (record { file = r.file; line = r.line })
 
--- the rest is what is left of all rows after those that were passed; the group begins at the first of
--- these on the greatest line, which has that key
-pub record IsGrouped (all group rest : List AnswerRow) (first passed : ℕ) (key : List ℕ) : Type 0 where
+-- the rest is what is left of all rows after those that were passed; the group begins at the first
+-- of these on the greatest line, which has that key
+pub record IsGrouped (all group rest : List AnswerRow) (first passed : ℕ)
+    (key : List ℕ) : Type 0 where
   pub order : first ≤ passed
   pub within : passed ≤ length all
   pub begins : group ≡ drop first all
   pub left : rest ≡ drop passed all
   pub before : AllByRecursion (λ r. slice_cmp nat_cmp (row_key r) key ≡ Less) (take first all)
-  pub so_far : AllByRecursion (λ r. is_gt (slice_cmp nat_cmp (row_key r) key) ≡ false) (take passed all)
+  pub so_far : AllByRecursion
+      (λ r. is_gt (slice_cmp nat_cmp (row_key r) key) ≡ false) (take passed all)
   pub texts : HaveLineTexts all
   pub few : length all < 2 ^ 64
 

@@ -1,5 +1,6 @@
 -- What a change brings to the archive, and the turn to the new world.
-use Rattle.std.specs.Prelude.{◌≡◌, ◌<◌, ℕ, Bool, List, ◌++◌, map, take, filter, nat_eq, not, slice_get, Option, Some, if◌then◌else◌}
+use Rattle.std.specs.Prelude.{◌≡◌, ◌<◌, ℕ, Bool, List, ◌++◌, map, take, filter, nat_eq, not}
+use Rattle.std.specs.Prelude.{slice_get, Option, Some, if◌then◌else◌}
 use Rattle.std.specs.List.{AllByRecursion}
 use Rattle.std.specs.Str.{bytes_eq}
 use Rattle.cb_index.specs.Archived.{Archived, name_of}
@@ -7,7 +8,8 @@ use Rattle.cb_index.specs.declared.entry.Shown.{Shown}
 use Rattle.cb_desk.specs.declared.edits.Edit.{Edit}
 use Rattle.cb_desk.specs.declared.spot.NumberedPlace.{NumberedPlace}
 use Rattle.cb_desk.specs.steps.Edits.{edited, turned_edits}
-use Rattle.cb_desk.specs.steps.Records.{AreThere, Fits, IsTurn, Kept, Numbered, Rooms, Turn, other, other_wanted, place_in, world_in}
+use Rattle.cb_desk.specs.steps.Records.{AreThere, Fits, IsTurn, Kept, Numbered, Rooms, Turn, other}
+use Rattle.cb_desk.specs.steps.Records.{other_wanted, place_in, world_in}
 use Rattle.cb_desk.specs.steps.Walks.{IsNext, UsesAll}
 use Rattle.cb_desk.specs.World.{World, place_key}
 
@@ -44,7 +46,8 @@ pub record AreEdits (names : ℕ) (es : List Edit) (ps : List NumberedPlace) : T
   pub named : AllByRecursion (λ (p : NumberedPlace). p.name < names) (edited es ps)
 
 -- the world with other marks and frames, and another wanted text if there is one
-abbrev pub with_places : Archived → Numbered → Option (Option (List ℕ)) → (marks frames : List Edit) → World
+abbrev pub with_places : Archived → Numbered → Option (Option (List ℕ))
+    → (marks frames : List Edit) → World
 with_places a w wanted marks frames = record (world_in a w) {
   wanted = other_wanted wanted w.wanted;
   marks = map (place_in a) (edited marks w.marks);
@@ -53,7 +56,8 @@ with_places a w wanted marks frames = record (world_in a w) {
 
 -- the world with other marks, and another wanted text if there is one
 abbrev pub with_marks : Archived → Numbered → Option (Option (List ℕ)) → List NumberedPlace → World
-with_marks a w wanted marks = record (world_in a w) { wanted = other_wanted wanted w.wanted; marks = map (place_in a) marks }
+with_marks a w wanted marks =
+    record (world_in a w) { wanted = other_wanted wanted w.wanted; marks = map (place_in a) marks }
 
 -- ---- changes of the files
 

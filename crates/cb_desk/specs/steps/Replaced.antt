@@ -29,8 +29,10 @@ abbrev pub files_then : Archived → List NumberedPlace → (old new : List ℕ)
 files_then a marks old new shown = map (file_then a marks old new) shown
 
 -- those with a mark alone
-abbrev pub files_changed : Archived → List NumberedPlace → (old new : List ℕ) → List Shown → List File
-files_changed a marks old new shown = map (file_then a marks old new) (filter (has_mark a marks) shown)
+abbrev pub files_changed : Archived → List NumberedPlace → (old new : List ℕ)
+    → List Shown → List File
+files_changed a marks old new shown =
+    map (file_then a marks old new) (filter (has_mark a marks) shown)
 
 -- the texts of files
 abbrev pub texts_of : List File → List (List ℕ)
@@ -43,7 +45,8 @@ line_counts files = map (λ (f : File). length (lines f.bytes)) files
 -- files get new versions, with numbers from one on
 abbrev pub renewals : ℕ → List Shown → List Renewal
 renewals first [] = []
-renewals first (s ∷ shown) = record { name = s.name; old = s.version; new = first } ∷ renewals (first + 1) shown
+renewals first (s ∷ shown) =
+    record { name = s.name; old = s.version; new = first } ∷ renewals (first + 1) shown
 
 -- what is shown of a renewal before it and after it
 abbrev pub old_of : Renewal → Shown

@@ -20,7 +20,8 @@ pub record AreMore (facts : TextFacts) (before after : Totals) : Type 0 where
   pub calls : after.calls ≡ before.calls + length facts.calls
 
 -- totals with the facts of some of these texts more
-pub record AreCounted (texts : List (List ℕ)) (shown : List Shown) (before after : Totals) : Type 0 where
+pub record AreCounted (texts : List (List ℕ)) (shown : List Shown)
+    (before after : Totals) : Type 0 where
   pub defs : after.defs ≡ before.defs + total def_count (with_texts texts) shown
   pub uses : after.uses ≡ before.uses + total use_count (with_texts texts) shown
   pub calls : after.calls ≡ before.calls + total call_count (with_texts texts) shown

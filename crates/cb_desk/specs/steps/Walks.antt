@@ -1,11 +1,13 @@
 -- The worlds that records lead to, and what keeps them within reach.
-use Rattle.std.specs.Prelude.{◌≡◌, ◌≤◌, ◌<◌, ℕ, Bool, true, List, [], ◌∷◌, ◌++◌, length, map, nat_eq, take, drop, reverse}
+use Rattle.std.specs.Prelude.{◌≡◌, ◌≤◌, ◌<◌, ℕ, Bool, true, List, [], ◌∷◌, ◌++◌, length, map}
+use Rattle.std.specs.Prelude.{nat_eq, take, drop, reverse}
 use Rattle.std.specs.List.{list_any}
 use Rattle.cb_index.specs.Archived.{Archived}
 use Rattle.cb_index.specs.declared.entry.Shown.{Shown}
 use Rattle.cb_desk.specs.Timeline.{Timeline, IsValidTimeline}
 use Rattle.cb_desk.specs.World.{World}
-use Rattle.cb_desk.specs.steps.Records.{AreThere, Fits, IsTurn, Kept, Numbered, Rooms, Turn, other, world_in}
+use Rattle.cb_desk.specs.steps.Records.{AreThere, Fits, IsTurn, Kept, Numbered, Rooms}
+use Rattle.cb_desk.specs.steps.Records.{Turn, other, world_in}
 
 -- the worlds that some turns lead to, one after another
 abbrev pub walk : Archived → Numbered → List Turn → List Numbered
@@ -33,7 +35,8 @@ pub record IsNext (old new : Numbered) : Type 0 where
   pub names : old.names ≤ new.names
   pub versions : old.versions ≤ new.versions
   pub all_names : (n : ℕ) → old.names ≤ n → n < new.names → shows_name n new.shown ≡ true
-  pub all_versions : (v : ℕ) → old.versions ≤ v → v < new.versions → shows_version v new.shown ≡ true
+  pub all_versions : (v : ℕ) → old.versions ≤ v → v < new.versions
+      → shows_version v new.shown ≡ true
 
 -- a world, with those before it, uses nothing of an archive; or all of it
 pub record UsesNothing (w : Numbered) : Type 0 where
@@ -48,12 +51,14 @@ pub record UsesAll (a : Archived) (w : Numbered) : Type 0 where
 -- before it does not is shown in it
 unfoldable pub LeadsBack : Rooms → Archived → Numbered → List Turn → Type 0
 LeadsBack rooms a w [] = IsKept rooms a w × UsesNothing w
-LeadsBack rooms a w (t ∷ ts) = IsKept rooms a w × IsTurn a t w × IsNext (other a t w) w × LeadsBack rooms a (other a t w) ts
+LeadsBack rooms a w (t ∷ ts) =
+    IsKept rooms a w × IsTurn a t w × IsNext (other a t w) w × LeadsBack rooms a (other a t w) ts
 
 -- turns lead on to a world that uses all of the archive
 unfoldable pub LeadsOn : Rooms → Archived → Numbered → List Turn → Type 0
 LeadsOn rooms a w [] = IsKept rooms a w × UsesAll a w
-LeadsOn rooms a w (t ∷ ts) = IsKept rooms a w × IsTurn a t w × IsNext w (other a t w) × LeadsOn rooms a (other a t w) ts
+LeadsOn rooms a w (t ∷ ts) =
+    IsKept rooms a w × IsTurn a t w × IsNext w (other a t w) × LeadsOn rooms a (other a t w) ts
 
 -- the present world and the records of the others; the first are the past, the newest last
 pub record Recorded : Type 0 where
@@ -78,13 +83,17 @@ timeline_in h = record {
 
 -- all worlds of the timeline, in numbers
 abbrev pub worlds_of : Recorded → List Numbered
-worlds_of h = walk h.kept.archive h.kept.now (turns_back h) ++ h.kept.now ∷ walk h.kept.archive h.kept.now (turns_on h)
+worlds_of h =
+    walk h.kept.archive h.kept.now (turns_back h) ++ h.kept.now
+    ∷ walk h.kept.archive h.kept.now (turns_on h)
 
 -- the archive holds no name and no version that the timeline does not use: each is shown in one of
 -- its worlds
 pub record IsAllUsed (h : Recorded) : Type 0 where
-  pub names : (n : ℕ) → n < length h.kept.archive.names → list_any (λ w. shows_name n w.shown) (worlds_of h) ≡ true
-  pub versions : (v : ℕ) → v < length h.kept.archive.texts → list_any (λ w. shows_version v w.shown) (worlds_of h) ≡ true
+  pub names : (n : ℕ) → n < length h.kept.archive.names
+      → list_any (λ w. shows_name n w.shown) (worlds_of h) ≡ true
+  pub versions : (v : ℕ) → v < length h.kept.archive.texts
+      → list_any (λ w. shows_version v w.shown) (worlds_of h) ≡ true
 
 -- every world of the timeline is within reach, and valid; and the archive holds nothing else
 pub record IsRecorded (h : Recorded) : Type 0 where

@@ -72,13 +72,15 @@ impl<'a> Iterator for Files<'a> {
 pub(crate) fn find_shown(archive: &Archive, shown: &[Shown], name: &[u8]) -> Option<Shown>
     requires there { AllByRecursion (IsThere archive.now) shown.now }
     requires ascending { AreAscending archive.now shown.now }
-    ensures value { option_map (shown_file archive.now) result ≡ file_named (files_of archive.now shown.now) name.now }
+    ensures value { option_map (shown_file archive.now) result
+        ≡ file_named (files_of archive.now shown.now) name.now }
     ensures there { MatchOption result ⊤ (IsThere archive.now) }
     ensures among { MatchOption result ⊤ (Contains shown.now) }
 {
     let index = shown.partition_point(
         |s: &Shown| -> bool
-            ensures { result ≡ is_lt (slice_cmp nat_cmp (name_of archive.entry.now s.now.name) name.entry.now) }
+            ensures { result
+                ≡ is_lt (slice_cmp nat_cmp (name_of archive.entry.now s.now.name) name.entry.now) }
         { archive.name(s.name).cmp(name) == Ordering::Less },
     );
     if index >= shown.len() {
@@ -94,7 +96,8 @@ pub(crate) fn find_shown(archive: &Archive, shown: &[Shown], name: &[u8]) -> Opt
 
 /// What is shown under a file name, with the number of the name.
 pub(crate) fn shown_as(shelf: &Shelf, name: &[u8]) -> Option<Shown>
-    ensures value { option_map (shown_file shelf.now.archive) result ≡ file_named (files shelf.now) name.now }
+    ensures value { option_map (shown_file shelf.now.archive) result
+        ≡ file_named (files shelf.now) name.now }
     ensures there { MatchOption result ⊤ (IsThere shelf.now.archive) }
     ensures among { MatchOption result ⊤ (Contains shelf.now.shown) }
 {

@@ -5,7 +5,14 @@ ghost use Rattle.std.specs.Option.{option_map};
 ghost use Rattle.cb_index.specs.steps.Left.{fact_of, fact_of_spot};
 ghost use Rattle.cb_tags.specs.TagLines.{tag_of};
 ghost use Rattle.cb_desk.specs.Models.{row_of};
-ghost use Rattle.cb_desk.specs.steps.Lent.{column, found_left, row_around, row_named, row_of_tag, spot_row};
+ghost use Rattle.cb_desk.specs.steps.Lent.{
+  column,
+  found_left,
+  row_around,
+  row_named,
+  row_of_tag,
+  spot_row,
+};
 
 use crate::answers::headers::HeaderRows;
 use crate::answers::names::NameRows;

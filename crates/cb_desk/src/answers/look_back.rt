@@ -1,20 +1,40 @@
 //! Rows, and a look back at those before them.
-ghost use Rattle.std.specs.Prelude.{◌≡◌, ◌<◌, ◌^◌, ◌++◌, ◌∷◌, [], not, take, length, MatchOption, ⊤, if◌then◌else◌};
+ghost use Rattle.std.specs.Prelude.{
+  ◌≡◌,
+  ◌<◌,
+  ◌^◌,
+  ◌++◌,
+  ◌∷◌,
+  [],
+  not,
+  take,
+  length,
+  MatchOption,
+  ⊤,
+  if◌then◌else◌,
+};
 ghost use Rattle.std.specs.List.{list_any};
 ghost use Rattle.std.specs.Cmp.Lexicographic.{slice_cmp};
 ghost use Rattle.std.specs.Ordering.{nat_cmp};
 ghost use Rattle.cb_desk.specs.Answer.{distinct, row_eq};
 ghost use Rattle.cb_desk.specs.World.{place_key};
 ghost use Rattle.cb_desk.specs.steps.Lent.{found_left, spot_row};
-ghost use Rattle.cb_desk.specs.steps.LookBack.{HaveLineTexts, IsLookBack, alike, news_left, row_key, seen};
+ghost use Rattle.cb_desk.specs.steps.LookBack.{
+  HaveLineTexts,
+  IsLookBack,
+  alike,
+  news_left,
+  row_key,
+  seen,
+};
 
 use crate::answers::found::FoundRows;
 use crate::answers::row_spot::RowSpot;
 use std::cmp::Ordering;
 
 /// Rows that are left, and copies of the iterator to look back from. Rows that are equal are in one
-/// file and on one line, and rows come by file and line, so a row is compared with those of its line
-/// alone. A row on a line before the greatest one would be compared with all rows.
+/// file and on one line, and rows come by file and line, so a row is compared with those of its
+/// line alone. A row on a line before the greatest one would be compared with all rows.
 #[derive(Clone, Copy)]
 pub(crate) struct LookBack<'a, 'p> {
     /// From the first row on.

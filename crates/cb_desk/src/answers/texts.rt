@@ -25,7 +25,8 @@ struct Searched<'a> {
 impl<'a> Searched<'a> {
     /// A whole file.
     fn new(name: &'a [u8], source: &'a Source, finder: &Finder<'_>) -> Searched<'a>
-        ensures rows { rows_left finder.now result ≡ text_rows_in finder.now (file_of (name.entry, source.entry)) }
+        ensures rows { rows_left finder.now result
+            ≡ text_rows_in finder.now (file_of (name.entry, source.entry)) }
         ensures small { IsSmall result }
     {
         Searched {
@@ -39,7 +40,8 @@ impl<'a> Searched<'a> {
     fn next_row(self, finder: &Finder<'_>) -> Option<(RefRow<'a>, Searched<'a>)>
         requires some { finder.now ≢ [] }
         requires small { IsSmall self }
-        ensures rows { MatchOption result (rows_left finder.now self.entry ≡ []) (λ r. rows_left finder.now self.entry ≡ row_of r.0 ∷ rows_left finder.now r.1) }
+        ensures rows { MatchOption result (rows_left finder.now self.entry ≡ [])
+            (λ r. rows_left finder.now self.entry ≡ row_of r.0 ∷ rows_left finder.now r.1) }
         ensures small { MatchOption result ⊤ (λ r. IsSmall r.1) }
     {
         let (line, left) = next_line(finder, self.left)?;
@@ -58,7 +60,10 @@ impl<'a> Searched<'a> {
 /// The first row of some files, and what is left of its file. The files up to it are passed.
 fn first_row<'a>(files: &mut Files<'a>, finder: &Finder<'_>) -> Option<(RefRow<'a>, Searched<'a>)>
     requires { finder.now ≢ [] }
-    ensures rows { MatchOption result ((rows_in finder.now files.old ≡ []) × (rows_in finder.now files.new ≡ [])) (λ r. rows_in finder.now files.old ≡ row_of r.0 ∷ (rows_left finder.now r.1 ++ rows_in finder.now files.new)) }
+    ensures rows { MatchOption result
+        ((rows_in finder.now files.old ≡ []) × (rows_in finder.now files.new ≡ []))
+        (λ r. rows_in finder.now files.old
+        ≡ row_of r.0 ∷ (rows_left finder.now r.1 ++ rows_in finder.now files.new)) }
     ensures small { MatchOption result ⊤ (λ r. IsSmall r.1) }
 {
     while let Some((name, source)) = files.next() {
@@ -73,7 +78,10 @@ fn first_row<'a>(files: &mut Files<'a>, finder: &Finder<'_>) -> Option<(RefRow<'
 /// The first of some files that has a row. The files up to it are passed.
 fn first_text<'a>(files: &mut Files<'a>, finder: &Finder<'_>) -> Option<Searched<'a>>
     requires { finder.now ≢ [] }
-    ensures rows { MatchOption result ((rows_in finder.now files.old ≡ []) × (rows_in finder.now files.new ≡ [])) (λ s. rows_in finder.now files.old ≡ rows_left finder.now s ++ rows_in finder.now files.new) }
+    ensures rows { MatchOption result
+        ((rows_in finder.now files.old ≡ []) × (rows_in finder.now files.new ≡ []))
+        (λ s. rows_in finder.now files.old
+        ≡ rows_left finder.now s ++ rows_in finder.now files.new) }
     ensures small { MatchOption result ⊤ IsSmall }
 {
     while let Some((name, source)) = files.next() {
@@ -104,14 +112,16 @@ impl<'a, 'p> Model for TextRows<'a, 'p> {
     ghost view = { λ r. rows_of r.finder r.searched ++ rows_in r.finder r.files };
 
     ghost invariant = { λ r. (r.finder ≢ []) × IsSmallIfAny r.searched
-        × (length (rows_of r.finder r.searched ++ rows_in r.finder r.files) ≤ MOST_FILES * MOST_BYTES) };
+        × (length (rows_of r.finder r.searched ++ rows_in r.finder r.files)
+        ≤ MOST_FILES * MOST_BYTES) };
 }
 
 impl<'a, 'p> TextRows<'a, 'p> {
     /// The files without a row before the first one are searched here, and not once more.
     pub(crate) fn new(files: Files<'a>, pattern: &'p [u8]) -> TextRows<'a, 'p>
         requires some { pattern.now ≢ [] }
-        requires few { length (flat_map (text_rows_in pattern.now) files) ≤ MOST_FILES * MOST_BYTES }
+        requires few { length (flat_map (text_rows_in pattern.now) files)
+            ≤ MOST_FILES * MOST_BYTES }
         ensures { result ≡ flat_map (text_rows_in pattern.now) files.entry }
     {
         let finder = Finder::new(pattern);

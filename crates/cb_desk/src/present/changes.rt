@@ -2,7 +2,16 @@
 ghost use Rattle.std.specs.Prelude.{◌≡◌, ◌<◌, ⊤, length, None, IfOk, MatchOption};
 ghost use Rattle.std.specs.Option.{option_map};
 ghost use Rattle.cb_desk.specs.Desk.{CountsUpTo, scanned};
-ghost use Rattle.cb_desk.specs.Files.{load_refusal, loaded, reload_refusal, reloaded, rename_refusal, renamed, unload_refusal, unloaded};
+ghost use Rattle.cb_desk.specs.Files.{
+  load_refusal,
+  loaded,
+  reload_refusal,
+  reloaded,
+  rename_refusal,
+  renamed,
+  unload_refusal,
+  unloaded,
+};
 ghost use Rattle.cb_desk.specs.Marks.{mark_refusal, toggled_at};
 ghost use Rattle.cb_desk.specs.Models.{step_of};
 ghost use Rattle.cb_desk.specs.Stack.{push_refusal, pushed};
@@ -51,7 +60,8 @@ impl Present {
         requires valid { IsValidWorld (world_in self.now.archive self.now.now) }
         requires place { option_map (place_in self.now.archive) place
             ≡ place_of (world_in self.now.archive self.now.now) (step_of change.now) }
-        ensures { result ≡ refusal_of (world_in self.now.archive self.now.now) (step_of change.now) }
+        ensures { result
+            ≡ refusal_of (world_in self.now.archive self.now.now) (step_of change.now) }
     {
         match change {
             Change::Load(name, bytes) => self.load_refusal(name, bytes.as_slice()),
@@ -76,7 +86,8 @@ impl Present {
         bytes: Vec<u8>,
     ) -> Result<Plan, AllocError>
         requires kept { IsKept self.now.rooms self.now.archive self.now.now }
-        requires accepted { load_refusal (world_in self.now.archive self.now.now) name.now bytes.items ≡ None }
+        requires accepted { load_refusal (world_in self.now.archive self.now.now)
+            name.now bytes.items ≡ None }
         ensures plan { IfOk result (λ p. IsPlan self.now p
             (loaded (world_in self.now.archive self.now.now) name.now bytes.items)) }
         ensures meter { CountsUpTo (length bytes.items) meter.old meter.new result }
@@ -96,7 +107,8 @@ impl Present {
         bytes: Vec<u8>,
     ) -> Result<Plan, AllocError>
         requires kept { IsKept self.now.rooms self.now.archive self.now.now }
-        requires accepted { reload_refusal (world_in self.now.archive self.now.now) name.now bytes.items ≡ None }
+        requires accepted { reload_refusal (world_in self.now.archive self.now.now)
+            name.now bytes.items ≡ None }
         ensures plan { IfOk result (λ p. IsPlan self.now p
             (reloaded (world_in self.now.archive self.now.now) name.now bytes.items)) }
         ensures meter { CountsUpTo (length bytes.items) meter.old meter.new result }
@@ -112,8 +124,10 @@ impl Present {
     /// The plan to take the file of that name away, with its marks and frames.
     fn plan_to_unload(&self, alloc: Global, name: &[u8]) -> Result<Plan, AllocError>
         requires kept { IsKept self.now.rooms self.now.archive self.now.now }
-        requires accepted { unload_refusal (world_in self.now.archive self.now.now) name.now ≡ None }
-        ensures { IfOk result (λ p. IsPlan self.now p (unloaded (world_in self.now.archive self.now.now) name.now)) }
+        requires accepted { unload_refusal (world_in self.now.archive self.now.now) name.now
+            ≡ None }
+        ensures { IfOk result
+            (λ p. IsPlan self.now p (unloaded (world_in self.now.archive self.now.now) name.now)) }
     {
         let Some(hides) = shown_as(&self.shelf, name) else {
             unreachable!()
@@ -124,8 +138,10 @@ impl Present {
     /// The plan to give the file of the first name the second one, with its marks and frames.
     fn plan_to_rename(&self, alloc: Global, old: &[u8], new: &[u8]) -> Result<Plan, AllocError>
         requires kept { IsKept self.now.rooms self.now.archive self.now.now }
-        requires accepted { rename_refusal (world_in self.now.archive self.now.now) old.now new.now ≡ None }
-        ensures { IfOk result (λ p. IsPlan self.now p (renamed (world_in self.now.archive self.now.now) old.now new.now)) }
+        requires accepted { rename_refusal (world_in self.now.archive self.now.now) old.now new.now
+            ≡ None }
+        ensures { IfOk result (λ p. IsPlan self.now p
+            (renamed (world_in self.now.archive self.now.now) old.now new.now)) }
     {
         let Some(shown) = shown_as(&self.shelf, old) else {
             unreachable!()
@@ -137,8 +153,10 @@ impl Present {
     fn plan_to_mark(&self, alloc: Global, place: Option<NumberedPlace>) -> Result<Plan, AllocError>
         requires kept { IsKept self.now.rooms self.now.archive self.now.now }
         requires there { MatchOption place ⊤ (λ (p : NumberedPlace). p.name < self.now.now.names) }
-        requires accepted { mark_refusal self.now.now.wanted (option_map (place_in self.now.archive) place) ≡ None }
-        ensures { IfOk result (λ p. IsPlan self.now p (toggled_at (world_in self.now.archive self.now.now)
+        requires accepted { mark_refusal self.now.now.wanted
+            (option_map (place_in self.now.archive) place) ≡ None }
+        ensures { IfOk result
+            (λ p. IsPlan self.now p (toggled_at (world_in self.now.archive self.now.now)
             (option_map (place_in self.now.archive) place))) }
     {
         let Some(place) = place else { unreachable!() };
@@ -150,7 +168,8 @@ impl Present {
         requires kept { IsKept self.now.rooms self.now.archive self.now.now }
         requires there { MatchOption place ⊤ (λ (p : NumberedPlace). p.name < self.now.now.names) }
         requires accepted { push_refusal (option_map (place_in self.now.archive) place) ≡ None }
-        ensures { IfOk result (λ p. IsPlan self.now p (pushed (world_in self.now.archive self.now.now)
+        ensures { IfOk result
+            (λ p. IsPlan self.now p (pushed (world_in self.now.archive self.now.now)
             (option_map (place_in self.now.archive) place))) }
     {
         let Some(place) = place else { unreachable!() };
@@ -170,11 +189,12 @@ impl Present {
         requires place { option_map (place_in self.now.archive) place
             ≡ place_of (world_in self.now.archive self.now.now) (step_of change) }
         requires there { MatchOption place ⊤ (λ (p : NumberedPlace). p.name < self.now.now.names) }
-        requires accepted { refusal_of (world_in self.now.archive self.now.now) (step_of change) ≡ None }
+        requires accepted { refusal_of (world_in self.now.archive self.now.now) (step_of change)
+            ≡ None }
         ensures plan { IfOk result (λ p. IsPlan self.now p
             (after (world_in self.now.archive self.now.now) (step_of change.entry))) }
-        ensures meter { CountsUpTo (scanned (world_in self.now.archive self.now.now) (step_of change.entry))
-            meter.old meter.new result }
+        ensures meter { CountsUpTo (scanned (world_in self.now.archive self.now.now)
+            (step_of change.entry)) meter.old meter.new result }
     {
         let _counted = meter.read();
         match change {

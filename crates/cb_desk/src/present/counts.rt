@@ -15,7 +15,8 @@ fn facts_at<'a>(
     version: u32,
 ) -> Option<&'a Facts>
     requires { kept ≤ length archive.now.texts }
-    ensures { option_copied result ≡ option_map facts_of (slice_get (take kept archive.now.texts ++ news.now) version) }
+    ensures { option_copied result
+        ≡ option_map facts_of (slice_get (take kept archive.now.texts ++ news.now) version) }
 {
     if version < kept {
         return Some(archive.facts(version));
@@ -45,7 +46,8 @@ pub(crate) fn with_versions(
     before: Totals,
 ) -> Option<Totals>
     requires { kept ≤ length archive.now.texts }
-    ensures { MatchOption result ⊤ (AreCounted (take kept archive.now.texts ++ news.now) shown.now before) }
+    ensures { MatchOption result ⊤
+        (AreCounted (take kept archive.now.texts ++ news.now) shown.now before) }
 {
     let mut totals = before;
     for s in shown {

@@ -64,7 +64,8 @@ impl Present {
     pub(crate) fn plan_unload(&self, alloc: Global, hides: Shown) -> Result<Plan, AllocError>
         requires kept { IsKept self.now.rooms self.now.archive self.now.now }
         requires among { IsAmong self.now.now.shown hides }
-        ensures { IfOk result (λ p. IsPlan self.now p (unloaded (world_in self.now.archive self.now.now)
+        ensures { IfOk result
+            (λ p. IsPlan self.now p (unloaded (world_in self.now.archive self.now.now)
             (name_of self.now.archive hides.name))) }
     {
         let _shown = self.shelf.shown();
@@ -95,8 +96,8 @@ impl Present {
     ) -> Result<Plan, AllocError>
         requires kept { IsKept self.now.rooms self.now.archive self.now.now }
         requires fresh { has_file (files_of self.now.archive self.now.now.shown) name.now ≡ false }
-        ensures { IfOk result (λ p. IsPlan self.now p (loaded (world_in self.now.archive self.now.now)
-            name.now version)) }
+        ensures { IfOk result (λ p. IsPlan self.now p
+            (loaded (world_in self.now.archive self.now.now) name.now version)) }
     {
         let _shown = self.shelf.shown();
         let new = Shown {
@@ -129,7 +130,8 @@ impl Present {
     ) -> Result<Plan, AllocError>
         requires kept { IsKept self.now.rooms self.now.archive self.now.now }
         requires among { IsAmong self.now.now.shown file }
-        ensures { IfOk result (λ p. IsPlan self.now p (reloaded (world_in self.now.archive self.now.now)
+        ensures { IfOk result
+            (λ p. IsPlan self.now p (reloaded (world_in self.now.archive self.now.now)
             (name_of self.now.archive file.name) version)) }
     {
         let _shown = self.shelf.shown();
@@ -166,7 +168,8 @@ impl Present {
         requires kept { IsKept self.now.rooms self.now.archive self.now.now }
         requires among { IsAmong self.now.now.shown old }
         requires fresh { has_file (files_of self.now.archive self.now.now.shown) new.now ≡ false }
-        ensures { IfOk result (λ p. IsPlan self.now p (renamed (world_in self.now.archive self.now.now)
+        ensures { IfOk result
+            (λ p. IsPlan self.now p (renamed (world_in self.now.archive self.now.now)
             (name_of self.now.archive old.name) new.now)) }
     {
         let _shown = self.shelf.shown();

@@ -1,5 +1,21 @@
 //! Marks in the numbers of an archive, and the plans that change them.
-ghost use Rattle.std.specs.Prelude.{◌≡◌, ◌≢◌, ◌≤◌, ◌<◌, ◌++◌, ⊤, [], length, map, not, slice_get, IfOk, MatchOption, MatchResult, Some};
+ghost use Rattle.std.specs.Prelude.{
+  ◌≡◌,
+  ◌≢◌,
+  ◌≤◌,
+  ◌<◌,
+  ◌++◌,
+  ⊤,
+  [],
+  length,
+  map,
+  not,
+  slice_get,
+  IfOk,
+  MatchOption,
+  MatchResult,
+  Some,
+};
 ghost use Rattle.std.specs.Option.{option_map};
 ghost use Rattle.std.specs.Cmp.Lexicographic.{slice_cmp};
 ghost use Rattle.std.specs.List.{AllByRecursion, list_any, prefix_len};
@@ -12,7 +28,13 @@ ghost use Rattle.cb_desk.specs.Search.{lines_with};
 ghost use Rattle.cb_desk.specs.World.{IsAscending, place_key};
 ghost use Rattle.cb_desk.specs.declared.spot.NumberedPlace.{NumberedPlace};
 ghost use Rattle.cb_desk.specs.steps.Plans.{IsPlan};
-ghost use Rattle.cb_desk.specs.steps.Records.{held_by, held_numbers, place_in, toggled_numbers, world_in};
+ghost use Rattle.cb_desk.specs.steps.Records.{
+  held_by,
+  held_numbers,
+  place_in,
+  toggled_numbers,
+  world_in,
+};
 ghost use Rattle.cb_desk.specs.steps.Walks.{IsKept};
 
 use crate::plan::Plan;
@@ -34,7 +56,8 @@ fn is_same(archive: &Archive, a: NumberedPlace, b: NumberedPlace) -> bool
 
 /// The order of two marks: by the bytes of the files' names, and then by line.
 fn compare(archive: &Archive, a: NumberedPlace, b: NumberedPlace) -> Ordering
-    ensures { result ≡ slice_cmp nat_cmp (place_key (place_in archive.now a)) (place_key (place_in archive.now b)) }
+    ensures { result ≡ slice_cmp nat_cmp (place_key (place_in archive.now a))
+        (place_key (place_in archive.now b)) }
 {
     match archive.name(a.name).cmp(archive.name(b.name)) {
         Ordering::Equal => a.line.cmp(&b.line),
@@ -44,14 +67,16 @@ fn compare(archive: &Archive, a: NumberedPlace, b: NumberedPlace) -> Ordering
 
 /// Whether a place is marked.
 fn has_mark(archive: &Archive, marks: &[NumberedPlace], place: NumberedPlace) -> bool
-    ensures { result ≡ list_any (λ m. same_place (place_in archive.now place) (place_in archive.now m)) marks.now }
+    ensures { result ≡ list_any
+        (λ m. same_place (place_in archive.now place) (place_in archive.now m)) marks.now }
 {
     marks.iter().any(|mark| is_same(archive, place, *mark))
 }
 
 /// The index at which a place is put among marks.
 fn index_for(archive: &Archive, marks: &[NumberedPlace], place: NumberedPlace) -> usize
-    ensures value { result ≡ prefix_len (λ m. not (goes_first (λ p. place_key (place_in archive.now p)) place m)) marks.now }
+    ensures value { result ≡ prefix_len
+        (λ m. not (goes_first (λ p. place_key (place_in archive.now p)) place m)) marks.now }
     ensures within { result ≤ length marks.now }
 {
     marks
@@ -86,7 +111,8 @@ fn add_held(
     finder: &Finder<'_>,
 ) -> Result<(), AllocError>
     requires { finder.now ≢ [] }
-    ensures { IfOk result (λ _. made.new.items ≡ made.old.items ++ held_by finder.now name source.now) }
+    ensures { IfOk result
+        (λ _. made.new.items ≡ made.old.items ++ held_by finder.now name source.now) }
 {
     for line in TextLines::new(source, finder) {
         made.push(NumberedPlace { name, line })?;
@@ -118,7 +144,8 @@ fn held_numbers(
 /// The line of a text that is the nth to hold a pattern, counted from 0; else how many there are.
 fn nth_line(source: &Source, finder: &Finder<'_>, n: u64) -> Result<u32, u64>
     requires { finder.now ≢ [] }
-    ensures { MatchResult result (λ line. slice_get (lines_with finder.now source.now) n ≡ Some line)
+    ensures { MatchResult result
+        (λ line. slice_get (lines_with finder.now source.now) n ≡ Some line)
         (λ count. (count ≡ length (lines_with finder.now source.now)) × (count ≤ n)) }
 {
     let mut passed = 0;
@@ -196,7 +223,8 @@ impl Present {
         requires kept { IsKept self.now.rooms self.now.archive self.now.now }
         requires some { self.now.now.wanted ≢ Some [] }
         requires ascending { IsAscending (world_in self.now.archive self.now.now).files }
-        ensures { IfOk result (λ p. IsPlan self.now p (all_marked (world_in self.now.archive self.now.now))) }
+        ensures { IfOk result
+            (λ p. IsPlan self.now p (all_marked (world_in self.now.archive self.now.now))) }
     {
         let marks = self.wanted_numbers(alloc)?;
         self.plan_marks(alloc, None, marks.as_slice())
@@ -207,7 +235,8 @@ impl Present {
         requires kept { IsKept self.now.rooms self.now.archive self.now.now }
         requires there { place.name < self.now.now.names }
         ensures { IfOk result (λ p. IsPlan self.now p
-            (toggled_at (world_in self.now.archive self.now.now) (Some (place_in self.now.archive place)))) }
+            (toggled_at (world_in self.now.archive self.now.now)
+            (Some (place_in self.now.archive place)))) }
     {
         let archive = self.shelf.archive();
         let marks = toggled(alloc, archive, self.marks.as_slice(), place)?;

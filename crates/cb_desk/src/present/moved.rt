@@ -21,7 +21,8 @@ fn renumbered(
     number: u32,
     places: &[NumberedPlace],
 ) -> Result<Vec<NumberedPlace>, AllocError>
-    ensures { IfOk result (λ made. made.items ≡ map (renumbered archive.now name.now number) places.now) }
+    ensures { IfOk result
+        (λ made. made.items ≡ map (renumbered archive.now name.now number) places.now) }
 {
     let mut made = Vec::with_capacity(alloc, places.len())?;
     for place in places {
@@ -76,7 +77,8 @@ fn sort_places(
 {
     places.sort_by(
         |a: &NumberedPlace, b: &NumberedPlace| -> Ordering
-            ensures { result ≡ slice_cmp nat_cmp (key_then archive.entry.now number new.entry.now a.now)
+            ensures { result
+                ≡ slice_cmp nat_cmp (key_then archive.entry.now number new.entry.now a.now)
                 (key_then archive.entry.now number new.entry.now b.now) }
         { compare(archive, number, new, *a, *b) },
     )?;

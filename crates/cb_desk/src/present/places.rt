@@ -22,7 +22,8 @@ use cb_index::Asked;
 use std::alloc::{AllocError, Global};
 
 impl Present {
-    /// The plan to make edits of the marks and of the frames, and to want another text if one is given.
+    /// The plan to make edits of the marks and of the frames, and to want another text if one is
+    /// given.
     pub(crate) fn plan_places(
         &self,
         alloc: Global,
@@ -52,7 +53,8 @@ impl Present {
         })
     }
 
-    /// The place of the nth definition of a name, by file and place, counted from 1, if there is one.
+    /// The place of the nth definition of a name, by file and place, counted from 1, if there is
+    /// one.
     pub(crate) fn nth_tag(&mut self, name: &[u8], n: u64) -> Option<NumberedPlace>
         requires { IsKept self.old.rooms self.old.archive self.old.now }
         ensures place { option_map (place_in self.old.archive) result
@@ -74,7 +76,8 @@ impl Present {
         requires kept { IsKept self.now.rooms self.now.archive self.now.now }
         requires there { place.name < self.now.now.names }
         ensures { IfOk result (λ p. IsPlan self.now p
-            (pushed (world_in self.now.archive self.now.now) (Some (place_in self.now.archive place)))) }
+            (pushed (world_in self.now.archive self.now.now)
+            (Some (place_in self.now.archive place)))) }
     {
         let frames = push_edits(alloc, self.frames.as_slice(), place)?;
         self.plan_places(alloc, None, Vec::new(alloc), frames)
@@ -83,7 +86,8 @@ impl Present {
     /// The plan to take the top frame away.
     pub(crate) fn plan_pop(&self, alloc: Global) -> Result<Plan, AllocError>
         requires { IsKept self.now.rooms self.now.archive self.now.now }
-        ensures { IfOk result (λ p. IsPlan self.now p (popped (world_in self.now.archive self.now.now))) }
+        ensures { IfOk result
+            (λ p. IsPlan self.now p (popped (world_in self.now.archive self.now.now))) }
     {
         let frames = pop_edits(alloc, self.frames.as_slice())?;
         self.plan_places(alloc, None, Vec::new(alloc), frames)
@@ -97,7 +101,8 @@ impl Present {
         marks: &[NumberedPlace],
     ) -> Result<Plan, AllocError>
         requires kept { IsKept self.now.rooms self.now.archive self.now.now }
-        requires there { AllByRecursion (λ (p : NumberedPlace). p.name < self.now.now.names) marks.now }
+        requires there { AllByRecursion
+            (λ (p : NumberedPlace). p.name < self.now.now.names) marks.now }
         ensures { IfOk result (λ p. IsPlan self.now p (with_marks self.now.archive self.now.now
             (bytes_if_other wanted) marks.now)) }
     {
@@ -108,7 +113,8 @@ impl Present {
     /// The plan to want a text, and to take all marks away.
     pub(crate) fn plan_want(&self, alloc: Global, text: &[u8]) -> Result<Plan, AllocError>
         requires { IsKept self.now.rooms self.now.archive self.now.now }
-        ensures { IfOk result (λ p. IsPlan self.now p (wanting (world_in self.now.archive self.now.now) text.now)) }
+        ensures { IfOk result
+            (λ p. IsPlan self.now p (wanting (world_in self.now.archive self.now.now) text.now)) }
     {
         let text = Vec::from_slice(alloc, text)?;
         self.plan_marks(alloc, Some(Some(text)), &[])

@@ -32,7 +32,8 @@ impl Present {
 
     /// The text of the file of that name, if there is one.
     pub(crate) fn source(&self, name: &[u8]) -> Option<&Source>
-        ensures { option_copied result ≡ text_named (files_of self.now.archive self.now.now.shown) name.now }
+        ensures { option_copied result
+            ≡ text_named (files_of self.now.archive self.now.now.shown) name.now }
     {
         source(&self.shelf, name)
     }

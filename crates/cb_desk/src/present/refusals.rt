@@ -63,7 +63,8 @@ pub(crate) fn load_refusal(
 ) -> Option<Refusal>
     requires there { AllByRecursion (IsThere archive.now) shown.now }
     requires ascending { AreAscending archive.now shown.now }
-    ensures { result ≡ load_refusal (record empty_world { files = files_of archive.now shown.now }) name.now bytes.now }
+    ensures { result ≡ load_refusal
+        (record empty_world { files = files_of archive.now shown.now }) name.now bytes.now }
 {
     if !is_file_name(name) {
         Some(Refusal::BadName)
@@ -88,14 +89,16 @@ impl Present {
 
     /// Why the file can't be loaded, if it can't: the lowest refusal that applies.
     pub(crate) fn load_refusal(&self, name: &[u8], bytes: &[u8]) -> Option<Refusal>
-        ensures { result ≡ load_refusal (world_in self.now.archive self.now.now) name.now bytes.now }
+        ensures { result
+            ≡ load_refusal (world_in self.now.archive self.now.now) name.now bytes.now }
     {
         load_refusal(self.shelf.archive(), self.shelf.shown(), name, bytes)
     }
 
     /// Why the file can't have these bytes, if it can't: the lowest refusal that applies.
     pub(crate) fn reload_refusal(&self, name: &[u8], bytes: &[u8]) -> Option<Refusal>
-        ensures { result ≡ reload_refusal (world_in self.now.archive self.now.now) name.now bytes.now }
+        ensures { result
+            ≡ reload_refusal (world_in self.now.archive self.now.now) name.now bytes.now }
     {
         if !self.has_file(name) {
             Some(Refusal::NoSuchFile)
@@ -134,7 +137,8 @@ impl Present {
 
     /// Why a place can't be marked, if it can't.
     pub(crate) fn mark_refusal(&self, place: Option<NumberedPlace>) -> Option<Refusal>
-        ensures { result ≡ mark_refusal self.now.now.wanted (option_map (place_in self.now.archive) place) }
+        ensures { result
+            ≡ mark_refusal self.now.now.wanted (option_map (place_in self.now.archive) place) }
     {
         if self.wanted.is_none() {
             return Some(Refusal::NothingWanted);

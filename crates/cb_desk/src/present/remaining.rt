@@ -12,7 +12,13 @@ ghost use Rattle.cb_desk.specs.Places.{is_place_of};
 ghost use Rattle.cb_desk.specs.World.{text_of_file};
 ghost use Rattle.cb_desk.specs.steps.Edits.{IsDifference};
 ghost use Rattle.cb_desk.specs.steps.Records.{place_in};
-ghost use Rattle.cb_desk.specs.steps.Replaced.{files_changed, files_then, line_counts, remaining, texts_of};
+ghost use Rattle.cb_desk.specs.steps.Replaced.{
+  files_changed,
+  files_then,
+  line_counts,
+  remaining,
+  texts_of,
+};
 
 use crate::edits::{Edit, difference};
 use crate::present::replaced::Replacing;
@@ -32,19 +38,21 @@ fn index_for(archive: &Archive, shown: &[Shown], name: &[u8]) -> usize
 {
     shown.partition_point(
         |s: &Shown| -> bool
-            ensures { result ≡ is_lt (slice_cmp nat_cmp (name_of archive.entry.now s.now.name) name.entry.now) }
+            ensures { result
+                ≡ is_lt (slice_cmp nat_cmp (name_of archive.entry.now s.now.name) name.entry.now) }
         { archive.name(s.name).cmp(name) == Ordering::Less },
     )
 }
 
 impl<'a> Replacing<'a> {
-    /// How many lines the file of that name has then, of the counts of all files; 0 if there is none.
+    /// How many lines the file of that name has then, of the counts of all files; 0 if there is
+    /// none.
     fn line_count(self, shown: &[Shown], counts: &[u32], name: &[u8]) -> u32
         requires ascending { AreAscending self.archive.now shown.now }
         requires counts { counts.now ≡ line_counts
             (files_then self.archive.now self.marks.now self.old.now self.new.now shown.now) }
-        ensures { result ≡ length (lines (text_of_file
-            (files_then self.entry.archive.now self.entry.marks.now self.entry.old.now self.entry.new.now shown.now) name.now)) }
+        ensures { result ≡ length (lines (text_of_file (files_then self.entry.archive.now
+            self.entry.marks.now self.entry.old.now self.entry.new.now shown.now) name.now)) }
     {
         let index = index_for(self.archive, shown, name);
         if index < shown.len() && self.archive.name(shown[index].name) == name {
@@ -59,8 +67,8 @@ impl<'a> Replacing<'a> {
         requires ascending { AreAscending self.archive.now shown.now }
         requires counts { counts.now ≡ line_counts
             (files_then self.archive.now self.marks.now self.old.now self.new.now shown.now) }
-        ensures { result ≡ is_place_of
-            (files_then self.entry.archive.now self.entry.marks.now self.entry.old.now self.entry.new.now shown.now)
+        ensures { result ≡ is_place_of (files_then self.entry.archive.now self.entry.marks.now
+            self.entry.old.now self.entry.new.now shown.now)
             (place_in self.entry.archive.now place) }
     {
         let count = self.line_count(shown, counts, self.archive.name(place.name));
@@ -79,7 +87,8 @@ impl<'a> Replacing<'a> {
         requires counts { counts.now ≡ line_counts
             (files_then self.archive.now self.marks.now self.old.now self.new.now shown.now) }
         ensures { IfOk result (λ kept. kept.items ≡ remaining self.entry.archive.now
-            (files_then self.entry.archive.now self.entry.marks.now self.entry.old.now self.entry.new.now shown.now) places.now) }
+            (files_then self.entry.archive.now self.entry.marks.now self.entry.old.now
+            self.entry.new.now shown.now) places.now) }
     {
         let mut kept = Vec::new(alloc);
         for place in places {
@@ -101,10 +110,11 @@ impl<'a> Replacing<'a> {
     ) -> Result<Vec<Edit>, AllocError>
         requires there { AllByRecursion (IsThere self.archive.now) shown.now }
         requires ascending { AreAscending self.archive.now shown.now }
-        requires versions { versions.now
-            ≡ texts_of (files_changed self.archive.now self.marks.now self.old.now self.new.now shown.now) }
-        ensures { IfOk result (λ edits. IsDifference edits.items places.now (remaining self.entry.archive.now
-            (files_then self.entry.archive.now self.entry.marks.now self.entry.old.now self.entry.new.now shown.now) places.now)) }
+        requires versions { versions.now ≡ texts_of
+            (files_changed self.archive.now self.marks.now self.old.now self.new.now shown.now) }
+        ensures { IfOk result (λ edits. IsDifference edits.items places.now
+            (remaining self.entry.archive.now (files_then self.entry.archive.now
+            self.entry.marks.now self.entry.old.now self.entry.new.now shown.now) places.now)) }
     {
         if places.is_empty() {
             return Ok(Vec::new(alloc));

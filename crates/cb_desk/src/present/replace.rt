@@ -2,7 +2,12 @@
 ghost use Rattle.std.specs.Prelude.{◌≡◌, ◌≤◌, true, filter, length, None, Some, IfOk};
 ghost use Rattle.cb_scan.specs.Bytes.{line_feed};
 ghost use Rattle.cb_desk.specs.Desk.{CountsUpTo, bytes_in, new_texts};
-ghost use Rattle.cb_desk.specs.Marks.{replace_refusal, replaced_files, replaced_on_marks, with_files};
+ghost use Rattle.cb_desk.specs.Marks.{
+  replace_refusal,
+  replaced_files,
+  replaced_on_marks,
+  with_files,
+};
 ghost use Rattle.cb_desk.specs.World.{IsValidWorld, is_short};
 ghost use Rattle.cb_desk.specs.steps.Plans.{IsPlan};
 ghost use Rattle.cb_desk.specs.steps.Records.{world_in};
@@ -75,11 +80,14 @@ impl Present {
         requires kept { IsKept self.now.rooms self.now.archive self.now.now }
         requires archive { replacing.archive.now ≡ self.now.archive }
         requires marks { replacing.marks.now ≡ self.now.now.marks }
-        requires marked { marked.now ≡ filter (has_mark self.now.archive self.now.now.marks) self.now.now.shown }
-        requires versions { made.items ≡ texts_of
-            (files_changed self.now.archive self.now.now.marks replacing.old.now replacing.new.now self.now.now.shown) }
-        ensures { IfOk result (λ p. IsPlan self.now p (with_files (world_in self.now.archive self.now.now)
-            (replaced_files replacing.entry.old.now replacing.entry.new.now (world_in self.now.archive self.now.now)))) }
+        requires marked { marked.now
+            ≡ filter (has_mark self.now.archive self.now.now.marks) self.now.now.shown }
+        requires versions { made.items ≡ texts_of (files_changed self.now.archive self.now.now.marks
+            replacing.old.now replacing.new.now self.now.now.shown) }
+        ensures { IfOk result
+            (λ p. IsPlan self.now p (with_files (world_in self.now.archive self.now.now)
+            (replaced_files replacing.entry.old.now replacing.entry.new.now
+            (world_in self.now.archive self.now.now)))) }
     {
         let shown = self.shelf.shown();
         let renewals = sorted_renewals(alloc, marked, self.versions)?;
@@ -102,8 +110,8 @@ impl Present {
         })
     }
 
-    /// The plan to put another text in place of the wanted one on the marked lines. The new contents
-    /// are scanned, and no other files.
+    /// The plan to put another text in place of the wanted one on the marked lines. The new
+    /// contents are scanned, and no other files.
     pub(crate) fn plan_replace(
         &self,
         alloc: Global,
@@ -112,10 +120,12 @@ impl Present {
     ) -> Result<Plan, AllocError>
         requires kept { IsKept self.now.rooms self.now.archive self.now.now }
         requires valid { IsValidWorld (world_in self.now.archive self.now.now) }
-        requires accepted { replace_refusal (world_in self.now.archive self.now.now) text.now ≡ None }
-        ensures plan { IfOk result (λ p. IsPlan self.now p (replaced_on_marks (world_in self.now.archive self.now.now)
-            self.now.now.wanted text.now)) }
-        ensures meter { CountsUpTo (bytes_in (new_texts (world_in self.now.archive self.now.now) text.now))
+        requires accepted { replace_refusal (world_in self.now.archive self.now.now) text.now
+            ≡ None }
+        ensures plan { IfOk result (λ p. IsPlan self.now p (replaced_on_marks
+            (world_in self.now.archive self.now.now) self.now.now.wanted text.now)) }
+        ensures meter { CountsUpTo
+            (bytes_in (new_texts (world_in self.now.archive self.now.now) text.now))
             meter.old meter.new result }
     {
         let _counted = meter.read();

@@ -1,5 +1,19 @@
 //! Files with a text replaced on their marked lines, and new versions of them.
-ghost use Rattle.std.specs.Prelude.{◌≡◌, ◌≢◌, ◌≤◌, ◌∷◌, [], List, true, false, length, drop, filter, map, IfOk};
+ghost use Rattle.std.specs.Prelude.{
+  ◌≡◌,
+  ◌≢◌,
+  ◌≤◌,
+  ◌∷◌,
+  [],
+  List,
+  true,
+  false,
+  length,
+  drop,
+  filter,
+  map,
+  IfOk,
+};
 ghost use Rattle.std.proofs.lemmas.Map.Keys.{IsStrictlySortedBy-prop};
 ghost use Rattle.std.specs.Cmp.Lexicographic.{slice_cmp};
 ghost use Rattle.std.specs.List.{AllByRecursion, list_any, prefix_len};
@@ -14,7 +28,15 @@ ghost use Rattle.cb_desk.specs.Places.{is_in};
 ghost use Rattle.cb_desk.specs.World.{AreAscending};
 ghost use Rattle.cb_desk.specs.declared.limits.TheConstants.{MOST_BYTES};
 ghost use Rattle.cb_desk.specs.steps.Records.{place_in};
-ghost use Rattle.cb_desk.specs.steps.Replaced.{file_then, files_changed, files_then, has_mark, line_counts, places_in, texts_of};
+ghost use Rattle.cb_desk.specs.steps.Replaced.{
+  file_then,
+  files_changed,
+  files_then,
+  has_mark,
+  line_counts,
+  places_in,
+  texts_of,
+};
 
 use crate::limits::MOST_BYTES;
 use crate::present::replacement::{replaced_len, replaced_text};
@@ -64,7 +86,8 @@ fn start_of(archive: &Archive, marks: &[NumberedPlace], name: &[u8]) -> usize
 {
     marks.partition_point(
         |m: &NumberedPlace| -> bool
-            ensures { result ≡ is_lt (slice_cmp nat_cmp (name_of archive.entry.now m.now.name) name.entry.now) }
+            ensures { result
+                ≡ is_lt (slice_cmp nat_cmp (name_of archive.entry.now m.now.name) name.entry.now) }
         { archive.name(m.name).cmp(name) == Ordering::Less },
     )
 }
@@ -79,7 +102,9 @@ pub(crate) struct Replacing<'a> {
     pub(crate) new: &'a [u8],
     ghost some: { old.now ≢ [] },
     ghost short: { length new.now ≤ MOST_BYTES },
-    ghost ascending: { AreAscending (places_in archive.now marks.now) } by { IsStrictlySortedBy-prop _ (places_in archive.now marks.now) },
+    ghost ascending: { AreAscending
+        (places_in archive.now marks.now) } by { IsStrictlySortedBy-prop _
+            (places_in archive.now marks.now) },
 }
 
 impl<'a> Replacing<'a> {
@@ -135,8 +160,8 @@ impl<'a> Replacing<'a> {
     /// Whether a file would have too many bytes.
     fn is_large(self, file: Shown) -> bool
         requires { IsThere self.archive.now file }
-        ensures { result ≡ is_too_large
-            (file_then self.entry.archive.now self.entry.marks.now self.entry.old.now self.entry.new.now file) }
+        ensures { result ≡ is_too_large (file_then self.entry.archive.now self.entry.marks.now
+            self.entry.old.now self.entry.new.now file) }
     {
         let marks = self.marks_of(self.archive.name(file.name));
         let source = self.archive.source(file.version);
@@ -152,7 +177,8 @@ impl<'a> Replacing<'a> {
     pub(crate) fn has_large(self, shown: &[Shown]) -> bool
         requires { AllByRecursion (IsThere self.archive.now) shown.now }
         ensures { result ≡ list_any is_too_large
-            (map (replaced_file self.entry.old.now self.entry.new.now (places_in self.entry.archive.now self.entry.marks.now))
+            (map (replaced_file self.entry.old.now self.entry.new.now
+            (places_in self.entry.archive.now self.entry.marks.now))
             (files_of self.entry.archive.now shown.now)) }
     {
         let mut rest = shown;
@@ -168,8 +194,8 @@ impl<'a> Replacing<'a> {
     /// The new contents of a file.
     fn source_then(self, alloc: Global, file: Shown) -> Result<Source, AllocError>
         requires { IsThere self.archive.now file }
-        ensures { IfOk result (λ source. source
-            ≡ (file_then self.entry.archive.now self.entry.marks.now self.entry.old.now self.entry.new.now file).bytes) }
+        ensures { IfOk result (λ source. source ≡ (file_then self.entry.archive.now
+            self.entry.marks.now self.entry.old.now self.entry.new.now file).bytes) }
     {
         let marks = self.marks_of(self.archive.name(file.name));
         let source = self.archive.source(file.version);
@@ -188,10 +214,10 @@ impl<'a> Replacing<'a> {
         file: Shown,
     ) -> Result<Version, AllocError>
         requires { IsThere self.archive.now file }
-        ensures value { IfOk result (λ version. version
-            ≡ (file_then self.entry.archive.now self.entry.marks.now self.entry.old.now self.entry.new.now file).bytes) }
-        ensures meter { CountsUpTo (length (file_then self.entry.archive.now self.entry.marks.now self.entry.old.now self.entry.new.now file).bytes)
-            meter.old meter.new result }
+        ensures value { IfOk result (λ version. version ≡ (file_then self.entry.archive.now
+            self.entry.marks.now self.entry.old.now self.entry.new.now file).bytes) }
+        ensures meter { CountsUpTo (length (file_then self.entry.archive.now self.entry.marks.now
+            self.entry.old.now self.entry.new.now file).bytes) meter.old meter.new result }
     {
         let _counted = meter.read();
         let source = self.source_then(alloc, file)?;
@@ -207,9 +233,10 @@ impl<'a> Replacing<'a> {
     ) -> Result<Vec<Version>, AllocError>
         requires { AllByRecursion (IsThere self.archive.now) files.now }
         ensures versions { IfOk result (λ made. made.items
-            ≡ texts_of (files_then self.entry.archive.now self.entry.marks.now self.entry.old.now self.entry.new.now files.now)) }
-        ensures meter { CountsUpTo (bytes_in (files_then self.entry.archive.now self.entry.marks.now self.entry.old.now self.entry.new.now files.now))
-            meter.old meter.new result }
+            ≡ texts_of (files_then self.entry.archive.now self.entry.marks.now self.entry.old.now
+            self.entry.new.now files.now)) }
+        ensures meter { CountsUpTo (bytes_in (files_then self.entry.archive.now self.entry.marks.now
+            self.entry.old.now self.entry.new.now files.now)) meter.old meter.new result }
     {
         let _counted = meter.read();
         let mut made = Vec::new(alloc);
@@ -221,17 +248,20 @@ impl<'a> Replacing<'a> {
         Ok(made)
     }
 
-    /// How many lines the next file has then, and the new versions of the files after it. Only a file
-    /// with a mark has one.
+    /// How many lines the next file has then, and the new versions of the files after it. Only a
+    /// file with a mark has one.
     fn lines_then<'v>(self, file: Shown, versions: &'v [Version]) -> (u32, &'v [Version])
         requires there { IsThere self.archive.now file }
         requires more { (more : List Shown) × (versions.now
-            ≡ texts_of (files_changed self.archive.now self.marks.now self.old.now self.new.now (file ∷ more))) }
-        ensures lines { result.0
-            ≡ length (lines (file_then self.entry.archive.now self.entry.marks.now self.entry.old.now self.entry.new.now file).bytes) }
+            ≡ texts_of (files_changed self.archive.now self.marks.now self.old.now self.new.now
+            (file ∷ more))) }
+        ensures lines { result.0 ≡ length (lines (file_then self.entry.archive.now
+            self.entry.marks.now self.entry.old.now self.entry.new.now file).bytes) }
         ensures more { (more : List Shown) → versions.now
-            ≡ texts_of (files_changed self.entry.archive.now self.entry.marks.now self.entry.old.now self.entry.new.now (file ∷ more))
-            → result.1.now ≡ texts_of (files_changed self.entry.archive.now self.entry.marks.now self.entry.old.now self.entry.new.now more) }
+            ≡ texts_of (files_changed self.entry.archive.now self.entry.marks.now self.entry.old.now
+            self.entry.new.now (file ∷ more))
+            → result.1.now ≡ texts_of (files_changed self.entry.archive.now self.entry.marks.now
+            self.entry.old.now self.entry.new.now more) }
     {
         if !self.has_mark(file) {
             return (self.archive.source(file.version).line_count(), versions);
@@ -250,10 +280,11 @@ impl<'a> Replacing<'a> {
         versions: &[Version],
     ) -> Result<Vec<u32>, AllocError>
         requires there { AllByRecursion (IsThere self.archive.now) shown.now }
-        requires versions { versions.now
-            ≡ texts_of (files_changed self.archive.now self.marks.now self.old.now self.new.now shown.now) }
+        requires versions { versions.now ≡ texts_of
+            (files_changed self.archive.now self.marks.now self.old.now self.new.now shown.now) }
         ensures { IfOk result (λ counts. counts.items
-            ≡ line_counts (files_then self.entry.archive.now self.entry.marks.now self.entry.old.now self.entry.new.now shown.now)) }
+            ≡ line_counts (files_then self.entry.archive.now self.entry.marks.now self.entry.old.now
+            self.entry.new.now shown.now)) }
     {
         let mut counts = Vec::new(alloc);
         let mut files = shown;

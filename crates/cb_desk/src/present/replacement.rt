@@ -36,7 +36,8 @@ fn put_replaced_line(
     old: &[u8],
     new: &[u8],
 ) -> Result<(), AllocError>
-    ensures { IfOk result (λ _. made.new.items ≡ made.old.items ++ replaced_line old.now new.now line.now) }
+    ensures { IfOk result
+        (λ _. made.new.items ≡ made.old.items ++ replaced_line old.now new.now line.now) }
 {
     let text = shown(line);
     text.replace_into(old, new, made)?;
@@ -50,7 +51,8 @@ pub(crate) fn replaced_len(source: &Source, old: &[u8], new: &[u8], marks: &[Num
     requires some { old.now ≢ [] }
     requires small { length new.now ≤ MOST_BYTES }
     requires ascending { IsStrictlySortedBy nat_cmp (map (λ m. m.line) marks.now) }
-    ensures { result ≡ length (meant.replaced_text old.now new.now (map (λ m. m.line) marks.now) source.now) }
+    ensures { result
+        ≡ length (meant.replaced_text old.now new.now (map (λ m. m.line) marks.now) source.now) }
 {
     let mut total = 0;
     for (line, marked) in MarkedLines::new(source, marks) {
@@ -75,7 +77,8 @@ pub(crate) fn replaced_text(
     requires some { old.now ≢ [] }
     requires small { length new.now ≤ MOST_BYTES }
     requires ascending { IsStrictlySortedBy nat_cmp (map (λ m. m.line) marks.now) }
-    ensures { IfOk result (λ made. made.items ≡ meant.replaced_text old.now new.now (map (λ m. m.line) marks.now) source.now) }
+    ensures { IfOk result (λ made. made.items ≡ meant.replaced_text old.now new.now
+        (map (λ m. m.line) marks.now) source.now) }
 {
     let mut made = Vec::with_capacity(alloc, replaced_len(source, old, new, marks) as usize)?;
     for (line, marked) in MarkedLines::new(source, marks) {

@@ -40,7 +40,8 @@ impl<'a> Model for MarkedLines<'a> {
 
 /// The marks after a line, and whether the first mark is on it.
 fn split_at_line<'a>(marks: &'a [NumberedPlace], number: u32) -> (&'a [NumberedPlace], bool)
-    ensures rest { map (λ m. m.line) result.0.now ≡ without_first number (map (λ m. m.line) marks.now) }
+    ensures rest { map (λ m. m.line) result.0.now
+        ≡ without_first number (map (λ m. m.line) marks.now) }
     ensures marked { result.1 ≡ leads number (map (λ m. m.line) marks.now) }
 {
     match marks.split_first() {
