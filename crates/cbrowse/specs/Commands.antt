@@ -1,10 +1,12 @@
--- The command line as clap is given it: with the texts that `--format` takes, which stand in memory, at a place that no definition names.
+-- The command line as clap is given it: with the texts that `--format` takes, which stand in
+-- memory, at a place that no definition names.
 use Rattle.std.specs.Prelude.{◌≡◌, List, [], ◌∷◌, Some, true, codes, map}
 use Rattle.std.specs.Borrow.{Bor}
 use Rattle.clap.specs.Words.{App, Row, Text, found_of, new_app, rows_of, with_rule, with_subcommand}
 use Rattle.clap.specs.declared.builder.ValueParser.TheVariants.{Names}
 use Rattle.clap.specs.declared.ArgMatches.{ArgMatches}
-use Rattle.cbrowse.specs.Jobs.{files_rule, find_app, format_rule, line_app, listing_rule, tagsfile_rule, with_version}
+use Rattle.cbrowse.specs.Jobs.{files_rule, find_app, format_rule, line_app}
+use Rattle.cbrowse.specs.Jobs.{listing_rule, tagsfile_rule, with_version}
 
 -- a command with `--format`, which takes these texts alone
 abbrev pub with_format : App → Bor (List (Bor Text)) → App
@@ -12,11 +14,15 @@ with_format a choices = with_rule a (record format_rule { parser = Some (Names c
 
 -- `tags`, whose format is one of these texts
 abbrev pub tags_app_of : Bor (List (Bor Text)) → App
-tags_app_of choices = with_rule (with_format (with_rule (with_rule (new_app (codes "tags")) listing_rule) tagsfile_rule) choices) (files_rule true)
+tags_app_of choices =
+    with_rule (with_format (with_rule (with_rule (new_app (codes "tags")) listing_rule)
+    tagsfile_rule) choices) (files_rule true)
 
 -- the program's command, whose formats are these texts
 abbrev pub browse_app_of : Bor (List (Bor Text)) → App
-browse_app_of choices = with_subcommand (with_subcommand (with_subcommand (with_version (new_app (codes "cbrowse"))) line_app.top) find_app.top) (tags_app_of choices).top
+browse_app_of choices =
+    with_subcommand (with_subcommand (with_subcommand (with_version (new_app (codes "cbrowse")))
+    line_app.top) find_app.top) (tags_app_of choices).top
 
 -- the command is the one whose formats are the texts 1 and 2
 abbrev pub TakesFormats : (Bor (List (Bor Text)) → App) → App → Type 0

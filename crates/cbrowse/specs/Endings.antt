@@ -12,13 +12,17 @@ use Rattle.cbrowse.specs.Program.{LeavesAlone, Works}
 use Rattle.cbrowse.specs.Usages.{IsUsageOf}
 
 -- the job of the words is done, and the exit status and standard error tell how it ended
-abbrev pub EndsJob : List (List ℕ) → ℕ → Reader → Reader → Writer → Writer → Writer → Writer → Type 0
+abbrev pub EndsJob : List (List ℕ) → ℕ → Reader → Reader → Writer → Writer
+    → Writer → Writer → Type 0
 EndsJob words status feed feed' out out' errors errors' =
-    (job : Job) × (end : Finish) × IsJobOf (subcommand_of browse_app words) job × Works job feed feed' out out' end
+    (job : Job) × (end : Finish) × IsJobOf (subcommand_of browse_app words) job
+    × Works job feed feed' out out' end
     × (status ≡ status_of end) × Says errors errors' (said_of job end)
 
--- the words give no job, input and output are left alone, and the exit status and standard error tell why
-abbrev pub EndsUsage : List (List ℕ) → ℕ → Reader → Reader → Writer → Writer → Writer → Writer → Type 0
+-- the words give no job, input and output are left alone, and the exit status and standard error
+-- tell why
+abbrev pub EndsUsage : List (List ℕ) → ℕ → Reader → Reader → Writer → Writer
+    → Writer → Writer → Type 0
 EndsUsage words status feed feed' out out' errors errors' =
     (usage : Usage) × IsUsageOf words usage × LeavesAlone feed feed' out out'
     × (status ≡ usage_status usage) × Says errors errors' (usage_said usage)

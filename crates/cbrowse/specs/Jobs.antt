@@ -1,7 +1,9 @@
 -- The command line: its subcommands, and the job that the words give.
-use Rattle.std.specs.Prelude.{◌≡◌, ◌≢◌, Bool, List, [], ◌∷◌, Option, None, Some, true, false, codes, map, string_bytes, unwrap_or}
+use Rattle.std.specs.Prelude.{◌≡◌, ◌≢◌, Bool, List, [], ◌∷◌, Option, None, Some, true, false, codes}
+use Rattle.std.specs.Prelude.{map, string_bytes, unwrap_or}
 use Rattle.std.specs.Str.{bytes_eq}
-use Rattle.clap.specs.Words.{App, Row, Rule, Text, all_of, first_of, new_app, new_rule, with_rule, with_subcommand}
+use Rattle.clap.specs.Words.{App, Row, Rule, Text, all_of, first_of, new_app}
+use Rattle.clap.specs.Words.{new_rule, with_rule, with_subcommand}
 use Rattle.clap.specs.declared.builder.ArgAction.TheVariants.{Append, SetTrue}
 use Rattle.cb_desk.specs.Answer.{field_of_digit}
 use Rattle.cb_desk.specs.declared.rows.Field.{Field}
@@ -12,7 +14,8 @@ use Rattle.cbrowse.specs.declared.job.Job.TheVariants.{Line, Find, Tags}
 
 -- `FILE..`, of which there may have to be one
 abbrev pub files_rule : Bool → Rule
-files_rule needed = record (new_rule (codes "files")) { action = Some Append; value_names = 1; required = needed }
+files_rule needed =
+    record (new_rule (codes "files")) { action = Some Append; value_names = 1; required = needed }
 
 -- `-x`
 abbrev pub listing_rule : Rule
@@ -20,11 +23,14 @@ listing_rule = record (new_rule (codes "listing")) { short = Some 120; action = 
 
 -- `-f TAGSFILE`, where nothing is said `-f tags`
 abbrev pub tagsfile_rule : Rule
-tagsfile_rule = record (new_rule (codes "tagsfile")) { short = Some 102; value_names = 1; defaults = codes "tags" ∷ [] }
+tagsfile_rule = record (new_rule (codes "tagsfile"))
+    { short = Some 102; value_names = 1; defaults = codes "tags" ∷ [] }
 
--- `--format FORMAT`, where nothing is said `--format 1`; that it takes 1 and 2 alone plays no part in what is found
+-- `--format FORMAT`, where nothing is said `--format 1`; that it takes 1 and 2 alone plays no part
+-- in what is found
 abbrev pub format_rule : Rule
-format_rule = record (new_rule (codes "format")) { long = Some (codes "format"); value_names = 1; defaults = codes "1" ∷ [] }
+format_rule = record (new_rule (codes "format"))
+    { long = Some (codes "format"); value_names = 1; defaults = codes "1" ∷ [] }
 
 -- `line [FILE..]`: a session over standard input and output
 abbrev pub line_app : App
@@ -39,11 +45,15 @@ pattern_rule = record (new_rule (codes "pattern")) { value_names = 1; required =
 
 -- `find NUM PATTERN FILE..`: one search
 abbrev pub find_app : App
-find_app = with_rule (with_rule (with_rule (new_app (codes "find")) num_rule) pattern_rule) (files_rule true)
+find_app =
+    with_rule (with_rule (with_rule (new_app (codes "find")) num_rule) pattern_rule)
+    (files_rule true)
 
 -- `tags [-x] [-f TAGSFILE] [--format FORMAT] FILE..`: a tags file, or a listing
 abbrev pub tags_app : App
-tags_app = with_rule (with_rule (with_rule (with_rule (new_app (codes "tags")) listing_rule) tagsfile_rule) format_rule) (files_rule true)
+tags_app =
+    with_rule (with_rule (with_rule (with_rule (new_app (codes "tags")) listing_rule) tagsfile_rule)
+    format_rule) (files_rule true)
 
 -- a command that needs one of its subcommands and tells its version
 abbrev pub with_version : App → App
@@ -51,7 +61,9 @@ with_version a = record a { top = record a.top { subcommand_required = true; has
 
 -- the program's command
 abbrev pub browse_app : App
-browse_app = with_subcommand (with_subcommand (with_subcommand (with_version (new_app (codes "cbrowse"))) line_app.top) find_app.top) tags_app.top
+browse_app =
+    with_subcommand (with_subcommand (with_subcommand (with_version (new_app (codes "cbrowse")))
+    line_app.top) find_app.top) tags_app.top
 
 -- the first value of an argument, or this text where it has none
 abbrev pub first_or : Text → Text → List Row → Text

@@ -6,7 +6,8 @@ use Rattle.cb_desk.specs.Refusals.{text_of}
 use Rattle.cb_session.specs.declared.input.Ended.{Ended}
 use Rattle.cb_session.specs.declared.input.Ended.TheVariants.{Done, Cut, Fault, Operand}
 use Rattle.cb_session.specs.declared.input.Fault.{Fault as Reason}
-use Rattle.cb_session.specs.declared.input.Fault.TheVariants.{Read, Write, Memory, LongLine, ManyLines}
+use Rattle.cb_session.specs.declared.input.Fault.TheVariants.{Read, Write, Memory, LongLine}
+use Rattle.cb_session.specs.declared.input.Fault.TheVariants.{ManyLines}
 use Rattle.cb_tags.specs.Writers.{Writer}
 use Rattle.cb_tags.specs.Writing.{AppendsPrefix}
 use Rattle.cbrowse.specs.declared.execute.finish.Finish.{Finish}
@@ -14,7 +15,8 @@ use Rattle.cbrowse.specs.declared.execute.finish.Finish.TheVariants.{Ran, Unread
 use Rattle.cbrowse.specs.declared.job.Job.{Job}
 use Rattle.cbrowse.specs.declared.job.Job.TheVariants.{Line, Find, Tags}
 use Rattle.cbrowse.specs.declared.job.Usage.{Usage}
-use Rattle.cbrowse.specs.declared.job.Usage.TheVariants.{Help, Wrong, BadField, NoPattern, Memory as NoMemory}
+use Rattle.cbrowse.specs.declared.job.Usage.TheVariants.{Help, Wrong, BadField, NoPattern}
+use Rattle.cbrowse.specs.declared.job.Usage.TheVariants.{Memory as NoMemory}
 
 -- the names of a job's files
 abbrev pub files_of : Job → List (List ℕ)
@@ -54,7 +56,8 @@ run_said files (Operand place why) = file_line (slice_index_or files place []) (
 -- what is said of a job
 abbrev pub said_of : Job → Finish → List ℕ
 said_of job (Ran ended) = run_said (files_of job) ended
-said_of job (Unreadable place) = file_line (slice_index_or (files_of job) place []) (codes "cannot be read")
+said_of job (Unreadable place) =
+    file_line (slice_index_or (files_of job) place []) (codes "cannot be read")
 said_of job Unwritable = file_line (tagsfile_of job) (codes "cannot be written")
 
 -- the exit status of a run

@@ -1,5 +1,6 @@
 -- What the program does: the files of a job are read and loaded, and then the job is done.
-use Rattle.std.specs.Prelude.{◌≡◌, ◌≢◌, ◌⊎◌, ℕ, ◌<◌, Bool, true, false, not, List, [], IsTrue, length, Some, Result, Ok, Err, map, string_bytes}
+use Rattle.std.specs.Prelude.{◌≡◌, ◌≢◌, ◌⊎◌, ℕ, ◌<◌, Bool, true, false, not, List, [], IsTrue}
+use Rattle.std.specs.Prelude.{length, Some, Result, Ok, Err, map, string_bytes}
 use Rattle.std.specs.List.{flat_map}
 use Rattle.std.specs.Io.KnownBytes.{Appends}
 use Rattle.cb_desk.specs.Answer.{answer}
@@ -86,7 +87,8 @@ writes_file (Tags listing tagsfile format files) = not listing
 abbrev pub LeavesAlone : Reader → Reader → Writer → Writer → Type 0
 LeavesAlone feed feed' out out' = (feed' ≡ feed) × (out' ≡ out)
 
--- the writing of a tags file ends when it is done or where memory is refused; a writer that fails is told by the file's name
+-- the writing of a tags file ends when it is done or where memory is refused; a writer that fails
+-- is told by the file's name
 abbrev pub EndsFile : Ended → Type 0
 EndsFile Done = Unit {0}
 EndsFile (Fault Memory) = Unit {0}
@@ -98,7 +100,8 @@ file_text (Line files) w = []
 file_text (Find field pattern files) w = []
 file_text (Tags listing tagsfile format files) w = tags_output listing format w
 
--- the whole text was written into a file and handed on; or the file can't be written, and a prefix was written
+-- the whole text was written into a file and handed on; or the file can't be written, and a prefix
+-- was written
 abbrev pub WritesFile : List ℕ → Writer → Writer → Finish → Type 0
 WritesFile text old new (Ran ended) = (ended ≡ Done) × WritesText text old new Done
 WritesFile text old new Unwritable = WritesText text old new (Fault Write)
@@ -118,9 +121,11 @@ StopsReading files Unwritable = ⊥
 
 -- the files of a job under their names, in order, with some contents, and where their loads lead
 abbrev pub Reaches : Job → Result Timeline RefusedOperand → Type 0
-Reaches job end = (files : List File) × (map (λ f. f.name) files ≡ files_of job) × Loads 0 new_timeline files end
+Reaches job end =
+    (files : List File) × (map (λ f. f.name) files ≡ files_of job) × Loads 0 new_timeline files end
 
--- the job is done from a timeline: into a tags file, which leaves standard output alone, or over the input and output
+-- the job is done from a timeline: into a tags file, which leaves standard output alone, or over
+-- the input and output
 abbrev pub DoesFrom : Timeline → Job → Reader → Reader → Writer → Writer → Ended → Type 0
 DoesFrom t (Line files) feed feed' out out' ended =
     DoesJob (Line files) most_lines most_line_bytes t feed feed' out out' ended
@@ -128,19 +133,25 @@ DoesFrom t (Find field pattern files) feed feed' out out' ended =
     DoesJob (Find field pattern files) most_lines most_line_bytes t feed feed' out out' ended
 DoesFrom t (Tags true tagsfile format files) feed feed' out out' ended =
     DoesJob (Tags true tagsfile format files) most_lines most_line_bytes t feed feed' out out' ended
-DoesFrom t (Tags false tagsfile format files) feed feed' out out' ended = EndsFile ended × LeavesAlone feed feed' out out'
+DoesFrom t (Tags false tagsfile format files) feed feed' out out' ended =
+    EndsFile ended × LeavesAlone feed feed' out out'
 
 -- the job is done from where the loads lead; where one is refused nothing is done
-abbrev pub DoesLoaded : Job → Result Timeline RefusedOperand → Reader → Reader → Writer → Writer → Ended → Type 0
-DoesLoaded job (Err stop) feed feed' out out' ended = (ended ≡ Operand stop.place stop.why) × LeavesAlone feed feed' out out'
+abbrev pub DoesLoaded : Job → Result Timeline RefusedOperand → Reader → Reader → Writer
+    → Writer → Ended → Type 0
+DoesLoaded job (Err stop) feed feed' out out' ended =
+    (ended ≡ Operand stop.place stop.why) × LeavesAlone feed feed' out out'
 DoesLoaded job (Ok t) feed feed' out out' ended = DoesFrom t job feed feed' out out' ended
 
--- a job is done, for some contents of its files; or memory was refused before their loads; or one of them can't be read, or its
--- tags file can't be written
+-- a job is done, for some contents of its files; or memory was refused before their loads; or one
+-- of them can't be read, or its tags file can't be written
 abbrev pub Works : Job → Reader → Reader → Writer → Writer → Finish → Type 0
 Works job feed feed' out out' (Ran ended) =
     ((ended ≡ Fault Memory) × LeavesAlone feed feed' out out')
-    ⊎ ((end : Result Timeline RefusedOperand) × Reaches job end × DoesLoaded job end feed feed' out out' ended)
-Works job feed feed' out out' (Unreadable place) = (place < length (files_of job)) × LeavesAlone feed feed' out out'
+    ⊎ ((end : Result Timeline RefusedOperand) × Reaches job end
+    × DoesLoaded job end feed feed' out out' ended)
+Works job feed feed' out out' (Unreadable place) =
+    (place < length (files_of job)) × LeavesAlone feed feed' out out'
 Works job feed feed' out out' Unwritable =
-    IsTrue (writes_file job) × ((t : Timeline) × Reaches job (Ok t)) × LeavesAlone feed feed' out out'
+    IsTrue (writes_file job) × ((t : Timeline) × Reaches job (Ok t))
+    × LeavesAlone feed feed' out out'

@@ -3,14 +3,16 @@ use Rattle.std.specs.Prelude.{◌≡◌, ◌≢◌, ◌⊎◌, List, ◌∷◌, 
 use Rattle.std.specs.Borrow.{Bor}
 use Rattle.clap.specs.Words.{IsAmong, Row, Text, fault_of, subcommand_of}
 use Rattle.clap.specs.declared.error.kind.ErrorKind.{ErrorKind}
-use Rattle.clap.specs.declared.error.kind.ErrorKind.TheVariants.{DisplayHelp, DisplayVersion, OutOfMemory}
+use Rattle.clap.specs.declared.error.kind.ErrorKind.TheVariants.{DisplayHelp, DisplayVersion}
+use Rattle.clap.specs.declared.error.kind.ErrorKind.TheVariants.{OutOfMemory}
 use Rattle.cbrowse.specs.Commands.{browse_app_of}
 use Rattle.cbrowse.specs.Jobs.{IsJobOf, browse_app, field_of, first_or}
 use Rattle.cbrowse.specs.declared.job.Job.{Job}
 use Rattle.cbrowse.specs.declared.job.Usage.{Usage}
 use Rattle.cbrowse.specs.declared.job.Usage.TheVariants.{Help, Wrong, BadField, NoPattern, Memory}
 
--- clap's own definition gives this kind of error for the words, in the command whose formats are the texts 1 and 2
+-- clap's own definition gives this kind of error for the words, in the command whose formats are
+-- the texts 1 and 2
 abbrev pub FailsWith : List Text → ErrorKind → Type 0
 FailsWith words kind = (choices : Bor (List (Bor Text)))
     × (map (λ text. text.now) choices.now ≡ codes "1" ∷ codes "2" ∷ [])
@@ -30,21 +32,24 @@ AskForText words = (kind : ErrorKind) × ShowsText kind × FailsWith words kind
 
 -- clap refuses the words, for another reason than that they ask for such a text
 abbrev pub IsRefused : List Text → Type 0
-IsRefused words = (kind : ErrorKind) × (kind ≢ DisplayHelp) × (kind ≢ DisplayVersion) × FailsWith words kind
+IsRefused words =
+    (kind : ErrorKind) × (kind ≢ DisplayHelp) × (kind ≢ DisplayVersion) × FailsWith words kind
 
--- a search was found whose number is not that of a field, or whose number is and whose pattern is empty; memory may be refused
--- to any
+-- a search was found whose number is not that of a field, or whose number is and whose pattern is
+-- empty; memory may be refused to any
 abbrev pub IsBadSearch : Option (Text × List Row) → Usage → Type 0
 IsBadSearch found Memory = Unit {0}
-IsBadSearch (Some found) BadField = (found.0 ≡ codes "find") × (field_of (first_or (codes "num") [] found.1) ≡ None)
+IsBadSearch (Some found) BadField =
+    (found.0 ≡ codes "find") × (field_of (first_or (codes "num") [] found.1) ≡ None)
 IsBadSearch (Some found) NoPattern =
     (found.0 ≡ codes "find")
     × (field_of (first_or (codes "num") [] found.1) ≢ None)
     × (first_or (codes "pattern") [] found.1 ≡ [])
 IsBadSearch found usage = ⊥
 
--- help or the version is shown only where clap shows it for these words, and words are wrong only where clap refuses them or no job is in
--- them; a bad search is one that was found in them, and memory may be refused for any words
+-- help or the version is shown only where clap shows it for these words, and words are wrong only
+-- where clap refuses them or no job is in them; a bad search is one that was found in them, and
+-- memory may be refused for any words
 abbrev pub IsUsageOf : List Text → Usage → Type 0
 IsUsageOf words (Help text) = AskForText words
 IsUsageOf words (Wrong text) = IsRefused words ⊎ AsksNothing words

@@ -6,7 +6,19 @@ ghost use Rattle.cb_desk.specs.Answer.{answer};
 ghost use Rattle.cb_session.specs.Output.{row_line};
 ghost use Rattle.cbrowse.specs.Endings.{EndsJob, EndsUsage};
 ghost use Rattle.cbrowse.specs.Messages.{tagsfile_of};
-ghost use Rattle.cbrowse.specs.Program.{HasPattern, output_format, output_text, tags_output, file_text, writes_file, WritesFile, WritesText, DoesJob, EndsIntoFile, Works};
+ghost use Rattle.cbrowse.specs.Program.{
+  HasPattern,
+  output_format,
+  output_text,
+  tags_output,
+  file_text,
+  writes_file,
+  WritesFile,
+  WritesText,
+  DoesJob,
+  EndsIntoFile,
+  Works,
+};
 ghost use Rattle.cb_session.specs.Writing.{Puts};
 
 mod files;
@@ -58,7 +70,8 @@ fn put_output<W: Write>(
 
 /// Writes the tags of a desk, and hands them on.
 fn write_tags<W: Write>(listing: bool, format: Format, desk: &mut Desk, out: &mut Sink<W>) -> Ended
-    ensures { WritesText (tags_output listing format desk.old.timeline.present) out.old out.new result }
+    ensures { WritesText (tags_output listing format desk.old.timeline.present)
+        out.old out.new result }
 {
     desk.settle_tags(output_format(listing, format));
     let rows = desk.tag_rows(output_format(listing, format));
@@ -75,7 +88,8 @@ fn write_tags<W: Write>(listing: bool, format: Format, desk: &mut Desk, out: &mu
 /// Writes the rows that answer a question, and hands them on.
 fn write_rows<W: Write>(field: Field, pattern: &[u8], desk: &mut Desk, out: &mut Sink<W>) -> Ended
     requires { pattern.now ≢ [] }
-    ensures { WritesText (flat_map row_line (answer desk.old.timeline.present field pattern.now)) out.old out.new result }
+    ensures { WritesText (flat_map row_line (answer desk.old.timeline.present field pattern.now))
+        out.old out.new result }
 {
     desk.settle(field);
     match put_answer(out, desk.rows(field, pattern)) {
@@ -91,7 +105,8 @@ fn write_rows<W: Write>(field: Field, pattern: &[u8], desk: &mut Desk, out: &mut
 /// Answers a question of a session, and ends the session.
 fn find_in<W: Write>(session: Session, field: Field, pattern: &[u8], out: &mut Sink<W>) -> Ended
     requires { pattern.now ≢ [] }
-    ensures { WritesText (flat_map row_line (answer session.present field pattern.now)) out.old out.new result }
+    ensures { WritesText (flat_map row_line (answer session.present field pattern.now))
+        out.old out.new result }
 {
     let mut desk = session.into_desk();
     write_rows(field, pattern, &mut desk, out)
@@ -115,7 +130,8 @@ pub fn run_job<R: BufRead, W: Write>(
     out: &mut Sink<W>,
 ) -> Ended
     requires { HasPattern job.now }
-    ensures { DoesJob job.now limits.now.lines limits.now.line session feed.old feed.new out.old out.new result }
+    ensures { DoesJob job.now limits.now.lines limits.now.line session feed.old feed.new
+        out.old out.new result }
 {
     match job {
         Job::Line { .. } => session.serve(alloc, limits, feed, out),
@@ -130,7 +146,8 @@ pub fn run_job<R: BufRead, W: Write>(
 
 /// The name of the tags file that a job writes, if it writes one.
 fn output_file(job: &Job) -> Option<&str>
-    ensures { MatchOption result (writes_file job.now ≡ false) (λ name. (writes_file job.now ≡ true) × (name.now ≡ tagsfile_of job.now)) }
+    ensures { MatchOption result (writes_file job.now ≡ false)
+        (λ name. (writes_file job.now ≡ true) × (name.now ≡ tagsfile_of job.now)) }
 {
     match job {
         Job::Line { .. } => None,
@@ -147,8 +164,8 @@ fn output_file(job: &Job) -> Option<&str>
     }
 }
 
-/// Does a job of tags into a file that is open. Where a write or the last flush fails, the file can't
-/// be written.
+/// Does a job of tags into a file that is open. Where a write or the last flush fails, the file
+/// can't be written.
 fn run_job_over<I: BufRead, W: Write>(
     alloc: Global,
     job: &Job,
@@ -189,7 +206,8 @@ fn run_job_into<R: Files + AllocGlobal, I: BufRead>(
     run_job_over(rt.alloc(), job, session, feed, &mut out)
 }
 
-/// Does a job: every file is read, then all are loaded, and only then a tags file is made or emptied.
+/// Does a job: every file is read, then all are loaded, and only then a tags file is made or
+/// emptied.
 fn work<R: Files + AllocGlobal, I: BufRead, O: Write>(
     rt: &R,
     folder: &str,
@@ -214,8 +232,8 @@ fn work<R: Files + AllocGlobal, I: BufRead, O: Write>(
     }
 }
 
-/// Runs the program on these words, the first of which is its name, and answers its exit status. The text `folder` is
-/// put before the name of each file where it is opened.
+/// Runs the program on these words, the first of which is its name, and answers its exit status.
+/// The text `folder` is put before the name of each file where it is opened.
 pub fn execute<R: Files + AllocGlobal, I: BufRead, O: Write, E: Write>(
     rt: &R,
     folder: &str,
@@ -224,8 +242,10 @@ pub fn execute<R: Files + AllocGlobal, I: BufRead, O: Write, E: Write>(
     out: &mut Sink<O>,
     errors: &mut Sink<E>,
 ) -> u8
-    ensures { EndsJob (map string_bytes words.now) result feed.old feed.new out.old out.new errors.old errors.new
-        ⊎ EndsUsage (map string_bytes words.now) result feed.old feed.new out.old out.new errors.old errors.new }
+    ensures { EndsJob (map string_bytes words.now) result feed.old feed.new out.old out.new
+        errors.old errors.new
+        ⊎ EndsUsage (map string_bytes words.now) result feed.old feed.new out.old out.new
+        errors.old errors.new }
 {
     match job_of(rt.alloc(), words) {
         Ok(job) => conclude(errors, &job, work(rt, folder, &job, feed, out)),

@@ -27,7 +27,8 @@ pub enum Job {
         pattern: String,
         files: Vec<String>,
     },
-    /// The tags of these files: a listing on standard output, or else a tags file of this name and form.
+    /// The tags of these files: a listing on standard output, or else a tags file of this name and
+    /// form.
     Tags {
         listing: bool,
         tagsfile: String,
@@ -63,7 +64,8 @@ impl From<AllocError> for Usage {
 
 /// The job of the words, of which the first is the program's name.
 pub fn job_of(alloc: Global, words: &[String]) -> Result<Job, Usage>
-    ensures { MatchResult result (IsJobOf (subcommand_of browse_app (map string_bytes words.now))) (IsUsageOf (map string_bytes words.now)) }
+    ensures { MatchResult result (IsJobOf (subcommand_of browse_app (map string_bytes words.now)))
+        (IsUsageOf (map string_bytes words.now)) }
 {
     let mut command = command::browse_command(alloc)?;
     let matches = match command.try_get_matches_from_mut(words) {

@@ -22,8 +22,8 @@ fn path_of(alloc: Global, folder: &str, name: &str) -> Result<String, AllocError
     Ok(path)
 }
 
-/// Reads until the bytes are full or the end comes: how many were read, and whether it came. Reading
-/// that was interrupted is left to the caller.
+/// Reads until the bytes are full or the end comes: how many were read, and whether it came.
+/// Reading that was interrupted is left to the caller.
 fn fill<F: Read>(file: &mut F, bytes: &mut [u8]) -> io::Result<(usize, bool)>
     ensures { IfOk result (λ r. r.0 ≤ length bytes.new) }
 {
@@ -71,7 +71,9 @@ pub(crate) fn read_operands<R: Files + AllocGlobal>(
     folder: &str,
     files: &[String],
 ) -> Result<Operands, Finish>
-    ensures { MatchResult result (λ operands. map (λ o. o.name.items) operands.items ≡ map string_bytes files.now) (StopsReading files.now) }
+    ensures { MatchResult result
+        (λ operands. map (λ o. o.name.items) operands.items ≡ map string_bytes files.now)
+        (StopsReading files.now) }
 {
     let mut operands = Vec::new(rt.alloc());
     for name in files {
@@ -87,8 +89,8 @@ pub(crate) fn read_operands<R: Files + AllocGlobal>(
     Ok(operands)
 }
 
-/// A file behind a buffer: it is opened once the buffer's memory is there, since a file that is opened
-/// to be written is emptied.
+/// A file behind a buffer: it is opened once the buffer's memory is there, since a file that is
+/// opened to be written is emptied.
 #[derive(Drop)]
 pub(crate) struct LateFile<F: Write + Drop> {
     file: Option<F>,

@@ -2,7 +2,20 @@
 ghost use Rattle.std.specs.Prelude.{◌≡◌, [], map, string_bytes};
 ghost use Rattle.std.specs.List.{slice_index_or};
 ghost use Rattle.cb_tags.specs.Writing.{Puts};
-ghost use Rattle.cbrowse.specs.Messages.{Says, error_line, fault_text, file_line, files_of, tagsfile_of, run_said, said_of, run_status, status_of, usage_status, usage_said};
+ghost use Rattle.cbrowse.specs.Messages.{
+  Says,
+  error_line,
+  fault_text,
+  file_line,
+  files_of,
+  tagsfile_of,
+  run_said,
+  said_of,
+  run_status,
+  status_of,
+  usage_status,
+  usage_said,
+};
 
 use crate::job::{Job, Usage};
 use cb_session::{Ended, Fault};

@@ -1,4 +1,5 @@
-//! The program on words and bytes of memory: its output, its exit status, and what it says on standard error.
+//! The program on words and bytes of memory: its output, its exit status, and what it says on
+//! standard error.
 mod devices;
 mod each_byte;
 mod files;
@@ -9,7 +10,8 @@ use cb_session::Feed;
 use cb_tags::Sink;
 use std::alloc::{AllocError, Global};
 
-/// The output, the status and the text on standard error of `cbrowse` and these words over this input.
+/// The output, the status and the text on standard error of `cbrowse` and these words over this
+/// input.
 fn program(
     rt: &HostRuntime,
     words: &[&str],

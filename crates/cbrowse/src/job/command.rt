@@ -1,7 +1,15 @@
 //! The command line, as clap is to read it.
 ghost use Rattle.std.specs.Prelude.{◌≡◌, IfOk};
 ghost use Rattle.clap.specs.Words.{app_of, with_rule};
-ghost use Rattle.cbrowse.specs.Jobs.{files_rule, find_app, line_app, listing_rule, num_rule, pattern_rule, tagsfile_rule};
+ghost use Rattle.cbrowse.specs.Jobs.{
+  files_rule,
+  find_app,
+  line_app,
+  listing_rule,
+  num_rule,
+  pattern_rule,
+  tagsfile_rule,
+};
 ghost use Rattle.cbrowse.specs.Commands.{TakesFormats, browse_app_of, tags_app_of, with_format};
 
 use clap::builder::ValueParser;
@@ -108,7 +116,8 @@ fn with_tagsfile<'a>(alloc: Global, command: Command<'a>) -> Result<Command<'a>,
 
 /// Adds `--format`.
 fn with_format<'a>(alloc: Global, command: Command<'a>) -> Result<Command<'a>, AllocError>
-    ensures { IfOk result (λ more. TakesFormats (with_format (app_of command.entry)) (app_of more)) }
+    ensures { IfOk result
+        (λ more. TakesFormats (with_format (app_of command.entry)) (app_of more)) }
 {
     let format = Arg::new(alloc, "format")
         .long("format")
@@ -126,7 +135,8 @@ fn with_files<'a>(
     help: &'a str,
     required: bool,
 ) -> Result<Command<'a>, AllocError>
-    ensures { IfOk result (λ more. app_of more ≡ with_rule (app_of command.entry) (files_rule required)) }
+    ensures { IfOk result
+        (λ more. app_of more ≡ with_rule (app_of command.entry) (files_rule required)) }
 {
     let files = Arg::new(alloc, "files")
         .value_name("FILE")

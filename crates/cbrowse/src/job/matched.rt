@@ -15,7 +15,10 @@ use std::alloc::{AllocError, Global};
 
 /// The job of the subcommand that was found, or `None` where there is no such subcommand or format.
 pub(crate) fn found_job(alloc: Global, matches: &ArgMatches<'_>) -> Result<Option<Job>, Usage>
-    ensures { MatchResult result (λ found. MatchOption found ((job : Job) → IsJobOf (subcommand_rows_of matches.now) job → ⊥) (IsJobOf (subcommand_rows_of matches.now))) (IsBadSearch (subcommand_rows_of matches.now)) }
+    ensures { MatchResult result
+        (λ found. MatchOption found ((job : Job) → IsJobOf (subcommand_rows_of matches.now) job → ⊥)
+        (IsJobOf (subcommand_rows_of matches.now)))
+        (IsBadSearch (subcommand_rows_of matches.now)) }
 {
     match matches.subcommand() {
         Some(("line", found)) => Ok(Some(line_job(alloc, found)?)),
@@ -27,7 +30,8 @@ pub(crate) fn found_job(alloc: Global, matches: &ArgMatches<'_>) -> Result<Optio
 
 /// The search that was asked for. Its number is judged first, and then its pattern.
 fn find_job(alloc: Global, found: &ArgMatches<'_>) -> Result<Job, Usage>
-    ensures { MatchResult result (IsJobOf (Some (codes "find", rows_in found.now))) (IsBadSearch (Some (codes "find", rows_in found.now))) }
+    ensures { MatchResult result (IsJobOf (Some (codes "find", rows_in found.now)))
+        (IsBadSearch (Some (codes "find", rows_in found.now))) }
 {
     let Some(field) = field_of(value_or(found, "num", "")) else {
         return Err(Usage::BadField);
@@ -64,7 +68,9 @@ fn line_job(alloc: Global, found: &ArgMatches<'_>) -> Result<Job, AllocError>
 
 /// The tags that were asked for, or `None` where there is no such format.
 fn tags_job(alloc: Global, found: &ArgMatches<'_>) -> Result<Option<Job>, AllocError>
-    ensures { IfOk result (λ job. MatchOption job ((job : Job) → IsJobOf (Some (codes "tags", rows_in found.now)) job → ⊥) (IsJobOf (Some (codes "tags", rows_in found.now)))) }
+    ensures { IfOk result (λ job. MatchOption job
+        ((job : Job) → IsJobOf (Some (codes "tags", rows_in found.now)) job → ⊥)
+        (IsJobOf (Some (codes "tags", rows_in found.now)))) }
 {
     let Some(format) = format_of(value_or(found, "format", "1")) else {
         return Ok(None);
@@ -79,7 +85,8 @@ fn tags_job(alloc: Global, found: &ArgMatches<'_>) -> Result<Option<Job>, AllocE
 
 /// The format of this number.
 fn format_of(number: &str) -> Option<Format>
-    ensures { MatchOption result ((format : Format) → format_number format ≡ number.now → ⊥) (λ format. format_number format ≡ number.now) }
+    ensures { MatchOption result ((format : Format) → format_number format ≡ number.now → ⊥)
+        (λ format. format_number format ≡ number.now) }
 {
     match number {
         "1" => Some(Format::Plain),
@@ -97,7 +104,8 @@ fn value_or<'a>(found: &ArgMatches<'a>, id: &str, text: &'a str) -> &'a str
 
 /// The files that were given.
 fn files_of(alloc: Global, found: &ArgMatches<'_>) -> Result<Vec<String>, AllocError>
-    ensures { IfOk result (λ files. map string_bytes files.items ≡ all_or_none (codes "files") (rows_in found.now)) }
+    ensures { IfOk result
+        (λ files. map string_bytes files.items ≡ all_or_none (codes "files") (rows_in found.now)) }
 {
     match found.get_raw("files") {
         Some(texts) => copies_of(alloc, texts),
@@ -107,7 +115,8 @@ fn files_of(alloc: Global, found: &ArgMatches<'_>) -> Result<Vec<String>, AllocE
 
 /// The texts in memory of their own.
 fn copies_of(alloc: Global, texts: &[&str]) -> Result<Vec<String>, AllocError>
-    ensures { IfOk result (λ copies. map string_bytes copies.items ≡ map (λ text. text.now) texts.now) }
+    ensures { IfOk result
+        (λ copies. map string_bytes copies.items ≡ map (λ text. text.now) texts.now) }
 {
     let mut copies = Vec::new(alloc);
     for text in texts {

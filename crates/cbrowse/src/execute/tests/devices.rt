@@ -48,7 +48,8 @@ pub(super) fn tags_job(alloc: Global, listing: bool, format: Format) -> Result<J
     })
 }
 
-/// How the job ends over a writer of which so many flushes succeed, how many it was asked for, and what it took.
+/// How the job ends over a writer of which so many flushes succeed, how many it was asked for, and
+/// what it took.
 fn tags_over(
     rt: &HostRuntime,
     listing: bool,

@@ -1,4 +1,5 @@
-//! The program over devices that fail at each byte: what was written until then, the status, and what standard error says.
+//! The program over devices that fail at each byte: what was written until then, the status, and
+//! what standard error says.
 use super::files::{A, LISTING, new_folder, within};
 use super::words_of;
 use crate::execute::execute;
@@ -43,8 +44,8 @@ const OUTPUT: &[u8] =
 const ROWS: &[u8] =
     b"a.c TWICE 2 #define TWICE(x) ((x) + add(x, 0))\na.c add 4 static int add(int a, int b) {\na.c main 8 return add(1, 2) / TWICE(3);\n";
 
-/// Runs the program over an input, into a standard output and a standard error that take so many bytes. Its status, and what
-/// both took.
+/// Runs the program over an input, into a standard output and a standard error that take so many
+/// bytes. Its status, and what both took.
 fn program_into(
     rt: &HostRuntime,
     folder: &str,
@@ -69,8 +70,8 @@ fn program_into(
     (status, writer.taken, complaints.taken)
 }
 
-/// Over writers that take 0 bytes, 1 byte and so on, up to all of the output: it has written just these, and says so where
-/// there were more.
+/// Over writers that take 0 bytes, 1 byte and so on, up to all of the output: it has written just
+/// these, and says so where there were more.
 fn at_each_byte(
     rt: &HostRuntime,
     test: &impl Abort,

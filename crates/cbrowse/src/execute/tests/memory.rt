@@ -1,6 +1,6 @@
-//! Tests in which memory may be refused, each growth in turn, one a run: `scripts/each-growth-refused.py` does that.
-//! `refused_growth_of_CALL` passes in each run, and `no_refusal_of_CALL` only in a run that refuses nothing.
-//! `no_growth_of_CALL` may meet no growth.
+//! Tests in which memory may be refused, each growth in turn, one a run:
+//! `scripts/each-growth-refused.py` does that. `refused_growth_of_CALL` passes in each run, and
+//! `no_refusal_of_CALL` only in a run that refuses nothing. `no_growth_of_CALL` may meet no growth.
 ghost use Rattle.std.specs.Prelude.{IfOk};
 ghost use Rattle.cbrowse.specs.Program.{HasPattern};
 
@@ -19,13 +19,14 @@ use std::fs;
 use std::process::Abort;
 use std::test::Fail;
 
-/// The call that a test is about begins here: `scripts/each-growth-refused.py` knows this size, and counts and refuses the
-/// growths that follow.
+/// The call that a test is about begins here: `scripts/each-growth-refused.py` knows this size, and
+/// counts and refuses the growths that follow.
 fn begin(alloc: Global) {
     let _ = Vec::<u8>::with_capacity(alloc, 70_001);
 }
 
-/// The call ends here: the script knows this size too, and what follows is neither counted nor refused.
+/// The call ends here: the script knows this size too, and what follows is neither counted nor
+/// refused.
 fn end(alloc: Global) {
     let _ = Vec::<u8>::with_capacity(alloc, 70_002);
 }
@@ -155,7 +156,8 @@ fn is_made(rt: &HostRuntime, test: &impl Abort, folder: &str) -> bool {
     }
 }
 
-/// Makes a tags file; on a refusal, which leaves the old one as it was, once more. Whether memory was refused.
+/// Makes a tags file; on a refusal, which leaves the old one as it was, once more. Whether memory
+/// was refused.
 fn making_meets_a_refusal(rt: &HostRuntime, test: &impl Abort) -> Result<bool, Fail> {
     let folder = two_files(rt)?;
     let tags = within(rt, folder.as_str(), "tags")?;
@@ -192,8 +194,8 @@ fn tells_a_refusal(said: &[u8]) -> bool {
         || said == b"cbrowse: m.c: out of memory\n".as_slice()
 }
 
-/// Runs the program on words over two files; on a refusal once more. It writes this output, and leaves this tags file.
-/// Whether memory was refused.
+/// Runs the program on words over two files; on a refusal once more. It writes this output, and
+/// leaves this tags file. Whether memory was refused.
 fn program_meets_a_refusal(
     rt: &HostRuntime,
     test: &impl Abort,
@@ -265,7 +267,8 @@ fn find_job(alloc: Global, field: Field) -> Result<Job, Fail>
     })
 }
 
-/// What a job writes over a session in which `a.c` stands; its call begins where the session is there.
+/// What a job writes over a session in which `a.c` stands; its call begins where the session is
+/// there.
 fn written_by(rt: &HostRuntime, test: &impl Abort, job: &Job) -> Result<Vec<u8>, Fail>
     requires { HasPattern job.now }
 {
