@@ -1,11 +1,13 @@
 -- What a line asks for. A command is a word and the rest of its line; single spaces part the words
 -- of the rest.
-use Rattle.std.specs.Prelude.{ℕ, ◌+◌, ◌==◌, Bool, ◌&&◌, ◌||◌, nat_le, nat_lt, List, [], ◌∷◌, length, take, drop, codes, Option, None, Some, if◌then◌else◌}
+use Rattle.std.specs.Prelude.{ℕ, ◌+◌, ◌==◌, Bool, ◌&&◌, ◌||◌, nat_le, nat_lt, List, [], ◌∷◌, length}
+use Rattle.std.specs.Prelude.{take, drop, codes, Option, None, Some, if◌then◌else◌}
 use Rattle.std.specs.List.{list_all, slice_split, position}
 use Rattle.std.specs.Str.{bytes_eq}
 use Rattle.std.specs.Str.Parse.{digits_value}
 use Rattle.cb_scan.specs.Bytes.{space}
-use Rattle.cb_desk.specs.declared.refusal.Refusal.TheVariants.{UnknownCommand, BadCount, NoPattern, NoSuchField}
+use Rattle.cb_desk.specs.declared.refusal.Refusal.TheVariants.{UnknownCommand, BadCount, NoPattern}
+use Rattle.cb_desk.specs.declared.refusal.Refusal.TheVariants.{NoSuchField}
 use Rattle.cb_desk.specs.declared.rows.Field.{Field}
 use Rattle.cb_desk.specs.declared.tags.Format.TheVariants.{Plain, Extended}
 use Rattle.cb_desk.specs.Answer.{field_of_digit}
@@ -13,7 +15,9 @@ use Rattle.cb_desk.specs.Step.{unload, rename, want, mark, mark_all, replace, ta
 use Rattle.cb_session.specs.declared.limits.TheConstants.{MOST_DIGITS, MOST_BYTES}
 use Rattle.cb_session.specs.declared.line.Purpose.{Purpose}
 use Rattle.cb_session.specs.declared.line.Purpose.TheVariants.{Load, Reload}
-use Rattle.cb_session.specs.Requests.{Request, query, change, undo, redo, rebuild, tags_file, listing, marks, stack, refused, nothing, quit, LineRequest, whole, block}
+use Rattle.cb_session.specs.Requests.{Request, query, change, undo, redo, rebuild, tags_file}
+use Rattle.cb_session.specs.Requests.{listing, marks, stack, refused, nothing, quit}
+use Rattle.cb_session.specs.Requests.{LineRequest, whole, block}
 
 -- the letter that ends the session
 abbrev pub letter_q : ℕ
@@ -33,7 +37,8 @@ is_digit b = nat_le 48 b && nat_le b 57
 
 -- 1 to 9 decimal digits
 abbrev pub is_number : List ℕ → Bool
-is_number word = nat_le 1 (length word) && nat_le (length word) MOST_DIGITS && list_all is_digit word
+is_number word =
+    nat_le 1 (length word) && nat_le (length word) MOST_DIGITS && list_all is_digit word
 
 -- the number that they write; anything else is no number
 abbrev pub number_in : List ℕ → Option ℕ
@@ -47,7 +52,8 @@ words_in (Some rest) = slice_split is_space rest
 -- a load or a reload by its name and the number of bytes of its block, which has a limit
 abbrev pub load_sized : Purpose → List ℕ → Option ℕ → LineRequest
 load_sized purpose name None = whole (refused BadCount)
-load_sized purpose name (Some n) = if nat_lt MOST_BYTES n then whole (refused BadCount) else block purpose name n
+load_sized purpose name (Some n) =
+    if nat_lt MOST_BYTES n then whole (refused BadCount) else block purpose name n
 
 -- `:load` and `:reload`: a missing word is empty, and a third word is too many
 abbrev pub load_words : Purpose → List (List ℕ) → LineRequest
@@ -59,7 +65,8 @@ load_words purpose (name ∷ count ∷ more ∷ others) = whole (refused Unknown
 -- a tags file by its number: 1 is plain, 2 extended
 abbrev pub tags_numbered : Option ℕ → Request
 tags_numbered None = refused BadCount
-tags_numbered (Some n) = if n == 1 then tags_file Plain else (if n == 2 then tags_file Extended else refused BadCount)
+tags_numbered (Some n) =
+    if n == 1 then tags_file Plain else (if n == 2 then tags_file Extended else refused BadCount)
 
 -- `:tags`: with no word it is plain, and one word is its number
 abbrev pub tags_words : List (List ℕ) → Request

@@ -6,11 +6,14 @@ use Rattle.cb_session.specs.declared.input.Ended.{Ended}
 use Rattle.cb_session.specs.declared.input.Going.{Going}
 use Rattle.cb_session.specs.declared.input.Going.TheVariants.{On, Stop}
 use Rattle.cb_session.specs.declared.input.Command.{Command as Asks}
-use Rattle.cb_session.specs.declared.input.Command.TheVariants.{Query, Change, Rebuild, Undo, Redo, Tags, Listing, Marks, Stack}
+use Rattle.cb_session.specs.declared.input.Command.TheVariants.{Query, Change, Rebuild, Undo, Redo}
+use Rattle.cb_session.specs.declared.input.Command.TheVariants.{Tags, Listing, Marks, Stack}
 use Rattle.cb_session.specs.declared.line.Asked.{Asked}
 use Rattle.cb_session.specs.declared.line.Asked.TheVariants.{Whole, Block}
 use Rattle.cb_desk.specs.Models.{step_of}
-use Rattle.cb_session.specs.Requests.{Request, query, change, undo, redo, rebuild, tags_file, listing, marks, stack, refused, nothing, quit, LineRequest, whole, block}
+use Rattle.cb_session.specs.Requests.{Request, query, change, undo, redo, rebuild, tags_file}
+use Rattle.cb_session.specs.Requests.{listing, marks, stack, refused, nothing, quit}
+use Rattle.cb_session.specs.Requests.{LineRequest, whole, block}
 
 -- the request that a command is
 abbrev pub command_of : Asks → Request

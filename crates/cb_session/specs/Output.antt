@@ -1,5 +1,6 @@
 -- The output of a run: a prompt before each input, and its reply.
-use Rattle.std.specs.Prelude.{ℕ, ◌+◌, Bool, true, false, List, [], ◌∷◌, ◌++◌, length, codes, decimal, Result, Ok, Err}
+use Rattle.std.specs.Prelude.{ℕ, ◌+◌, Bool, true, false, List, [], ◌∷◌, ◌++◌, length, codes}
+use Rattle.std.specs.Prelude.{decimal, Result, Ok, Err}
 use Rattle.std.specs.List.{flat_map}
 use Rattle.cb_desk.specs.declared.refusal.Refusal.{Refusal}
 use Rattle.cb_desk.specs.declared.refusal.Refusal.TheVariants.{OutOfMemory}
@@ -14,7 +15,8 @@ use Rattle.cb_tags.specs.TagLines.{Tag}
 use Rattle.cb_desk.specs.declared.tags.Format.{Format}
 use Rattle.cb_desk.specs.declared.tags.Format.TheVariants.{Extended}
 use Rattle.cb_session.specs.Places.{mark_rows, stack_rows}
-use Rattle.cb_session.specs.Requests.{Request, query, change, undo, redo, rebuild, tags_file, listing, marks, stack, refused, nothing, quit, overlong}
+use Rattle.cb_session.specs.Requests.{Request, query, change, undo, redo, rebuild, tags_file}
+use Rattle.cb_session.specs.Requests.{listing, marks, stack, refused, nothing, quit, overlong}
 
 -- the prompt
 abbrev pub prompt : List ℕ
@@ -22,7 +24,9 @@ prompt = codes ">> "
 
 -- a row of an answer: its four columns with single spaces between them
 abbrev pub row_line : AnswerRow → List ℕ
-row_line r = r.file ++ codes " " ++ r.function ++ codes " " ++ decimal r.line ++ codes " " ++ r.text ++ codes "\n"
+row_line r =
+    r.file ++ codes " " ++ r.function ++ codes " " ++ decimal r.line ++ codes " "
+    ++ r.text ++ codes "\n"
 
 -- how many rows an answer has
 abbrev pub count_line : ℕ → List ℕ
@@ -48,8 +52,8 @@ done_line = codes "cscope: done\n"
 abbrev pub refused_line : Refusal → List ℕ
 refused_line r = codes "cscope: refused: " ++ text_of r ++ codes "\n"
 
--- the reply to an accepted change, by the world that it leads to: a text that is wanted has the rows
--- of the lines that hold it
+-- the reply to an accepted change, by the world that it leads to: a text that is wanted has the
+-- rows of the lines that hold it
 abbrev pub change_reply : Step → World → List ℕ
 change_reply (want text) w = answer_lines (answer w Text text)
 change_reply _ w = done_line
@@ -72,10 +76,13 @@ moved t reply (Ok next) = record { timeline = next; reply = reply next.present }
 
 -- the outcome of an input; `out_of_memory` says that memory was refused to it, where it takes any
 unfoldable pub outcome : Bool → Timeline → Request → Outcome
-outcome out_of_memory t (query field pattern) = record { timeline = t; reply = answer_lines (answer t.present field pattern) }
+outcome out_of_memory t (query field pattern) =
+    record { timeline = t; reply = answer_lines (answer t.present field pattern) }
 outcome out_of_memory t rebuild = record { timeline = t; reply = rebuild_reply out_of_memory }
-outcome out_of_memory t (tags_file format) = record { timeline = t; reply = tags_reply format (tags format t.present) }
-outcome out_of_memory t listing = record { timeline = t; reply = listing_reply (tags Extended t.present) }
+outcome out_of_memory t (tags_file format) =
+    record { timeline = t; reply = tags_reply format (tags format t.present) }
+outcome out_of_memory t listing =
+    record { timeline = t; reply = listing_reply (tags Extended t.present) }
 outcome out_of_memory t marks = record { timeline = t; reply = answer_lines (mark_rows t.present) }
 outcome out_of_memory t stack = record { timeline = t; reply = answer_lines (stack_rows t.present) }
 outcome out_of_memory t (change s) = moved t (change_reply s) (judged out_of_memory s (changed t s))
@@ -105,4 +112,5 @@ exchange out_of_memory t e = prompt ++ (outcome out_of_memory t e).reply
 unfoldable pub output : List Bool → Timeline → List Request → List ℕ
 output refusals t [] = []
 output refusals t (e ∷ es) =
-    exchange (first_refusal refusals) t e ++ output (later_refusals refusals) (outcome (first_refusal refusals) t e).timeline es
+    exchange (first_refusal refusals) t e
+    ++ output (later_refusals refusals) (outcome (first_refusal refusals) t e).timeline es

@@ -3,7 +3,8 @@ use Rattle.std.specs.Prelude.{◌≡◌, Bool, true, false, Some, Result, Ok, Er
 use Rattle.cb_desk.specs.Step.{load, reload}
 use Rattle.cb_session.specs.declared.feed.Stage.TheVariants.{Failed}
 use Rattle.cb_session.specs.declared.input.Fault.{Fault}
-use Rattle.cb_session.specs.declared.input.Fault.TheVariants.{Read, Write, Memory, LongLine, ManyLines}
+use Rattle.cb_session.specs.declared.input.Fault.TheVariants.{Read, Write, Memory, LongLine}
+use Rattle.cb_session.specs.declared.input.Fault.TheVariants.{ManyLines}
 use Rattle.cb_session.specs.declared.input.Input.{Input}
 use Rattle.cb_session.specs.Devices.{Reader, HoldsOut}
 use Rattle.cb_session.specs.Inputs.{First, is_cut}

@@ -1,5 +1,5 @@
--- The output of a run, told by the changes that survive: each reply is that of the world which their
--- replay gives.
+-- The output of a run, told by the changes that survive: each reply is that of the world which
+-- their replay gives.
 use Rattle.std.specs.Prelude.{◌≡◌, ℕ, Bool, false, List, [], ◌∷◌, ◌++◌, map, Ok}
 use Rattle.cb_desk.specs.Step.{load}
 use Rattle.cb_desk.specs.Survivors.{Kept, Move, kept_after, kept_by, none_kept, timeline_of}
@@ -26,7 +26,9 @@ replayed_output refusals k (e ∷ es) =
 
 -- the output of a run is that
 abbrev pub OutputIsReplayed : Type 0
-OutputIsReplayed = (refusals : List Bool) (k : Kept) (es : List Request) → output refusals (timeline_of k) es ≡ replayed_output refusals k es
+OutputIsReplayed =
+    (refusals : List Bool) (k : Kept) (es : List Request)
+    → output refusals (timeline_of k) es ≡ replayed_output refusals k es
 
 -- an operand is a change like any other
 abbrev pub load_of : File → Move
@@ -35,4 +37,5 @@ load_of f = move.change false (load f.name f.bytes)
 -- a run begins where the loads of its operands lead
 abbrev pub OperandsAreReplayed : Type 0
 OperandsAreReplayed =
-    (files : List File) (t : Timeline) → Loads 0 new_timeline files (Ok t) → t ≡ timeline_of (kept_after none_kept (map load_of files))
+    (files : List File) (t : Timeline) → Loads 0 new_timeline files (Ok t)
+    → t ≡ timeline_of (kept_after none_kept (map load_of files))

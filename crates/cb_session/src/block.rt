@@ -20,8 +20,10 @@ fn read_block<R: BufRead>(
     count: u32,
     feed: &mut Feed<R>,
 ) -> Result<Option<Vec<u8>>, Fault>
-    ensures block { (bytes : List ℕ) → feed.old.bytes ≡ Some bytes → ReadsBlock count bytes feed.new result }
-    ensures every_input { WhateverFollows feed.old feed.new (λ bytes left. ReadsBlock count bytes left result) }
+    ensures block { (bytes : List ℕ) → feed.old.bytes ≡ Some bytes
+        → ReadsBlock count bytes feed.new result }
+    ensures every_input { WhateverFollows feed.old feed.new
+        (λ bytes left. ReadsBlock count bytes left result) }
     ensures failed { IfErr result (IsReadFault feed.old feed.new) }
     ensures fine { IfOk result (λ _. HoldsOut feed.old feed.new) }
 {
@@ -55,8 +57,10 @@ pub fn read_change<'a, R: BufRead>(
     count: u32,
     feed: &mut Feed<R>,
 ) -> Result<Input<'a>, Fault>
-    ensures first { (bytes : List ℕ) → feed.old.bytes ≡ Some bytes → Reads (with_block (block purpose name.now count) bytes) feed.new result }
-    ensures every_input { WhateverFollows feed.old feed.new (λ bytes left. Reads (with_block (block purpose name.now count) bytes) left result) }
+    ensures first { (bytes : List ℕ) → feed.old.bytes ≡ Some bytes
+        → Reads (with_block (block purpose name.now count) bytes) feed.new result }
+    ensures every_input { WhateverFollows feed.old feed.new
+        (λ bytes left. Reads (with_block (block purpose name.now count) bytes) left result) }
     ensures failed { IfErr result (IsReadFault feed.old feed.new) }
     ensures fine { IfOk result (λ _. HoldsOut feed.old feed.new) }
     ensures pattern { IfOk result (λ input. HasPattern (request_of input)) }

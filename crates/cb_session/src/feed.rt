@@ -1,5 +1,17 @@
 //! Input, a byte or a piece at a time.
-ghost use Rattle.std.specs.Prelude.{◌≡◌, ◌↔◌, ◌≤◌, ◌<◌, ◌-◌, ◌++◌, IsTrue, length, min, take, vec_capacity};
+ghost use Rattle.std.specs.Prelude.{
+  ◌≡◌,
+  ◌↔◌,
+  ◌≤◌,
+  ◌<◌,
+  ◌-◌,
+  ◌++◌,
+  IsTrue,
+  length,
+  min,
+  take,
+  vec_capacity,
+};
 ghost use Rattle.cb_session.specs.Devices.{GivesByte, GivesPiece};
 
 use std::io::BufRead;
@@ -32,7 +44,8 @@ impl<R: BufRead> Model for Feed<R> {
 
     ghost Value = { Reader };
 
-    ghost view = { λ f. record { bytes = left_at f.stage (R.remaining f.reader); stage = f.stage } };
+    ghost view = { λ f.
+        record { bytes = left_at f.stage (R.remaining f.reader); stage = f.stage } };
 }
 
 impl<R: BufRead> Feed<R> {

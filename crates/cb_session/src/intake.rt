@@ -1,5 +1,19 @@
 //! Reading commands, one at a time.
-ghost use Rattle.std.specs.Prelude.{◌≡◌, ◌<◌, ◌≤◌, List, ◌∷◌, [], ◌++◌, ℕ, Some, IfOk, IfErr, length, vec_capacity};
+ghost use Rattle.std.specs.Prelude.{
+  ◌≡◌,
+  ◌<◌,
+  ◌≤◌,
+  List,
+  ◌∷◌,
+  [],
+  ◌++◌,
+  ℕ,
+  Some,
+  IfOk,
+  IfErr,
+  length,
+  vec_capacity,
+};
 ghost use Rattle.cb_session.specs.declared.limits.TheConstants.{MOST_LINE};
 ghost use Rattle.cb_session.specs.steps.Lines.{line_of_length};
 
@@ -64,8 +78,10 @@ impl Intake {
         limits: &Limits,
         feed: &mut Feed<R>,
     ) -> Result<Input<'_>, Fault>
-        ensures first { (bytes : List ℕ) → feed.old.bytes ≡ Some bytes → Reads (first limits.now.line bytes) feed.new result }
-        ensures every_input { WhateverFollows feed.old feed.new (λ bytes left. Reads (first limits.now.line bytes) left result) }
+        ensures first { (bytes : List ℕ) → feed.old.bytes ≡ Some bytes
+            → Reads (first limits.now.line bytes) feed.new result }
+        ensures every_input { WhateverFollows feed.old feed.new
+            (λ bytes left. Reads (first limits.now.line bytes) left result) }
         ensures failed { IfErr result (IsReadFault feed.old feed.new) }
         ensures fine { IfOk result (λ _. HoldsOut feed.old feed.new) }
         ensures pattern { IfOk result (λ input. HasPattern (request_of input)) }
@@ -88,8 +104,10 @@ impl Intake {
         limits: &Limits,
         feed: &mut Feed<R>,
     ) -> Result<LineRead, Fault>
-        ensures line { (bytes : List ℕ) → feed.old.bytes ≡ Some bytes → ReadsLine limits.now.line bytes feed.new self.new.line.items result }
-        ensures every_input { WhateverFollows feed.old feed.new (λ bytes left. ReadsLine limits.now.line bytes left self.new.line.items result) }
+        ensures line { (bytes : List ℕ) → feed.old.bytes ≡ Some bytes
+            → ReadsLine limits.now.line bytes feed.new self.new.line.items result }
+        ensures every_input { WhateverFollows feed.old feed.new
+            (λ bytes left. ReadsLine limits.now.line bytes left self.new.line.items result) }
         ensures failed { IfErr result (IsReadFault feed.old feed.new) }
         ensures fine { IfOk result (λ _. HoldsOut feed.old feed.new) }
     {
@@ -111,8 +129,10 @@ impl Intake {
 
     /// Keeps a byte of a line, unless no command can have so many.
     fn keep(&mut self, byte: u8)
-        ensures kept { length self.old.line.items < MOST_LINE → self.new.line.items ≡ self.old.line.items ++ byte ∷ [] }
-        ensures left { MOST_LINE ≤ length self.old.line.items → self.new.line.items ≡ self.old.line.items }
+        ensures kept { length self.old.line.items < MOST_LINE
+            → self.new.line.items ≡ self.old.line.items ++ byte ∷ [] }
+        ensures left { MOST_LINE ≤ length self.old.line.items
+            → self.new.line.items ≡ self.old.line.items }
     {
         if self.line.len() < MOST_LINE {
             self.line.push_reserved(byte);

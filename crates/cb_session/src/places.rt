@@ -14,7 +14,8 @@ use std::io::Write;
 
 /// The row of a place.
 fn place_row<'a>(desk: &'a Desk, file: &'a [u8], line: u32) -> RefRow<'a>
-    ensures { row_of result ≡ place_row desk.now.timeline.present.files (place_at (file.entry, line)) }
+    ensures { row_of result
+        ≡ place_row desk.now.timeline.present.files (place_at (file.entry, line)) }
 {
     match desk.source(file) {
         Some(source) => line_row(file, source, line),
@@ -40,7 +41,8 @@ pub fn put_marks<W: Write>(out: &mut Sink<W>, desk: &Desk) -> Result<(), Fault>
 
 /// Writes the rows of the frames, from the top of the stack down.
 fn put_frames<W: Write>(out: &mut Sink<W>, desk: &Desk) -> Result<(), Fault>
-    ensures { Puts out.old out.new result (flat_map row_line (stack_rows desk.now.timeline.present)) }
+    ensures { Puts out.old out.new result
+        (flat_map row_line (stack_rows desk.now.timeline.present)) }
 {
     let mut frames = desk.frames();
     while let Some((file, line)) = frames.next_back() {

@@ -1,5 +1,5 @@
-//! Definitions of each kind, as a session shows them. The expected bytes are worked out by hand from
-//! the rules on definitions and the format of tag lines.
+//! Definitions of each kind, as a session shows them. The expected bytes are worked out by hand
+//! from the rules on definitions and the format of tag lines.
 use super::writes_parts;
 use std::test::Fail;
 

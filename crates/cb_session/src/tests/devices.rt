@@ -95,8 +95,8 @@ fn a_failed_flush_ends_the_run(rt: HostRuntime) {
     assert_eq!(rt; feed.byte(), Ok(Some(b':')));
 }
 
-/// A reader that gives so many of its bytes, so many at a time at most, and then fails; at its end it
-/// says so once, and then fails too.
+/// A reader that gives so many of its bytes, so many at a time at most, and then fails; at its end
+/// it says so once, and then fails too.
 #[derive(Drop)]
 pub(super) struct Broken<'a> {
     pub(super) bytes: &'a [u8],
