@@ -1,5 +1,6 @@
 -- The inputs of a byte stream: the whole input cut into lines and blocks.
-use Rattle.std.specs.Prelude.{ℕ, zero, suc, ◌==◌, Bool, true, false, nat_lt, List, [], ◌∷◌, length, take, drop, Option, None, Some, if◌then◌else◌}
+use Rattle.std.specs.Prelude.{ℕ, zero, suc, ◌==◌, Bool, true, false, nat_lt, List, [], ◌∷◌}
+use Rattle.std.specs.Prelude.{length, take, drop, Option, None, Some, if◌then◌else◌}
 use Rattle.std.specs.List.{before_first, after_first}
 use Rattle.cb_scan.specs.Bytes.{line_feed}
 use Rattle.cb_desk.specs.declared.refusal.Refusal.{Refusal}
@@ -12,7 +13,8 @@ use Rattle.cb_session.specs.declared.limits.TheConstants.{MOST_LINE}
 use Rattle.cb_session.specs.declared.line.Purpose.{Purpose}
 use Rattle.cb_session.specs.declared.line.Purpose.TheVariants.{Load, Reload}
 use Rattle.cb_session.specs.Commands.{short_line}
-use Rattle.cb_session.specs.Requests.{Request, change, refused, quit, overlong, LineRequest, whole, block}
+use Rattle.cb_session.specs.Requests.{Request, change, refused, quit, overlong}
+use Rattle.cb_session.specs.Requests.{LineRequest, whole, block}
 
 -- the byte that ends a line
 abbrev pub is_line_feed : ℕ → Bool
@@ -46,7 +48,8 @@ with_block (block purpose name n) rest =
 unfoldable pub first : ℕ → List ℕ → First
 first limit [] = record { request = quit; rest = [] }
 first limit (b ∷ bs) =
-    with_block (line_asks limit (before_first is_line_feed (b ∷ bs))) (after_first is_line_feed (b ∷ bs))
+    with_block (line_asks limit (before_first is_line_feed (b ∷ bs)))
+    (after_first is_line_feed (b ∷ bs))
 
 -- the refusal of a block that the input does not fill
 abbrev pub is_cut : Refusal → Bool
@@ -68,7 +71,8 @@ pub record Inputs : Type 0 where
 
 -- the last request ends the inputs, and each other goes on with the inputs after it
 abbrev pub begin_with : First → Option Ended → Inputs → Inputs
-begin_with f (Some ended) after = record { requests = f.request ∷ []; ending = ended; rest = f.rest }
+begin_with f (Some ended) after =
+    record { requests = f.request ∷ []; ending = ended; rest = f.rest }
 begin_with f None after = record after { requests = f.request ∷ after.requests }
 
 -- the inputs of a byte stream, where a run allows so many lines and at most `limit` bytes in each

@@ -26,27 +26,36 @@ pub record RefusedOperand : Type 0 where
 -- them; memory refuses only what would be done
 pub data Loads : ℕ → Timeline → List File → Result Timeline RefusedOperand → Type 0 where
   all_loaded : {place : ℕ} {t : Timeline} → Loads place t [] (Ok t)
-  first_loaded : {place : ℕ} {t u : Timeline} {f : File} {fs : List File} {end : Result Timeline RefusedOperand}
-      → changed t (load f.name f.bytes) ≡ Ok u → Loads (place + 1) u fs end → Loads place t (f ∷ fs) end
+  first_loaded : {place : ℕ} {t u : Timeline} {f : File} {fs : List File}
+      {end : Result Timeline RefusedOperand}
+      → changed t (load f.name f.bytes) ≡ Ok u → Loads (place + 1) u fs end
+      → Loads place t (f ∷ fs) end
   first_refused : {place : ℕ} {t : Timeline} {f : File} {fs : List File} {r : Refusal}
-      → changed t (load f.name f.bytes) ≡ Err r → Loads place t (f ∷ fs) (Err (record { place = place; why = r }))
+      → changed t (load f.name f.bytes) ≡ Err r
+      → Loads place t (f ∷ fs) (Err (record { place = place; why = r }))
   memory_refused : {place : ℕ} {t : Timeline} {f : File} {fs : List File}
-      → IsOk (changed t (load f.name f.bytes)) → Loads place t (f ∷ fs) (Err (record { place = place; why = OutOfMemory }))
+      → IsOk (changed t (load f.name f.bytes))
+      → Loads place t (f ∷ fs) (Err (record { place = place; why = OutOfMemory }))
 
 -- the operands are loads of a new timeline; or the first that is refused ends the run
 abbrev pub Prepares : List File → Result Timeline Ended → Type 0
 Prepares files (Ok t) = Loads 0 new_timeline files (Ok t)
-Prepares files (Err (StoppedAt place why)) = Loads 0 new_timeline files (Err (record { place = place; why = why }))
+Prepares files (Err (StoppedAt place why)) =
+    Loads 0 new_timeline files (Err (record { place = place; why = why }))
 Prepares files (Err _) = ⊥
 
 -- a run over these bytes, which allows so many lines and at most `limit` bytes in each, that begins
 -- where the loads lead; where one is refused nothing is read and nothing is written
-abbrev pub RunsFrom : Result Timeline RefusedOperand → (lines limit : ℕ) → List ℕ → Reader → Writer → Writer → Ended → Type 0
-RunsFrom (Ok t) lines limit bytes feed old new ended = LeavesRun (inputs lines limit bytes) t feed old new ended
+abbrev pub RunsFrom : Result Timeline RefusedOperand → (lines limit : ℕ) → List ℕ → Reader
+    → Writer → Writer → Ended → Type 0
+RunsFrom (Ok t) lines limit bytes feed old new ended =
+    LeavesRun (inputs lines limit bytes) t feed old new ended
 RunsFrom (Err stop) lines limit bytes feed old new ended =
     (ended ≡ StoppedAt stop.place stop.why) × (feed.bytes ≡ Some bytes) × (new ≡ old)
 
 -- a run with operands
-abbrev pub Runs : List File → (lines limit : ℕ) → List ℕ → Reader → Writer → Writer → Ended → Type 0
+abbrev pub Runs : List File → (lines limit : ℕ) → List ℕ → Reader
+    → Writer → Writer → Ended → Type 0
 Runs files lines limit bytes feed old new ended =
-    (end : Result Timeline RefusedOperand) × Loads 0 new_timeline files end × RunsFrom end lines limit bytes feed old new ended
+    (end : Result Timeline RefusedOperand) × Loads 0 new_timeline files end
+    × RunsFrom end lines limit bytes feed old new ended

@@ -5,7 +5,8 @@ use Rattle.std.specs.Fmt.{digits}
 use Rattle.cb_scan.specs.Definitions.{definitions_from}
 use Rattle.cb_scan.specs.examples.Functions.{finding}
 use Rattle.cb_scan.specs.Order.{put, in_order}
-use Rattle.cb_desk.specs.declared.refusal.Refusal.TheVariants.{InputEnded, NoPattern, UnknownCommand, BadCount}
+use Rattle.cb_desk.specs.declared.refusal.Refusal.TheVariants.{InputEnded, NoPattern}
+use Rattle.cb_desk.specs.declared.refusal.Refusal.TheVariants.{UnknownCommand, BadCount}
 use Rattle.cb_desk.specs.declared.rows.Field.TheVariants.{Definition}
 use Rattle.cb_desk.specs.Answer.{distinct, unindented}
 use Rattle.cb_desk.specs.Refusals.{text_of}
@@ -51,7 +52,8 @@ block_cut = refl
 -- so does the block of a reload, whatever its name is
 pub reload_cut : inputs 9 5000 (codes ":reload a 2\n{}:undo\n:reload a.c 1 \n:reload a.c\n")
     ≡ record {
-      requests = change (reload (codes "a") (codes "{}")) ∷ undo ∷ refused UnknownCommand ∷ refused BadCount ∷ quit ∷ [];
+      requests = change (reload (codes "a") (codes "{}")) ∷ undo
+          ∷ refused UnknownCommand ∷ refused BadCount ∷ quit ∷ [];
       ending = Done;
       rest = [];
     }
@@ -65,11 +67,13 @@ unfolding reading
 short_block = refl
 
 -- words that are missing are empty, and too many are refused
-pub words_cut : inputs 9 5000 (codes ":drop\n:rename a.c\n:tag f 2\n:tag f 2 \n:tag f x\n") ≡ record {
-  requests = change (unload []) ∷ change (rename (codes "a.c") []) ∷ change (tag (codes "f") 2) ∷ refused UnknownCommand ∷ refused BadCount ∷ quit ∷ [];
-  ending = Done;
-  rest = [];
-}
+pub words_cut : inputs 9 5000 (codes ":drop\n:rename a.c\n:tag f 2\n:tag f 2 \n:tag f x\n")
+    ≡ record {
+      requests = change (unload []) ∷ change (rename (codes "a.c") []) ∷ change (tag (codes "f") 2)
+          ∷ refused UnknownCommand ∷ refused BadCount ∷ quit ∷ [];
+      ending = Done;
+      rest = [];
+    }
 unfolding reading
 words_cut = refl
 
@@ -85,25 +89,31 @@ unfolding reading
 many_lines = refl
 
 -- moves and refusals
-pub moves_shown : output [] new_timeline (change (load (codes "a.c") (codes "{}")) ∷ undo ∷ undo ∷ redo ∷ refused NoPattern ∷ quit ∷ [])
+pub moves_shown : output [] new_timeline
+    (change (load (codes "a.c") (codes "{}")) ∷ undo ∷ undo ∷ redo ∷ refused NoPattern ∷ quit ∷ [])
     ≡ codes ">> cscope: done\n>> cscope: done\n>> cscope: refused: nothing to undo\n>> cscope: done\n>> cscope: refused: no pattern\n>> "
 unfolding running
 moves_shown = refl
 
 -- one undo takes a reload back
-pub reload_undone : output [] new_timeline (change (load (codes "a.c") (codes "{}")) ∷ change (reload (codes "a.c") (codes "x")) ∷ undo ∷ undo ∷ undo ∷ [])
+pub reload_undone : output [] new_timeline
+    (change (load (codes "a.c") (codes "{}")) ∷ change (reload (codes "a.c") (codes "x"))
+    ∷ undo ∷ undo ∷ undo ∷ [])
     ≡ codes ">> cscope: done\n>> cscope: done\n>> cscope: done\n>> cscope: done\n>> cscope: refused: nothing to undo\n"
 unfolding running
 reload_undone = refl
 
 -- memory refused the load, and so there is nothing to undo
-pub refusal_shown : output (true ∷ []) new_timeline (change (load (codes "a.c") (codes "{}")) ∷ undo ∷ [])
+pub refusal_shown : output (true ∷ []) new_timeline
+    (change (load (codes "a.c") (codes "{}")) ∷ undo ∷ [])
     ≡ codes ">> cscope: refused: out of memory\n>> cscope: refused: nothing to undo\n"
 unfolding running
 refusal_shown = refl
 
 -- a file is loaded, asked for its function, and taken away again
-pub query_shown : output [] new_timeline (change (load (codes "f.c") (codes " f(){}")) ∷ query Definition (codes "f") ∷ undo ∷ query Definition (codes "f") ∷ [])
+pub query_shown : output [] new_timeline
+    (change (load (codes "f.c") (codes " f(){}")) ∷ query Definition (codes "f")
+    ∷ undo ∷ query Definition (codes "f") ∷ [])
     ≡ codes ">> cscope: done\n>> cscope: 1 lines\nf.c f 1 f(){}\n>> cscope: done\n>> cscope: 0 lines\n"
 unfolding running finding definitions_from put in_order distinct unindented lining
 query_shown = refl

@@ -25,13 +25,17 @@ abbrev pub Leaves : List ℕ → Option Ended → List ℕ → Reader → Writer
 Leaves text meant rest feed old new (Fault Read) = AppendsPrefix old.bytes new.bytes text
 Leaves text meant rest feed old new (Fault Write) = AppendsPrefix old.bytes new.bytes text
 Leaves text meant rest feed old new (Fault Memory) = AppendsPrefix old.bytes new.bytes text
-Leaves text meant rest feed old new (Fault LongLine) = (meant ≡ Some (Fault LongLine)) × Appends old.bytes new.bytes text
-Leaves text meant rest feed old new ended = (meant ≡ Some ended) × (feed.bytes ≡ Some rest) × Appends old.bytes new.bytes text
+Leaves text meant rest feed old new (Fault LongLine) =
+    (meant ≡ Some (Fault LongLine)) × Appends old.bytes new.bytes text
+Leaves text meant rest feed old new ended =
+    (meant ≡ Some ended) × (feed.bytes ≡ Some rest) × Appends old.bytes new.bytes text
 
 -- a run over these inputs: its output, for some list that says which inputs memory refused, its
 -- ending, and no byte read behind its last request
 abbrev pub LeavesRun : Inputs → Timeline → Reader → Writer → Writer → Ended → Type 0
-LeavesRun i t feed old new ended = (refusals : List Bool) × Leaves (output refusals t i.requests) (Some i.ending) i.rest feed old new ended
+LeavesRun i t feed old new ended =
+    (refusals : List Bool)
+    × Leaves (output refusals t i.requests) (Some i.ending) i.rest feed old new ended
 
 -- a fault of a device is answered only where that device has failed
 abbrev pub HasFailed : Reader → Writer → Reason → Type 0

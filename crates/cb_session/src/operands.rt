@@ -49,8 +49,12 @@ pub fn run<R: BufRead, W: Write>(
     out: &mut Sink<W>,
     operands: Operands,
 ) -> Ended
-    ensures output { (bytes : List ℕ) → feed.old.bytes ≡ Some bytes → Runs (map file_of_operand operands.items) limits.now.lines limits.now.line bytes feed.new out.old out.new result }
-    ensures every_input { WhateverFollows feed.old feed.new (λ bytes left. Runs (map file_of_operand operands.items) limits.now.lines limits.now.line bytes left out.old out.new result) }
+    ensures output { (bytes : List ℕ) → feed.old.bytes ≡ Some bytes
+        → Runs (map file_of_operand operands.items) limits.now.lines limits.now.line bytes
+        feed.new out.old out.new result }
+    ensures every_input { WhateverFollows feed.old feed.new (λ bytes left.
+        Runs (map file_of_operand operands.items) limits.now.lines limits.now.line bytes
+        left out.old out.new result) }
     ensures failed { IfFault result (HasFailed feed.new out.new) }
     ensures told { Tells feed.old feed.new out.old out.new (fault_of result) }
 {

@@ -76,7 +76,9 @@ impl Session {
         out: &mut Sink<W>,
     ) -> Result<Going, Fault>
         requires { HasPattern (request_of input) }
-        ensures does { (out_of_memory : Bool) × Does (outcome out_of_memory self.old (request_of input.entry)) self.new out.old out.new result }
+        ensures does { (out_of_memory : Bool)
+            × Does (outcome out_of_memory self.old (request_of input.entry))
+            self.new out.old out.new result }
         ensures going { IfOk result (λ going. going ≡ going_of (ending_of (request_of input.entry))) }
     {
         let going = input.going();
@@ -92,7 +94,9 @@ impl Session {
         out: &mut Sink<W>,
     ) -> Result<(), Fault>
         requires { HasPattern (request_of input) }
-        ensures { (out_of_memory : Bool) × Does (outcome out_of_memory self.old (request_of input.entry)) self.new out.old out.new result }
+        ensures { (out_of_memory : Bool)
+            × Does (outcome out_of_memory self.old (request_of input.entry))
+            self.new out.old out.new result }
     {
         let command = match input {
             Input::Nothing => return Ok(()),
@@ -120,7 +124,9 @@ impl Session {
         change: Change<'_>,
         out: &mut Sink<W>,
     ) -> Result<(), Fault>
-        ensures { (out_of_memory : Bool) × Does (outcome out_of_memory self.old (change_asked (step_of change.entry))) self.new out.old out.new result }
+        ensures { (out_of_memory : Bool)
+            × Does (outcome out_of_memory self.old (change_asked (step_of change.entry)))
+            self.new out.old out.new result }
     {
         match change {
             Change::Want(text) => self.want(alloc, text, out),
@@ -130,7 +136,9 @@ impl Session {
 
     /// Wants a text, and writes the rows of the lines that hold it.
     fn want<W: Write>(&mut self, alloc: Global, text: &[u8], out: &mut Sink<W>) -> Result<(), Fault>
-        ensures { (out_of_memory : Bool) × Does (outcome out_of_memory self.old (change_asked (want text.now))) self.new out.old out.new result }
+        ensures { (out_of_memory : Bool)
+            × Does (outcome out_of_memory self.old (change_asked (want text.now)))
+            self.new out.old out.new result }
     {
         match self.desk.change(alloc, Change::Want(text)) {
             Ok(()) => {}
@@ -147,8 +155,12 @@ impl Session {
         feed: &mut Feed<R>,
         out: &mut Sink<W>,
     ) -> Ended
-        ensures output { (bytes : List ℕ) → feed.old.bytes ≡ Some bytes → LeavesRun (inputs limits.now.lines limits.now.line bytes) self.old feed.new out.old out.new result }
-        ensures every_input { WhateverFollows feed.old feed.new (λ bytes left. LeavesRun (inputs limits.now.lines limits.now.line bytes) self.old left out.old out.new result) }
+        ensures output { (bytes : List ℕ) → feed.old.bytes ≡ Some bytes
+            → LeavesRun (inputs limits.now.lines limits.now.line bytes) self.old
+            feed.new out.old out.new result }
+        ensures every_input { WhateverFollows feed.old feed.new (λ bytes left.
+            LeavesRun (inputs limits.now.lines limits.now.line bytes) self.old
+            left out.old out.new result) }
         ensures failed { IfFault result (HasFailed feed.new out.new) }
         ensures told { Tells feed.old feed.new out.old out.new (fault_of result) }
     {
@@ -169,8 +181,12 @@ impl Session {
         feed: &mut Feed<R>,
         out: &mut Sink<W>,
     ) -> Ended
-        ensures output { (bytes : List ℕ) → feed.old.bytes ≡ Some bytes → LeavesRun (inputs limits.now.lines limits.now.line bytes) self.old feed.new out.old out.new result }
-        ensures every_input { WhateverFollows feed.old feed.new (λ bytes left. LeavesRun (inputs limits.now.lines limits.now.line bytes) self.old left out.old out.new result) }
+        ensures output { (bytes : List ℕ) → feed.old.bytes ≡ Some bytes
+            → LeavesRun (inputs limits.now.lines limits.now.line bytes) self.old
+            feed.new out.old out.new result }
+        ensures every_input { WhateverFollows feed.old feed.new (λ bytes left.
+            LeavesRun (inputs limits.now.lines limits.now.line bytes) self.old
+            left out.old out.new result) }
         ensures failed { IfFault result (HasFailed feed.new out.new) }
         ensures told { Tells feed.old feed.new out.old out.new (fault_of result) }
     {
@@ -197,9 +213,15 @@ impl Session {
         feed: &mut Feed<R>,
         out: &mut Sink<W>,
     ) -> Result<Option<Ended>, Fault>
-        ensures round { (bytes : List ℕ) → feed.old.bytes ≡ Some bytes → (out_of_memory : Bool) × LeavesRound out_of_memory (first limits.now.line bytes) self.old self.new feed.new out.old out.new result }
-        ensures every_input { WhateverFollows feed.old feed.new (λ bytes left. (out_of_memory : Bool) × LeavesRound out_of_memory (first limits.now.line bytes) self.old self.new left out.old out.new result) }
-        ensures failed { MatchResult result (λ ending. IfSome ending (λ ended. IfFault ended (HasFailed feed.new out.new))) (HasFailed feed.new out.new) }
+        ensures round { (bytes : List ℕ) → feed.old.bytes ≡ Some bytes
+            → (out_of_memory : Bool) × LeavesRound out_of_memory (first limits.now.line bytes)
+            self.old self.new feed.new out.old out.new result }
+        ensures every_input { WhateverFollows feed.old feed.new (λ bytes left.
+            (out_of_memory : Bool) × LeavesRound out_of_memory (first limits.now.line bytes)
+            self.old self.new left out.old out.new result) }
+        ensures failed { MatchResult result
+            (λ ending. IfSome ending (λ ended. IfFault ended (HasFailed feed.new out.new)))
+            (HasFailed feed.new out.new) }
         ensures told { Tells feed.old feed.new out.old out.new (fault_in result) }
     {
         put_prompt(out)?;

@@ -63,15 +63,20 @@ abbrev pub HasPattern : Job → Type 0
 HasPattern (Find field pattern files) = string_bytes pattern ≢ []
 HasPattern _ = Unit {0}
 
--- a job is done from a timeline: a session is a run over the bytes of the reader, and whatever follows those that it has read, a
--- run over these; the rows of a search and tags are written, and the reader is left alone
-abbrev pub DoesJob : Job → (lines limit : ℕ) → Timeline → Reader → Reader → Writer → Writer → Ended → Type 0
+-- a job is done from a timeline: a session is a run over the bytes of the reader, and whatever
+-- follows those that it has read, a run over these; the rows of a search and tags are written, and
+-- the reader is left alone
+abbrev pub DoesJob : Job → (lines limit : ℕ) → Timeline → Reader → Reader → Writer → Writer
+    → Ended → Type 0
 DoesJob (Line files) lines limit t feed feed' old new ended =
-    ((bytes : List ℕ) → feed.bytes ≡ Some bytes → LeavesRun (inputs lines limit bytes) t feed' old new ended)
-    × WhateverFollows feed feed' (λ bytes left. LeavesRun (inputs lines limit bytes) t left old new ended)
+    ((bytes : List ℕ) → feed.bytes ≡ Some bytes
+    → LeavesRun (inputs lines limit bytes) t feed' old new ended)
+    × WhateverFollows feed feed'
+    (λ bytes left. LeavesRun (inputs lines limit bytes) t left old new ended)
     × IfFault ended (HasFailed feed' new) × Tells feed feed' old new (fault_of ended)
 DoesJob (Find field pattern files) lines limit t feed feed' old new ended =
-    (feed' ≡ feed) × WritesText (flat_map row_line (answer t.present field (string_bytes pattern))) old new ended
+    (feed' ≡ feed)
+    × WritesText (flat_map row_line (answer t.present field (string_bytes pattern))) old new ended
 DoesJob (Tags listing tagsfile format files) lines limit t feed feed' old new ended =
     (feed' ≡ feed) × WritesText (tags_output listing format t.present) old new ended
 

@@ -24,8 +24,14 @@ fault_in (Err fault) = Some fault
 
 -- one round: the exchange of a prompt and the reply to the first input, and the ending of the run
 -- if it has one
-abbrev pub LeavesRound : Bool → First → Timeline → Timeline → Reader → Writer → Writer → Result (Option Ended) Reason → Type 0
+abbrev pub LeavesRound : Bool → First → Timeline → Timeline → Reader → Writer → Writer
+    → Result (Option Ended) Reason → Type 0
 LeavesRound out_of_memory f t next feed old new (Ok None) =
-    (ending_of f.request ≡ None) × (feed.bytes ≡ Some f.rest) × (next ≡ (outcome out_of_memory t f.request).timeline) × Appends old.bytes new.bytes (exchange out_of_memory t f.request)
-LeavesRound out_of_memory f t next feed old new (Ok (Some ended)) = Leaves (exchange out_of_memory t f.request) (ending_of f.request) f.rest feed old new ended
-LeavesRound out_of_memory f t next feed old new (Err fault) = Leaves (exchange out_of_memory t f.request) (ending_of f.request) f.rest feed old new (Fault fault)
+    (ending_of f.request ≡ None) × (feed.bytes ≡ Some f.rest)
+    × (next ≡ (outcome out_of_memory t f.request).timeline)
+    × Appends old.bytes new.bytes (exchange out_of_memory t f.request)
+LeavesRound out_of_memory f t next feed old new (Ok (Some ended)) =
+    Leaves (exchange out_of_memory t f.request) (ending_of f.request) f.rest feed old new ended
+LeavesRound out_of_memory f t next feed old new (Err fault) =
+    Leaves (exchange out_of_memory t f.request) (ending_of f.request) f.rest feed old new
+    (Fault fault)
