@@ -1,2 +1,3 @@
+mod marks;
 mod memory;
 mod refused;

@@ -1,4 +1,4 @@
-//! Desks that tests begin with, and what they ask of a desk.
+//! Desks that tests begin with, and what they show.
 use cb_desk::{Change, Desk, Refusal};
 use std::alloc::{AllocError, Global};
 
@@ -8,6 +8,54 @@ pub const NINE_LINES: &[u8] =
 
 /// A file with one function.
 pub const ONE_FUNCTION: &[u8] = b"int Mb(void) {\n}\n";
+
+/// A load of so many bytes `a`.
+pub fn load(
+    desk: &mut Desk,
+    alloc: Global,
+    name: &[u8],
+    count: usize,
+) -> Result<Result<(), Refusal>, AllocError> {
+    let bytes = vec![in alloc; b'a'; count]?;
+    Ok(desk.change(alloc, Change::Load(name, bytes)))
+}
+
+/// A load of a text.
+pub fn load_text(
+    desk: &mut Desk,
+    alloc: Global,
+    name: &[u8],
+    text: &[u8],
+) -> Result<Result<(), Refusal>, AllocError> {
+    let bytes = Vec::from_slice(alloc, text)?;
+    Ok(desk.change(alloc, Change::Load(name, bytes)))
+}
+
+/// A load of a text whose bytes may be refused too.
+pub fn load_text_or_refused(
+    desk: &mut Desk,
+    alloc: Global,
+    name: &[u8],
+    text: &[u8],
+) -> Result<(), Refusal> {
+    match load_text(desk, alloc, name, text) {
+        Ok(outcome) => outcome,
+        Err(_error) => Err(Refusal::OutOfMemory),
+    }
+}
+
+/// Loads two files.
+fn load_two(desk: &mut Desk, alloc: Global) -> Result<(), Refusal> {
+    load_text_or_refused(desk, alloc, b"a.c", NINE_LINES)?;
+    load_text_or_refused(desk, alloc, b"m.c", ONE_FUNCTION)
+}
+
+/// A desk with two files.
+pub fn two_files(alloc: Global) -> Result<Desk, Refusal> {
+    let mut desk = Desk::new(alloc);
+    load_two(&mut desk, alloc)?;
+    Ok(desk)
+}
 
 /// Whether the present files have these names, in this order.
 pub fn shows(desk: &Desk, names: &[&[u8]]) -> bool {
@@ -61,54 +109,4 @@ pub fn wants(desk: &Desk, text: &[u8]) -> bool {
         Some(wanted) => wanted == text,
         None => false,
     }
-}
-
-/// A load of a text.
-pub fn load_text(
-    desk: &mut Desk,
-    alloc: Global,
-    name: &[u8],
-    text: &[u8],
-) -> Result<Result<(), Refusal>, AllocError> {
-    let bytes = Vec::from_slice(alloc, text)?;
-    Ok(desk.change(alloc, Change::Load(name, bytes)))
-}
-
-/// A load of a text whose bytes may be refused too.
-pub fn load_text_or_refused(
-    desk: &mut Desk,
-    alloc: Global,
-    name: &[u8],
-    text: &[u8],
-) -> Result<(), Refusal> {
-    match load_text(desk, alloc, name, text) {
-        Ok(outcome) => outcome,
-        Err(_error) => Err(Refusal::OutOfMemory),
-    }
-}
-
-/// Loads two files.
-fn load_two(desk: &mut Desk, alloc: Global) -> Result<(), Refusal> {
-    load_text_or_refused(desk, alloc, b"a.c", NINE_LINES)?;
-    load_text_or_refused(desk, alloc, b"m.c", ONE_FUNCTION)
-}
-
-/// A desk with two files.
-pub fn two_files(alloc: Global) -> Result<Desk, Refusal> {
-    let mut desk = Desk::new(alloc);
-    load_two(&mut desk, alloc)?;
-    Ok(desk)
-}
-
-/// Every line that holds `add` is marked.
-fn mark_add(desk: &mut Desk, alloc: Global) -> Result<(), Refusal> {
-    desk.change(alloc, Change::Want(b"add"))?;
-    desk.change(alloc, Change::MarkAll)
-}
-
-/// Two files in which `add` is wanted and every line that holds it is marked.
-pub fn marked_files(alloc: Global) -> Result<Desk, Refusal> {
-    let mut desk = two_files(alloc)?;
-    mark_add(&mut desk, alloc)?;
-    Ok(desk)
 }

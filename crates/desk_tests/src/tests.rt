@@ -1,27 +1,15 @@
 mod calls;
-mod marks;
 mod moves;
 mod queries;
 mod reloads;
 mod search;
 
-use crate::desks::{NINE_LINES, load_text, shows};
-use cb_desk::{Change, Desk, Format, Refusal};
+use crate::{NINE_LINES, load, load_text, shows};
+use cb_desk::{Desk, Format, Refusal};
 use cb_scan::Kind;
 use cb_tags::TagRow;
 use std::alloc::{AllocError, Global};
 use std::process::Abort;
-
-/// A load of so many bytes `a`.
-fn load(
-    desk: &mut Desk,
-    alloc: Global,
-    name: &[u8],
-    count: usize,
-) -> Result<Result<(), Refusal>, AllocError> {
-    let bytes = vec![in alloc; b'a'; count]?;
-    Ok(desk.change(alloc, Change::Load(name, bytes)))
-}
 
 /// Loads that are refused, each with its refusal, the number and the text of that.
 fn each_load_is_refused(rt: &impl Abort, alloc: Global, desk: &mut Desk) -> Result<(), AllocError> {

@@ -1,8 +1,9 @@
 //! Tests in which memory may be refused, each growth in turn, one a run. For each call that takes
 //! memory, `refused_growth_of_CALL` passes in each run, and `no_refusal_of_CALL` only in a run that
 //! refuses nothing.
+use super::marks::marked_files;
 use cb_desk::{Change, Desk, Refusal};
-use desk_tests::desks::{has_frames, load_text_or_refused, marked_files, shows, two_files};
+use desk_tests::{has_frames, load_text_or_refused, shows, two_files};
 use std::alloc::Global;
 use std::process::Abort;
 

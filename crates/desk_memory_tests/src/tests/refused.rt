@@ -1,10 +1,9 @@
 //! Worked runs in which each growth of a change is refused in turn, and moves and questions in which
 //! every growth would be. `memory` says how the tests are named.
+use super::marks::marked_files;
 use super::memory::{begin, marked_with_a_future};
 use cb_desk::{Change, Desk, Field, Format, Refusal};
-use desk_tests::desks::{
-    NINE_LINES, has_marks, has_text, load_text_or_refused, marked_files, shows, two_files, wants,
-};
+use desk_tests::{NINE_LINES, has_marks, has_text, load_text_or_refused, shows, two_files, wants};
 use std::alloc::{AllocError, Global};
 use std::process::Abort;
 

@@ -1,7 +1,7 @@
 //! Each public call once, with all the memory that it asks for. Expected rows and frames are worked
 //! out by hand.
 use super::are_tags;
-use crate::desks::{NINE_LINES, load_text, load_text_or_refused};
+use crate::{NINE_LINES, load_text, load_text_or_refused};
 use cb_desk::{Change, Desk, Field, Format, RefRow, Refusal};
 use cb_scan::Kind;
 use cb_tags::TagRow;

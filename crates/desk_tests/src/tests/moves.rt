@@ -1,10 +1,6 @@
 //! Drops, renames, the tag stack, undo and redo. Expected frames and refusals are worked out by
 //! hand.
-use super::load;
-use crate::desks::{
-    NINE_LINES, ONE_FUNCTION, has_frames, has_text, load_text, load_text_or_refused, shows,
-    two_files,
-};
+use crate::{NINE_LINES, ONE_FUNCTION, has_frames, has_text, load, load_text, shows, two_files};
 use cb_desk::{Change, Desk, Refusal};
 use std::alloc::{AllocError, Global};
 use std::process::Abort;

@@ -1,5 +1,5 @@
 //! The rows of each field. Expected rows are worked out by hand from the rules of answers.
-use crate::desks::{NINE_LINES, load_text};
+use crate::{NINE_LINES, load_text};
 use cb_desk::{Desk, Field, RefRow, Refusal};
 use std::alloc::{AllocError, Global};
 use std::process::Abort;

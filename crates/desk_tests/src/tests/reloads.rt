@@ -1,7 +1,7 @@
 //! Reloads: other bytes for a file in one change. Expected marks, frames and counts are worked out by
 //! hand.
 use super::has_tags;
-use crate::desks::{
+use crate::{
     NINE_LINES, has_frames, has_marks, has_text, load_text_or_refused, shows, two_files, wants,
 };
 use cb_desk::{Change, Desk, Format, Refusal};

@@ -1,7 +1,7 @@
 //! The lines that hold a text. Expected lines are counted by hand.
 ghost use Rattle.std.specs.Prelude.{◌≢◌, []};
 
-use crate::desks::{load_text, load_text_or_refused};
+use crate::{load_text, load_text_or_refused};
 use cb_desk::{Desk, Field, Refusal};
 use std::alloc::{AllocError, Global};
 use std::process::Abort;

@@ -1,11 +1,9 @@
 //! Wanted text, marks, and the change of a text. Expected marks, texts and refusals are worked out
 //! by hand.
-use super::load;
-use crate::desks::{
-    NINE_LINES, has_frames, has_marks, has_text, load_text_or_refused, marked_files, two_files,
-    wants,
-};
 use cb_desk::{Change, Desk, Refusal};
+use desk_tests::{
+    NINE_LINES, has_frames, has_marks, has_text, load, load_text_or_refused, two_files, wants,
+};
 use std::alloc::{AllocError, Global};
 use std::process::Abort;
 
@@ -13,6 +11,19 @@ use std::process::Abort;
 fn one_file(alloc: Global, text: &[u8]) -> Result<Desk, Refusal> {
     let mut desk = Desk::new(alloc);
     load_text_or_refused(&mut desk, alloc, b"x.c", text)?;
+    Ok(desk)
+}
+
+/// Every line that holds `add` is marked.
+fn mark_add(desk: &mut Desk, alloc: Global) -> Result<(), Refusal> {
+    desk.change(alloc, Change::Want(b"add"))?;
+    desk.change(alloc, Change::MarkAll)
+}
+
+/// Two files in which `add` is wanted and every line that holds it is marked.
+pub(crate) fn marked_files(alloc: Global) -> Result<Desk, Refusal> {
+    let mut desk = two_files(alloc)?;
+    mark_add(&mut desk, alloc)?;
     Ok(desk)
 }
 
