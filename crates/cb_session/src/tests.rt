@@ -120,11 +120,10 @@ fn unread(alloc: Global, limits: &Limits, input: &[u8]) -> Option<u8> {
 
 #[test]
 fn what_comes_behind_the_last_request_is_left(rt: HostRuntime) {
-    let two_lines = Limits { line: 9, lines: 2 };
     assert_eq!(rt; unread(rt.alloc(), &WIDE, b"1f\nq\nz"), Some(b'z'));
     assert_eq!(rt; unread(rt.alloc(), &WIDE, b":load a.c 3\n{}"), None);
     assert_eq!(rt;
-        unread(rt.alloc(), &two_lines, b":undo\n:redo\nz"),
+        unread(rt.alloc(), &NARROW, b":undo\n1f\n1f\nz"),
         Some(b'z')
     );
 }
