@@ -22,6 +22,9 @@ Loads         all files by `:load`, one after the other, in one go, as a multipl
 First         the first question of each kind in a new session, which puts an index in order, and the same once more.
 Questions     where a name is defined, for a thousand names; the median, and the one that 95 in 100 stay below.
               `cscope -d -q -l` answers the same in the same way.
+Rows          the uses of the names that stand most often in the files: until the first bytes of the reply, which is one walk
+              over the rows, since their number comes first; and until its last ones, by row, after a second walk that looks
+              each row's line up and writes it. `cscope -d -q -l` answers the same, walking once.
 Tags          `:tags 2`.
 
 Other work on the machine makes the times longer: run it twice, and on an idle machine.
@@ -32,6 +35,7 @@ import collections
 import os
 import pathlib
 import re
+import select
 import statistics
 import subprocess
 import tempfile
@@ -44,6 +48,7 @@ MOST_FILES = 4096
 FEW = 10  # the small session has one file in so many
 TIMES = 9  # each change is made so often
 QUESTIONS = 1000
+USED_NAMES = 50
 MOST_CHANGES = 65_536
 PAIRS = 10_000
 PROMPT = b">> "
@@ -75,6 +80,15 @@ class Session:
         self.process.stdin.write(command + b"\n")
         reply = self.read()
         return reply, time.perf_counter() - begin
+
+    def ask_for_rows(self, command):
+        """The rows of a reply, and the seconds until its first bytes and until its last ones are there."""
+        begin = time.perf_counter()
+        self.process.stdin.write(command + b"\n")
+        select.select([self.process.stdout], [], [])
+        first = time.perf_counter() - begin
+        reply = self.read()
+        return reply.count(b"\n") - 1, first, time.perf_counter() - begin
 
     def do(self, command):
         """The seconds of a command that must be accepted."""
@@ -234,6 +248,25 @@ def first_questions(cbrowse, folder, sizes):
     session.end()
 
 
+def used_most(folder, sizes):
+    """The words that stand most often in the files."""
+    words = collections.Counter()
+    for name in sizes:
+        words.update(re.findall(rb"[A-Za-z_]\w*", (folder / name).read_bytes()))
+    return [word for word, _ in words.most_common(2 * USED_NAMES)]
+
+
+def rows(label, words, folder, names):
+    """The uses of the first of these names that have any."""
+    session = Session(words, folder)
+    session.ask(b"0" + names[0])
+    seen = [it for it in (session.ask_for_rows(b"0" + name) for name in names) if it[0] > 0][:USED_NAMES]
+    session.end()
+    count, first, last = (sum(it[at] for it in seen) for at in range(3))
+    put(f"{len(seen)} names used most, {label}", last * 1000,
+        f"{count:,} rows: {first / count * 1e9:.0f} ns a row until the first bytes, {last / count * 1e9:.0f} in all")
+
+
 def defined(cbrowse, folder, sizes):
     """Names of definitions, evenly drawn, as many as there are questions."""
     with tempfile.TemporaryDirectory() as place:
@@ -283,10 +316,13 @@ def main():
         many_changes(given.cbrowse, folder, sizes)
         loads(given.cbrowse, folder, sizes, scanned)
         first_questions(given.cbrowse, folder, sizes)
-        names = defined(given.cbrowse, folder, sizes)
+        names, used = defined(given.cbrowse, folder, sizes), used_most(folder, sizes)
         put_questions(f"{len(names):,} names, cbrowse", questions([given.cbrowse, "line"] + list(sizes), folder, names))
+        rows("cbrowse", [given.cbrowse, "line"] + list(sizes), folder, used)
         if installed("cscope", "-V", "version"):
-            put_questions(f"{len(names):,} names, cscope", questions(cscope_words(folder, sizes, place), folder, names))
+            words = cscope_words(folder, sizes, place)
+            put_questions(f"{len(names):,} names, cscope", questions(words, folder, names))
+            rows("cscope", words, folder, used)
 
 
 if __name__ == "__main__":
