@@ -1,5 +1,6 @@
 -- Addresses: the search patterns by which a tags file says where a definition stands.
-use Rattle.std.specs.Prelude.{◌≡◌, ◌≢◌, ◌⊎◌, ℕ, Bool, ◌||◌, ◌==◌, List, [], ◌∷◌, ◌++◌, length, codes, Option, find, if◌then◌else◌}
+use Rattle.std.specs.Prelude.{◌≡◌, ◌≢◌, ◌⊎◌, ℕ, Bool, ◌||◌, ◌==◌, List, [], ◌∷◌, ◌++◌, length}
+use Rattle.std.specs.Prelude.{codes, Option, find, if◌then◌else◌}
 use Rattle.std.specs.List.{AllByRecursion, flat_map, range_with_len}
 use Rattle.std.specs.Str.{bytes_eq}
 use Rattle.cb_scan.specs.Bytes.{slash, backslash, line_feed}
@@ -26,17 +27,21 @@ address text = codes "/^" ++ escape text ++ codes "$/"
 -- `\`, and a byte other than `/`, `\` and LF is itself
 pub data Items : List ℕ → List ℕ → Type 0 where
   no_item : Items [] []
-  escaped_item : {a b : ℕ} {items text : List ℕ} → a ≡ backslash → (b ≡ slash) ⊎ (b ≡ backslash) → Items items text → Items (a ∷ b ∷ items) (b ∷ text)
-  own_item : {b : ℕ} {items text : List ℕ} → b ≢ slash → b ≢ backslash → b ≢ line_feed → Items items text → Items (b ∷ items) (b ∷ text)
+  escaped_item : {a b : ℕ} {items text : List ℕ} → a ≡ backslash → (b ≡ slash) ⊎ (b ≡ backslash)
+      → Items items text → Items (a ∷ b ∷ items) (b ∷ text)
+  own_item : {b : ℕ} {items text : List ℕ} → b ≢ slash → b ≢ backslash → b ≢ line_feed
+      → Items items text → Items (b ∷ items) (b ∷ text)
 
 -- the bytes are an address, whole, and this is its text (POSIX ctags): `/^`, items, `$/`
 abbrev pub IsAddress : List ℕ → List ℕ → Type 0
-IsAddress bytes text = (items : List ℕ) × (bytes ≡ codes "/^" ++ items ++ codes "$/") × Items items text
+IsAddress bytes text =
+    (items : List ℕ) × (bytes ≡ codes "/^" ++ items ++ codes "$/") × Items items text
 
 -- the place that an address with this text finds (tags(5)): the first n whose shown line is the
 -- text, counted from 1
 unfoldable pub finds : List ℕ → List ℕ → Option ℕ
-finds source text = find (λ n. bytes_eq text (line_text source n)) (range_with_len 1 (length (lines source)))
+finds source text =
+    find (λ n. bytes_eq text (line_text source n)) (range_with_len 1 (length (lines source)))
 
 -- the text has no line feed
 abbrev pub IsOneLine : List ℕ → Type 0

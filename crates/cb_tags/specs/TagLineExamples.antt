@@ -3,7 +3,8 @@ use Rattle.std.specs.Prelude.{◌≡◌, true, false, codes, refl}
 use Rattle.std.specs.Fmt.{digits}
 use Rattle.bstr.specs.Text.{lines_from, line_len}
 use Rattle.cb_scan.specs.declared.facts.Kind.{Kind}
-use Rattle.cb_scan.specs.declared.facts.Kind.TheVariants.{Function, Macro, Typedef, Struct, Union, Enum}
+use Rattle.cb_scan.specs.declared.facts.Kind.TheVariants.{Function, Macro, Typedef, Struct, Union}
+use Rattle.cb_scan.specs.declared.facts.Kind.TheVariants.{Enum}
 use Rattle.cb_tags.specs.Addresses.{escape, address}
 use Rattle.cb_tags.specs.TagLines.{Tag, plain_line, extended_line, listing_line}
 use Rattle.cb_tags.specs.TagNames.{tag_name}
@@ -20,23 +21,58 @@ lining = tt
 
 -- a static function
 abbrev add : Tag
-add = record { name = codes "add"; file = codes "a.c"; line = 4; text = codes "static int add(int a, int b) {"; kind = Function; local = true }
+add = record {
+  name = codes "add";
+  file = codes "a.c";
+  line = 4;
+  text = codes "static int add(int a, int b) {";
+  kind = Function;
+  local = true;
+}
 
 -- a program's start, in a folder
 abbrev start : Tag
-start = record { name = codes "main"; file = codes "src/x.c"; line = 12; text = codes "int main(void) {"; kind = Function; local = false }
+start = record {
+  name = codes "main";
+  file = codes "src/x.c";
+  line = 12;
+  text = codes "int main(void) {";
+  kind = Function;
+  local = false;
+}
 
 -- a macro whose line has a `/`, a `\` and a `$`
 abbrev half : Tag
-half = record { name = codes "HALF"; file = codes "m.h"; line = 1; text = codes "#define HALF(x) (x/2) \\$"; kind = Macro; local = false }
+half = record {
+  name = codes "HALF";
+  file = codes "m.h";
+  line = 1;
+  text = codes "#define HALF(x) (x/2) \\$";
+  kind = Macro;
+  local = false;
+}
 
 -- a typedef; `local` says nothing of it
 abbrev word : Tag
-word = record { name = codes "word"; file = codes "a.c"; line = 3; text = codes "\ttypedef int word;"; kind = Typedef; local = true }
+word = record {
+  name = codes "word";
+  file = codes "a.c";
+  line = 3;
+  text = codes "\ttypedef int word;";
+  kind = Typedef;
+  local = true;
+}
 
 -- a structure, a union and an enumeration; `local` says nothing of them
 abbrev tagged : Kind → Tag
-tagged kind = record { name = codes "n"; file = codes "a.h"; line = 1; text = codes "n {"; kind = kind; local = true }
+tagged kind = record {
+  name = codes "n";
+  file = codes "a.h";
+  line = 1;
+  text = codes "n {";
+  kind = kind;
+  local = true;
+}
 
 -- only `/` and `\` are escaped
 pub escaped_text : escape half.text ≡ codes "#define HALF(x) (x\\/2) \\\\$"
@@ -56,20 +92,24 @@ pub plain_macro : plain_line half ≡ codes "HALF\tm.h\t/^#define HALF(x) (x\\/2
 unfolding writing
 plain_macro = refl
 
-pub extended_static : extended_line add ≡ codes "add\ta.c\t/^static int add(int a, int b) {$/;\"\tf\tline:4\tfile:\n"
+pub extended_static : extended_line add
+    ≡ codes "add\ta.c\t/^static int add(int a, int b) {$/;\"\tf\tline:4\tfile:\n"
 unfolding writing
 extended_static = refl
 
 -- an extended file has `main` under its own name
-pub extended_main : extended_line start ≡ codes "main\tsrc/x.c\t/^int main(void) {$/;\"\tf\tline:12\n"
+pub extended_main : extended_line start
+    ≡ codes "main\tsrc/x.c\t/^int main(void) {$/;\"\tf\tline:12\n"
 unfolding writing
 extended_main = refl
 
-pub extended_macro : extended_line half ≡ codes "HALF\tm.h\t/^#define HALF(x) (x\\/2) \\\\$$/;\"\td\tline:1\n"
+pub extended_macro : extended_line half
+    ≡ codes "HALF\tm.h\t/^#define HALF(x) (x\\/2) \\\\$$/;\"\td\tline:1\n"
 unfolding writing
 extended_macro = refl
 
-pub extended_typedef : extended_line word ≡ codes "word\ta.c\t/^\ttypedef int word;$/;\"\tt\tline:3\n"
+pub extended_typedef : extended_line word
+    ≡ codes "word\ta.c\t/^\ttypedef int word;$/;\"\tt\tline:3\n"
 unfolding writing
 extended_typedef = refl
 

@@ -1,7 +1,9 @@
 -- The lines of a tags file and of a listing.
-use Rattle.std.specs.Prelude.{ℕ, Bool, true, false, ◌&&◌, List, [], ◌++◌, codes, decimal, if◌then◌else◌}
+use Rattle.std.specs.Prelude.{ℕ, Bool, true, false, ◌&&◌, List, [], ◌++◌, codes, decimal}
+use Rattle.std.specs.Prelude.{if◌then◌else◌}
 use Rattle.cb_scan.specs.declared.facts.Kind.{Kind}
-use Rattle.cb_scan.specs.declared.facts.Kind.TheVariants.{Function, Macro, Typedef, Struct, Union, Enum}
+use Rattle.cb_scan.specs.declared.facts.Kind.TheVariants.{Function, Macro, Typedef, Struct, Union}
+use Rattle.cb_scan.specs.declared.facts.Kind.TheVariants.{Enum}
 use Rattle.cb_tags.specs.declared.row.TagRow.{TagRow}
 use Rattle.cb_tags.specs.Addresses.{address}
 use Rattle.cb_tags.specs.TagNames.{tag_name}
@@ -18,11 +20,19 @@ pub record Tag : Type 0 where
 
 -- what a row says
 abbrev pub tag_of : TagRow → Tag
-tag_of r = record { name = r.name.now; file = r.file.now; line = r.line; text = r.text.now; kind = r.kind; local = r.local }
+tag_of r = record {
+  name = r.name.now;
+  file = r.file.now;
+  line = r.line;
+  text = r.text.now;
+  kind = r.kind;
+  local = r.local;
+}
 
 -- the plain line (POSIX ctags): tag name, file and address, parted by tabs
 abbrev pub plain_line : Tag → List ℕ
-plain_line t = tag_name t.name t.file ++ codes "\t" ++ t.file ++ codes "\t" ++ address t.text ++ codes "\n"
+plain_line t =
+    tag_name t.name t.file ++ codes "\t" ++ t.file ++ codes "\t" ++ address t.text ++ codes "\n"
 
 -- the letter of a kind (tags(5); this project's profile has six)
 abbrev pub kind_letter : Kind → List ℕ
@@ -51,16 +61,20 @@ file_field t = if is_function t.kind && t.local then codes "\tfile:" else []
 abbrev pub extended_line : Tag → List ℕ
 extended_line t =
     t.name ++ codes "\t" ++ t.file ++ codes "\t" ++ address t.text
-    ++ codes ";\"\t" ++ kind_letter t.kind ++ codes "\tline:" ++ decimal t.line ++ file_field t ++ codes "\n"
+    ++ codes ";\"\t" ++ kind_letter t.kind ++ codes "\tline:" ++ decimal t.line ++ file_field t
+    ++ codes "\n"
 
 -- the line of a listing (POSIX ctags -x): name, line, file and the whole shown line, parted by
 -- single spaces
 abbrev pub listing_line : Tag → List ℕ
-listing_line t = t.name ++ codes " " ++ decimal t.line ++ codes " " ++ t.file ++ codes " " ++ t.text ++ codes "\n"
+listing_line t =
+    t.name ++ codes " " ++ decimal t.line ++ codes " " ++ t.file ++ codes " " ++ t.text
+    ++ codes "\n"
 
 -- the pseudo-tag of the format (tags(5)): the extended one
 abbrev pub format_line : List ℕ
-format_line = codes "!_TAG_FILE_FORMAT\t2\t/extended format; --format=1 will not append ;\" to lines/\n"
+format_line =
+    codes "!_TAG_FILE_FORMAT\t2\t/extended format; --format=1 will not append ;\" to lines/\n"
 
 -- the pseudo-tag of the order (tags(5)): by bytes
 abbrev pub sorted_line : List ℕ

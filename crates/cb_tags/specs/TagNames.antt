@@ -15,4 +15,5 @@ without_c name = if ends_with nat_eq name (codes ".c") then take (length name - 
 -- the tag name of a definition in a file (POSIX ctags): its own name; for `main` it is `M` and the
 -- file's name without all up to its last `/` and without one `.c`
 unfoldable pub tag_name : List ℕ → List ℕ → List ℕ
-tag_name name file = if bytes_eq name (codes "main") then codes "M" ++ without_c (base_name file) else name
+tag_name name file =
+    if bytes_eq name (codes "main") then codes "M" ++ without_c (base_name file) else name

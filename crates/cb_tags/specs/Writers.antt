@@ -1,5 +1,6 @@
 -- What is known of a writer, and what a call does to it.
-use Rattle.std.specs.Prelude.{◌≡◌, ℕ, ◌≤◌, Bool, true, false, List, length, take, Option, Result, Ok, Err}
+use Rattle.std.specs.Prelude.{◌≡◌, ℕ, ◌≤◌, Bool, true, false, List, length, take, Option, Result}
+use Rattle.std.specs.Prelude.{Ok, Err}
 use Rattle.std.specs.Io.KnownBytes.{Appends, Keeps}
 use Rattle.cb_tags.specs.declared.sink.WriteFault.{WriteFault}
 
@@ -11,7 +12,8 @@ pub record Writer : Type 0 where
 -- so many of the bytes were taken, at least one; or the writer failed, and took none
 abbrev pub TakesBytes : Writer → Writer → Result ℕ WriteFault → List ℕ → Type 0
 TakesBytes old new (Ok n) text =
-    (old.failed ≡ false) × (new.failed ≡ false) × (1 ≤ n) × (n ≤ length text) × Appends old.bytes new.bytes (take n text)
+    (old.failed ≡ false) × (new.failed ≡ false) × (1 ≤ n) × (n ≤ length text)
+    × Appends old.bytes new.bytes (take n text)
 TakesBytes old new (Err e) text = (new.failed ≡ true) × Keeps old.bytes new.bytes
 
 -- a flush takes no bytes, and may fail

@@ -5,15 +5,19 @@ use Rattle.cb_tags.specs.Writers.{Writer}
 
 -- known bytes grow by a prefix of the text
 abbrev pub AppendsPrefix : Option (List ℕ) → Option (List ℕ) → List ℕ → Type 0
-AppendsPrefix old new text = (prefix rest : List ℕ) × (text ≡ prefix ++ rest) × Appends old new prefix
+AppendsPrefix old new text =
+    (prefix rest : List ℕ) × (text ≡ prefix ++ rest) × Appends old new prefix
 
 -- the whole text was written; a writer that had failed takes no text but the empty one
 abbrev pub PutsAll : Writer → Writer → List ℕ → Type 0
-PutsAll old new text = (new.failed ≡ old.failed) × (text ≢ [] → old.failed ≡ false) × Appends old.bytes new.bytes text
+PutsAll old new text =
+    (new.failed ≡ old.failed) × (text ≢ [] → old.failed ≡ false) × Appends old.bytes new.bytes text
 
 -- the writer has failed, and a prefix of the text was written; nothing where it had failed before
 abbrev pub PutsPrefix : Writer → Writer → List ℕ → Type 0
-PutsPrefix old new text = (new.failed ≡ true) × (old.failed ≡ true → Keeps old.bytes new.bytes) × AppendsPrefix old.bytes new.bytes text
+PutsPrefix old new text =
+    (new.failed ≡ true) × (old.failed ≡ true → Keeps old.bytes new.bytes)
+    × AppendsPrefix old.bytes new.bytes text
 
 -- success says that the whole text was written, and an error that the writer has failed
 abbrev pub Puts : {A E : Type 0} → Writer → Writer → Result A E → List ℕ → Type 0

@@ -1,5 +1,17 @@
 //! Addresses: how they are written and read, and the lines that they find.
-ghost use Rattle.std.specs.Prelude.{◌≡◌, ◌≢◌, ◌≤◌, ◌<◌, ◌++◌, ℕ, false, List, length, codes, MatchOption};
+ghost use Rattle.std.specs.Prelude.{
+  ◌≡◌,
+  ◌≢◌,
+  ◌≤◌,
+  ◌<◌,
+  ◌++◌,
+  ℕ,
+  false,
+  List,
+  length,
+  codes,
+  MatchOption,
+};
 ghost use Rattle.std.specs.Str.{bytes_eq};
 ghost use Rattle.cb_scan.specs.Lines.{lines, line_text};
 ghost use Rattle.cb_tags.specs.Addresses.{is_escaped, escape, address, IsAddress, finds};
@@ -101,7 +113,8 @@ fn stand_for(items: &[u8], text: &[u8]) -> bool
 
 /// What is between `/^` and `$/`; `None` where the bytes don't begin and end so.
 fn between_anchors(bytes: &[u8]) -> Option<&[u8]>
-    ensures { MatchOption result ((items : List ℕ) → bytes.now ≢ codes "/^" ++ items ++ codes "$/") (λ items. bytes.now ≡ codes "/^" ++ items.now ++ codes "$/") }
+    ensures { MatchOption result ((items : List ℕ) → bytes.now ≢ codes "/^" ++ items ++ codes "$/")
+        (λ items. bytes.now ≡ codes "/^" ++ items.now ++ codes "$/") }
 {
     bytes.strip_prefix(b"/^")?.strip_suffix(b"$/")
 }
@@ -110,7 +123,8 @@ fn between_anchors(bytes: &[u8]) -> Option<&[u8]>
 /// line feed, then `$/`. Its text is the items without the `\` that escapes. `None` for any other
 /// bytes.
 pub fn read_address(bytes: &[u8]) -> Option<Address<'_>>
-    ensures { MatchOption result ((text : List ℕ) → IsAddress bytes.now text → ⊥) (λ text. IsAddress bytes.now text) }
+    ensures { MatchOption result ((text : List ℕ) → IsAddress bytes.now text → ⊥)
+        (λ text. IsAddress bytes.now text) }
 {
     match between_anchors(bytes) {
         Some(items) if are_items(items) => Some(Address { items }),

@@ -9,13 +9,16 @@ ghost use Rattle.cb_tags.specs.Addresses.{address, IsAddress, IsOneLine, finds};
 pub fn addresses_are_read_back()
     ensures read_back { (text : List ℕ) → IsOneLine text → IsAddress (address text) text }
     ensures one_text { (bytes s t : List ℕ) → IsAddress bytes s → IsAddress bytes t → s ≡ t }
-    ensures written { (bytes text : List ℕ) → IsAddress bytes text → (bytes ≡ address text) × IsOneLine text }
+    ensures written { (bytes text : List ℕ) → IsAddress bytes text
+        → (bytes ≡ address text) × IsOneLine text }
 {}
 
 /// The address of line `n` of a source is read back, and it finds a line at most `n` with the same
 /// shown text.
 pub fn addresses_find_their_lines()
-    ensures read_back { (source : List ℕ) (n : ℕ) → IsAddress (address (line_text source n)) (line_text source n) }
+    ensures read_back { (source : List ℕ) (n : ℕ)
+        → IsAddress (address (line_text source n)) (line_text source n) }
     ensures found { (source : List ℕ) (n : ℕ) → 1 ≤ n → n ≤ length (lines source)
-        → (m : ℕ) × (finds source (line_text source n) ≡ Some m) × (1 ≤ m) × (m ≤ n) × (line_text source m ≡ line_text source n) }
+        → (m : ℕ) × (finds source (line_text source n) ≡ Some m) × (1 ≤ m) × (m ≤ n)
+        × (line_text source m ≡ line_text source n) }
 {}

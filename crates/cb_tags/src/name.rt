@@ -26,7 +26,8 @@ fn is_printable(name: &[u8]) -> bool
 
 /// Whether the name says that the file is C.
 fn names_c(name: &[u8]) -> bool
-    ensures { result ≡ (ends_with nat_eq name.now (codes ".c") || ends_with nat_eq name.now (codes ".h")) }
+    ensures { result
+        ≡ (ends_with nat_eq name.now (codes ".c") || ends_with nat_eq name.now (codes ".h")) }
 {
     name.ends_with(b".c") || name.ends_with(b".h")
 }

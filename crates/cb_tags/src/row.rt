@@ -40,7 +40,8 @@ fn put_around<W: Write>(
     text: &[u8],
     after: &[&[u8]],
 ) -> Result<(), WriteFault>
-    ensures { Puts out.old out.new result (flat_map (λ part. part.now) before.now ++ (address text.now ++ flat_map (λ part. part.now) after.now)) }
+    ensures { Puts out.old out.new result (flat_map (λ part. part.now) before.now
+        ++ (address text.now ++ flat_map (λ part. part.now) after.now)) }
 {
     put_texts(out, before)?;
     put_address(out, text)?;

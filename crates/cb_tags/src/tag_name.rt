@@ -55,7 +55,8 @@ pub(crate) fn tag_name<'a>(name: &'a [u8], file: &'a [u8]) -> NameParts<'a>
 
 /// The order of two names by their bytes.
 fn compare(a: &NameParts<'_>, b: &NameParts<'_>) -> Ordering
-    ensures { result ≡ slice_cmp nat_cmp (a.now.first.now ++ a.now.rest.now) (b.now.first.now ++ b.now.rest.now) }
+    ensures { result ≡ slice_cmp nat_cmp (a.now.first.now ++ a.now.rest.now)
+        (b.now.first.now ++ b.now.rest.now) }
 {
     let a_bytes = a.first.iter().chain(a.rest.iter());
     let b_bytes = b.first.iter().chain(b.rest.iter());
@@ -66,7 +67,8 @@ fn compare(a: &NameParts<'_>, b: &NameParts<'_>) -> Ordering
 /// file's name.
 #[tactic(auto, unfolding(crate::specs::TagNames::tag_name))]
 pub fn compare_tag_names(a_name: &[u8], a_file: &[u8], b_name: &[u8], b_file: &[u8]) -> Ordering
-    ensures { result ≡ slice_cmp nat_cmp (tag_name a_name.now a_file.now) (tag_name b_name.now b_file.now) }
+    ensures { result
+        ≡ slice_cmp nat_cmp (tag_name a_name.now a_file.now) (tag_name b_name.now b_file.now) }
 {
     if a_name != b"main".as_slice() && b_name != b"main".as_slice() {
         a_name.cmp(b_name)

@@ -7,7 +7,9 @@ use Rattle.cb_tags.specs.Addresses.{is_escaped}
 unfoldable pub are_items : (escaping : Bool) → List ℕ → Bool
 are_items escaping [] = not escaping
 are_items true (b ∷ bs) = is_escaped b && are_items false bs
-are_items false (b ∷ bs) = if b == backslash then are_items true bs else (not (b == slash) && not (b == line_feed) && are_items false bs)
+are_items false (b ∷ bs) =
+    if b == backslash then are_items true bs
+    else (not (b == slash) && not (b == line_feed) && are_items false bs)
 
 -- what the bytes stand for
 unfoldable pub unescaped : (escaping : Bool) → List ℕ → List ℕ
