@@ -1,5 +1,6 @@
 -- The files that are shown.
-use Rattle.std.specs.Prelude.{ℕ, suc, Bool, false, ◌≡◌, ◌<◌, ◌+◌, List, [], ◌∷◌, ◌++◌, Option, Some, None, length, map, nat_eq, slice_get, slice_index_or, if◌then◌else◌}
+use Rattle.std.specs.Prelude.{ℕ, suc, Bool, false, ◌≡◌, ◌<◌, ◌+◌, List, [], ◌∷◌, ◌++◌, Option, Some}
+use Rattle.std.specs.Prelude.{None, length, map, nat_eq, slice_get, slice_index_or, if◌then◌else◌}
 use Rattle.std.specs.Cmp.Lexicographic.{slice_cmp}
 use Rattle.std.specs.List.{list_any}
 use Rattle.std.specs.Ordering.{nat_cmp}
@@ -32,7 +33,8 @@ IsThere a s = (s.name < length a.names) × (s.version < length a.texts)
 -- the file names ascend strictly in the order of their bytes
 abbrev pub AreAscending : Archived → List Shown → Type 0
 AreAscending a shown =
-    AreOrdered (λ (s t : Shown). slice_cmp nat_cmp (name_of a s.name) (name_of a t.name) ≡ Less) shown
+    AreOrdered
+    (λ (s t : Shown). slice_cmp nat_cmp (name_of a s.name) (name_of a t.name) ≡ Less) shown
 
 -- no two of these have one file name
 abbrev pub AreApart : Archived → List Shown → Type 0

@@ -7,9 +7,11 @@ use Rattle.cb_scan.specs.Order.{in_order}
 use Rattle.cb_scan.specs.TextFacts.{TextFacts}
 use Rattle.cb_index.specs.Archived.{Archived, name_of}
 use Rattle.cb_index.specs.Entries.{Keyer, sort_key}
-use Rattle.cb_index.specs.Files.{AreApart, AreAscending, File, IsThere, call_count, def_count, files_of, is_shown, shown_name, total, use_count}
+use Rattle.cb_index.specs.Files.{AreApart, AreAscending, File, IsThere, call_count, def_count}
+use Rattle.cb_index.specs.Files.{files_of, is_shown, shown_name, total, use_count}
 use Rattle.cb_index.specs.Held.{Indexed, Prefixer, all_entries}
-use Rattle.cb_index.specs.Orders.{callee_key, callee_prefixes, caller_key, caller_prefixes, def_key, def_prefixes, tag_key, tag_prefixes, use_key, use_prefixes}
+use Rattle.cb_index.specs.Orders.{callee_key, callee_prefixes, caller_key, caller_prefixes, def_key}
+use Rattle.cb_index.specs.Orders.{def_prefixes, tag_key, tag_prefixes, use_key, use_prefixes}
 use Rattle.cb_index.specs.declared.asked.Asked.{Asked}
 use Rattle.cb_index.specs.declared.asked.Asked.TheVariants.{Defs, Tags, Uses, Callees, Callers}
 use Rattle.cb_index.specs.declared.entry.Entry.{Entry}

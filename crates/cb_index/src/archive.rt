@@ -1,5 +1,23 @@
 //! The names and versions that indexes speak of.
-ghost use Rattle.std.specs.Prelude.{◌≡◌, ◌<◌, ◌≤◌, ◌+◌, ◌^◌, ◌++◌, ◌∷◌, [], length, map, take, IfErr, IfOk, OnOk, OnErr, slice_get, slice_index_or};
+ghost use Rattle.std.specs.Prelude.{
+  ◌≡◌,
+  ◌<◌,
+  ◌≤◌,
+  ◌+◌,
+  ◌^◌,
+  ◌++◌,
+  ◌∷◌,
+  [],
+  length,
+  map,
+  take,
+  IfErr,
+  IfOk,
+  OnOk,
+  OnErr,
+  slice_get,
+  slice_index_or,
+};
 ghost use Rattle.std.specs.Option.{option_copied};
 ghost use Rattle.cb_scan.specs.Definitions.{facts_of};
 ghost use Rattle.cb_scan.specs.FactKeys.{keys_of};

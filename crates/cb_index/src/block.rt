@@ -1,5 +1,19 @@
 //! A part of the entries of an index.
-ghost use Rattle.std.specs.Prelude.{◌≡◌, ◌<◌, ◌≤◌, ◌++◌, ◌∷◌, [], suc, true, false, length, take, drop, IfOk};
+ghost use Rattle.std.specs.Prelude.{
+  ◌≡◌,
+  ◌<◌,
+  ◌≤◌,
+  ◌++◌,
+  ◌∷◌,
+  [],
+  suc,
+  true,
+  false,
+  length,
+  take,
+  drop,
+  IfOk,
+};
 
 use crate::entry::Entry;
 use crate::memory::OutOfMemory;

@@ -1,5 +1,23 @@
 //! Entries kept in blocks.
-ghost use Rattle.std.specs.Prelude.{◌≡◌, ◌<◌, ◌≤◌, ◌+◌, ◌*◌, ◌++◌, ◌∷◌, [], suc, true, false, length, take, drop, slice_index_or, vec_capacity, OnOk};
+ghost use Rattle.std.specs.Prelude.{
+  ◌≡◌,
+  ◌<◌,
+  ◌≤◌,
+  ◌+◌,
+  ◌*◌,
+  ◌++◌,
+  ◌∷◌,
+  [],
+  suc,
+  true,
+  false,
+  length,
+  take,
+  drop,
+  slice_index_or,
+  vec_capacity,
+  OnOk,
+};
 ghost use Rattle.std.specs.List.{AllByRecursion, insert};
 ghost use Rattle.cb_index.specs.Blocks.{IsFilled, IsPlace, before, joined};
 

@@ -2,7 +2,14 @@
 ghost use Rattle.std.specs.Prelude.{◌≡◌, ◌++◌, ◌∷◌, [], MatchOption};
 ghost use Rattle.std.specs.Iterator.{YieldsFirstBy, item_count};
 ghost use Rattle.cb_index.specs.steps.Found.{facts_at, facts_in, keys_for, posting_items};
-ghost use Rattle.cb_index.specs.steps.Left.{fact_of, fact_of_spot, facts_left, posting_left, posting_left_if, spots_left};
+ghost use Rattle.cb_index.specs.steps.Left.{
+  fact_of,
+  fact_of_spot,
+  facts_left,
+  posting_left,
+  posting_left_if,
+  spots_left,
+};
 ghost use Rattle.cb_index.specs.steps.Runs.{run_entries};
 
 use crate::archive::{Archive, Version};

@@ -1,5 +1,17 @@
 //! An index, whose newest versions wait until something is asked of it.
-ghost use Rattle.std.specs.Prelude.{◌≡◌, ◌+◌, ◌≤◌, ◌++◌, [], List, length, filter, nat_eq, not, OnOk};
+ghost use Rattle.std.specs.Prelude.{
+  ◌≡◌,
+  ◌+◌,
+  ◌≤◌,
+  ◌++◌,
+  [],
+  List,
+  length,
+  filter,
+  nat_eq,
+  not,
+  OnOk,
+};
 ghost use Rattle.std.specs.List.Sorted.{IsStrictlyIncreasing};
 ghost use Rattle.cb_scan.specs.Order.{in_order};
 ghost use Rattle.cb_index.specs.Entries.{has_key, sort_key};
@@ -112,8 +124,8 @@ impl<O: EntryOrder> Index<O> {
         }
     }
 
-    /// Takes a version away, which waits or whose entries are held. It takes no memory, and the room
-    /// stays.
+    /// Takes a version away, which waits or whose entries are held. It takes no memory, and the
+    /// room stays.
     pub(crate) fn take(&mut self, archive: &Archive, one: Shown)
         requires { (shown : List Shown)
             × Covers O.keyer O.prefixer archive.now shown self.old
@@ -155,8 +167,8 @@ impl<O: EntryOrder> Index<O> {
         self.sorted.take_names(files);
     }
 
-    /// Puts what waits in order among the entries that are held, in the room that is there. It takes
-    /// no memory.
+    /// Puts what waits in order among the entries that are held, in the room that is there. It
+    /// takes no memory.
     pub(crate) fn settle(&mut self, archive: &Archive)
         requires order { self.old.held ≡ in_order (sort_key O.keyer archive.now) self.old.held }
         requires room { length self.old.held

@@ -8,8 +8,26 @@ ghost use Rattle.cb_scan.specs.Keys.{key_prefix};
 ghost use Rattle.cb_index.specs.Archived.{Archived};
 ghost use Rattle.cb_index.specs.Entries.{sort_key};
 ghost use Rattle.cb_index.specs.Files.{call_count, def_count, use_count};
-ghost use Rattle.cb_index.specs.Orders.{callee_key, callee_prefixes, caller_key, caller_prefixes, def_key, def_prefixes, tag_key, tag_key_prefix, tag_prefixes, use_key, use_prefixes};
-ghost use Rattle.cb_index.specs.RowOrders.{callee_item_key, caller_item_key, row_cmp, row_key, use_item_key};
+ghost use Rattle.cb_index.specs.Orders.{
+  callee_key,
+  callee_prefixes,
+  caller_key,
+  caller_prefixes,
+  def_key,
+  def_prefixes,
+  tag_key,
+  tag_key_prefix,
+  tag_prefixes,
+  use_key,
+  use_prefixes,
+};
+ghost use Rattle.cb_index.specs.RowOrders.{
+  callee_item_key,
+  caller_item_key,
+  row_cmp,
+  row_key,
+  use_item_key,
+};
 ghost use Rattle.cb_index.specs.Spreads.{SpreadsInto};
 ghost use Rattle.cb_index.specs.declared.entry.Entry.{Entry};
 ghost use Rattle.cb_index.specs.declared.row.Row.{Row};

@@ -1,5 +1,24 @@
 //! The list of the versions that are shown, by file name.
-ghost use Rattle.std.specs.Prelude.{◌≡◌, ◌+◌, ◌≤◌, ◌<◌, ◌++◌, ◌∷◌, ◌&&◌, [], true, false, filter, length, take, drop, nat_eq, nat_lt, not, vec_capacity};
+ghost use Rattle.std.specs.Prelude.{
+  ◌≡◌,
+  ◌+◌,
+  ◌≤◌,
+  ◌<◌,
+  ◌++◌,
+  ◌∷◌,
+  ◌&&◌,
+  [],
+  true,
+  false,
+  filter,
+  length,
+  take,
+  drop,
+  nat_eq,
+  nat_lt,
+  not,
+  vec_capacity,
+};
 ghost use Rattle.std.specs.Cmp.Lexicographic.{slice_cmp};
 ghost use Rattle.std.specs.List.{AllByRecursion, list_all, list_any, prefix_len};
 ghost use Rattle.std.specs.List.Sorted.{IsPartitionPoint};
@@ -7,7 +26,15 @@ ghost use Rattle.std.specs.Ordering.{is_gt, is_lt, nat_cmp};
 ghost use Rattle.std.specs.Str.{bytes_eq};
 ghost use Rattle.cb_scan.specs.Order.{in_order, put};
 ghost use Rattle.cb_index.specs.Archived.{name_of};
-ghost use Rattle.cb_index.specs.Files.{AreApart, AreAscending, IsThere, is_shown, shown_key, shown_name, shown_under};
+ghost use Rattle.cb_index.specs.Files.{
+  AreApart,
+  AreAscending,
+  IsThere,
+  is_shown,
+  shown_key,
+  shown_name,
+  shown_under,
+};
 ghost use Rattle.cb_index.specs.Names.{AreSingle};
 ghost use Rattle.cb_index.specs.declared.entry.Shown.{Shown};
 
@@ -87,8 +114,8 @@ fn sort_shown(archive: &Archive, shown: &mut [Shown])
     );
 }
 
-/// Puts versions among others, by file name, in the room that is there: none, one at its place, more
-/// by one sort. No two of them have one file name. It takes no memory.
+/// Puts versions among others, by file name, in the room that is there: none, one at its place,
+/// more by one sort. No two of them have one file name. It takes no memory.
 pub fn put_all_shown(archive: &Archive, news: &[Shown], shown: &mut Vec<Shown>)
     requires ascending { AreAscending archive.now shown.old.items }
     requires apart { AreApart archive.now (shown.old.items ++ news.now) }

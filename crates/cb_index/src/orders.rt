@@ -1,9 +1,35 @@
 //! The five orders.
-ghost use Rattle.std.specs.Prelude.{◌≡◌, ◌+◌, ◌≤◌, ◌<◌, ◌^◌, ◌++◌, [], length, map, slice_get, vec_len, vec_capacity};
+ghost use Rattle.std.specs.Prelude.{
+  ◌≡◌,
+  ◌+◌,
+  ◌≤◌,
+  ◌<◌,
+  ◌^◌,
+  ◌++◌,
+  [],
+  length,
+  map,
+  slice_get,
+  vec_len,
+  vec_capacity,
+};
 ghost use Rattle.cb_scan.specs.Definitions.{facts_of};
 ghost use Rattle.cb_index.specs.Entries.{entries_from, key_of};
 ghost use Rattle.cb_tags.specs.TagNames.{tag_name};
-ghost use Rattle.cb_index.specs.Orders.{callee_key, callee_span, caller_key, caller_span, def_key, def_prefix, def_span, first_item, tag_front, tag_prefix, use_key, use_span};
+ghost use Rattle.cb_index.specs.Orders.{
+  callee_key,
+  callee_span,
+  caller_key,
+  caller_span,
+  def_key,
+  def_prefix,
+  def_span,
+  first_item,
+  tag_front,
+  tag_prefix,
+  use_key,
+  use_span,
+};
 
 use crate::archive::{Archive, Version};
 use crate::bytes::{bytes_at, cut, number_at};

@@ -4,7 +4,18 @@ ghost use Rattle.cb_scan.specs.Definitions.{facts_of};
 ghost use Rattle.cb_scan.specs.Order.{kind_rank};
 ghost use Rattle.cb_index.specs.Files.{call_count, def_count, use_count};
 ghost use Rattle.cb_index.specs.Orders.{def_key};
-ghost use Rattle.cb_index.specs.RowOrders.{call_start, callee_item_key, caller_item_key, def_rank, def_start, no_rank, row_key, start_of, use_item_key, use_start};
+ghost use Rattle.cb_index.specs.RowOrders.{
+  call_start,
+  callee_item_key,
+  caller_item_key,
+  def_rank,
+  def_start,
+  no_rank,
+  row_key,
+  start_of,
+  use_item_key,
+  use_start,
+};
 
 use crate::archive::{Archive, Version};
 use crate::bytes::bytes_at;

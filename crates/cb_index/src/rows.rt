@@ -3,7 +3,15 @@ ghost use Rattle.std.specs.Prelude.{◌≡◌};
 ghost use Rattle.std.specs.Option.{option_copied};
 ghost use Rattle.cb_scan.specs.Lines.{line_text};
 ghost use Rattle.cb_tags.specs.TagLines.{tag_of};
-ghost use Rattle.cb_index.specs.steps.Found.{fact_at, fact_of_call, fact_of_use, no_fact, no_tag, tag_at, tag_of_def};
+ghost use Rattle.cb_index.specs.steps.Found.{
+  fact_at,
+  fact_of_call,
+  fact_of_use,
+  no_fact,
+  no_tag,
+  tag_at,
+  tag_of_def,
+};
 ghost use Rattle.cb_index.specs.steps.Left.{fact_of, fact_of_spot};
 
 use crate::archive::{Archive, Version};

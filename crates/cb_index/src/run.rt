@@ -1,5 +1,17 @@
 //! Entries that follow one another in blocks.
-ghost use Rattle.std.specs.Prelude.{◌≡◌, ◌<◌, ◌≤◌, ◌^◌, ◌++◌, ◌∷◌, [], length, take, drop, MatchOption};
+ghost use Rattle.std.specs.Prelude.{
+  ◌≡◌,
+  ◌<◌,
+  ◌≤◌,
+  ◌^◌,
+  ◌++◌,
+  ◌∷◌,
+  [],
+  length,
+  take,
+  drop,
+  MatchOption,
+};
 ghost use Rattle.cb_index.specs.Blocks.{IsPlace, before, joined};
 
 use crate::block::Block;

@@ -1,5 +1,28 @@
 //! Versions that are shown under file names, and what is found in them.
-ghost use Rattle.std.specs.Prelude.{◌≡◌, ◌+◌, ◌-◌, ◌*◌, ◌^◌, ◌≤◌, ◌<◌, ◌++◌, ◌∷◌, [], true, false, min, not, nat_eq, length, map, filter, take, drop, vec_capacity, OnOk};
+ghost use Rattle.std.specs.Prelude.{
+  ◌≡◌,
+  ◌+◌,
+  ◌-◌,
+  ◌*◌,
+  ◌^◌,
+  ◌≤◌,
+  ◌<◌,
+  ◌++◌,
+  ◌∷◌,
+  [],
+  true,
+  false,
+  min,
+  not,
+  nat_eq,
+  length,
+  map,
+  filter,
+  take,
+  drop,
+  vec_capacity,
+  OnOk,
+};
 ghost use Rattle.std.specs.List.{AllByRecursion, list_any};
 ghost use Rattle.std.specs.List.Sorted.{IsStrictlyIncreasing};
 ghost use Rattle.std.specs.Cmp.Lexicographic.{slice_cmp};
@@ -9,8 +32,24 @@ ghost use Rattle.cb_scan.specs.Order.{goes_first, in_order, put};
 ghost use Rattle.cb_index.specs.Archived.{name_of};
 ghost use Rattle.cb_index.specs.Files.{AreAscending, IsThere, shown_name};
 ghost use Rattle.cb_index.specs.Names.{is_among, names_of};
-ghost use Rattle.cb_index.specs.Rows.{calls_in, calls_of, tags_by_name, tags_by_tag_name, tags_named, uses_of};
-ghost use Rattle.cb_index.specs.Shelved.{AreTotals, CanShow, CanShowAll, KeepsRoom, files, nothing, settled, with_facts};
+ghost use Rattle.cb_index.specs.Rows.{
+  calls_in,
+  calls_of,
+  tags_by_name,
+  tags_by_tag_name,
+  tags_named,
+  uses_of,
+};
+ghost use Rattle.cb_index.specs.Shelved.{
+  AreTotals,
+  CanShow,
+  CanShowAll,
+  KeepsRoom,
+  files,
+  nothing,
+  settled,
+  with_facts,
+};
 ghost use Rattle.cb_index.specs.declared.entry.Shown.{Shown};
 ghost use Rattle.cb_index.specs.steps.Left.{entries_left, facts_left, tags_left};
 
@@ -79,7 +118,8 @@ impl Model for Shelf {
       call_room = min s.callees.room s.callers.room;
     } };
 
-    ghost invariant = { λ s. AreKept s.archive s.shown.items s.defs s.tags s.uses s.callees s.callers
+    ghost invariant = { λ s. AreKept s.archive s.shown.items s.defs s.tags s.uses s.callees
+        s.callers
         × AreTotals s.archive s.shown.items s.totals
         × AreWithin s.totals s.defs s.tags s.uses s.callees s.callers };
 }

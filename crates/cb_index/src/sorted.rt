@@ -1,5 +1,21 @@
 //! Entries kept in one of the orders.
-ghost use Rattle.std.specs.Prelude.{◌≡◌, ◌+◌, ◌*◌, ◌≤◌, ◌++◌, ◌∷◌, List, [], true, false, length, filter, not, vec_capacity, OnOk};
+ghost use Rattle.std.specs.Prelude.{
+  ◌≡◌,
+  ◌+◌,
+  ◌*◌,
+  ◌≤◌,
+  ◌++◌,
+  ◌∷◌,
+  List,
+  [],
+  true,
+  false,
+  length,
+  filter,
+  not,
+  vec_capacity,
+  OnOk,
+};
 ghost use Rattle.std.specs.Cmp.Lexicographic.{slice_cmp};
 ghost use Rattle.std.specs.Ordering.{nat_cmp};
 ghost use Rattle.std.specs.List.Sorted.{IsStrictlyIncreasing};

@@ -89,7 +89,8 @@ impl Totals {
         requires calls { call_count (slice_get archive.now.texts version) ≤ self.calls }
         ensures defs { result.defs + def_count (slice_get archive.now.texts version) ≡ self.defs }
         ensures uses { result.uses + use_count (slice_get archive.now.texts version) ≡ self.uses }
-        ensures calls { result.calls + call_count (slice_get archive.now.texts version) ≡ self.calls }
+        ensures calls { result.calls + call_count (slice_get archive.now.texts version)
+            ≡ self.calls }
     {
         Totals {
             defs: self.defs - count_of(Counted::Defs, archive, version) as u64,

@@ -1,5 +1,6 @@
 -- The rows of entries, as they are looked up.
-use Rattle.std.specs.Prelude.{ℕ, suc, min, false, List, [], Option, Some, None, length, map, slice_get, slice_index_or, slice_range}
+use Rattle.std.specs.Prelude.{ℕ, suc, min, false, List, [], Option, Some, None, length, map}
+use Rattle.std.specs.Prelude.{slice_get, slice_index_or, slice_range}
 use Rattle.std.specs.List.{flat_map}
 use Rattle.std.specs.Option.{option_map}
 use Rattle.cb_scan.specs.declared.facts.Call.{Call}

@@ -12,5 +12,6 @@ quick_key e = e.prefix ∷ e.name ∷ e.number ∷ []
 
 -- the prefixes ahead of a place are below all those behind it
 abbrev pub IsBoundary : List Entry → ℕ → Type 0
-IsBoundary es n = (n ≤ length es) × ((p : ℕ) × AllByRecursion (λ (e : Entry). e.prefix < p) (take n es)
+IsBoundary es n =
+    (n ≤ length es) × ((p : ℕ) × AllByRecursion (λ (e : Entry). e.prefix < p) (take n es)
     × AllByRecursion (λ (e : Entry). p ≤ e.prefix) (drop n es))

@@ -1,6 +1,7 @@
-//! Tests in which memory may be refused, each growth in turn, one a run: `scripts/each-growth-refused.py`
-//! does that. For each call that takes memory, `refused_growth_of_CALL` passes in each run, and
-//! `no_refusal_of_CALL` only in a run that refuses nothing. `no_growth_of_CALL` may meet no growth.
+//! Tests in which memory may be refused, each growth in turn, one a run:
+//! `scripts/each-growth-refused.py` does that. For each call that takes memory,
+//! `refused_growth_of_CALL` passes in each run, and `no_refusal_of_CALL` only in a run that refuses
+//! nothing. `no_growth_of_CALL` may meet no growth.
 use super::many::{all_agree, filled_shelf, turn};
 use super::shelf::{one, shown_in_turn, shows_both};
 use super::shelves::{hide_all, show_all};
