@@ -1,4 +1,5 @@
--- The macros that a line gives, a token at a time, with their ranges and calls, are those of the whole line.
+-- The macros that a line gives, a token at a time, with their ranges and calls, are those of the
+-- whole line.
 use Rattle.std.proofs.Common.{◌≡◌, ◌∙◌, ⊎_elim, ℕ, Bool, true, false, List, [], ◌∷◌, ◌++◌, Option, Some, None, refl, sym, ap, map}
 use Rattle.std.proofs.lemmas.Bool.{cases_Bool}
 use Rattle.std.proofs.lemmas.List.{append-nil, map-append}

@@ -1,5 +1,6 @@
 -- The items of a list by their keys.
-use Rattle.std.specs.Prelude.{ℕ, zero, suc, ◌+◌, ◌*◌, ◌^◌, ◌≤◌, List, [], ◌∷◌, length, map, filter, if◌then◌else◌}
+use Rattle.std.specs.Prelude.{ℕ, zero, suc, ◌+◌, ◌*◌, ◌^◌, ◌≤◌, List, [], ◌∷◌, length, map, filter}
+use Rattle.std.specs.Prelude.{if◌then◌else◌}
 use Rattle.std.specs.List.{AllByRecursion, flat_map}
 use Rattle.std.specs.Cmp.Lexicographic.{slice_cmp}
 use Rattle.std.specs.Ordering.{nat_cmp, is_gt, is_lt}
@@ -42,8 +43,8 @@ abbrev pub starts_from : ℕ → List Posting → List ℕ
 starts_from at [] = at ∷ []
 starts_from at (p ∷ ps) = at ∷ starts_from (at + length p.items) ps
 
--- postings as they are kept: their items one after the other, where each posting starts with the end
--- of the last, and the prefix of each key
+-- postings as they are kept: their items one after the other, where each posting starts with the
+-- end of the last, and the prefix of each key
 pub record ItemsByKey : Type 0 where
   pub items : List ℕ
   pub starts : List ℕ

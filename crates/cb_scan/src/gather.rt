@@ -4,10 +4,23 @@ ghost use Rattle.cb_scan.specs.Bytes.{close_brace, open_brace, open_paren};
 ghost use Rattle.cb_scan.specs.lex.Tokens.{is_mark};
 ghost use Rattle.cb_scan.specs.declared.source.TheConstants.{MOST_BYTES};
 ghost use Rattle.std.specs.Option.{option_to_list};
-ghost use Rattle.cb_scan.specs.steps.Directives.{include_out, macro_call_out, macro_out, next_stage, range_finish, use_out};
+ghost use Rattle.cb_scan.specs.steps.Directives.{
+  include_out,
+  macro_call_out,
+  macro_out,
+  next_stage,
+  range_finish,
+  use_out,
+};
 ghost use Rattle.cb_scan.specs.steps.Functions.{called, closed, found, left_open, next};
 ghost use Rattle.cb_scan.specs.steps.Structures.{next_naming, structure_found};
-ghost use Rattle.cb_scan.specs.steps.Typedefs.{ends, nesting_of, next_declaration, next_pending, typedefs_out};
+ghost use Rattle.cb_scan.specs.steps.Typedefs.{
+  ends,
+  nesting_of,
+  next_declaration,
+  next_pending,
+  typedefs_out,
+};
 
 use crate::facts::{Call, Def, Include};
 use crate::lex::token::{Role, Token};
@@ -119,7 +132,8 @@ impl CodeLists {
             ≡ next_declaration state.old.machine state.old.declared token.now) }
         ensures nested { IfOk result
             (λ _. nesting_of state.new.declared ≤ nesting_of state.old.declared + 1) }
-        ensures naming { IfOk result (λ _. state.new.naming ≡ next_naming state.old.naming token.now) }
+        ensures naming { IfOk result
+            (λ _. state.new.naming ≡ next_naming state.old.naming token.now) }
         ensures pending { IfOk result
             (λ _. self.new.pending.items ≡ next_pending state.old.machine state.old.declared
             self.old.pending.items token.now) }
@@ -150,7 +164,8 @@ impl CodeLists {
             ≡ next_declaration state.old.machine state.old.declared token.now) }
         ensures nested { IfOk result
             (λ _. nesting_of state.new.declared ≤ nesting_of state.old.declared + 1) }
-        ensures naming { IfOk result (λ _. state.new.naming ≡ next_naming state.old.naming token.now) }
+        ensures naming { IfOk result
+            (λ _. state.new.naming ≡ next_naming state.old.naming token.now) }
         ensures functions { IfOk result
             (λ _. self.new.functions.items ≡ self.old.functions.items
             ++ option_to_list (found state.old.machine token.now)) }
@@ -194,7 +209,8 @@ impl CodeLists {
             ≡ next_declaration state.old.machine state.old.declared token.now) }
         ensures nested { IfOk result
             (λ _. nesting_of state.new.declared ≤ nesting_of state.old.declared + 1) }
-        ensures naming { IfOk result (λ _. state.new.naming ≡ next_naming state.old.naming token.now) }
+        ensures naming { IfOk result
+            (λ _. state.new.naming ≡ next_naming state.old.naming token.now) }
         ensures functions { IfOk result
             (λ _. self.new.functions.items ≡ self.old.functions.items
             ++ option_to_list (found state.old.machine token.now)) }
@@ -272,7 +288,8 @@ impl LineLists {
         ensures macros { IfOk result
             (λ _. self.new.macros.items ≡ self.old.macros.items ++ macro_out line.old token.now) }
         ensures calls { IfOk result
-            (λ _. self.new.calls.items ≡ self.old.calls.items ++ macro_call_out line.old token.now) }
+            (λ _. self.new.calls.items
+            ≡ self.old.calls.items ++ macro_call_out line.old token.now) }
         ensures includes { IfOk result
             (λ _. self.new.includes.items ≡ self.old.includes.items
             ++ include_out text.now line.old token.now) }

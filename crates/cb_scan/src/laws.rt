@@ -4,7 +4,14 @@ ghost use Rattle.std.specs.List.{AllByRecursion};
 ghost use Rattle.cb_scan.specs.declared.lex.piece.Piece.{Piece};
 ghost use Rattle.cb_scan.specs.lex.Pieces.{IsPieces, Adjoin, LiesIn};
 ghost use Rattle.cb_scan.specs.Definitions.{facts_from, facts_of};
-ghost use Rattle.cb_scan.specs.Keys.{AllNumbered, HoldsOf, items_by_key, items_with, numbers_with, postings};
+ghost use Rattle.cb_scan.specs.Keys.{
+  AllNumbered,
+  HoldsOf,
+  items_by_key,
+  items_with,
+  numbers_with,
+  postings,
+};
 ghost use Rattle.cb_scan.specs.lex.Lexeme.{IsClosedLiteral};
 ghost use Rattle.cb_scan.specs.Order.{AreInOrder};
 ghost use Rattle.cb_scan.specs.steps.Cut.{pieces};

@@ -1,8 +1,9 @@
 //! Finds what a C text of at most 1,000,000 bytes defines, uses, calls and includes.
 //!
-//! [`pieces`] cuts a [`Source`] into its lexemes, and [`scan`] finds its [`Facts`]. The layers above
-//! cite the contract of [`scan`]; [`laws`] say what holds of the pieces and facts of every text.
-//! The crate is built on `bstr` (lines), `memchr` (the end of a block comment) and `thiserror`.
+//! [`pieces`] cuts a [`Source`] into its lexemes, and [`scan`] finds its [`Facts`]. The layers
+//! above cite the contract of [`scan`]; [`laws`] say what holds of the pieces and facts of every
+//! text. The crate is built on `bstr` (lines), `memchr` (the end of a block comment) and
+//! `thiserror`.
 #![tactic(auto)]
 
 mod facts;

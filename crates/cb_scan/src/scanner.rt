@@ -1,11 +1,32 @@
 //! The scanner: one pass over the pieces of a text, and then its facts in order and with their
 //! scopes.
-ghost use Rattle.std.specs.Prelude.{◌≡◌, ◌+◌, ◌^◌, ◌-◌, ◌<◌, ◌≤◌, min, List, length, map, IfOk, IfErr};
+ghost use Rattle.std.specs.Prelude.{
+  ◌≡◌,
+  ◌+◌,
+  ◌^◌,
+  ◌-◌,
+  ◌<◌,
+  ◌≤◌,
+  min,
+  List,
+  length,
+  map,
+  IfOk,
+  IfErr,
+};
 ghost use Rattle.cb_scan.specs.declared.source.TheConstants.{MOST_BYTES};
 ghost use Rattle.std.specs.List.{flat_map};
 ghost use Rattle.cb_scan.specs.declared.lex.piece.Piece.{Piece};
 ghost use Rattle.cb_scan.specs.rules.Code.{code, directives, logical_lines};
-ghost use Rattle.cb_scan.specs.Definitions.{facts_from, facts_of, function_def, macro_def, structure_def, typedef_def, AreWithin};
+ghost use Rattle.cb_scan.specs.Definitions.{
+  facts_from,
+  facts_of,
+  function_def,
+  macro_def,
+  structure_def,
+  typedef_def,
+  AreWithin,
+};
 ghost use Rattle.cb_scan.specs.rules.Functions.{functions};
 ghost use Rattle.cb_scan.specs.rules.Macros.{macro_names, macros};
 ghost use Rattle.cb_scan.specs.lex.Pieces.{IsPieces};
@@ -57,7 +78,8 @@ fn gather(alloc: Global, text: &[u8]) -> Result<Gathered, AllocError>
     ensures function_calls { IfOk result
         (λ g. g.code.calls.items ≡ function_calls (code text.now (pieces text.now))) }
     ensures typedefs { IfOk result
-        (λ g. g.code.typedefs.items ≡ map typedef_def (typedefs (code text.now (pieces text.now)))) }
+        (λ g. g.code.typedefs.items
+        ≡ map typedef_def (typedefs (code text.now (pieces text.now)))) }
     ensures structures { IfOk result
         (λ g. g.code.structures.items
         ≡ map structure_def (structures (code text.now (pieces text.now)))) }

@@ -28,7 +28,8 @@ ends text = map (λ f. f.end) (functions (code text (pieces text)))
 
 -- `unfolding finding` opens how functions are found
 unfoldable pub finding : Unit {0}
-unfolding cutting depth head_start ends_in_declarator called_name after_called lists_names is_reserved
+unfolding cutting depth head_start ends_in_declarator called_name after_called lists_names
+    is_reserved
     reserved_words word_of
 finding = tt
 

@@ -14,7 +14,8 @@ names text = map (λ m. bytes_of text m.name.span) (macros text (pieces text))
 
 -- the names of those without
 abbrev plain_names : List ℕ → List (List ℕ)
-plain_names text = map (λ t. bytes_of text t.span) (flat_map plain_macro_of (directives text (pieces text)))
+plain_names text =
+    map (λ t. bytes_of text t.span) (flat_map plain_macro_of (directives text (pieces text)))
 
 -- the names of both
 abbrev all_names : List ℕ → List (List ℕ)

@@ -2,10 +2,13 @@
 use Rattle.std.specs.Prelude.{◌≡◌, ℕ, [], ◌∷◌, codes, refl}
 use Rattle.std.proofs.Common.{arith, inr, lit≤}
 use Rattle.cb_scan.specs.declared.lex.piece.Class.{Class}
-use Rattle.cb_scan.specs.declared.lex.piece.Class.TheVariants.{Name, Number, Str, LineNote, BlockNote, Blank, Newline, Byte}
+use Rattle.cb_scan.specs.declared.lex.piece.Class.TheVariants.{Name, Number, Str, LineNote}
+use Rattle.cb_scan.specs.declared.lex.piece.Class.TheVariants.{BlockNote, Blank, Newline, Byte}
 use Rattle.cb_scan.specs.declared.lex.piece.Piece.{Piece}
 use Rattle.cb_scan.specs.lex.Lexeme.{first_is, IsLexeme, not_closed, quoted_byte}
-use Rattle.cb_scan.specs.steps.Cut.{ends_join, class_at, number_len, blank_len, comment_escape, ends_comment, comment_len, literal_escape, ends_literal, literal_len, block_len, length_in, pieces_from, pieces}
+use Rattle.cb_scan.specs.steps.Cut.{ends_join, class_at, number_len, blank_len, comment_escape}
+use Rattle.cb_scan.specs.steps.Cut.{ends_comment, comment_len, literal_escape, ends_literal}
+use Rattle.cb_scan.specs.steps.Cut.{literal_len, block_len, length_in, pieces_from, pieces}
 
 -- the piece of this class from one place to another
 abbrev piece : Class → ℕ → ℕ → Piece

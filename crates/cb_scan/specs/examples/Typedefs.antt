@@ -3,7 +3,8 @@ use Rattle.std.specs.Prelude.{◌≡◌, ℕ, List, [], ◌∷◌, codes, map, r
 use Rattle.cb_scan.specs.rules.Code.{code}
 use Rattle.cb_scan.specs.examples.Functions.{finding}
 use Rattle.cb_scan.specs.lex.Tokens.{bytes_of}
-use Rattle.cb_scan.specs.rules.Typedefs.{last_name, name_after_stars, nested, pointer_name, typedefs}
+use Rattle.cb_scan.specs.rules.Typedefs.{last_name, name_after_stars, nested, pointer_name}
+use Rattle.cb_scan.specs.rules.Typedefs.{typedefs}
 use Rattle.cb_scan.specs.steps.Cut.{pieces}
 
 -- the names

@@ -1,10 +1,14 @@
 -- What a lexeme of each class is: the first n bytes of what is left of a text.
-use Rattle.std.specs.Prelude.{◌≡◌, ◌≢◌, ◌⊎◌, ◌+◌, ◌-◌, ◌≤◌, ℕ, suc, Bool, true, false, ◌==◌, ◌||◌, ◌&&◌, nat_le, List, [], ◌∷◌, ◌++◌, length, take, drop, codes, Option, Some, None}
+use Rattle.std.specs.Prelude.{◌≡◌, ◌≢◌, ◌⊎◌, ◌+◌, ◌-◌, ◌≤◌, ℕ, suc, Bool, true, false, ◌==◌, ◌||◌}
+use Rattle.std.specs.Prelude.{◌&&◌, nat_le, List, [], ◌∷◌, ◌++◌, length, take, drop, codes, Option}
+use Rattle.std.specs.Prelude.{Some, None}
 use Rattle.std.specs.List.{list_all}
 use Rattle.memchr.specs.Find.{FindsNeedle}
 use Rattle.cb_scan.specs.declared.lex.piece.Class.{Class}
-use Rattle.cb_scan.specs.declared.lex.piece.Class.TheVariants.{Name, Number, Str, Chr, LineNote, BlockNote, Blank, Newline, Byte}
-use Rattle.cb_scan.specs.Bytes.{apostrophe, backslash, carriage_return, dot, form_feed, line_feed, minus, plus, quote, space, tab, underscore, vertical_tab}
+use Rattle.cb_scan.specs.declared.lex.piece.Class.TheVariants.{Name, Number, Str, Chr, LineNote}
+use Rattle.cb_scan.specs.declared.lex.piece.Class.TheVariants.{BlockNote, Blank, Newline, Byte}
+use Rattle.cb_scan.specs.Bytes.{apostrophe, backslash, carriage_return, dot, form_feed, line_feed}
+use Rattle.cb_scan.specs.Bytes.{minus, plus, quote, space, tab, underscore, vertical_tab}
 
 -- a letter (A to Z, a to z) or `_`
 abbrev pub is_letter : ℕ → Bool

@@ -1,5 +1,6 @@
 -- Tokens: the pieces that mean something, and what each is for the rules on definitions.
-use Rattle.std.specs.Prelude.{ℕ, ◌-◌, Bool, true, false, ◌||◌, ◌==◌, not, List, slice_index, slice_range, codes, if◌then◌else◌, filter, map}
+use Rattle.std.specs.Prelude.{ℕ, ◌-◌, Bool, true, false, ◌||◌, ◌==◌, not, List, slice_index}
+use Rattle.std.specs.Prelude.{slice_range, codes, if◌then◌else◌, filter, map}
 use Rattle.std.specs.Str.{bytes_eq}
 use Rattle.cb_scan.specs.declared.lex.piece.Span.{Span}
 use Rattle.cb_scan.specs.declared.lex.piece.Piece.{Piece}
@@ -9,7 +10,9 @@ use Rattle.cb_scan.specs.declared.lex.token.Token.{Token}
 use Rattle.cb_scan.specs.declared.lex.token.Role.{Role}
 use Rattle.cb_scan.specs.declared.lex.token.Role.TheVariants.{Word, Mark, Str, Other}
 use Rattle.cb_scan.specs.declared.lex.token.WordKind.{WordKind}
-use Rattle.cb_scan.specs.declared.lex.token.WordKind.TheVariants.{Name, Define, Include, Typedef, Extern, Static, Struct, Union, Enum, Reserved}
+use Rattle.cb_scan.specs.declared.lex.token.WordKind.TheVariants.{Name, Define, Include, Typedef}
+use Rattle.cb_scan.specs.declared.lex.token.WordKind.TheVariants.{Extern, Static, Struct, Union}
+use Rattle.cb_scan.specs.declared.lex.token.WordKind.TheVariants.{Enum, Reserved}
 use Rattle.cb_scan.specs.Lines.{line_of}
 use Rattle.cb_scan.specs.lex.Reserved.{is_reserved}
 use Rattle.cb_scan.specs.Bytes.{line_feed}

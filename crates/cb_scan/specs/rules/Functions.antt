@@ -1,5 +1,6 @@
 -- The functions of a text. This is the project's profile.
-use Rattle.std.specs.Prelude.{ℕ, suc, ◌-◌, Bool, ◌&&◌, ◌==◌, List, [], ◌∷◌, length, if◌then◌else◌, Option, find}
+use Rattle.std.specs.Prelude.{ℕ, suc, ◌-◌, Bool, ◌&&◌, ◌==◌, List, [], ◌∷◌, length, if◌then◌else◌}
+use Rattle.std.specs.Prelude.{Option, find}
 use Rattle.std.specs.List.{flat_map, range_with_len}
 use Rattle.std.specs.Option.{option_map_or, unwrap_or}
 use Rattle.cb_scan.specs.declared.lex.token.Token.{Token}
@@ -23,17 +24,20 @@ close_from ts k = unwrap_or (find (closes ts) (range_with_len k (length ts - k))
 -- old style
 abbrev pub signature : List Token → ℕ → Option Signature
 signature ts k =
-    if head_start ts k == k then old_signature ts k else signed (head ts k) (defined_name (head ts k))
+    if head_start ts k == k then old_signature ts k
+    else signed (head ts k) (defined_name (head ts k))
 
 -- the function of that signature whose `{` is token k
 abbrev pub function_from : List Token → ℕ → Option Signature → List Function
 function_from ts k signature =
     let end = close_from ts (suc k) in
-    option_map_or (λ s. record { name = s.name; local = s.local; body = k; end = end } ∷ []) signature []
+    option_map_or (λ s. record { name = s.name; local = s.local; body = k; end = end } ∷ [])
+    signature []
 
 -- the function whose `{` is token k, if one is
 abbrev pub function_at : List Token → ℕ → List Function
-function_at ts k = if is_counted ts k && depth ts k == 0 then function_from ts k (signature ts k) else []
+function_at ts k =
+    if is_counted ts k && depth ts k == 0 then function_from ts k (signature ts k) else []
 
 -- the functions of the code, by the places of their `{`
 abbrev pub functions : List Token → List Function

@@ -1,5 +1,6 @@
 -- Macros with arguments and without (ISO C 2011, 6.10.3).
-use Rattle.std.specs.Prelude.{ℕ, Bool, false, ◌&&◌, ◌==◌, not, List, [], ◌∷◌, ◌++◌, if◌then◌else◌, map}
+use Rattle.std.specs.Prelude.{ℕ, Bool, false, ◌&&◌, ◌==◌, not, List, [], ◌∷◌, ◌++◌, if◌then◌else◌}
+use Rattle.std.specs.Prelude.{map}
 use Rattle.std.specs.List.{flat_map}
 use Rattle.cb_scan.specs.declared.lex.piece.Piece.{Piece}
 use Rattle.cb_scan.specs.declared.lex.token.Token.{Token}
@@ -51,7 +52,8 @@ plain_macro_of [] = []
 plain_macro_of (hash ∷ []) = []
 plain_macro_of (hash ∷ own ∷ []) = []
 plain_macro_of (hash ∷ own ∷ name ∷ rest) =
-    if has_kind kind_is_define own.role && is_name_token name.role && not (begin_arguments name rest)
+    if has_kind kind_is_define own.role && is_name_token name.role
+    && not (begin_arguments name rest)
     then name ∷ [] else []
 
 -- the name of the macro that a directive defines, with arguments or without

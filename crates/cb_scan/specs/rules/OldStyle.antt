@@ -1,12 +1,14 @@
--- Functions in the old style, which declare their parameters between `)` and `{` (ISO C 2011, 6.9.1,
--- found in tokens by this project's profile).
-use Rattle.std.specs.Prelude.{ℕ, Bool, false, ◌&&◌, ◌||◌, not, List, [], ◌∷◌, if◌then◌else◌, Option, None, Some, filter, find, map, reverse}
+-- Functions in the old style, which declare their parameters between `)` and `{` (ISO C 2011,
+-- 6.9.1, found in tokens by this project's profile).
+use Rattle.std.specs.Prelude.{ℕ, Bool, false, ◌&&◌, ◌||◌, not, List, [], ◌∷◌, if◌then◌else◌, Option}
+use Rattle.std.specs.Prelude.{None, Some, filter, find, map, reverse}
 use Rattle.std.specs.List.{range_with_len, take_while}
 use Rattle.std.specs.Option.{option_map_or}
 use Rattle.cb_scan.specs.declared.lex.token.Token.{Token}
 use Rattle.cb_scan.specs.lex.Tokens.{is_any_word, is_mark, is_name_token}
 use Rattle.cb_scan.specs.rules.Depth.{is_stop, token_at}
-use Rattle.cb_scan.specs.rules.Heads.{Signature, begins_with_typedef, called_name, has_equals, head, signed}
+use Rattle.cb_scan.specs.rules.Heads.{Signature, begins_with_typedef, called_name, has_equals, head}
+use Rattle.cb_scan.specs.rules.Heads.{signed}
 use Rattle.cb_scan.specs.Bytes.{close_paren, comma, open_paren, semicolon}
 
 -- ---- one segment
@@ -29,7 +31,8 @@ lists_names [] = false
 lists_names (t ∷ []) = false
 lists_names (t ∷ u ∷ ts) =
     is_name_token t.role
-    && (if is_mark comma u.role then lists_names ts else is_mark close_paren u.role && begins_with_word ts)
+    && (if is_mark comma u.role then lists_names ts
+    else is_mark close_paren u.role && begins_with_word ts)
 
 -- an opening: it does not begin with `typedef`, has no `=`, and its first called name has a list of
 -- names behind it and then a word
@@ -48,7 +51,8 @@ stops_before ts k = reverse (filter (is_stop ts) (range_with_len 0 k))
 
 -- those of them that are `;`, up to the nearest that is none
 abbrev pub semicolons_before : List Token → ℕ → List ℕ
-semicolons_before ts k = take_while (λ j. is_mark semicolon (token_at ts j).role) (stops_before ts k)
+semicolons_before ts k =
+    take_while (λ j. is_mark semicolon (token_at ts j).role) (stops_before ts k)
 
 -- the segments between neighbouring stops, from the last stop that is no `;` to the last one, the
 -- nearest first: what stands before each `;`

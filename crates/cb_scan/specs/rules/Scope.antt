@@ -1,5 +1,6 @@
 -- The macro or function around a place. This is the project's profile.
-use Rattle.std.specs.Prelude.{ℕ, Bool, ◌&&◌, nat_le, nat_lt, List, [], length, Option, Some, if◌then◌else◌, find, map}
+use Rattle.std.specs.Prelude.{ℕ, Bool, ◌&&◌, nat_le, nat_lt, List, [], length, Option, Some}
+use Rattle.std.specs.Prelude.{if◌then◌else◌, find, map}
 use Rattle.std.specs.List.{flat_map, zip}
 use Rattle.std.specs.Option.{option_map, option_map_or}
 use Rattle.cb_scan.specs.declared.lex.piece.Piece.{Piece}

@@ -1,6 +1,7 @@
 -- The names of structures, unions and enumerations: the tags of the language (ISO C 2011, 6.7.2.1
 -- and 6.7.2.2), at any depth.
-use Rattle.std.specs.Prelude.{ℕ, zero, suc, ◌&&◌, List, [], ◌∷◌, length, Option, None, Some, if◌then◌else◌}
+use Rattle.std.specs.Prelude.{ℕ, zero, suc, ◌&&◌, List, [], ◌∷◌, length, Option, None, Some}
+use Rattle.std.specs.Prelude.{if◌then◌else◌}
 use Rattle.std.specs.List.{flat_map, range_with_len}
 use Rattle.std.specs.Option.{option_map_or}
 use Rattle.cb_scan.specs.declared.facts.Kind.{Kind}
@@ -29,14 +30,16 @@ keyword_kind _ = None
 abbrev pub structure_of : Token → Token → Token → List Structure
 structure_of keyword name brace =
     if is_name_token name.role && is_mark open_brace brace.role
-    then option_map_or (λ kind. record { kind = kind; name = name } ∷ []) (keyword_kind keyword.role) []
+    then option_map_or (λ kind. record { kind = kind; name = name } ∷ [])
+    (keyword_kind keyword.role) []
     else []
 
 -- the structure, union or enumeration whose `{` is token k, if one is
 abbrev pub structure_at : List Token → ℕ → List Structure
 structure_at ts zero = []
 structure_at ts (suc zero) = []
-structure_at ts (suc (suc k)) = structure_of (token_at ts k) (token_at ts (suc k)) (token_at ts (suc (suc k)))
+structure_at ts (suc (suc k)) =
+    structure_of (token_at ts k) (token_at ts (suc k)) (token_at ts (suc (suc k)))
 
 -- the structures, unions and enumerations of the code, by the places of their `{`
 abbrev pub structures : List Token → List Structure

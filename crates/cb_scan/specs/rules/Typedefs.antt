@@ -1,11 +1,13 @@
 -- The names that typedefs define (ISO C 2011, 6.7.8, found in tokens by this project's profile).
-use Rattle.std.specs.Prelude.{ℕ, suc, ◌+◌, ◌-◌, Bool, false, ◌&&◌, ◌||◌, ◌==◌, not, List, [], ◌∷◌, length, Option, None, Some, if◌then◌else◌, find}
+use Rattle.std.specs.Prelude.{ℕ, suc, ◌+◌, ◌-◌, Bool, false, ◌&&◌, ◌||◌, ◌==◌, not, List, [], ◌∷◌}
+use Rattle.std.specs.Prelude.{length, Option, None, Some, if◌then◌else◌, find}
 use Rattle.std.specs.List.{flat_map, range_with_len, slice_split}
 use Rattle.std.specs.Option.{option_map_or, option_to_list}
 use Rattle.cb_scan.specs.declared.lex.token.Token.{Token}
 use Rattle.cb_scan.specs.lex.Tokens.{is_mark, is_name_token, is_typedef}
 use Rattle.cb_scan.specs.rules.Depth.{depth, head_start, token_at}
-use Rattle.cb_scan.specs.Bytes.{close_brace, close_bracket, close_paren, comma, open_brace, open_bracket, open_paren, semicolon, star}
+use Rattle.cb_scan.specs.Bytes.{close_brace, close_bracket, close_paren, comma, open_brace}
+use Rattle.cb_scan.specs.Bytes.{open_bracket, open_paren, semicolon, star}
 
 -- token k is a `typedef` that directly follows a stop
 abbrev pub begins_typedef : List Token → ℕ → Bool

@@ -1,5 +1,6 @@
 -- Uses of names, calls and includes. This is the project's profile.
-use Rattle.std.specs.Prelude.{ℕ, suc, ◌+◌, ◌-◌, Bool, false, ◌&&◌, nat_lt, List, [], ◌∷◌, None, if◌then◌else◌, filter, map, find}
+use Rattle.std.specs.Prelude.{ℕ, suc, ◌+◌, ◌-◌, Bool, false, ◌&&◌, nat_lt, List, [], ◌∷◌, None}
+use Rattle.std.specs.Prelude.{if◌then◌else◌, filter, map, find}
 use Rattle.std.specs.List.{flat_map, range_with_len}
 use Rattle.std.specs.Option.{option_map_or}
 use Rattle.cb_scan.specs.declared.lex.piece.Piece.{Piece}
@@ -14,7 +15,8 @@ use Rattle.cb_scan.specs.rules.Functions.{Function, functions}
 use Rattle.cb_scan.specs.rules.Macros.{Macro}
 use Rattle.cb_scan.specs.rules.Scope.{scope}
 use Rattle.cb_scan.specs.steps.Quote.{is_closed}
-use Rattle.cb_scan.specs.lex.Tokens.{bytes_of, has_kind, is_any_word, is_mark, is_name_token, is_str, kind_is_include}
+use Rattle.cb_scan.specs.lex.Tokens.{bytes_of, has_kind, is_any_word, is_mark, is_name_token}
+use Rattle.cb_scan.specs.lex.Tokens.{is_str, kind_is_include}
 use Rattle.cb_scan.specs.Bytes.{greater, less, open_paren}
 
 -- ---- uses
@@ -60,7 +62,8 @@ call_of caller t = record { callee = t.span; line = t.line; caller = caller }
 -- the call that token k of the code is, in the body of a function
 abbrev pub call_at : List Token → Span → ℕ → List Call
 call_at ts caller k =
-    if is_call (token_at ts k) (token_at ts (suc k)) then call_of caller (token_at ts k) ∷ [] else []
+    if is_call (token_at ts k) (token_at ts (suc k)) then call_of caller (token_at ts k) ∷ []
+    else []
 
 -- the calls in the body of a function
 abbrev pub calls_of_function : List Token → Function → List Call
@@ -94,7 +97,8 @@ header_between start end line =
 -- the header that a string is: what is between its quotes, if it is closed (`IsClosedLiteral`)
 abbrev pub string_header : List ℕ → Token → List Include
 string_header text t =
-    if is_closed (bytes_of text t.span) then header_between (t.span.start + 1) (t.span.end - 1) t.line
+    if is_closed (bytes_of text t.span)
+    then header_between (t.span.start + 1) (t.span.end - 1) t.line
     else []
 
 -- the header that a `<` begins: what is between it and the first `>`

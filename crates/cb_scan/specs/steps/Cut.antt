@@ -1,14 +1,17 @@
 -- The pieces of a text as they are computed: one byte after the other, the first byte decides the
 -- class.
-use Rattle.std.specs.Prelude.{◌+◌, ℕ, zero, suc, Bool, false, ◌==◌, ◌||◌, ◌&&◌, not, if◌then◌else◌, nat_le, List, [], ◌∷◌, length, drop}
+use Rattle.std.specs.Prelude.{◌+◌, ℕ, zero, suc, Bool, false, ◌==◌, ◌||◌, ◌&&◌, not, if◌then◌else◌}
+use Rattle.std.specs.Prelude.{nat_le, List, [], ◌∷◌, length, drop}
 use Rattle.std.specs.List.{prefix_len}
 use Rattle.cb_scan.specs.declared.lex.lexeme.Escape.{Escape}
 use Rattle.cb_scan.specs.declared.lex.lexeme.Escape.TheVariants.{Plain, Backslash, Return}
 use Rattle.cb_scan.specs.declared.lex.piece.Class.{Class}
-use Rattle.cb_scan.specs.declared.lex.piece.Class.TheVariants.{Name, Number, Str, Chr, LineNote, BlockNote, Blank, Newline, Byte}
+use Rattle.cb_scan.specs.declared.lex.piece.Class.TheVariants.{Name, Number, Str, Chr, LineNote}
+use Rattle.cb_scan.specs.declared.lex.piece.Class.TheVariants.{BlockNote, Blank, Newline, Byte}
 use Rattle.cb_scan.specs.declared.lex.piece.Piece.{Piece}
 use Rattle.cb_scan.specs.lex.Lexeme.{is_letter, is_digit, is_word, is_blank, goes_on, first_is}
-use Rattle.cb_scan.specs.Bytes.{apostrophe, backslash, carriage_return, dot, line_feed, quote, slash, star}
+use Rattle.cb_scan.specs.Bytes.{apostrophe, backslash, carriage_return, dot, line_feed, quote}
+use Rattle.cb_scan.specs.Bytes.{slash, star}
 
 -- the first byte is b
 abbrev pub begins : ℕ → List ℕ → Bool

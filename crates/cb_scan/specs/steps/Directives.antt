@@ -1,5 +1,6 @@
 -- A logical line, a token at a time.
-use Rattle.std.specs.Prelude.{ℕ, Bool, true, false, ◌&&◌, ◌==◌, List, [], ◌∷◌, length, ◌++◌, Option, Some, None, if◌then◌else◌}
+use Rattle.std.specs.Prelude.{ℕ, Bool, true, false, ◌&&◌, ◌==◌, List, [], ◌∷◌, length, ◌++◌, Option}
+use Rattle.std.specs.Prelude.{Some, None, if◌then◌else◌}
 use Rattle.std.specs.Option.{option_to_list}
 use Rattle.cb_scan.specs.declared.facts.Call.{Call}
 use Rattle.cb_scan.specs.declared.facts.Def.{Def}
@@ -11,13 +12,15 @@ use Rattle.cb_scan.specs.declared.rules.directives.Directive.TheVariants as dire
 use Rattle.cb_scan.specs.declared.rules.directives.Including.{Including}
 use Rattle.cb_scan.specs.declared.rules.directives.Including.TheVariants as including
 use Rattle.cb_scan.specs.declared.rules.directives.Stage.{Stage}
-use Rattle.cb_scan.specs.declared.rules.directives.Stage.TheVariants.{Start, Code, Directive as InDirective}
+use Rattle.cb_scan.specs.declared.rules.directives.Stage.TheVariants.{Start, Code}
+use Rattle.cb_scan.specs.declared.rules.directives.Stage.TheVariants.{Directive as InDirective}
 use Rattle.cb_scan.specs.declared.lex.lined.Lined.{Lined}
 use Rattle.cb_scan.specs.declared.rules.scope.Range.{Range}
 use Rattle.cb_scan.specs.declared.lex.token.Token.{Token}
 use Rattle.cb_scan.specs.Definitions.{macro_def}
 use Rattle.cb_scan.specs.rules.Code.{is_newline}
-use Rattle.cb_scan.specs.lex.Tokens.{has_kind, is_mark, is_name_token, is_significant, is_str, kind_is_define, kind_is_include, role_of, starts_line}
+use Rattle.cb_scan.specs.lex.Tokens.{has_kind, is_mark, is_name_token, is_significant, is_str}
+use Rattle.cb_scan.specs.lex.Tokens.{kind_is_define, kind_is_include, role_of, starts_line}
 use Rattle.cb_scan.specs.rules.Uses.{call_of, header_between, header_of, is_call}
 use Rattle.cb_scan.specs.Bytes.{close_paren, greater, hash, less, open_paren}
 

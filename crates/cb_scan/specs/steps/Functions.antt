@@ -1,5 +1,6 @@
 -- The state of the one pass that finds functions, a token at a time.
-use Rattle.std.specs.Prelude.{ℕ, Bool, true, false, ◌&&◌, ◌||◌, ◌==◌, not, List, [], ◌∷◌, ◌++◌, if◌then◌else◌, Option, None, Some}
+use Rattle.std.specs.Prelude.{ℕ, Bool, true, false, ◌&&◌, ◌||◌, ◌==◌, not, List, [], ◌∷◌, ◌++◌}
+use Rattle.std.specs.Prelude.{if◌then◌else◌, Option, None, Some}
 use Rattle.std.specs.Option.{option_map, option_to_list, is_none}
 use Rattle.cb_scan.specs.declared.facts.Call.{Call}
 use Rattle.cb_scan.specs.declared.facts.Def.{Def}
@@ -62,8 +63,8 @@ abbrev pub next_body : Machine → Token → Option Span
 next_body m t = if m.depth == 0 then option_map (λ (d : Def). d.name) (found m t)
     else (if next_depth m t == 0 then None else m.body)
 
--- the function in the old style that is open after the token: a `;` that is a stop may open one, and
--- every other stop ends it
+-- the function in the old style that is open after the token: a `;` that is a stop may open one,
+-- and every other stop ends it
 abbrev pub next_open : Machine → Token → Option Def
 next_open m t =
     if stops m t then (if is_mark semicolon t.role then next_opened m.head m.opened else None)

@@ -1,5 +1,6 @@
 -- The postings of items that are sorted by key and number, one item after the other.
-use Rattle.std.specs.Prelude.{ℕ, suc, List, [], ◌∷◌, ◌++◌, map, Option, Some, None, if◌then◌else◌, Bool, false}
+use Rattle.std.specs.Prelude.{ℕ, suc, List, [], ◌∷◌, ◌++◌, map, Option, Some, None, if◌then◌else◌}
+use Rattle.std.specs.Prelude.{Bool, false}
 use Rattle.std.specs.Str.{bytes_eq}
 use Rattle.cb_scan.specs.Keys.{key_prefix}
 

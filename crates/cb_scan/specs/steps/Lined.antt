@@ -2,7 +2,8 @@
 use Rattle.std.specs.Prelude.{◌<◌, ◌≤◌, ◌==◌, ℕ, Bool, true, false, List, length}
 use Rattle.cb_scan.specs.declared.lex.lined.Lined.{Lined}
 use Rattle.cb_scan.specs.declared.lex.piece.Class.{Class}
-use Rattle.cb_scan.specs.declared.lex.piece.Class.TheVariants.{Name, Number, Str, Chr, LineNote, BlockNote, Blank, Newline, Byte}
+use Rattle.cb_scan.specs.declared.lex.piece.Class.TheVariants.{Name, Number, Str, Chr, LineNote}
+use Rattle.cb_scan.specs.declared.lex.piece.Class.TheVariants.{BlockNote, Blank, Newline, Byte}
 use Rattle.cb_scan.specs.declared.lex.piece.Piece.{Piece}
 use Rattle.cb_scan.specs.Lines.{line_of}
 use Rattle.cb_scan.specs.Bytes.{line_feed}

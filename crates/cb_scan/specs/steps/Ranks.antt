@@ -1,5 +1,6 @@
 -- Items with what settles most comparisons of their keys.
-use Rattle.std.specs.Prelude.{◌≡◌, ℕ, suc, List, [], ◌∷◌, Option, Some, None, length, min, nat_le, if◌then◌else◌}
+use Rattle.std.specs.Prelude.{◌≡◌, ℕ, suc, List, [], ◌∷◌, Option, Some, None, length, min, nat_le}
+use Rattle.std.specs.Prelude.{if◌then◌else◌}
 use Rattle.std.specs.List.{slice_get}
 use Rattle.cb_scan.specs.declared.keys.ranked.Ranked.{Ranked}
 use Rattle.cb_scan.specs.declared.lex.piece.Span.{Span}
@@ -36,10 +37,11 @@ ranks n (key ∷ keys) = rank n key ∷ ranks (suc n) keys
 -- an item has the prefix and the size of its key
 abbrev pub IsRanked : List ℕ → List Span → Ranked → Type 0
 IsRanked text spans r =
-    (r.prefix ≡ key_prefix (key_of text spans r.item)) × (r.size ≡ size_of (key_of text spans r.item))
+    (r.prefix ≡ key_prefix (key_of text spans r.item))
+    × (r.size ≡ size_of (key_of text spans r.item))
 
--- what items are sorted by: where the key goes on behind its prefix, it settles what prefix and size
--- do not
+-- what items are sorted by: where the key goes on behind its prefix, it settles what prefix and
+-- size do not
 unfoldable pub rank_key : List ℕ → List Span → Ranked → List ℕ
 rank_key text spans r =
     r.prefix ∷ r.size ∷ (if nat_le r.size 8 then r.item ∷ [] else sort_key (keyed text spans r))

@@ -17,7 +17,8 @@ begun t = option_map_or naming.Keyword (keyword_kind t.role) naming.Nothing
 -- how far a keyword, a name and `{` have come after a token
 abbrev pub next_naming : Naming → Token → Naming
 next_naming (naming.Keyword kind) t =
-    if is_name_token t.role then naming.Named (structure_def (record { kind = kind; name = t })) else begun t
+    if is_name_token t.role then naming.Named (structure_def (record { kind = kind; name = t }))
+    else begun t
 next_naming naming.Nothing t = begun t
 next_naming (naming.Named def) t = begun t
 
@@ -29,4 +30,5 @@ structure_found _ t = None
 -- those of the tokens from a state on
 abbrev pub structures_from : Naming → List Token → List Def
 structures_from n [] = []
-structures_from n (t ∷ ts) = option_to_list (structure_found n t) ++ structures_from (next_naming n t) ts
+structures_from n (t ∷ ts) =
+    option_to_list (structure_found n t) ++ structures_from (next_naming n t) ts

@@ -1,5 +1,6 @@
 -- Words that may mean something to the scanner, by their first byte and their length.
-use Rattle.std.specs.Prelude.{ℕ, Bool, false, ◌&&◌, ◌==◌, ◌-◌, ◌/◌, ◌%◌, ◌^◌, List, [], ◌∷◌, length, nat_le, nat_lt, slice_index}
+use Rattle.std.specs.Prelude.{ℕ, Bool, false, ◌&&◌, ◌==◌, ◌-◌, ◌/◌, ◌%◌, ◌^◌, List, [], ◌∷◌, length}
+use Rattle.std.specs.Prelude.{nat_le, nat_lt, slice_index}
 use Rattle.cb_scan.specs.declared.lex.token.TheConstants.{LENGTHS}
 
 -- a word with this first byte and of this length may be reserved, `define` or `include`: the bit of

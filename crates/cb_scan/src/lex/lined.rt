@@ -87,8 +87,8 @@ fn are_spaces(text: &[u8], len: usize) -> bool
     text.len() >= LANES && len <= space_run(text)
 }
 
-/// How many line feeds the first bytes of a text hold, which are a piece. An indentation is looked at
-/// as its length was found.
+/// How many line feeds the first bytes of a text hold, which are a piece. An indentation is looked
+/// at as its length was found.
 #[inline]
 fn feeds_at(class: Class, text: &[u8], len: usize) -> u32
     requires within { len ≤ length text.now }

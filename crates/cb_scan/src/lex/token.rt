@@ -1,7 +1,17 @@
 //! Tokens: the pieces that the rules on definitions speak of, each with what it is for them.
 ghost use Rattle.std.specs.Prelude.{◌≡◌, ◌≤◌, ◌<◌, length};
 ghost use Rattle.std.specs.Str.{bytes_eq};
-ghost use Rattle.cb_scan.specs.lex.Tokens.{is_any_word, is_mark, is_name_token, is_static, is_typedef, name_kind, role_of, starts_line, word_of};
+ghost use Rattle.cb_scan.specs.lex.Tokens.{
+  is_any_word,
+  is_mark,
+  is_name_token,
+  is_static,
+  is_typedef,
+  name_kind,
+  role_of,
+  starts_line,
+  word_of,
+};
 ghost use Rattle.cb_scan.specs.steps.Lined.{Within};
 ghost use Rattle.cb_scan.specs.steps.Directives.{lined_token};
 ghost use Rattle.cb_scan.specs.steps.Words.{may_begin, may_mean};
@@ -63,8 +73,8 @@ fn name_kind(name: &[u8]) -> WordKind
     }
 }
 
-/// For `_`, the byte after it and each small letter: the lengths of the words that begin with it and
-/// are reserved, `define` or `include`, a bit for each.
+/// For `_`, the byte after it and each small letter: the lengths of the words that begin with it
+/// and are reserved, `define` or `include`, a bit for each.
 const LENGTHS: [u16; 28] = [
     0x67a0, 0x0000, 0x0018, 0x0020, 0x0130, 0x00c4, 0x0050, 0x0028, 0x0010, 0x0000, 0x00cc, 0x0000,
     0x0000, 0x0010, 0x0000, 0x0000, 0x0000, 0x0000, 0x0000, 0x0140, 0x0060, 0x0080, 0x0120, 0x0110,

@@ -2,7 +2,21 @@
 ghost use Rattle.std.specs.Prelude.{◌≡◌, ◌+◌, ◌<◌, ◌≤◌, ◌^◌, false};
 ghost use Rattle.cb_scan.specs.Bytes.{close_brace, open_brace};
 ghost use Rattle.cb_scan.specs.lex.Tokens.{is_mark};
-ghost use Rattle.cb_scan.specs.steps.Functions.{before_after, called, closed, counts, found, grown, left_open, next, next_body, next_depth, next_open, start, stops};
+ghost use Rattle.cb_scan.specs.steps.Functions.{
+  before_after,
+  called,
+  closed,
+  counts,
+  found,
+  grown,
+  left_open,
+  next,
+  next_body,
+  next_depth,
+  next_open,
+  start,
+  stops,
+};
 ghost use Rattle.cb_scan.specs.steps.Typedefs.{ends};
 
 use crate::facts::{Call, Def};
@@ -19,8 +33,9 @@ pub(crate) enum Before {
     Linkage,
 }
 
-/// The state of the pass: the depth in braces, what is directly before, the head so far, the function
-/// in the old style that is open before it, and the name of the function whose body it is in.
+/// The state of the pass: the depth in braces, what is directly before, the head so far, the
+/// function in the old style that is open before it, and the name of the function whose body it is
+/// in.
 #[derive(Clone, Copy)]
 pub(crate) struct Machine {
     pub(crate) depth: u32,
@@ -121,8 +136,8 @@ impl Machine {
         }
     }
 
-    /// The head goes on with a token. Deeper in braces only the last token counts, since a stop comes
-    /// before the depth is 0 again.
+    /// The head goes on with a token. Deeper in braces only the last token counts, since a stop
+    /// comes before the depth is 0 again.
     #[inline(always)]
     fn grow(&mut self, token: &Token)
         ensures { self.new ≡ record self.old { head = grown self.old token.now } }

@@ -2,7 +2,19 @@
 ghost use Rattle.std.specs.Prelude.{◌≡◌, ◌||◌};
 ghost use Rattle.cb_scan.specs.Bytes.{equals};
 ghost use Rattle.cb_scan.specs.lex.Tokens.{is_mark, is_static};
-ghost use Rattle.cb_scan.specs.steps.Heads.{add, called_after, calls_last, declares, def_of, defined, empty_head, listing_after, next_opened, opened, opens};
+ghost use Rattle.cb_scan.specs.steps.Heads.{
+  add,
+  called_after,
+  calls_last,
+  declares,
+  def_of,
+  defined,
+  empty_head,
+  listing_after,
+  next_opened,
+  opened,
+  opens,
+};
 
 use crate::facts::{Def, Kind};
 use crate::lex::token::{Role, Token, WordKind};
@@ -97,9 +109,11 @@ impl Head {
         }
     }
 
-    /// What the role of one more token tells: an `=`, a `static`, or that the name before is called.
+    /// What the role of one more token tells: an `=`, a `static`, or that the name before is
+    /// called.
     fn note(&mut self, token: &Token)
-        ensures equal { self.new.has_equals ≡ (self.old.has_equals || is_mark equals token.now.role) }
+        ensures equal { self.new.has_equals
+            ≡ (self.old.has_equals || is_mark equals token.now.role) }
         ensures local { self.new.has_static ≡ (self.old.has_static || is_static token.now.role) }
         ensures called { self.new.called ≡ called_after self.old.called self.old.last token.now }
         ensures others { self.new ≡ record self.old {

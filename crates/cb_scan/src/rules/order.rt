@@ -96,7 +96,8 @@ fn joined<T: Copy>(
     third: &[T],
     fourth: &[T],
 ) -> Result<Vec<T>, AllocError>
-    requires { length first.now + length second.now + length third.now + length fourth.now < 2 ^ 64 }
+    requires { length first.now + length second.now + length third.now + length fourth.now
+        < 2 ^ 64 }
     ensures { IfOk result (λ all. all.items ≡ first.now ++ second.now ++ third.now ++ fourth.now) }
 {
     let count = first.len() + second.len() + third.len() + fourth.len();
@@ -119,8 +120,8 @@ fn count_before(calls: &[Call], place: u32) -> usize
         .count()
 }
 
-/// Two lists as one: before each call of the first go those of the second that begin before it. Each
-/// list is in order, and so is the one list.
+/// Two lists as one: before each call of the first go those of the second that begin before it.
+/// Each list is in order, and so is the one list.
 fn merged(alloc: Global, first: &[Call], second: &[Call]) -> Result<Vec<Call>, AllocError>
     requires { length first.now + length second.now < 2 ^ 64 }
     ensures { IfOk result
@@ -138,8 +139,8 @@ fn merged(alloc: Global, first: &[Call], second: &[Call]) -> Result<Vec<Call>, A
     Ok(all)
 }
 
-/// Functions, macros, typedefs and structures in the order of their places, and at one place in that
-/// of their kinds.
+/// Functions, macros, typedefs and structures in the order of their places, and at one place in
+/// that of their kinds.
 pub(crate) fn ordered_defs(
     alloc: Global,
     functions: &[Def],

@@ -1,6 +1,16 @@
 //! The functions and macros around places.
 ghost use Rattle.std.specs.Prelude.{◌≡◌, IfOk};
-ghost use Rattle.cb_scan.specs.steps.Scopes.{around, first_around, include_place, include_with, reached, scoped, token_place, use_of, Stays};
+ghost use Rattle.cb_scan.specs.steps.Scopes.{
+  around,
+  first_around,
+  include_place,
+  include_with,
+  reached,
+  scoped,
+  token_place,
+  use_of,
+  Stays,
+};
 
 use crate::facts::{Include, Use};
 use crate::lex::piece::Span;
@@ -79,8 +89,8 @@ impl<'a> Around<'a> {
     }
 }
 
-/// The scopes of places that come in order. The last one found is kept, and the places that have it:
-/// few ranges begin or end between the names of a text.
+/// The scopes of places that come in order. The last one found is kept, and the places that have
+/// it: few ranges begin or end between the names of a text.
 #[derive(Drop)]
 struct Scopes<'a> {
     around: Around<'a>,
@@ -94,9 +104,13 @@ impl<'a> Model for Scopes<'a> {
 
     ghost Value = { Ranges };
 
-    ghost view = { λ s. record { functions = s.around.functions.now; macros = s.around.macros.now } };
+    ghost view = { λ s. record {
+      functions = s.around.functions.now;
+      macros = s.around.macros.now;
+    } };
 
-    ghost invariant = { λ s. Keeps s.around.functions.now s.around.macros.now s.from s.until s.scope };
+    ghost invariant = { λ s. Keeps s.around.functions.now s.around.macros.now s.from s.until
+        s.scope };
 }
 
 impl<'a> Scopes<'a> {

@@ -4,7 +4,24 @@ ghost use Rattle.std.specs.Prelude.{◌≡◌, ◌+◌, ◌<◌, ◌≤◌, ◌^
 ghost use Rattle.std.specs.Option.{option_to_list};
 ghost use Rattle.cb_scan.specs.Definitions.{typedef_def};
 ghost use Rattle.cb_scan.specs.rules.Typedefs.{nesting_after};
-ghost use Rattle.cb_scan.specs.steps.Typedefs.{after, all_names, begins, declaration_start, ended_name, ends, name_of, nesting_of, next_declaration, next_pending, parts_at, pointer_after, reach_after, stays, takes, typedefs_out};
+ghost use Rattle.cb_scan.specs.steps.Typedefs.{
+  after,
+  all_names,
+  begins,
+  declaration_start,
+  ended_name,
+  ends,
+  name_of,
+  nesting_of,
+  next_declaration,
+  next_pending,
+  parts_at,
+  pointer_after,
+  reach_after,
+  stays,
+  takes,
+  typedefs_out,
+};
 
 use crate::facts::{Def, Kind};
 use crate::lex::token::{Role, Token};
@@ -190,7 +207,8 @@ fn go_on(
     pending: &mut Vec<Token>,
 ) -> Result<(), AllocError>
     requires { declaration.old.nesting + 1 < 2 ^ 32 }
-    ensures state { IfOk result (λ _. declaration.new ≡ stays machine.now token.now declaration.old) }
+    ensures state { IfOk result
+        (λ _. declaration.new ≡ stays machine.now token.now declaration.old) }
     ensures small { IfOk result (λ _. declaration.new.nesting ≤ declaration.old.nesting + 1) }
     ensures held { IfOk result (λ _. pending.new.items ≡ pending.old.items
         ++ option_to_list (ended_name machine.now (Some declaration.old) token.now)) }
@@ -204,7 +222,8 @@ fn go_on(
     Ok(())
 }
 
-/// A token that ends no typedef: the names that are held back, and the typedef that is open after it.
+/// A token that ends no typedef: the names that are held back, and the typedef that is open after
+/// it.
 #[inline(always)]
 pub(crate) fn pass_token(
     machine: &Machine,
@@ -214,7 +233,8 @@ pub(crate) fn pass_token(
 ) -> Result<(), AllocError>
     requires open { ends machine.now token.now ≡ false }
     requires nested { nesting_of state.old + 1 < 2 ^ 32 }
-    ensures state { IfOk result (λ _. state.new ≡ next_declaration machine.now state.old token.now) }
+    ensures state { IfOk result
+        (λ _. state.new ≡ next_declaration machine.now state.old token.now) }
     ensures small { IfOk result (λ _. nesting_of state.new ≤ nesting_of state.old + 1) }
     ensures held { IfOk result (λ _. pending.new.items
         ≡ next_pending machine.now state.old pending.old.items token.now) }
@@ -238,7 +258,8 @@ pub(crate) fn take_token(
     out: &mut Vec<Def>,
 ) -> Result<(), AllocError>
     requires { nesting_of state.old + 1 < 2 ^ 32 }
-    ensures state { IfOk result (λ _. state.new ≡ next_declaration machine.now state.old token.now) }
+    ensures state { IfOk result
+        (λ _. state.new ≡ next_declaration machine.now state.old token.now) }
     ensures small { IfOk result (λ _. nesting_of state.new ≤ nesting_of state.old + 1) }
     ensures held { IfOk result (λ _. pending.new.items
         ≡ next_pending machine.now state.old pending.old.items token.now) }

@@ -1,6 +1,7 @@
-//! Tests in which memory may be refused, each growth in turn, one a run: `scripts/each-growth-refused.py`
-//! does that. For each call that takes memory, `refused_growth_of_CALL` passes in each run, and
-//! `no_refusal_of_CALL` only in a run that refuses nothing. `no_growth_of_CALL` may meet no growth.
+//! Tests in which memory may be refused, each growth in turn, one a run:
+//! `scripts/each-growth-refused.py` does that. For each call that takes memory,
+//! `refused_growth_of_CALL` passes in each run, and `no_refusal_of_CALL` only in a run that refuses
+//! nothing. `no_growth_of_CALL` may meet no growth.
 use crate::keys::facts::FactKeys;
 use crate::lex::cut::pieces;
 use crate::meter::Meter;
