@@ -1,5 +1,7 @@
 -- The rows of the uses and calls that are shown.
-use Rattle.std.proofs.Common.{◌≡◌, ◌∙◌, ◌≤◌, ◌+◌, ◌-◌, ℕ, zero, suc, Bool, true, false, List, [], ◌∷◌, ◌++◌, Some, None, refl, sym, ap, length, map, take, drop, filter, get_or, min, arith, zero-add}
+use Rattle.std.proofs.Common.{◌≡◌, ◌∙◌, ◌≤◌, ◌+◌, ◌-◌, ℕ, zero, suc, Bool, true, false, List, []}
+use Rattle.std.proofs.Common.{◌∷◌, ◌++◌, Some, None, refl, sym, ap, length, map, take, drop, filter}
+use Rattle.std.proofs.Common.{get_or, min, arith, zero-add}
 use Rattle.std.proofs.lemmas.Bool.{false≢true}
 use Rattle.std.proofs.lemmas.Bool.Decides.{Decides-eqb}
 use Rattle.std.proofs.lemmas.List.{drop-drop, length-append, length-drop, map-append}
@@ -18,7 +20,8 @@ use Rattle.cb_scan.specs.declared.facts.Use.{Use}
 use Rattle.cb_scan.specs.declared.lex.piece.Span.{Span}
 use Rattle.cb_scan.specs.Definitions.{IsScopeWithin, IsWithin, facts_of}
 use Rattle.cb_scan.specs.FactKeys.{keys_of_facts}
-use Rattle.cb_scan.specs.Keys.{AllNumbered, HoldsOf, Posting, items_by_key, items_of, items_with, key_prefix, numbers_with, postings, starts_from}
+use Rattle.cb_scan.specs.Keys.{AllNumbered, HoldsOf, Posting, items_by_key, items_of, items_with}
+use Rattle.cb_scan.specs.Keys.{key_prefix, numbers_with, postings, starts_from}
 use Rattle.cb_scan.specs.lex.Tokens.{bytes_of}
 use Rattle.cb_scan.proofs.FactsWithin.{facts_lie}
 use Rattle.cb_scan.proofs.KeyLaws.{holds_of_postings, items_with_are}
@@ -27,10 +30,14 @@ use Rattle.cb_index.specs.Bytes.{bytes_at, cut}
 use Rattle.cb_index.specs.Entries.{Keyer, entries_from, has_key}
 use Rattle.cb_index.specs.Files.{AreAscending, File, IsThere, files_of}
 use Rattle.cb_index.specs.Held.{Prefixer, all_entries, entries_of}
-use Rattle.cb_index.specs.Orders.{callee_key, callee_prefixes, callee_span, caller_key, caller_prefixes, caller_span, first_item, use_key, use_prefixes, use_span}
-use Rattle.cb_index.specs.Rows.{Fact, call_in, calls_in, calls_of, file_calls_in, file_calls_of, file_uses_of, use_in, uses_of}
+use Rattle.cb_index.specs.Orders.{callee_key, callee_prefixes, callee_span, caller_key}
+use Rattle.cb_index.specs.Orders.{caller_prefixes, caller_span, first_item, use_key, use_prefixes}
+use Rattle.cb_index.specs.Orders.{use_span}
+use Rattle.cb_index.specs.Rows.{Fact, call_in, calls_in, calls_of, file_calls_in, file_calls_of}
+use Rattle.cb_index.specs.Rows.{file_uses_of, use_in, uses_of}
 use Rattle.cb_index.specs.Shelved.{IsIndexOf}
-use Rattle.cb_index.specs.steps.Found.{fact_at, fact_of_call, fact_of_use, facts_at, facts_in, facts_in_text, part, posting_items}
+use Rattle.cb_index.specs.steps.Found.{fact_at, fact_of_call, fact_of_use, facts_at, facts_in}
+use Rattle.cb_index.specs.steps.Found.{facts_in_text, part, posting_items}
 use Rattle.cb_index.specs.declared.entry.Entry.{Entry}
 use Rattle.cb_index.specs.declared.entry.Shown.{Shown}
 use Rattle.cb_index.specs.declared.rows.FactSort.{FactSort}
@@ -67,7 +74,8 @@ and_same true c imply = refl
 and_same false true imply = absurd (false≢true (imply refl))
 and_same false false imply = refl
 
-prefix_and_key : (key other : List ℕ) → (nat_eq (key_prefix key) (key_prefix other) && bytes_eq key other) ≡ bytes_eq key other
+prefix_and_key : (key other : List ℕ)
+    → (nat_eq (key_prefix key) (key_prefix other) && bytes_eq key other) ≡ bytes_eq key other
 prefix_and_key key other =
     and_same (nat_eq (key_prefix key) (key_prefix other)) (bytes_eq key other)
     (λ is. (Decides-eqb (key_prefix key) (key_prefix other)).1 (ap key_prefix ((bytes_eq-Decides key other).0 is)))
@@ -82,7 +90,8 @@ module _ {Y : Type 0} (fact : ℕ → Y) (item_key : ℕ → List ℕ) (key item
       → Suffix (suc number) (at + length p.items) ps
   next_suffix number at p ps s = record {
     starts_are = λ k. ap (λ n. get_or starts n 0) (omega arith) ∙ s.starts_are (suc k);
-    rest = sym (drop-drop (length p.items) at items) ∙ ap (drop (length p.items)) s.rest ∙ drop-append_seam p.items (items_of ps);
+    rest = sym (drop-drop (length p.items) at items) ∙ ap (drop (length p.items)) s.rest
+        ∙ drop-append_seam p.items (items_of ps);
   }
 
   module _ (number at : ℕ) (p : Posting) (ps : List Posting) (s : Suffix number at (p ∷ ps))
@@ -112,7 +121,8 @@ module _ {Y : Type 0} (fact : ℕ → Y) (item_key : ℕ → List ℕ) (key item
       ≡ map fact (part items (get_or starts number 0) (get_or starts (suc number) 0)))
       (tests : (prefix number : ℕ) → has (record { prefix = prefix; name = name; version = version; number = number })
       ≡ (nat_eq (key_prefix key) prefix && bytes_eq key (item_key (get_or items (get_or starts number 0) 0)))) where
-    kept_postings : (b : Bool) (e : Entry) (es : List Entry) (p : Posting) (ps : List Posting) → give e ≡ map fact p.items
+    kept_postings : (b : Bool) (e : Entry) (es : List Entry) (p : Posting) (ps : List Posting)
+        → give e ≡ map fact p.items
         → flat_map give es ≡ map fact (items_of ps)
         → flat_map give (cond b (e ∷ es) es) ≡ map fact (items_of (cond b (p ∷ ps) ps))
     kept_postings true e es p ps here later = (λ i. here i ++ later i) ∙ sym (map-append fact p.items (items_of ps))
@@ -155,7 +165,8 @@ module _ {X : Type 0} (fact : ℕ → Fact) (row : X → Fact) (key_of_x : X →
 
 -- ---- one version
 module _ {X : Type 0} (sort : FactSort) (keyer : Keyer) (a : Archived) (s : Shown) (text : List ℕ)
-    (there : slice_get a.texts s.version ≡ Some text) (item_key : ℕ → List ℕ) (row : X → Fact) (key_of_x : X → List ℕ) (key : List ℕ) (xs : List X)
+    (there : slice_get a.texts s.version ≡ Some text) (item_key : ℕ → List ℕ) (row : X → Fact)
+    (key_of_x : X → List ℕ) (key : List ℕ) (xs : List X)
     (facts_are : (number : ℕ) → facts_in_text sort (name_of a s.name) number (Some text)
     ≡ map (fact_at sort (name_of a s.name) text) (posting_items (items_by_key (map key_of_x xs)) number))
     (keys_are : (number : ℕ) → keyer (Some text) (name_of a s.name) number
@@ -169,7 +180,8 @@ module _ {X : Type 0} (sort : FactSort) (keyer : Keyer) (a : Archived) (s : Show
   version_facts =
       let keys = map key_of_x xs in
       let fact = fact_at sort (name_of a s.name) text in
-      let suffix : Suffix fact item_key key (items_by_key keys).items (items_by_key keys).starts 0 0 (postings keys) = record {
+      let suffix : Suffix fact item_key key (items_by_key keys).items (items_by_key keys).starts 0 0
+      (postings keys) = record {
         starts_are = λ k. ap (λ n. get_or (items_by_key keys).starts n 0) (zero-add k);
         rest = refl;
       } in
@@ -183,20 +195,24 @@ module _ {X : Type 0} (sort : FactSort) (keyer : Keyer) (a : Archived) (s : Show
       ∙ numbers_rows fact row key_of_x key 0 xs rows
 
 -- ---- uses
-pub scope_is : (text : List ℕ) (scope : Option Span) → IsScopeWithin text scope → option_map (cut text) scope ≡ option_map (bytes_of text) scope
+pub scope_is : (text : List ℕ) (scope : Option Span) → IsScopeWithin text scope
+    → option_map (cut text) scope ≡ option_map (bytes_of text) scope
 scope_is text None within = refl
 scope_is text (Some span) within = ap (λ b. Some b) (cut_is text span within)
 
-module _ (a : Archived) (s : Shown) (text : List ℕ) (there : slice_get a.texts s.version ≡ Some text) (key : List ℕ) where
+module _ (a : Archived) (s : Shown) (text : List ℕ)
+    (there : slice_get a.texts s.version ≡ Some text) (key : List ℕ) where
   abbrev file : File
   file = record { name = name_of a s.name; bytes = text }
 
   pub use_numbered : (n : ℕ) (us : List Use) → drop n (facts_of text).uses ≡ us
       → AllByRecursion (λ (u : Use). IsWithin text u.name × IsScopeWithin text u.scope) us
-      → AllNumbered (λ i k. bytes_at text (use_span (facts_of text) i) ≡ k) n (map (λ (u : Use). bytes_of text u.name) us)
+      → AllNumbered (λ i k. bytes_at text (use_span (facts_of text) i) ≡ k) n
+      (map (λ (u : Use). bytes_of text u.name) us)
   use_numbered n [] is within = tt
   use_numbered n (u ∷ us) is within = (
-    ap (λ o. bytes_at text (option_map (λ (x : Use). x.name) o)) (at_front n (facts_of text).uses ∙ ap (λ l. slice_get l 0) is)
+    ap (λ o. bytes_at text (option_map (λ (x : Use). x.name) o))
+        (at_front n (facts_of text).uses ∙ ap (λ l. slice_get l 0) is)
         ∙ cut_is text u.name within.0.0,
     use_numbered (suc n) us (drop_next n (facts_of text).uses ∙ ap (drop 1) is) within.1,
   )
@@ -207,17 +223,23 @@ module _ (a : Archived) (s : Shown) (text : List ℕ) (there : slice_get a.texts
   use_rows n [] is within = tt
   use_rows n (u ∷ us) is within = (
     ap (fact_of_use (name_of a s.name) text) (at_front n (facts_of text).uses ∙ ap (λ l. slice_get l 0) is)
-        ∙ (λ i. record (use_in file u) { name = cut_is text u.name within.0.0 i; scope = scope_is text u.scope within.0.1 i }),
+        ∙ (λ i. record (use_in file u) {
+          name = cut_is text u.name within.0.0 i;
+          scope = scope_is text u.scope within.0.1 i;
+        }),
     use_rows (suc n) us (drop_next n (facts_of text).uses ∙ ap (drop 1) is) within.1,
   )
 
-  one_uses : facts_in Uses a (filter (has_key use_key a (key_prefix key) key) (entries_of use_prefixes a s)) ≡ file_uses_of key file
+  one_uses : facts_in Uses a (filter (has_key use_key a (key_prefix key) key)
+      (entries_of use_prefixes a s)) ≡ file_uses_of key file
   unfolding items_by_key keys_of_facts
   one_uses =
-      ap (λ o. facts_in Uses a (filter (has_key use_key a (key_prefix key) key) (entries_from 0 s.name s.version (use_prefixes o)))) there
+      ap (λ o. facts_in Uses a (filter (has_key use_key a (key_prefix key) key)
+      (entries_from 0 s.name s.version (use_prefixes o)))) there
       ∙ version_facts Uses use_key a s text there (λ i. bytes_at text (use_span (facts_of text) i)) (use_in file)
       (λ (u : Use). bytes_of text u.name) key (facts_of text).uses (λ number. refl) (λ number. refl)
-      (use_numbered 0 (facts_of text).uses refl (facts_lie text).uses) (use_rows 0 (facts_of text).uses refl (facts_lie text).uses)
+      (use_numbered 0 (facts_of text).uses refl (facts_lie text).uses)
+      (use_rows 0 (facts_of text).uses refl (facts_lie text).uses)
 
   -- ---- calls
   module _ (n : ℕ) (c : Call) (cs : List Call) (is : drop n (facts_of text).calls ≡ c ∷ cs) where
@@ -231,24 +253,31 @@ module _ (a : Archived) (s : Shown) (text : List ℕ) (there : slice_get a.texts
         → fact_of_call (name_of a s.name) text (slice_get (facts_of text).calls n) ≡ call_in file c
     call_is within =
         ap (fact_of_call (name_of a s.name) text) found_call
-        ∙ (λ i. record (call_in file c) { name = cut_is text c.callee within.0 i; scope = Some (cut_is text c.caller within.1 i) })
+        ∙ (λ i. record (call_in file c) {
+          name = cut_is text c.callee within.0 i;
+          scope = Some (cut_is text c.caller within.1 i);
+        })
 
   abbrev pub CallsWithin : List Call → Type 0
   CallsWithin cs = AllByRecursion (λ (c : Call). IsWithin text c.callee × IsWithin text c.caller) cs
 
   pub callee_numbered : (n : ℕ) (cs : List Call) → drop n (facts_of text).calls ≡ cs → CallsWithin cs
-      → AllNumbered (λ i k. bytes_at text (callee_span (facts_of text) i) ≡ k) n (map (λ (c : Call). bytes_of text c.callee) cs)
+      → AllNumbered (λ i k. bytes_at text (callee_span (facts_of text) i) ≡ k) n
+      (map (λ (c : Call). bytes_of text c.callee) cs)
   callee_numbered n [] is within = tt
   callee_numbered n (c ∷ cs) is within = (
-    ap (λ o. bytes_at text (option_map (λ (x : Call). x.callee) o)) (found_call n c cs is) ∙ cut_is text c.callee within.0.0,
+    ap (λ o. bytes_at text (option_map (λ (x : Call). x.callee) o)) (found_call n c cs is)
+        ∙ cut_is text c.callee within.0.0,
     callee_numbered (suc n) cs (next_call n c cs is) within.1,
   )
 
   pub caller_numbered : (n : ℕ) (cs : List Call) → drop n (facts_of text).calls ≡ cs → CallsWithin cs
-      → AllNumbered (λ i k. bytes_at text (caller_span (facts_of text) i) ≡ k) n (map (λ (c : Call). bytes_of text c.caller) cs)
+      → AllNumbered (λ i k. bytes_at text (caller_span (facts_of text) i) ≡ k) n
+      (map (λ (c : Call). bytes_of text c.caller) cs)
   caller_numbered n [] is within = tt
   caller_numbered n (c ∷ cs) is within = (
-    ap (λ o. bytes_at text (option_map (λ (x : Call). x.caller) o)) (found_call n c cs is) ∙ cut_is text c.caller within.0.1,
+    ap (λ o. bytes_at text (option_map (λ (x : Call). x.caller) o)) (found_call n c cs is)
+        ∙ cut_is text c.caller within.0.1,
     caller_numbered (suc n) cs (next_call n c cs is) within.1,
   )
 
@@ -264,21 +293,29 @@ module _ (a : Archived) (s : Shown) (text : List ℕ) (there : slice_get a.texts
   caller_rows n (c ∷ cs) is within =
       (call_is n c cs is within.0, caller_rows (suc n) cs (next_call n c cs is) within.1)
 
-  one_callees : facts_in Callees a (filter (has_key callee_key a (key_prefix key) key) (entries_of callee_prefixes a s)) ≡ file_calls_of key file
+  one_callees : facts_in Callees a (filter (has_key callee_key a (key_prefix key) key)
+      (entries_of callee_prefixes a s)) ≡ file_calls_of key file
   unfolding items_by_key keys_of_facts
   one_callees =
-      ap (λ o. facts_in Callees a (filter (has_key callee_key a (key_prefix key) key) (entries_from 0 s.name s.version (callee_prefixes o)))) there
-      ∙ version_facts Callees callee_key a s text there (λ i. bytes_at text (callee_span (facts_of text) i)) (call_in file)
+      ap (λ o. facts_in Callees a (filter (has_key callee_key a (key_prefix key) key)
+      (entries_from 0 s.name s.version (callee_prefixes o)))) there
+      ∙ version_facts Callees callee_key a s text there
+      (λ i. bytes_at text (callee_span (facts_of text) i)) (call_in file)
       (λ (c : Call). bytes_of text c.callee) key (facts_of text).calls (λ number. refl) (λ number. refl)
-      (callee_numbered 0 (facts_of text).calls refl (facts_lie text).calls) (callee_rows 0 (facts_of text).calls refl (facts_lie text).calls)
+      (callee_numbered 0 (facts_of text).calls refl (facts_lie text).calls)
+      (callee_rows 0 (facts_of text).calls refl (facts_lie text).calls)
 
-  one_callers : facts_in Callers a (filter (has_key caller_key a (key_prefix key) key) (entries_of caller_prefixes a s)) ≡ file_calls_in key file
+  one_callers : facts_in Callers a (filter (has_key caller_key a (key_prefix key) key)
+      (entries_of caller_prefixes a s)) ≡ file_calls_in key file
   unfolding items_by_key keys_of_facts
   one_callers =
-      ap (λ o. facts_in Callers a (filter (has_key caller_key a (key_prefix key) key) (entries_from 0 s.name s.version (caller_prefixes o)))) there
-      ∙ version_facts Callers caller_key a s text there (λ i. bytes_at text (caller_span (facts_of text) i)) (call_in file)
+      ap (λ o. facts_in Callers a (filter (has_key caller_key a (key_prefix key) key)
+      (entries_from 0 s.name s.version (caller_prefixes o)))) there
+      ∙ version_facts Callers caller_key a s text there
+      (λ i. bytes_at text (caller_span (facts_of text) i)) (call_in file)
       (λ (c : Call). bytes_of text c.caller) key (facts_of text).calls (λ number. refl) (λ number. refl)
-      (caller_numbered 0 (facts_of text).calls refl (facts_lie text).calls) (caller_rows 0 (facts_of text).calls refl (facts_lie text).calls)
+      (caller_numbered 0 (facts_of text).calls refl (facts_lie text).calls)
+      (caller_rows 0 (facts_of text).calls refl (facts_lie text).calls)
 
 -- ---- all versions
 module _ (sort : FactSort) (keyer : Keyer) (prefixer : Prefixer) (a : Archived) (key : List ℕ) (rows : File → List Fact)
@@ -286,13 +323,16 @@ module _ (sort : FactSort) (keyer : Keyer) (prefixer : Prefixer) (a : Archived) 
     → facts_in sort a (filter (has_key keyer a (key_prefix key) key) (entries_of prefixer a s))
     ≡ rows (record { name = name_of a s.name; bytes = text })) where
   all_facts : (shown : List Shown) → AllByRecursion (IsThere a) shown
-      → facts_in sort a (filter (has_key keyer a (key_prefix key) key) (all_entries prefixer a shown)) ≡ flat_map rows (files_of a shown)
+      → facts_in sort a (filter (has_key keyer a (key_prefix key) key)
+      (all_entries prefixer a shown)) ≡ flat_map rows (files_of a shown)
   all_facts [] all = refl
   all_facts (s ∷ shown) all =
       let has = has_key keyer a (key_prefix key) key in
       ap (facts_in sort a) (filter-append has (entries_of prefixer a s) (all_entries prefixer a shown))
-      ∙ flat_map-append (facts_at sort a) (filter has (entries_of prefixer a s)) (filter has (all_entries prefixer a shown))
-      ∙ (λ i. one s (get_or a.texts s.version []) (slice_get-get_or a.texts s.version [] all.0.1) i ++ all_facts shown all.1 i)
+      ∙ flat_map-append (facts_at sort a) (filter has (entries_of prefixer a s))
+      (filter has (all_entries prefixer a shown))
+      ∙ (λ i. one s (get_or a.texts s.version []) (slice_get-get_or a.texts s.version [] all.0.1) i
+      ++ all_facts shown all.1 i)
 
   index_facts : (shown : List Shown) → AllByRecursion (IsThere a) shown → AreAscending a shown → (es : List Entry)
       → IsIndexOf keyer prefixer a shown es
@@ -300,21 +340,25 @@ module _ (sort : FactSort) (keyer : Keyer) (prefixer : Prefixer) (a : Archived) 
   index_facts shown all up es is =
       ap (facts_in sort a) (kept_key keyer a prefixer shown up (key_prefix key) key es is) ∙ all_facts shown all
 
-module _ (a : Archived) (shown : List Shown) (all : AllByRecursion (IsThere a) shown) (up : AreAscending a shown) (es : List Entry) (key : List ℕ) where
+module _ (a : Archived) (shown : List Shown) (all : AllByRecursion (IsThere a) shown)
+    (up : AreAscending a shown) (es : List Entry) (key : List ℕ) where
   pub rows_of_uses : IsIndexOf use_key use_prefixes a shown es
       → facts_in Uses a (filter (has_key use_key a (key_prefix key) key) es) ≡ uses_of key (files_of a shown)
   unfolding uses_of
   rows_of_uses is =
-      index_facts Uses use_key use_prefixes a key (file_uses_of key) (λ s text there. one_uses a s text there key) shown all up es is
+      index_facts Uses use_key use_prefixes a key (file_uses_of key)
+      (λ s text there. one_uses a s text there key) shown all up es is
 
   pub rows_of_calls : IsIndexOf callee_key callee_prefixes a shown es
       → facts_in Callees a (filter (has_key callee_key a (key_prefix key) key) es) ≡ calls_of key (files_of a shown)
   unfolding calls_of
   rows_of_calls is =
-      index_facts Callees callee_key callee_prefixes a key (file_calls_of key) (λ s text there. one_callees a s text there key) shown all up es is
+      index_facts Callees callee_key callee_prefixes a key (file_calls_of key)
+      (λ s text there. one_callees a s text there key) shown all up es is
 
   pub rows_of_callers : IsIndexOf caller_key caller_prefixes a shown es
       → facts_in Callers a (filter (has_key caller_key a (key_prefix key) key) es) ≡ calls_in key (files_of a shown)
   unfolding calls_in
   rows_of_callers is =
-      index_facts Callers caller_key caller_prefixes a key (file_calls_in key) (λ s text there. one_callers a s text there key) shown all up es is
+      index_facts Callers caller_key caller_prefixes a key (file_calls_in key)
+      (λ s text there. one_callers a s text there key) shown all up es is
