@@ -1,5 +1,7 @@
 -- Plans that change the files.
-use Rattle.std.proofs.Common.{◌≡◌, ◌∙◌, ◌≤◌, ◌<◌, ◌+◌, ℕ, Bool, true, false, List, [], ◌∷◌, ◌++◌, refl, sym, ap, subst, length, map, take, not, cond, arith, append-nil, length-append, length-take-le, Option, None}
+use Rattle.std.proofs.Common.{◌≡◌, ◌∙◌, ◌≤◌, ◌<◌, ◌+◌, ℕ, Bool, true, false, List, [], ◌∷◌, ◌++◌}
+use Rattle.std.proofs.Common.{refl, sym, ap, subst, length, map, take, not, cond, arith, append-nil}
+use Rattle.std.proofs.Common.{length-append, length-take-le, Option, None}
 use Rattle.std.proofs.Math.Seq.{get_or-append_seam}
 use Rattle.std.specs.Prelude.{nat_eq, slice_index_or, ◌||◌}
 use Rattle.std.specs.List.{AllByRecursion}
@@ -20,14 +22,17 @@ use Rattle.cb_desk.specs.Files.{loaded, reloaded, renamed, unloaded, with_file}
 use Rattle.cb_desk.specs.Places.{is_in, renamed_place, renamed_places, without_places}
 use Rattle.cb_desk.specs.World.{File, Place, has_file, place_key}
 use Rattle.cb_desk.specs.steps.Edits.{IsDifference, edited, turned_edits}
-use Rattle.cb_desk.specs.steps.Plans.{IsAmong, IsPlan, Keeps, LeadsTo, Planned, is_of, key_then, name_then, places_without, renumbered}
+use Rattle.cb_desk.specs.steps.Plans.{IsAmong, IsPlan, Keeps, LeadsTo, Planned, is_of, key_then}
+use Rattle.cb_desk.specs.steps.Plans.{name_then, places_without, renumbered}
 use Rattle.cb_desk.specs.steps.Records.{IsFew, Kept, other, other_wanted, place_in, without, world_in}
 use Rattle.cb_desk.specs.steps.Walks.{IsKept, shows_name, shows_version}
 use Rattle.cb_desk.proofs.AllUsed.{any_shown, none_new, only_new}
 use Rattle.cb_desk.proofs.ArchiveMoves.{Agree, agree_kept, apart_same, below_shown, files_same, order_same, places_same}
 use Rattle.cb_desk.proofs.PlacePlans.{settled, without_none}
 use Rattle.cb_desk.proofs.Placed.{map-filter}
-use Rattle.cb_desk.proofs.ShownMoves.{Hides, IsOther, Shows, all_among, file_put, files_without, hides_none, hides_one, number_below, number_itself, order_more, others, shows_none, shows_one, text_shown}
+use Rattle.cb_desk.proofs.ShownMoves.{Hides, IsOther, Shows, all_among, file_put, files_without}
+use Rattle.cb_desk.proofs.ShownMoves.{hides_none, hides_one, number_below, number_itself}
+use Rattle.cb_desk.proofs.ShownMoves.{order_more, others, shows_none, shows_one, text_shown}
 use Rattle.cb_desk.proofs.TurnLemmas.{few_small}
 use Rattle.cb_desk.proofs.Valid.{all-filter, all-join}
 
@@ -35,7 +40,8 @@ abbrev pub Places : List NumberedPlace → ℕ → Type 0
 Places ps n = AllByRecursion (λ (p : NumberedPlace). p.name < n) ps
 
 -- ---- an archive that has what is new behind what the present world uses
-module _ (k : Kept) (p : Planned) (kept : IsKept k.rooms k.archive k.now) (ascending : AreAscending k.archive k.now.shown)
+module _ (k : Kept) (p : Planned) (kept : IsKept k.rooms k.archive k.now)
+    (ascending : AreAscending k.archive k.now.shown)
     (a : Archived) (keeps : Keeps k.archive k.now p a) where
   abbrev n : ℕ
   n = k.now.names
@@ -90,11 +96,13 @@ module _ (k : Kept) (p : Planned) (kept : IsKept k.rooms k.archive k.now) (ascen
 
   -- no file that is shown has a new name
   others_from : (s : Shown) (name : List ℕ) → name_of a s.name ≡ name → (ss : List Shown)
-      → AllByRecursion (λ (r : Shown). (r.name < n) × (r.version < v)) ss → has_file (files_of k.archive ss) name ≡ false → AllByRecursion (IsOther a s) ss
+      → AllByRecursion (λ (r : Shown). (r.name < n) × (r.version < v)) ss
+      → has_file (files_of k.archive ss) name ≡ false → AllByRecursion (IsOther a s) ss
   others_from s name is [] below none = tt
   others_from s name is (r ∷ ss) below none =
       let parts = split (bytes_eq (name_of k.archive r.name) name) (has_file (files_of k.archive ss) name) none in (
-        other_turned (name_of a r.name) (name_of a s.name) ((λ i. bytes_eq (agree.names r.name below.0.0 i) (is i)) ∙ parts.0),
+        other_turned (name_of a r.name) (name_of a s.name)
+            ((λ i. bytes_eq (agree.names r.name below.0.0 i) (is i)) ∙ parts.0),
         others_from s name is ss below.1 parts.1,
       )
     where
@@ -106,8 +114,10 @@ module _ (k : Kept) (p : Planned) (kept : IsKept k.rooms k.archive k.now) (ascen
       (hides : Hides a k.now.shown p.turn.hides) (shows : Shows a (without p.turn.hides k.now.shown) p.turn.shows)
       (few : IsFew a p.turn k.now)
       (below : AllByRecursion (λ (s : Shown). (s.name < p.turn.names) × (s.version < p.turn.versions)) p.turn.shows)
-      (wanted : other_wanted p.turn.wanted k.now.wanted ≡ next) (names : p.turn.names ≡ n + length p.names) (versions : p.turn.versions ≡ v + length p.texts)
-      (are_marks : IsDifference p.turn.marks k.now.marks marks) (are_frames : IsDifference p.turn.frames k.now.frames frames)
+      (wanted : other_wanted p.turn.wanted k.now.wanted ≡ next)
+      (names : p.turn.names ≡ n + length p.names) (versions : p.turn.versions ≡ v + length p.texts)
+      (are_marks : IsDifference p.turn.marks k.now.marks marks)
+      (are_frames : IsDifference p.turn.frames k.now.frames frames)
       (marks_named : Places marks p.turn.names) (frames_named : Places frames p.turn.names)
       (all_names : (m : ℕ) → n ≤ m → m < p.turn.names → shows_name m p.turn.shows ≡ true)
       (all_versions : (m : ℕ) → v ≤ m → m < p.turn.versions → shows_version m p.turn.shows ≡ true)
@@ -115,7 +125,8 @@ module _ (k : Kept) (p : Planned) (kept : IsKept k.rooms k.archive k.now) (ascen
       (marks_are : map (place_in a) marks ≡ ms) (frames_are : map (place_in a) frames ≡ gs) where
     all_then : AllByRecursion (λ (s : Shown). (s.name < p.turn.names) × (s.version < p.turn.versions)) k.now.shown
     all_then =
-        all_implied (λ (s : Shown). (s.name < n) × (s.version < v)) (λ (s : Shown). (s.name < p.turn.names) × (s.version < p.turn.versions))
+        all_implied (λ (s : Shown). (s.name < n) × (s.version < v))
+        (λ (s : Shown). (s.name < p.turn.names) × (s.version < p.turn.versions))
         (λ s is. (omega (arith, is.0, names), omega (arith, is.1, versions))) k.now.shown all_below
 
     pub file_leads : LeadsTo k p (record { files = fs; wanted = next; marks = ms; frames = gs }) a
@@ -149,9 +160,11 @@ module _ (k : Kept) (p : Planned) (kept : IsKept k.rooms k.archive k.now) (ascen
       next = record {
         names = omega (arith, names);
         versions = omega (arith, versions);
-        all_names = λ m above below. any_shown (λ (s : Shown). nat_eq s.name m) (shown_name a) (without p.turn.hides k.now.shown) p.turn.shows
+        all_names = λ m above below. any_shown (λ (s : Shown). nat_eq s.name m) (shown_name a)
+            (without p.turn.hides k.now.shown) p.turn.shows
             (all_names m above below);
-        all_versions = λ m above below. any_shown (λ (s : Shown). nat_eq s.version m) (shown_name a) (without p.turn.hides k.now.shown) p.turn.shows
+        all_versions = λ m above below. any_shown (λ (s : Shown). nat_eq s.version m) (shown_name a)
+            (without p.turn.hides k.now.shown) p.turn.shows
             (all_versions m above below);
       };
       all = record { names = omega (arith, names, name_count); versions = omega (arith, versions, text_count) };
@@ -169,10 +182,20 @@ module _ (k : Kept) (p : Planned) (kept : IsKept k.rooms k.archive k.now) (ascen
 
 -- ---- a file goes
 module _ (k : Kept) (p : Planned) (h : Shown) (marks frames : List Edit) (kept : IsKept k.rooms k.archive k.now)
-    (ascending : AreAscending k.archive k.now.shown) (among : IsAmong k.now.shown h) (names : p.names ≡ []) (texts : p.texts ≡ [])
-    (turn : p.turn ≡ record { hides = h ∷ []; shows = []; wanted = None; marks = marks; frames = frames; names = k.now.names; versions = k.now.versions })
+    (ascending : AreAscending k.archive k.now.shown) (among : IsAmong k.now.shown h)
+    (names : p.names ≡ []) (texts : p.texts ≡ [])
+    (turn : p.turn ≡ record {
+      hides = h ∷ [];
+      shows = [];
+      wanted = None;
+      marks = marks;
+      frames = frames;
+      names = k.now.names;
+      versions = k.now.versions;
+    })
     (are_marks : IsDifference marks k.now.marks (places_without k.archive (name_of k.archive h.name) k.now.marks))
-    (are_frames : IsDifference frames k.now.frames (places_without k.archive (name_of k.archive h.name) k.now.frames)) where
+    (are_frames : IsDifference frames k.now.frames
+    (places_without k.archive (name_of k.archive h.name) k.now.frames)) where
   abbrev name : List ℕ
   name = name_of k.archive h.name
 
@@ -180,7 +203,15 @@ module _ (k : Kept) (p : Planned) (h : Shown) (marks frames : List Edit) (kept :
   planned = record {
     names = [];
     texts = [];
-    turn = record { hides = h ∷ []; shows = []; wanted = None; marks = marks; frames = frames; names = k.now.names; versions = k.now.versions };
+    turn = record {
+      hides = h ∷ [];
+      shows = [];
+      wanted = None;
+      marks = marks;
+      frames = frames;
+      names = k.now.names;
+      versions = k.now.versions;
+    };
   }
 
   is_planned : p ≡ planned
@@ -190,9 +221,12 @@ module _ (k : Kept) (p : Planned) (h : Shown) (marks frames : List Edit) (kept :
   unload_leads a keeps =
       let rest = without (h ∷ []) k.now.shown in
       let hides = hides_one a k.now.shown h among.0 among.1 (up k planned kept ascending a keeps) in
-      let below = all-filter _ (λ (s : Shown). not (is_among (names_of (h ∷ [])) s.name)) k.now.shown (all_below k planned kept ascending a keeps) in
-      file_leads k planned kept ascending a keeps (places_without k.archive name k.now.marks) (places_without k.archive name k.now.frames) _ _ _ _
-      hides (shows_none a rest hides.left) (few_small a planned.turn k.now (omega arith)) tt refl (omega arith) (omega arith) are_marks are_frames
+      let below = all-filter _ (λ (s : Shown). not (is_among (names_of (h ∷ [])) s.name))
+      k.now.shown (all_below k planned kept ascending a keeps) in
+      file_leads k planned kept ascending a keeps (places_without k.archive name k.now.marks)
+      (places_without k.archive name k.now.frames) _ _ _ _
+      hides (shows_none a rest hides.left) (few_small a planned.turn k.now (omega arith)) tt refl
+      (omega arith) (omega arith) are_marks are_frames
       (all-filter _ _ k.now.marks kept.there.marks) (all-filter _ _ k.now.frames kept.there.frames)
       (λ m above below. none_new k.now.names k.now.names m (shows_name m [] ≡ true) refl above below)
       (λ m above below. none_new k.now.versions k.now.versions m (shows_version m [] ≡ true) refl above below)
@@ -210,7 +244,15 @@ module _ (k : Kept) (p : Planned) (h : Shown) (marks frames : List Edit) (kept :
 module _ (k : Kept) (p : Planned) (name text : List ℕ) (kept : IsKept k.rooms k.archive k.now)
     (ascending : AreAscending k.archive k.now.shown) (fresh : has_file (files_of k.archive k.now.shown) name ≡ false)
     (names : p.names ≡ name ∷ []) (texts : p.texts ≡ text ∷ []) (number version : ℕ)
-    (turn : p.turn ≡ record { hides = []; shows = record { name = k.now.names; version = k.now.versions } ∷ []; wanted = None; marks = []; frames = []; names = number; versions = version })
+    (turn : p.turn ≡ record {
+      hides = [];
+      shows = record { name = k.now.names; version = k.now.versions } ∷ [];
+      wanted = None;
+      marks = [];
+      frames = [];
+      names = number;
+      versions = version;
+    })
     (one_name : number ≡ k.now.names + 1) (one_version : version ≡ k.now.versions + 1) where
   abbrev new : Shown
   new = record { name = k.now.names; version = k.now.versions }
@@ -219,7 +261,15 @@ module _ (k : Kept) (p : Planned) (name text : List ℕ) (kept : IsKept k.rooms 
   planned_load = record {
     names = name ∷ [];
     texts = text ∷ [];
-    turn = record { hides = []; shows = new ∷ []; wanted = None; marks = []; frames = []; names = number; versions = version };
+    turn = record {
+      hides = [];
+      shows = new ∷ [];
+      wanted = None;
+      marks = [];
+      frames = [];
+      names = number;
+      versions = version;
+    };
   }
 
   is_planned_load : p ≡ planned_load
@@ -235,31 +285,49 @@ module _ (k : Kept) (p : Planned) (name text : List ℕ) (kept : IsKept k.rooms 
       let other : AllByRecursion (IsOther a new) rest = subst (AllByRecursion (IsOther a new)) (sym same)
       (others_from k planned_load kept ascending a keeps new name named k.now.shown all fresh) in
       file_leads k planned_load kept ascending a keeps k.now.marks k.now.frames _ _ _ _
-      hides (shows_one a rest new hides.left other) (few_small a planned_load.turn k.now (omega arith)) ((omega (arith, one_name), omega (arith, one_version)), tt) refl
-      (omega (arith, one_name)) (omega (arith, one_version)) (record { on = refl; back = refl }) (record { on = refl; back = refl })
+      hides (shows_one a rest new hides.left other)
+      (few_small a planned_load.turn k.now (omega arith))
+      ((omega (arith, one_name), omega (arith, one_version)), tt) refl
+      (omega (arith, one_name)) (omega (arith, one_version)) (record { on = refl; back = refl })
+      (record { on = refl; back = refl })
       (more_named k.now.marks kept.there.marks) (more_named k.now.frames kept.there.frames)
       (λ m above below. only_new k.now.names number m one_name above below)
       (λ m above below. only_new k.now.versions version m one_version above below)
       (ap (files_of a) (order_more a rest new hides.left other) ∙ file_put a rest new hides.left
-      ∙ (λ i. with_file (record { name = named i; bytes = new_text k planned_load kept ascending a keeps text [] refl i })
-      ((ap (files_of a) same ∙ files_same k.archive a k.now.names k.now.versions (agree k planned_load kept ascending a keeps) k.now.shown all) i)))
+      ∙ (λ i. with_file (record {
+        name = named i;
+        bytes = new_text k planned_load kept ascending a keeps text [] refl i;
+      })
+      ((ap (files_of a) same ∙ files_same k.archive a k.now.names k.now.versions
+      (agree k planned_load kept ascending a keeps) k.now.shown all) i)))
       (same_places k planned_load kept ascending a keeps k.now.marks kept.there.marks)
       (same_places k planned_load kept ascending a keeps k.now.frames kept.there.frames)
     where
       more_named : (ps : List NumberedPlace) → Places ps k.now.names → Places ps number
-      more_named ps all = all_implied (λ (q : NumberedPlace). q.name < k.now.names) (λ (q : NumberedPlace). q.name < number) (λ q is. omega (arith, is, one_name)) ps all
+      more_named ps all = all_implied (λ (q : NumberedPlace). q.name < k.now.names)
+          (λ (q : NumberedPlace). q.name < number) (λ q is. omega (arith, is, one_name)) ps all
 
   pub load_planned : IsPlan k p (loaded (world_in k.archive k.now) name text)
   load_planned = subst (λ q. IsPlan k q (loaded (world_in k.archive k.now) name text)) (sym is_planned_load) load_leads
 
 -- ---- a file has other bytes
-module _ (k : Kept) (p : Planned) (h : Shown) (text : List ℕ) (marks frames : List Edit) (kept : IsKept k.rooms k.archive k.now)
+module _ (k : Kept) (p : Planned) (h : Shown) (text : List ℕ) (marks frames : List Edit)
+    (kept : IsKept k.rooms k.archive k.now)
     (ascending : AreAscending k.archive k.now.shown) (among : IsAmong k.now.shown h)
     (names : p.names ≡ []) (texts : p.texts ≡ text ∷ []) (version : ℕ)
-    (turn : p.turn ≡ record { hides = h ∷ []; shows = record { name = h.name; version = k.now.versions } ∷ []; wanted = None; marks = marks; frames = frames; names = k.now.names; versions = version })
+    (turn : p.turn ≡ record {
+      hides = h ∷ [];
+      shows = record { name = h.name; version = k.now.versions } ∷ [];
+      wanted = None;
+      marks = marks;
+      frames = frames;
+      names = k.now.names;
+      versions = version;
+    })
     (one_version : version ≡ k.now.versions + 1)
     (are_marks : IsDifference marks k.now.marks (places_without k.archive (name_of k.archive h.name) k.now.marks))
-    (are_frames : IsDifference frames k.now.frames (places_without k.archive (name_of k.archive h.name) k.now.frames)) where
+    (are_frames : IsDifference frames k.now.frames
+    (places_without k.archive (name_of k.archive h.name) k.now.frames)) where
   abbrev reloaded_name : List ℕ
   reloaded_name = name_of k.archive h.name
 
@@ -270,7 +338,15 @@ module _ (k : Kept) (p : Planned) (h : Shown) (text : List ℕ) (marks frames : 
   planned_reload = record {
     names = [];
     texts = text ∷ [];
-    turn = record { hides = h ∷ []; shows = changed ∷ []; wanted = None; marks = marks; frames = frames; names = k.now.names; versions = version };
+    turn = record {
+      hides = h ∷ [];
+      shows = changed ∷ [];
+      wanted = None;
+      marks = marks;
+      frames = frames;
+      names = k.now.names;
+      versions = version;
+    };
   }
 
   is_planned_reload : p ≡ planned_reload
@@ -284,34 +360,55 @@ module _ (k : Kept) (p : Planned) (h : Shown) (text : List ℕ) (marks frames : 
       let same = agree k planned_reload kept ascending a keeps in
       let hides = hides_one a k.now.shown h among.0 among.1 up_now in
       let there : (h.name < k.now.names) × (h.version < k.now.versions) =
-      all_among (λ (s : Shown). (s.name < k.now.names) × (s.version < k.now.versions)) k.now.shown h among.0 among.1 all in
+      all_among (λ (s : Shown). (s.name < k.now.names) × (s.version < k.now.versions)) k.now.shown h
+      among.0 among.1 all in
       let other : AllByRecursion (IsOther a changed) rest = others a k.now.shown h among.0 among.1 up_now in
       let below = all-filter _ (λ (s : Shown). not (is_among (names_of (h ∷ [])) s.name)) k.now.shown all in
-      file_leads k planned_reload kept ascending a keeps (places_without k.archive reloaded_name k.now.marks) (places_without k.archive reloaded_name k.now.frames) _ _ _ _
-      hides (shows_one a rest changed hides.left other) (few_small a planned_reload.turn k.now (omega arith)) ((there.0, omega (arith, one_version)), tt) refl
+      file_leads k planned_reload kept ascending a keeps
+      (places_without k.archive reloaded_name k.now.marks)
+      (places_without k.archive reloaded_name k.now.frames) _ _ _ _
+      hides (shows_one a rest changed hides.left other)
+      (few_small a planned_reload.turn k.now (omega arith))
+      ((there.0, omega (arith, one_version)), tt) refl
       (omega arith) (omega (arith, one_version)) are_marks are_frames
       (all-filter _ _ k.now.marks kept.there.marks) (all-filter _ _ k.now.frames kept.there.frames)
       (λ m above below. none_new k.now.names k.now.names m (shows_name m (changed ∷ []) ≡ true) refl above below)
       (λ m above below. only_new k.now.versions version m one_version above below)
       (ap (files_of a) (order_more a rest changed hides.left other) ∙ file_put a rest changed hides.left
-      ∙ (λ i. with_file (record { name = same.names h.name there.0 i; bytes = new_text k planned_reload kept ascending a keeps text [] refl i })
-      ((files_same k.archive a k.now.names k.now.versions same rest below ∙ files_without k.archive k.now.shown h among.0 among.1 ascending) i)))
+      ∙ (λ i. with_file (record {
+        name = same.names h.name there.0 i;
+        bytes = new_text k planned_reload kept ascending a keeps text [] refl i;
+      })
+      ((files_same k.archive a k.now.names k.now.versions same rest below
+      ∙ files_without k.archive k.now.shown h among.0 among.1 ascending) i)))
       (same_without k planned_reload kept ascending a keeps reloaded_name k.now.marks kept.there.marks)
       (same_without k planned_reload kept ascending a keeps reloaded_name k.now.frames kept.there.frames)
 
   pub reload_planned : IsPlan k p (reloaded (world_in k.archive k.now) reloaded_name text)
-  reload_planned = subst (λ q. IsPlan k q (reloaded (world_in k.archive k.now) reloaded_name text)) (sym is_planned_reload) reload_leads
+  reload_planned =
+      subst (λ q. IsPlan k q (reloaded (world_in k.archive k.now) reloaded_name text))
+      (sym is_planned_reload) reload_leads
 
 -- ---- a file gets another name
-module _ (k : Kept) (p : Planned) (h : Shown) (new_bytes : List ℕ) (marks frames : List Edit) (kept : IsKept k.rooms k.archive k.now)
+module _ (k : Kept) (p : Planned) (h : Shown) (new_bytes : List ℕ) (marks frames : List Edit)
+    (kept : IsKept k.rooms k.archive k.now)
     (ascending : AreAscending k.archive k.now.shown) (among : IsAmong k.now.shown h)
     (fresh : has_file (files_of k.archive k.now.shown) new_bytes ≡ false)
     (names : p.names ≡ new_bytes ∷ []) (texts : p.texts ≡ []) (number : ℕ)
-    (turn : p.turn ≡ record { hides = h ∷ []; shows = record { name = k.now.names; version = h.version } ∷ []; wanted = None; marks = marks; frames = frames; names = number; versions = k.now.versions })
+    (turn : p.turn ≡ record {
+      hides = h ∷ [];
+      shows = record { name = k.now.names; version = h.version } ∷ [];
+      wanted = None;
+      marks = marks;
+      frames = frames;
+      names = number;
+      versions = k.now.versions;
+    })
     (one_name : number ≡ k.now.names + 1)
     (are_marks : IsDifference marks k.now.marks (in_order (key_then k.archive k.now.names new_bytes)
     (map (renumbered k.archive (name_of k.archive h.name) k.now.names) k.now.marks)))
-    (are_frames : IsDifference frames k.now.frames (map (renumbered k.archive (name_of k.archive h.name) k.now.names) k.now.frames)) where
+    (are_frames : IsDifference frames k.now.frames
+    (map (renumbered k.archive (name_of k.archive h.name) k.now.names) k.now.frames)) where
   abbrev old_bytes : List ℕ
   old_bytes = name_of k.archive h.name
 
@@ -325,7 +422,15 @@ module _ (k : Kept) (p : Planned) (h : Shown) (new_bytes : List ℕ) (marks fram
   planned_rename = record {
     names = new_bytes ∷ [];
     texts = [];
-    turn = record { hides = h ∷ []; shows = moved ∷ []; wanted = None; marks = marks; frames = frames; names = number; versions = k.now.versions };
+    turn = record {
+      hides = h ∷ [];
+      shows = moved ∷ [];
+      wanted = None;
+      marks = marks;
+      frames = frames;
+      names = number;
+      versions = k.now.versions;
+    };
   }
 
   is_planned_rename : p ≡ planned_rename
@@ -342,7 +447,8 @@ module _ (k : Kept) (p : Planned) (h : Shown) (new_bytes : List ℕ) (marks fram
     then_new = ap (λ b. cond b new_bytes (name_of k.archive k.now.names)) (number_itself k.now.names) ∙ sym named
 
     then_still : (m : ℕ) → m < k.now.names → name_then k.archive k.now.names new_bytes m ≡ name_of a m
-    then_still m below = ap (λ b. cond b new_bytes (name_of k.archive m)) (number_below m k.now.names below) ∙ sym (still m below)
+    then_still m below = ap (λ b. cond b new_bytes (name_of k.archive m))
+        (number_below m k.now.names below) ∙ sym (still m below)
 
     all_named : (ps : List NumberedPlace) → Places ps k.now.names → Places (map renumber ps) number
     all_named [] all = tt
@@ -353,11 +459,14 @@ module _ (k : Kept) (p : Planned) (h : Shown) (new_bytes : List ℕ) (marks fram
     )
 
     all_keys : (ps : List NumberedPlace) → Places ps k.now.names
-        → AllByRecursion (λ (q : NumberedPlace). key_then k.archive k.now.names new_bytes q ≡ place_key (place_in a q)) (map renumber ps)
+        → AllByRecursion (λ (q : NumberedPlace). key_then k.archive k.now.names new_bytes q
+        ≡ place_key (place_in a q)) (map renumber ps)
     all_keys [] all = tt
     all_keys (q ∷ ps) all = (
       elim (is_of k.archive old_bytes q)
-          as (λ b. key_then k.archive k.now.names new_bytes (cond b (record q { name = k.now.names }) q) ≡ place_key (place_in a (cond b (record q { name = k.now.names }) q))) [
+          as (λ b. key_then k.archive k.now.names new_bytes
+          (cond b (record q { name = k.now.names }) q)
+          ≡ place_key (place_in a (cond b (record q { name = k.now.names }) q))) [
             | true ↦ ap (λ x. place_key (record { file = x; line = q.line })) then_new
             | false ↦ ap (λ x. place_key (record { file = x; line = q.line })) (then_still q.name all.0)
           ],
@@ -370,7 +479,8 @@ module _ (k : Kept) (p : Planned) (h : Shown) (new_bytes : List ℕ) (marks fram
     all_places (q ∷ ps) all =
         let first : place_in a (renumber q) ≡ renamed_place old_bytes new_bytes (place_in k.archive q) =
         elim (is_of k.archive old_bytes q)
-        as (λ b. place_in a (cond b (record q { name = k.now.names }) q) ≡ cond b (record (place_in k.archive q) { file = new_bytes }) (place_in k.archive q)) [
+        as (λ b. place_in a (cond b (record q { name = k.now.names }) q)
+        ≡ cond b (record (place_in k.archive q) { file = new_bytes }) (place_in k.archive q)) [
           | true ↦ ap (λ x. record { file = x; line = q.line }) named
           | false ↦ ap (λ x. record { file = x; line = q.line }) (still q.name all.0)
         ] in
@@ -382,28 +492,39 @@ module _ (k : Kept) (p : Planned) (h : Shown) (new_bytes : List ℕ) (marks fram
         let all = all_below k planned_rename kept ascending a keeps in
         let hides = hides_one a k.now.shown h among.0 among.1 (up k planned_rename kept ascending a keeps) in
         let there : (h.name < k.now.names) × (h.version < k.now.versions) =
-        all_among (λ (s : Shown). (s.name < k.now.names) × (s.version < k.now.versions)) k.now.shown h among.0 among.1 all in
+        all_among (λ (s : Shown). (s.name < k.now.names) × (s.version < k.now.versions)) k.now.shown
+        h among.0 among.1 all in
         let other : AllByRecursion (IsOther a moved) rest =
-        all-filter _ _ k.now.shown (others_from k planned_rename kept ascending a keeps moved new_bytes named k.now.shown all fresh) in
+        all-filter _ _ k.now.shown (others_from k planned_rename kept ascending a keeps moved
+        new_bytes named k.now.shown all fresh) in
         let below = all-filter _ (λ (s : Shown). not (is_among (names_of (h ∷ [])) s.name)) k.now.shown all in
         file_leads k planned_rename kept ascending a keeps
-        (in_order (key_then k.archive k.now.names new_bytes) (map renumber k.now.marks)) (map renumber k.now.frames) _ _ _ _
-        hides (shows_one a rest moved hides.left other) (few_small a planned_rename.turn k.now (omega arith)) ((omega (arith, one_name), there.1), tt) refl
+        (in_order (key_then k.archive k.now.names new_bytes) (map renumber k.now.marks))
+        (map renumber k.now.frames) _ _ _ _
+        hides (shows_one a rest moved hides.left other)
+        (few_small a planned_rename.turn k.now (omega arith))
+        ((omega (arith, one_name), there.1), tt) refl
         (omega (arith, one_name)) (omega arith) are_marks are_frames
-        (all_in_order (key_then k.archive k.now.names new_bytes) _ (map renumber k.now.marks) (all_named k.now.marks kept.there.marks))
+        (all_in_order (key_then k.archive k.now.names new_bytes) _ (map renumber k.now.marks)
+        (all_named k.now.marks kept.there.marks))
         (all_named k.now.frames kept.there.frames)
         (λ m above below. only_new k.now.names number m one_name above below)
-        (λ m above below. none_new k.now.versions k.now.versions m (shows_version m (moved ∷ []) ≡ true) refl above below)
+        (λ m above below. none_new k.now.versions k.now.versions m
+        (shows_version m (moved ∷ []) ≡ true) refl above below)
         (ap (files_of a) (order_more a rest moved hides.left other) ∙ file_put a rest moved hides.left
         ∙ (λ i. with_file (record {
           name = named i;
           bytes = ((agree k planned_rename kept ascending a keeps).bytes h.version there.1
               ∙ sym (text_shown k.archive k.now.shown h among.0 among.1 ascending)) i;
-        }) ((files_same k.archive a k.now.names k.now.versions (agree k planned_rename kept ascending a keeps) rest below
+        }) ((files_same k.archive a k.now.names k.now.versions
+        (agree k planned_rename kept ascending a keeps) rest below
         ∙ files_without k.archive k.now.shown h among.0 among.1 ascending) i)))
-        (map_in_order (key_then k.archive k.now.names new_bytes) place_key (place_in a) (map renumber k.now.marks) (all_keys k.now.marks kept.there.marks)
+        (map_in_order (key_then k.archive k.now.names new_bytes) place_key (place_in a)
+        (map renumber k.now.marks) (all_keys k.now.marks kept.there.marks)
         ∙ ap (in_order place_key) (all_places k.now.marks kept.there.marks))
         (all_places k.now.frames kept.there.frames)
 
   pub rename_planned : IsPlan k p (renamed (world_in k.archive k.now) old_bytes new_bytes)
-  rename_planned = subst (λ q. IsPlan k q (renamed (world_in k.archive k.now) old_bytes new_bytes)) (sym is_planned_rename) rename_leads
+  rename_planned =
+      subst (λ q. IsPlan k q (renamed (world_in k.archive k.now) old_bytes new_bytes))
+      (sym is_planned_rename) rename_leads

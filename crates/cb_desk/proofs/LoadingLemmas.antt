@@ -1,5 +1,7 @@
 -- Files that are loaded before they are shown.
-use Rattle.std.proofs.Common.{◌≡◌, ◌∙◌, ◌≤◌, ◌<◌, ◌+◌, ℕ, Bool, true, false, List, [], ◌∷◌, ◌++◌, None, Ok, refl, sym, ap, subst, length, take, get_or, slice_set, arith, length-append, Option}
+use Rattle.std.proofs.Common.{◌≡◌, ◌∙◌, ◌≤◌, ◌<◌, ◌+◌, ℕ, Bool, true, false, List, [], ◌∷◌, ◌++◌}
+use Rattle.std.proofs.Common.{None, Ok, refl, sym, ap, subst, length, take, get_or, slice_set}
+use Rattle.std.proofs.Common.{arith, length-append, Option}
 use Rattle.std.proofs.Math.Seq.{take-length, get_or-append_seam, set-append_seam}
 use Rattle.std.specs.Prelude.{cond, nat_le, not, Some, Result, Err, IsErr, MatchResult}
 use Rattle.std.specs.declared.alloc.AllocError.{AllocError}
@@ -8,7 +10,8 @@ use Rattle.std.specs.List.{AllByRecursion, list_any}
 use Rattle.cb_scan.specs.Order.{AreOrdered, in_order}
 use Rattle.cb_scan.proofs.FunctionsRise.{all_implied}
 use Rattle.cb_index.specs.Archived.{Archived}
-use Rattle.cb_index.specs.Files.{AreApart, AreAscending, IsThere, call_count, def_count, files_of, is_shown, shown_name, total, use_count}
+use Rattle.cb_index.specs.Files.{AreApart, AreAscending, IsThere, call_count, def_count, files_of}
+use Rattle.cb_index.specs.Files.{is_shown, shown_name, total, use_count}
 use Rattle.cb_index.specs.Shelved.{AreTotals, CanShowAll, Shelved}
 use Rattle.cb_index.specs.declared.entry.Shown.{Shown}
 use Rattle.cb_index.specs.declared.room.Room.{Room}
@@ -44,7 +47,8 @@ all_there a hidden shown records is =
     (kept_back h.kept.rooms h.kept.archive h.kept.now (turns_back h) is.recorded.back).there.shown
 
 -- ---- nothing is loaded
-pub none_loaded : (a : Archived) (hidden shown : List Shown) (records : List Turn) → a.names ≡ [] → a.texts ≡ [] → hidden ≡ [] → shown ≡ [] → records ≡ []
+pub none_loaded : (a : Archived) (hidden shown : List Shown) (records : List Turn) → a.names ≡ []
+    → a.texts ≡ [] → hidden ≡ [] → shown ≡ [] → records ≡ []
     → AreLoaded a hidden shown records
 unfolding AreOrdered
 none_loaded a hidden shown records names texts none is_shown is_records =
@@ -54,21 +58,26 @@ none_loaded a hidden shown records names texts none is_shown is_records =
       versions = ap length texts;
       files = refl;
       ascending = tt;
-      recorded = nothing_recorded (loads_recorded a [] []).kept (λ i. record no_numbers { names = length (names i); versions = length (texts i) }) names texts;
+      recorded = nothing_recorded (loads_recorded a [] []).kept
+          (λ i. record no_numbers { names = length (names i); versions = length (texts i) }) names
+          texts;
     } in
-    subst (λ ss. AreLoaded a hidden ss records) (sym is_shown) (subst (λ rs. AreLoaded a hidden [] rs) (sym is_records) base)
+    subst (λ ss. AreLoaded a hidden ss records) (sym is_shown)
+    (subst (λ rs. AreLoaded a hidden [] rs) (sym is_records) base)
 
 pub empty_list : {X : Type 0} (xs : List X) → length xs ≡ 0 → xs ≡ []
 empty_list [] none = refl
 empty_list (x ∷ xs) none = absurd (omega (arith, none))
 
-pub nothing_loaded : (a : Archived) (hidden shown : List Shown) (records : List Turn) → AreLoaded a hidden shown records → records ≡ []
+pub nothing_loaded : (a : Archived) (hidden shown : List Shown) (records : List Turn)
+    → AreLoaded a hidden shown records → records ≡ []
     → timeline_in (loads_recorded a shown records) ≡ new_timeline
 nothing_loaded a hidden shown records is none =
     let s : shown ≡ [] = empty_list shown (is.files ∙ ap length none) in
     λ i. timeline_in (loads_recorded a (s i) (none i))
 
-pub some_past : (a : Archived) (hidden shown : List Shown) (records : List Turn) → AreLoaded a hidden shown records → 1 ≤ length records
+pub some_past : (a : Archived) (hidden shown : List Shown) (records : List Turn)
+    → AreLoaded a hidden shown records → 1 ≤ length records
     → (timeline_in (loads_recorded a shown records)).past ≡ [] → ⊥
 some_past a hidden shown records is some none =
     let long = sym (past_length (loads_recorded a shown records) (omega arith)) ∙ ap length none in
@@ -78,12 +87,14 @@ pub below_most : (n : ℕ) → nat_le MOST_CHANGES n ≡ false → n < MOST_CHAN
 below_most n few = grind (arith, few)
 
 -- what a refused growth leaves
-pub refused_with : {X : Type 0} (P : X → Type 0) (B : Type 0) (r : Result X AllocError) → IsErr r → B → MatchResult r P (λ _. B)
+pub refused_with : {X : Type 0} (P : X → Type 0) (B : Type 0) (r : Result X AllocError) → IsErr r
+    → B → MatchResult r P (λ _. B)
 refused_with P B (Ok x) is b = absurd (true≢false (sym is))
 refused_with P B (Err e) is b = b
 
 -- what asks for a name that no file has
-fresh_from : (x y : Bool) (rest : Option Refusal) → cond (not x) (Some BadName) (cond y (Some FileExists) rest) ≡ None → y ≡ false
+fresh_from : (x y : Bool) (rest : Option Refusal)
+    → cond (not x) (Some BadName) (cond y (Some FileExists) rest) ≡ None → y ≡ false
 fresh_from true true rest e = cc
 fresh_from true false rest e = refl
 fresh_from false y rest e = cc
@@ -92,24 +103,31 @@ pub fresh_name : (w : World) (name bytes : List ℕ) → load_refusal w name byt
 fresh_name w name bytes none = fresh_from (is_file_name name) (has_file w.files name) _ none
 
 -- ---- a shelf shows what is loaded
-pub ascending_then : (a b : Archived) (shown : List Shown) → b.names ≡ a.names → AreAscending a shown → AreAscending b shown
+pub ascending_then : (a b : Archived) (shown : List Shown) → b.names ≡ a.names
+    → AreAscending a shown → AreAscending b shown
 ascending_then a b shown names up = subst (λ ns. AreAscending (record a { names = ns }) shown) (sym names) up
 
 none_shown : (a : Archived) (ss : List Shown) → list_any (is_shown a []) ss ≡ false
 none_shown a [] = refl
 none_shown a (s ∷ ss) = none_shown a ss
 
-pub can_show_loaded : (old s : Shelved) (shown : List Shown) (n : Totals) (entries : ℕ) → old.shown ≡ [] → s.shown ≡ old.shown
+pub can_show_loaded : (old s : Shelved) (shown : List Shown) (n : Totals) (entries : ℕ)
+    → old.shown ≡ [] → s.shown ≡ old.shown
     → s.archive.names ≡ old.archive.names → s.archive.texts ≡ old.archive.texts
-    → AllByRecursion (IsThere old.archive) shown → AreAscending old.archive shown → AreTotals old.archive shown n → entries ≡ length shown
+    → AllByRecursion (IsThere old.archive) shown → AreAscending old.archive shown
+    → AreTotals old.archive shown n → entries ≡ length shown
     → entries ≤ s.entry_room → n.defs ≤ s.def_room → n.uses ≤ s.use_room → n.calls ≤ s.call_room → CanShowAll s shown
 can_show_loaded old s shown n entries none same names texts there up are count files defs uses calls =
     let empty : s.shown ≡ [] = same ∙ none in
     let now : (f : Option (List ℕ) → ℕ) → total f s.archive s.shown ≡ 0 = λ f. ap (total f s.archive) empty in
-    let all : (f : Option (List ℕ) → ℕ) → total f old.archive shown ≡ total f s.archive shown = λ f. same_total f old.archive s.archive (sym texts) shown in
+    let all : (f : Option (List ℕ) → ℕ) → total f old.archive shown ≡ total f s.archive shown =
+    λ f. same_total f old.archive s.archive (sym texts) shown in
     record {
       there = all_implied (IsThere old.archive) (IsThere s.archive)
-          (λ t is. (subst (λ l. t.name < length l) (sym names) is.0, subst (λ l. t.version < length l) (sym texts) is.1)) shown there;
+          (λ t is. (
+            subst (λ l. t.name < length l) (sym names) is.0,
+            subst (λ l. t.version < length l) (sym texts) is.1,
+          )) shown there;
       apart = ascending_apart s.archive shown (ascending_then old.archive s.archive shown names up);
       other = ap (λ l. list_any (is_shown s.archive l) shown) empty ∙ none_shown s.archive shown;
       entries = let e = ap length empty in omega (arith, e, count, files);
@@ -121,10 +139,12 @@ can_show_loaded old s shown n entries none same names texts there up are count f
 pub shown_as_loaded : (s : Shelved) (shown : List Shown) → s.shown ≡ [] → AreAscending s.archive shown
     → in_order (shown_name s.archive) (s.shown ++ shown) ≡ shown
 shown_as_loaded s shown none up =
-    ap (λ l. in_order (shown_name s.archive) (l ++ shown)) none ∙ settled (shown_name s.archive) shown (ascending_sorted s.archive shown up)
+    ap (λ l. in_order (shown_name s.archive) (l ++ shown)) none
+    ∙ settled (shown_name s.archive) shown (ascending_sorted s.archive shown up)
 
 -- ---- an archive with other room
-module _ (a b : Archived) (names : b.names ≡ a.names) (texts : b.texts ≡ a.texts) (shown : List Shown) (records : List Turn)
+module _ (a b : Archived) (names : b.names ≡ a.names) (texts : b.texts ≡ a.texts)
+    (shown : List Shown) (records : List Turn)
     (is : IsRecorded (loads_recorded a shown records)) where
   abbrev before : Kept
   before = (loads_recorded a shown records).kept
@@ -144,11 +164,13 @@ module _ (a b : Archived) (names : b.names ≡ a.names) (texts : b.texts ≡ a.t
 
   pub roomier_recorded : IsRecorded (loads_recorded b shown records)
   roomier_recorded =
-      same_recorded before (loads_recorded b shown records).kept records (length records) same_now names texts same_rooms is
+      same_recorded before (loads_recorded b shown records).kept records
+      (length records) same_now names texts same_rooms is
 
   pub roomier_timeline : timeline_in (loads_recorded b shown records) ≡ timeline_in (loads_recorded a shown records)
   roomier_timeline =
-      same_timeline before (loads_recorded b shown records).kept records (length records) same_now names texts same_rooms is
+      same_timeline before (loads_recorded b shown records).kept records
+      (length records) same_now names texts same_rooms is
 
 pub roomier : (a b : Archived) (hidden shown : List Shown) (records : List Turn) → b.names ≡ a.names → b.texts ≡ a.texts
     → AreLoaded a hidden shown records → AreLoaded b hidden shown records
@@ -163,25 +185,58 @@ roomier a b hidden shown records names texts is = record {
 
 -- the record that takes a load back
 pub turn_back : {n m : ℕ} (u : Turn) (count : ℕ) → count ≡ n → count ≡ m
-    → u ≡ record { hides = record { name = count; version = count } ∷ []; shows = []; wanted = None; marks = []; frames = []; names = count; versions = count }
-    → u ≡ record { hides = record { name = n; version = m } ∷ []; shows = []; wanted = None; marks = []; frames = []; names = n; versions = m }
+    → u ≡ record {
+      hides = record { name = count; version = count } ∷ [];
+      shows = [];
+      wanted = None;
+      marks = [];
+      frames = [];
+      names = count;
+      versions = count;
+    }
+    → u ≡ record {
+      hides = record { name = n; version = m } ∷ [];
+      shows = [];
+      wanted = None;
+      marks = [];
+      frames = [];
+      names = n;
+      versions = m;
+    }
 turn_back u count named kept is =
-    is ∙ (λ i. record { hides = record { name = named i; version = kept i } ∷ []; shows = []; wanted = None; marks = []; frames = []; names = named i; versions = kept i })
+    is ∙ (λ i. record {
+      hides = record { name = named i; version = kept i } ∷ [];
+      shows = [];
+      wanted = None;
+      marks = [];
+      frames = [];
+      names = named i;
+      versions = kept i;
+    })
 
 -- ---- a world that shows what is loaded
-module _ (a : Archived) (hidden shown : List Shown) (records : List Turn) (k : Kept) (is : AreLoaded a hidden shown records)
+module _ (a : Archived) (hidden shown : List Shown) (records : List Turn) (k : Kept)
+    (is : AreLoaded a hidden shown records)
     (now : k.now ≡ loaded_numbers a shown) (names : k.archive.names ≡ a.names) (texts : k.archive.texts ≡ a.texts)
     (rooms : KeepsRooms (just_room a shown) k.rooms) where
   pub shown_recorded : IsRecorded (record { kept = k; records = records; done = length records })
-  shown_recorded = same_recorded (loads_recorded a shown records).kept k records (length records) now names texts rooms is.recorded
+  shown_recorded =
+      same_recorded (loads_recorded a shown records).kept k records
+      (length records) now names texts rooms is.recorded
 
-  pub shown_timeline : timeline_in (record { kept = k; records = records; done = length records }) ≡ timeline_in (loads_recorded a shown records)
-  shown_timeline = same_timeline (loads_recorded a shown records).kept k records (length records) now names texts rooms is.recorded
+  pub shown_timeline : timeline_in (record { kept = k; records = records; done = length records })
+      ≡ timeline_in (loads_recorded a shown records)
+  shown_timeline =
+      same_timeline (loads_recorded a shown records).kept k records
+      (length records) now names texts rooms is.recorded
 
-pub rooms_kept : (a : Archived) (s : Shelved) (shown : List Shown) (r : Rooms) → s.archive.texts ≡ a.texts → HasRoomToShow s shown
-    → r.files ≡ s.entry_room → r.defs ≡ s.def_room → r.uses ≡ s.use_room → r.calls ≡ s.call_room → KeepsRooms (just_room a shown) r
+pub rooms_kept : (a : Archived) (s : Shelved) (shown : List Shown) (r : Rooms)
+    → s.archive.texts ≡ a.texts → HasRoomToShow s shown
+    → r.files ≡ s.entry_room → r.defs ≡ s.def_room → r.uses ≡ s.use_room → r.calls ≡ s.call_room
+    → KeepsRooms (just_room a shown) r
 rooms_kept a s shown r texts has files defs uses calls =
-    let all : (f : Option (List ℕ) → ℕ) → total f s.archive shown ≡ total f a shown = λ f. same_total f s.archive a texts shown in
+    let all : (f : Option (List ℕ) → ℕ) → total f s.archive shown ≡ total f a shown =
+    λ f. same_total f s.archive a texts shown in
     record {
       files = let h = has.files in omega (arith, h, files);
       defs = let h = has.defs in let e = all def_count in omega (arith, h, e, defs);
@@ -192,10 +247,12 @@ rooms_kept a s shown r texts has files defs uses calls =
     }
 
 -- ---- one file more
-module _ (a b : Archived) (hidden shown : List Shown) (records : List Turn) (name text : List ℕ) (is : AreLoaded a hidden shown records)
+module _ (a b : Archived) (hidden shown : List Shown) (records : List Turn) (name text : List ℕ)
+    (is : AreLoaded a hidden shown records)
     (names : b.names ≡ a.names ++ name ∷ []) (texts : b.texts ≡ a.texts ++ text ∷ [])
     (fresh : has_file (files_of a shown) name ≡ false)
-    (valid : IsValidWorld (loaded (world_in a (loaded_numbers a shown)) name text)) (few : length records < MOST_CHANGES) where
+    (valid : IsValidWorld (loaded (world_in a (loaded_numbers a shown)) name text))
+    (few : length records < MOST_CHANGES) where
   abbrev h : Recorded
   h = loads_recorded a shown records
 
@@ -206,7 +263,15 @@ module _ (a b : Archived) (hidden shown : List Shown) (records : List Turn) (nam
   new = record { name = length a.names; version = length a.texts }
 
   abbrev pub to_new : Turn
-  to_new = record { hides = []; shows = new ∷ []; wanted = None; marks = []; frames = []; names = length a.names + 1; versions = length a.texts + 1 }
+  to_new = record {
+    hides = [];
+    shows = new ∷ [];
+    wanted = None;
+    marks = [];
+    frames = [];
+    names = length a.names + 1;
+    versions = length a.texts + 1;
+  }
 
   abbrev p : Planned
   p = record { names = name ∷ []; texts = text ∷ []; turn = to_new }
@@ -225,7 +290,8 @@ module _ (a b : Archived) (hidden shown : List Shown) (records : List Turn) (nam
 
   plan : IsPlan k p v
   plan =
-      load_planned k p name text (kept_back k.rooms a k.now (turns_back h) is.recorded.back) is.ascending fresh refl refl
+      load_planned k p name text (kept_back k.rooms a k.now (turns_back h) is.recorded.back)
+      is.ascending fresh refl refl
       (length a.names + 1) (length a.texts + 1) refl refl refl
 
   keeps : Keeps a k.now p b
@@ -250,10 +316,12 @@ module _ (a b : Archived) (hidden shown : List Shown) (records : List Turn) (nam
   count_before : (count : Option (List ℕ) → ℕ) → total count a shown ≡ total count b shown
   count_before count =
       total_more count a b (text ∷ []) texts shown
-      (all_implied (λ (s : Shown). (s.name < length a.names) × (s.version < length a.texts)) (λ (s : Shown). s.version < length a.texts)
+      (all_implied (λ (s : Shown). (s.name < length a.names) × (s.version < length a.texts))
+      (λ (s : Shown). s.version < length a.texts)
       (λ s at. at.1) shown there.shown)
 
-  counted_as : (count : Option (List ℕ) → ℕ) (ss : List Shown) → total count (with_texts (texts_with k p)) ss ≡ total count b ss
+  counted_as : (count : Option (List ℕ) → ℕ) (ss : List Shown)
+      → total count (with_texts (texts_with k p)) ss ≡ total count b ss
   counted_as count ss = same_total count (with_texts (texts_with k p)) b (sym keeps.texts) ss
 
   long_then : length shown_then ≡ length shown + 1
@@ -274,18 +342,31 @@ module _ (a b : Archived) (hidden shown : List Shown) (records : List Turn) (nam
     versions = length a.texts + 1;
     names = length a.names + 1;
     entries = length shown + 1;
-    defs = total def_count (with_texts (texts_with k p)) shown + total def_count (with_texts (texts_with k p)) (new ∷ []);
-    uses = total use_count (with_texts (texts_with k p)) shown + total use_count (with_texts (texts_with k p)) (new ∷ []);
-    calls = total call_count (with_texts (texts_with k p)) shown + total call_count (with_texts (texts_with k p)) (new ∷ []);
+    defs = total def_count (with_texts (texts_with k p)) shown
+        + total def_count (with_texts (texts_with k p)) (new ∷ []);
+    uses = total use_count (with_texts (texts_with k p)) shown
+        + total use_count (with_texts (texts_with k p)) (new ∷ []);
+    calls = total call_count (with_texts (texts_with k p)) shown
+        + total call_count (with_texts (texts_with k p)) (new ∷ []);
   }
 
   fits : HasRoomFor room_then a k.now p
   fits =
-      has_room k p asked room_then (record { names = refl; versions = refl; entries = refl; defs = refl; uses = refl; calls = refl })
+      has_room k p asked room_then (record {
+        names = refl;
+        versions = refl;
+        entries = refl;
+        defs = refl;
+        uses = refl;
+        calls = refl;
+      })
       (let e = long_then in omega (arith, e))
-      (let e = count_then def_count in let f = counted_as def_count shown in let g = counted_as def_count (new ∷ []) in omega (arith, e, f, g))
-      (let e = count_then use_count in let f = counted_as use_count shown in let g = counted_as use_count (new ∷ []) in omega (arith, e, f, g))
-      (let e = count_then call_count in let f = counted_as call_count shown in let g = counted_as call_count (new ∷ []) in omega (arith, e, f, g))
+      (let e = count_then def_count in let f = counted_as def_count shown in
+      let g = counted_as def_count (new ∷ []) in omega (arith, e, f, g))
+      (let e = count_then use_count in let f = counted_as use_count shown in
+      let g = counted_as use_count (new ∷ []) in omega (arith, e, f, g))
+      (let e = count_then call_count in let f = counted_as call_count shown in
+      let g = counted_as call_count (new ∷ []) in omega (arith, e, f, g))
       (omega arith) (omega arith)
 
   -- ---- the plan is the only world to come, and then it is gone to
@@ -299,7 +380,14 @@ module _ (a b : Archived) (hidden shown : List Shown) (records : List Turn) (nam
   planned = take (length records) records ++ to_new ∷ []
 
   all_rooms : KeepsRooms room_then room_then
-  all_rooms = record { files = omega arith; defs = omega arith; uses = omega arith; calls = omega arith; marks = omega arith; frames = omega arith }
+  all_rooms = record {
+    files = omega arith;
+    defs = omega arith;
+    uses = omega arith;
+    calls = omega arith;
+    marks = omega arith;
+    frames = omega arith;
+  }
 
   roomy_is : IsRecorded (record { kept = roomy; records = records; done = length records })
   roomy_is = same_recorded k roomy records (length records) refl refl refl grows is.recorded
@@ -309,12 +397,16 @@ module _ (a b : Archived) (hidden shown : List Shown) (records : List Turn) (nam
 
   short : length (timeline_in (record { kept = roomy; records = records; done = length records })).past < MOST_CHANGES
   short =
-      subst (λ n. n < MOST_CHANGES) (sym (past_length (record { kept = roomy; records = records; done = length records }) (omega arith))) few
+      subst (λ n. n < MOST_CHANGES) (sym (past_length
+      (record { kept = roomy; records = records; done = length records }) (omega arith))) few
 
   next : IsRecorded (record { kept = kept; records = planned; done = length records })
-  next = next_recorded roomy kept records (length records) p (omega arith) keeps refl all_rooms roomy_is v roomy_plan fits valid short
+  next =
+      next_recorded roomy kept records (length records) p
+      (omega arith) keeps refl all_rooms roomy_is v roomy_plan fits valid short
 
-  next_timeline : timeline_in (record { kept = kept; records = planned; done = length records }) ≡ record (timeline_in h) { future = v ∷ [] }
+  next_timeline : timeline_in (record { kept = kept; records = planned; done = length records })
+      ≡ record (timeline_in h) { future = v ∷ [] }
   next_timeline = next_is roomy kept records (length records) p (omega arith) keeps refl all_rooms roomy_is v roomy_plan
 
   all_taken : planned ≡ records ++ to_new ∷ []
@@ -340,28 +432,41 @@ module _ (a b : Archived) (hidden shown : List Shown) (records : List Turn) (nam
       }
 
   last : slice_set planned (length records) (turned to_new k.now) ≡ records ++ turned to_new k.now ∷ []
-  last = ap (λ l. slice_set l (length records) (turned to_new k.now)) all_taken ∙ set-append_seam records to_new [] (turned to_new k.now)
+  last =
+      ap (λ l. slice_set l (length records) (turned to_new k.now)) all_taken
+      ∙ set-append_seam records to_new [] (turned to_new k.now)
 
   abbrev gone : Recorded
-  gone = record { kept = kept_then; records = slice_set planned (length records) (turned to_new k.now); done = length records + 1 }
+  gone = record {
+    kept = kept_then;
+    records = slice_set planned (length records) (turned to_new k.now);
+    done = length records + 1;
+  }
 
   gone_is : gone ≡ loads_recorded b shown_then (records ++ turned to_new k.now ∷ [])
   gone_is =
-      let n : length records + 1 ≡ length (records ++ turned to_new k.now ∷ []) = sym (length-append records (turned to_new k.now ∷ [])) in
+      let n : length records + 1 ≡ length (records ++ turned to_new k.now ∷ []) =
+      sym (length-append records (turned to_new k.now ∷ [])) in
       λ i. record { kept = kept_then; records = last i; done = n i }
 
-  moved : redone (timeline_in (record { kept = kept; records = planned; done = length records })) ≡ Ok (timeline_in gone)
-  moved = redo_is kept planned (length records) to_new within at_end kept_then (turned to_new k.now) refl now_then refl all_rooms next
+  moved : redone (timeline_in (record { kept = kept; records = planned; done = length records }))
+      ≡ Ok (timeline_in gone)
+  moved =
+      redo_is kept planned (length records) to_new within at_end kept_then
+      (turned to_new k.now) refl now_then refl all_rooms next
 
   pub one_more_recorded : IsRecorded (loads_recorded b shown_then (records ++ turned to_new k.now ∷ []))
   one_more_recorded =
       subst IsRecorded gone_is
-      (redo_recorded kept planned (length records) to_new within at_end kept_then (turned to_new k.now) refl now_then refl all_rooms next)
+      (redo_recorded kept planned (length records) to_new within at_end kept_then
+      (turned to_new k.now) refl now_then refl all_rooms next)
 
-  pub one_more_timeline : timeline_in (loads_recorded b shown_then (records ++ turned to_new k.now ∷ [])) ≡ moved_on (timeline_in h) v
+  pub one_more_timeline : timeline_in (loads_recorded b shown_then
+      (records ++ turned to_new k.now ∷ [])) ≡ moved_on (timeline_in h) v
   one_more_timeline =
       ap timeline_in (sym gone_is)
-      ∙ redone_next (timeline_in h) (timeline_in (record { kept = kept; records = planned; done = length records })) v next_timeline
+      ∙ redone_next (timeline_in h) (timeline_in
+      (record { kept = kept; records = planned; done = length records })) v next_timeline
       (timeline_in gone) (Ok tt) moved refl
 
   pub one_more_timeline_as : (then : List Shown) (u : Turn) → then ≡ shown_then → u ≡ turned to_new k.now
@@ -369,7 +474,8 @@ module _ (a b : Archived) (hidden shown : List Shown) (records : List Turn) (nam
   one_more_timeline_as then u is_then is_u =
       (λ i. timeline_in (loads_recorded b (is_then i) (records ++ is_u i ∷ []))) ∙ one_more_timeline
 
-  pub one_more : (then : List Shown) (u : Turn) → then ≡ shown_then → u ≡ turned to_new k.now → AreLoaded b hidden then (records ++ u ∷ [])
+  pub one_more : (then : List Shown) (u : Turn) → then ≡ shown_then → u ≡ turned to_new k.now
+      → AreLoaded b hidden then (records ++ u ∷ [])
   one_more then u is_then is_u =
       let n = ap length names ∙ length-append a.names (name ∷ []) in
       let m = ap length texts ∙ length-append a.texts (text ∷ []) in
@@ -385,5 +491,6 @@ module _ (a b : Archived) (hidden shown : List Shown) (records : List Turn) (nam
         files = omega (arith, f, r, files);
         ascending = subst (AreAscending b) (sym is_then) (ascending_in_order b (shown ++ new ∷ []) apart_then);
         recorded = subst (λ t. IsRecorded (loads_recorded b then (records ++ t ∷ []))) (sym is_u)
-            (subst (λ l. IsRecorded (loads_recorded b l (records ++ turned to_new k.now ∷ []))) (sym is_then) one_more_recorded);
+            (subst (λ l. IsRecorded (loads_recorded b l (records ++ turned to_new k.now ∷ [])))
+            (sym is_then) one_more_recorded);
       }

@@ -1,5 +1,7 @@
 -- Which text a name has among files, before and after a change, and the places that stay valid.
-use Rattle.std.proofs.Common.{◌≡◌, ◌∙◌, sym, ap, refl, subst, ℕ, zero, suc, ◌≤◌, Bool, true, false, not, ◌||◌, cond, List, [], ◌∷◌, ◌++◌, filter, map, length, take, Some, slice_get, bytes_eq, nat_cmp, is_lt, Less, arith, IsTrue}
+use Rattle.std.proofs.Common.{◌≡◌, ◌∙◌, sym, ap, refl, subst, ℕ, zero, suc, ◌≤◌, Bool, true, false}
+use Rattle.std.proofs.Common.{not, ◌||◌, cond, List, [], ◌∷◌, ◌++◌, filter, map, length, take, Some}
+use Rattle.std.proofs.Common.{slice_get, bytes_eq, nat_cmp, is_lt, Less, arith, IsTrue}
 use Rattle.std.specs.List.{AllByRecursion}
 use Rattle.std.specs.Cmp.Lexicographic.{slice_cmp}
 use Rattle.std.proofs.lemmas.Slice.Eq.{bytes_eq-Decides}
@@ -39,90 +41,122 @@ no-text (f ∷ files) name e =
     ]) e
 
 -- the first list that has the name has its text
-text-join : (xs ys : List File) (name : List ℕ) → text_of_file (xs ++ ys) name ≡ cond (has_file xs name) (text_of_file xs name) (text_of_file ys name)
+text-join : (xs ys : List File) (name : List ℕ)
+    → text_of_file (xs ++ ys) name
+    ≡ cond (has_file xs name) (text_of_file xs name) (text_of_file ys name)
 unfolding text_of_file
 text-join [] ys name = refl
 text-join (x ∷ xs) ys name =
-    elim (is_named name x) as (λ b. cond b x.bytes (text_of_file (xs ++ ys) name) ≡ cond (b || has_file xs name) (cond b x.bytes (text_of_file xs name)) (text_of_file ys name)) [
+    elim (is_named name x) as (λ b. cond b x.bytes (text_of_file (xs ++ ys) name)
+    ≡ cond (b || has_file xs name) (cond b x.bytes (text_of_file xs name)) (text_of_file ys name)) [
       | true ↦ refl
       | false ↦ text-join xs ys name
     ]
 
 -- a filter that keeps, or drops, all files of a name
-has-kept : (p : File → Bool) (kept : Bool) (name : List ℕ) → ((f : File) → is_named name f ≡ true → p f ≡ kept) → (files : List File) → has_file (filter p files) name ≡ cond kept (has_file files name) false
+has-kept : (p : File → Bool) (kept : Bool) (name : List ℕ)
+    → ((f : File) → is_named name f ≡ true → p f ≡ kept) → (files : List File)
+    → has_file (filter p files) name ≡ cond kept (has_file files name) false
 has-kept p kept name all [] = elim kept as (λ b. false ≡ cond b false false) [ true ↦ refl | false ↦ refl ]
 has-kept p kept name all (f ∷ files) =
-    (elim (is_named name f) as (λ b. is_named name f ≡ b → has_file (cond (p f) (f ∷ filter p files) (filter p files)) name ≡ cond kept (b || has_file files name) false) [
-      | true ↦ λ e. rw (all f e) ((elim kept as (λ k. kept ≡ k → has_file (cond k (f ∷ filter p files) (filter p files)) name ≡ cond k true false) [
-        | true ↦ λ h. rw e refl
-        | false ↦ λ h. has-kept p kept name all files ∙ rw h refl
-      ]) refl)
-      | false ↦ λ e. elim (p f) as (λ b. has_file (cond b (f ∷ filter p files) (filter p files)) name ≡ cond kept (has_file files name) false) [
-        | true ↦ rw e (has-kept p kept name all files)
-        | false ↦ has-kept p kept name all files
-      ]
+    (elim (is_named name f) as (λ b. is_named name f ≡ b
+    → has_file (cond (p f) (f ∷ filter p files) (filter p files)) name
+    ≡ cond kept (b || has_file files name) false) [
+      | true ↦ λ e. rw (all f e) ((elim kept as (λ k. kept ≡ k
+          → has_file (cond k (f ∷ filter p files) (filter p files)) name ≡ cond k true false) [
+            | true ↦ λ h. rw e refl
+            | false ↦ λ h. has-kept p kept name all files ∙ rw h refl
+          ]) refl)
+      | false ↦ λ e. elim (p f) as
+          (λ b. has_file (cond b (f ∷ filter p files) (filter p files)) name
+          ≡ cond kept (has_file files name) false) [
+            | true ↦ rw e (has-kept p kept name all files)
+            | false ↦ has-kept p kept name all files
+          ]
     ]) refl
 
-text-kept : (p : File → Bool) (name : List ℕ) → ((f : File) → is_named name f ≡ true → p f ≡ true) → (files : List File) → text_of_file (filter p files) name ≡ text_of_file files name
+text-kept : (p : File → Bool) (name : List ℕ) → ((f : File) → is_named name f ≡ true → p f ≡ true)
+    → (files : List File) → text_of_file (filter p files) name ≡ text_of_file files name
 unfolding text_of_file
 text-kept p name all [] = refl
 text-kept p name all (f ∷ files) =
-    (elim (is_named name f) as (λ b. is_named name f ≡ b → text_of_file (cond (p f) (f ∷ filter p files) (filter p files)) name ≡ cond b f.bytes (text_of_file files name)) [
+    (elim (is_named name f) as (λ b. is_named name f ≡ b
+    → text_of_file (cond (p f) (f ∷ filter p files) (filter p files)) name
+    ≡ cond b f.bytes (text_of_file files name)) [
       | true ↦ λ e. rw (all f e, e) refl
-      | false ↦ λ e. elim (p f) as (λ b. text_of_file (cond b (f ∷ filter p files) (filter p files)) name ≡ text_of_file files name) [
-        | true ↦ rw e (text-kept p name all files)
-        | false ↦ text-kept p name all files
-      ]
+      | false ↦ λ e. elim (p f) as (λ b. text_of_file
+          (cond b (f ∷ filter p files) (filter p files)) name ≡ text_of_file files name) [
+            | true ↦ rw e (text-kept p name all files)
+            | false ↦ text-kept p name all files
+          ]
     ]) refl
 
 -- ---- one file more
-side : (f : File) (name : List ℕ) (g : File) → is_named name g ≡ true → is_before f g ≡ is_lt (slice_cmp nat_cmp name f.name)
+side : (f : File) (name : List ℕ) (g : File) → is_named name g ≡ true
+    → is_before f g ≡ is_lt (slice_cmp nat_cmp name f.name)
 side f name g e = ap (λ n. is_lt (slice_cmp nat_cmp n f.name)) (same-name g.name name e)
 
 -- another name has the text that it had
-pub text-with : (f : File) (files : List File) (name : List ℕ) → is_named name f ≡ false → text_of_file (with_file f files) name ≡ text_of_file files name
+pub text-with : (f : File) (files : List File) (name : List ℕ) → is_named name f ≡ false
+    → text_of_file (with_file f files) name ≡ text_of_file files name
 unfolding text_of_file
 text-with f files name other =
     text-join (filter (is_before f) files) (f ∷ filter (λ g. not (is_before f g)) files) name ∙ rw other (
-    (elim (is_lt (slice_cmp nat_cmp name f.name)) as (λ b. is_lt (slice_cmp nat_cmp name f.name) ≡ b → cond (has_file (filter (is_before f) files) name) (text_of_file (filter (is_before f) files) name) (text_of_file (filter (λ g. not (is_before f g)) files) name) ≡ text_of_file files name) [
+    (elim (is_lt (slice_cmp nat_cmp name f.name)) as (λ b. is_lt (slice_cmp nat_cmp name f.name) ≡ b
+    → cond (has_file (filter (is_before f) files) name)
+    (text_of_file (filter (is_before f) files) name)
+    (text_of_file (filter (λ g. not (is_before f g)) files) name) ≡ text_of_file files name) [
       | true ↦ λ h.
-          let has : has_file (filter (is_before f) files) name ≡ has_file files name = has-kept (is_before f) true name (λ g e. side f name g e ∙ h) files in
-          let text : text_of_file (filter (is_before f) files) name ≡ text_of_file files name = text-kept (is_before f) name (λ g e. side f name g e ∙ h) files in
-          let out : has_file (filter (λ g. not (is_before f g)) files) name ≡ false = has-kept (λ g. not (is_before f g)) false name (λ g e. ap not (side f name g e ∙ h)) files in
+          let has : has_file (filter (is_before f) files) name ≡ has_file files name =
+          has-kept (is_before f) true name (λ g e. side f name g e ∙ h) files in
+          let text : text_of_file (filter (is_before f) files) name ≡ text_of_file files name =
+          text-kept (is_before f) name (λ g e. side f name g e ∙ h) files in
+          let out : has_file (filter (λ g. not (is_before f g)) files) name ≡ false =
+          has-kept (λ g. not (is_before f g)) false name
+          (λ g e. ap not (side f name g e ∙ h)) files in
           rw (has, text, no-text (filter (λ g. not (is_before f g)) files) name out) (
-          (elim (has_file files name) as (λ b. has_file files name ≡ b → cond b (text_of_file files name) [] ≡ text_of_file files name) [
+          (elim (has_file files name) as (λ b. has_file files name ≡ b
+          → cond b (text_of_file files name) [] ≡ text_of_file files name) [
             | true ↦ λ k. refl
             | false ↦ λ k. sym (no-text files name k)
           ]) refl
           )
       | false ↦ λ h.
-          let has : has_file (filter (is_before f) files) name ≡ false = has-kept (is_before f) false name (λ g e. side f name g e ∙ h) files in
+          let has : has_file (filter (is_before f) files) name ≡ false =
+          has-kept (is_before f) false name (λ g e. side f name g e ∙ h) files in
           rw has (text-kept (λ g. not (is_before f g)) name (λ g e. ap not (side f name g e ∙ h)) files)
     ]) refl
     )
 
 -- the new name has the new text
-pub text-with-here : (f : File) (files : List File) → has_file files f.name ≡ false → text_of_file (with_file f files) f.name ≡ f.bytes
+pub text-with-here : (f : File) (files : List File) → has_file files f.name ≡ false
+    → text_of_file (with_file f files) f.name ≡ f.bytes
 unfolding text_of_file
 text-with-here f files fresh =
     let out : has_file (filter (is_before f) files) f.name ≡ false =
-    (elim (is_lt (slice_cmp nat_cmp f.name f.name)) as (λ b. is_lt (slice_cmp nat_cmp f.name f.name) ≡ b → has_file (filter (is_before f) files) f.name ≡ false) [
+    (elim (is_lt (slice_cmp nat_cmp f.name f.name)) as (λ b. is_lt (slice_cmp nat_cmp f.name f.name)
+    ≡ b → has_file (filter (is_before f) files) f.name ≡ false) [
       | true ↦ λ h. has-kept (is_before f) true f.name (λ g e. side f f.name g e ∙ h) files ∙ fresh
       | false ↦ λ h. has-kept (is_before f) false f.name (λ g e. side f f.name g e ∙ h) files
     ]) refl in
-    text-join (filter (is_before f) files) (f ∷ filter (λ g. not (is_before f g)) files) f.name ∙ rw (out, name-same f.name) refl
+    text-join (filter (is_before f) files) (f ∷ filter (λ g. not (is_before f g)) files) f.name
+    ∙ rw (out, name-same f.name) refl
 
 -- ---- one file less
 -- a name has the text that it had where another one is taken away
-pub text-without : (files : List File) (gone name : List ℕ) → bytes_eq name gone ≡ false → text_of_file (without_file gone files) name ≡ text_of_file files name
+pub text-without : (files : List File) (gone name : List ℕ) → bytes_eq name gone ≡ false
+    → text_of_file (without_file gone files) name ≡ text_of_file files name
 text-without files gone name other =
     text-kept (λ f. not (is_named gone f)) name (λ f e. rw (same-name f.name name e, other) refl) files
 
-pub text-small : (files : List File) (name : List ℕ) → AllByRecursion (λ (f : File). length f.bytes ≤ MOST_BYTES) files → length (text_of_file files name) ≤ MOST_BYTES
+pub text-small : (files : List File) (name : List ℕ)
+    → AllByRecursion (λ (f : File). length f.bytes ≤ MOST_BYTES) files
+    → length (text_of_file files name) ≤ MOST_BYTES
 unfolding text_of_file
 text-small [] name all = omega arith
 text-small (f ∷ files) name all =
-    elim (is_named name f) as (λ b. length (cond b f.bytes (text_of_file files name)) ≤ MOST_BYTES) [ true ↦ all.0 | false ↦ text-small files name all.1 ]
+    elim (is_named name f) as (λ b. length (cond b f.bytes (text_of_file files name)) ≤ MOST_BYTES)
+    [ true ↦ all.0 | false ↦ text-small files name all.1 ]
 
 -- ---- places
 -- a place's file is there
@@ -130,11 +164,16 @@ pub place-there : (files : List File) (p : Place) → IsPlaceOf files p → has_
 place-there files p is =
     (elim (has_file files p.file) as (λ b. has_file files p.file ≡ b → b ≡ true) [
       | true ↦ λ e. refl
-      | false ↦ λ e. let none : IsLineOf [] p.line = subst (λ text. IsLineOf text p.line) (no-text files p.file e) is in let few = lines-few [] in let same = length-map (lines_of []) without_terminator in absurd (omega (arith, none.0, none.1, few, same))
+      | false ↦ λ e. let none : IsLineOf [] p.line =
+          subst (λ text. IsLineOf text p.line) (no-text files p.file e) is in
+          let few = lines-few [] in
+          let same = length-map (lines_of []) without_terminator in
+          absurd (omega (arith, none.0, none.1, few, same))
     ]) refl
 
 -- a name that is there is none that is not
-pub other-name : (files : List File) (there gone : List ℕ) → has_file files there ≡ true → has_file files gone ≡ false → bytes_eq gone there ≡ false
+pub other-name : (files : List File) (there gone : List ℕ) → has_file files there ≡ true
+    → has_file files gone ≡ false → bytes_eq gone there ≡ false
 other-name files there gone e k =
     (elim (bytes_eq gone there) as (λ b. bytes_eq gone there ≡ b → b ≡ false) [
       | true ↦ λ h. let same = same-name gone there h in let has : has_file files gone ≡ true = rw same e in cc
@@ -146,7 +185,8 @@ not-true true e = cc
 not-true false e = refl
 
 -- a name that is there is a file name where all are
-pub name-good : (files : List File) (name : List ℕ) → has_file files name ≡ true → AllByRecursion (λ (f : File). IsTrue (is_file_name f.name)) files → is_file_name name ≡ true
+pub name-good : (files : List File) (name : List ℕ) → has_file files name ≡ true
+    → AllByRecursion (λ (f : File). IsTrue (is_file_name f.name)) files → is_file_name name ≡ true
 name-good [] name there all = cc
 name-good (f ∷ files) name there all =
     (elim (is_named name f) as (λ b. is_named name f ≡ b → b || has_file files name ≡ true → is_file_name name ≡ true) [
@@ -159,9 +199,11 @@ pub is-gone : (files : List File) (name : List ℕ) → has_file (without_file n
 is-gone files name = has-kept (λ f. not (is_named name f)) false name (λ f e. ap not e) files
 
 -- a file that is not there is not there without another one
-pub still-gone : (files : List File) (gone name : List ℕ) → has_file files name ≡ false → has_file (without_file gone files) name ≡ false
+pub still-gone : (files : List File) (gone name : List ℕ) → has_file files name ≡ false
+    → has_file (without_file gone files) name ≡ false
 still-gone files gone name e =
-    has-kept (λ f. not (is_named gone f)) (not (bytes_eq name gone)) name (λ f h. ap (λ n. not (bytes_eq n gone)) (same-name f.name name h)) files
+    has-kept (λ f. not (is_named gone f)) (not (bytes_eq name gone)) name
+    (λ f h. ap (λ n. not (bytes_eq n gone)) (same-name f.name name h)) files
     ∙ rw e (elim (not (bytes_eq name gone)) as (λ b. cond b false false ≡ false) [ true ↦ refl | false ↦ refl ])
 
 -- the files in which that of the old name has the new one
@@ -178,16 +220,22 @@ module _ (R : List ℕ → ℕ → Type 0) (lies : (text : List ℕ) (n : ℕ) �
   there files p is = place-there files p (lies (text_of_file files p.file) p.line is)
 
   -- one file more leaves places as they are
-  pub places-with : (files : List File) (f : File) (places : List Place) → has_file files f.name ≡ false → AllByRecursion (IsAt R files) places → AllByRecursion (IsAt R (with_file f files)) places
+  pub places-with : (files : List File) (f : File) (places : List Place)
+      → has_file files f.name ≡ false → AllByRecursion (IsAt R files) places
+      → AllByRecursion (IsAt R (with_file f files)) places
   places-with files f places fresh all =
       all-along (IsAt R files) (IsAt R (with_file f files)) places
-      (λ p is. subst (λ text. R text p.line) (sym (text-with f files p.file (other-name files p.file f.name (there files p is) fresh))) is)
+      (λ p is. subst (λ text. R text p.line) (sym
+      (text-with f files p.file (other-name files p.file f.name (there files p is) fresh))) is)
       all
 
   -- one file less leaves the places of the others as they are
-  pub places-without : (files : List File) (name : List ℕ) (places : List Place) → AllByRecursion (IsAt R files) places → AllByRecursion (IsAt R (without_file name files)) (without_places name places)
+  pub places-without : (files : List File) (name : List ℕ) (places : List Place)
+      → AllByRecursion (IsAt R files) places
+      → AllByRecursion (IsAt R (without_file name files)) (without_places name places)
   places-without files name places all =
-      all-both (λ (p : Place). not (is_in name p) ≡ true) (IsAt R files) (IsAt R (without_file name files)) (without_places name places)
+      all-both (λ (p : Place). not (is_in name p) ≡ true) (IsAt R files)
+      (IsAt R (without_file name files)) (without_places name places)
       (λ p kept is. subst (λ text. R text p.line) (sym (text-without files name p.file (not-true _ kept))) is)
       (all-passed (λ (p : Place). not (is_in name p)) places)
       (all-filter (IsAt R files) (λ (p : Place). not (is_in name p)) places all)
@@ -195,16 +243,22 @@ module _ (R : List ℕ → ℕ → Type 0) (lies : (text : List ℕ) (n : ℕ) �
   module _ (files : List File) (old new : List ℕ) (fresh : has_file files new ≡ false) where
     place-renamed : (p : Place) → IsAt R files p → IsAt R (moved files old new) (renamed_place old new p)
     place-renamed p is =
-        (elim (bytes_eq p.file old) as (λ b. bytes_eq p.file old ≡ b → IsAt R (moved files old new) (cond b (record p { file = new }) p)) [
+        (elim (bytes_eq p.file old) as (λ b. bytes_eq p.file old ≡ b
+        → IsAt R (moved files old new) (cond b (record p { file = new }) p)) [
           | true ↦ λ e.
-              subst (λ text. R text p.line) (ap (text_of_file files) (same-name p.file old e) ∙ sym (text-with-here (record { name = new; bytes = text_of_file files old }) (without_file old files) (still-gone files old new fresh))) is
+              subst (λ text. R text p.line) (ap (text_of_file files) (same-name p.file old e)
+              ∙ sym (text-with-here (record { name = new; bytes = text_of_file files old })
+              (without_file old files) (still-gone files old new fresh))) is
           | false ↦ λ e.
               subst (λ text. R text p.line)
-              (sym (text-with (record { name = new; bytes = text_of_file files old }) (without_file old files) p.file (other-name files p.file new (there files p is) fresh) ∙ text-without files old p.file e)) is
+              (sym (text-with (record { name = new; bytes = text_of_file files old })
+              (without_file old files) p.file (other-name files p.file new (there files p is) fresh)
+              ∙ text-without files old p.file e)) is
         ]) refl
 
     -- the places of a file go with its name, and the others stay
-    pub places-renamed : (places : List Place) → AllByRecursion (IsAt R files) places → AllByRecursion (IsAt R (moved files old new)) (renamed_places old new places)
+    pub places-renamed : (places : List Place) → AllByRecursion (IsAt R files) places
+        → AllByRecursion (IsAt R (moved files old new)) (renamed_places old new places)
     places-renamed [] all = tt
     places-renamed (p ∷ places) all = (place-renamed p all.0, places-renamed places all.1)
 
@@ -213,36 +267,49 @@ less-differs : (f g : File) → by_name f g ≡ Less → is_named g.name f ≡ f
 less-differs f g e = sym (is_eq-slice_cmp f.name g.name) ∙ rw e refl
 
 -- each of files that ascend is the one of its name
-pub own-texts : (files : List File) → IsAscending files → AllByRecursion (λ (f : File). text_of_file files f.name ≡ f.bytes) files
+pub own-texts : (files : List File) → IsAscending files
+    → AllByRecursion (λ (f : File). text_of_file files f.name ≡ f.bytes) files
 unfolding IsStrictlySortedBy text_of_file
 own-texts [] up = tt
 own-texts (f ∷ files) up = (
   rw (name-same f.name) refl,
-  all-both (λ (g : File). by_name f g ≡ Less) (λ (g : File). text_of_file files g.name ≡ g.bytes) (λ (g : File). text_of_file (f ∷ files) g.name ≡ g.bytes) files
+  all-both (λ (g : File). by_name f g ≡ Less) (λ (g : File). text_of_file files g.name ≡ g.bytes)
+      (λ (g : File). text_of_file (f ∷ files) g.name ≡ g.bytes) files
       (λ g below own. rw (less-differs f g below) own) up.0 (own-texts files up.1),
 )
 
 module _ (files : List File) (name : List ℕ) where
-  frames-of : (f : File) → text_of_file files f.name ≡ f.bytes → (ds : List Def) → AllByRecursion (λ (d : Def). IsLineOf f.bytes d.line) ds → AllByRecursion (IsPlaceOf files) (map (λ (d : Def). record { file = f.name; line = d.line }) ds)
+  frames-of : (f : File) → text_of_file files f.name ≡ f.bytes → (ds : List Def)
+      → AllByRecursion (λ (d : Def). IsLineOf f.bytes d.line) ds
+      → AllByRecursion (IsPlaceOf files)
+      (map (λ (d : Def). record { file = f.name; line = d.line }) ds)
   frames-of f own [] all = tt
   frames-of f own (d ∷ ds) all = (subst (λ text. IsLineOf text d.line) (sym own) all.0, frames-of f own ds all.1)
 
-  places-of : (some : List File) → AllByRecursion (λ (f : File). text_of_file files f.name ≡ f.bytes) some → AllByRecursion (IsPlaceOf files) (places some name)
+  places-of : (some : List File) → AllByRecursion
+      (λ (f : File). text_of_file files f.name ≡ f.bytes) some
+      → AllByRecursion (IsPlaceOf files) (places some name)
   places-of [] own = tt
   places-of (f ∷ some) own =
       all-join (IsPlaceOf files) (places_in name f) (places some name)
-      (frames-of f own.0 (filter (defines f.bytes name) (definitions f.bytes)) (all-filter (λ (d : Def). IsLineOf f.bytes d.line) (defines f.bytes name) (definitions f.bytes) (facts_lie f.bytes).lines))
+      (frames-of f own.0 (filter (defines f.bytes name) (definitions f.bytes))
+      (all-filter (λ (d : Def). IsLineOf f.bytes d.line) (defines f.bytes name)
+      (definitions f.bytes) (facts_lie f.bytes).lines))
       (places-of some own.1)
 
-pub at-place : {X : Type 0} (P : X → Type 0) (xs : List X) (i : ℕ) (x : X) → AllByRecursion P xs → slice_get xs i ≡ Some x → P x
+pub at-place : {X : Type 0} (P : X → Type 0) (xs : List X) (i : ℕ) (x : X) → AllByRecursion P xs
+    → slice_get xs i ≡ Some x → P x
 at-place P [] i x all e = cc
 at-place P (y ∷ xs) zero x all e = let same : y ≡ x = cc in subst P same all.0
 at-place P (y ∷ xs) (suc i) x all e = at-place P xs i x all.1 e
 
 -- the nth place of a name is a line that is there
-pub nth-place : (files : List File) (name : List ℕ) (n : ℕ) (f : Place) → IsAscending files → nth n (places files name) ≡ Some f → IsPlaceOf files f
+pub nth-place : (files : List File) (name : List ℕ) (n : ℕ) (f : Place) → IsAscending files
+    → nth n (places files name) ≡ Some f → IsPlaceOf files f
 nth-place files name zero f up e = cc
-nth-place files name (suc n) f up e = at-place (IsPlaceOf files) (places files name) n f (places-of files name files (own-texts files up)) e
+nth-place files name (suc n) f up e =
+    at-place (IsPlaceOf files) (places files name) n f
+    (places-of files name files (own-texts files up)) e
 
 pub all-take : {X : Type 0} (P : X → Type 0) (n : ℕ) (xs : List X) → AllByRecursion P xs → AllByRecursion P (take n xs)
 all-take P zero xs all = tt
