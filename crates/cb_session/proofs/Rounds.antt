@@ -1,5 +1,6 @@
 -- A run, round by round.
-use Rattle.std.proofs.Common.{◌≡◌, ℕ, zero, suc, Bool, List, [], ◌∷◌, ◌++◌, Option, Some, None, Ok, refl, sym, ap, ◌∙◌, subst, append_assoc, append-nil}
+use Rattle.std.proofs.Common.{◌≡◌, ℕ, zero, suc, Bool, List, [], ◌∷◌, ◌++◌, Option, Some, None, Ok}
+use Rattle.std.proofs.Common.{refl, sym, ap, ◌∙◌, subst, append_assoc, append-nil}
 use Rattle.std.specs.Io.KnownBytes.{Appends, Keeps}
 use Rattle.std.proofs.KnownBytes.{Appends-trans, Appends-nil, Appends-kept}
 use Rattle.cb_session.specs.declared.input.Ended.{Ended}
@@ -24,24 +25,34 @@ unfolding inputs
 inputs-on n limit rest h = ap (λ e. begin_with (first limit rest) e (inputs n limit (first limit rest).rest)) h
 
 inputs-last : (n limit : ℕ) (rest : List ℕ) (ended : Ended) → ending_of (first limit rest).request ≡ Some ended
-    → inputs (suc n) limit rest ≡ record { requests = (first limit rest).request ∷ []; ending = ended; rest = (first limit rest).rest }
+    → inputs (suc n) limit rest ≡ record {
+      requests = (first limit rest).request ∷ [];
+      ending = ended;
+      rest = (first limit rest).rest;
+    }
 unfolding inputs
 inputs-last n limit rest ended h = ap (λ e. begin_with (first limit rest) e (inputs n limit (first limit rest).rest)) h
 
-begins : (f : First) (o : Option Ended) (i : Inputs) → (es : List Request) × ((begin_with f o i).requests ≡ f.request ∷ es)
+begins : (f : First) (o : Option Ended) (i : Inputs)
+    → (es : List Request) × ((begin_with f o i).requests ≡ f.request ∷ es)
 begins f None i = (i.requests, refl)
 begins f (Some ended) i = ([], refl)
 
-inputs-begin : (n limit : ℕ) (rest : List ℕ) → (es : List Request) × ((inputs (suc n) limit rest).requests ≡ (first limit rest).request ∷ es)
+inputs-begin : (n limit : ℕ) (rest : List ℕ)
+    → (es : List Request) × ((inputs (suc n) limit rest).requests ≡ (first limit rest).request ∷ es)
 unfolding inputs
-inputs-begin n limit rest = begins (first limit rest) (ending_of (first limit rest).request) (inputs n limit (first limit rest).rest)
+inputs-begin n limit rest =
+    begins (first limit rest) (ending_of (first limit rest).request)
+    (inputs n limit (first limit rest).rest)
 
-inputs-out : (limit : ℕ) (rest : List ℕ) → inputs zero limit rest ≡ record { requests = []; ending = Fault ManyLines; rest = rest }
+inputs-out : (limit : ℕ) (rest : List ℕ) → inputs zero limit rest
+    ≡ record { requests = []; ending = Fault ManyLines; rest = rest }
 unfolding inputs
 inputs-out limit rest = refl
 
 -- the output of an input and of those after it
-output-cons : (m : Bool) (ms : List Bool) (t : Timeline) (e : Request) (es : List Request) → output (m ∷ ms) t (e ∷ es) ≡ exchange m t e ++ output ms (outcome m t e).timeline es
+output-cons : (m : Bool) (ms : List Bool) (t : Timeline) (e : Request) (es : List Request)
+    → output (m ∷ ms) t (e ∷ es) ≡ exchange m t e ++ output ms (outcome m t e).timeline es
 unfolding output
 output-cons m ms t e es = refl
 
@@ -50,17 +61,20 @@ unfolding output
 output-nil ms t = refl
 
 -- a run that has so many lines left: what was written so far, and what is still to be read
-pub record Rounds (lines limit : ℕ) (bytes : List ℕ) (start : Timeline) (old : Writer) (left : ℕ) (t : Timeline) (feed : Reader) (out : Writer) : Type 0 where
+pub record Rounds (lines limit : ℕ) (bytes : List ℕ) (start : Timeline) (old : Writer) (left : ℕ)
+    (t : Timeline) (feed : Reader) (out : Writer) : Type 0 where
   pub rest : List ℕ
   pub refusals : List Bool
   pub so_far : List ℕ
   pub unread : feed.bytes ≡ Some rest
   pub wrote : Appends old.bytes out.bytes so_far
-  pub text : (ms : List Bool) → output (refusals ++ ms) start (inputs lines limit bytes).requests ≡ so_far ++ output ms t (inputs left limit rest).requests
+  pub text : (ms : List Bool) → output (refusals ++ ms) start (inputs lines limit bytes).requests
+      ≡ so_far ++ output ms t (inputs left limit rest).requests
   pub ending : (inputs lines limit bytes).ending ≡ (inputs left limit rest).ending
   pub behind : (inputs lines limit bytes).rest ≡ (inputs left limit rest).rest
 
-pub Rounds-start : (lines limit : ℕ) (bytes : List ℕ) (start : Timeline) (old : Writer) (feed : Reader) → feed.bytes ≡ Some bytes
+pub Rounds-start : (lines limit : ℕ) (bytes : List ℕ) (start : Timeline) (old : Writer)
+    (feed : Reader) → feed.bytes ≡ Some bytes
     → Rounds lines limit bytes start old lines start feed old
 Rounds-start lines limit bytes start old feed h = record {
   rest = bytes;
@@ -74,8 +88,10 @@ Rounds-start lines limit bytes start old feed h = record {
 }
 
 -- one round more
-pub Rounds-more : (lines limit : ℕ) (bytes : List ℕ) (start : Timeline) (old : Writer) (left : ℕ) (t next : Timeline) (feed after : Reader) (out new : Writer) (out_of_memory : Bool)
-    → (r : Rounds lines limit bytes start old (suc left) t feed out) → LeavesRound out_of_memory (first limit r.rest) t next after out new (Ok None)
+pub Rounds-more : (lines limit : ℕ) (bytes : List ℕ) (start : Timeline) (old : Writer) (left : ℕ)
+    (t next : Timeline) (feed after : Reader) (out new : Writer) (out_of_memory : Bool)
+    → (r : Rounds lines limit bytes start old (suc left) t feed out)
+    → LeavesRound out_of_memory (first limit r.rest) t next after out new (Ok None)
     → Rounds lines limit bytes start old left next after new
 Rounds-more lines limit bytes start old left t next feed after out new out_of_memory r h =
     let f = first limit r.rest in
@@ -91,51 +107,69 @@ Rounds-more lines limit bytes start old left t next feed after out new out_of_me
           ∙ r.text (out_of_memory ∷ ms)
           ∙ ap (λ i. r.so_far ++ output (out_of_memory ∷ ms) t i.requests) on
           ∙ ap (λ l. r.so_far ++ l) (output-cons out_of_memory ms t f.request (inputs left limit f.rest).requests)
-          ∙ ap (λ s. r.so_far ++ (exchange out_of_memory t f.request ++ output ms s (inputs left limit f.rest).requests)) (sym h.2)
-          ∙ sym (append_assoc r.so_far (exchange out_of_memory t f.request) (output ms next (inputs left limit f.rest).requests));
+          ∙ ap (λ s. r.so_far ++ (exchange out_of_memory t f.request
+          ++ output ms s (inputs left limit f.rest).requests)) (sym h.2)
+          ∙ sym (append_assoc r.so_far (exchange out_of_memory t f.request)
+          (output ms next (inputs left limit f.rest).requests));
       ending = r.ending ∙ ap (λ i. i.ending) on;
       behind = r.behind ∙ ap (λ i. i.rest) on;
     }
 
 -- a fault in a round: a prefix of the output is written
-Rounds-prefix : (lines limit : ℕ) (bytes : List ℕ) (start : Timeline) (old : Writer) (left : ℕ) (t : Timeline) (feed : Reader) (out new : Writer) (out_of_memory : Bool)
-    → (r : Rounds lines limit bytes start old (suc left) t feed out) → AppendsPrefix out.bytes new.bytes (exchange out_of_memory t (first limit r.rest).request)
-    → AppendsPrefix old.bytes new.bytes (output (r.refusals ++ out_of_memory ∷ []) start (inputs lines limit bytes).requests)
+Rounds-prefix : (lines limit : ℕ) (bytes : List ℕ) (start : Timeline) (old : Writer) (left : ℕ)
+    (t : Timeline) (feed : Reader) (out new : Writer) (out_of_memory : Bool)
+    → (r : Rounds lines limit bytes start old (suc left) t feed out)
+    → AppendsPrefix out.bytes new.bytes (exchange out_of_memory t (first limit r.rest).request)
+    → AppendsPrefix old.bytes new.bytes (output (r.refusals ++ out_of_memory ∷ []) start
+    (inputs lines limit bytes).requests)
 Rounds-prefix lines limit bytes start old left t feed out new out_of_memory r h =
     let f = first limit r.rest in
     let b = inputs-begin left limit r.rest in
     let after = output [] (outcome out_of_memory t f.request).timeline b.0 in
-    let whole : output (r.refusals ++ out_of_memory ∷ []) start (inputs lines limit bytes).requests ≡ r.so_far ++ (exchange out_of_memory t f.request ++ after) =
-    r.text (out_of_memory ∷ []) ∙ ap (λ es. r.so_far ++ output (out_of_memory ∷ []) t es) b.1 ∙ ap (λ l. r.so_far ++ l) (output-cons out_of_memory [] t f.request b.0) in
+    let whole : output (r.refusals ++ out_of_memory ∷ []) start (inputs lines limit bytes).requests
+    ≡ r.so_far ++ (exchange out_of_memory t f.request ++ after) =
+    r.text (out_of_memory ∷ []) ∙ ap (λ es. r.so_far ++ output (out_of_memory ∷ []) t es) b.1
+    ∙ ap (λ l. r.so_far ++ l) (output-cons out_of_memory [] t f.request b.0) in
     subst (λ l. AppendsPrefix old.bytes new.bytes l) (sym whole)
     (AppendsPrefix-after old.bytes out.bytes new.bytes r.so_far (exchange out_of_memory t f.request ++ after) r.wrote
     (AppendsPrefix-more out.bytes new.bytes (exchange out_of_memory t f.request) after h))
 
 -- the last round: the whole output is written, and the bytes behind it are left
-pub record Ends (lines limit : ℕ) (bytes : List ℕ) (start : Timeline) (old : Writer) (refusals : List Bool) (left : List ℕ) (new : Writer) (ended : Ended) : Type 0 where
+pub record Ends (lines limit : ℕ) (bytes : List ℕ) (start : Timeline) (old : Writer)
+    (refusals : List Bool) (left : List ℕ) (new : Writer) (ended : Ended) : Type 0 where
   pub ending : Some (inputs lines limit bytes).ending ≡ Some ended
   pub behind : left ≡ (inputs lines limit bytes).rest
   pub wrote : Appends old.bytes new.bytes (output refusals start (inputs lines limit bytes).requests)
 
-Rounds-last : (lines limit : ℕ) (bytes : List ℕ) (start : Timeline) (old : Writer) (left : ℕ) (t : Timeline) (feed : Reader) (out new : Writer) (out_of_memory : Bool) (ended : Ended)
-    → (r : Rounds lines limit bytes start old (suc left) t feed out) → ending_of (first limit r.rest).request ≡ Some ended
+Rounds-last : (lines limit : ℕ) (bytes : List ℕ) (start : Timeline) (old : Writer) (left : ℕ)
+    (t : Timeline) (feed : Reader) (out new : Writer) (out_of_memory : Bool) (ended : Ended)
+    → (r : Rounds lines limit bytes start old (suc left) t feed out)
+    → ending_of (first limit r.rest).request ≡ Some ended
     → Appends out.bytes new.bytes (exchange out_of_memory t (first limit r.rest).request)
     → Ends lines limit bytes start old (r.refusals ++ out_of_memory ∷ []) (first limit r.rest).rest new ended
 Rounds-last lines limit bytes start old left t feed out new out_of_memory ended r e h =
     let f = first limit r.rest in
     let last = inputs-last left limit r.rest ended e in
-    let whole : output (r.refusals ++ out_of_memory ∷ []) start (inputs lines limit bytes).requests ≡ r.so_far ++ exchange out_of_memory t f.request =
+    let whole : output (r.refusals ++ out_of_memory ∷ []) start (inputs lines limit bytes).requests
+    ≡ r.so_far ++ exchange out_of_memory t f.request =
     r.text (out_of_memory ∷ []) ∙ ap (λ i. r.so_far ++ output (out_of_memory ∷ []) t i.requests) last
-    ∙ ap (λ l. r.so_far ++ l) (output-cons out_of_memory [] t f.request [] ∙ ap (λ l. exchange out_of_memory t f.request ++ l) (output-nil [] (outcome out_of_memory t f.request).timeline) ∙ append-nil (exchange out_of_memory t f.request)) in
+    ∙ ap (λ l. r.so_far ++ l) (output-cons out_of_memory [] t f.request []
+    ∙ ap (λ l. exchange out_of_memory t f.request ++ l)
+    (output-nil [] (outcome out_of_memory t f.request).timeline)
+    ∙ append-nil (exchange out_of_memory t f.request)) in
     record {
       ending = ap Some (r.ending ∙ ap (λ i. i.ending) last);
       behind = sym (r.behind ∙ ap (λ i. i.rest) last);
-      wrote = subst (λ l. Appends old.bytes new.bytes l) (sym whole) (Appends-trans old.bytes out.bytes new.bytes r.so_far (exchange out_of_memory t f.request) r.wrote h);
+      wrote = subst (λ l. Appends old.bytes new.bytes l) (sym whole)
+          (Appends-trans old.bytes out.bytes new.bytes r.so_far
+          (exchange out_of_memory t f.request) r.wrote h);
     }
 
 -- so it is left where nothing failed
-Rounds-whole : (lines limit : ℕ) (bytes : List ℕ) (start : Timeline) (old : Writer) (left : ℕ) (t : Timeline) (feed after : Reader) (out new : Writer) (out_of_memory : Bool) (ended : Ended)
-    → (r : Rounds lines limit bytes start old (suc left) t feed out) → ending_of (first limit r.rest).request ≡ Some ended
+Rounds-whole : (lines limit : ℕ) (bytes : List ℕ) (start : Timeline) (old : Writer) (left : ℕ)
+    (t : Timeline) (feed after : Reader) (out new : Writer) (out_of_memory : Bool) (ended : Ended)
+    → (r : Rounds lines limit bytes start old (suc left) t feed out)
+    → ending_of (first limit r.rest).request ≡ Some ended
     → after.bytes ≡ Some (first limit r.rest).rest
     → Appends out.bytes new.bytes (exchange out_of_memory t (first limit r.rest).request)
     → (Some (inputs lines limit bytes).ending ≡ Some ended) × (after.bytes ≡ Some (inputs lines limit bytes).rest)
@@ -145,32 +179,65 @@ Rounds-whole lines limit bytes start old left t feed after out new out_of_memory
     (last.ending, unread ∙ ap Some last.behind, last.wrote)
 
 -- a round in which the run ends
-pub Rounds-end : (lines limit : ℕ) (bytes : List ℕ) (start : Timeline) (old : Writer) (left : ℕ) (t : Timeline) (feed after : Reader) (out new : Writer) (out_of_memory : Bool) (ended : Ended)
+pub Rounds-end : (lines limit : ℕ) (bytes : List ℕ) (start : Timeline) (old : Writer) (left : ℕ)
+    (t : Timeline) (feed after : Reader) (out new : Writer) (out_of_memory : Bool) (ended : Ended)
     → (r : Rounds lines limit bytes start old (suc left) t feed out)
-    → Leaves (exchange out_of_memory t (first limit r.rest).request) (ending_of (first limit r.rest).request) (first limit r.rest).rest after out new ended
+    → Leaves (exchange out_of_memory t (first limit r.rest).request)
+    (ending_of (first limit r.rest).request) (first limit r.rest).rest after out new ended
     → LeavesRun (inputs lines limit bytes) start after old new ended
-Rounds-end lines limit bytes start old left t feed after out new out_of_memory (Fault Read) r h = (r.refusals ++ out_of_memory ∷ [], Rounds-prefix lines limit bytes start old left t feed out new out_of_memory r h)
-Rounds-end lines limit bytes start old left t feed after out new out_of_memory (Fault Write) r h = (r.refusals ++ out_of_memory ∷ [], Rounds-prefix lines limit bytes start old left t feed out new out_of_memory r h)
-Rounds-end lines limit bytes start old left t feed after out new out_of_memory (Fault Memory) r h = (r.refusals ++ out_of_memory ∷ [], Rounds-prefix lines limit bytes start old left t feed out new out_of_memory r h)
+Rounds-end lines limit bytes start old left t feed after out new
+    out_of_memory (Fault Read) r h = (
+      r.refusals ++ out_of_memory ∷ [],
+      Rounds-prefix lines limit bytes start old left t feed out new out_of_memory r h,
+    )
+Rounds-end lines limit bytes start old left t feed after out new
+    out_of_memory (Fault Write) r h = (
+      r.refusals ++ out_of_memory ∷ [],
+      Rounds-prefix lines limit bytes start old left t feed out new out_of_memory r h,
+    )
+Rounds-end lines limit bytes start old left t feed after out new
+    out_of_memory (Fault Memory) r h = (
+      r.refusals ++ out_of_memory ∷ [],
+      Rounds-prefix lines limit bytes start old left t feed out new out_of_memory r h,
+    )
 Rounds-end lines limit bytes start old left t feed after out new out_of_memory (Fault LongLine) r h =
     let last = Rounds-last lines limit bytes start old left t feed out new out_of_memory (Fault LongLine) r h.0 h.1 in
     (r.refusals ++ out_of_memory ∷ [], (last.ending, last.wrote))
-Rounds-end lines limit bytes start old left t feed after out new out_of_memory (Fault ManyLines) r h =
-    (r.refusals ++ out_of_memory ∷ [], Rounds-whole lines limit bytes start old left t feed after out new out_of_memory (Fault ManyLines) r h.0 h.1 h.2)
-Rounds-end lines limit bytes start old left t feed after out new out_of_memory Done r h =
-    (r.refusals ++ out_of_memory ∷ [], Rounds-whole lines limit bytes start old left t feed after out new out_of_memory Done r h.0 h.1 h.2)
-Rounds-end lines limit bytes start old left t feed after out new out_of_memory Cut r h =
-    (r.refusals ++ out_of_memory ∷ [], Rounds-whole lines limit bytes start old left t feed after out new out_of_memory Cut r h.0 h.1 h.2)
-Rounds-end lines limit bytes start old left t feed after out new out_of_memory (Operand place why) r h =
-    (r.refusals ++ out_of_memory ∷ [], Rounds-whole lines limit bytes start old left t feed after out new out_of_memory (Operand place why) r h.0 h.1 h.2)
+Rounds-end lines limit bytes start old left t feed after out new
+    out_of_memory (Fault ManyLines) r h = (
+      r.refusals ++ out_of_memory ∷ [],
+      Rounds-whole lines limit bytes start old left t feed after out new
+          out_of_memory (Fault ManyLines) r h.0 h.1 h.2,
+    )
+Rounds-end lines limit bytes start old left t feed after out new
+    out_of_memory Done r h = (
+      r.refusals ++ out_of_memory ∷ [],
+      Rounds-whole lines limit bytes start old left t feed after out new
+          out_of_memory Done r h.0 h.1 h.2,
+    )
+Rounds-end lines limit bytes start old left t feed after out new
+    out_of_memory Cut r h = (
+      r.refusals ++ out_of_memory ∷ [],
+      Rounds-whole lines limit bytes start old left t feed after out new
+          out_of_memory Cut r h.0 h.1 h.2,
+    )
+Rounds-end lines limit bytes start old left t feed after out new
+    out_of_memory (Operand place why) r h = (
+      r.refusals ++ out_of_memory ∷ [],
+      Rounds-whole lines limit bytes start old left t feed after out new
+          out_of_memory (Operand place why) r h.0 h.1 h.2,
+    )
 
 -- no line is left
-pub Rounds-out : (lines limit : ℕ) (bytes : List ℕ) (start : Timeline) (old : Writer) (t : Timeline) (feed : Reader) (out : Writer)
-    → Rounds lines limit bytes start old zero t feed out → LeavesRun (inputs lines limit bytes) start feed old out (Fault ManyLines)
+pub Rounds-out : (lines limit : ℕ) (bytes : List ℕ) (start : Timeline) (old : Writer) (t : Timeline)
+    (feed : Reader) (out : Writer)
+    → Rounds lines limit bytes start old zero t feed out
+    → LeavesRun (inputs lines limit bytes) start feed old out (Fault ManyLines)
 Rounds-out lines limit bytes start old t feed out r =
     let none = inputs-out limit r.rest in
     let whole : output (r.refusals ++ []) start (inputs lines limit bytes).requests ≡ r.so_far =
-    r.text [] ∙ ap (λ i. r.so_far ++ output [] t i.requests) none ∙ ap (λ l. r.so_far ++ l) (output-nil [] t) ∙ append-nil r.so_far in (
+    r.text [] ∙ ap (λ i. r.so_far ++ output [] t i.requests) none
+    ∙ ap (λ l. r.so_far ++ l) (output-nil [] t) ∙ append-nil r.so_far in (
       r.refusals ++ [],
       (
         ap Some (r.ending ∙ ap (λ i. i.ending) none),
@@ -180,22 +247,29 @@ Rounds-out lines limit bytes start old t feed out r =
     )
 
 -- a round in a run: what it leaves is known for all bytes that the feed may have
-pub Rounds-next : (lines limit : ℕ) (bytes : List ℕ) (start : Timeline) (old : Writer) (n left : ℕ) (t next : Timeline) (feed after : Reader) (out new : Writer)
+pub Rounds-next : (lines limit : ℕ) (bytes : List ℕ) (start : Timeline) (old : Writer) (n left : ℕ)
+    (t next : Timeline) (feed after : Reader) (out new : Writer)
     → n ≡ suc left → Rounds lines limit bytes start old n t feed out
-    → ((rest : List ℕ) → feed.bytes ≡ Some rest → (out_of_memory : Bool) × LeavesRound out_of_memory (first limit rest) t next after out new (Ok None))
+    → ((rest : List ℕ) → feed.bytes ≡ Some rest
+    → (out_of_memory : Bool)
+    × LeavesRound out_of_memory (first limit rest) t next after out new (Ok None))
     → Rounds lines limit bytes start old left next after new
 Rounds-next lines limit bytes start old n left t next feed after out new e s h =
-    let r : Rounds lines limit bytes start old (suc left) t feed out = subst (λ k. Rounds lines limit bytes start old k t feed out) e s in
+    let r : Rounds lines limit bytes start old (suc left) t feed out =
+    subst (λ k. Rounds lines limit bytes start old k t feed out) e s in
     let m = h r.rest r.unread in
     Rounds-more lines limit bytes start old left t next feed after out new m.0 r m.1
 
-pub Rounds-stop : (lines limit : ℕ) (bytes : List ℕ) (start : Timeline) (old : Writer) (n left : ℕ) (t : Timeline) (feed after : Reader) (out new : Writer) (ended : Ended)
+pub Rounds-stop : (lines limit : ℕ) (bytes : List ℕ) (start : Timeline) (old : Writer) (n left : ℕ)
+    (t : Timeline) (feed after : Reader) (out new : Writer) (ended : Ended)
     → n ≡ suc left → Rounds lines limit bytes start old n t feed out
     → ((rest : List ℕ) → feed.bytes ≡ Some rest
-    → (out_of_memory : Bool) × Leaves (exchange out_of_memory t (first limit rest).request) (ending_of (first limit rest).request) (first limit rest).rest after out new ended)
+    → (out_of_memory : Bool) × Leaves (exchange out_of_memory t (first limit rest).request)
+    (ending_of (first limit rest).request) (first limit rest).rest after out new ended)
     → LeavesRun (inputs lines limit bytes) start after old new ended
 Rounds-stop lines limit bytes start old n left t feed after out new ended e s h =
-    let r : Rounds lines limit bytes start old (suc left) t feed out = subst (λ k. Rounds lines limit bytes start old k t feed out) e s in
+    let r : Rounds lines limit bytes start old (suc left) t feed out =
+    subst (λ k. Rounds lines limit bytes start old k t feed out) e s in
     let m = h r.rest r.unread in
     Rounds-end lines limit bytes start old left t feed after out new m.0 ended r m.1
 
@@ -204,11 +278,14 @@ pub Follows-start : (lines limit n : ℕ) (start : Timeline) (old : Writer) (fee
     → WhateverFollows feed feed (λ bytes at. Rounds lines limit bytes start old n start at old)
 Follows-start lines limit n start old feed e =
     Follows-nothing feed (λ bytes at. Rounds lines limit bytes start old n start at old)
-    (λ bytes at known. subst (λ k. Rounds lines limit bytes start old k start at old) e (Rounds-start lines limit bytes start old at known))
+    (λ bytes at known. subst (λ k. Rounds lines limit bytes start old k start at old) e
+    (Rounds-start lines limit bytes start old at known))
 
-pub Follows-next : (lines limit : ℕ) (start : Timeline) (old : Writer) (n left : ℕ) (t next : Timeline) (feed mid after : Reader) (out new : Writer) → n ≡ suc left
+pub Follows-next : (lines limit : ℕ) (start : Timeline) (old : Writer) (n left : ℕ)
+    (t next : Timeline) (feed mid after : Reader) (out new : Writer) → n ≡ suc left
     → WhateverFollows feed mid (λ bytes at. Rounds lines limit bytes start old n t at out)
-    → WhateverFollows mid after (λ bytes at. (out_of_memory : Bool) × LeavesRound out_of_memory (first limit bytes) t next at out new (Ok None))
+    → WhateverFollows mid after (λ bytes at. (out_of_memory : Bool)
+    × LeavesRound out_of_memory (first limit bytes) t next at out new (Ok None))
     → WhateverFollows feed after (λ bytes at. Rounds lines limit bytes start old left next at new)
 Follows-next lines limit start old n left t next feed mid after out new e s h =
     Follows-then feed mid after (λ bytes at. Rounds lines limit bytes start old n t at out)
@@ -216,28 +293,39 @@ Follows-next lines limit start old n left t next feed mid after out new e s h =
     (λ bytes at. Rounds lines limit bytes start old left next at new) s h
     (λ bytes more at rounds round.
     Rounds-next lines limit bytes start old n left t next (leaving mid more) at out new e rounds
-    (λ rest same. subst (λ l. (out_of_memory : Bool) × LeavesRound out_of_memory (first limit l) t next at out new (Ok None)) (Some-same more rest same) round))
+    (λ rest same. subst (λ l. (out_of_memory : Bool)
+    × LeavesRound out_of_memory (first limit l) t next at out new (Ok None))
+    (Some-same more rest same) round))
 
-pub Follows-stop : (lines limit : ℕ) (start : Timeline) (old : Writer) (n left : ℕ) (t : Timeline) (feed mid after : Reader) (out new : Writer) (ended : Ended) → n ≡ suc left
+pub Follows-stop : (lines limit : ℕ) (start : Timeline) (old : Writer) (n left : ℕ) (t : Timeline)
+    (feed mid after : Reader) (out new : Writer) (ended : Ended) → n ≡ suc left
     → WhateverFollows feed mid (λ bytes at. Rounds lines limit bytes start old n t at out)
-    → WhateverFollows mid after (λ bytes at. (out_of_memory : Bool) × Leaves (exchange out_of_memory t (first limit bytes).request) (ending_of (first limit bytes).request) (first limit bytes).rest at out new ended)
+    → WhateverFollows mid after (λ bytes at. (out_of_memory : Bool)
+    × Leaves (exchange out_of_memory t (first limit bytes).request)
+    (ending_of (first limit bytes).request) (first limit bytes).rest at out new ended)
     → WhateverFollows feed after (λ bytes at. LeavesRun (inputs lines limit bytes) start at old new ended)
 Follows-stop lines limit start old n left t feed mid after out new ended e s h =
     Follows-then feed mid after (λ bytes at. Rounds lines limit bytes start old n t at out)
-    (λ bytes at. (out_of_memory : Bool) × Leaves (exchange out_of_memory t (first limit bytes).request) (ending_of (first limit bytes).request) (first limit bytes).rest at out new ended)
+    (λ bytes at. (out_of_memory : Bool)
+    × Leaves (exchange out_of_memory t (first limit bytes).request)
+    (ending_of (first limit bytes).request) (first limit bytes).rest at out new ended)
     (λ bytes at. LeavesRun (inputs lines limit bytes) start at old new ended) s h
     (λ bytes more at rounds round.
     Rounds-stop lines limit bytes start old n left t (leaving mid more) at out new ended e rounds
     (λ rest same.
-    subst (λ l. (out_of_memory : Bool) × Leaves (exchange out_of_memory t (first limit l).request) (ending_of (first limit l).request) (first limit l).rest at out new ended)
+    subst (λ l. (out_of_memory : Bool) × Leaves (exchange out_of_memory t (first limit l).request)
+    (ending_of (first limit l).request) (first limit l).rest at out new ended)
     (Some-same more rest same) round))
 
-pub Follows-out : (lines limit : ℕ) (start : Timeline) (old : Writer) (n : ℕ) (t : Timeline) (feed after : Reader) (out : Writer) → n ≡ zero
+pub Follows-out : (lines limit : ℕ) (start : Timeline) (old : Writer) (n : ℕ) (t : Timeline)
+    (feed after : Reader) (out : Writer) → n ≡ zero
     → WhateverFollows feed after (λ bytes at. Rounds lines limit bytes start old n t at out)
     → WhateverFollows feed after (λ bytes at. LeavesRun (inputs lines limit bytes) start at old out (Fault ManyLines))
 Follows-out lines limit start old n t feed after out e s =
-    Follows-so feed after (λ bytes at. Rounds lines limit bytes start old n t at out) (λ bytes at. LeavesRun (inputs lines limit bytes) start at old out (Fault ManyLines)) s
-    (λ bytes at rounds. Rounds-out lines limit bytes start old t at out (subst (λ k. Rounds lines limit bytes start old k t at out) e rounds))
+    Follows-so feed after (λ bytes at. Rounds lines limit bytes start old n t at out)
+    (λ bytes at. LeavesRun (inputs lines limit bytes) start at old out (Fault ManyLines)) s
+    (λ bytes at rounds. Rounds-out lines limit bytes start old t at out
+    (subst (λ k. Rounds lines limit bytes start old k t at out) e rounds))
 
 -- no memory for a line, and so no round
 pub Follows-none : (lines limit : ℕ) (start : Timeline) (out : Writer) (feed : Reader)
@@ -247,7 +335,8 @@ Follows-none lines limit start out feed =
     (λ bytes at known. ([], ([], output [] start (inputs lines limit bytes).requests, refl, Appends-nil out.bytes)))
 
 -- a last flush that fails: of all that a run leaves, a prefix is left
-Leaves-prefix : (text : List ℕ) (meant : Option Ended) (rest : List ℕ) (feed : Reader) (old new : Writer) (ended : Ended) → Leaves text meant rest feed old new ended
+Leaves-prefix : (text : List ℕ) (meant : Option Ended) (rest : List ℕ) (feed : Reader)
+    (old new : Writer) (ended : Ended) → Leaves text meant rest feed old new ended
     → AppendsPrefix old.bytes new.bytes text
 Leaves-prefix text meant rest feed old new (Fault Read) p = p
 Leaves-prefix text meant rest feed old new (Fault Write) p = p
@@ -258,25 +347,38 @@ Leaves-prefix text meant rest feed old new Done p = AppendsPrefix-whole old.byte
 Leaves-prefix text meant rest feed old new Cut p = AppendsPrefix-whole old.bytes new.bytes text p.2
 Leaves-prefix text meant rest feed old new (Operand place why) p = AppendsPrefix-whole old.bytes new.bytes text p.2
 
-pub LeavesRun-unflushed : (i : Inputs) (start : Timeline) (feed : Reader) (old mid new : Writer) (ended : Ended) → Keeps mid.bytes new.bytes → LeavesRun i start feed old mid ended
+pub LeavesRun-unflushed : (i : Inputs) (start : Timeline) (feed : Reader) (old mid new : Writer)
+    (ended : Ended) → Keeps mid.bytes new.bytes → LeavesRun i start feed old mid ended
     → LeavesRun i start feed old new (Fault Write)
 LeavesRun-unflushed i start feed old mid new ended kept run =
-    let p : AppendsPrefix old.bytes mid.bytes (output run.0 start i.requests) = Leaves-prefix (output run.0 start i.requests) (Some i.ending) i.rest feed old mid ended run.1 in
+    let p : AppendsPrefix old.bytes mid.bytes (output run.0 start i.requests) =
+    Leaves-prefix (output run.0 start i.requests)
+    (Some i.ending) i.rest feed old mid ended run.1 in
     (run.0, (p.0, p.1, p.2, Appends-kept old.bytes mid.bytes new.bytes p.0 p.3 kept))
 
 -- a last flush keeps what was written
-Leaves-kept : (text : List ℕ) (meant : Option Ended) (rest : List ℕ) (feed : Reader) (old mid new : Writer) (ended : Ended) → Keeps mid.bytes new.bytes
+Leaves-kept : (text : List ℕ) (meant : Option Ended) (rest : List ℕ) (feed : Reader)
+    (old mid new : Writer) (ended : Ended) → Keeps mid.bytes new.bytes
     → Leaves text meant rest feed old mid ended → Leaves text meant rest feed old new ended
-Leaves-kept text meant rest feed old mid new (Fault Read) kept p = (p.0, p.1, p.2, Appends-kept old.bytes mid.bytes new.bytes p.0 p.3 kept)
-Leaves-kept text meant rest feed old mid new (Fault Write) kept p = (p.0, p.1, p.2, Appends-kept old.bytes mid.bytes new.bytes p.0 p.3 kept)
-Leaves-kept text meant rest feed old mid new (Fault Memory) kept p = (p.0, p.1, p.2, Appends-kept old.bytes mid.bytes new.bytes p.0 p.3 kept)
-Leaves-kept text meant rest feed old mid new (Fault LongLine) kept p = (p.0, Appends-kept old.bytes mid.bytes new.bytes text p.1 kept)
-Leaves-kept text meant rest feed old mid new (Fault ManyLines) kept p = (p.0, p.1, Appends-kept old.bytes mid.bytes new.bytes text p.2 kept)
-Leaves-kept text meant rest feed old mid new Done kept p = (p.0, p.1, Appends-kept old.bytes mid.bytes new.bytes text p.2 kept)
-Leaves-kept text meant rest feed old mid new Cut kept p = (p.0, p.1, Appends-kept old.bytes mid.bytes new.bytes text p.2 kept)
-Leaves-kept text meant rest feed old mid new (Operand place why) kept p = (p.0, p.1, Appends-kept old.bytes mid.bytes new.bytes text p.2 kept)
+Leaves-kept text meant rest feed old mid new (Fault Read) kept p =
+    (p.0, p.1, p.2, Appends-kept old.bytes mid.bytes new.bytes p.0 p.3 kept)
+Leaves-kept text meant rest feed old mid new (Fault Write) kept p =
+    (p.0, p.1, p.2, Appends-kept old.bytes mid.bytes new.bytes p.0 p.3 kept)
+Leaves-kept text meant rest feed old mid new (Fault Memory) kept p =
+    (p.0, p.1, p.2, Appends-kept old.bytes mid.bytes new.bytes p.0 p.3 kept)
+Leaves-kept text meant rest feed old mid new (Fault LongLine) kept p =
+    (p.0, Appends-kept old.bytes mid.bytes new.bytes text p.1 kept)
+Leaves-kept text meant rest feed old mid new (Fault ManyLines) kept p =
+    (p.0, p.1, Appends-kept old.bytes mid.bytes new.bytes text p.2 kept)
+Leaves-kept text meant rest feed old mid new Done kept p =
+    (p.0, p.1, Appends-kept old.bytes mid.bytes new.bytes text p.2 kept)
+Leaves-kept text meant rest feed old mid new Cut kept p =
+    (p.0, p.1, Appends-kept old.bytes mid.bytes new.bytes text p.2 kept)
+Leaves-kept text meant rest feed old mid new (Operand place why) kept p =
+    (p.0, p.1, Appends-kept old.bytes mid.bytes new.bytes text p.2 kept)
 
-pub LeavesRun-flushed : (i : Inputs) (start : Timeline) (feed : Reader) (old mid new : Writer) (ended : Ended) → Keeps mid.bytes new.bytes → LeavesRun i start feed old mid ended
+pub LeavesRun-flushed : (i : Inputs) (start : Timeline) (feed : Reader) (old mid new : Writer)
+    (ended : Ended) → Keeps mid.bytes new.bytes → LeavesRun i start feed old mid ended
     → LeavesRun i start feed old new ended
 LeavesRun-flushed i start feed old mid new ended kept run =
     (run.0, Leaves-kept (output run.0 start i.requests) (Some i.ending) i.rest feed old mid new ended kept run.1)
