@@ -20,6 +20,7 @@ ghost use Rattle.std.specs.Prelude.{
 };
 ghost use Rattle.std.specs.List.{AllByRecursion, insert};
 ghost use Rattle.cb_index.specs.Blocks.{IsFilled, IsPlace, before, joined};
+ghost use Rattle.cb_index.specs.declared.block.TheConstants.{HALF, SIZE};
 
 use crate::block::Block;
 use crate::entry::Entry;
@@ -29,7 +30,7 @@ use std::alloc::Global;
 use std::marker::Model;
 
 /// So many entries come into a block where all are put anew. Some room is left for more.
-const FILL: usize = 192;
+const FILL: usize = 768;
 
 /// Blocks with entries, none of them empty, and blocks to spare. Only `reserve` takes memory.
 #[derive(Drop)]
@@ -151,7 +152,7 @@ impl Blocks {
     fn put_split(&mut self, place: Place, one: Entry) -> bool
         requires block { place.block < length self.old.used }
         requires place { IsPlace self.old.used place.block place.at }
-        requires full { length (slice_index_or self.old.used place.block []) ≡ 256 }
+        requires full { length (slice_index_or self.old.used place.block []) ≡ SIZE }
         ensures put { result ≡ true → joined self.new.used
             ≡ take (before self.old.used place.block place.at) (joined self.old.used)
             ++ one ∷ drop (before self.old.used place.block place.at) (joined self.old.used) }
@@ -172,7 +173,7 @@ impl Blocks {
     fn put_in(&mut self, place: Place, one: Entry)
         requires block { place.block < length self.old.used }
         requires place { IsPlace self.old.used place.block place.at }
-        requires room { length (slice_index_or self.old.used place.block []) < 256 }
+        requires room { length (slice_index_or self.old.used place.block []) < SIZE }
         ensures put { joined self.new.used
             ≡ take (before self.old.used place.block place.at) (joined self.old.used)
             ++ one ∷ drop (before self.old.used place.block place.at) (joined self.old.used) }
@@ -232,7 +233,7 @@ impl Blocks {
     /// Deals entries out into blocks that are not full.
     pub(crate) fn deal(&mut self, entries: &[Entry])
         requires empty { self.old.used ≡ [] }
-        requires room { length entries.now ≤ 128 * self.old.count }
+        requires room { length entries.now ≤ HALF * self.old.count }
         ensures entries { joined self.new.used ≡ entries.now }
         ensures count { self.new.count ≡ self.old.count }
     {

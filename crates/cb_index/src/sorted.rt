@@ -27,9 +27,11 @@ ghost use Rattle.cb_index.specs.Names.{is_among, names_of};
 ghost use Rattle.cb_index.specs.steps.RowsLeft.{rows_left};
 ghost use Rattle.cb_index.specs.steps.Runs.{run_entries};
 ghost use Rattle.cb_index.specs.steps.Spread.{rows_in};
+ghost use Rattle.cb_index.specs.declared.block.TheConstants.{HALF};
 ghost use Rattle.cb_index.specs.declared.entry.Entry.{Entry};
 
 use crate::archive::Archive;
+use crate::block::HALF;
 use crate::blocks::Blocks;
 use crate::entry::{Entry, Shown};
 use crate::memory::OutOfMemory;
@@ -42,9 +44,6 @@ use crate::sort::sort;
 use std::alloc::Global;
 use std::cmp::Ordering;
 use std::marker::{Model, PhantomData};
-
-/// For each block there is room for so many entries: blocks that are split are half full at least.
-const ROOM: usize = 128;
 
 /// Versions are put one after another where they are at most this part of the blocks.
 const FEW: usize = 8;
@@ -62,16 +61,17 @@ impl<O> Model for Sorted<O> {
     ghost use Rattle.std.specs.Prelude.{◌≤◌, ◌*◌, min, length, vec_capacity};
     ghost use Rattle.cb_index.specs.Blocks.{joined};
     ghost use Rattle.cb_index.specs.Held.{Held};
+    ghost use Rattle.cb_index.specs.declared.block.TheConstants.{HALF};
 
     ghost Value = { Held };
 
     ghost view = { λ s. record {
       entries = joined s.blocks.used;
-      room = min (vec_capacity s.scratch) (128 * s.blocks.count);
+      room = min (vec_capacity s.scratch) (HALF * s.blocks.count);
     } };
 
     ghost invariant = { λ s. (length (joined s.blocks.used) ≤ vec_capacity s.scratch)
-        × (length (joined s.blocks.used) ≤ 128 * s.blocks.count) };
+        × (length (joined s.blocks.used) ≤ HALF * s.blocks.count) };
 }
 
 /// Whether an entry does not go behind another.
@@ -177,7 +177,7 @@ fn sort_in<O: EntryOrder>(archive: &Archive, more: &mut Vec<Entry>, blocks: &mut
     requires room { length more.old.items + length (joined blocks.old.used)
         ≤ vec_capacity more.old }
     requires blocks { length more.old.items + length (joined blocks.old.used)
-        ≤ 128 * blocks.old.count }
+        ≤ HALF * blocks.old.count }
     ensures entries { joined blocks.new.used ≡ in_order (sort_key O.keyer archive.now)
         (joined blocks.old.used ++ more.old.items) }
     ensures room { vec_capacity more.old ≤ vec_capacity more.new }
@@ -195,7 +195,7 @@ fn put_rest<O: EntryOrder>(archive: &Archive, news: &mut Vec<Entry>, blocks: &mu
     requires room { length news.old.items + length (joined blocks.old.used)
         ≤ vec_capacity news.old }
     requires blocks { length news.old.items + length (joined blocks.old.used)
-        ≤ 128 * blocks.old.count }
+        ≤ HALF * blocks.old.count }
     ensures entries { joined blocks.new.used ≡ in_order (sort_key O.keyer archive.now)
         (joined blocks.old.used ++ news.old.items) }
     ensures room { vec_capacity news.old ≤ vec_capacity news.new }
@@ -244,7 +244,7 @@ impl<O: EntryOrder> Sorted<O> {
         ensures entries { self.new.entries ≡ self.old.entries }
         ensures room { self.old.room ≤ self.new.room }
     {
-        match self.blocks.reserve(n as usize / ROOM + 1) {
+        match self.blocks.reserve(n as usize / HALF + 1) {
             Ok(()) => {}
             Err(_) => return Err(OutOfMemory),
         }
@@ -269,7 +269,7 @@ impl<O: EntryOrder> Sorted<O> {
     {
         self.scratch
             .capacity()
-            .min(self.blocks.count().saturating_mul(ROOM))
+            .min(self.blocks.count().saturating_mul(HALF))
     }
 
     /// Whether the entries are in order in an archive. They are in the one from which all were put,

@@ -1,5 +1,6 @@
 use Rattle.std.proofs.Common.{◌≡◌, ◌≤◌, ◌+◌, ◌*◌, ◌++◌, length, vec_capacity}
 use Rattle.std.specs.List.{AllByRecursion}
+use Rattle.cb_index.specs.declared.block.TheConstants.{HALF}
 use Rattle.cb_index.specs.Blocks.{IsFilled, joined}
 use Rattle.cb_index.proofs.blocks.Blocks.deal.Given as goal
 
@@ -9,7 +10,7 @@ decreases-loop-left l = length l.left
 abbrev pub invariant-loop-left : goal.invariant-loop-left
 invariant-loop-left l = record {
   dealt : joined l.self-inside.used.items ++ l.left ≡ l.fn.entries;
-  room : length l.left ≤ 128 * length l.self-inside.spare.items;
+  room : length l.left ≤ HALF * length l.self-inside.spare.items;
   filled : AllByRecursion IsFilled l.self-inside.used.items;
   count : length l.self-inside.used.items + length l.self-inside.spare.items
       ≡ length l.initial.self-inside.used.items + length l.initial.self-inside.spare.items;

@@ -1,6 +1,7 @@
 use Rattle.std.proofs.Common.{◌≡◌, ◌∙◌, ◌≤◌, ◌*◌, ◌+◌, ◌++◌, sym, ap, subst, length, vec_capacity, arith}
 use Rattle.std.proofs.Math.Nat.{min-le_left, min-le_right}
 use Rattle.cb_scan.specs.Order.{in_order}
+use Rattle.cb_index.specs.declared.block.TheConstants.{HALF}
 use Rattle.cb_index.specs.Blocks.{joined}
 use Rattle.cb_index.specs.Entries.{sort_key}
 use Rattle.cb_index.specs.Held.{Held, entries_of, prefixes_of}
@@ -17,7 +18,7 @@ put_rest-requires-clause-room g c =
     ap length (c.append.ensures.entries ∙ ap (λ l. l ++ entries_of g.O.EntryOrder.prefixer a c.args.shown) c.truncate.ensures.items)
     ∙ length_from 0 c.args.shown.name c.args.shown.version prefixes in
     let fits = subst (λ (h : Held). length h.entries + length prefixes ≤ h.room) (sym c.self.view_is) c.requires.room in
-    let low = min-le_left (vec_capacity c.self.inside.scratch) (128 * c.self.inside.blocks.count) in
+    let low = min-le_left (vec_capacity c.self.inside.scratch) (HALF * c.self.inside.blocks.count) in
     omega (arith, size, fits, low, c.truncate.ensures.capacity, c.append.ensures.room)
 
 pub put_rest-requires-clause-blocks : goal.put_rest-requires-clause-blocks
@@ -28,7 +29,7 @@ put_rest-requires-clause-blocks g c =
     ap length (c.append.ensures.entries ∙ ap (λ l. l ++ entries_of g.O.EntryOrder.prefixer a c.args.shown) c.truncate.ensures.items)
     ∙ length_from 0 c.args.shown.name c.args.shown.version prefixes in
     let fits = subst (λ (h : Held). length h.entries + length prefixes ≤ h.room) (sym c.self.view_is) c.requires.room in
-    let low = min-le_right (vec_capacity c.self.inside.scratch) (128 * c.self.inside.blocks.count) in
+    let low = min-le_right (vec_capacity c.self.inside.scratch) (HALF * c.self.inside.blocks.count) in
     omega (arith, size, fits, low)
 
 pub invariant_of-self : goal.invariant_of-self
@@ -41,8 +42,8 @@ invariant_of-self g c =
     ∙ length_from 0 c.args.shown.name c.args.shown.version prefixes in
     let fits = subst (λ (h : Held). length h.entries + length prefixes ≤ h.room) (sym c.self.view_is) c.requires.room in
     let whole = parts_length key (joined c.put_rest.new.blocks.used) (joined c.self.inside.blocks.used) c.append.new.entries.items c.put_rest.ensures.entries in
-    let low = min-le_left (vec_capacity c.self.inside.scratch) (128 * c.self.inside.blocks.count) in
-    let high = min-le_right (vec_capacity c.self.inside.scratch) (128 * c.self.inside.blocks.count) in (
+    let low = min-le_left (vec_capacity c.self.inside.scratch) (HALF * c.self.inside.blocks.count) in
+    let high = min-le_right (vec_capacity c.self.inside.scratch) (HALF * c.self.inside.blocks.count) in (
       omega (arith, size, fits, whole, low, c.truncate.ensures.capacity, c.append.ensures.room, c.put_rest.ensures.room),
       omega (arith, size, fits, whole, high, c.put_rest.ensures.count),
     )

@@ -1,5 +1,6 @@
 use Rattle.std.proofs.Common.{◌≡◌, ◌∙◌, ◌≤◌, ◌*◌, ◌+◌, ◌++◌, sym, ap, subst, length, vec_capacity, arith}
 use Rattle.std.proofs.Math.Nat.{min-le_left, min-le_right}
+use Rattle.cb_index.specs.declared.block.TheConstants.{HALF}
 use Rattle.cb_index.specs.Blocks.{joined}
 use Rattle.cb_index.specs.Entries.{sort_key}
 use Rattle.cb_index.specs.Held.{Held, all_entries}
@@ -15,8 +16,8 @@ invariant_of-self g c =
     ap length (c.append_each.ensures.items ∙ ap (λ l. l ++ more) c.truncate.ensures.items) in
     let fits = subst (λ (h : Held). length h.entries + length more ≤ h.room) (sym c.self.view_is) c.requires in
     let whole = parts_length key (joined c.sort_in.new.blocks.used) (joined c.self.inside.blocks.used) c.append_each.new.entries.items c.sort_in.ensures.entries in
-    let low = min-le_left (vec_capacity c.self.inside.scratch) (128 * c.self.inside.blocks.count) in
-    let high = min-le_right (vec_capacity c.self.inside.scratch) (128 * c.self.inside.blocks.count) in (
+    let low = min-le_left (vec_capacity c.self.inside.scratch) (HALF * c.self.inside.blocks.count) in
+    let high = min-le_right (vec_capacity c.self.inside.scratch) (HALF * c.self.inside.blocks.count) in (
       omega (arith, size, fits, whole, low, c.truncate.ensures.capacity, c.append_each.ensures.room, c.sort_in.ensures.room),
       omega (arith, size, fits, whole, high, c.sort_in.ensures.count),
     )
