@@ -1,9 +1,10 @@
 -- Prefixes and sizes order items as their keys do.
-use Rattle.std.proofs.Common.{◌≡◌, ◌∙◌, ◌≤◌, ◌<◌, ◌-◌, ℕ, zero, suc, Bool, true, false, List, [], ◌∷◌, Option, Some, None, refl, sym, ap, subst, length, map, drop, arith, ⊎_elim}
+use Rattle.std.proofs.Common.{◌≡◌, ◌∙◌, ◌≤◌, ◌<◌, ◌-◌, ◌+◌, ℕ, zero, suc, Bool, true, false, List, [], ◌∷◌, ◌++◌, Option, Some, None, refl, sym, ap, subst, append_assoc, length, map, drop, arith, ⊎_elim}
 use Rattle.std.proofs.Math.Nat.{min-eq_left, min-eq_right}
 use Rattle.std.proofs.lemmas.Bool.{cases_lt}
 use Rattle.std.proofs.lemmas.Bool.Decides.{nat_tests}
-use Rattle.std.proofs.lemmas.Cmp.{by_ranked, ranked}
+use Rattle.std.proofs.lemmas.Cmp.{by_ranked, nat_list_cmp_total, ranked, tied_itself}
+use Rattle.std.proofs.lemmas.Slice.Eq.{bytes_eq-Decides}
 use Rattle.std.specs.Prelude.{cond, min, nat_le, not}
 use Rattle.std.specs.Cmp.Lexicographic.{slice_cmp}
 use Rattle.std.specs.List.{AllByRecursion, slice_get}
@@ -16,13 +17,15 @@ use Rattle.cb_scan.specs.declared.lex.piece.Span.{Span}
 use Rattle.cb_scan.specs.Keys.{key_prefix}
 use Rattle.cb_scan.specs.Order.{goes_first, in_order, put}
 use Rattle.cb_scan.specs.lex.Tokens.{bytes_of}
-use Rattle.cb_scan.specs.steps.Keys.{numbered, sort_key}
+use Rattle.cb_scan.specs.steps.Keys.{goes_on, numbered, prefixes_on, sort_key, starts_on}
 use Rattle.cb_scan.specs.steps.Ranks.{IsRanked, key_in, key_of, keyed, rank_key, ranks, size_of}
 use Rattle.cb_scan.proofs.FactsWithin.{all_in_order}
 use Rattle.cb_scan.proofs.KeyOrder.{AreBytes, first_bytes_first, same_number, settled, sort_exact, sort_key_cmp, then_equal, turned}
-use Rattle.cb_scan.proofs.OrderLemmas.{in_order_sorted, in_order_sum, unique}
+use Rattle.cb_scan.proofs.OrderLemmas.{Sorted, all_first, in_order_sorted, in_order_sum, sorted_is, unique}
 use Rattle.std.specs.List.Sorted.{IsPermutation}
-use Rattle.std.proofs.lemmas.List.Sorted.{sum_by-IsPermutation}
+use Rattle.std.proofs.lemmas.List.Sorted.{IsPermutation-refl, sum_by-IsPermutation}
+use Rattle.std.specs.Option.{MatchOption, option_map, option_to_list}
+use Rattle.std.specs.Bool.{⊤}
 use Rattle.cb_scan.proofs.KeyPostings.{alike}
 use Rattle.cb_scan.proofs.WithinLemmas.{all-drop, all-take}
 
@@ -206,6 +209,20 @@ module _ (text : List ℕ) (spans : List Span) (bytes : AreBytes text) where
       ∙ prefixes_agree a b r.item s.item (of_bytes r.item) (of_bytes s.item)
       ∙ sym (sort_key_cmp (record { key = a; item = r.item }) (record { key = b; item = s.item }))
 
+  -- of two items with one key the lower number goes first
+  pub same_key_first : (r s : Ranked) → IsRanked text spans r → IsRanked text spans s
+      → bytes_eq (key_of text spans r.item) (key_of text spans s.item) ≡ true → r.item < s.item
+      → goes_first (rank_key text spans) r s ≡ true
+  unfolding keyed
+  same_key_first r s is_r is_s same below =
+      let a = key_of text spans r.item in
+      let b = key_of text spans s.item in
+      let keys : Keys a b ≡ Equal =
+      subst (λ k. Keys a k ≡ Equal) ((bytes_eq-Decides a b).0 same) (tied_itself nat_list_cmp_total a) in
+      ap (λ o. not (is_gt o)) (agree r s is_r is_s
+      ∙ sort_key_cmp (record { key = a; item = r.item }) (record { key = b; item = s.item })
+      ∙ (λ k. ordering_then (keys k) (number_less r.item s.item below k)))
+
   keyed_put : (r : Ranked) → IsRanked text spans r → (ss : List Ranked) → AllByRecursion (IsRanked text spans) ss
       → map (keyed text spans) (put (rank_key text spans) r ss) ≡ put sort_key (keyed text spans r) (map (keyed text spans) ss)
   unfolding put
@@ -272,3 +289,70 @@ all_mapped f P Q imply (x ∷ xs) a = (imply x a.0, all_mapped f P Q imply xs a.
 pub map_mapped : {X Y Z : Type 0} (g : Y → Z) (f : X → Y) (xs : List X) → map g (map f xs) ≡ map (λ x. g (f x)) xs
 map_mapped g f [] = refl
 map_mapped g f (x ∷ xs) = ap (λ l. g (f x) ∷ l) (map_mapped g f xs)
+
+-- ---- items that were seen to be in order
+module _ (text : List ℕ) (spans : List Span) where
+  abbrev Key : Ranked → List ℕ
+  Key = rank_key text spans
+
+  -- an item that goes behind the last one goes between that and those that follow
+  pub step_back : (last : Option Ranked) (one : Ranked) (rest : List Ranked)
+      → MatchOption last ⊤ (λ (r : Ranked). goes_first Key r one ≡ true)
+      → Sorted Key (one ∷ rest) → Sorted Key (option_to_list last ++ one ∷ rest)
+  step_back None one rest first s = s
+  step_back (Some r) one rest first s = ((first, all_first Key r one rest first s.0), s)
+
+  -- one item alone is in order
+  at_end : (last : Option Ranked) → Sorted Key (option_to_list last ++ [])
+  at_end None = tt
+  at_end (Some r) = (tt, tt)
+
+  pub seen_in_order : (last : Option Ranked) (rs : List Ranked)
+      → (Sorted Key (option_to_list last ++ []) → Sorted Key rs) → rs ≡ in_order Key rs
+  seen_in_order last rs all =
+      sym (sorted_is Key (rank_exact text spans) rs rs (IsPermutation-refl rs) (all (at_end last)))
+
+-- ---- postings, one item after the other
+module _ (text : List ℕ) (spans : List Span) (last : Option Ranked) (i : ℕ) (one : Ranked) (rest : List Ranked) where
+  abbrev here : List ℕ
+  here = key_of text spans one.item
+
+  abbrev before : Option (List ℕ)
+  before = option_map (λ (r : Ranked). key_of text spans r.item) last
+
+  next : i + 1 ≡ suc i
+  next = omega arith
+
+  pub starts_new : (starts whole : List ℕ) → goes_on before here ≡ false
+      → starts ++ starts_on before i (map (keyed text spans) (one ∷ rest)) ≡ whole
+      → (starts ++ i ∷ []) ++ starts_on (Some here) (i + 1) (map (keyed text spans) rest) ≡ whole
+  unfolding keyed
+  starts_new starts whole new is =
+      let later : ℕ → List ℕ = λ n. starts_on (Some here) n (map (keyed text spans) rest) in
+      append_assoc starts (i ∷ []) (later (i + 1)) ∙ ap (λ n. starts ++ i ∷ later n) next
+      ∙ ap (λ b. starts ++ cond b (later (suc i)) (i ∷ later (suc i))) (sym new) ∙ is
+
+  pub starts_same : (starts whole : List ℕ) → goes_on before here ≡ true
+      → starts ++ starts_on before i (map (keyed text spans) (one ∷ rest)) ≡ whole
+      → starts ++ starts_on (Some here) (i + 1) (map (keyed text spans) rest) ≡ whole
+  unfolding keyed
+  starts_same starts whole same is =
+      let later : ℕ → List ℕ = λ n. starts_on (Some here) n (map (keyed text spans) rest) in
+      ap (λ n. starts ++ later n) next ∙ ap (λ b. starts ++ cond b (later (suc i)) (i ∷ later (suc i))) (sym same) ∙ is
+
+  pub prefixes_new : (prefixes whole : List ℕ) → IsRanked text spans one → goes_on before here ≡ false
+      → prefixes ++ prefixes_on before (map (keyed text spans) (one ∷ rest)) ≡ whole
+      → (prefixes ++ one.prefix ∷ []) ++ prefixes_on (Some here) (map (keyed text spans) rest) ≡ whole
+  unfolding keyed
+  prefixes_new prefixes whole is_one new is =
+      let later = prefixes_on (Some here) (map (keyed text spans) rest) in
+      append_assoc prefixes (one.prefix ∷ []) later ∙ ap (λ p. prefixes ++ p ∷ later) is_one.0
+      ∙ ap (λ b. prefixes ++ cond b later (key_prefix here ∷ later)) (sym new) ∙ is
+
+  pub prefixes_same : (prefixes whole : List ℕ) → goes_on before here ≡ true
+      → prefixes ++ prefixes_on before (map (keyed text spans) (one ∷ rest)) ≡ whole
+      → prefixes ++ prefixes_on (Some here) (map (keyed text spans) rest) ≡ whole
+  unfolding keyed
+  prefixes_same prefixes whole same is =
+      let later = prefixes_on (Some here) (map (keyed text spans) rest) in
+      ap (λ b. prefixes ++ cond b later (key_prefix here ∷ later)) (sym same) ∙ is

@@ -3,6 +3,7 @@ pub(crate) mod facts;
 pub(crate) mod groups;
 pub(crate) mod laid;
 pub(crate) mod list;
+pub(crate) mod postings;
 pub(crate) mod prefix;
 pub(crate) mod ranked;
 pub(crate) mod sorted;

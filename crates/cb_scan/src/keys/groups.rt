@@ -117,12 +117,19 @@ fn places_in_groups(starts: &mut [u32], of_items: &mut [u32]) {
     }
 }
 
-/// Where each item stands in the order of keys.
+/// Where each item is expected to stand in the order of keys, and how many keys there are.
+#[derive(Drop)]
+pub(crate) struct Expected {
+    pub places: Vec<u32>,
+    pub keys: usize,
+}
+
+/// The places that are expected.
 pub(crate) fn places(
     alloc: Global,
     spelling: Spelling<'_>,
     ranked: &[Ranked],
-) -> Result<Vec<u32>, AllocError> {
+) -> Result<Expected, AllocError> {
     let mut groups = Groups::new(alloc, ranked.len())?;
     for one in ranked {
         groups.add(spelling, *one)?;
@@ -134,5 +141,8 @@ pub(crate) fn places(
         groups.counts.as_mut_slice(),
     );
     places_in_groups(groups.counts.as_mut_slice(), groups.of_items.as_mut_slice());
-    Ok(groups.of_items)
+    Ok(Expected {
+        keys: groups.firsts.len(),
+        places: groups.of_items,
+    })
 }

@@ -1,12 +1,15 @@
 //! Items with what settles most comparisons of their keys.
 ghost use Rattle.std.specs.Prelude.{◌≡◌, ◌≤◌, ◌<◌, ◌^◌, length, map, take, IfOk};
+ghost use Rattle.std.specs.Cmp.Lexicographic.{slice_cmp};
+ghost use Rattle.std.specs.Ordering.{nat_cmp, ordering_then};
 ghost use Rattle.std.specs.Str.{bytes_eq};
 ghost use Rattle.cb_scan.specs.lex.Tokens.{bytes_of};
-ghost use Rattle.cb_scan.specs.steps.Ranks.{IsRanked, key_of, rank, ranks};
+ghost use Rattle.cb_scan.specs.steps.Ranks.{IsRanked, key_of, rank, rank_key, ranks};
 
 use crate::keys::prefix::prefix_of_front;
 use crate::keys::spelling::Spelling;
 use std::alloc::{AllocError, Global};
+use std::cmp::Ordering;
 
 /// An item, and what is compared before its key is looked up: the prefix of the key, and how many
 /// bytes the key has, or 9 if it goes on behind its prefix.
@@ -61,4 +64,41 @@ pub(crate) fn have_one_key(spelling: Spelling<'_>, a: Ranked, b: Ranked) -> bool
         return true;
     }
     spelling.key(a.item) == spelling.key(b.item)
+}
+
+/// The order of keys, and of items with one key.
+fn compare_keys(spelling: Spelling<'_>, a: u32, b: u32) -> Ordering
+    ensures { result ≡ ordering_then
+        (slice_cmp nat_cmp (key_of spelling.entry.text.now spelling.entry.spans.now a)
+        (key_of spelling.entry.text.now spelling.entry.spans.now b)) (nat_cmp a b) }
+{
+    match spelling.key(a).cmp(spelling.key(b)) {
+        Ordering::Less => Ordering::Less,
+        Ordering::Greater => Ordering::Greater,
+        Ordering::Equal => a.cmp(&b),
+    }
+}
+
+/// The order of items.
+#[tactic(auto, unfolding(crate::specs::steps::Ranks::rank_key))]
+pub(crate) fn compare(spelling: Spelling<'_>, a: Ranked, b: Ranked) -> Ordering
+    ensures { result ≡ slice_cmp nat_cmp
+        (rank_key spelling.entry.text.now spelling.entry.spans.now a)
+        (rank_key spelling.entry.text.now spelling.entry.spans.now b) }
+{
+    match a.prefix.cmp(&b.prefix) {
+        Ordering::Less => Ordering::Less,
+        Ordering::Greater => Ordering::Greater,
+        Ordering::Equal => match a.size.cmp(&b.size) {
+            Ordering::Less => Ordering::Less,
+            Ordering::Greater => Ordering::Greater,
+            Ordering::Equal => {
+                if a.size <= 8 {
+                    a.item.cmp(&b.item)
+                } else {
+                    compare_keys(spelling, a.item, b.item)
+                }
+            }
+        },
+    }
 }

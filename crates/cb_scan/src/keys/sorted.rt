@@ -1,59 +1,30 @@
-//! Items in the order of their keys. They are laid where a table of the keys expects them, and the
-//! sort after that finds them in order.
-ghost use Rattle.std.specs.Prelude.{◌≡◌, ◌<◌, ◌^◌, length, map, IfOk};
+//! Items in the order of their keys. They are laid where a table of the keys expects them. As a
+//! rule that is their order; where it is not, they are sorted.
+ghost use Rattle.std.specs.Prelude.{◌≡◌, ◌<◌, ◌^◌, None, length, map, IfOk};
 ghost use Rattle.std.specs.Cmp.Lexicographic.{slice_cmp};
 ghost use Rattle.std.specs.List.{AllByRecursion};
-ghost use Rattle.std.specs.Ordering.{nat_cmp, ordering_then};
+ghost use Rattle.std.specs.Ordering.{nat_cmp};
 ghost use Rattle.cb_scan.specs.lex.Tokens.{bytes_of};
 ghost use Rattle.cb_scan.specs.Order.{in_order};
-ghost use Rattle.cb_scan.specs.steps.Keys.{numbered, sort_key};
-ghost use Rattle.cb_scan.specs.steps.Ranks.{IsRanked, key_of, keyed, rank_key};
+ghost use Rattle.cb_scan.specs.steps.Keys.{numbered, prefixes_on, sort_key, starts_on};
+ghost use Rattle.cb_scan.specs.steps.Ranks.{IsRanked, keyed, rank_key};
 
-use crate::keys::groups::places;
+use crate::keys::groups::{Expected, places};
 use crate::keys::laid::lay;
-use crate::keys::ranked::{Ranked, rank_all};
+use crate::keys::postings::{Postings, find_postings};
+use crate::keys::ranked::{Ranked, compare, rank_all};
 use crate::keys::spelling::Spelling;
 use std::alloc::{AllocError, Global};
 use std::cmp::Ordering;
 
-/// The order of keys, and of items with one key.
-fn compare_keys(spelling: Spelling<'_>, a: u32, b: u32) -> Ordering
-    ensures { result ≡ ordering_then
-        (slice_cmp nat_cmp (key_of spelling.entry.text.now spelling.entry.spans.now a)
-        (key_of spelling.entry.text.now spelling.entry.spans.now b)) (nat_cmp a b) }
-{
-    match spelling.key(a).cmp(spelling.key(b)) {
-        Ordering::Less => Ordering::Less,
-        Ordering::Greater => Ordering::Greater,
-        Ordering::Equal => a.cmp(&b),
-    }
+/// Items in order, and their postings.
+#[derive(Drop)]
+pub(crate) struct Listed {
+    pub ranked: Vec<Ranked>,
+    pub postings: Postings,
 }
 
-/// The order of items.
-#[tactic(auto, unfolding(crate::specs::steps::Ranks::rank_key))]
-fn compare(spelling: Spelling<'_>, a: Ranked, b: Ranked) -> Ordering
-    ensures { result ≡ slice_cmp nat_cmp
-        (rank_key spelling.entry.text.now spelling.entry.spans.now a)
-        (rank_key spelling.entry.text.now spelling.entry.spans.now b) }
-{
-    match a.prefix.cmp(&b.prefix) {
-        Ordering::Less => Ordering::Less,
-        Ordering::Greater => Ordering::Greater,
-        Ordering::Equal => match a.size.cmp(&b.size) {
-            Ordering::Less => Ordering::Less,
-            Ordering::Greater => Ordering::Greater,
-            Ordering::Equal => {
-                if a.size <= 8 {
-                    a.item.cmp(&b.item)
-                } else {
-                    compare_keys(spelling, a.item, b.item)
-                }
-            }
-        },
-    }
-}
-
-/// Puts items in order. Where they are in order already, it only looks at each once.
+/// Puts items in order.
 pub(crate) fn sort(spelling: Spelling<'_>, ranked: &mut [Ranked])
     ensures items { ranked.new
         ≡ in_order (rank_key spelling.entry.text.now spelling.entry.spans.now) ranked.old }
@@ -68,29 +39,74 @@ pub(crate) fn sort(spelling: Spelling<'_>, ranked: &mut [Ranked])
     );
 }
 
-/// Puts items in order, by way of places that may be theirs in that order.
-fn lay_and_sort(spelling: Spelling<'_>, ranked: &mut [Ranked], places: &mut [u32])
-    ensures items { ranked.new
-        ≡ in_order (rank_key spelling.entry.text.now spelling.entry.spans.now) ranked.old }
+/// Puts items in order, whose number of keys is about so large, and finds their postings.
+fn sort_postings(
+    alloc: Global,
+    spelling: Spelling<'_>,
+    ranked: &mut [Ranked],
+    keys: usize,
+) -> Result<Postings, AllocError>
+    requires few { length ranked.old < 2 ^ 32 }
+    requires ranked { AllByRecursion (IsRanked spelling.text.now spelling.spans.now) ranked.old }
+    ensures items { IfOk result (λ _. ranked.new
+        ≡ in_order (rank_key spelling.entry.text.now spelling.entry.spans.now) ranked.old) }
+    ensures starts { IfOk result (λ s. s.starts.items
+        ≡ starts_on None 0
+        (map (keyed spelling.entry.text.now spelling.entry.spans.now) ranked.new)) }
+    ensures prefixes { IfOk result (λ s. s.prefixes.items
+        ≡ prefixes_on None
+        (map (keyed spelling.entry.text.now spelling.entry.spans.now) ranked.new)) }
     ensures len { length ranked.new ≡ length ranked.old }
 {
-    lay(ranked, places);
+    let found = find_postings(alloc, spelling, ranked, keys)?;
+    if found.ascend {
+        return Ok(found);
+    }
     sort(spelling, ranked);
+    find_postings(alloc, spelling, ranked, keys)
 }
 
-/// The items by their keys and then by number.
-pub(crate) fn sorted(alloc: Global, spelling: Spelling<'_>) -> Result<Vec<Ranked>, AllocError>
+/// Puts items in order, by way of places that may be theirs in that order, and finds their
+/// postings.
+fn lay_and_sort(
+    alloc: Global,
+    spelling: Spelling<'_>,
+    ranked: &mut [Ranked],
+    expected: &mut Expected,
+) -> Result<Postings, AllocError>
+    requires few { length ranked.old < 2 ^ 32 }
+    requires ranked { AllByRecursion (IsRanked spelling.text.now spelling.spans.now) ranked.old }
+    ensures items { IfOk result (λ _. ranked.new
+        ≡ in_order (rank_key spelling.entry.text.now spelling.entry.spans.now) ranked.old) }
+    ensures starts { IfOk result (λ s. s.starts.items
+        ≡ starts_on None 0
+        (map (keyed spelling.entry.text.now spelling.entry.spans.now) ranked.new)) }
+    ensures prefixes { IfOk result (λ s. s.prefixes.items
+        ≡ prefixes_on None
+        (map (keyed spelling.entry.text.now spelling.entry.spans.now) ranked.new)) }
+    ensures len { length ranked.new ≡ length ranked.old }
+{
+    lay(ranked, expected.places.as_mut_slice());
+    sort_postings(alloc, spelling, ranked, expected.keys)
+}
+
+/// The items by their keys and then by number, and their postings.
+pub(crate) fn sorted(alloc: Global, spelling: Spelling<'_>) -> Result<Listed, AllocError>
     requires { length spelling.spans.now < 2 ^ 32 }
     ensures items { IfOk result
-        (λ rs. map (keyed spelling.entry.text.now spelling.entry.spans.now) rs.items
+        (λ s. map (keyed spelling.entry.text.now spelling.entry.spans.now) s.ranked.items
         ≡ in_order sort_key
         (numbered 0 (map (bytes_of spelling.entry.text.now) spelling.entry.spans.now))) }
-    ensures len { IfOk result (λ rs. length rs.items ≡ length spelling.entry.spans.now) }
-    ensures ranked { IfOk result (λ rs. AllByRecursion
-        (IsRanked spelling.entry.text.now spelling.entry.spans.now) rs.items) }
+    ensures starts { IfOk result (λ s. s.postings.starts.items
+        ≡ starts_on None 0
+        (map (keyed spelling.entry.text.now spelling.entry.spans.now) s.ranked.items)) }
+    ensures prefixes { IfOk result (λ s. s.postings.prefixes.items
+        ≡ prefixes_on None
+        (map (keyed spelling.entry.text.now spelling.entry.spans.now) s.ranked.items)) }
+    ensures len { IfOk result (λ s. length s.ranked.items ≡ length spelling.entry.spans.now) }
 {
-    let mut found = rank_all(alloc, spelling)?;
-    let mut places = places(alloc, spelling, found.as_slice())?;
-    lay_and_sort(spelling, found.as_mut_slice(), places.as_mut_slice());
-    Ok(found)
+    let mut ranked = rank_all(alloc, spelling)?;
+    let mut expected = places(alloc, spelling, ranked.as_slice())?;
+    let postings = lay_and_sort(alloc, spelling, ranked.as_mut_slice(), &mut expected)?;
+    Ok(Listed { ranked, postings })
 }

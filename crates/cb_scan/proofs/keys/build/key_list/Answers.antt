@@ -1,33 +1,22 @@
 use Rattle.std.proofs.Common.{rules, ◌≡◌, ◌∙◌, ◌<◌, ◌≤◌, ◌^◌, ℕ, List, None, length, map, sym, ap, subst}
 use Rattle.std.proofs.lemmas.List.{length-map}
-use Rattle.std.specs.List.{AllByRecursion}
 use Rattle.cb_scan.specs.declared.keys.ranked.Ranked.{Ranked}
 use Rattle.cb_scan.specs.declared.lex.piece.Span.{Span}
 use Rattle.cb_scan.specs.Order.{in_order}
 use Rattle.cb_scan.specs.lex.Tokens.{bytes_of}
 use Rattle.cb_scan.specs.steps.Keys.{item_of, numbered, prefixes_on, sort_key, starts_on}
-use Rattle.cb_scan.specs.steps.Ranks.{IsRanked, keyed}
+use Rattle.cb_scan.specs.steps.Ranks.{keyed}
 use Rattle.cb_scan.proofs.KeyLaws.{item_count, prefix_count}
 use Rattle.cb_scan.proofs.KeyPostings.{built}
 use Rattle.cb_scan.proofs.KeyRanks.{map_mapped}
 use Rattle.cb_scan.proofs.keys.build.key_list.Goals as goal
 
 -- there are as many items as spans
-pub find_postings-requires-clause-few : goal.find_postings-requires-clause-few
-find_postings-requires-clause-few c =
-    let counted = ap length c.as_slice.ensures.value ∙ c.in_ok-sorted.ensures.len ∙ ap length c.new-spelling.ensures.spans in
-    subst (λ n. n < 2 ^ 32) (sym counted) (search (rules, c.if-spans.false))
-
-pub find_postings-requires-clause-ranked : goal.find_postings-requires-clause-ranked
-find_postings-requires-clause-ranked c =
-    subst (AllByRecursion (IsRanked c.new-spelling.result.text.now c.new-spelling.result.spans.now))
-    (sym c.as_slice.ensures.value) c.in_ok-sorted.ensures.ranked
-
-pub new-requires-clause-few : goal.new-requires-clause-few
-new-requires-clause-few c =
-    let sorted = c.in_ok-sorted.sorted.items in
-    let counted = ap length (c.in_ok-items.ensures ∙ ap (map (λ (r : Ranked). r.item)) c.as_slice-2.ensures.value)
-    ∙ length-map sorted (λ (r : Ranked). r.item) ∙ c.in_ok-sorted.ensures.len ∙ ap length c.new-spelling.ensures.spans in
+pub new-requires-2-clause-few : goal.new-requires-2-clause-few
+new-requires-2-clause-few c =
+    let sorted = c.in_ok-sorted.sorted.ranked.items in
+    let counted = ap length (c.in_ok-items.ensures ∙ ap (map (λ (r : Ranked). r.item)) c.as_slice.ensures.value)
+    ∙ length-map sorted (λ (r : Ranked). r.item) ∙ c.in_ok-sorted.ensures.len ∙ ap length c.new.ensures.spans in
     subst (λ n. n < 2 ^ 32) (sym counted) (search (rules, c.if-spans.false))
 
 -- the items in order
@@ -61,32 +50,27 @@ module _ (text keys_text : List ℕ) (spans keys_spans : List Span) (sorted : Li
     prefixes_are = prefixes_are ∙ ap (prefixes_on None) order;
   }
 
-pub new-requires-clause-postings : goal.new-requires-clause-postings
-new-requires-clause-postings c =
-    let text = c.new-spelling.result.text.now in
-    let spans = c.new-spelling.result.spans.now in
-    few (map (bytes_of c.args.text.now) c.args.spans.now) c.in_ok-items.items.items c.in_ok-starts.starts.items c.in_ok-prefixes.prefixes.items
-    (ordered text c.args.text.now spans c.args.spans.now c.in_ok-sorted.sorted.items
-    c.new-spelling.ensures.text c.new-spelling.ensures.spans c.in_ok-sorted.ensures.items
-    c.in_ok-items.items.items c.in_ok-starts.starts.items c.in_ok-prefixes.prefixes.items
-    (c.in_ok-items.ensures ∙ ap (map (λ (r : Ranked). r.item)) c.as_slice-2.ensures.value)
-    (c.in_ok-starts.ensures ∙ c.as_slice-3.ensures.value ∙ c.in_ok-found.ensures.starts
-    ∙ ap (λ rs. starts_on None 0 (map (keyed text spans) rs)) c.as_slice.ensures.value)
-    (c.in_ok-prefixes.ensures ∙ c.as_slice-4.ensures.value ∙ c.in_ok-found.ensures.prefixes
-    ∙ ap (λ rs. prefixes_on None (map (keyed text spans) rs)) c.as_slice.ensures.value))
+pub new-requires-2-clause-postings : goal.new-requires-2-clause-postings
+new-requires-2-clause-postings c =
+    let text = c.new.result.text.now in
+    let spans = c.new.result.spans.now in
+    few (map (bytes_of c.args.text.now) c.args.spans.now) c.in_ok-items.items.items
+    c.in_ok-sorted.sorted.postings.starts.items c.in_ok-sorted.sorted.postings.prefixes.items
+    (ordered text c.args.text.now spans c.args.spans.now c.in_ok-sorted.sorted.ranked.items
+    c.new.ensures.text c.new.ensures.spans c.in_ok-sorted.ensures.items
+    c.in_ok-items.items.items c.in_ok-sorted.sorted.postings.starts.items c.in_ok-sorted.sorted.postings.prefixes.items
+    (c.in_ok-items.ensures ∙ ap (map (λ (r : Ranked). r.item)) c.as_slice.ensures.value)
+    c.in_ok-sorted.ensures.starts c.in_ok-sorted.ensures.prefixes)
 
 -- what is built of the items in order
 pub returns : goal.returns
 returns c =
-    let text = c.new-spelling.result.text.now in
-    let spans = c.new-spelling.result.spans.now in
-    let o = ordered text c.args.text.now spans c.args.spans.now c.in_ok-sorted.sorted.items
-    c.new-spelling.ensures.text c.new-spelling.ensures.spans c.in_ok-sorted.ensures.items
-    c.in_ok-items.items.items c.in_ok-starts.starts.items c.in_ok-prefixes.prefixes.items
-    (c.in_ok-items.ensures ∙ ap (map (λ (r : Ranked). r.item)) c.as_slice-2.ensures.value)
-    (c.in_ok-starts.ensures ∙ c.as_slice-3.ensures.value ∙ c.in_ok-found.ensures.starts
-    ∙ ap (λ rs. starts_on None 0 (map (keyed text spans) rs)) c.as_slice.ensures.value)
-    (c.in_ok-prefixes.ensures ∙ c.as_slice-4.ensures.value ∙ c.in_ok-found.ensures.prefixes
-    ∙ ap (λ rs. prefixes_on None (map (keyed text spans) rs)) c.as_slice.ensures.value) in
-    c.new.ensures ∙ (λ i. record { items = o.items_are i; starts = o.starts_are i; prefixes = o.prefixes_are i })
+    let text = c.new.result.text.now in
+    let spans = c.new.result.spans.now in
+    let o = ordered text c.args.text.now spans c.args.spans.now c.in_ok-sorted.sorted.ranked.items
+    c.new.ensures.text c.new.ensures.spans c.in_ok-sorted.ensures.items
+    c.in_ok-items.items.items c.in_ok-sorted.sorted.postings.starts.items c.in_ok-sorted.sorted.postings.prefixes.items
+    (c.in_ok-items.ensures ∙ ap (map (λ (r : Ranked). r.item)) c.as_slice.ensures.value)
+    c.in_ok-sorted.ensures.starts c.in_ok-sorted.ensures.prefixes in
+    c.new-2.ensures ∙ (λ i. record { items = o.items_are i; starts = o.starts_are i; prefixes = o.prefixes_are i })
     ∙ built (map (bytes_of c.args.text.now) c.args.spans.now)

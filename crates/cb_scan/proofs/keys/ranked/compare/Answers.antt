@@ -1,6 +1,6 @@
 use Rattle.std.proofs.Common.{◌∙◌, rules, sym}
 use Rattle.cb_scan.proofs.KeyRanks.{long_is}
-use Rattle.cb_scan.proofs.keys.sorted.compare.Goals as goal
+use Rattle.cb_scan.proofs.keys.ranked.compare.Goals as goal
 
 pub returns-else-a-le8 : goal.returns-else-a-le8
 returns-else-a-le8 c =
