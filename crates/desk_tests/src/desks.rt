@@ -1,4 +1,9 @@
 //! Desks that tests begin with, and what they show.
+ghost use Rattle.std.specs.Prelude.{◌≡◌, map};
+ghost use Rattle.cb_desk.specs.Models.{place_at};
+ghost use Rattle.cb_desk.specs.World.{text_named};
+ghost use Rattle.desk_tests.specs.Desks.{are_named, is_text, same_places};
+
 use cb_desk::{Change, Desk, Refusal};
 use std::alloc::{AllocError, Global};
 
@@ -58,7 +63,9 @@ pub fn two_files(alloc: Global) -> Result<Desk, Refusal> {
 }
 
 /// Whether the present files have these names, in this order.
-pub fn shows(desk: &Desk, names: &[&[u8]]) -> bool {
+pub fn shows(desk: &Desk, names: &[&[u8]]) -> bool
+    ensures { result ≡ are_named desk.now.timeline.present.files (map (λ n. n.now) names.now) }
+{
     let mut files = desk.files();
     for name in names {
         match files.next() {
@@ -70,7 +77,9 @@ pub fn shows(desk: &Desk, names: &[&[u8]]) -> bool {
 }
 
 /// Whether the file of that name has that text.
-pub fn has_text(desk: &Desk, name: &[u8], text: &[u8]) -> bool {
+pub fn has_text(desk: &Desk, name: &[u8], text: &[u8]) -> bool
+    ensures { result ≡ is_text (text_named desk.now.timeline.present.files name.now) text.now }
+{
     for (file, source) in desk.files() {
         if file == name {
             return source.bytes() == text;
@@ -80,7 +89,9 @@ pub fn has_text(desk: &Desk, name: &[u8], text: &[u8]) -> bool {
 }
 
 /// Whether the frames are these, bottom first.
-pub fn has_frames(desk: &Desk, frames: &[(&[u8], u32)]) -> bool {
+pub fn has_frames(desk: &Desk, frames: &[(&[u8], u32)]) -> bool
+    ensures { result ≡ same_places desk.now.timeline.present.frames (map place_at frames.now) }
+{
     let mut shown = desk.frames();
     for (name, line) in frames {
         match shown.next() {
@@ -92,7 +103,9 @@ pub fn has_frames(desk: &Desk, frames: &[(&[u8], u32)]) -> bool {
 }
 
 /// Whether the marks are these, by file and line.
-pub fn has_marks(desk: &Desk, marks: &[(&[u8], u32)]) -> bool {
+pub fn has_marks(desk: &Desk, marks: &[(&[u8], u32)]) -> bool
+    ensures { result ≡ same_places desk.now.timeline.present.marks (map place_at marks.now) }
+{
     let mut shown = desk.marks();
     for (name, line) in marks {
         match shown.next() {
@@ -104,7 +117,9 @@ pub fn has_marks(desk: &Desk, marks: &[(&[u8], u32)]) -> bool {
 }
 
 /// Whether that text is wanted.
-pub fn wants(desk: &Desk, text: &[u8]) -> bool {
+pub fn wants(desk: &Desk, text: &[u8]) -> bool
+    ensures { result ≡ is_text desk.now.timeline.present.wanted text.now }
+{
     match desk.wanted() {
         Some(wanted) => wanted == text,
         None => false,
