@@ -1,1 +1,2 @@
 mod TextNamed
+mod TwoLoads

@@ -1,8 +1,11 @@
 //! Desks that tests begin with, and what they show.
-ghost use Rattle.std.specs.Prelude.{◌≡◌, map};
+ghost use Rattle.std.specs.Prelude.{◌≡◌, MatchResult, map, replicate};
 ghost use Rattle.cb_desk.specs.Models.{place_at};
+ghost use Rattle.cb_desk.specs.Step.{load as load_step};
+ghost use Rattle.cb_desk.specs.Timeline.{new_timeline};
 ghost use Rattle.cb_desk.specs.World.{text_named};
 ghost use Rattle.desk_tests.specs.Desks.{are_named, is_text, same_places};
+ghost use Rattle.desk_tests.specs.Loads.{ChangesOrNot, IsDone, TriesChange, two_loads};
 
 use cb_desk::{Change, Desk, Refusal};
 use std::alloc::{AllocError, Global};
@@ -20,7 +23,9 @@ pub fn load(
     alloc: Global,
     name: &[u8],
     count: usize,
-) -> Result<Result<(), Refusal>, AllocError> {
+) -> Result<Result<(), Refusal>, AllocError>
+    ensures { TriesChange (load_step name.now (replicate count 97)) desk.old desk.new result }
+{
     let bytes = vec![in alloc; b'a'; count]?;
     Ok(desk.change(alloc, Change::Load(name, bytes)))
 }
@@ -31,7 +36,9 @@ pub fn load_text(
     alloc: Global,
     name: &[u8],
     text: &[u8],
-) -> Result<Result<(), Refusal>, AllocError> {
+) -> Result<Result<(), Refusal>, AllocError>
+    ensures { TriesChange (load_step name.now text.now) desk.old desk.new result }
+{
     let bytes = Vec::from_slice(alloc, text)?;
     Ok(desk.change(alloc, Change::Load(name, bytes)))
 }
@@ -42,7 +49,9 @@ pub fn load_text_or_refused(
     alloc: Global,
     name: &[u8],
     text: &[u8],
-) -> Result<(), Refusal> {
+) -> Result<(), Refusal>
+    ensures { ChangesOrNot (load_step name.now text.now) desk.old desk.new result }
+{
     match load_text(desk, alloc, name, text) {
         Ok(outcome) => outcome,
         Err(_error) => Err(Refusal::OutOfMemory),
@@ -50,13 +59,20 @@ pub fn load_text_or_refused(
 }
 
 /// Loads two files.
-fn load_two(desk: &mut Desk, alloc: Global) -> Result<(), Refusal> {
+fn load_two(desk: &mut Desk, alloc: Global) -> Result<(), Refusal>
+    requires { desk.old.timeline ≡ new_timeline }
+    ensures { IsDone (two_loads NINE_LINES.now ONE_FUNCTION.now) desk.new.timeline result }
+{
     load_text_or_refused(desk, alloc, b"a.c", NINE_LINES)?;
     load_text_or_refused(desk, alloc, b"m.c", ONE_FUNCTION)
 }
 
 /// A desk with two files.
-pub fn two_files(alloc: Global) -> Result<Desk, Refusal> {
+pub fn two_files(alloc: Global) -> Result<Desk, Refusal>
+    ensures { MatchResult result
+        (λ desk. desk.timeline ≡ two_loads NINE_LINES.now ONE_FUNCTION.now)
+        (λ refusal. refusal ≡ Refusal.OutOfMemory) }
+{
     let mut desk = Desk::new(alloc);
     load_two(&mut desk, alloc)?;
     Ok(desk)
