@@ -328,11 +328,17 @@ Follows-out lines limit start old n t feed after out e s =
     (subst (λ k. Rounds lines limit bytes start old k t at out) e rounds))
 
 -- no memory for a line, and so no round
+pub LeavesRun-none : (lines limit : ℕ) (bytes : List ℕ) (start : Timeline) (out : Writer) (feed : Reader)
+    → LeavesRun (inputs lines limit bytes) start feed out out (Fault Memory)
+LeavesRun-none lines limit bytes start out feed =
+    ([], ([], output [] start (inputs lines limit bytes).requests, refl, Appends-nil out.bytes))
+
+-- and so over whatever follows what was read
 pub Follows-none : (lines limit : ℕ) (start : Timeline) (out : Writer) (feed : Reader)
     → WhateverFollows feed feed (λ bytes at. LeavesRun (inputs lines limit bytes) start at out out (Fault Memory))
 Follows-none lines limit start out feed =
     Follows-nothing feed (λ bytes at. LeavesRun (inputs lines limit bytes) start at out out (Fault Memory))
-    (λ bytes at known. ([], ([], output [] start (inputs lines limit bytes).requests, refl, Appends-nil out.bytes)))
+    (λ bytes at known. LeavesRun-none lines limit bytes start out at)
 
 -- a last flush that fails: of all that a run leaves, a prefix is left
 Leaves-prefix : (text : List ℕ) (meant : Option Ended) (rest : List ℕ) (feed : Reader)

@@ -8,8 +8,8 @@ use Rattle.cb_session.specs.declared.input.Fault.TheVariants.{Read, Write, Memor
 use Rattle.cb_session.specs.declared.input.Fault.{Fault as Reason}
 use Rattle.cb_desk.specs.Timeline.{Timeline}
 use Rattle.cb_tags.specs.Writers.{Writer}
-use Rattle.cb_session.specs.Devices.{Reader, HoldsOut}
-use Rattle.cb_session.specs.Inputs.{Inputs}
+use Rattle.cb_session.specs.Devices.{Reader, HoldsOut, WhateverFollows}
+use Rattle.cb_session.specs.Inputs.{Inputs, inputs}
 use Rattle.cb_session.specs.Output.{Outcome, output}
 use Rattle.cb_tags.specs.Writing.{AppendsPrefix}
 use Rattle.cb_session.specs.Writing.{Puts}
@@ -59,3 +59,15 @@ Tells feed feed' out out' _ = HoldsOut feed feed' × (out'.failed ≡ out.failed
 abbrev pub IfFault : Ended → (Reason → Type 0) → Type 0
 IfFault (Fault fault) P = P fault
 IfFault _ P = Unit {0}
+
+-- a run from a timeline, within so many lines and so many bytes of each: it is a run over the bytes
+-- of the reader, where these are known, and over whatever follows those that it has read; a fault
+-- of a device is answered only where that has failed, and a device that fails is told
+pub record Serves (lines limit : ℕ) (t : Timeline) (feed feed' : Reader) (out out' : Writer)
+    (ended : Ended) : Type 0 where
+  pub output : (bytes : List ℕ) → feed.bytes ≡ Some bytes
+      → LeavesRun (inputs lines limit bytes) t feed' out out' ended
+  pub every_input : WhateverFollows feed feed'
+      (λ bytes left. LeavesRun (inputs lines limit bytes) t left out out' ended)
+  pub failed : IfFault ended (HasFailed feed' out')
+  pub told : Tells feed feed' out out' (fault_of ended)

@@ -4,9 +4,9 @@ ghost use Rattle.cb_desk.specs.Models.{step_of};
 ghost use Rattle.cb_desk.specs.Step.{want};
 ghost use Rattle.cb_desk.specs.Timeline.{new_timeline};
 ghost use Rattle.cb_session.specs.Devices.{WhateverFollows};
-ghost use Rattle.cb_session.specs.Inputs.{first, inputs, ending_of};
+ghost use Rattle.cb_session.specs.Inputs.{first, ending_of};
 ghost use Rattle.cb_session.specs.Models.{request_of, going_of, HasPattern};
-ghost use Rattle.cb_session.specs.Serving.{Does, LeavesRun, HasFailed, IfFault, Tells, fault_of};
+ghost use Rattle.cb_session.specs.Serving.{Does, HasFailed, IfFault, Serves, Tells};
 ghost use Rattle.cb_session.specs.steps.Rounds.{LeavesRound, fault_in};
 ghost use Rattle.cb_session.specs.Output.{outcome};
 ghost use Rattle.cb_session.specs.Requests.{change as change_asked};
@@ -155,14 +155,8 @@ impl Session {
         feed: &mut Feed<R>,
         out: &mut Sink<W>,
     ) -> Ended
-        ensures output { (bytes : List ℕ) → feed.old.bytes ≡ Some bytes
-            → LeavesRun (inputs limits.now.lines limits.now.line bytes) self.old
-            feed.new out.old out.new result }
-        ensures every_input { WhateverFollows feed.old feed.new (λ bytes left.
-            LeavesRun (inputs limits.now.lines limits.now.line bytes) self.old
-            left out.old out.new result) }
-        ensures failed { IfFault result (HasFailed feed.new out.new) }
-        ensures told { Tells feed.old feed.new out.old out.new (fault_of result) }
+        ensures { Serves limits.now.lines limits.now.line self.old feed.old feed.new
+            out.old out.new result }
     {
         let ended = self.rounds(alloc, limits, feed, out);
         if feed.failed() || out.failed() {
@@ -181,14 +175,8 @@ impl Session {
         feed: &mut Feed<R>,
         out: &mut Sink<W>,
     ) -> Ended
-        ensures output { (bytes : List ℕ) → feed.old.bytes ≡ Some bytes
-            → LeavesRun (inputs limits.now.lines limits.now.line bytes) self.old
-            feed.new out.old out.new result }
-        ensures every_input { WhateverFollows feed.old feed.new (λ bytes left.
-            LeavesRun (inputs limits.now.lines limits.now.line bytes) self.old
-            left out.old out.new result) }
-        ensures failed { IfFault result (HasFailed feed.new out.new) }
-        ensures told { Tells feed.old feed.new out.old out.new (fault_of result) }
+        ensures { Serves limits.now.lines limits.now.line self.old feed.old feed.new
+            out.old out.new result }
     {
         let mut intake = match Intake::new(alloc) {
             Ok(intake) => intake,

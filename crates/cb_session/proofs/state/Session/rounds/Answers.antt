@@ -1,6 +1,6 @@
-use Rattle.std.proofs.Common.{◌≡◌, ◌-◌, ◌+◌, suc, Some, None, refl, arith, subst}
+use Rattle.std.proofs.Common.{◌≡◌, ◌-◌, ◌+◌, suc, Some, None, refl, arith, rules, subst}
 use Rattle.cb_session.specs.declared.input.Ended.TheVariants.{Fault}
-use Rattle.cb_session.proofs.Rounds.{Rounds, Rounds-start, Rounds-next, Rounds-stop, Rounds-out, Follows-start, Follows-next, Follows-stop, Follows-out, Follows-none}
+use Rattle.cb_session.proofs.Rounds.{Rounds, Rounds-start, Rounds-next, Rounds-stop, Rounds-out, LeavesRun-none, Follows-start, Follows-next, Follows-stop, Follows-out, Follows-none}
 use Rattle.cb_session.proofs.Told.{Tells-none, Tells-after}
 use Rattle.cb_session.specs.Serving.{fault_of}
 use Rattle.cb_session.proofs.state.Session.rounds.Goals as goal
@@ -17,15 +17,41 @@ rounds-init g c = record {
   told = (λ h. h, refl);
 }
 
-pub returns-in-Ok-Some-clause-output : goal.returns-in-Ok-Some-clause-output
-returns-in-Ok-Some-clause-output g c = λ bytes e.
-    let one_more : c.args.limits.now.lines - c.rounds._round ≡ suc (c.args.limits.now.lines - (c.rounds._round + 1)) = omega arith in
-    Rounds-stop _ _ bytes _ _ _ _ c.rounds.self c.rounds.feed c.round.new.feed c.rounds.out c.round.new.out c.in-Ok-Some.ended one_more (c.rounds.invariant.output bytes e) (rw c.in-Ok-Some.field-0-is at c.in-Ok-Some.ensures.round)
+pub returns-in-Err : goal.returns-in-Err
+returns-in-Err g c = record {
+  output = λ bytes e. LeavesRun-none c.args.limits.now.lines c.args.limits.now.line bytes c.args.self.now c.args.out.now c.args.feed.now;
+  every_input = Follows-none c.args.limits.now.lines c.args.limits.now.line c.args.self.now c.args.out.now c.args.feed.now;
+  failed = search rules;
+  told = search rules;
+}
 
-pub returns-in-Err-round-clause-output : goal.returns-in-Err-round-clause-output
-returns-in-Err-round-clause-output g c = λ bytes e.
+pub returns-in-Ok-Some : goal.returns-in-Ok-Some
+returns-in-Ok-Some g c =
     let one_more : c.args.limits.now.lines - c.rounds._round ≡ suc (c.args.limits.now.lines - (c.rounds._round + 1)) = omega arith in
-    Rounds-stop _ _ bytes _ _ _ _ c.rounds.self c.rounds.feed c.round.new.feed c.rounds.out c.round.new.out (Fault c.in-Err-round.fault) one_more (c.rounds.invariant.output bytes e) c.in-Err-round.ensures.round
+    let round = rw c.in-Ok-Some.field-0-is at c.in-Ok-Some.ensures in
+    let told = Tells-after c.args.feed.now c.rounds.feed c.round.new.feed c.args.out.now c.rounds.out c.round.new.out None c.rounds.invariant.told c.in-Ok-Some.ensures.told in
+    record {
+      output = λ bytes e.
+          Rounds-stop _ _ bytes _ _ _ _ c.rounds.self c.rounds.feed c.round.new.feed c.rounds.out c.round.new.out c.in-Ok-Some.ended one_more (c.rounds.invariant.output bytes e) (rw c.in-Ok-Some.field-0-is at c.in-Ok-Some.ensures.round);
+      every_input =
+          Follows-stop c.args.limits.now.lines c.args.limits.now.line c.args.self.now c.args.out.now _ _ c.rounds.self c.args.feed.now c.rounds.feed c.round.new.feed c.rounds.out c.round.new.out c.in-Ok-Some.ended one_more
+          c.rounds.invariant.every_input round.every_input;
+      failed = search rules;
+      told = Tells-none c.args.feed.now c.round.new.feed c.args.out.now c.round.new.out (fault_of c.in-Ok-Some.ended) told;
+    }
+
+pub returns-in-Err-round : goal.returns-in-Err-round
+returns-in-Err-round g c =
+    let one_more : c.args.limits.now.lines - c.rounds._round ≡ suc (c.args.limits.now.lines - (c.rounds._round + 1)) = omega arith in
+    record {
+      output = λ bytes e.
+          Rounds-stop _ _ bytes _ _ _ _ c.rounds.self c.rounds.feed c.round.new.feed c.rounds.out c.round.new.out (Fault c.in-Err-round.fault) one_more (c.rounds.invariant.output bytes e) c.in-Err-round.ensures.round;
+      every_input =
+          Follows-stop c.args.limits.now.lines c.args.limits.now.line c.args.self.now c.args.out.now _ _ c.rounds.self c.args.feed.now c.rounds.feed c.round.new.feed c.rounds.out c.round.new.out (Fault c.in-Err-round.fault) one_more
+          c.rounds.invariant.every_input c.in-Err-round.ensures.every_input;
+      failed = search rules;
+      told = Tells-after c.args.feed.now c.rounds.feed c.round.new.feed c.args.out.now c.rounds.out c.round.new.out (Some c.in-Err-round.fault) c.rounds.invariant.told c.in-Err-round.ensures.told;
+    }
 
 pub rounds-preserved : goal.rounds-preserved
 rounds-preserved g c = record {
@@ -40,38 +66,15 @@ rounds-preserved g c = record {
   told = Tells-after c.args.feed.now c.rounds.feed c.round.new.feed c.args.out.now c.rounds.out c.round.new.out None c.rounds.invariant.told c.in-Ok-None.ensures.told;
 }
 
-pub returns-in-Ok-Some-clause-told : goal.returns-in-Ok-Some-clause-told
-returns-in-Ok-Some-clause-told g c =
-    Tells-none c.args.feed.now c.round.new.feed c.args.out.now c.round.new.out (fault_of c.in-Ok-Some.ended)
-    (Tells-after c.args.feed.now c.rounds.feed c.round.new.feed c.args.out.now c.rounds.out c.round.new.out None c.rounds.invariant.told c.in-Ok-Some.ensures.told)
-
-pub returns-in-Err-round-clause-told : goal.returns-in-Err-round-clause-told
-returns-in-Err-round-clause-told g c =
-    Tells-after c.args.feed.now c.rounds.feed c.round.new.feed c.args.out.now c.rounds.out c.round.new.out (Some c.in-Err-round.fault) c.rounds.invariant.told c.in-Err-round.ensures.told
-
-pub returns-clause-output : goal.returns-clause-output
-returns-clause-output g c = λ bytes e.
+pub returns : goal.returns
+returns g c =
     let none : c.args.limits.now.lines - c.rounds._round ≡ 0 = omega arith in
-    Rounds-out _ _ bytes _ _ c.rounds.self c.rounds.feed _
-    (subst (λ n. Rounds c.args.limits.now.lines c.args.limits.now.line bytes c.args.self.now c.args.out.now n c.rounds.self c.rounds.feed c.rounds.out) none (c.rounds.invariant.output bytes e))
-
-pub returns-in-Err-clause-every_input : goal.returns-in-Err-clause-every_input
-returns-in-Err-clause-every_input g c = Follows-none c.args.limits.now.lines c.args.limits.now.line c.args.self.now c.args.out.now c.args.feed.now
-
-pub returns-in-Ok-Some-clause-every_input : goal.returns-in-Ok-Some-clause-every_input
-returns-in-Ok-Some-clause-every_input g c =
-    let one_more : c.args.limits.now.lines - c.rounds._round ≡ suc (c.args.limits.now.lines - (c.rounds._round + 1)) = omega arith in
-    let round = rw c.in-Ok-Some.field-0-is at c.in-Ok-Some.ensures in
-    Follows-stop c.args.limits.now.lines c.args.limits.now.line c.args.self.now c.args.out.now _ _ c.rounds.self c.args.feed.now c.rounds.feed c.round.new.feed c.rounds.out c.round.new.out c.in-Ok-Some.ended one_more
-    c.rounds.invariant.every_input round.every_input
-
-pub returns-in-Err-round-clause-every_input : goal.returns-in-Err-round-clause-every_input
-returns-in-Err-round-clause-every_input g c =
-    let one_more : c.args.limits.now.lines - c.rounds._round ≡ suc (c.args.limits.now.lines - (c.rounds._round + 1)) = omega arith in
-    Follows-stop c.args.limits.now.lines c.args.limits.now.line c.args.self.now c.args.out.now _ _ c.rounds.self c.args.feed.now c.rounds.feed c.round.new.feed c.rounds.out c.round.new.out (Fault c.in-Err-round.fault) one_more
-    c.rounds.invariant.every_input c.in-Err-round.ensures.every_input
-
-pub returns-clause-every_input : goal.returns-clause-every_input
-returns-clause-every_input g c =
-    let none : c.args.limits.now.lines - c.rounds._round ≡ 0 = omega arith in
-    Follows-out c.args.limits.now.lines c.args.limits.now.line c.args.self.now c.args.out.now _ c.rounds.self c.args.feed.now c.rounds.feed c.rounds.out none c.rounds.invariant.every_input
+    record {
+      output = λ bytes e.
+          Rounds-out _ _ bytes _ _ c.rounds.self c.rounds.feed _
+          (subst (λ n. Rounds c.args.limits.now.lines c.args.limits.now.line bytes c.args.self.now c.args.out.now n c.rounds.self c.rounds.feed c.rounds.out) none (c.rounds.invariant.output bytes e));
+      every_input =
+          Follows-out c.args.limits.now.lines c.args.limits.now.line c.args.self.now c.args.out.now _ c.rounds.self c.args.feed.now c.rounds.feed c.rounds.out none c.rounds.invariant.every_input;
+      failed = search rules;
+      told = c.rounds.invariant.told;
+    }

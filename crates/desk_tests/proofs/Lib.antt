@@ -1,0 +1,2 @@
+mod TextNamed
+mod TwoLoads
