@@ -296,7 +296,7 @@ impl LineLists {
         ensures ranges { IfOk result (λ _. self.new.ranges.items ≡ self.old.ranges.items) }
     {
         if line.is_use(token) {
-            self.names.push(*token)?;
+            self.names.push(token.copied())?;
         }
         if line.is_code() {
             return Ok(());

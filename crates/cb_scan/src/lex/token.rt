@@ -170,6 +170,20 @@ pub(crate) fn token_of(text: &[u8], lined: Lined) -> Token
 }
 
 impl Token {
+    /// The same token, field by field. A copy of all its bytes at once would wait until each field,
+    /// which was written just before, has reached the cache.
+    #[inline(always)]
+    pub(crate) fn copied(&self) -> Token
+        ensures { result ≡ self.now }
+    {
+        Token {
+            role: self.role,
+            starts_line: self.starts_line,
+            span: self.span,
+            line: self.line,
+        }
+    }
+
     /// A name that is not reserved.
     pub(crate) fn is_name(self) -> bool
         ensures { result ≡ is_name_token self.role }

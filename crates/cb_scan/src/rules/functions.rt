@@ -145,7 +145,7 @@ impl Machine {
         if self.depth == 0 {
             self.head.add(token);
         } else {
-            self.head.last = Some(*token);
+            self.head.last = Some(token.copied());
         }
     }
 

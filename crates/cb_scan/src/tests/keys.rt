@@ -144,8 +144,9 @@ fn a_table_says_where_items_stand(rt: HostRuntime) -> Result<(), Fail> {
     ];
     let spelling = Spelling::new(FEW, spans.as_slice());
     let ranked = rank_all(rt.alloc(), spelling)?;
-    let places = places(rt.alloc(), spelling, ranked.as_slice())?;
+    let expected = places(rt.alloc(), spelling, ranked.as_slice())?;
     // a, a, abcdefgh, abcdefghi, b, b
-    assert_eq!(rt; places.as_slice(), [4, 0, 5, 1, 3, 2].as_slice());
+    assert_eq!(rt; expected.places.as_slice(), [4, 0, 5, 1, 3, 2].as_slice());
+    assert_eq!(rt; expected.keys, 4);
     Ok(())
 }
