@@ -10,6 +10,8 @@ Whole      the tags file, plain and extended, and the listing of a tree are thos
            for byte, by one process and by four.
 Odd names  what cbrowse does not take is told and left out, the status is 1, and all else is there; folders named `!`, `(`
            and `-x`, and a tags file named `-t`, are taken as they are.
+Ends       numbers that begin with 0; a tags file that is a link, a pipe or the name of another's folder; no standard error;
+           a program in a folder of PATH that does not begin with /; folders that cannot be read (as root, who runs as nobody).
 Failures   an old tags file stays as it was, and the status is 1, where a folder is not there, where the program or `sort`
            fails, and where the temporary folder is full: each size of a small one is tried (as root alone, with `mount`).
 """
@@ -84,6 +86,48 @@ def odd_names(place):
         check(f"a folder named {folder}", status == 0 and (place.folder / "-t").read_text().startswith("g\t"), said)
 
 
+def ends(place):
+    """The places where a script gives way: what stands where it writes, and what it is started with."""
+    place.put("few/a.c", "int g(void) {\n}\n")
+    expected = place.one(["few/a.c"])
+    for number in "08", "09", "010":
+        status, _, said = place.run("-j", number, "-f", "few.tags", "few")
+        check(f"-j {number}", status == 0 and (place.folder / "few.tags").read_bytes() == expected, said)
+    check("-j 000", place.run("-j", "000", "few")[0] == 2)
+    place.put("real", "old\n")
+    (place.folder / "link").symlink_to("real")
+    status, _, said = place.run("-f", "link", "few")
+    check("a link", status == 0 and (place.folder / "link").is_symlink() and (place.folder / "real").read_bytes() == expected, said)
+    pipe = place.folder / "pipe"
+    os.mkfifo(pipe)
+    reader = subprocess.Popen(["cat", pipe], stdout=subprocess.PIPE)
+    status, _, said = place.run("-f", "pipe", "few")
+    check("a pipe", status == 0 and reader.communicate(timeout=60)[0] == expected and pipe.is_fifo(), said)
+    mine = "mkdir tags.$$; echo x >tags.$$/file; exec sh \"$0\" few"
+    done = subprocess.run(["sh", "-c", mine, TREE], cwd=place.folder, env={**os.environ, "CBROWSE": place.cbrowse}, stderr=subprocess.PIPE)
+    check("a folder that has the name of the new file", done.returncode == 1 and len(list(place.folder.glob("tags.*/file"))) == 1)
+    quiet = subprocess.run(["sh", "-c", "exec sh \"$0\" -f few.tags few 2>&-", TREE], cwd=place.folder,
+                           env={**os.environ, "CBROWSE": place.cbrowse})
+    check("no standard error", quiet.returncode == 0 and (place.folder / "few.tags").read_bytes() == expected)
+    (place.folder / "near").mkdir()
+    (place.folder / "near" / "cbrowse").symlink_to(place.cbrowse)
+    status, _, said = place.run("-f", "few.tags", "few", CBROWSE="cbrowse", PATH=f"near:{os.environ['PATH']}")
+    check("a program in a near folder of PATH", status == 0 and (place.folder / "few.tags").read_bytes() == expected, said)
+    if os.geteuid() != 0:
+        return
+    place.put("closed/a.c", "int g(void) {\n}\n")
+    (place.folder / "closed").chmod(0o700)
+    place.folder.chmod(0o777)
+    place.put("old", "old\n")
+    (place.folder / "old").chmod(0o666)
+    nobody = ["setpriv", "--reuid=65534", "--regid=65534", "--clear-groups", "env", f"CBROWSE={place.cbrowse}", "sh", str(TREE)]
+    done = subprocess.run([*nobody, "-f", "old", "closed"], cwd=place.folder, stderr=subprocess.PIPE)
+    check("a folder that cannot be read", done.returncode == 1 and (place.folder / "old").read_text() == "old\n", done.stderr)
+    (place.folder / "old").chmod(0o444)
+    done = subprocess.run([*nobody, "-f", "old", "few"], cwd=place.folder, stderr=subprocess.PIPE)
+    check("a tags file that may not be written", done.returncode == 1 and (place.folder / "old").read_text() == "old\n", done.stderr)
+
+
 def stays(place, what, *words, **more):
     """The old tags file stays, nothing else is left, and the status is 1."""
     place.put("old", "old\n")
@@ -135,6 +179,7 @@ def main():
         place = Place(folder, cbrowse)
         whole(place)
         odd_names(place)
+        ends(place)
         failures(place)
     print(f"{failed} failed")
     sys.exit(failed > 0)
