@@ -464,10 +464,10 @@ pub LeavesSession-unflushed : (i : Inputs) (start next : Timeline) (feed : Reade
 LeavesSession-unflushed i start next feed old mid new ended kept run =
     let p : AppendsPrefix old.bytes mid.bytes (output run.0 start i.requests) =
     Leaves-prefix (output run.0 start i.requests)
-    (Some i.ending) i.rest feed old mid ended run.1.0 in (
+    (Some i.ending) i.rest feed old mid ended run.1 in (
       run.0,
       (p.0, p.1, p.2, Appends-kept old.bytes mid.bytes new.bytes p.0 p.3 kept),
-      IsLeft-first run.0 start i.requests ended next run.1.1,
+      IsLeft-first run.0 start i.requests ended next run.2,
     )
 
 -- a last flush keeps what was written
@@ -496,11 +496,11 @@ pub LeavesSession-flushed : (i : Inputs) (start next : Timeline) (feed : Reader)
     → LeavesSession i start next feed old new ended
 LeavesSession-flushed i start next feed old mid new ended kept run = (
   run.0,
-  Leaves-kept (output run.0 start i.requests) (Some i.ending) i.rest feed old mid new ended kept run.1.0,
-  run.1.1,
+  Leaves-kept (output run.0 start i.requests) (Some i.ending) i.rest feed old mid new ended kept run.1,
+  run.2,
 )
 
 -- what a run leaves beside the session
 pub session_run : (i : Inputs) (start next : Timeline) (feed : Reader) (old new : Writer) (ended : Ended)
     → LeavesSession i start next feed old new ended → LeavesRun i start feed old new ended
-session_run i start next feed old new ended run = (run.0, run.1.0)
+session_run i start next feed old new ended run = (run.0, run.1)
