@@ -29,9 +29,9 @@ use Rattle.cb_index.specs.Archived.{Archived, name_of}
 use Rattle.cb_index.specs.Bytes.{bytes_at, cut}
 use Rattle.cb_index.specs.Entries.{Keyer, entries_from, has_key}
 use Rattle.cb_index.specs.Files.{AreAscending, File, IsThere, files_of}
-use Rattle.cb_index.specs.Held.{Prefixer, all_entries, entries_of}
-use Rattle.cb_index.specs.Orders.{callee_key, callee_prefixes, callee_span, caller_key}
-use Rattle.cb_index.specs.Orders.{caller_prefixes, caller_span, first_item, use_key, use_prefixes}
+use Rattle.cb_index.specs.Held.{Lister, all_entries, entries_of}
+use Rattle.cb_index.specs.Orders.{callee_key, callees_listed, callee_span, caller_key}
+use Rattle.cb_index.specs.Orders.{callers_listed, caller_span, first_item, use_key, uses_listed}
 use Rattle.cb_index.specs.Orders.{use_span}
 use Rattle.cb_index.specs.Rows.{Fact, call_in, calls_in, calls_of, file_calls_in, file_calls_of}
 use Rattle.cb_index.specs.Rows.{file_uses_of, use_in, uses_of}
@@ -231,11 +231,11 @@ module _ (a : Archived) (s : Shown) (text : List ℕ)
   )
 
   one_uses : facts_in Uses a (filter (has_key use_key a (key_prefix key) key)
-      (entries_of use_prefixes a s)) ≡ file_uses_of key file
+      (entries_of uses_listed a s)) ≡ file_uses_of key file
   unfolding items_by_key keys_of_facts
   one_uses =
       ap (λ o. facts_in Uses a (filter (has_key use_key a (key_prefix key) key)
-      (entries_from 0 s.name s.version (use_prefixes o)))) there
+      (entries_from 0 s.name s.version (uses_listed o)))) there
       ∙ version_facts Uses use_key a s text there (λ i. bytes_at text (use_span (facts_of text) i)) (use_in file)
       (λ (u : Use). bytes_of text u.name) key (facts_of text).uses (λ number. refl) (λ number. refl)
       (use_numbered 0 (facts_of text).uses refl (facts_lie text).uses)
@@ -294,11 +294,11 @@ module _ (a : Archived) (s : Shown) (text : List ℕ)
       (call_is n c cs is within.0, caller_rows (suc n) cs (next_call n c cs is) within.1)
 
   one_callees : facts_in Callees a (filter (has_key callee_key a (key_prefix key) key)
-      (entries_of callee_prefixes a s)) ≡ file_calls_of key file
+      (entries_of callees_listed a s)) ≡ file_calls_of key file
   unfolding items_by_key keys_of_facts
   one_callees =
       ap (λ o. facts_in Callees a (filter (has_key callee_key a (key_prefix key) key)
-      (entries_from 0 s.name s.version (callee_prefixes o)))) there
+      (entries_from 0 s.name s.version (callees_listed o)))) there
       ∙ version_facts Callees callee_key a s text there
       (λ i. bytes_at text (callee_span (facts_of text) i)) (call_in file)
       (λ (c : Call). bytes_of text c.callee) key (facts_of text).calls (λ number. refl) (λ number. refl)
@@ -306,11 +306,11 @@ module _ (a : Archived) (s : Shown) (text : List ℕ)
       (callee_rows 0 (facts_of text).calls refl (facts_lie text).calls)
 
   one_callers : facts_in Callers a (filter (has_key caller_key a (key_prefix key) key)
-      (entries_of caller_prefixes a s)) ≡ file_calls_in key file
+      (entries_of callers_listed a s)) ≡ file_calls_in key file
   unfolding items_by_key keys_of_facts
   one_callers =
       ap (λ o. facts_in Callers a (filter (has_key caller_key a (key_prefix key) key)
-      (entries_from 0 s.name s.version (caller_prefixes o)))) there
+      (entries_from 0 s.name s.version (callers_listed o)))) there
       ∙ version_facts Callers caller_key a s text there
       (λ i. bytes_at text (caller_span (facts_of text) i)) (call_in file)
       (λ (c : Call). bytes_of text c.caller) key (facts_of text).calls (λ number. refl) (λ number. refl)
@@ -318,47 +318,47 @@ module _ (a : Archived) (s : Shown) (text : List ℕ)
       (caller_rows 0 (facts_of text).calls refl (facts_lie text).calls)
 
 -- ---- all versions
-module _ (sort : FactSort) (keyer : Keyer) (prefixer : Prefixer) (a : Archived) (key : List ℕ) (rows : File → List Fact)
+module _ (sort : FactSort) (keyer : Keyer) (lister : Lister) (a : Archived) (key : List ℕ) (rows : File → List Fact)
     (one : (s : Shown) (text : List ℕ) → slice_get a.texts s.version ≡ Some text
-    → facts_in sort a (filter (has_key keyer a (key_prefix key) key) (entries_of prefixer a s))
+    → facts_in sort a (filter (has_key keyer a (key_prefix key) key) (entries_of lister a s))
     ≡ rows (record { name = name_of a s.name; bytes = text })) where
   all_facts : (shown : List Shown) → AllByRecursion (IsThere a) shown
       → facts_in sort a (filter (has_key keyer a (key_prefix key) key)
-      (all_entries prefixer a shown)) ≡ flat_map rows (files_of a shown)
+      (all_entries lister a shown)) ≡ flat_map rows (files_of a shown)
   all_facts [] all = refl
   all_facts (s ∷ shown) all =
       let has = has_key keyer a (key_prefix key) key in
-      ap (facts_in sort a) (filter-append has (entries_of prefixer a s) (all_entries prefixer a shown))
-      ∙ flat_map-append (facts_at sort a) (filter has (entries_of prefixer a s))
-      (filter has (all_entries prefixer a shown))
+      ap (facts_in sort a) (filter-append has (entries_of lister a s) (all_entries lister a shown))
+      ∙ flat_map-append (facts_at sort a) (filter has (entries_of lister a s))
+      (filter has (all_entries lister a shown))
       ∙ (λ i. one s (get_or a.texts s.version []) (slice_get-get_or a.texts s.version [] all.0.1) i
       ++ all_facts shown all.1 i)
 
   index_facts : (shown : List Shown) → AllByRecursion (IsThere a) shown → AreAscending a shown → (es : List Entry)
-      → IsIndexOf keyer prefixer a shown es
+      → IsIndexOf keyer lister a shown es
       → facts_in sort a (filter (has_key keyer a (key_prefix key) key) es) ≡ flat_map rows (files_of a shown)
   index_facts shown all up es is =
-      ap (facts_in sort a) (kept_key keyer a prefixer shown up (key_prefix key) key es is) ∙ all_facts shown all
+      ap (facts_in sort a) (kept_key keyer a lister shown up (key_prefix key) key es is) ∙ all_facts shown all
 
 module _ (a : Archived) (shown : List Shown) (all : AllByRecursion (IsThere a) shown)
     (up : AreAscending a shown) (es : List Entry) (key : List ℕ) where
-  pub rows_of_uses : IsIndexOf use_key use_prefixes a shown es
+  pub rows_of_uses : IsIndexOf use_key uses_listed a shown es
       → facts_in Uses a (filter (has_key use_key a (key_prefix key) key) es) ≡ uses_of key (files_of a shown)
   unfolding uses_of
   rows_of_uses is =
-      index_facts Uses use_key use_prefixes a key (file_uses_of key)
+      index_facts Uses use_key uses_listed a key (file_uses_of key)
       (λ s text there. one_uses a s text there key) shown all up es is
 
-  pub rows_of_calls : IsIndexOf callee_key callee_prefixes a shown es
+  pub rows_of_calls : IsIndexOf callee_key callees_listed a shown es
       → facts_in Callees a (filter (has_key callee_key a (key_prefix key) key) es) ≡ calls_of key (files_of a shown)
   unfolding calls_of
   rows_of_calls is =
-      index_facts Callees callee_key callee_prefixes a key (file_calls_of key)
+      index_facts Callees callee_key callees_listed a key (file_calls_of key)
       (λ s text there. one_callees a s text there key) shown all up es is
 
-  pub rows_of_callers : IsIndexOf caller_key caller_prefixes a shown es
+  pub rows_of_callers : IsIndexOf caller_key callers_listed a shown es
       → facts_in Callers a (filter (has_key caller_key a (key_prefix key) key) es) ≡ calls_in key (files_of a shown)
   unfolding calls_in
   rows_of_callers is =
-      index_facts Callers caller_key caller_prefixes a key (file_calls_in key)
+      index_facts Callers caller_key callers_listed a key (file_calls_in key)
       (λ s text there. one_callers a s text there key) shown all up es is

@@ -19,8 +19,8 @@ use Rattle.cb_scan.proofs.KeyLaws.{holds_of_postings, items_with_are}
 use Rattle.cb_index.specs.Archived.{Archived, name_of}
 use Rattle.cb_index.specs.Entries.{Keyer, entries_from, has_key}
 use Rattle.cb_index.specs.Files.{IsThere, call_count, def_count, use_count}
-use Rattle.cb_index.specs.Held.{Prefixer, all_entries, entries_of}
-use Rattle.cb_index.specs.Orders.{callee_key, callee_prefixes, caller_key, caller_prefixes, def_key, def_prefix, def_prefixes, first_item, tag_front, tag_key, tag_key_prefix, tag_prefix, tag_prefixes, use_key, use_prefixes}
+use Rattle.cb_index.specs.Held.{Lister, all_entries, entries_of}
+use Rattle.cb_index.specs.Orders.{callee_key, callees_listed, caller_key, callers_listed, def_key, def_prefix, defs_listed, first_item, tag_front, tag_key, tag_key_prefix, tag_prefix, tags_listed, use_key, uses_listed}
 use Rattle.cb_index.specs.RowOrders.{Counter, callee_item_key, caller_item_key, row_under, rows_with, use_item_key}
 use Rattle.cb_index.specs.Spreads.{SpreadsInto}
 use Rattle.cb_index.specs.steps.Found.{keys_for, posting_items}
@@ -108,85 +108,85 @@ module _ (a : Archived) (s : Shown) (text : List ℕ) (there : slice_get a.texts
   known item_keyer count =
       ap (λ t. map (row_under s) (filter (has_item (item_keyer t (name_of a s.name)) key) (range_with_len 0 (count t)))) (sym there)
 
-  use_version : rows_in (Some Uses) a (filter (has_key use_key a (key_prefix key) key) (entries_of use_prefixes a s))
+  use_version : rows_in (Some Uses) a (filter (has_key use_key a (key_prefix key) key) (entries_of uses_listed a s))
       ≡ rows_with use_item_key use_count a key s
   unfolding keys_of_facts
   use_version =
       let keys = map (λ (u : Use). bytes_of text u.name) (facts_of text).uses in
       let has = has_item (use_item_key (Some text) (name_of a s.name)) key in
-      ap (λ o. rows_in (Some Uses) a (filter (has_key use_key a (key_prefix key) key) (entries_from 0 s.name s.version (use_prefixes o)))) there
+      ap (λ o. rows_in (Some Uses) a (filter (has_key use_key a (key_prefix key) key) (entries_from 0 s.name s.version (uses_listed o)))) there
       ∙ posting_rows Uses use_key use_item_key keys refl (λ number. refl)
       (use_numbered a s text there key 0 (facts_of text).uses refl (facts_lie text).uses)
       ∙ ap (λ n. map (row_under s) (filter has (range_with_len 0 n))) (length-map (facts_of text).uses (λ (u : Use). bytes_of text u.name))
       ∙ known use_item_key use_count
 
-  callee_version : rows_in (Some Callees) a (filter (has_key callee_key a (key_prefix key) key) (entries_of callee_prefixes a s))
+  callee_version : rows_in (Some Callees) a (filter (has_key callee_key a (key_prefix key) key) (entries_of callees_listed a s))
       ≡ rows_with callee_item_key call_count a key s
   unfolding keys_of_facts
   callee_version =
       let keys = map (λ (c : Call). bytes_of text c.callee) (facts_of text).calls in
       let has = has_item (callee_item_key (Some text) (name_of a s.name)) key in
-      ap (λ o. rows_in (Some Callees) a (filter (has_key callee_key a (key_prefix key) key) (entries_from 0 s.name s.version (callee_prefixes o)))) there
+      ap (λ o. rows_in (Some Callees) a (filter (has_key callee_key a (key_prefix key) key) (entries_from 0 s.name s.version (callees_listed o)))) there
       ∙ posting_rows Callees callee_key callee_item_key keys refl (λ number. refl)
       (callee_numbered a s text there key 0 (facts_of text).calls refl (facts_lie text).calls)
       ∙ ap (λ n. map (row_under s) (filter has (range_with_len 0 n))) (length-map (facts_of text).calls (λ (c : Call). bytes_of text c.callee))
       ∙ known callee_item_key call_count
 
-  caller_version : rows_in (Some Callers) a (filter (has_key caller_key a (key_prefix key) key) (entries_of caller_prefixes a s))
+  caller_version : rows_in (Some Callers) a (filter (has_key caller_key a (key_prefix key) key) (entries_of callers_listed a s))
       ≡ rows_with caller_item_key call_count a key s
   unfolding keys_of_facts
   caller_version =
       let keys = map (λ (c : Call). bytes_of text c.caller) (facts_of text).calls in
       let has = has_item (caller_item_key (Some text) (name_of a s.name)) key in
-      ap (λ o. rows_in (Some Callers) a (filter (has_key caller_key a (key_prefix key) key) (entries_from 0 s.name s.version (caller_prefixes o)))) there
+      ap (λ o. rows_in (Some Callers) a (filter (has_key caller_key a (key_prefix key) key) (entries_from 0 s.name s.version (callers_listed o)))) there
       ∙ posting_rows Callers caller_key caller_item_key keys refl (λ number. refl)
       (caller_numbered a s text there key 0 (facts_of text).calls refl (facts_lie text).calls)
       ∙ ap (λ n. map (row_under s) (filter has (range_with_len 0 n))) (length-map (facts_of text).calls (λ (c : Call). bytes_of text c.caller))
       ∙ known caller_item_key call_count
 
   def_version : (front : List ℕ → List ℕ) (keyer : Keyer) (prefixed : List ℕ → Def → ℕ) → IsTold front keyer prefixed
-      → (prefixer : Prefixer) → prefixer (Some text) ≡ map (prefixed text) (facts_of text).defs
-      → rows_in None a (filter (has_key keyer a (key_prefix (front key)) key) (entries_of prefixer a s))
+      → (lister : Lister) → lister (Some text) ≡ map (prefixed text) (facts_of text).defs
+      → rows_in None a (filter (has_key keyer a (key_prefix (front key)) key) (entries_of lister a s))
       ≡ rows_with keyer def_count a key s
-  def_version front keyer prefixed told prefixer some =
-      ap (λ o. rows_in None a (filter (has_key keyer a (key_prefix (front key)) key) (entries_from 0 s.name s.version (prefixer o)))) there
+  def_version front keyer prefixed told lister some =
+      ap (λ o. rows_in None a (filter (has_key keyer a (key_prefix (front key)) key) (entries_from 0 s.name s.version (lister o)))) there
       ∙ ap (λ ps. rows_in None a (filter (has_key keyer a (key_prefix (front key)) key) (entries_from 0 s.name s.version ps))) some
       ∙ def_rows front keyer prefixed told 0 (facts_of text).defs refl
       ∙ ap (λ t. map (row_under s) (filter (has_item (keyer (slice_get a.texts s.version) (name_of a s.name)) key) (range_with_len 0 (def_count t)))) (sym there)
 
 -- ---- all versions
-module _ (sort : Option FactSort) (keyer : Keyer) (prefixer : Prefixer) (prefix : List ℕ → ℕ) (item_keyer : Keyer) (count : Counter)
+module _ (sort : Option FactSort) (keyer : Keyer) (lister : Lister) (prefix : List ℕ → ℕ) (item_keyer : Keyer) (count : Counter)
     (one : (a : Archived) (s : Shown) (text : List ℕ) → slice_get a.texts s.version ≡ Some text → (key : List ℕ)
-    → rows_in sort a (filter (has_key keyer a (prefix key) key) (entries_of prefixer a s)) ≡ rows_with item_keyer count a key s) where
+    → rows_in sort a (filter (has_key keyer a (prefix key) key) (entries_of lister a s)) ≡ rows_with item_keyer count a key s) where
   all_rows : (a : Archived) (key : List ℕ) (shown : List Shown) → AllByRecursion (IsThere a) shown
-      → rows_in sort a (filter (has_key keyer a (prefix key) key) (all_entries prefixer a shown))
+      → rows_in sort a (filter (has_key keyer a (prefix key) key) (all_entries lister a shown))
       ≡ flat_map (rows_with item_keyer count a key) shown
   all_rows a key [] all = refl
   all_rows a key (s ∷ shown) all =
       let has = has_key keyer a (prefix key) key in
-      ap (rows_in sort a) (filter-append has (entries_of prefixer a s) (all_entries prefixer a shown))
-      ∙ flat_map-append (rows_at sort a) (filter has (entries_of prefixer a s)) (filter has (all_entries prefixer a shown))
+      ap (rows_in sort a) (filter-append has (entries_of lister a s) (all_entries lister a shown))
+      ∙ flat_map-append (rows_at sort a) (filter has (entries_of lister a s)) (filter has (all_entries lister a shown))
       ∙ (λ i. one a s (get_or a.texts s.version []) (slice_get-get_or a.texts s.version [] all.0.1) key i ++ all_rows a key shown all.1 i)
 
-  pub index_rows : SpreadsInto keyer prefixer prefix sort item_keyer count
+  pub index_rows : SpreadsInto keyer lister prefix sort item_keyer count
   index_rows a shown key es all up is =
-      ap (rows_in sort a) (kept_key keyer a prefixer shown up (prefix key) key es is) ∙ all_rows a key shown all
+      ap (rows_in sort a) (kept_key keyer a lister shown up (prefix key) key es is) ∙ all_rows a key shown all
 
-pub uses_spread : SpreadsInto use_key use_prefixes key_prefix (Some Uses) use_item_key use_count
-uses_spread = index_rows (Some Uses) use_key use_prefixes key_prefix use_item_key use_count use_version
+pub uses_spread : SpreadsInto use_key uses_listed key_prefix (Some Uses) use_item_key use_count
+uses_spread = index_rows (Some Uses) use_key uses_listed key_prefix use_item_key use_count use_version
 
-pub callees_spread : SpreadsInto callee_key callee_prefixes key_prefix (Some Callees) callee_item_key call_count
-callees_spread = index_rows (Some Callees) callee_key callee_prefixes key_prefix callee_item_key call_count callee_version
+pub callees_spread : SpreadsInto callee_key callees_listed key_prefix (Some Callees) callee_item_key call_count
+callees_spread = index_rows (Some Callees) callee_key callees_listed key_prefix callee_item_key call_count callee_version
 
-pub callers_spread : SpreadsInto caller_key caller_prefixes key_prefix (Some Callers) caller_item_key call_count
-callers_spread = index_rows (Some Callers) caller_key caller_prefixes key_prefix caller_item_key call_count caller_version
+pub callers_spread : SpreadsInto caller_key callers_listed key_prefix (Some Callers) caller_item_key call_count
+callers_spread = index_rows (Some Callers) caller_key callers_listed key_prefix caller_item_key call_count caller_version
 
-pub defs_spread : SpreadsInto def_key def_prefixes key_prefix None def_key def_count
+pub defs_spread : SpreadsInto def_key defs_listed key_prefix None def_key def_count
 defs_spread =
-    index_rows None def_key def_prefixes key_prefix def_key def_count
-    (λ a s text there key. def_version a s text there key (λ k. k) def_key def_prefix names_told def_prefixes refl)
+    index_rows None def_key defs_listed key_prefix def_key def_count
+    (λ a s text there key. def_version a s text there key (λ k. k) def_key def_prefix names_told defs_listed refl)
 
-pub tags_spread : SpreadsInto tag_key tag_prefixes tag_key_prefix None tag_key def_count
+pub tags_spread : SpreadsInto tag_key tags_listed tag_key_prefix None tag_key def_count
 tags_spread =
-    index_rows None tag_key tag_prefixes tag_key_prefix tag_key def_count
-    (λ a s text there key. def_version a s text there key tag_front tag_key tag_prefix tags_told tag_prefixes refl)
+    index_rows None tag_key tags_listed tag_key_prefix tag_key def_count
+    (λ a s text there key. def_version a s text there key tag_front tag_key tag_prefix tags_told tags_listed refl)

@@ -34,13 +34,6 @@ bytes_key keyer a e = map suc (key_of keyer a e) ++ 0 ∷ file_key a e
 unfoldable pub sort_key : Keyer → Archived → Entry → List ℕ
 sort_key keyer a e = e.prefix ∷ bytes_key keyer a e
 
--- entries of a version under a name with these prefixes, numbered from a number on
-abbrev pub entries_from : ℕ → ℕ → ℕ → List ℕ → List Entry
-entries_from number name version [] = []
-entries_from number name version (p ∷ ps) =
-    record { prefix = p; name = name; version = version; number = number }
-    ∷ entries_from (suc number) name version ps
-
 -- a key with its prefix against an entry
 abbrev pub key_cmp : Keyer → Archived → ℕ → List ℕ → Entry → Ordering
 key_cmp keyer a prefix key e =

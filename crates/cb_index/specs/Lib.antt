@@ -5,6 +5,8 @@ pub mod Entries
 pub mod Files
 pub mod Held
 pub mod Includes
+pub mod Items
+pub mod Links
 pub mod Names
 pub mod Orders
 pub mod RowOrders

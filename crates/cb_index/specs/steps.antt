@@ -1,4 +1,5 @@
 pub mod Bounds
+pub mod Chains
 pub mod Found
 pub mod Includes
 pub mod Left

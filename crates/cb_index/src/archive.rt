@@ -12,6 +12,7 @@ ghost use Rattle.std.specs.Prelude.{
   map,
   take,
   IfErr,
+  IfSome,
   IfOk,
   OnOk,
   OnErr,
@@ -20,47 +21,50 @@ ghost use Rattle.std.specs.Prelude.{
 };
 ghost use Rattle.std.specs.Option.{option_copied};
 ghost use Rattle.cb_scan.specs.Definitions.{facts_of};
-ghost use Rattle.cb_scan.specs.FactKeys.{keys_of};
 ghost use Rattle.std.specs.List.{AllByRecursion};
 ghost use Rattle.cb_index.specs.Archived.{AreBytes, name_of};
+ghost use Rattle.cb_index.specs.Links.{AreLinks, link_of, nothing_laid};
 
 use crate::bytes::read_bytes;
 use crate::memory::OutOfMemory;
-use cb_scan::{FactKeys, Facts, Source};
+use crate::links::{Link, Links};
+use crate::rows::FactSort;
+use cb_scan::{Facts, Source};
 use std::alloc::Global;
 use std::marker::Model;
 
-/// A source with the facts of its text, and the same facts by their keys. Its value is the text.
+/// A source with the facts of its text, and links between those of one key. Its value is the text:
+/// whether links are laid is only a matter of time.
 #[derive(Debug, Drop)]
 pub struct Version {
     source: Source,
     facts: Facts,
-    keys: FactKeys,
+    links: Links,
 }
 
 impl Model for Version {
     ghost use Rattle.std.specs.Prelude.{List, ℕ, ◌≡◌};
     ghost use Rattle.cb_scan.specs.Definitions.{facts_of};
-    ghost use Rattle.cb_scan.specs.FactKeys.{keys_of};
+    ghost use Rattle.cb_index.specs.Links.{AreLaid};
 
     ghost Value = { List ℕ };
 
     ghost view = { λ v. v.source };
 
-    ghost invariant = { λ v. (v.facts ≡ facts_of v.source) × (v.keys ≡ keys_of v.source) };
+    ghost invariant = { λ v. (v.facts ≡ facts_of v.source) × AreLaid v.source v.links };
 }
 
 impl Version {
-    /// The version of a source, with its facts and their keys.
-    pub fn new(source: Source, facts: Facts, keys: FactKeys) -> Version
+    /// The version of a source, with its facts and with room for links.
+    pub fn new(source: Source, facts: Facts, links: Links) -> Version
         requires facts { facts ≡ facts_of source }
-        requires keys { keys ≡ keys_of source }
+        requires links { links ≡ nothing_laid }
         ensures { result ≡ source }
     {
         Version {
             source,
             facts,
-            keys,
+            links,
         }
     }
 
@@ -77,10 +81,22 @@ impl Version {
         &self.facts
     }
 
-    pub(crate) fn keys(&self) -> &FactKeys
-        ensures { result.now ≡ keys_of self.now }
+    /// The link of an item, if links are laid.
+    pub(crate) fn link(&self, sort: FactSort, item: u32) -> Option<Link>
+        ensures { IfSome result (λ link. link ≡ link_of sort self.now item) }
     {
-        &self.keys
+        match self.links.of(sort).get(item as usize) {
+            Some(link) => Some(*link),
+            None => None,
+        }
+    }
+
+    /// Puts other links in the place of those of a sort, which are handed out.
+    pub(crate) fn replace_links(&mut self, sort: FactSort, links: Vec<Link>) -> Vec<Link>
+        requires { AreLinks sort self.old links.items }
+        ensures { self.new ≡ self.old }
+    {
+        self.links.replace(sort, links)
     }
 }
 

@@ -3,7 +3,7 @@ ghost use Rattle.std.specs.Prelude.{◌≡◌, ◌+◌, ◌≤◌, ◌++◌, len
 ghost use Rattle.std.specs.Cmp.Lexicographic.{slice_cmp};
 ghost use Rattle.std.specs.Ordering.{nat_cmp};
 ghost use Rattle.cb_index.specs.Entries.{bytes_key, file_key, key_of, numbers, sort_key};
-ghost use Rattle.cb_index.specs.Held.{entries_of, prefixes_of};
+ghost use Rattle.cb_index.specs.Held.{entries_of, listed_of};
 
 use crate::archive::Archive;
 use crate::entry::{Entry, Shown};
@@ -16,18 +16,18 @@ use std::cmp::Ordering;
 pub trait EntryOrder {
     ghost use Rattle.std.specs.Prelude.{ℕ, List, Option};
     ghost use Rattle.cb_index.specs.Entries.{Keyer};
-    ghost use Rattle.cb_index.specs.Held.{Prefixer};
+    ghost use Rattle.cb_index.specs.Held.{Lister};
     ghost use Rattle.cb_index.specs.declared.rows.FactSort.{FactSort};
 
     ghost keyer: { Keyer };
 
-    ghost prefixer: { Prefixer };
+    ghost lister: { Lister };
 
     ghost prefix_of: { List ℕ → ℕ };
 
     ghost sort: { Option FactSort };
 
-    /// The facts whose postings are entries; none where each definition is one.
+    /// The facts of which the first of each key is an entry; none where each definition is one.
     fn sort() -> Option<FactSort>
         ensures { result ≡ sort };
 
@@ -46,14 +46,20 @@ pub trait EntryOrder {
 
     /// How many entries a version has.
     fn count(archive: &Archive, version: u32) -> usize
-        ensures { result ≡ length (prefixes_of prefixer archive.now version) };
+        ensures { result ≡ length (listed_of lister archive.now version) };
+
+    /// Lays what helps to find the items of one key of a version, with a list as scratch. It takes no
+    /// memory.
+    fn lay(archive: &mut Archive, version: u32, scratch: &mut Vec<Entry>)
+        ensures archive { archive.new ≡ archive.old }
+        ensures room { vec_capacity scratch.old ≤ vec_capacity scratch.new };
 
     /// Puts the entries of a version under a name behind others, in the room that is there.
     fn append(archive: &Archive, shown: Shown, entries: &mut Vec<Entry>)
-        requires { vec_len entries.old + length (prefixes_of prefixer archive.now shown.version)
+        requires { vec_len entries.old + length (listed_of lister archive.now shown.version)
             ≤ vec_capacity entries.old }
         ensures entries { entries.new.items
-            ≡ entries.old.items ++ entries_of prefixer archive.now shown }
+            ≡ entries.old.items ++ entries_of lister archive.now shown }
         ensures room { vec_capacity entries.old ≤ vec_capacity entries.new };
 }
 

@@ -442,11 +442,11 @@ impl Shelf {
         ensures room { KeepsRoom self.old self.new }
     {
         match asked {
-            Asked::Defs => self.defs.settle(&self.archive),
-            Asked::Tags => self.tags.settle(&self.archive),
-            Asked::Uses => self.uses.settle(&self.archive),
-            Asked::Callees => self.callees.settle(&self.archive),
-            Asked::Callers => self.callers.settle(&self.archive),
+            Asked::Defs => self.defs.settle(&mut self.archive),
+            Asked::Tags => self.tags.settle(&mut self.archive),
+            Asked::Uses => self.uses.settle(&mut self.archive),
+            Asked::Callees => self.callees.settle(&mut self.archive),
+            Asked::Callers => self.callers.settle(&mut self.archive),
         }
     }
 

@@ -13,7 +13,8 @@ use crate::entry::{Entry, Shown};
 use crate::order::EntryOrder;
 use crate::run::Run;
 use crate::sorted::Sorted;
-use cb_scan::{FactKeys, Meter, Source, scan};
+use crate::links::Links;
+use cb_scan::{Meter, Source, scan};
 use std::alloc::Global;
 use std::test::Fail;
 
@@ -32,8 +33,8 @@ const THIRD: &[u8] =
 fn version_of(alloc: Global, text: &[u8]) -> Result<Version, Fail> {
     let source = Source::new(alloc, text.to_vec(alloc)?)?;
     let facts = scan(alloc, &mut Meter::new(), &source)?;
-    let keys = FactKeys::new(alloc, &source, &facts)?;
-    Ok(Version::new(source, facts, keys))
+    let links = Links::new(alloc, &facts).ok().ok_or(Fail::from("out of memory"))?;
+    Ok(Version::new(source, facts, links))
 }
 
 /// Keeps a name.

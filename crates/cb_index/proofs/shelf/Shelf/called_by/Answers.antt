@@ -1,5 +1,5 @@
 use Rattle.std.proofs.Common.{◌∙◌, ap}
-use Rattle.cb_index.specs.Orders.{caller_key, caller_prefixes}
+use Rattle.cb_index.specs.Orders.{caller_key, callers_listed}
 use Rattle.cb_index.specs.Rows.{calls_in}
 use Rattle.cb_index.specs.Shelved.{Shelved, files}
 use Rattle.cb_index.specs.steps.Found.{facts_in}
@@ -11,14 +11,14 @@ use Rattle.cb_index.proofs.shelf.Shelf.called_by.Goals as goal
 
 pub with_key-found-requires : goal.with_key-found-requires
 with_key-found-requires c =
-    let is = c.self.invariant.0.callers in again caller_key caller_prefixes c.self.inside.archive is.sorted c.self.inside.callers.held is.held
+    let is = c.self.invariant.0.callers in again caller_key callers_listed c.self.inside.archive is.sorted c.self.inside.callers.held is.held
 
 pub returns : goal.returns
 returns c =
     let s = c.self.inside in
     let kept = c.self.invariant.0 in
     let none = ap (λ (v : Shelved). v.waiting.callers) c.self.view_is ∙ c.requires in
-    let held = covers_read caller_key caller_prefixes s.archive s.shown.items s.callers none kept.callers in
+    let held = covers_read caller_key callers_listed s.archive s.shown.items s.callers none kept.callers in
     c.new.ensures ∙ ap (facts_in Callers s.archive) c.with_key-found.ensures
     ∙ rows_of_callers s.archive s.shown.items kept.there kept.ascending s.callers.held c.args.name.now held
     ∙ ap (λ (v : Shelved). calls_in c.args.name.now (files v)) c.self.view_is

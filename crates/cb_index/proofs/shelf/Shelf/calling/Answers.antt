@@ -1,5 +1,5 @@
 use Rattle.std.proofs.Common.{◌∙◌, ap}
-use Rattle.cb_index.specs.Orders.{callee_key, callee_prefixes}
+use Rattle.cb_index.specs.Orders.{callee_key, callees_listed}
 use Rattle.cb_index.specs.Rows.{calls_of}
 use Rattle.cb_index.specs.Shelved.{Shelved, files}
 use Rattle.cb_index.specs.steps.Found.{facts_in}
@@ -11,14 +11,14 @@ use Rattle.cb_index.proofs.shelf.Shelf.calling.Goals as goal
 
 pub with_key-found-requires : goal.with_key-found-requires
 with_key-found-requires c =
-    let is = c.self.invariant.0.callees in again callee_key callee_prefixes c.self.inside.archive is.sorted c.self.inside.callees.held is.held
+    let is = c.self.invariant.0.callees in again callee_key callees_listed c.self.inside.archive is.sorted c.self.inside.callees.held is.held
 
 pub returns : goal.returns
 returns c =
     let s = c.self.inside in
     let kept = c.self.invariant.0 in
     let none = ap (λ (v : Shelved). v.waiting.callees) c.self.view_is ∙ c.requires in
-    let held = covers_read callee_key callee_prefixes s.archive s.shown.items s.callees none kept.callees in
+    let held = covers_read callee_key callees_listed s.archive s.shown.items s.callees none kept.callees in
     c.new.ensures ∙ ap (facts_in Callees s.archive) c.with_key-found.ensures
     ∙ rows_of_calls s.archive s.shown.items kept.there kept.ascending s.callees.held c.args.name.now held
     ∙ ap (λ (v : Shelved). calls_of c.args.name.now (files v)) c.self.view_is

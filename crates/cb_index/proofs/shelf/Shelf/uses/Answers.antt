@@ -1,5 +1,5 @@
 use Rattle.std.proofs.Common.{◌∙◌, ap}
-use Rattle.cb_index.specs.Orders.{use_key, use_prefixes}
+use Rattle.cb_index.specs.Orders.{use_key, uses_listed}
 use Rattle.cb_index.specs.Rows.{uses_of}
 use Rattle.cb_index.specs.Shelved.{Shelved, files}
 use Rattle.cb_index.specs.steps.Found.{facts_in}
@@ -11,14 +11,14 @@ use Rattle.cb_index.proofs.shelf.Shelf.uses.Goals as goal
 
 pub with_key-found-requires : goal.with_key-found-requires
 with_key-found-requires c =
-    let is = c.self.invariant.0.uses in again use_key use_prefixes c.self.inside.archive is.sorted c.self.inside.uses.held is.held
+    let is = c.self.invariant.0.uses in again use_key uses_listed c.self.inside.archive is.sorted c.self.inside.uses.held is.held
 
 pub returns : goal.returns
 returns c =
     let s = c.self.inside in
     let kept = c.self.invariant.0 in
     let none = ap (λ (v : Shelved). v.waiting.uses) c.self.view_is ∙ c.requires in
-    let held = covers_read use_key use_prefixes s.archive s.shown.items s.uses none kept.uses in
+    let held = covers_read use_key uses_listed s.archive s.shown.items s.uses none kept.uses in
     c.new.ensures ∙ ap (facts_in Uses s.archive) c.with_key-found.ensures
     ∙ rows_of_uses s.archive s.shown.items kept.there kept.ascending s.uses.held c.args.name.now held
     ∙ ap (λ (v : Shelved). uses_of c.args.name.now (files v)) c.self.view_is
