@@ -1,0 +1,87 @@
+//! What a version keeps so that items of one key are found without a search.
+ghost use Rattle.std.specs.Prelude.{◌≡◌, [], IfOk};
+ghost use Rattle.cb_index.specs.Links.{links_for, nothing_laid, with_links};
+
+use crate::memory::OutOfMemory;
+use crate::rows::FactSort;
+use cb_scan::Facts;
+use std::alloc::Global;
+use std::marker::Model;
+use std::mem;
+
+/// The link of an item: the next item of its key, or 0 where there is none, and whether no item
+/// before it has that key.
+#[derive(Clone, Copy, Debug, PartialEq, Eq)]
+pub(crate) struct Link {
+    pub next: u32,
+    pub first: bool,
+}
+
+/// The links of the uses of a text, of its calls by the called name and of its calls by the name
+/// that calls. Of each sort all are laid or none.
+#[derive(Debug, Drop)]
+pub struct Links {
+    uses: Vec<Link>,
+    callees: Vec<Link>,
+    callers: Vec<Link>,
+}
+
+impl Model for Links {
+    ghost use Rattle.cb_index.specs.Links.{Linked};
+
+    ghost Value = { Linked };
+
+    ghost view = { λ l. record {
+      uses = l.uses.items;
+      callees = l.callees.items;
+      callers = l.callers.items;
+    } };
+}
+
+/// No links, with room for so many.
+fn room_for(alloc: Global, count: usize) -> Result<Vec<Link>, OutOfMemory>
+    ensures { IfOk result (λ links. links.items ≡ []) }
+{
+    match Vec::with_capacity(alloc, count) {
+        Ok(links) => Ok(links),
+        Err(_) => Err(OutOfMemory),
+    }
+}
+
+impl Links {
+    /// No links are laid, and there is room for those of all uses and calls.
+    pub fn new(alloc: Global, facts: &Facts) -> Result<Links, OutOfMemory>
+        ensures { IfOk result (λ l. l ≡ nothing_laid) }
+    {
+        let uses = room_for(alloc, facts.uses().len())?;
+        let callees = room_for(alloc, facts.calls().len())?;
+        let callers = room_for(alloc, facts.calls().len())?;
+        Ok(Links {
+            uses,
+            callees,
+            callers,
+        })
+    }
+
+    /// The links of a sort.
+    pub(crate) fn of(&self, sort: FactSort) -> &[Link]
+        ensures { result.now ≡ links_for sort self.now }
+    {
+        match sort {
+            FactSort::Uses => self.uses.as_slice(),
+            FactSort::Callees => self.callees.as_slice(),
+            FactSort::Callers => self.callers.as_slice(),
+        }
+    }
+
+    /// Puts other links of a sort in the place of these, which are handed out.
+    pub(crate) fn replace(&mut self, sort: FactSort, links: Vec<Link>) -> Vec<Link>
+        ensures { self.new ≡ with_links sort links.items self.old }
+    {
+        match sort {
+            FactSort::Uses => mem::replace(&mut self.uses, links),
+            FactSort::Callees => mem::replace(&mut self.callees, links),
+            FactSort::Callers => mem::replace(&mut self.callers, links),
+        }
+    }
+}
