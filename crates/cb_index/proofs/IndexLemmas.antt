@@ -4,7 +4,7 @@ use Rattle.std.proofs.lemmas.Bool.{true≢false}
 use Rattle.std.proofs.lemmas.Bool.Decides.{Decides-eqb}
 use Rattle.std.proofs.lemmas.Cmp.{nat_cmp_total, nat_list_cmp_total, tied_itself}
 use Rattle.std.proofs.lemmas.List.Elements.{filter-append}
-use Rattle.std.proofs.lemmas.List.{length-append}
+use Rattle.std.proofs.lemmas.List.{length-append, length-map}
 use Rattle.std.proofs.lemmas.List.Sums.{sum_by-append, sum_by-cons}
 use Rattle.std.proofs.lemmas.Option.{none-some}
 use Rattle.std.proofs.lemmas.Slice.Eq.{bytes_eq-Decides}
@@ -20,9 +20,9 @@ use Rattle.cb_scan.proofs.FunctionsRise.{all_implied}
 use Rattle.cb_scan.proofs.OrderLemmas.{in_order_sum}
 use Rattle.cb_scan.proofs.WithinLemmas.{all-append}
 use Rattle.cb_index.specs.Archived.{Archived, name_of}
-use Rattle.cb_index.specs.Entries.{Keyer, entries_from, file_key, numbers, sort_key}
+use Rattle.cb_index.specs.Entries.{Keyer, file_key, numbers, sort_key}
 use Rattle.cb_index.specs.Files.{AreApart, AreAscending, shown_name, shown_under, total}
-use Rattle.cb_index.specs.Held.{Lister, all_entries, entries_of, listed_of}
+use Rattle.cb_index.specs.Held.{AreRising, Listed, Lister, all_entries, entries_of, entry_of, listed_of}
 use Rattle.cb_index.specs.Shelved.{IsIndexOf}
 use Rattle.cb_index.specs.declared.entry.Entry.{Entry}
 use Rattle.cb_index.specs.declared.entry.Shown.{Shown}
@@ -30,18 +30,12 @@ use Rattle.cb_index.proofs.EntryLemmas.{file_cmp, sort_exact}
 use Rattle.cb_index.proofs.InOrderLemmas.{filter_in_order, in_order_cong, length_in_order, same_order, sum_flat, sum_flat_put}
 
 -- ---- the entries of one version
-abbrev pub IsNumbered : ℕ → ℕ → ℕ → Entry → Type 0
-IsNumbered name version number e = (e.name ≡ name) × (e.version ≡ version) × (number ≤ e.number)
+abbrev pub IsUnder : Shown → Entry → Type 0
+IsUnder s e = (e.name ≡ s.name) × (e.version ≡ s.version)
 
-numbered_from : (least number name version : ℕ) (ps : List ℕ) → least ≤ number
-    → AllByRecursion (IsNumbered name version least) (entries_from number name version ps)
-numbered_from least number name version [] low = tt
-numbered_from least number name version (p ∷ ps) low =
-    ((refl, refl, low), numbered_from least (suc number) name version ps (omega (arith, low)))
-
-pub length_from : (number name version : ℕ) (ps : List ℕ) → length (entries_from number name version ps) ≡ length ps
-length_from number name version [] = refl
-length_from number name version (p ∷ ps) = ap suc (length_from (suc number) name version ps)
+under_all : (s : Shown) (items : List Listed) → AllByRecursion (IsUnder s) (map (entry_of s) items)
+under_all s [] = tt
+under_all s (item ∷ items) = ((refl, refl), under_all s items)
 
 -- ---- an index takes a version in
 module _ (keyer : Keyer) (lister : Lister) (a : Archived) (s : Shown) (shown : List Shown) (es : List Entry) where
@@ -86,14 +80,14 @@ module _ (lister : Lister) (a : Archived) (stays : ℕ → Bool) where
   nothing true = refl
   nothing false = refl
 
-  kept_from : (number other version : ℕ) (ps : List ℕ)
-      → filter (λ (e : Entry). stays e.name) (entries_from number other version ps)
-      ≡ cond (stays other) (entries_from number other version ps) []
-  kept_from number other version [] = nothing (stays other)
-  kept_from number other version (p ∷ ps) =
-      step (stays other) (record { prefix = p; name = other; version = version; number = number })
-      (filter (λ (e : Entry). stays e.name) (entries_from (suc number) other version ps))
-      (entries_from (suc number) other version ps) (kept_from (suc number) other version ps)
+  kept_of : (s : Shown) (items : List Listed)
+      → filter (λ (e : Entry). stays e.name) (map (entry_of s) items)
+      ≡ cond (stays s.name) (map (entry_of s) items) []
+  kept_of s [] = nothing (stays s.name)
+  kept_of s (item ∷ items) =
+      step (stays s.name) (entry_of s item)
+      (filter (λ (e : Entry). stays e.name) (map (entry_of s) items))
+      (map (entry_of s) items) (kept_of s items)
     where
       step : (b : Bool) (e : Entry) (kept es : List Entry) → kept ≡ cond b es [] → cond b (e ∷ kept) kept ≡ cond b (e ∷ es) []
       step true e kept es is = ap (λ l. e ∷ l) is
@@ -104,7 +98,7 @@ module _ (lister : Lister) (a : Archived) (stays : ℕ → Bool) where
   kept_all [] = refl
   kept_all (s ∷ shown) =
       filter-append (λ (e : Entry). stays e.name) (entries_of lister a s) (all_entries lister a shown)
-      ∙ (λ i. kept_from 0 s.name s.version (listed_of lister a s.version) i ++ kept_all shown i)
+      ∙ (λ i. kept_of s (listed_of lister a s.version) i ++ kept_all shown i)
       ∙ elim (stays s.name) as (λ b.
       cond b (entries_of lister a s) [] ++ all_entries lister a (filter (λ (t : Shown). stays t.name) shown)
       ≡ all_entries lister a (cond b (s ∷ filter (λ (t : Shown). stays t.name) shown)
@@ -202,9 +196,9 @@ module _ (keyer : Keyer) (lister : Lister) (a b : Archived) where
   same_entries : (shown : List Shown) → AllByRecursion (IsSame a b) shown → all_entries lister b shown ≡ all_entries lister a shown
   same_entries [] all = refl
   same_entries (s ∷ shown) all =
-      λ i. entries_from 0 s.name s.version (lister (all.0.0 i)) ++ same_entries shown all.1 i
+      λ i. map (entry_of s) (lister (all.0.0 i)) ++ same_entries shown all.1 i
 
-  same_key : (s : Shown) → IsSame a b s → (e : Entry) → IsNumbered s.name s.version 0 e
+  same_key : (s : Shown) → IsSame a b s → (e : Entry) → IsUnder s e
       → sort_key keyer a e ≡ sort_key keyer b e
   unfolding sort_key
   same_key s same e of =
@@ -218,8 +212,8 @@ module _ (keyer : Keyer) (lister : Lister) (a b : Archived) where
   same_keys [] all = tt
   same_keys (s ∷ shown) all =
       all-append (λ e. sort_key keyer a e ≡ sort_key keyer b e) (entries_of lister a s) (all_entries lister a shown)
-      (all_implied (IsNumbered s.name s.version 0) (λ e. sort_key keyer a e ≡ sort_key keyer b e) (same_key s all.0)
-      (entries_of lister a s) (numbered_from 0 0 s.name s.version (listed_of lister a s.version) (omega arith)))
+      (all_implied (IsUnder s) (λ e. sort_key keyer a e ≡ sort_key keyer b e) (same_key s all.0)
+      (entries_of lister a s) (under_all s (listed_of lister a s.version)))
       (same_keys shown all.1)
 
   -- what an index holds depends on what stands under its numbers alone
@@ -238,7 +232,7 @@ module _ (lister : Lister) (count : Option (List ℕ) → ℕ) (fewer : (t : Opt
       ≡ length (entries_of lister a s) + length (all_entries lister a shown) =
       length-append (entries_of lister a s) (all_entries lister a shown) in
       let one : length (entries_of lister a s) ≡ length (lister (slice_get a.texts s.version)) =
-      length_from 0 s.name s.version (listed_of lister a s.version) in
+      length-map (listed_of lister a s.version) (entry_of s) in
       omega (arith, both, one, fewer (slice_get a.texts s.version), length_all shown)
 
   pub fits : (keyer : Keyer) (shown : List Shown) (es : List Entry) (s : Shown) (room : ℕ) → IsIndexOf keyer lister a shown es
@@ -269,7 +263,7 @@ module _ (lister : Lister) (a : Archived) (shown : List Shown) (i : ℕ) (d : Sh
       let front = length-append es (entries_of lister a s ++ later) in
       let back = length-append (entries_of lister a s) later in
       let all = length-append old (all_entries lister a shown) in
-      let one = length_from 0 s.name s.version (listed_of lister a s.version) in
+      let one = length-map (listed_of lister a s.version) (entry_of s) in
       omega (arith, whole, front, back, all, one, enough)
 
 -- ---- entries go by file and number
@@ -295,17 +289,15 @@ module _ (a : Archived) where
       ap (λ o. not (is_gt o)) (sym (file_cmp a e f)
       ∙ ap (λ o. ordering_then o (slice_cmp nat_cmp (numbers e) (numbers f))) less)
 
-  one_ordered : (number name version : ℕ) (ps : List ℕ) → AreOrdered (ComesFirst a) (entries_from number name version ps)
+  behind : (s : Shown) (item : Listed) (items : List Listed) → AllByRecursion (λ (j : Listed). item.number < j.number) items
+      → AllByRecursion (ComesFirst a (entry_of s item)) (map (entry_of s) items)
+  behind s item [] up = tt
+  behind s item (j ∷ items) up = (by_number (entry_of s item) (entry_of s j) refl refl up.0, behind s item items up.1)
+
+  one_ordered : (s : Shown) (items : List Listed) → AreRising items → AreOrdered (ComesFirst a) (map (entry_of s) items)
   unfolding AreOrdered
-  one_ordered number name version [] = tt
-  one_ordered number name version (p ∷ ps) =
-      let e : Entry = record { prefix = p; name = name; version = version; number = number } in (
-        all_implied (IsNumbered name version (suc number)) (ComesFirst a e)
-            (λ f of. by_number e f (sym of.0) (sym of.1) (omega (arith, of.2)))
-            (entries_from (suc number) name version ps)
-            (numbered_from (suc number) (suc number) name version ps (omega arith)),
-        one_ordered (suc number) name version ps,
-      )
+  one_ordered s [] up = tt
+  one_ordered s (item ∷ items) up = (behind s item items up.0, one_ordered s items up.1)
 
   ordered-append : (R : Entry → Entry → Type 0) (xs ys : List Entry) → AreOrdered R xs → AreOrdered R ys
       → AllByRecursion (λ x. AllByRecursion (R x) ys) xs → AreOrdered R (xs ++ ys)
@@ -314,16 +306,16 @@ module _ (a : Archived) where
   ordered-append R (x ∷ xs) ys front back across =
       (all-append (R x) xs ys front.0 across.0, ordered-append R xs ys front.1 back across.1)
 
-  module _ (lister : Lister) where
+  module _ (lister : Lister) (rising : (t : Option (List ℕ)) → AreRising (lister t)) where
     later_files : (s : Shown) (e : Entry) → e.name ≡ s.name → (shown : List Shown)
         → AllByRecursion (λ (t : Shown). slice_cmp nat_cmp (name_of a s.name) (name_of a t.name) ≡ Less) shown
         → AllByRecursion (ComesFirst a e) (all_entries lister a shown)
     later_files s e is [] all = tt
     later_files s e is (t ∷ shown) all =
         all-append (ComesFirst a e) (entries_of lister a t) (all_entries lister a shown)
-        (all_implied (IsNumbered t.name t.version 0) (ComesFirst a e)
+        (all_implied (IsUnder t) (ComesFirst a e)
         (λ f of. by_name e f ((λ i. slice_cmp nat_cmp (name_of a (is i)) (name_of a (of.0 i))) ∙ all.0))
-        (entries_of lister a t) (numbered_from 0 0 t.name t.version (listed_of lister a t.version) (omega arith)))
+        (entries_of lister a t) (under_all t (listed_of lister a t.version)))
         (later_files s e is shown all.1)
 
     -- the entries of files that ascend go by file and number
@@ -332,7 +324,7 @@ module _ (a : Archived) where
     all_ordered [] up = tt
     all_ordered (s ∷ shown) up =
         ordered-append (ComesFirst a) (entries_of lister a s) (all_entries lister a shown)
-        (one_ordered 0 s.name s.version (listed_of lister a s.version)) (all_ordered shown up.1)
-        (all_implied (IsNumbered s.name s.version 0) (λ e. AllByRecursion (ComesFirst a e) (all_entries lister a shown))
+        (one_ordered s (listed_of lister a s.version) (rising (slice_get a.texts s.version))) (all_ordered shown up.1)
+        (all_implied (IsUnder s) (λ e. AllByRecursion (ComesFirst a e) (all_entries lister a shown))
         (λ e of. later_files s e of.0 shown up.0)
-        (entries_of lister a s) (numbered_from 0 0 s.name s.version (listed_of lister a s.version) (omega arith)))
+        (entries_of lister a s) (under_all s (listed_of lister a s.version)))

@@ -13,8 +13,10 @@ pub mod ListedLemmas
 pub mod NameLemmas
 pub mod PrefixLemmas
 pub mod PutLemmas
+pub mod RangeItems
 pub mod RangeLemmas
 pub mod RestLemmas
+pub mod RiseLemmas
 pub mod RowLemmas
 pub mod RowOrderLemmas
 pub mod RunLemmas

@@ -1,12 +1,12 @@
 use Rattle.std.proofs.Common.{◌≡◌, ◌∙◌, ◌+◌, ◌++◌, suc, sym, ap, drop, drop-cons, get_or, length, arith}
 use Rattle.std.proofs.Math.Nat.{le_trans}
 use Rattle.std.proofs.lemmas.List.{length-append}
+use Rattle.std.proofs.lemmas.List.{length-map}
 use Rattle.cb_scan.specs.Order.{in_order}
 use Rattle.cb_index.specs.Entries.{sort_key}
-use Rattle.cb_index.specs.Held.{all_entries, entries_of, listed_of}
+use Rattle.cb_index.specs.Held.{all_entries, entries_of, entry_of, listed_of}
 use Rattle.cb_index.specs.declared.entry.Shown.{Shown}
 use Rattle.cb_index.proofs.EntryLemmas.{sort_exact}
-use Rattle.cb_index.proofs.IndexLemmas.{length_from}
 use Rattle.cb_index.proofs.PutLemmas.{again_in_order, order_front, parts_same}
 use Rattle.cb_index.proofs.sorted.Sorted.put_each.Goals as goal
 
@@ -25,7 +25,7 @@ put_all-requires-clause-room g c =
     let next : length (all_entries lister a (drop i c.args.shown.now)) ≡ length (entries_of lister a one ++ later) =
     ap (λ l. length (all_entries lister a l)) (drop-cons c.args.shown.now i none c.loop-one-test.true) in
     let parts = length-append (entries_of lister a one) later in
-    let count = length_from 0 one.name one.version (listed_of lister a one.version) in
+    let count = length-map (listed_of lister a one.version) (entry_of one) in
     omega (arith, size, next, parts, count, c.requires.room, c.loop-one.invariant.room)
 
 pub loop-one-preserved : goal.loop-one-preserved

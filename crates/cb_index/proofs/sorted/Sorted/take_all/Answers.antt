@@ -1,9 +1,9 @@
 use Rattle.std.proofs.Common.{◌≡◌, ◌∙◌, ◌++◌, sym, ap, length, arith}
+use Rattle.std.proofs.lemmas.List.{length-map}
 use Rattle.cb_scan.specs.Order.{in_order}
 use Rattle.cb_index.specs.Blocks.{joined}
 use Rattle.cb_index.specs.Entries.{sort_key}
-use Rattle.cb_index.specs.Held.{Held, entries_of, listed_of}
-use Rattle.cb_index.proofs.IndexLemmas.{length_from}
+use Rattle.cb_index.specs.Held.{Held, entries_of, entry_of, listed_of}
 use Rattle.cb_index.proofs.InOrderLemmas.{length_in_order}
 use Rattle.cb_index.proofs.PutLemmas.{parts_length}
 use Rattle.cb_index.proofs.sorted.Sorted.take_all.Goals as goal
@@ -15,7 +15,7 @@ append-requires g c =
     let key = sort_key g.O.EntryOrder.keyer a in
     let prefixes = listed_of g.O.EntryOrder.lister a c.args.shown.version in
     let gone = entries_of g.O.EntryOrder.lister a c.args.shown in
-    let size = length_from 0 c.args.shown.name c.args.shown.version prefixes in
+    let size = length-map prefixes (entry_of c.args.shown) in
     let held = parts_length key (joined c.self.inside.blocks.used) gone c.requires.0 (ap (λ (h : Held). h.entries) c.self.view_is ∙ c.requires.1) in
     let none : length c.truncate.new.self.items ≡ 0 = ap length c.truncate.ensures.items in
     omega (arith, size, held, none, c.truncate.new.self.ok.0, c.self.invariant.0, c.truncate.ensures.capacity)
