@@ -4,6 +4,7 @@ pub mod CoverLemmas
 pub mod EntryLemmas
 pub mod FactLemmas
 pub mod FewerLemmas
+pub mod FirstLemmas
 pub mod FrontLemmas
 pub mod InOrderLemmas
 pub mod IncludeLemmas
