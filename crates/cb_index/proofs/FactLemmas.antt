@@ -81,7 +81,7 @@ module _ {X : Type 0} (sort : FactSort) (a : Archived) (s : Shown) (text : List 
       (λ item. ap (λ k. nat_eq (key_prefix key) (key_prefix (item_key sort text item)) && bytes_eq key k)
       (ap (λ t. keyer t (name_of a s.name) item) there ∙ keys_are item)
       ∙ prefix_and_key key (item_key sort text item))
-      0 (item_count sort text) refl (λ before below. absurd (omega (arith, below)))
+      0 (item_count sort text) (omega arith) (λ before below. absurd (omega (arith, below)))
       ∙ ap (λ n. map fact (filter (has sort text key) (range_with_len 0 n))) count_is
       ∙ numbers_rows fact row key_of_x key (has sort text key) 0 xs rows tests
 

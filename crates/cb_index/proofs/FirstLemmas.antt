@@ -30,6 +30,9 @@ prefix_and_key key other =
     and_same (nat_eq (key_prefix key) (key_prefix other)) (bytes_eq key other)
     (λ is. (Decides-eqb (key_prefix key) (key_prefix other)).1 (ap key_prefix ((bytes_eq-Decides key other).0 is)))
 
+at_number : (len i : ℕ) → i < len → get_or (range_with_len 0 len) i 0 ≡ i
+at_number len i below = omega (arith, get_or-range_with_len 0 len i 0 below)
+
 -- ---- items of one key
 module _ (sort : FactSort) (text key : List ℕ) where
   abbrev pub has : ℕ → Bool
@@ -51,7 +54,7 @@ module _ (sort : FactSort) (text key : List ℕ) where
       (All-from_get_or (λ other. have_one_key sort text item other ≡ false) (range_with_len 0 item) 0
       (λ i below.
       let at : i < item = omega (arith, below, length-range_with_len 0 item) in
-      let other : get_or (range_with_len 0 item) i 0 ≡ i = get_or-range_with_len 0 item i 0 at in
+      let other : get_or (range_with_len 0 item) i 0 ≡ i = at_number item i at in
       ap (have_one_key sort text item) other ∙ same_test item is i ∙ none i at)))
 
   -- an item behind one that has the key is not the first
@@ -61,7 +64,7 @@ module _ (sort : FactSort) (text key : List ℕ) where
   no_first before item below had is =
       ap not (list_any_at (have_one_key sort text item) (range_with_len 0 item) before 0
       (omega (arith, below, length-range_with_len 0 item))
-      (ap (have_one_key sort text item) (get_or-range_with_len 0 item before 0 below) ∙ same_test item is before ∙ had))
+      (ap (have_one_key sort text item) (at_number item before below) ∙ same_test item is before ∙ had))
 
   -- the items behind one that has the key are those that have it
   pub later_is : (item len : ℕ) → has item ≡ true → suc item + len ≡ item_count sort text
@@ -104,6 +107,7 @@ module _ (sort : FactSort) (text key : List ℕ) where
     firsts_give n (suc len) size none =
         ap (λ l. flat_map give (filter takes (entries_in l))) (range_next n len)
         ∙ step (is_first sort text n) (has n) refl refl
+        (λ here. firsts_give (suc n) len (omega (arith, size)) (later_none here))
         ∙ sym (ap (λ l. map fact (filter has l)) (range_next n len))
       where
         rest : List ℕ
@@ -120,17 +124,18 @@ module _ (sort : FactSort) (text key : List ℕ) where
             either (inr above) = ap has (omega (arith, low, above)) ∙ here
 
         step : (first here : Bool) → is_first sort text n ≡ first → has n ≡ here
+            → (has n ≡ false → flat_map give behind ≡ map fact (filter has rest))
             → flat_map give (filter takes (map (entry_of s) (map (listed sort text)
             (cond first (n ∷ filter (is_first sort text) rest) (filter (is_first sort text) rest)))))
             ≡ map fact (cond here (n ∷ filter has rest) (filter has rest))
-        step true true is_one has_it =
+        step true true is_one has_it later_give =
             ap (λ b. flat_map give (cond b (entry_of s (listed sort text n) ∷ behind) behind)) (tests n ∙ has_it)
             ∙ (λ i. gives n i ++ none_behind n has_it (suc n) len (omega arith) i)
             ∙ append-nil (map fact (n ∷ later sort text n))
             ∙ ap (λ l. map fact (n ∷ l)) (later_is n len has_it (omega (arith, size)))
-        step true false is_one has_not =
+        step true false is_one has_not later_give =
             ap (λ b. flat_map give (cond b (entry_of s (listed sort text n) ∷ behind) behind)) (tests n ∙ has_not)
-            ∙ firsts_give (suc n) len (omega (arith, size)) (later_none has_not)
-        step false true is_none has_it =
+            ∙ later_give has_not
+        step false true is_none has_it later_give =
             absurd (true≢false (sym (is_first_of_key n has_it none) ∙ is_none))
-        step false false is_none has_not = firsts_give (suc n) len (omega (arith, size)) (later_none has_not)
+        step false false is_none has_not later_give = later_give has_not

@@ -41,7 +41,7 @@ module _ (a : Archived) (s : Shown) (text : List ℕ) (there : slice_get a.texts
       (λ item. ap (λ k. nat_eq (key_prefix key) (key_prefix (item_key sort text item)) && bytes_eq key k)
       (ap (λ t. keyer t (name_of a s.name) item) there ∙ keys_are item)
       ∙ prefix_and_key key (item_key sort text item))
-      0 (item_count sort text) refl (λ before below. absurd (omega (arith, below)))
+      0 (item_count sort text) (omega arith) (λ before below. absurd (omega (arith, below)))
 
   -- where an entry is a definition
   module _ (front : List ℕ → List ℕ) (keyer : Keyer) (prefixed : List ℕ → Def → ℕ) (told : IsTold front keyer prefixed) where
@@ -53,7 +53,7 @@ module _ (a : Archived) (s : Shown) (text : List ℕ) (there : slice_get a.texts
         ≡ map (row_under s) (filter ((λ item. bytes_eq key (keyer (slice_get a.texts s.version) (name_of a s.name) item))) (range_with_len n (length ds)))
     def_rows n [] is = refl
     def_rows n (d ∷ ds) is =
-        let has = (λ item. bytes_eq key (keyer (slice_get a.texts s.version) (name_of a s.name) item)) in
+        let has : ℕ → Bool = λ item. bytes_eq key (keyer (slice_get a.texts s.version) (name_of a s.name) item) in
         let e : Entry = record { prefix = prefixed text d; name = s.name; version = s.version; number = n } in
         let es = filter has_front (map (entry_of s) (numbered (suc n) (map (prefixed text) ds))) in
         ap (λ b. rows_in None a (cond b (e ∷ es) es))
