@@ -14,17 +14,17 @@ lie text source f same are = subst (AreWithin text) (sym (are ∙ ap facts_of (s
 
 pub fact_keys-requires-clause-defs : goal.fact_keys-requires-clause-defs
 fact_keys-requires-clause-defs c =
-    subst (AllByRecursion (λ (d : Def). IsWithin c.bytes-text.result.now d.name)) (sym c.defs.ensures)
+    subst (AllByRecursion (λ (d : Def). IsWithin c.bytes-text.result.now d.name)) (sym c.defs.ensures.value)
     (lie c.bytes-text.result.now c.args.source.now c.args.facts.now c.bytes-text.ensures.value c.requires).defs
 
 pub fact_keys-requires-clause-uses : goal.fact_keys-requires-clause-uses
 fact_keys-requires-clause-uses c =
     let text = c.bytes-text.result.now in
-    subst (AllByRecursion (λ (u : Use). IsWithin text u.name × IsScopeWithin text u.scope)) (sym c.uses.ensures)
+    subst (AllByRecursion (λ (u : Use). IsWithin text u.name × IsScopeWithin text u.scope)) (sym c.uses.ensures.value)
     (lie text c.args.source.now c.args.facts.now c.bytes-text.ensures.value c.requires).uses
 
 pub fact_keys-requires-clause-calls : goal.fact_keys-requires-clause-calls
 fact_keys-requires-clause-calls c =
     let text = c.bytes-text.result.now in
-    subst (AllByRecursion (λ (k : Call). IsWithin text k.callee × IsWithin text k.caller)) (sym c.calls.ensures)
+    subst (AllByRecursion (λ (k : Call). IsWithin text k.callee × IsWithin text k.caller)) (sym c.calls.ensures.value)
     (lie text c.args.source.now c.args.facts.now c.bytes-text.ensures.value c.requires).calls
