@@ -10,6 +10,7 @@ pub mod InOrderLemmas
 pub mod IncludeLemmas
 pub mod IndexLemmas
 pub mod KeptLemmas
+pub mod LayLemmas
 pub mod ListedLemmas
 pub mod NameLemmas
 pub mod PrefixLemmas
