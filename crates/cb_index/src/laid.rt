@@ -91,13 +91,28 @@ pub(crate) fn set_each(
 )
     requires facts { facts.now ≡ facts_of source.now }
     requires numbers { AllByRecursion (λ (e : Entry). e.number < length links.old) entries.now }
-    ensures { links.new ≡ with_each sort source.now true entries.now links.old }
+    ensures links { links.new ≡ with_each sort source.now true entries.now links.old }
+    ensures len { length links.new ≡ length links.old }
 {
     let mut first = true;
     for (i, entry) in entries.iter().enumerate() {
         let next = next_item(sort, source, facts, *entry, &entries[i + 1..]);
         links[entry.number as usize] = link_to(next, first);
         first = next.is_none();
+    }
+}
+
+/// Makes a list of so many links, in the room that is there.
+fn fill(links: &mut Vec<Link>, count: usize)
+    requires { count ≤ vec_capacity links.old }
+    ensures { length links.new.items ≡ count }
+{
+    let none = Link {
+        next: 0,
+        first: true,
+    };
+    if links.resize(count, none).is_err() {
+        unreachable!()
     }
 }
 
@@ -116,14 +131,7 @@ pub(crate) fn lay_in(
     if links.capacity() < entries.len() {
         return;
     }
-    links.truncate(0);
-    let none = Link {
-        next: 0,
-        first: true,
-    };
-    if links.resize(entries.len(), none).is_err() {
-        unreachable!()
-    }
+    fill(links, entries.len());
     set_each(sort, source, facts, entries, links.as_mut_slice());
 }
 
