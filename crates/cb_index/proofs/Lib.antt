@@ -9,6 +9,7 @@ pub mod FrontLemmas
 pub mod InOrderLemmas
 pub mod IncludeLemmas
 pub mod IndexLemmas
+pub mod ItemLemmas
 pub mod KeptLemmas
 pub mod LayLemmas
 pub mod ListedLemmas

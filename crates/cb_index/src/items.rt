@@ -67,7 +67,6 @@ fn have_one_key(sort: FactSort, version: &Version, a: u32, b: u32) -> bool
 }
 
 /// Whether no item before an item has its key, by a search.
-#[tactic(auto, unfolding(crate::specs::Items::is_first))]
 fn search_first(sort: FactSort, version: &Version, item: u32) -> bool
     ensures { result ≡ is_first sort version.now item }
 {
@@ -80,7 +79,6 @@ fn search_first(sort: FactSort, version: &Version, item: u32) -> bool
 }
 
 /// The next item that has the key of an item, by a search.
-#[tactic(auto, unfolding(crate::specs::Items::later))]
 fn search_next(sort: FactSort, version: &Version, item: u32) -> Option<u32>
     ensures { MatchOption result (later sort version.now item ≡ [])
         (λ next. later sort version.now item ≡ next ∷ later sort version.now next) }

@@ -113,6 +113,16 @@ fn append_each<O: EntryOrder>(archive: &Archive, shown: &[Shown], entries: &mut 
     }
 }
 
+/// Lays what helps to find the items of one key of versions, with a list as scratch.
+fn lay_each<O: EntryOrder>(archive: &mut Archive, shown: &[Shown], scratch: &mut Vec<Entry>)
+    ensures archive { archive.new ≡ archive.old }
+    ensures room { vec_capacity scratch.old ≤ vec_capacity scratch.new }
+{
+    for one in shown {
+        O::lay(archive, one.version, scratch);
+    }
+}
+
 /// Puts an entry between the others; not where a block is wanted and none is left.
 fn try_put<O: EntryOrder>(archive: &Archive, one: Entry, blocks: &mut Blocks) -> bool
     requires { joined blocks.old.used
@@ -330,9 +340,7 @@ impl<O: EntryOrder> Sorted<O> {
         ensures room { self.old.room ≤ self.new.room }
         ensures archive { archive.new ≡ archive.old }
     {
-        for one in shown {
-            O::lay(archive, one.version, &mut self.scratch);
-        }
+        lay_each::<O>(archive, shown, &mut self.scratch);
     }
 
     /// Puts the entries of many versions among the others by one sort.

@@ -1,5 +1,7 @@
+use Rattle.std.proofs.Common.{subst, sym}
 use Rattle.cb_index.specs.Files.{call_count, def_count, use_count}
 use Rattle.cb_index.specs.Orders.{callee_key, callees_listed, caller_key, callers_listed, def_key, defs_listed, tag_key, tags_listed, use_key, uses_listed}
+use Rattle.cb_index.specs.Shelved.{AreKept, AreTotals}
 use Rattle.cb_index.proofs.CoverLemmas.{covers_fits}
 use Rattle.cb_index.proofs.FewerLemmas.{fewer_callees, fewer_callers, fewer_defs, fewer_tags, fewer_uses}
 use Rattle.cb_index.proofs.KeptLemmas.{settled_callees, settled_callers, settled_defs, settled_tags, settled_uses, within_callees, within_callers, within_defs, within_tags, within_uses}
@@ -56,8 +58,9 @@ invariant_of-self c =
     let x = c.self.inside in
     let y = c.settle.new.self in
     let done = c.settle.ensures in (
-      settled_defs x.archive x.shown.items x.defs x.tags x.uses x.callees x.callers y x.totals done.held done.waiting c.self.invariant.0,
-      c.self.invariant.1,
+      subst (λ a. AreKept a x.shown.items y x.tags x.uses x.callees x.callers) (sym done.archive)
+          (settled_defs x.archive x.shown.items x.defs x.tags x.uses x.callees x.callers y x.totals done.held done.waiting c.self.invariant.0),
+      subst (λ a. AreTotals a x.shown.items x.totals) (sym done.archive) c.self.invariant.1,
       within_defs x.archive x.shown.items x.defs x.tags x.uses x.callees x.callers y x.totals done.room c.self.invariant.2,
     )
 
@@ -66,8 +69,9 @@ invariant_of-self-in-Tags c =
     let x = c.self.inside in
     let y = c.settle-in-Tags.new.self in
     let done = c.settle-in-Tags.ensures in (
-      settled_tags x.archive x.shown.items x.defs x.tags x.uses x.callees x.callers y x.totals done.held done.waiting c.self.invariant.0,
-      c.self.invariant.1,
+      subst (λ a. AreKept a x.shown.items x.defs y x.uses x.callees x.callers) (sym done.archive)
+          (settled_tags x.archive x.shown.items x.defs x.tags x.uses x.callees x.callers y x.totals done.held done.waiting c.self.invariant.0),
+      subst (λ a. AreTotals a x.shown.items x.totals) (sym done.archive) c.self.invariant.1,
       within_tags x.archive x.shown.items x.defs x.tags x.uses x.callees x.callers y x.totals done.room c.self.invariant.2,
     )
 
@@ -76,8 +80,9 @@ invariant_of-self-in-Uses c =
     let x = c.self.inside in
     let y = c.settle-in-Uses.new.self in
     let done = c.settle-in-Uses.ensures in (
-      settled_uses x.archive x.shown.items x.defs x.tags x.uses x.callees x.callers y x.totals done.held done.waiting c.self.invariant.0,
-      c.self.invariant.1,
+      subst (λ a. AreKept a x.shown.items x.defs x.tags y x.callees x.callers) (sym done.archive)
+          (settled_uses x.archive x.shown.items x.defs x.tags x.uses x.callees x.callers y x.totals done.held done.waiting c.self.invariant.0),
+      subst (λ a. AreTotals a x.shown.items x.totals) (sym done.archive) c.self.invariant.1,
       within_uses x.archive x.shown.items x.defs x.tags x.uses x.callees x.callers y x.totals done.room c.self.invariant.2,
     )
 
@@ -86,8 +91,9 @@ invariant_of-self-in-Callees c =
     let x = c.self.inside in
     let y = c.settle-in-Callees.new.self in
     let done = c.settle-in-Callees.ensures in (
-      settled_callees x.archive x.shown.items x.defs x.tags x.uses x.callees x.callers y x.totals done.held done.waiting c.self.invariant.0,
-      c.self.invariant.1,
+      subst (λ a. AreKept a x.shown.items x.defs x.tags x.uses y x.callers) (sym done.archive)
+          (settled_callees x.archive x.shown.items x.defs x.tags x.uses x.callees x.callers y x.totals done.held done.waiting c.self.invariant.0),
+      subst (λ a. AreTotals a x.shown.items x.totals) (sym done.archive) c.self.invariant.1,
       within_callees x.archive x.shown.items x.defs x.tags x.uses x.callees x.callers y x.totals done.room c.self.invariant.2,
     )
 
@@ -96,7 +102,8 @@ invariant_of-self-in-Callers c =
     let x = c.self.inside in
     let y = c.settle-in-Callers.new.self in
     let done = c.settle-in-Callers.ensures in (
-      settled_callers x.archive x.shown.items x.defs x.tags x.uses x.callees x.callers y x.totals done.held done.waiting c.self.invariant.0,
-      c.self.invariant.1,
+      subst (λ a. AreKept a x.shown.items x.defs x.tags x.uses x.callees y) (sym done.archive)
+          (settled_callers x.archive x.shown.items x.defs x.tags x.uses x.callees x.callers y x.totals done.held done.waiting c.self.invariant.0),
+      subst (λ a. AreTotals a x.shown.items x.totals) (sym done.archive) c.self.invariant.1,
       within_callers x.archive x.shown.items x.defs x.tags x.uses x.callees x.callers y x.totals done.room c.self.invariant.2,
     )
