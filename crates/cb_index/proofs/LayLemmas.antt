@@ -23,8 +23,8 @@ use Rattle.cb_index.specs.Archived.{Archived}
 use Rattle.cb_index.specs.Entries.{file_key, has_key, key_of, sort_key}
 use Rattle.cb_index.specs.Items.{have_one_key, is_first, item_count, item_key, later}
 use Rattle.cb_index.specs.Links.{first_or_none, link_of, links_of}
-use Rattle.cb_index.specs.Orders.{key_in}
-use Rattle.cb_index.specs.steps.Laying.{AreSorted, entries_match, item_entries, item_entry, item_keyer, link_to, next_item, starts, with_each}
+use Rattle.cb_index.specs.Orders.{item_keyer, key_in}
+use Rattle.cb_index.specs.steps.Laying.{AreSorted, entries_match, item_entries, item_entry, link_to, next_item, starts, with_each}
 use Rattle.cb_index.specs.declared.entry.Entry.{Entry}
 use Rattle.cb_index.specs.declared.links.Link.{Link}
 use Rattle.cb_index.specs.declared.rows.FactSort.{FactSort}

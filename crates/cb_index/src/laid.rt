@@ -16,11 +16,11 @@ ghost use Rattle.std.specs.List.{AllByRecursion};
 ghost use Rattle.cb_scan.specs.Definitions.{facts_of};
 ghost use Rattle.cb_index.specs.Items.{item_count};
 ghost use Rattle.cb_index.specs.Links.{links_of};
+ghost use Rattle.cb_index.specs.Orders.{item_keyer};
 ghost use Rattle.cb_index.specs.steps.Laying.{
   AreSorted,
   entries_match,
   item_entries,
-  item_keyer,
   link_to,
   next_item,
   with_each,
@@ -153,9 +153,8 @@ fn append_items(sort: FactSort, version: &Version, number: u32, entries: &mut Ve
     }
 }
 
-/// Lays the links of a version, with a list as scratch. It takes no memory: where there is too
-/// little room, nothing is laid.
-pub(crate) fn lay<O: EntryOrder>(
+/// Lays links of a version, with a list as scratch.
+fn lay_sort<O: EntryOrder>(
     sort_of: FactSort,
     archive: &mut Archive,
     version: u32,
@@ -165,16 +164,27 @@ pub(crate) fn lay<O: EntryOrder>(
     ensures archive { archive.new ≡ archive.old }
     ensures room { vec_capacity scratch.old ≤ vec_capacity scratch.new }
 {
-    scratch.truncate(0);
     match archive.version(version) {
         Some(kept) => {
             if !kept.wants_links(sort_of) || scratch.capacity() < item_count(sort_of, kept) {
                 return;
             }
+            scratch.truncate(0);
             append_items(sort_of, kept, version, scratch);
         }
         None => return,
     }
     sort::<O>(archive, scratch);
     archive.lay_links(version, sort_of, scratch.as_slice());
+}
+
+/// Lays what helps to find the items of one key of a version, with a list as scratch. It takes no
+/// memory: where there is too little room, nothing is laid.
+pub(crate) fn lay<O: EntryOrder>(archive: &mut Archive, version: u32, scratch: &mut Vec<Entry>)
+    ensures archive { archive.new ≡ archive.old }
+    ensures room { vec_capacity scratch.old ≤ vec_capacity scratch.new }
+{
+    if let Some(sort_of) = O::sort() {
+        lay_sort::<O>(sort_of, archive, version, scratch);
+    }
 }

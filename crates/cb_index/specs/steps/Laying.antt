@@ -4,17 +4,13 @@ use Rattle.std.specs.Prelude.{Option, Some, None, map, slice_get, slice_set}
 use Rattle.std.specs.List.{range_with_len}
 use Rattle.cb_scan.specs.Order.{in_order}
 use Rattle.cb_index.specs.Archived.{Archived}
-use Rattle.cb_index.specs.Entries.{Keyer, sort_key}
+use Rattle.cb_index.specs.Entries.{sort_key}
 use Rattle.cb_index.specs.Held.{entry_of}
 use Rattle.cb_index.specs.Items.{have_one_key, item_count, listed}
-use Rattle.cb_index.specs.Orders.{key_in}
+use Rattle.cb_index.specs.Orders.{item_keyer}
 use Rattle.cb_index.specs.declared.entry.Entry.{Entry}
 use Rattle.cb_index.specs.declared.links.Link.{Link}
 use Rattle.cb_index.specs.declared.rows.FactSort.{FactSort}
-
--- the key of an entry of uses or calls
-abbrev pub item_keyer : FactSort → Keyer
-item_keyer sort text file item = key_in sort text item
 
 -- the entry of an item of a version, under the name 0
 abbrev pub item_entry : FactSort → List ℕ → ℕ → ℕ → Entry
