@@ -30,7 +30,7 @@ prefix_and_key key other =
     and_same (nat_eq (key_prefix key) (key_prefix other)) (bytes_eq key other)
     (λ is. (Decides-eqb (key_prefix key) (key_prefix other)).1 (ap key_prefix ((bytes_eq-Decides key other).0 is)))
 
-at_number : (len i : ℕ) → i < len → get_or (range_with_len 0 len) i 0 ≡ i
+pub at_number : (len i : ℕ) → i < len → get_or (range_with_len 0 len) i 0 ≡ i
 at_number len i below = omega (arith, get_or-range_with_len 0 len i 0 below)
 
 -- ---- items of one key

@@ -272,7 +272,7 @@ abbrev pub ComesFirst : Archived → Entry → Entry → Type 0
 ComesFirst a e f = not (is_gt (slice_cmp nat_cmp (file_key a e) (file_key a f))) ≡ true
 
 module _ (a : Archived) where
-  by_number : (e f : Entry) → e.name ≡ f.name → e.version ≡ f.version → e.number < f.number → ComesFirst a e f
+  pub by_number : (e f : Entry) → e.name ≡ f.name → e.version ≡ f.version → e.number < f.number → ComesFirst a e f
   by_number e f name version less =
       let number : nat_cmp e.number f.number ≡ Less = sym (nat_cmp_is e.number f.number Less less) in
       let names : nat_cmp e.name f.name ≡ Equal =

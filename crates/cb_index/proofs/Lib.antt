@@ -11,6 +11,7 @@ pub mod IncludeLemmas
 pub mod IndexLemmas
 pub mod ItemLemmas
 pub mod KeptLemmas
+pub mod LayLemmas
 pub mod ListedLemmas
 pub mod NameLemmas
 pub mod PrefixLemmas

@@ -80,14 +80,14 @@ split_and true c is = (refl, is)
 split_and false c is = absurd (false≢true is)
 
 module _ (keyer : Keyer) (a : Archived) where
-  ordered_cmp : (e f : Entry) → slice_cmp nat_cmp (sort_key keyer a e) (sort_key keyer a f)
+  pub ordered_cmp : (e f : Entry) → slice_cmp nat_cmp (sort_key keyer a e) (sort_key keyer a f)
       ≡ ordering_then (nat_cmp e.prefix f.prefix)
       (ordering_then (slice_cmp nat_cmp (key_of keyer a e) (key_of keyer a f)) (slice_cmp nat_cmp (file_key a e) (file_key a f)))
   unfolding sort_key
   ordered_cmp e f = ap (ordering_then (nat_cmp e.prefix f.prefix)) (sym (bytes_cmp keyer a e f))
 
   -- entries of one key go by file and number
-  one_key : (prefix : ℕ) (key : List ℕ) (e f : Entry) → ComesFirst a e f → has_key keyer a prefix key e ≡ true
+  pub one_key : (prefix : ℕ) (key : List ℕ) (e f : Entry) → ComesFirst a e f → has_key keyer a prefix key e ≡ true
       → has_key keyer a prefix key f ≡ true → goes_first (sort_key keyer a) e f ≡ true
   one_key prefix key e f first has_e has_f =
       let in_e = split_and (nat_eq prefix e.prefix) (bytes_eq key (key_of keyer a e)) has_e in

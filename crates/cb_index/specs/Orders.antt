@@ -26,6 +26,9 @@ abbrev pub key_in : FactSort → Option (List ℕ) → ℕ → List ℕ
 key_in sort None item = []
 key_in sort (Some text) item = item_key sort text item
 
+abbrev pub item_keyer : FactSort → Keyer
+item_keyer sort text file item = key_in sort text item
+
 abbrev pub firsts_in : FactSort → Lister
 firsts_in sort None = []
 firsts_in sort (Some text) = firsts sort text

@@ -2,6 +2,7 @@ pub mod Bounds
 pub mod Chains
 pub mod Found
 pub mod Includes
+pub mod Laying
 pub mod Left
 pub mod Quick
 pub mod RowsLeft

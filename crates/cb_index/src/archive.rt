@@ -24,8 +24,11 @@ ghost use Rattle.cb_scan.specs.Definitions.{facts_of};
 ghost use Rattle.std.specs.List.{AllByRecursion};
 ghost use Rattle.cb_index.specs.Archived.{AreBytes, name_of};
 ghost use Rattle.cb_index.specs.Links.{AreLinks, link_of, nothing_laid};
+ghost use Rattle.cb_index.specs.steps.Laying.{AreSorted};
 
 use crate::bytes::read_bytes;
+use crate::entry::Entry;
+use crate::items::item_count;
 use crate::memory::OutOfMemory;
 use crate::links::{Link, Links};
 use crate::rows::FactSort;
@@ -89,6 +92,20 @@ impl Version {
             Some(link) => Some(*link),
             None => None,
         }
+    }
+
+    /// Whether its links of a sort are not laid, and there is room for them.
+    pub(crate) fn wants_links(&self, sort: FactSort) -> bool {
+        let count = item_count(sort, self);
+        count > 0 && self.links.wants(sort, count)
+    }
+
+    /// Lays the links of a sort by the entries of all items, in order, if there is room.
+    pub(crate) fn lay_links(&mut self, sort: FactSort, entries: &[Entry])
+        requires { AreSorted sort self.old entries.now }
+        ensures { self.new ≡ self.old }
+    {
+        self.links.lay(sort, &self.source, &self.facts, entries);
     }
 
     /// Puts other links in the place of those of a sort, which are handed out.
@@ -247,6 +264,15 @@ impl Archive {
         ensures { result.now ≡ facts_of (slice_index_or self.now.texts version []) }
     {
         self.versions[version as usize].facts()
+    }
+
+    /// Lays links of a version by the entries of all items, in order, if there is room.
+    pub(crate) fn lay_links(&mut self, version: u32, sort: FactSort, entries: &[Entry])
+        requires there { version < length self.old.texts }
+        requires entries { AreSorted sort (slice_index_or self.old.texts version []) entries.now }
+        ensures { self.new ≡ self.old }
+    {
+        self.versions[version as usize].lay_links(sort, entries);
     }
 
     /// The version under a number, if it is there.

@@ -18,6 +18,7 @@ mod facts;
 mod includes;
 mod index;
 mod items;
+mod laid;
 pub mod laws;
 mod links;
 mod listed;

@@ -1,10 +1,14 @@
 //! What a version keeps so that items of one key are found without a search.
-ghost use Rattle.std.specs.Prelude.{◌≡◌, [], IfOk};
-ghost use Rattle.cb_index.specs.Links.{links_for, nothing_laid, with_links};
+ghost use Rattle.std.specs.Prelude.{◌≡◌, ◌⊎◌, [], true, IfOk};
+ghost use Rattle.cb_scan.specs.Definitions.{facts_of};
+ghost use Rattle.cb_index.specs.Links.{links_for, links_of, nothing_laid, with_links};
+ghost use Rattle.cb_index.specs.steps.Laying.{AreSorted};
 
+use crate::entry::Entry;
+use crate::laid::lay_in;
 use crate::memory::OutOfMemory;
 use crate::rows::FactSort;
-use cb_scan::Facts;
+use cb_scan::{Facts, Source};
 use std::alloc::Global;
 use std::marker::Model;
 use std::mem;
@@ -71,6 +75,33 @@ impl Links {
             FactSort::Uses => self.uses.as_slice(),
             FactSort::Callees => self.callees.as_slice(),
             FactSort::Callers => self.callers.as_slice(),
+        }
+    }
+
+    /// Whether no links of a sort are laid, and there is room for so many.
+    pub(crate) fn wants(&self, sort: FactSort, count: usize) -> bool
+        ensures { result ≡ true → links_for sort self.now ≡ [] }
+    {
+        let links = match sort {
+            FactSort::Uses => &self.uses,
+            FactSort::Callees => &self.callees,
+            FactSort::Callers => &self.callers,
+        };
+        links.is_empty() && count <= links.capacity()
+    }
+
+    /// Lays the links of a sort by the entries of all items, in order; none where there is too
+    /// little room.
+    pub(crate) fn lay(&mut self, sort: FactSort, source: &Source, facts: &Facts, entries: &[Entry])
+        requires facts { facts.now ≡ facts_of source.now }
+        requires entries { AreSorted sort source.now entries.now }
+        ensures { (self.new ≡ self.old)
+            ⊎ (self.new ≡ with_links sort (links_of sort source.now) self.old) }
+    {
+        match sort {
+            FactSort::Uses => lay_in(sort, source, facts, entries, &mut self.uses),
+            FactSort::Callees => lay_in(sort, source, facts, entries, &mut self.callees),
+            FactSort::Callers => lay_in(sort, source, facts, entries, &mut self.callers),
         }
     }
 

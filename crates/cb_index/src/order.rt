@@ -14,9 +14,10 @@ use std::cmp::Ordering;
 /// their own numbers. Key and name are looked up in the archive; so what is pushed there changes
 /// nothing of the order of entries that are held. Of one key in one file the numbers go by place.
 pub trait EntryOrder {
-    ghost use Rattle.std.specs.Prelude.{ℕ, List, Option};
+    ghost use Rattle.std.specs.Prelude.{ℕ, ◌≡◌, List, Option, IfSome};
     ghost use Rattle.cb_index.specs.Entries.{Keyer};
     ghost use Rattle.cb_index.specs.Held.{Lister};
+    ghost use Rattle.cb_index.specs.Orders.{item_keyer};
     ghost use Rattle.cb_index.specs.declared.rows.FactSort.{FactSort};
 
     ghost keyer: { Keyer };
@@ -48,12 +49,6 @@ pub trait EntryOrder {
     fn count(archive: &Archive, version: u32) -> usize
         ensures { result ≡ length (listed_of lister archive.now version) };
 
-    /// Lays what helps to find the items of one key of a version, with a list as scratch. It takes no
-    /// memory.
-    fn lay(archive: &mut Archive, version: u32, scratch: &mut Vec<Entry>)
-        ensures archive { archive.new ≡ archive.old }
-        ensures room { vec_capacity scratch.old ≤ vec_capacity scratch.new };
-
     /// Puts the entries of a version under a name behind others, in the room that is there.
     fn append(archive: &Archive, shown: Shown, entries: &mut Vec<Entry>)
         requires { vec_len entries.old + length (listed_of lister archive.now shown.version)
@@ -61,6 +56,9 @@ pub trait EntryOrder {
         ensures entries { entries.new.items
             ≡ entries.old.items ++ entries_of lister archive.now shown }
         ensures room { vec_capacity entries.old ≤ vec_capacity entries.new };
+
+    // entries of uses or calls have the keys of items
+    ghost keyed: { IfSome sort (λ s. keyer ≡ item_keyer s) };
 }
 
 fn numbers(entry: Entry) -> [u32; 3]

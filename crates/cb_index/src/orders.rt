@@ -120,7 +120,7 @@ fn compare_items(sort: FactSort, archive: &Archive, a: Entry, b: Entry) -> Order
 impl EntryOrder for UsesByName {
     ghost use Rattle.cb_scan.specs.Keys.{key_prefix};
     ghost use Rattle.cb_index.specs.Orders.{use_key, uses_listed};
-    ghost use Rattle.std.specs.Prelude.{Some};
+    ghost use Rattle.std.specs.Prelude.{Some, refl};
     ghost use Rattle.cb_index.specs.declared.rows.FactSort.TheVariants.{Uses};
 
     ghost keyer = { use_key };
@@ -130,6 +130,8 @@ impl EntryOrder for UsesByName {
     ghost prefix_of = { key_prefix };
 
     ghost sort = { Some Uses };
+
+    ghost keyed = { refl };
 
     fn sort() -> Option<FactSort> {
         Some(FactSort::Uses)
@@ -154,8 +156,6 @@ impl EntryOrder for UsesByName {
         }
     }
 
-    fn lay(_archive: &mut Archive, _version: u32, _scratch: &mut Vec<Entry>) {}
-
     fn append(archive: &Archive, shown: Shown, entries: &mut Vec<Entry>) {
         if let Some(kept) = archive.version(shown.version) {
             append_firsts(FactSort::Uses, kept, shown, entries);
@@ -166,7 +166,7 @@ impl EntryOrder for UsesByName {
 impl EntryOrder for CallsByCallee {
     ghost use Rattle.cb_scan.specs.Keys.{key_prefix};
     ghost use Rattle.cb_index.specs.Orders.{callee_key, callees_listed};
-    ghost use Rattle.std.specs.Prelude.{Some};
+    ghost use Rattle.std.specs.Prelude.{Some, refl};
     ghost use Rattle.cb_index.specs.declared.rows.FactSort.TheVariants.{Callees};
 
     ghost keyer = { callee_key };
@@ -176,6 +176,8 @@ impl EntryOrder for CallsByCallee {
     ghost prefix_of = { key_prefix };
 
     ghost sort = { Some Callees };
+
+    ghost keyed = { refl };
 
     fn sort() -> Option<FactSort> {
         Some(FactSort::Callees)
@@ -200,8 +202,6 @@ impl EntryOrder for CallsByCallee {
         }
     }
 
-    fn lay(_archive: &mut Archive, _version: u32, _scratch: &mut Vec<Entry>) {}
-
     fn append(archive: &Archive, shown: Shown, entries: &mut Vec<Entry>) {
         if let Some(kept) = archive.version(shown.version) {
             append_firsts(FactSort::Callees, kept, shown, entries);
@@ -212,7 +212,7 @@ impl EntryOrder for CallsByCallee {
 impl EntryOrder for CallsByCaller {
     ghost use Rattle.cb_scan.specs.Keys.{key_prefix};
     ghost use Rattle.cb_index.specs.Orders.{caller_key, callers_listed};
-    ghost use Rattle.std.specs.Prelude.{Some};
+    ghost use Rattle.std.specs.Prelude.{Some, refl};
     ghost use Rattle.cb_index.specs.declared.rows.FactSort.TheVariants.{Callers};
 
     ghost keyer = { caller_key };
@@ -222,6 +222,8 @@ impl EntryOrder for CallsByCaller {
     ghost prefix_of = { key_prefix };
 
     ghost sort = { Some Callers };
+
+    ghost keyed = { refl };
 
     fn sort() -> Option<FactSort> {
         Some(FactSort::Callers)
@@ -245,8 +247,6 @@ impl EntryOrder for CallsByCaller {
             None => 0,
         }
     }
-
-    fn lay(_archive: &mut Archive, _version: u32, _scratch: &mut Vec<Entry>) {}
 
     fn append(archive: &Archive, shown: Shown, entries: &mut Vec<Entry>) {
         if let Some(kept) = archive.version(shown.version) {
@@ -366,6 +366,8 @@ impl EntryOrder for DefsByName {
 
     ghost sort = { None };
 
+    ghost keyed = { tt };
+
     fn sort() -> Option<FactSort> {
         None
     }
@@ -389,8 +391,6 @@ impl EntryOrder for DefsByName {
         }
     }
 
-    fn lay(_archive: &mut Archive, _version: u32, _scratch: &mut Vec<Entry>) {}
-
     fn append(archive: &Archive, shown: Shown, entries: &mut Vec<Entry>) {
         if let Some(kept) = archive.version(shown.version) {
             append_defs::<DefsByName>(kept.source().bytes(), defs_of(kept), shown, entries);
@@ -409,6 +409,8 @@ impl EntryOrder for DefsByTagName {
     ghost prefix_of = { tag_key_prefix };
 
     ghost sort = { None };
+
+    ghost keyed = { tt };
 
     fn sort() -> Option<FactSort> {
         None
@@ -434,8 +436,6 @@ impl EntryOrder for DefsByTagName {
             None => 0,
         }
     }
-
-    fn lay(_archive: &mut Archive, _version: u32, _scratch: &mut Vec<Entry>) {}
 
     fn append(archive: &Archive, shown: Shown, entries: &mut Vec<Entry>) {
         if let Some(kept) = archive.version(shown.version) {

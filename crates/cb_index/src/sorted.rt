@@ -34,6 +34,7 @@ use crate::archive::Archive;
 use crate::block::HALF;
 use crate::blocks::Blocks;
 use crate::entry::{Entry, Shown};
+use crate::laid::lay;
 use crate::memory::OutOfMemory;
 use crate::names::Names;
 use crate::order::{EntryOrder, compare};
@@ -119,7 +120,7 @@ fn lay_each<O: EntryOrder>(archive: &mut Archive, shown: &[Shown], scratch: &mut
     ensures room { vec_capacity scratch.old ≤ vec_capacity scratch.new }
 {
     for one in shown {
-        O::lay(archive, one.version, scratch);
+        lay::<O>(archive, one.version, scratch);
     }
 }
 
