@@ -1,5 +1,5 @@
 //! The first bytes of a key as a number.
-ghost use Rattle.std.specs.Prelude.{◌≡◌, ◌≤◌, ◌<◌, get_or, length, take};
+ghost use Rattle.std.specs.Prelude.{◌≡◌, ◌≤◌, ◌<◌, get_or, length};
 ghost use Rattle.cb_scan.specs.Keys.{key_prefix};
 
 /// The byte at a place, or 0 past the end.
@@ -34,21 +34,4 @@ pub fn key_prefix(key: &[u8]) -> u64
         + byte_at(key, 4) * 0x0000_0000_0100_0000
         + byte_at(key, 5) * 0x0000_0000_0001_0000
         + byte_at(key, 6) * 0x0000_0000_0000_0100
-}
-
-/// The prefix of the key that a text begins with. Where the text goes on behind the key, its first
-/// eight bytes are read at once, and those behind the key are taken away.
-pub(crate) fn prefix_of_front(text: &[u8], len: usize) -> u64
-    requires { len ≤ length text.now }
-    ensures { result ≡ key_prefix (take len text.now) }
-{
-    if len == 0 || text.len() < 8 {
-        return key_prefix(&text[..len]);
-    }
-    let word = word(text);
-    if len >= 8 {
-        return word;
-    }
-    let behind = 64 - 8 * len as u32;
-    word >> behind << behind
 }
