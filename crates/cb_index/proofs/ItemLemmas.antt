@@ -9,8 +9,7 @@ use Rattle.std.proofs.lemmas.List.FromFn.{get_or-map-range_with_len, length-map-
 use Rattle.std.specs.Cmp.Lexicographic.{same_text}
 use Rattle.cb_scan.specs.declared.facts.Def.{Def}
 use Rattle.cb_index.specs.Held.{Listed}
-use Rattle.cb_index.specs.Items.{firsts, have_one_key, is_first, item_count, item_key, later}
-use Rattle.cb_index.specs.Items.{listed}
+use Rattle.cb_index.specs.Items.{have_one_key, is_first, item_count, item_key, later, listed}
 use Rattle.cb_index.specs.Links.{AreLaid, AreLinks, Linked, first_or_none}
 use Rattle.cb_index.specs.Links.{link_of, links_for, links_of}
 use Rattle.cb_index.specs.Orders.{numbered}
@@ -32,20 +31,20 @@ module _ (p : ℕ → Bool) (k n : ℕ) (below : k < n) where
   more : n - k ≡ suc (n - (k + 1))
   more = omega (arith, below)
 
-  pub any_here : p k ≡ true → list_any p (range_with_len k (n - k)) ≡ true
+  any_here : p k ≡ true → list_any p (range_with_len k (n - k)) ≡ true
   any_here is =
       ap (λ m. list_any p (range_with_len k m)) more ∙ ap (λ b. b || list_any p after) is
 
-  pub any_passed : p k ≡ false → list_any p (range_with_len k (n - k)) ≡ list_any p after
+  any_passed : p k ≡ false → list_any p (range_with_len k (n - k)) ≡ list_any p after
   any_passed is =
       ap (λ m. list_any p (range_with_len k m)) more ∙ ap (λ b. b || list_any p after) is
 
-  pub kept_here : p k ≡ true → filter p (range_with_len k (n - k)) ≡ k ∷ filter p after
+  kept_here : p k ≡ true → filter p (range_with_len k (n - k)) ≡ k ∷ filter p after
   kept_here is =
       ap (λ m. filter p (range_with_len k m)) more
       ∙ ap (λ b. cond b (k ∷ filter p after) (filter p after)) is
 
-  pub kept_passed : p k ≡ false → filter p (range_with_len k (n - k)) ≡ filter p after
+  kept_passed : p k ≡ false → filter p (range_with_len k (n - k)) ≡ filter p after
   kept_passed is =
       ap (λ m. filter p (range_with_len k m)) more
       ∙ ap (λ b. cond b (k ∷ filter p after) (filter p after)) is
@@ -113,11 +112,6 @@ module _ (sort : FactSort) (text : List ℕ) where
       → false ≡ is_first_from item k
   first_found item k below is = ap not (sym (any_here (has_its_key item) k item below is))
 
-  pub first_ended : (item k : ℕ) → item ≤ k → true ≡ is_first_from item k
-  first_ended item k past =
-      let none : item - k ≡ 0 = omega arith in
-      ap (λ n. not (list_any (has_its_key item) (range_with_len k n))) (sym none)
-
   -- ---- the items that have the key of an item, from a place on
   abbrev pub later_from : ℕ → ℕ → List ℕ
   later_from item k = filter (has_its_key item) (range_with_len k (count - k))
@@ -144,11 +138,6 @@ module _ (sort : FactSort) (text : List ℕ) where
       kept_here (has_its_key item) k count below is
       ∙ ap (λ p. k ∷ filter p (range_with_len (k + 1) (count - (k + 1)))) (same_test item k is)
       ∙ ap (λ l. k ∷ l) (later_begun k)
-
-  pub later_ended : (item k : ℕ) → count ≤ k → later_from item k ≡ []
-  later_ended item k past =
-      let none : count - k ≡ 0 = omega arith in
-      ap (λ n. filter (has_its_key item) (range_with_len k n)) none
 
   -- what follows the first of them is what is behind that one and has its key
   pub rest_later : (i j : ℕ) (rest : List ℕ) → later sort text i ≡ j ∷ rest
@@ -195,11 +184,6 @@ module _ (sort : FactSort) (text : List ℕ) where
   firsts_from k =
       map (listed sort text) (filter (is_first sort text) (range_with_len k (count - k)))
 
-  pub firsts_begun : firsts_from 0 ≡ firsts sort text
-  firsts_begun =
-      let all : count - 0 ≡ count = omega arith in
-      ap (λ n. map (listed sort text) (filter (is_first sort text) (range_with_len 0 n))) all
-
   pub firsts_found : (k : ℕ) → k < count → is_first sort text k ≡ true
       → firsts_from k ≡ listed sort text k ∷ firsts_from (k + 1)
   firsts_found k below is =
@@ -209,11 +193,6 @@ module _ (sort : FactSort) (text : List ℕ) where
       → firsts_from k ≡ firsts_from (k + 1)
   firsts_passed k below is =
       ap (map (listed sort text)) (kept_passed (is_first sort text) k count below is)
-
-  pub firsts_ended : (k : ℕ) → count ≤ k → firsts_from k ≡ []
-  firsts_ended k past =
-      let none : count - k ≡ 0 = omega arith in
-      ap (λ n. map (listed sort text) (filter (is_first sort text) (range_with_len k n))) none
 
 -- ---- links
 pub laid_for : (sort : FactSort) (text : List ℕ) (l : Linked) → AreLaid text l

@@ -1,6 +1,6 @@
-use Rattle.std.proofs.Common.{◌∙◌, ◌<◌, ◌≤◌, sym, arith}
+use Rattle.std.proofs.Common.{◌∙◌, ◌<◌, sym, arith}
 use Rattle.cb_index.specs.Items.{item_count}
-use Rattle.cb_index.proofs.ItemLemmas.{later_begun, later_ended, later_found, later_passed}
+use Rattle.cb_index.proofs.ItemLemmas.{later_begun, later_found, later_passed}
 use Rattle.cb_index.proofs.items.search_next.Goals as goal
 
 pub loop-next-init : goal.loop-next-init
@@ -19,9 +19,3 @@ returns-then-have_one_key c =
     sym c.loop-next.invariant
     ∙ later_found c.args.sort c.args.version.now c.args.item c.loop-next.next below
     (sym c.have_one_key.ensures ∙ c.if-have_one_key.true)
-
-pub returns : goal.returns
-returns c =
-    let past : item_count c.args.sort c.args.version.now ≤ c.loop-next.next = omega arith in
-    sym c.loop-next.invariant
-    ∙ later_ended c.args.sort c.args.version.now c.args.item c.loop-next.next past
