@@ -1,5 +1,6 @@
 //! Tests on short texts, with the facts worked out by hand.
 mod keys;
+mod links;
 mod many;
 mod memory;
 mod model;
@@ -33,7 +34,10 @@ const THIRD: &[u8] =
 fn version_of(alloc: Global, text: &[u8]) -> Result<Version, Fail> {
     let source = Source::new(alloc, text.to_vec(alloc)?)?;
     let facts = scan(alloc, &mut Meter::new(), &source)?;
-    let links = Links::new(alloc, &facts).ok().ok_or(Fail::from("out of memory"))?;
+    let links = match Links::new(alloc, &facts) {
+        Ok(links) => links,
+        Err(_) => return Err(Fail::from("no memory")),
+    };
     Ok(Version::new(source, facts, links))
 }
 
