@@ -30,15 +30,14 @@ const SECOND: &[u8] = b"int main(void) {\n\treturn 0;\n}\n";
 const THIRD: &[u8] =
     b"int sqlite3_open(void) { }\nint sqlite3_(void) { }\nint sqlite3_close(void) { }\n";
 
-/// A text with its facts and their keys.
+/// A text with its facts.
 fn version_of(alloc: Global, text: &[u8]) -> Result<Version, Fail> {
     let source = Source::new(alloc, text.to_vec(alloc)?)?;
     let facts = scan(alloc, &mut Meter::new(), &source)?;
-    let links = match Links::new(alloc, &facts) {
-        Ok(links) => links,
-        Err(_) => return Err(Fail::from("no memory")),
-    };
-    Ok(Version::new(source, facts, links))
+    match Links::new(alloc, &facts) {
+        Ok(links) => Ok(Version::new(source, facts, links)),
+        Err(_) => Err(Fail::from("out of memory")),
+    }
 }
 
 /// Keeps a name.

@@ -16,11 +16,7 @@ pub mod HeadLemmas
 pub mod InOrder
 pub mod IncludeLines
 pub mod Lengths
-pub mod KeyFronts
-pub mod KeyLaws
 pub mod KeyOrder
-pub mod KeyRanks
-pub mod KeyPostings
 pub mod LineLemmas
 pub mod LineTable
 pub mod LinedPieces
