@@ -1,7 +1,6 @@
 -- Links that are set by sorted entries are those of all items.
 use Rattle.std.proofs.Common.{◌≡◌, ◌∙◌, ◌+◌, ◌-◌, ◌<◌, ◌≤◌, ◌≢◌, ℕ, zero, suc, Bool, true, false, List, [], ◌∷◌, ◌++◌, Some, None, refl, sym, ap, subst, length, map, drop, filter, get_or, arith, append_assoc, ◌⊎◌, inl, inr}
-use Rattle.std.proofs.lemmas.Bool.{cases_eq, false≢true, true≢false}
-use Rattle.std.proofs.lemmas.Bool.Decides.{Decides-eqb}
+use Rattle.std.proofs.lemmas.Bool.{cases_eq}
 use Rattle.std.proofs.lemmas.List.{get_or-set_other, get_or-set_same, length-map, length-set}
 use Rattle.std.proofs.lemmas.List.Elements.{filter-append}
 use Rattle.std.proofs.lemmas.List.Folds.{list_any-append}
@@ -24,14 +23,13 @@ use Rattle.cb_index.specs.Entries.{file_key, has_key, key_of, sort_key}
 use Rattle.cb_index.specs.Items.{have_one_key, is_first, item_count, item_key, later}
 use Rattle.cb_index.specs.Links.{first_or_none, link_of, links_of}
 use Rattle.cb_index.specs.Orders.{item_keyer, key_in}
-use Rattle.cb_index.specs.steps.Laying.{AreSorted, entries_match, item_entries, item_entry, link_to, next_item, starts, with_each}
+use Rattle.cb_index.specs.steps.Laying.{entries_match, item_entries, item_entry, link_to, next_item, starts, with_each}
 use Rattle.cb_index.specs.declared.entry.Entry.{Entry}
 use Rattle.cb_index.specs.declared.links.Link.{Link}
 use Rattle.cb_index.specs.declared.rows.FactSort.{FactSort}
 use Rattle.cb_index.proofs.FirstLemmas.{at_number, prefix_and_key}
 use Rattle.cb_index.proofs.InOrderLemmas.{filter_kept, length_in_order, map_in_order}
 use Rattle.cb_index.proofs.IndexLemmas.{by_number}
-use Rattle.cb_index.proofs.RangeItems.{range_next}
 use Rattle.cb_index.proofs.RowLemmas.{one_key, ordered_cmp}
 
 -- ---- lists
@@ -170,9 +168,6 @@ module _ (p : ℕ → Bool) (n end : ℕ) (ys : List ℕ) where
           }
 
 -- ---- items of one key stand together
-not_gt : Ordering → Bool
-not_gt o = not (is_gt o)
-
 then_first : (o p : Ordering) → not (is_gt (ordering_then o p)) ≡ true → not (is_gt o) ≡ true
 then_first Less p is = refl
 then_first Equal p is = refl

@@ -23,7 +23,7 @@ ghost use Rattle.std.specs.Option.{option_copied};
 ghost use Rattle.cb_scan.specs.Definitions.{facts_of};
 ghost use Rattle.std.specs.List.{AllByRecursion};
 ghost use Rattle.cb_index.specs.Archived.{AreBytes, name_of};
-ghost use Rattle.cb_index.specs.Links.{AreLinks, link_of, nothing_laid};
+ghost use Rattle.cb_index.specs.Links.{link_of, nothing_laid};
 ghost use Rattle.cb_index.specs.steps.Laying.{AreSorted};
 
 use crate::bytes::read_bytes;
@@ -106,14 +106,6 @@ impl Version {
         ensures { self.new ≡ self.old }
     {
         self.links.lay(sort, &self.source, &self.facts, entries);
-    }
-
-    /// Puts other links in the place of those of a sort, which are handed out.
-    pub(crate) fn replace_links(&mut self, sort: FactSort, links: Vec<Link>) -> Vec<Link>
-        requires { AreLinks sort self.old links.items }
-        ensures { self.new ≡ self.old }
-    {
-        self.links.replace(sort, links)
     }
 }
 

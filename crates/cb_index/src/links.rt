@@ -11,7 +11,6 @@ use crate::rows::FactSort;
 use cb_scan::{Facts, Source};
 use std::alloc::Global;
 use std::marker::Model;
-use std::mem;
 
 /// The link of an item: the next item of its key, or 0 where there is none, and whether no item
 /// before it has that key.
@@ -102,17 +101,6 @@ impl Links {
             FactSort::Uses => lay_in(sort, source, facts, entries, &mut self.uses),
             FactSort::Callees => lay_in(sort, source, facts, entries, &mut self.callees),
             FactSort::Callers => lay_in(sort, source, facts, entries, &mut self.callers),
-        }
-    }
-
-    /// Puts other links of a sort in the place of these, which are handed out.
-    pub(crate) fn replace(&mut self, sort: FactSort, links: Vec<Link>) -> Vec<Link>
-        ensures { self.new ≡ with_links sort links.items self.old }
-    {
-        match sort {
-            FactSort::Uses => mem::replace(&mut self.uses, links),
-            FactSort::Callees => mem::replace(&mut self.callees, links),
-            FactSort::Callers => mem::replace(&mut self.callers, links),
         }
     }
 }

@@ -1,5 +1,6 @@
 //! Tests on short texts, with the facts worked out by hand.
 mod keys;
+mod links;
 mod many;
 mod memory;
 mod model;
