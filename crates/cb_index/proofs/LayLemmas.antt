@@ -244,8 +244,8 @@ module _ (sort : FactSort) (text : List ℕ) where
     none_ahead n j [] first isnt all = tt
     none_ahead n j (x ∷ front) first isnt all = (
       not_true (have j x) (λ is.
-      let same : item_key sort text x ≡ item_key sort text j = sym (have_is j x is) in
-      sym (are_one n j (sym (between x n j all.0 first same) ∙ same)) ∙ isnt),
+          let same : item_key sort text x ≡ item_key sort text j = sym (have_is j x is) in
+          sym (are_one n j (sym (between x n j all.0 first same) ∙ same)) ∙ isnt),
       none_ahead n j front first isnt all.1,
     )
 
@@ -322,7 +322,7 @@ module _ (sort : FactSort) (text : List ℕ) where
       are_right front (n ∷ ns) first is begins = (
         link_is front n ns first is begins,
         are_right (front ++ n ∷ []) ns (starts (follows n ns)) (append_assoc front (n ∷ []) ns ∙ is)
-        (begins_next front n ns (subst (Sorted rank) (sym is) sorted)),
+            (begins_next front n ns (subst (Sorted rank) (sym is) sorted)),
       )
 
     abbrev set_all : Bool → List ℕ → List Link → List Link
@@ -359,12 +359,11 @@ module _ (sort : FactSort) (text : List ℕ) where
       all_set first [] links right within = tt
       all_set first (n ∷ ns) links right within =
           let link = link_to (follows n ns) first in
-          let same : length (slice_set links n link) ≡ length links = length-set links n link in
-          (
+          let same : length (slice_set links n link) ≡ length links = length-set links n link in (
             stays (starts (follows n ns)) ns (slice_set links n link) right.1 n (omega (arith, same, within.0))
-            (get_or-set_same links n link d within.0 ∙ right.0),
+                (get_or-set_same links n link d within.0 ∙ right.0),
             all_set (starts (follows n ns)) ns (slice_set links n link) right.1
-            (subst (λ len. AllByRecursion (λ k. k < len) ns) (sym same) within.1),
+                (subst (λ len. AllByRecursion (λ k. k < len) ns) (sym same) within.1),
           )
 
     -- ---- the entries of all items in order

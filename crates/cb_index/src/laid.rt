@@ -69,14 +69,8 @@ fn link_to(next: Option<u32>, first: bool) -> Link
     ensures { result ≡ link_to next first }
 {
     match next {
-        Some(next) => Link {
-            next,
-            first,
-        },
-        None => Link {
-            next: 0,
-            first,
-        },
+        Some(next) => Link { next, first },
+        None => Link { next: 0, first },
     }
 }
 

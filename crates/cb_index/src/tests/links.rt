@@ -20,10 +20,7 @@ fn has_links(archive: &Archive, version: u32, sort: FactSort, wanted: Wanted) ->
         None => return false,
     };
     for (item, next, first) in wanted {
-        let link = Link {
-            next,
-            first,
-        };
+        let link = Link { next, first };
         if version.link(sort, item) != Some(link) {
             return false;
         }
