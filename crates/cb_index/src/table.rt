@@ -8,6 +8,8 @@ ghost use Rattle.std.specs.Prelude.{
   ◌<◌,
   ◌≤◌,
   [],
+  List,
+  ℕ,
   true,
   false,
   suc,
@@ -18,6 +20,7 @@ ghost use Rattle.cb_scan.specs.Definitions.{facts_of};
 ghost use Rattle.cb_index.specs.Items.{item_count, later};
 ghost use Rattle.cb_index.specs.Links.{first_or_none, links_of};
 ghost use Rattle.cb_index.specs.steps.Laying.{item_entries};
+ghost use Rattle.cb_index.specs.declared.rows.FactSort.{FactSort};
 ghost use Rattle.cb_index.specs.steps.Table.{
   AreLinked,
   AreNoted,
@@ -99,8 +102,13 @@ fn find_next(
     Some(0)
 }
 
-/// Puts an item in front of the chain of a place.
+/// Puts an item in front of the chain of its place.
 fn note(entries: &mut [Entry], item: usize, place: usize)
+    requires item { item < length entries.old }
+    requires place { place < length entries.old }
+    ensures { (sort : FactSort) (text : List ℕ) → item < item_count sort text
+        → place ≡ item_place sort text item → AreNoted sort text (suc item) entries.old
+        → AreNoted sort text item entries.new }
 {
     let own = entries[item];
     entries[item] = Entry {
@@ -120,17 +128,23 @@ fn note(entries: &mut [Entry], item: usize, place: usize)
 
 /// Sets the link of an item to the next one of its key, or to none at 0.
 fn link(links: &mut [Link], item: usize, next: u32)
+    requires item { item < length links.old }
+    requires next { next < length links.old }
+    ensures { (sort : FactSort) (text : List ℕ) → item < item_count sort text
+        → next ≡ first_or_none (later sort text item) → AreLinked sort text (suc item) links.old
+        → AreLinked sort text item links.new }
 {
     links[item] = Link {
         next,
         first: true,
     };
-    if next != 0 {
-        links[next as usize] = Link {
-            next: links[next as usize].next,
-            first: false,
-        };
+    if next == 0 {
+        return;
     }
+    links[next as usize] = Link {
+        next: links[next as usize].next,
+        first: false,
+    };
 }
 
 /// Sets the link of an item and notes it, if the search for the next one of its key ends in time.

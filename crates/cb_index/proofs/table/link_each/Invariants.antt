@@ -1,0 +1,11 @@
+use Rattle.cb_index.specs.steps.Table.{AreLinked, AreNoted}
+use Rattle.cb_index.proofs.table.link_each.Given as goal
+
+abbrev pub invariant-loop-item : goal.invariant-loop-item
+invariant-loop-item l = record {
+  noted : AreNoted l.sort l.source l.item l.entries;
+  linked : AreLinked l.sort l.source l.item l.links;
+}
+
+abbrev pub decreases-loop-item : goal.decreases-loop-item
+decreases-loop-item l = l.item
