@@ -156,7 +156,7 @@ fn append_items(sort: FactSort, version: &Version, number: u32, entries: &mut Ve
 
 /// Puts the entries of all items of a version, under a number, into a list in place of what it had.
 /// It answers whether it did: the links of the version are wanted, and the list has room.
-fn list_items(
+pub(crate) fn list_items(
     sort_of: FactSort,
     archive: &Archive,
     version: u32,
