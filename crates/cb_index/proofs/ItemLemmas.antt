@@ -39,24 +39,24 @@ module _ (p : ℕ → Bool) (k n : ℕ) (below : k < n) where
   any_passed is =
       ap (λ m. list_any p (range_with_len k m)) more ∙ ap (λ b. b || list_any p after) is
 
-  kept_here : p k ≡ true → filter p (range_with_len k (n - k)) ≡ k ∷ filter p after
+  pub kept_here : p k ≡ true → filter p (range_with_len k (n - k)) ≡ k ∷ filter p after
   kept_here is =
       ap (λ m. filter p (range_with_len k m)) more
       ∙ ap (λ b. cond b (k ∷ filter p after) (filter p after)) is
 
-  kept_passed : p k ≡ false → filter p (range_with_len k (n - k)) ≡ filter p after
+  pub kept_passed : p k ≡ false → filter p (range_with_len k (n - k)) ≡ filter p after
   kept_passed is =
       ap (λ m. filter p (range_with_len k m)) more
       ∙ ap (λ b. cond b (k ∷ filter p after) (filter p after)) is
 
 -- what passes first in a range, and what passes behind it
-record StandsFirst (p : ℕ → Bool) (k n j : ℕ) (rest : List ℕ) : Type 0 where
-  from : k ≤ j
-  within : j < k + n
-  passes : p j ≡ true
-  behind : rest ≡ filter p (range_with_len (suc j) (k + n - suc j))
+pub record StandsFirst (p : ℕ → Bool) (k n j : ℕ) (rest : List ℕ) : Type 0 where
+  pub from : k ≤ j
+  pub within : j < k + n
+  pub passes : p j ≡ true
+  pub behind : rest ≡ filter p (range_with_len (suc j) (k + n - suc j))
 
-stands_first : (p : ℕ → Bool) (k n j : ℕ) (rest : List ℕ) → filter p (range_with_len k n) ≡ j ∷ rest
+pub stands_first : (p : ℕ → Bool) (k n j : ℕ) (rest : List ℕ) → filter p (range_with_len k n) ≡ j ∷ rest
     → StandsFirst p k n j rest
 stands_first p k zero j rest is = absurd cc
 stands_first p k (suc n) j rest is =

@@ -26,4 +26,5 @@ pub mod RunLemmas
 pub mod SortLemmas
 pub mod SortedLemmas
 pub mod SpreadLemmas
+pub mod TableLemmas
 pub mod TotalLemmas

@@ -8,3 +8,4 @@ pub mod Quick
 pub mod RowsLeft
 pub mod Runs
 pub mod Spread
+pub mod Table

@@ -24,7 +24,7 @@ ghost use Rattle.cb_scan.specs.Definitions.{facts_of};
 ghost use Rattle.std.specs.List.{AllByRecursion};
 ghost use Rattle.cb_index.specs.Archived.{AreBytes, name_of};
 ghost use Rattle.cb_index.specs.Links.{link_of, nothing_laid};
-ghost use Rattle.cb_index.specs.steps.Laying.{AreSorted};
+ghost use Rattle.cb_index.specs.steps.Laying.{AreSorted, item_entries};
 
 use crate::bytes::read_bytes;
 use crate::entry::Entry;
@@ -98,6 +98,15 @@ impl Version {
     pub(crate) fn wants_links(&self, sort: FactSort) -> bool {
         let count = item_count(sort, self);
         count > 0 && self.links.wants(sort, count)
+    }
+
+    /// Lays the links of a sort by a table of the entries of all items; false, and none are laid,
+    /// where the table is too crowded or where there is too little room.
+    pub(crate) fn lay_by_table(&mut self, sort: FactSort, entries: &mut [Entry]) -> bool
+        requires { entries.old ≡ item_entries sort self.old 0 }
+        ensures { self.new ≡ self.old }
+    {
+        self.links.lay_by_table(sort, &self.source, &self.facts, entries)
     }
 
     /// Lays the links of a sort by the entries of all items, in order, if there is room.
@@ -256,6 +265,22 @@ impl Archive {
         ensures { result.now ≡ facts_of (slice_index_or self.now.texts version []) }
     {
         self.versions[version as usize].facts()
+    }
+
+    /// Lays links of a version by a table of the entries of all items; false, and none are laid,
+    /// where the table is too crowded or where there is too little room.
+    pub(crate) fn lay_by_table(
+        &mut self,
+        version: u32,
+        sort: FactSort,
+        entries: &mut [Entry],
+    ) -> bool
+        requires there { version < length self.old.texts }
+        requires entries { entries.old
+            ≡ item_entries sort (slice_index_or self.old.texts version []) 0 }
+        ensures { self.new ≡ self.old }
+    {
+        self.versions[version as usize].lay_by_table(sort, entries)
     }
 
     /// Lays links of a version by the entries of all items, in order, if there is room.

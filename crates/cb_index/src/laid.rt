@@ -1,5 +1,5 @@
-//! Laying the links of a version: its items are sorted by key, and each is linked to the next one
-//! that has its key.
+//! Laying the links of a version: by a table, or by sorting its items by key, where each is linked
+//! to the one that follows it if that has its key.
 ghost use Rattle.std.specs.Prelude.{
   ◌≡◌,
   ◌⊎◌,
@@ -18,6 +18,7 @@ ghost use Rattle.cb_index.specs.Items.{item_count};
 ghost use Rattle.cb_index.specs.Links.{links_of};
 ghost use Rattle.cb_index.specs.Orders.{item_keyer};
 ghost use Rattle.cb_index.specs.steps.Laying.{
+  AreListed,
   AreSorted,
   entries_match,
   item_entries,
@@ -38,7 +39,7 @@ use crate::sort::sort;
 use cb_scan::{Facts, Source, key_prefix};
 
 /// Whether two entries of items have one key. Their prefixes are compared first.
-fn entries_match(sort: FactSort, source: &Source, facts: &Facts, a: Entry, b: Entry) -> bool
+pub(crate) fn entries_match(sort: FactSort, source: &Source, facts: &Facts, a: Entry, b: Entry) -> bool
     requires { facts.now ≡ facts_of source.now }
     ensures { result ≡ entries_match sort source.now a b }
 {
@@ -97,7 +98,7 @@ pub(crate) fn set_each(
 }
 
 /// Makes a list of so many links, in the room that is there.
-fn fill(links: &mut Vec<Link>, count: usize)
+pub(crate) fn fill(links: &mut Vec<Link>, count: usize)
     requires { count ≤ vec_capacity links.old }
     ensures { length links.new.items ≡ count }
 {
@@ -147,7 +148,34 @@ fn append_items(sort: FactSort, version: &Version, number: u32, entries: &mut Ve
     }
 }
 
-/// Lays links of a version, with a list as scratch.
+/// Puts the entries of all items of a version, under a number, into a list in place of what it had.
+/// It answers whether it did: the links of the version are wanted, and the list has room.
+pub(crate) fn list_items(
+    sort_of: FactSort,
+    archive: &Archive,
+    version: u32,
+    number: u32,
+    scratch: &mut Vec<Entry>,
+) -> bool
+    ensures listed { result ≡ true
+        → AreListed sort_of archive.now version number scratch.new.items }
+    ensures room { vec_capacity scratch.old ≤ vec_capacity scratch.new }
+{
+    match archive.version(version) {
+        Some(kept) => {
+            if !kept.wants_links(sort_of) || scratch.capacity() < item_count(sort_of, kept) {
+                return false;
+            }
+            scratch.truncate(0);
+            append_items(sort_of, kept, number, scratch);
+            true
+        }
+        None => false,
+    }
+}
+
+/// Lays links of a version, with a list as scratch: by a table, or by a sort where the places of
+/// the table are too crowded.
 fn lay_sort<O: EntryOrder>(
     sort_of: FactSort,
     archive: &mut Archive,
@@ -158,15 +186,14 @@ fn lay_sort<O: EntryOrder>(
     ensures archive { archive.new ≡ archive.old }
     ensures room { vec_capacity scratch.old ≤ vec_capacity scratch.new }
 {
-    match archive.version(version) {
-        Some(kept) => {
-            if !kept.wants_links(sort_of) || scratch.capacity() < item_count(sort_of, kept) {
-                return;
-            }
-            scratch.truncate(0);
-            append_items(sort_of, kept, version, scratch);
-        }
-        None => return,
+    if !list_items(sort_of, archive, version, 0, scratch) {
+        return;
+    }
+    if archive.lay_by_table(version, sort_of, scratch.as_mut_slice()) {
+        return;
+    }
+    if !list_items(sort_of, archive, version, version, scratch) {
+        return;
     }
     sort::<O>(archive, scratch);
     archive.lay_links(version, sort_of, scratch.as_slice());

@@ -36,6 +36,7 @@ mod run;
 mod shelf;
 mod sort;
 mod sorted;
+mod table;
 mod tags;
 mod totals;
 

@@ -2,15 +2,19 @@
 ghost use Rattle.std.specs.Prelude.{◌≡◌, ◌⊎◌, [], true, IfOk};
 ghost use Rattle.cb_scan.specs.Definitions.{facts_of};
 ghost use Rattle.cb_index.specs.Links.{links_for, links_of, nothing_laid, with_links};
-ghost use Rattle.cb_index.specs.steps.Laying.{AreSorted};
+ghost use Rattle.cb_index.specs.steps.Laying.{AreSorted, item_entries};
 
 use crate::entry::Entry;
 use crate::laid::lay_in;
 use crate::memory::OutOfMemory;
 use crate::rows::FactSort;
+use crate::table::lay_in_table;
 use cb_scan::{Facts, Source};
 use std::alloc::Global;
 use std::marker::Model;
+
+/// How many looks at other items of its place the table grants, for each item.
+const LOOKS_PER_ITEM: usize = 16;
 
 /// The link of an item: the next item of its key, or 0 where there is none, and whether no item
 /// before it has that key.
@@ -101,6 +105,34 @@ impl Links {
             FactSort::Uses => lay_in(sort, source, facts, entries, &mut self.uses),
             FactSort::Callees => lay_in(sort, source, facts, entries, &mut self.callees),
             FactSort::Callers => lay_in(sort, source, facts, entries, &mut self.callers),
+        }
+    }
+
+    /// Lays the links of a sort by a table of the entries of all items; false, and none are laid,
+    /// where the table is too crowded or where there is too little room.
+    pub(crate) fn lay_by_table(
+        &mut self,
+        sort: FactSort,
+        source: &Source,
+        facts: &Facts,
+        entries: &mut [Entry],
+    ) -> bool
+        requires facts { facts.now ≡ facts_of source.now }
+        requires entries { entries.old ≡ item_entries sort source.now 0 }
+        ensures { (self.new ≡ with_links sort [] self.old)
+            ⊎ (self.new ≡ with_links sort (links_of sort source.now) self.old) }
+    {
+        let looks = entries.len().saturating_mul(LOOKS_PER_ITEM);
+        match sort {
+            FactSort::Uses => {
+                lay_in_table(sort, source, facts, entries, &mut self.uses, looks)
+            }
+            FactSort::Callees => {
+                lay_in_table(sort, source, facts, entries, &mut self.callees, looks)
+            }
+            FactSort::Callers => {
+                lay_in_table(sort, source, facts, entries, &mut self.callers, looks)
+            }
         }
     }
 }

@@ -8,6 +8,7 @@ mod rows;
 mod shelf;
 mod shelves;
 mod sorts;
+mod table;
 
 use crate::archive::{Archive, Version};
 use crate::entry::{Entry, Shown};

@@ -22,6 +22,13 @@ abbrev pub item_entries : FactSort → List ℕ → ℕ → List Entry
 item_entries sort text version =
     map (item_entry sort text version) (range_with_len 0 (item_count sort text))
 
+-- these are the entries of all items of a version that an archive keeps, under a number
+pub record AreListed (sort : FactSort) (a : Archived) (version number : ℕ) (es : List Entry)
+    : Type 0 where
+  pub text : List ℕ
+  pub there : slice_get a.texts version ≡ Some text
+  pub entries : es ≡ item_entries sort text number
+
 -- these are the entries of all items of a text in the order of an archive that keeps it
 pub record AreSorted (sort : FactSort) (text : List ℕ) (entries : List Entry) : Type 0 where
   pub archive : Archived
