@@ -20,8 +20,9 @@ use Rattle.cb_index.specs.Archived.{Archived, name_of}
 use Rattle.cb_index.specs.Bytes.{bytes_at, cut}
 use Rattle.cb_index.specs.Entries.{Keyer, has_key}
 use Rattle.cb_index.specs.Files.{AreAscending, File, IsThere, files_of}
+use Rattle.cb_index.specs.Firsts.{firsts}
 use Rattle.cb_index.specs.Held.{AreRising, Lister, all_entries, entries_of, entry_of}
-use Rattle.cb_index.specs.Items.{firsts, item_count, item_key}
+use Rattle.cb_index.specs.Items.{item_count, item_key}
 use Rattle.cb_index.specs.Orders.{callee_key, callees_listed, caller_key, callers_listed, use_key, uses_listed}
 use Rattle.cb_index.specs.Rows.{Fact, call_in, calls_in, calls_of, file_calls_in, file_calls_of}
 use Rattle.cb_index.specs.Rows.{file_uses_of, use_in, uses_of}

@@ -11,8 +11,9 @@ use Rattle.std.specs.List.{flat_map, list_any, range_with_len}
 use Rattle.std.specs.Str.{bytes_eq}
 use Rattle.cb_scan.specs.Keys.{key_prefix}
 use Rattle.cb_index.specs.Entries.{Keyer}
+use Rattle.cb_index.specs.Firsts.{listed}
 use Rattle.cb_index.specs.Held.{entry_of}
-use Rattle.cb_index.specs.Items.{have_one_key, is_first, item_count, item_key, later, listed}
+use Rattle.cb_index.specs.Items.{have_one_key, is_first, item_count, item_key, later}
 use Rattle.cb_index.specs.declared.entry.Entry.{Entry}
 use Rattle.cb_index.specs.declared.entry.Shown.{Shown}
 use Rattle.cb_index.specs.declared.rows.FactSort.{FactSort}
