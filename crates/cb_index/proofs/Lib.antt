@@ -27,3 +27,4 @@ pub mod SortLemmas
 pub mod SortedLemmas
 pub mod SpreadLemmas
 pub mod TotalLemmas
+pub mod WalkLemmas

@@ -11,8 +11,8 @@ ghost use Rattle.std.specs.Prelude.{
   not,
   take,
   length,
+  IfSome,
   MatchOption,
-  ⊤,
   if◌then◌else◌,
 };
 ghost use Rattle.std.specs.List.{list_any};
@@ -159,43 +159,56 @@ fn is_new(walk: &Walk<'_>, line: u32, item: u32) -> bool
     }
 }
 
-/// Goes on behind an item on a line.
-fn pass<'a>(walk: &mut Walk<'a>, line: u32, item: u32, rest: Chain<'a>)
-    requires kept { IsWalk walk.old }
-    requires next { chain_left walk.old.rest ≡ item ∷ chain_left rest }
-    requires sort { rest.sort ≡ walk.old.rest.sort }
-    requires version { rest.version.now ≡ walk.old.rest.version.now }
-    requires line { line ≡ (fact_at walk.old.rest.sort [] walk.old.rest.version.now item).line }
-    ensures kept { IsWalk walk.new }
-    ensures seen { seen walk.new ≡ seen walk.old
-        ++ fact_at walk.old.rest.sort [] walk.old.rest.version.now item ∷ [] }
-    ensures rest { walk.new.rest ≡ rest.entry }
+/// The walk behind an item on a line.
+fn behind<'a>(walk: Walk<'a>, line: u32, item: u32, rest: Chain<'a>) -> Walk<'a>
+    requires kept { IsWalk walk }
+    requires next { chain_left walk.rest ≡ item ∷ chain_left rest }
+    requires sort { rest.sort ≡ walk.rest.sort }
+    requires version { rest.version.now ≡ walk.rest.version.now }
+    requires line { line ≡ (fact_at walk.rest.sort [] walk.rest.version.now item).line }
+    ensures kept { IsWalk result }
+    ensures seen { seen result ≡ seen walk.entry
+        ++ fact_at walk.entry.rest.sort [] walk.entry.rest.version.now item ∷ [] }
+    ensures rest { result.rest ≡ rest.entry }
 {
     if walk.line < line {
-        walk.line = line;
-        walk.group = item;
-        walk.before = walk.passed;
+        Walk {
+            first: walk.first,
+            line,
+            group: item,
+            before: walk.passed,
+            rest,
+            passed: walk.passed + 1,
+        }
+    } else {
+        Walk {
+            first: walk.first,
+            line: walk.line,
+            group: walk.group,
+            before: walk.before,
+            rest,
+            passed: walk.passed + 1,
+        }
     }
-    walk.rest = rest;
-    walk.passed += 1;
 }
 
-/// Passes the next item, and says whether its row is that of none before.
+/// Whether the row of the next item is that of none before, and the walk behind it.
 #[tactic(auto, unfolding(crate::specs::steps::Counting::new_count))]
-fn pass_next(walk: &mut Walk<'_>) -> Option<bool>
-    requires { IsWalk walk.old }
-    ensures rows { MatchOption result (new_left walk.old ≡ 0) (λ is_new. new_left walk.old
-        ≡ (if is_new then suc (new_left walk.new) else new_left walk.new)) }
-    ensures kept { IsWalk walk.new }
-    ensures fewer { MatchOption result ⊤
-        (λ _. length (chain_facts walk.new.rest) < length (chain_facts walk.old.rest)) }
+fn next_row<'a>(walk: Walk<'a>) -> Option<(bool, Walk<'a>)>
+    requires { IsWalk walk }
+    ensures rows { MatchOption result (new_left walk.entry ≡ 0) (λ r. new_left walk.entry
+        ≡ (if r.0 then suc (new_left r.1) else new_left r.1)) }
+    ensures kept { IfSome result (λ r. IsWalk r.1) }
+    ensures fewer { IfSome result
+        (λ r. length (chain_facts r.1.rest) < length (chain_facts walk.entry.rest)) }
 {
     let mut rest = walk.rest;
     let item = rest.take()?;
     let line = line_at(rest.sort(), rest.version(), item);
-    let is_new = is_new(walk, line, item);
-    pass(walk, line, item, rest);
-    Some(is_new)
+    Some((
+        is_new(&walk, line, item),
+        behind(walk, line, item, rest),
+    ))
 }
 
 /// How many rows an item and those behind it that have its key have together.
@@ -204,7 +217,8 @@ pub(crate) fn row_count(sort: FactSort, version: &Version, item: u32) -> u32
 {
     let mut walk = Walk::from(sort, version, item);
     let mut count = 0;
-    while let Some(is_new) = pass_next(&mut walk) {
+    while let Some((is_new, rest)) = next_row(walk) {
+        walk = rest;
         if is_new {
             count += 1;
         }

@@ -41,18 +41,15 @@ pub record IsGrouped (all group rest : List Fact) (before passed line : ℕ) : T
   pub so_far : AllByRecursion (λ (f : Fact). f.line ≤ line) (take passed all)
   pub few : length all < 2 ^ 32
 
--- all facts that are walked over
-abbrev pub all_facts : Walk → List Fact
-all_facts w = key_facts w.rest.sort w.rest.version.now w.first
-
 abbrev pub IsWalk : Walk → Type 0
 IsWalk w =
-    IsGrouped (all_facts w) (key_facts w.rest.sort w.rest.version.now w.group) (chain_facts w.rest)
+    IsGrouped (key_facts w.rest.sort w.rest.version.now w.first)
+    (key_facts w.rest.sort w.rest.version.now w.group) (chain_facts w.rest)
     w.before w.passed w.line
 
 -- the facts that were passed
 abbrev pub seen : Walk → List Fact
-seen w = take w.passed (all_facts w)
+seen w = take w.passed (key_facts w.rest.sort w.rest.version.now w.first)
 
 -- how many of the rest have a row that is that of none before
 abbrev pub new_left : Walk → ℕ

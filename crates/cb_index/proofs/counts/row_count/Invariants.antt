@@ -9,6 +9,6 @@ decreases-loop-is_new l = length (chain_facts l.walk.rest)
 abbrev pub invariant-loop-is_new : goal.invariant-loop-is_new
 invariant-loop-is_new l = record {
   kept : IsWalk l.walk;
-  counted : l.count + new_left l.walk ≡ row_count l.sort l.version l.item;
-  few : row_count l.sort l.version l.item < 2 ^ 32;
+  counted : l.count + new_left l.walk ≡ row_count l.fn.sort l.version l.item;
+  few : row_count l.fn.sort l.version l.item < 2 ^ 32;
 }

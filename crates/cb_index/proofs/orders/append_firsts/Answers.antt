@@ -33,12 +33,14 @@ loop-item-preserved c =
           name = shown.name;
           version = shown.version;
           number = k;
+          rows = w.row_count.result;
         } in
         let entry_is : entry ≡ entry_of shown (listed sort text k) = λ i. record {
           prefix = (w.key_prefix.ensures ∙ ap key_prefix w.item_key.ensures) i;
           name = shown.name;
           version = shown.version;
           number = k;
+          rows = w.row_count.ensures i;
         } in
         let items : new.items ≡ old.items ++ entry ∷ [] =
         ap (λ v. v.items) w.entries-is ∙ w.push.ensures.items
