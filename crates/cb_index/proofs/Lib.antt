@@ -1,5 +1,6 @@
 pub mod AscendLemmas
 pub mod BlockLemmas
+pub mod CountLemmas
 pub mod CoverLemmas
 pub mod EntryLemmas
 pub mod FactLemmas

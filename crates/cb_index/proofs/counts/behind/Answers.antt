@@ -1,4 +1,4 @@
-use Rattle.std.proofs.Common.{◌≡◌, ◌<◌, ◌≤◌, sym, arith, []}
+use Rattle.std.proofs.Common.{◌≤◌, arith, []}
 use Rattle.cb_index.specs.steps.Chains.{chain_left}
 use Rattle.cb_index.specs.steps.Found.{fact_at}
 use Rattle.cb_index.proofs.WalkLemmas.{kept_in_group, kept_on_line, seen_then}
