@@ -20,8 +20,9 @@ use Rattle.cb_index.specs.Archived.{Archived, name_of}
 use Rattle.cb_index.specs.Bytes.{bytes_at, cut}
 use Rattle.cb_index.specs.Entries.{Keyer, has_key}
 use Rattle.cb_index.specs.Files.{AreAscending, File, IsThere, files_of}
+use Rattle.cb_index.specs.Firsts.{firsts}
 use Rattle.cb_index.specs.Held.{AreRising, Lister, all_entries, entries_of, entry_of}
-use Rattle.cb_index.specs.Items.{firsts, item_count, item_key}
+use Rattle.cb_index.specs.Items.{item_count, item_key}
 use Rattle.cb_index.specs.Orders.{callee_key, callees_listed, caller_key, callers_listed, use_key, uses_listed}
 use Rattle.cb_index.specs.Rows.{Fact, call_in, calls_in, calls_of, file_calls_in, file_calls_of}
 use Rattle.cb_index.specs.Rows.{file_uses_of, use_in, uses_of}
@@ -120,7 +121,7 @@ module _ (a : Archived) (s : Shown) (text : List ℕ)
     use_rows (suc n) us (drop_next n (facts_of text).uses ∙ ap (drop 1) is) within.1,
   )
 
-  one_uses : facts_in Uses a (filter (has_key use_key a (key_prefix key) key)
+  pub one_uses : facts_in Uses a (filter (has_key use_key a (key_prefix key) key)
       (entries_of uses_listed a s)) ≡ file_uses_of key file
   one_uses =
       ap (λ o. facts_in Uses a (filter (has_key use_key a (key_prefix key) key) (map (entry_of s) (uses_listed o)))) there
@@ -178,7 +179,7 @@ module _ (a : Archived) (s : Shown) (text : List ℕ)
   caller_rows n (c ∷ cs) is within =
       (call_is n c cs is within.0, caller_rows (suc n) cs (next_call n c cs is) within.1)
 
-  one_callees : facts_in Callees a (filter (has_key callee_key a (key_prefix key) key)
+  pub one_callees : facts_in Callees a (filter (has_key callee_key a (key_prefix key) key)
       (entries_of callees_listed a s)) ≡ file_calls_of key file
   one_callees =
       ap (λ o. facts_in Callees a (filter (has_key callee_key a (key_prefix key) key) (map (entry_of s) (callees_listed o)))) there
@@ -186,7 +187,7 @@ module _ (a : Archived) (s : Shown) (text : List ℕ)
       (callee_rows 0 (facts_of text).calls refl (facts_lie text).calls)
       (callee_tests 0 (facts_of text).calls refl (facts_lie text).calls) callee_key (λ item. refl)
 
-  one_callers : facts_in Callers a (filter (has_key caller_key a (key_prefix key) key)
+  pub one_callers : facts_in Callers a (filter (has_key caller_key a (key_prefix key) key)
       (entries_of callers_listed a s)) ≡ file_calls_in key file
   one_callers =
       ap (λ o. facts_in Callers a (filter (has_key caller_key a (key_prefix key) key) (map (entry_of s) (callers_listed o)))) there

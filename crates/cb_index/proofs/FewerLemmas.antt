@@ -7,7 +7,8 @@ use Rattle.std.specs.Prelude.{Option}
 use Rattle.std.specs.List.{range_with_len}
 use Rattle.cb_scan.specs.Definitions.{facts_of}
 use Rattle.cb_index.specs.Files.{call_count, def_count, use_count}
-use Rattle.cb_index.specs.Items.{firsts, is_first, item_count, listed}
+use Rattle.cb_index.specs.Firsts.{firsts, listed}
+use Rattle.cb_index.specs.Items.{is_first, item_count}
 use Rattle.cb_index.specs.Orders.{callees_listed, callers_listed, def_prefix, defs_listed, numbered, tag_prefix, tags_listed, uses_listed}
 use Rattle.cb_index.specs.declared.rows.FactSort.{FactSort}
 use Rattle.cb_index.specs.declared.rows.FactSort.TheVariants.{Uses, Callees, Callers}

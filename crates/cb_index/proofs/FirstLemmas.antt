@@ -1,5 +1,5 @@
 -- The first items of keys, and those behind them.
-use Rattle.std.proofs.Common.{◌≡◌, ◌∙◌, ◌+◌, ◌-◌, ◌<◌, ◌≤◌, ℕ, zero, suc, Bool, true, false, not, List, [], ◌∷◌, ◌++◌, refl, sym, ap, length, map, filter, get_or, arith, append-nil, ◌⊎◌, inl, inr}
+use Rattle.std.proofs.Common.{◌≡◌, ◌∙◌, ◌+◌, ◌-◌, ◌<◌, ◌≤◌, ℕ, zero, suc, Bool, true, false, not, List, [], ◌∷◌, ◌++◌, refl, sym, ap, subst, length, map, filter, get_or, arith, append-nil, ◌⊎◌, inl, inr}
 use Rattle.std.proofs.lemmas.Bool.{cases_lt, false≢true, true≢false}
 use Rattle.std.proofs.lemmas.Bool.Decides.{Decides-eqb}
 use Rattle.std.proofs.lemmas.List.Elements.{All-from_get_or, filter_agree}
@@ -11,8 +11,9 @@ use Rattle.std.specs.List.{flat_map, list_any, range_with_len}
 use Rattle.std.specs.Str.{bytes_eq}
 use Rattle.cb_scan.specs.Keys.{key_prefix}
 use Rattle.cb_index.specs.Entries.{Keyer}
+use Rattle.cb_index.specs.Firsts.{listed}
 use Rattle.cb_index.specs.Held.{entry_of}
-use Rattle.cb_index.specs.Items.{have_one_key, is_first, item_count, item_key, later, listed}
+use Rattle.cb_index.specs.Items.{have_one_key, is_first, item_count, item_key, later}
 use Rattle.cb_index.specs.declared.entry.Entry.{Entry}
 use Rattle.cb_index.specs.declared.entry.Shown.{Shown}
 use Rattle.cb_index.specs.declared.rows.FactSort.{FactSort}
@@ -75,37 +76,62 @@ module _ (sort : FactSort) (text key : List ℕ) where
       ap (λ n. filter (have_one_key sort text item) (range_with_len (suc item) n)) rest
       ∙ filter_agree (have_one_key sort text item) has (same_test item is) (range_with_len (suc item) len)
 
-  -- ---- what the entries of the first items give
-  module _ {Y : Type 0} (fact : ℕ → Y) (give : Entry → List Y) (takes : Entry → Bool) (s : Shown)
-      (gives : (item : ℕ) → give (entry_of s (listed sort text item)) ≡ map fact (item ∷ later sort text item))
-      (tests : (item : ℕ) → takes (entry_of s (listed sort text item)) ≡ has item) where
+  module _ (takes : Entry → Bool) (s : Shown) (tests : (item : ℕ) → takes (entry_of s (listed sort text item)) ≡ has item) where
     abbrev entries_in : List ℕ → List Entry
     entries_in items = map (entry_of s) (map (listed sort text) (filter (is_first sort text) items))
 
     -- behind an item that has the key no first item has it
     none_behind : (before : ℕ) → has before ≡ true → (n len : ℕ) → before < n
-        → flat_map give (filter takes (entries_in (range_with_len n len))) ≡ []
+        → filter takes (entries_in (range_with_len n len)) ≡ []
     none_behind before had n zero low = refl
     none_behind before had n (suc len) low =
-        ap (λ l. flat_map give (filter takes (entries_in l))) (range_next n len)
+        ap (λ l. filter takes (entries_in l)) (range_next n len)
         ∙ step (is_first sort text n) (has n) refl refl (none_behind before had (suc n) len (omega (arith, low)))
       where
         step : (first here : Bool) → is_first sort text n ≡ first → has n ≡ here
-            → flat_map give (filter takes (entries_in (range_with_len (suc n) len))) ≡ []
-            → flat_map give (filter takes (map (entry_of s) (map (listed sort text)
+            → filter takes (entries_in (range_with_len (suc n) len)) ≡ []
+            → filter takes (map (entry_of s) (map (listed sort text)
             (cond first (n ∷ filter (is_first sort text) (range_with_len (suc n) len))
-            (filter (is_first sort text) (range_with_len (suc n) len)))))) ≡ []
+            (filter (is_first sort text) (range_with_len (suc n) len))))) ≡ []
         step true true is_one has_it rest = absurd (true≢false (sym is_one ∙ no_first before n low had has_it))
         step true false is_one has_not rest =
-            ap (λ b. flat_map give (cond b (entry_of s (listed sort text n) ∷ filter takes (entries_in (range_with_len (suc n) len)))
-            (filter takes (entries_in (range_with_len (suc n) len))))) (tests n ∙ has_not) ∙ rest
+            ap (λ b. cond b (entry_of s (listed sort text n) ∷ filter takes (entries_in (range_with_len (suc n) len)))
+            (filter takes (entries_in (range_with_len (suc n) len)))) (tests n ∙ has_not) ∙ rest
         step false here is_none has_or_not rest = rest
 
+    -- of the entries of first items there is at most one that has the key
+    module _ (P : List Entry → Type 0) (none : P []) (one : (item : ℕ) → P (entry_of s (listed sort text item) ∷ [])) where
+      pub at_most_one : (n len : ℕ) → P (filter takes (entries_in (range_with_len n len)))
+      at_most_one n zero = none
+      at_most_one n (suc len) =
+          subst P (sym (ap (λ l. filter takes (entries_in l)) (range_next n len)))
+          (step (is_first sort text n) (has n) refl (at_most_one (suc n) len))
+        where
+          step : (first here : Bool) → has n ≡ here → P (filter takes (entries_in (range_with_len (suc n) len)))
+              → P (filter takes (map (entry_of s) (map (listed sort text)
+              (cond first (n ∷ filter (is_first sort text) (range_with_len (suc n) len))
+              (filter (is_first sort text) (range_with_len (suc n) len))))))
+          step true true has_it rest =
+              subst P (sym (ap (λ b. cond b (entry_of s (listed sort text n) ∷ filter takes (entries_in (range_with_len (suc n) len)))
+              (filter takes (entries_in (range_with_len (suc n) len)))) (tests n ∙ has_it)
+              ∙ ap (λ es. entry_of s (listed sort text n) ∷ es) (none_behind n has_it (suc n) len (omega arith)))) (one n)
+          step true false has_not rest =
+              subst P (sym (ap (λ b. cond b (entry_of s (listed sort text n) ∷ filter takes (entries_in (range_with_len (suc n) len)))
+              (filter takes (entries_in (range_with_len (suc n) len)))) (tests n ∙ has_not))) rest
+          step false here has_or_not rest = rest
+
+  -- ---- what the entries of the first items give
+  module _ {Y : Type 0} (fact : ℕ → Y) (give : Entry → List Y) (takes : Entry → Bool) (s : Shown)
+      (gives : (item : ℕ) → give (entry_of s (listed sort text item)) ≡ map fact (item ∷ later sort text item))
+      (tests : (item : ℕ) → takes (entry_of s (listed sort text item)) ≡ has item) where
+    abbrev entries_of_firsts : List ℕ → List Entry
+    entries_of_firsts = entries_in takes s tests
+
     pub firsts_give : (n len : ℕ) → n + len ≡ item_count sort text → ((before : ℕ) → before < n → has before ≡ false)
-        → flat_map give (filter takes (entries_in (range_with_len n len))) ≡ map fact (filter has (range_with_len n len))
+        → flat_map give (filter takes (entries_of_firsts (range_with_len n len))) ≡ map fact (filter has (range_with_len n len))
     firsts_give n zero size none = refl
     firsts_give n (suc len) size none =
-        ap (λ l. flat_map give (filter takes (entries_in l))) (range_next n len)
+        ap (λ l. flat_map give (filter takes (entries_of_firsts l))) (range_next n len)
         ∙ step (is_first sort text n) (has n) refl refl
         (λ here. firsts_give (suc n) len (omega (arith, size)) (later_none here))
         ∙ sym (ap (λ l. map fact (filter has l)) (range_next n len))
@@ -114,7 +140,7 @@ module _ (sort : FactSort) (text key : List ℕ) where
         rest = range_with_len (suc n) len
 
         behind : List Entry
-        behind = filter takes (entries_in rest)
+        behind = filter takes (entries_of_firsts rest)
 
         later_none : has n ≡ false → (before : ℕ) → before < suc n → has before ≡ false
         later_none here before low = either (cases_lt before n)
@@ -130,7 +156,7 @@ module _ (sort : FactSort) (text key : List ℕ) where
             ≡ map fact (cond here (n ∷ filter has rest) (filter has rest))
         step true true is_one has_it later_give =
             ap (λ b. flat_map give (cond b (entry_of s (listed sort text n) ∷ behind) behind)) (tests n ∙ has_it)
-            ∙ (λ i. gives n i ++ none_behind n has_it (suc n) len (omega arith) i)
+            ∙ (λ i. gives n i ++ flat_map give (none_behind takes s tests n has_it (suc n) len (omega arith) i))
             ∙ append-nil (map fact (n ∷ later sort text n))
             ∙ ap (λ l. map fact (n ∷ l)) (later_is n len has_it (omega (arith, size)))
         step true false is_one has_not later_give =

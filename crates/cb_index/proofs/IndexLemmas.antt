@@ -282,7 +282,7 @@ module _ (a : Archived) where
       let files : slice_cmp nat_cmp (name_of a e.name) (name_of a f.name) ≡ Equal =
       subst (λ n. slice_cmp nat_cmp (name_of a e.name) (name_of a n) ≡ Equal) name (tied_itself nat_list_cmp_total (name_of a e.name)) in
       ap (λ o. not (is_gt o)) (sym (file_cmp a e f)
-      ∙ (λ i. ordering_then (files i) (ordering_then (names i) (ordering_then (versions i) (ordering_then (number i) Equal)))))
+      ∙ (λ i. ordering_then (files i) (ordering_then (names i) (ordering_then (versions i) (ordering_then (number i) (slice_cmp nat_cmp (e.rows ∷ []) (f.rows ∷ [])))))))
 
   by_name : (e f : Entry) → slice_cmp nat_cmp (name_of a e.name) (name_of a f.name) ≡ Less → ComesFirst a e f
   by_name e f less =

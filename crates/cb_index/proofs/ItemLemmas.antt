@@ -8,8 +8,9 @@ use Rattle.std.specs.Str.{bytes_eq}
 use Rattle.std.proofs.lemmas.List.FromFn.{get_or-map-range_with_len, length-map-range_with_len}
 use Rattle.std.specs.Cmp.Lexicographic.{same_text}
 use Rattle.cb_scan.specs.declared.facts.Def.{Def}
+use Rattle.cb_index.specs.Firsts.{listed}
 use Rattle.cb_index.specs.Held.{Listed}
-use Rattle.cb_index.specs.Items.{have_one_key, is_first, item_count, item_key, later, listed}
+use Rattle.cb_index.specs.Items.{have_one_key, is_first, item_count, item_key, later}
 use Rattle.cb_index.specs.Links.{AreLaid, AreLinks, Linked, first_or_none}
 use Rattle.cb_index.specs.Links.{link_of, links_for, links_of}
 use Rattle.cb_index.specs.Orders.{numbered}

@@ -1,5 +1,6 @@
 pub mod AscendLemmas
 pub mod BlockLemmas
+pub mod CountLemmas
 pub mod CoverLemmas
 pub mod EntryLemmas
 pub mod FactLemmas
@@ -28,3 +29,4 @@ pub mod SortedLemmas
 pub mod SpreadLemmas
 pub mod TableLemmas
 pub mod TotalLemmas
+pub mod WalkLemmas

@@ -4,8 +4,9 @@ use Rattle.std.specs.Prelude.{Option, cond}
 use Rattle.std.specs.List.{AllByRecursion, range_with_len}
 use Rattle.cb_scan.specs.Definitions.{facts_of}
 use Rattle.cb_scan.specs.Order.{AreOrdered}
+use Rattle.cb_index.specs.Firsts.{listed}
 use Rattle.cb_index.specs.Held.{AreRising, Listed}
-use Rattle.cb_index.specs.Items.{is_first, item_count, listed}
+use Rattle.cb_index.specs.Items.{is_first, item_count}
 use Rattle.cb_index.specs.Orders.{def_prefix, defs_listed, firsts_in, numbered, tag_prefix, tags_listed}
 use Rattle.cb_index.specs.declared.rows.FactSort.{FactSort}
 use Rattle.cb_index.proofs.RangeItems.{range_next}

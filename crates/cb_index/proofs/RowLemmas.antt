@@ -181,7 +181,7 @@ module _ (a : Archived) (s : Shown) (text : List ℕ) (there : slice_get a.texts
   file = record { name = name_of a s.name; bytes = text }
 
   abbrev entry : ℕ → ℕ → Entry
-  entry prefix n = record { prefix = prefix; name = s.name; version = s.version; number = n }
+  entry prefix n = record { prefix = prefix; name = s.name; version = s.version; number = n; rows = 1 }
 
   module _ (prefix n : ℕ) (d : Def) (rest : List Def) (is : drop n (facts_of text).defs ≡ d ∷ rest) (within : IsWithin text d.name) where
     found_def : slice_get (facts_of text).defs n ≡ Some d

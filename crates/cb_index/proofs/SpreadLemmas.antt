@@ -12,8 +12,9 @@ use Rattle.cb_scan.specs.Keys.{key_prefix}
 use Rattle.cb_index.specs.Archived.{Archived, name_of}
 use Rattle.cb_index.specs.Entries.{Keyer, has_key}
 use Rattle.cb_index.specs.Files.{IsThere, call_count, def_count, use_count}
+use Rattle.cb_index.specs.Firsts.{firsts}
 use Rattle.cb_index.specs.Held.{AreRising, Lister, all_entries, entries_of, entry_of}
-use Rattle.cb_index.specs.Items.{firsts, item_count, item_key}
+use Rattle.cb_index.specs.Items.{item_count, item_key}
 use Rattle.cb_index.specs.Orders.{callee_key, callees_listed, caller_key, callers_listed, def_key, def_prefix, defs_listed, numbered, tag_front, tag_key, tag_key_prefix, tag_prefix, tags_listed, use_key, uses_listed}
 use Rattle.cb_index.specs.RowOrders.{Counter, row_under, rows_with}
 use Rattle.cb_index.specs.Spreads.{SpreadsInto}
@@ -54,7 +55,7 @@ module _ (a : Archived) (s : Shown) (text : List ℕ) (there : slice_get a.texts
     def_rows n [] is = refl
     def_rows n (d ∷ ds) is =
         let has : ℕ → Bool = λ item. bytes_eq key (keyer (slice_get a.texts s.version) (name_of a s.name) item) in
-        let e : Entry = record { prefix = prefixed text d; name = s.name; version = s.version; number = n } in
+        let e : Entry = record { prefix = prefixed text d; name = s.name; version = s.version; number = n; rows = 1 } in
         let es = filter has_front (map (entry_of s) (numbered (suc n) (map (prefixed text) ds))) in
         ap (λ b. rows_in None a (cond b (e ∷ es) es))
         (key_decides front keyer a key e (entry_told front keyer prefixed told a s text there n d ds is))

@@ -19,7 +19,7 @@ key_of keyer a e = keyer (slice_get a.texts e.version) (name_of a e.name) e.numb
 
 -- the numbers of an entry; of one version its own numbers go by place
 abbrev pub numbers : Entry → List ℕ
-numbers e = e.name ∷ e.version ∷ e.number ∷ []
+numbers e = e.name ∷ e.version ∷ e.number ∷ e.rows ∷ []
 
 -- what orders entries of one key: the file name, then the numbers of the entry. A 0 ends the name,
 -- and no byte is 0 in it

@@ -19,10 +19,12 @@ pub record Indexed : Type 0 where
   pub room : ℕ
   pub version_room : ℕ
 
--- an item of a text that has an entry: its number, and the prefix of its key
+-- an item of a text that has an entry: its number, the prefix of its key, and how many rows the
+-- entry stands for
 pub record Listed : Type 0 where
   pub number : ℕ
   pub prefix : ℕ
+  pub rows : ℕ
 
 -- these items ascend by number
 abbrev pub AreRising : List Listed → Type 0
@@ -38,8 +40,13 @@ listed_of lister a version = lister (slice_get a.texts version)
 
 -- the entry of an item of a version under a name
 abbrev pub entry_of : Shown → Listed → Entry
-entry_of s item =
-    record { prefix = item.prefix; name = s.name; version = s.version; number = item.number }
+entry_of s item = record {
+  prefix = item.prefix;
+  name = s.name;
+  version = s.version;
+  number = item.number;
+  rows = item.rows;
+}
 
 -- the entries of a version under a name
 abbrev pub entries_of : Lister → Archived → Shown → List Entry

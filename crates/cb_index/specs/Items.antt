@@ -1,7 +1,6 @@
 -- The uses and calls of a text by their keys. An item is the number of a use among the uses, or of
 -- a call among the calls, from 0.
-use Rattle.std.specs.Prelude.{ℕ, suc, ◌-◌, Bool, not, List, Option, length, map, filter}
-use Rattle.std.specs.Prelude.{slice_get}
+use Rattle.std.specs.Prelude.{ℕ, suc, ◌-◌, Bool, not, List, Option, length, filter, slice_get}
 use Rattle.std.specs.List.{list_any, range_with_len}
 use Rattle.std.specs.Option.{option_map}
 use Rattle.std.specs.Str.{bytes_eq}
@@ -9,10 +8,8 @@ use Rattle.cb_scan.specs.declared.facts.Call.{Call}
 use Rattle.cb_scan.specs.declared.facts.Use.{Use}
 use Rattle.cb_scan.specs.declared.lex.piece.Span.{Span}
 use Rattle.cb_scan.specs.Definitions.{facts_of}
-use Rattle.cb_scan.specs.Keys.{key_prefix}
 use Rattle.cb_scan.specs.TextFacts.{TextFacts}
 use Rattle.cb_index.specs.Bytes.{bytes_at}
-use Rattle.cb_index.specs.Held.{Listed}
 use Rattle.cb_index.specs.declared.rows.FactSort.{FactSort}
 use Rattle.cb_index.specs.declared.rows.FactSort.TheVariants.{Uses, Callees, Callers}
 
@@ -54,13 +51,3 @@ unfoldable pub later : FactSort → List ℕ → ℕ → List ℕ
 later sort text item =
     filter (have_one_key sort text item)
     (range_with_len (suc item) (item_count sort text - suc item))
-
--- an item, with the prefix of its key
-abbrev pub listed : FactSort → List ℕ → ℕ → Listed
-listed sort text item = record { number = item; prefix = key_prefix (item_key sort text item) }
-
--- the first items of all keys
-abbrev pub firsts : FactSort → List ℕ → List Listed
-firsts sort text =
-    map (listed sort text)
-    (filter (is_first sort text) (range_with_len 0 (item_count sort text)))

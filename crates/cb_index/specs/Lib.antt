@@ -1,8 +1,10 @@
 pub mod Archived
 pub mod Blocks
 pub mod Bytes
+pub mod Counts
 pub mod Entries
 pub mod Files
+pub mod Firsts
 pub mod Held
 pub mod Includes
 pub mod Items

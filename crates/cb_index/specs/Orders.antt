@@ -10,8 +10,9 @@ use Rattle.cb_scan.specs.TextFacts.{TextFacts}
 use Rattle.cb_tags.specs.TagNames.{tag_name}
 use Rattle.cb_index.specs.Bytes.{bytes_at, cut}
 use Rattle.cb_index.specs.Entries.{Keyer}
+use Rattle.cb_index.specs.Firsts.{firsts}
 use Rattle.cb_index.specs.Held.{Listed, Lister}
-use Rattle.cb_index.specs.Items.{firsts, item_key}
+use Rattle.cb_index.specs.Items.{item_key}
 use Rattle.cb_index.specs.declared.rows.FactSort.{FactSort}
 use Rattle.cb_index.specs.declared.rows.FactSort.TheVariants.{Uses, Callees, Callers}
 
@@ -62,10 +63,11 @@ def_key (Some text) file number = bytes_at text (def_span (facts_of text) number
 unfoldable pub def_prefix : List ℕ → Def → ℕ
 def_prefix text d = key_prefix (cut text d.name)
 
--- items with these prefixes, numbered from a number on
+-- items with these prefixes, numbered from a number on; each has one row
 abbrev pub numbered : ℕ → List ℕ → List Listed
 numbered number [] = []
-numbered number (p ∷ ps) = record { number = number; prefix = p } ∷ numbered (suc number) ps
+numbered number (p ∷ ps) =
+    record { number = number; prefix = p; rows = 1 } ∷ numbered (suc number) ps
 
 abbrev pub defs_listed : Lister
 defs_listed None = []

@@ -1,5 +1,6 @@
 pub mod Bounds
 pub mod Chains
+pub mod Counting
 pub mod Found
 pub mod Includes
 pub mod Laying

@@ -1,16 +1,19 @@
 //! Uses and calls, one after another.
-ghost use Rattle.std.specs.Prelude.{◌≡◌, ◌++◌, ◌∷◌, [], MatchOption};
+ghost use Rattle.std.specs.Prelude.{◌≡◌, ◌++◌, ◌∷◌, [], MatchOption, sum_by};
 ghost use Rattle.std.specs.Iterator.{YieldsFirstBy, item_count};
 ghost use Rattle.cb_index.specs.steps.Found.{facts_at, facts_in};
 ghost use Rattle.cb_index.specs.steps.Left.{
   fact_of,
   fact_of_spot,
+  facts_counted,
   facts_left,
   group_left,
   group_left_if,
+  rows_counted,
   spots_left,
 };
 ghost use Rattle.cb_index.specs.steps.Runs.{run_entries};
+ghost use Rattle.cb_index.specs.declared.entry.Entry.{Entry};
 
 use crate::archive::{Archive, Version};
 use crate::entry::Entry;
@@ -98,7 +101,9 @@ fn first_spot<'a>(sort: FactSort, archive: &'a Archive, entries: Run<'a>) -> Opt
 
 impl<'a> FactRows<'a> {
     pub(crate) fn new(sort: FactSort, archive: &'a Archive, entries: Run<'a>) -> FactRows<'a>
-        ensures { facts_left result ≡ facts_in sort archive.now (run_entries entries.entry) }
+        ensures rows { facts_left result ≡ facts_in sort archive.now (run_entries entries.entry) }
+        ensures counted { facts_counted result
+            ≡ sum_by (λ (e : Entry). e.rows) (run_entries entries.entry) }
     {
         FactRows {
             spots: FactSpots {
@@ -112,9 +117,26 @@ impl<'a> FactRows<'a> {
 
     /// The same without their lines.
     pub fn spots(self) -> FactSpots<'a>
-        ensures { spots_left result ≡ facts_left self.entry }
+        ensures rows { spots_left result ≡ facts_left self.entry }
+        ensures counted { rows_counted result ≡ facts_counted self.entry }
     {
         self.spots
+    }
+}
+
+impl<'a> FactSpots<'a> {
+    /// How many rows all of these have, of equal ones in one file one. It asks the entries alone,
+    /// so it is for an iterator that has given nothing yet.
+    pub fn row_count(&self) -> u128
+        ensures { result ≡ rows_counted self.now }
+    {
+        let mut count = 0;
+        let mut left = self.entries;
+        while let Some((entry, rest)) = left.split_first() {
+            left = rest;
+            count += entry.rows as u128;
+        }
+        count
     }
 }
 

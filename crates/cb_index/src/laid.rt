@@ -143,6 +143,7 @@ fn append_items(sort: FactSort, version: &Version, number: u32, entries: &mut Ve
             name: 0,
             version: number,
             number: item as u32,
+            rows: 0,
         };
         let _ = entries.push(entry);
     }

@@ -12,6 +12,7 @@ mod block;
 mod blocks;
 mod bytes;
 mod counted;
+mod counts;
 mod entries;
 mod entry;
 mod facts;

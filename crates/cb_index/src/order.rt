@@ -61,10 +61,10 @@ pub trait EntryOrder {
     ghost keyed: { IfSome sort (λ s. keyer ≡ item_keyer s) };
 }
 
-fn numbers(entry: Entry) -> [u32; 3]
+fn numbers(entry: Entry) -> [u32; 4]
     ensures { result ≡ numbers entry }
 {
-    [entry.name, entry.version, entry.number]
+    [entry.name, entry.version, entry.number, entry.rows]
 }
 
 /// The order of two entries with one key.

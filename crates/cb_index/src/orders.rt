@@ -17,8 +17,8 @@ ghost use Rattle.cb_scan.specs.Definitions.{facts_of};
 ghost use Rattle.std.specs.Cmp.Lexicographic.{slice_cmp};
 ghost use Rattle.std.specs.Ordering.{nat_cmp};
 ghost use Rattle.cb_index.specs.Entries.{key_of};
+ghost use Rattle.cb_index.specs.Firsts.{firsts};
 ghost use Rattle.cb_index.specs.Held.{entry_of};
-ghost use Rattle.cb_index.specs.Items.{firsts};
 ghost use Rattle.cb_tags.specs.TagNames.{tag_name};
 ghost use Rattle.cb_index.specs.Orders.{
   def_key,
@@ -32,6 +32,7 @@ ghost use Rattle.cb_index.specs.Orders.{
 
 use crate::archive::{Archive, Version};
 use crate::bytes::{bytes_at, cut};
+use crate::counts::row_count;
 use crate::entry::{Entry, Shown};
 use crate::items::{is_first, item_count, item_key};
 use crate::order::EntryOrder;
@@ -79,6 +80,7 @@ fn append_firsts(sort: FactSort, version: &Version, shown: Shown, entries: &mut 
                 name: shown.name,
                 version: shown.version,
                 number: item as u32,
+                rows: row_count(sort, version, item as u32),
             };
             let _ = entries.push(entry);
         }
@@ -348,6 +350,7 @@ fn append_defs<O: DefOrder>(text: &[u8], defs: &[Def], shown: Shown, entries: &m
             name: shown.name,
             version: shown.version,
             number: i as u32,
+            rows: 1,
         };
         let _ = entries.push(entry);
     }

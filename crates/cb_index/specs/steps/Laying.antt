@@ -2,20 +2,25 @@
 use Rattle.std.specs.Prelude.{ℕ, ◌≡◌, ◌&&◌, Bool, true, false, nat_eq, if◌then◌else◌, List, [], ◌∷◌}
 use Rattle.std.specs.Prelude.{Option, Some, None, map, slice_get, slice_set}
 use Rattle.std.specs.List.{range_with_len}
+use Rattle.cb_scan.specs.Keys.{key_prefix}
 use Rattle.cb_scan.specs.Order.{in_order}
 use Rattle.cb_index.specs.Archived.{Archived}
 use Rattle.cb_index.specs.Entries.{sort_key}
-use Rattle.cb_index.specs.Held.{entry_of}
-use Rattle.cb_index.specs.Items.{have_one_key, item_count, listed}
+use Rattle.cb_index.specs.Items.{have_one_key, item_count, item_key}
 use Rattle.cb_index.specs.Orders.{item_keyer}
 use Rattle.cb_index.specs.declared.entry.Entry.{Entry}
 use Rattle.cb_index.specs.declared.links.Link.{Link}
 use Rattle.cb_index.specs.declared.rows.FactSort.{FactSort}
 
--- the entry of an item of a version, under the name 0
+-- the entry of an item of a version, under the name 0; of how many rows it stands for is nothing said
 abbrev pub item_entry : FactSort → List ℕ → ℕ → ℕ → Entry
-item_entry sort text version item =
-    entry_of (record { name = 0; version = version }) (listed sort text item)
+item_entry sort text version item = record {
+  prefix = key_prefix (item_key sort text item);
+  name = 0;
+  version = version;
+  number = item;
+  rows = 0;
+}
 
 -- those of all items
 abbrev pub item_entries : FactSort → List ℕ → ℕ → List Entry

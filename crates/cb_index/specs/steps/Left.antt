@@ -1,5 +1,5 @@
 -- What iterators still give.
-use Rattle.std.specs.Prelude.{ℕ, List, [], ◌∷◌, ◌++◌, Option, Some, None, map, slice_get}
+use Rattle.std.specs.Prelude.{ℕ, List, [], ◌∷◌, ◌++◌, Option, Some, None, map, slice_get, sum_by}
 use Rattle.std.specs.Borrow.{Bor}
 use Rattle.std.specs.Option.{option_map}
 use Rattle.cb_scan.specs.Definitions.{facts_of}
@@ -13,6 +13,7 @@ use Rattle.cb_index.specs.steps.Chains.{chain_left}
 use Rattle.cb_index.specs.steps.Found.{fact_at, facts_in, tag_at}
 use Rattle.cb_index.specs.steps.Runs.{run_entries}
 use Rattle.cb_index.specs.declared.entries.Entries.{Entries}
+use Rattle.cb_index.specs.declared.entry.Entry.{Entry}
 use Rattle.cb_index.specs.declared.entry.Shown.{Shown}
 use Rattle.cb_index.specs.declared.rows.FactRow.{FactRow}
 use Rattle.cb_index.specs.declared.rows.FactSpot.{FactSpot}
@@ -56,6 +57,13 @@ spots_left r = group_left_if r.group ++ facts_in r.sort r.archive.now (run_entri
 
 abbrev pub facts_left : FactRows → List Fact
 facts_left r = spots_left r.spots
+
+-- how many rows the entries that are still to come stand for; what has begun is not counted
+abbrev pub rows_counted : FactSpots → ℕ
+rows_counted r = sum_by (λ (e : Entry). e.rows) (run_entries r.entries)
+
+abbrev pub facts_counted : FactRows → ℕ
+facts_counted r = rows_counted r.spots
 
 -- a file that is lent
 abbrev pub shown_file : Bor (List ℕ) × Bor (List ℕ) × Bor TextFacts → ShownFile

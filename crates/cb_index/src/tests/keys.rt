@@ -62,6 +62,7 @@ fn has_call_of_add(
         name: 0,
         version: 0,
         number: 0,
+        rows: 1,
     }];
     assert_eq!(rt; found.as_slice(), wanted.as_slice());
     Ok(())

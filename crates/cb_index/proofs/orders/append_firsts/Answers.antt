@@ -3,8 +3,9 @@ use Rattle.std.proofs.Common.{map, vec_capacity, vec_len, arith}
 use Rattle.std.specs.Prelude.{cond}
 use Rattle.std.proofs.lemmas.List.{append_assoc}
 use Rattle.cb_scan.specs.Keys.{key_prefix}
+use Rattle.cb_index.specs.Firsts.{listed}
 use Rattle.cb_index.specs.Held.{entry_of}
-use Rattle.cb_index.specs.Items.{is_first, item_count, listed}
+use Rattle.cb_index.specs.Items.{is_first, item_count}
 use Rattle.cb_index.specs.declared.entry.Entry.{Entry}
 use Rattle.cb_index.proofs.ItemLemmas.{firsts_found, firsts_from, firsts_passed}
 use Rattle.cb_index.proofs.orders.append_firsts.Goals as goal
@@ -32,12 +33,14 @@ loop-item-preserved c =
           name = shown.name;
           version = shown.version;
           number = k;
+          rows = w.row_count.result;
         } in
         let entry_is : entry ≡ entry_of shown (listed sort text k) = λ i. record {
           prefix = (w.key_prefix.ensures ∙ ap key_prefix w.item_key.ensures) i;
           name = shown.name;
           version = shown.version;
           number = k;
+          rows = w.row_count.ensures i;
         } in
         let items : new.items ≡ old.items ++ entry ∷ [] =
         ap (λ v. v.items) w.entries-is ∙ w.push.ensures.items

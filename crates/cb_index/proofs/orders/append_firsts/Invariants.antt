@@ -1,6 +1,6 @@
 use Rattle.std.proofs.Common.{◌≡◌, ◌≤◌, ◌+◌, ◌++◌, length, map, vec_len, vec_capacity}
 use Rattle.cb_index.specs.Held.{entry_of}
-use Rattle.cb_index.specs.Items.{firsts}
+use Rattle.cb_index.specs.Firsts.{firsts}
 use Rattle.cb_index.proofs.ItemLemmas.{firsts_from}
 use Rattle.cb_index.proofs.orders.append_firsts.Given as goal
 

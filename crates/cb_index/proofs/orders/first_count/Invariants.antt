@@ -1,5 +1,5 @@
 use Rattle.std.proofs.Common.{◌≡◌, ◌≤◌, ◌+◌, length}
-use Rattle.cb_index.specs.Items.{firsts}
+use Rattle.cb_index.specs.Firsts.{firsts}
 use Rattle.cb_index.proofs.ItemLemmas.{firsts_from}
 use Rattle.cb_index.proofs.orders.first_count.Given as goal
 
