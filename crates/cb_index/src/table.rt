@@ -116,6 +116,7 @@ fn note(entries: &mut [Entry], item: usize, place: usize)
         name: entries[place].version,
         version: own.version,
         number: own.number,
+        rows: own.rows,
     };
     let head = entries[place];
     entries[place] = Entry {
@@ -123,6 +124,7 @@ fn note(entries: &mut [Entry], item: usize, place: usize)
         name: head.name,
         version: own.number,
         number: head.number,
+        rows: head.rows,
     };
 }
 
