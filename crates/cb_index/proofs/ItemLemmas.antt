@@ -65,27 +65,27 @@ stands_first p k (suc n) j rest is =
     (elim (p k) as (λ b. p k ≡ b → cond b (k ∷ after) after ≡ j ∷ rest
     → StandsFirst p k (suc n) j rest) [
       | true ↦ λ passes now.
-        let here : k ≡ j = cc in
-        let left : after ≡ rest = cc in
-        let count : n ≡ k + suc n - suc j = omega arith in
-        let next : k + 1 ≡ suc j = omega arith in
-        record {
-          from = omega arith;
-          within = omega arith;
-          passes = ap p (sym here) ∙ passes;
-          behind = sym left ∙ (λ i. filter p (range_with_len (next i) (count i)));
-        }
+          let here : k ≡ j = cc in
+          let left : after ≡ rest = cc in
+          let count : n ≡ k + suc n - suc j = omega arith in
+          let next : k + 1 ≡ suc j = omega arith in
+          record {
+            from = omega arith;
+            within = omega arith;
+            passes = ap p (sym here) ∙ passes;
+            behind = sym left ∙ (λ i. filter p (range_with_len (next i) (count i)));
+          }
       | false ↦ λ fails now.
-        let deeper = stands_first p (k + 1) n j rest now in
-        let low = deeper.from in
-        let high = deeper.within in
-        let count : k + 1 + n - suc j ≡ k + suc n - suc j = omega arith in
-        record {
-          from = omega arith;
-          within = omega arith;
-          passes = deeper.passes;
-          behind = deeper.behind ∙ ap (λ m. filter p (range_with_len (suc j) m)) count;
-        }
+          let deeper = stands_first p (k + 1) n j rest now in
+          let low = deeper.from in
+          let high = deeper.within in
+          let count : k + 1 + n - suc j ≡ k + suc n - suc j = omega arith in
+          record {
+            from = omega arith;
+            within = omega arith;
+            passes = deeper.passes;
+            behind = deeper.behind ∙ ap (λ m. filter p (range_with_len (suc j) m)) count;
+          }
     ]) refl is
 
 module _ (sort : FactSort) (text : List ℕ) where

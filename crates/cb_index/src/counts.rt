@@ -205,10 +205,7 @@ fn next_row<'a>(walk: Walk<'a>) -> Option<(bool, Walk<'a>)>
     let mut rest = walk.rest;
     let item = rest.take()?;
     let line = line_at(rest.sort(), rest.version(), item);
-    Some((
-        is_new(&walk, line, item),
-        behind(walk, line, item, rest),
-    ))
+    Some((is_new(&walk, line, item), behind(walk, line, item, rest)))
 }
 
 /// How many rows an item and those behind it that have its key have together.

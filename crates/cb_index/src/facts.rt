@@ -60,12 +60,7 @@ fn take_spot<'a>(group: &mut Group<'a>) -> Option<FactSpot<'a>>
         (λ s. group_left group.old ≡ fact_of_spot s ∷ group_left group.new) }
 {
     let item = group.items.take()?;
-    Some(fact_at(
-        group.items.sort(),
-        group.file,
-        group.items.version(),
-        item,
-    ))
+    Some(fact_at(group.items.sort(), group.file, group.items.version(), item))
 }
 
 /// A fact, what is left of its group, and the entries after that.

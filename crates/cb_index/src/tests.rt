@@ -1,4 +1,5 @@
 //! Tests on short texts, with the facts worked out by hand.
+mod counts;
 mod keys;
 mod links;
 mod many;
@@ -12,10 +13,10 @@ mod table;
 
 use crate::archive::{Archive, Version};
 use crate::entry::{Entry, Shown};
+use crate::links::Links;
 use crate::order::EntryOrder;
 use crate::run::Run;
 use crate::sorted::Sorted;
-use crate::links::Links;
 use cb_scan::{Meter, Source, scan};
 use std::alloc::Global;
 use std::test::Fail;

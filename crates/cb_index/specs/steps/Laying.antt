@@ -12,7 +12,7 @@ use Rattle.cb_index.specs.declared.entry.Entry.{Entry}
 use Rattle.cb_index.specs.declared.links.Link.{Link}
 use Rattle.cb_index.specs.declared.rows.FactSort.{FactSort}
 
--- the entry of an item of a version, under the name 0; of how many rows it stands for is nothing said
+-- the entry of an item of a version, under the name 0; its rows are not counted
 abbrev pub item_entry : FactSort → List ℕ → ℕ → ℕ → Entry
 item_entry sort text version item = record {
   prefix = key_prefix (item_key sort text item);

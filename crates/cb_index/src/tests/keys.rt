@@ -49,7 +49,7 @@ fn has_entries<O: EntryOrder>(
     has_counts(rt, alloc, archive, &index, len, counts)
 }
 
-/// The first call of `add` is the first call of its file.
+/// The first call of `add` is the first call of its file, and stands for two rows.
 fn has_call_of_add(
     rt: &impl Abort,
     alloc: Global,
@@ -62,7 +62,7 @@ fn has_call_of_add(
         name: 0,
         version: 0,
         number: 0,
-        rows: 1,
+        rows: 2,
     }];
     assert_eq!(rt; found.as_slice(), wanted.as_slice());
     Ok(())

@@ -12,11 +12,11 @@ loop-item-preserved c =
     let below : k < item_count sort text = omega arith in
     elim c.if-is_first.branch [
       | then-is_first w ↦
-        let first : is_first sort text k ≡ true = sym c.is_first.ensures ∙ w.if-is_first.true in
-        let more = ap length (firsts_found sort text k below first) in
-        record { counted = omega (arith, more); few = omega arith }
+          let first : is_first sort text k ≡ true = sym c.is_first.ensures ∙ w.if-is_first.true in
+          let more = ap length (firsts_found sort text k below first) in
+          record { counted = omega (arith, more); few = omega arith }
       | else-is_first w ↦
-        let later : is_first sort text k ≡ false = sym c.is_first.ensures ∙ w.if-is_first.false in
-        let same = ap length (firsts_passed sort text k below later) in
-        record { counted = omega (arith, same); few = omega arith }
+          let later : is_first sort text k ≡ false = sym c.is_first.ensures ∙ w.if-is_first.false in
+          let same = ap length (firsts_passed sort text k below later) in
+          record { counted = omega (arith, same); few = omega arith }
     ]

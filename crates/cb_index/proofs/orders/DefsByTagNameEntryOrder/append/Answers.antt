@@ -10,7 +10,7 @@ pub append_defs-requires-clause-room : goal.append_defs-requires-clause-room
 append_defs-requires-clause-room c =
     let text = c.in-Some.kept.now in
     let count : length c.defs_of.result.now
-        ≡ length (tags_listed (slice_get c.args.archive.now.texts c.args.shown.version)) =
+    ≡ length (tags_listed (slice_get c.args.archive.now.texts c.args.shown.version)) =
     ap length c.defs_of.ensures.value
     ∙ sym (length_numbered (tag_prefix text) 0 (facts_of text).defs)
     ∙ ap (λ t. length (tags_listed t)) c.in-Some.ensures in
