@@ -188,8 +188,7 @@ module _ (sort : FactSort) (text : List ℕ) where
       (own : Entry) (own_is : IsNoted sort text (suc i) i own) (first : ℕ)
       (first_is : first ≡ first_in sort text (place i) (suc i)) where
     abbrev chained : Entry
-    chained =
-        record { prefix = own.prefix; name = first; version = own.version; number = own.number }
+    chained = record own { name = first }
 
     pub half_noted : (k : ℕ) (d : Entry) → k < n
         → IsHalf sort text i k (get_or (set es i chained) k d)
@@ -219,8 +218,7 @@ module _ (sort : FactSort) (text : List ℕ) where
     module _ (p : ℕ) (p_is : p ≡ place i) (p_below : p < n) (head : Entry)
         (head_is : IsHalf sort text i p head) where
       abbrev headed : Entry
-      headed =
-          record { prefix = head.prefix; name = head.name; version = own.number; number = head.number }
+      headed = record head { version = own.number }
 
       next : i + 1 ≡ suc i
       next = omega arith

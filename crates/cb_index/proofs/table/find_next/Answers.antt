@@ -11,7 +11,7 @@ loop-at-init c =
 
 pub returns-then-entries_match : goal.returns-then-entries_match
 returns-then-entries_match c =
-    let d : Entry = record { prefix = 0; name = 0; version = 0; number = 0 } in
+    let d : Entry = record { prefix = 0; name = 0; version = 0; number = 0; rows = 0 } in
     let sort = c.args.sort in
     let text = c.args.source.now in
     let i = c.args.item in
@@ -27,7 +27,7 @@ returns-then-entries_match c =
 
 pub loop-at-preserved : goal.loop-at-preserved
 loop-at-preserved c =
-    let d : Entry = record { prefix = 0; name = 0; version = 0; number = 0 } in
+    let d : Entry = record { prefix = 0; name = 0; version = 0; number = 0; rows = 0 } in
     let sort = c.args.sort in
     let text = c.args.source.now in
     let i = c.args.item in

@@ -7,7 +7,7 @@ use Rattle.cb_index.proofs.table.note.Goals as goal
 
 pub returns : goal.returns
 returns c sort text below place noted =
-    let d : Entry = record { prefix = 0; name = 0; version = 0; number = 0 } in
+    let d : Entry = record { prefix = 0; name = 0; version = 0; number = 0; rows = 0 } in
     let i = c.args.item in
     let p = c.args.place in
     let es = c.args.entries.now in
