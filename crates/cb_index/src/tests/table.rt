@@ -1,41 +1,17 @@
 //! Links that are laid by a table.
 use super::{keep, three_files};
 use crate::archive::{Archive, Version};
+use crate::entry::Shown;
 use crate::items::{item_count, item_key};
 use crate::laid::list_items;
 use crate::links::Link;
 use crate::rows::FactSort;
 use crate::table::lay_in_table;
 use std::alloc::Global;
-use std::process::Abort;
 use std::test::Fail;
 
 /// Looks at other items that are enough for each text here.
 const ENOUGH: usize = 100_000;
-
-/// The links of the uses of a version, laid by a table with so many looks; none where it gives up.
-fn laid_with(
-    alloc: Global,
-    archive: &Archive,
-    version: u32,
-    looks: usize,
-) -> Result<Option<Vec<Link>>, Fail> {
-    let mut entries = Vec::with_capacity(alloc, 1000)?;
-    let mut links = Vec::with_capacity(alloc, 1000)?;
-    if !list_items(FactSort::Uses, archive, version, 0, &mut entries) {
-        return Err(Fail::from("no room"));
-    }
-    let kept = match archive.version(version) {
-        Some(kept) => kept,
-        None => return Err(Fail::from("no version")),
-    };
-    let items = entries.as_mut_slice();
-    if lay_in_table(FactSort::Uses, kept.source(), kept.facts(), items, &mut links, looks) {
-        Ok(Some(links))
-    } else {
-        Ok(None)
-    }
-}
 
 /// The link of a use, by a search.
 fn searched(version: &Version, item: u32) -> Link {
@@ -59,19 +35,31 @@ fn searched(version: &Version, item: u32) -> Link {
 
 /// Whether these are the links of all uses of a version.
 fn are_all(version: &Version, links: &[Link]) -> bool {
-    for (i, link) in links.iter().enumerate() {
-        if *link != searched(version, i as u32) {
-            return false;
+    let count = item_count(FactSort::Uses, version);
+    for item in 0..count {
+        match links.get(item) {
+            Some(link) if *link == searched(version, item as u32) => {}
+            _ => return false,
         }
     }
-    links.len() == item_count(FactSort::Uses, version)
+    links.len() == count
 }
 
-/// Whether a table with enough looks lays the links of all uses of a version.
-fn lays_all(alloc: Global, archive: &Archive, version: u32) -> Result<bool, Fail> {
-    match (laid_with(alloc, archive, version, ENOUGH)?, archive.version(version)) {
-        (Some(links), Some(kept)) => Ok(are_all(kept, links.as_slice())),
-        _ => Ok(false),
+/// Whether a table with so many looks lays the links of all uses of a version.
+fn lays_all(alloc: Global, archive: &Archive, version: u32, looks: usize) -> Result<bool, Fail> {
+    let mut entries = Vec::with_capacity(alloc, 1000)?;
+    let mut links = Vec::with_capacity(alloc, 1000)?;
+    if !list_items(FactSort::Uses, archive, version, 0, &mut entries) {
+        return Ok(false);
+    }
+    match archive.version(version) {
+        Some(kept) => {
+            let items = entries.as_mut_slice();
+            let (source, facts) = (kept.source(), kept.facts());
+            let laid = lay_in_table(FactSort::Uses, source, facts, items, &mut links, looks);
+            Ok(laid && are_all(kept, links.as_slice()))
+        }
+        None => Ok(false),
     }
 }
 
@@ -88,27 +76,40 @@ fn many_uses(alloc: Global) -> Result<Vec<u8>, Fail> {
     Ok(text)
 }
 
+/// A file of many uses in an archive.
+fn many_kept(alloc: Global) -> Result<(Archive, Shown), Fail> {
+    let text = many_uses(alloc)?;
+    let mut archive = Archive::new(alloc);
+    let shown = keep(alloc, &mut archive, b"many.c", text.as_slice())?;
+    Ok((archive, shown))
+}
+
+/// Whether a table lays all links of the first of three files.
+fn lays_first(alloc: Global) -> Result<bool, Fail> {
+    let (archive, shown) = three_files(alloc)?;
+    lays_all(alloc, &archive, shown[0].version, ENOUGH)
+}
+
+/// Whether a table with so many looks lays all links of many uses.
+fn lays_many(alloc: Global, looks: usize) -> Result<bool, Fail> {
+    let (archive, shown) = many_kept(alloc)?;
+    lays_all(alloc, &archive, shown.version, looks)
+}
+
 #[test]
 fn table_lays_all_links(rt: HostRuntime) -> Result<(), Fail> {
-    let (archive, shown) = three_files(rt.alloc())?;
-    assert!(&rt; lays_all(rt.alloc(), &archive, shown[0].version)?);
+    assert!(&rt; lays_first(rt.alloc())?);
     Ok(())
 }
 
 #[test]
 fn table_lays_links_of_many_uses(rt: HostRuntime) -> Result<(), Fail> {
-    let mut archive = Archive::new(rt.alloc());
-    let text = many_uses(rt.alloc())?;
-    let shown = keep(rt.alloc(), &mut archive, b"many.c", text.as_slice())?;
-    assert!(&rt; lays_all(rt.alloc(), &archive, shown.version)?);
+    assert!(&rt; lays_many(rt.alloc(), ENOUGH)?);
     Ok(())
 }
 
 #[test]
 fn table_gives_up(rt: HostRuntime) -> Result<(), Fail> {
-    let mut archive = Archive::new(rt.alloc());
-    let text = many_uses(rt.alloc())?;
-    let shown = keep(rt.alloc(), &mut archive, b"many.c", text.as_slice())?;
-    assert!(&rt; laid_with(rt.alloc(), &archive, shown.version, 20)?.is_none());
+    assert!(&rt; !lays_many(rt.alloc(), 20)?);
     Ok(())
 }
