@@ -124,17 +124,17 @@ module _ (sort : FactSort) (text : List ℕ) where
       (elim (nat_eq (place k) (place i)) as (λ b. nat_eq (place k) (place i) ≡ b
       → Reached sort text i (first_in sort text (place i) k)) [
         | true ↦ λ is.
-          let same : place k ≡ place i = (Decides-eqb (place k) (place i)).0 is in
-          let at : first_in sort text (place i) k ≡ k =
-          ap (λ p. first_in sort text p k) (sym same) ∙ here k below in
-          subst (Reached sort text i) (sym at) (record {
-            none = λ zero. absurd (omega (arith, zero, low));
-            some = λ some. record { behind = low; within = below; place = same; left = left };
-          })
+            let same : place k ≡ place i = (Decides-eqb (place k) (place i)).0 is in
+            let at : first_in sort text (place i) k ≡ k =
+            ap (λ p. first_in sort text p k) (sym same) ∙ here k below in
+            subst (Reached sort text i) (sym at) (record {
+              none = λ zero. absurd (omega (arith, zero, low));
+              some = λ some. record { behind = low; within = below; place = same; left = left };
+            })
         | false ↦ λ isnt.
-          subst (Reached sort text i) (sym (passed (place i) k below isnt))
-          (reach i len (k + 1) (omega (arith, size)) (omega (arith, low))
-          (left ∙ ap first_or_none (sym (later_passed sort text i k below (elsewhere i k isnt)))))
+            subst (Reached sort text i) (sym (passed (place i) k below isnt))
+            (reach i len (k + 1) (omega (arith, size)) (omega (arith, low))
+            (left ∙ ap first_or_none (sym (later_passed sort text i k below (elsewhere i k isnt)))))
       ]) refl
 
   reach_at : (i k : ℕ) → k ≤ n → i < k
@@ -173,15 +173,15 @@ module _ (sort : FactSort) (text : List ℕ) where
   none_noted es is = record {
     count = ap length is ∙ length-map-range_with_len (item_entry sort text 0) 0 n;
     each = λ item d below.
-      let at : get_or es item d ≡ item_entry sort text 0 item =
-      ap (λ xs. get_or xs item d) is
-      ∙ get_or-map-range_with_len (item_entry sort text 0) 0 n item item d below (omega arith) in
-      subst (IsNoted sort text n item) (sym at) (record {
-        prefix = refl;
-        number = refl;
-        head = sym (past item n (omega arith));
-        behind = λ high. absurd (omega (arith, high, below));
-      });
+        let at : get_or es item d ≡ item_entry sort text 0 item =
+        ap (λ xs. get_or xs item d) is
+        ∙ get_or-map-range_with_len (item_entry sort text 0) 0 n item item d below (omega arith) in
+        subst (IsNoted sort text n item) (sym at) (record {
+          prefix = refl;
+          number = refl;
+          head = sym (past item n (omega arith));
+          behind = λ high. absurd (omega (arith, high, below));
+        });
   }
 
   module _ (i : ℕ) (below : i < n) (es : List Entry) (noted : AreNoted sort text (suc i) es)
@@ -272,11 +272,11 @@ module _ (sort : FactSort) (text : List ℕ) where
       (elim (have i k) as (λ b. have i k ≡ b
       → (first_or_none (later_from sort text i k) ≡ j) ⊎ (is_first_from sort text j k ≡ false)) [
         | true ↦ λ other.
-          inr (sym (first_found sort text j k high (same_key i j is k ∙ other)))
+            inr (sym (first_found sort text j k high (same_key i j is k ∙ other)))
         | false ↦ λ other.
-          by_rest (later_passed sort text i k below other)
-          (first_passed sort text j k high (same_key i j is k ∙ other))
-          (either_next i j len (k + 1) (omega (arith, size)) within (omega (arith, low)) is)
+            by_rest (later_passed sort text i k below other)
+            (first_passed sort text j k high (same_key i j is k ∙ other))
+            (either_next i j len (k + 1) (omega (arith, size)) within (omega (arith, low)) is)
       ]) refl
     where
       by_rest : later_from sort text i (k + 1) ≡ later_from sort text i k
@@ -294,11 +294,11 @@ module _ (sort : FactSort) (text : List ℕ) where
       (elim (have i j) as (λ b. have i j ≡ b
       → is_first_from sort text j (suc i) ≡ is_first_from sort text j i) [
         | true ↦ λ is.
-          by_next (sym (first_found sort text j i low (turned i j is)))
-          (either_next i j (j - (i + 1)) (i + 1) (omega (arith, low)) within (omega arith) is)
+            by_next (sym (first_found sort text j i low (turned i j is)))
+            (either_next i j (j - (i + 1)) (i + 1) (omega (arith, low)) within (omega arith) is)
         | false ↦ λ isnt.
-          ap (is_first_from sort text j) (sym next)
-          ∙ first_passed sort text j i low (not_turned i j isnt)
+            ap (is_first_from sort text j) (sym next)
+            ∙ first_passed sort text j i low (not_turned i j isnt)
       ]) refl
     where
       next : i + 1 ≡ suc i
@@ -380,11 +380,11 @@ module _ (sort : FactSort) (text : List ℕ) where
     linked_none none = record {
       count = half_count;
       each = λ j d low within.
-        half_linked j d low within
-        ∙ (λ t. record {
-          next = first_or_none (later sort text j);
-          first = same_first j low within (λ less at. omega (arith, less, at, none)) t;
-        });
+          half_linked j d low within
+          ∙ (λ t. record {
+            next = first_or_none (later sort text j);
+            first = same_first j low within (λ less at. omega (arith, less, at, none)) t;
+          });
     }
 
     module _ (some : 0 < next) where

@@ -106,7 +106,8 @@ impl Version {
         requires { entries.old ≡ item_entries sort self.old 0 }
         ensures { self.new ≡ self.old }
     {
-        self.links.lay_by_table(sort, &self.source, &self.facts, entries)
+        self.links
+            .lay_by_table(sort, &self.source, &self.facts, entries)
     }
 
     /// Lays the links of a sort by the entries of all items, in order, if there is room.
