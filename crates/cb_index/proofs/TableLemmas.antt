@@ -1,6 +1,6 @@
 -- Links that are laid by a table are those of all items.
 use Rattle.std.proofs.Common.{◌≡◌, ◌≢◌, ◌∙◌, ◌+◌, ◌-◌, ◌<◌, ◌≤◌, ℕ, zero, suc, Bool, true, false}
-use Rattle.std.proofs.Common.{List, ◌∷◌, length, filter, get_or, set, refl, sym, ap, subst, arith}
+use Rattle.std.proofs.Common.{List, length, filter, get_or, set, refl, sym, ap, subst, arith}
 use Rattle.std.proofs.Common.{◌⊎◌, inl, inr}
 use Rattle.std.specs.Prelude.{◌&&◌, not, nat_eq}
 use Rattle.std.specs.List.{list_any, range_with_len}
@@ -12,7 +12,7 @@ use Rattle.std.proofs.lemmas.List.FromFn.{fill_by_all, get_or-map-range_with_len
 use Rattle.std.proofs.lemmas.List.FromFn.{length-map-range_with_len}
 use Rattle.std.proofs.lemmas.Slice.Eq.{bytes_eq-Decides}
 use Rattle.cb_scan.specs.Keys.{key_prefix}
-use Rattle.cb_index.specs.Items.{have_one_key, is_first, item_count, item_key, later}
+use Rattle.cb_index.specs.Items.{have_one_key, item_count, item_key, later}
 use Rattle.cb_index.specs.Links.{first_or_none, link_of, links_of}
 use Rattle.cb_index.specs.declared.entry.Entry.{Entry}
 use Rattle.cb_index.specs.declared.links.Link.{Link}
@@ -94,7 +94,8 @@ module _ (sort : FactSort) (text : List ℕ) where
   unfolding first_in
   here i below =
       ap first_or_none
-      (kept_here (stands_in sort text (place i)) i n below ((Decides-eqb (place i) (place i)).1 refl))
+      (kept_here (stands_in sort text (place i)) i n below
+      ((Decides-eqb (place i) (place i)).1 refl))
 
   passed : (p i : ℕ) → i < n → nat_eq (place i) p ≡ false
       → first_in sort text p i ≡ first_in sort text p (i + 1)
@@ -124,17 +125,17 @@ module _ (sort : FactSort) (text : List ℕ) where
       (elim (nat_eq (place k) (place i)) as (λ b. nat_eq (place k) (place i) ≡ b
       → Reached sort text i (first_in sort text (place i) k)) [
         | true ↦ λ is.
-          let same : place k ≡ place i = (Decides-eqb (place k) (place i)).0 is in
-          let at : first_in sort text (place i) k ≡ k =
-          ap (λ p. first_in sort text p k) (sym same) ∙ here k below in
-          subst (Reached sort text i) (sym at) (record {
-            none = λ zero. absurd (omega (arith, zero, low));
-            some = λ some. record { behind = low; within = below; place = same; left = left };
-          })
+            let same : place k ≡ place i = (Decides-eqb (place k) (place i)).0 is in
+            let at : first_in sort text (place i) k ≡ k =
+            ap (λ p. first_in sort text p k) (sym same) ∙ here k below in
+            subst (Reached sort text i) (sym at) (record {
+              none = λ zero. absurd (omega (arith, zero, low));
+              some = λ some. record { behind = low; within = below; place = same; left = left };
+            })
         | false ↦ λ isnt.
-          subst (Reached sort text i) (sym (passed (place i) k below isnt))
-          (reach i len (k + 1) (omega (arith, size)) (omega (arith, low))
-          (left ∙ ap first_or_none (sym (later_passed sort text i k below (elsewhere i k isnt)))))
+            subst (Reached sort text i) (sym (passed (place i) k below isnt))
+            (reach i len (k + 1) (omega (arith, size)) (omega (arith, low))
+            (left ∙ ap first_or_none (sym (later_passed sort text i k below (elsewhere i k isnt)))))
       ]) refl
 
   reach_at : (i k : ℕ) → k ≤ n → i < k
@@ -173,15 +174,15 @@ module _ (sort : FactSort) (text : List ℕ) where
   none_noted es is = record {
     count = ap length is ∙ length-map-range_with_len (item_entry sort text 0) 0 n;
     each = λ item d below.
-      let at : get_or es item d ≡ item_entry sort text 0 item =
-      ap (λ xs. get_or xs item d) is
-      ∙ get_or-map-range_with_len (item_entry sort text 0) 0 n item item d below (omega arith) in
-      subst (IsNoted sort text n item) (sym at) (record {
-        prefix = refl;
-        number = refl;
-        head = sym (past item n (omega arith));
-        behind = λ high. absurd (omega (arith, high, below));
-      });
+        let at : get_or es item d ≡ item_entry sort text 0 item =
+        ap (λ xs. get_or xs item d) is
+        ∙ get_or-map-range_with_len (item_entry sort text 0) 0 n item item d below (omega arith) in
+        subst (IsNoted sort text n item) (sym at) (record {
+          prefix = refl;
+          number = refl;
+          head = sym (past item n (omega arith));
+          behind = λ high. absurd (omega (arith, high, below));
+        });
   }
 
   module _ (i : ℕ) (below : i < n) (es : List Entry) (noted : AreNoted sort text (suc i) es)
@@ -219,8 +220,12 @@ module _ (sort : FactSort) (text : List ℕ) where
     module _ (p : ℕ) (p_is : p ≡ place i) (p_below : p < n) (head : Entry)
         (head_is : IsHalf sort text i p head) where
       abbrev headed : Entry
-      headed =
-          record { prefix = head.prefix; name = head.name; version = own.number; number = head.number }
+      headed = record {
+        prefix = head.prefix;
+        name = head.name;
+        version = own.number;
+        number = head.number;
+      }
 
       next : i + 1 ≡ suc i
       next = omega arith
@@ -274,11 +279,11 @@ module _ (sort : FactSort) (text : List ℕ) where
       (elim (have i k) as (λ b. have i k ≡ b
       → (first_or_none (later_from sort text i k) ≡ j) ⊎ (is_first_from sort text j k ≡ false)) [
         | true ↦ λ other.
-          inr (sym (first_found sort text j k high (same_key i j is k ∙ other)))
+            inr (sym (first_found sort text j k high (same_key i j is k ∙ other)))
         | false ↦ λ other.
-          by_rest (later_passed sort text i k below other)
-          (first_passed sort text j k high (same_key i j is k ∙ other))
-          (either_next i j len (k + 1) (omega (arith, size)) within (omega (arith, low)) is)
+            by_rest (later_passed sort text i k below other)
+            (first_passed sort text j k high (same_key i j is k ∙ other))
+            (either_next i j len (k + 1) (omega (arith, size)) within (omega (arith, low)) is)
       ]) refl
     where
       by_rest : later_from sort text i (k + 1) ≡ later_from sort text i k
@@ -296,11 +301,11 @@ module _ (sort : FactSort) (text : List ℕ) where
       (elim (have i j) as (λ b. have i j ≡ b
       → is_first_from sort text j (suc i) ≡ is_first_from sort text j i) [
         | true ↦ λ is.
-          by_next (sym (first_found sort text j i low (turned i j is)))
-          (either_next i j (j - (i + 1)) (i + 1) (omega (arith, low)) within (omega arith) is)
+            by_next (sym (first_found sort text j i low (turned i j is)))
+            (either_next i j (j - (i + 1)) (i + 1) (omega (arith, low)) within (omega arith) is)
         | false ↦ λ isnt.
-          ap (is_first_from sort text j) (sym next)
-          ∙ first_passed sort text j i low (not_turned i j isnt)
+            ap (is_first_from sort text j) (sym next)
+            ∙ first_passed sort text j i low (not_turned i j isnt)
       ]) refl
     where
       next : i + 1 ≡ suc i
@@ -382,11 +387,11 @@ module _ (sort : FactSort) (text : List ℕ) where
     linked_none none = record {
       count = half_count;
       each = λ j d low within.
-        half_linked j d low within
-        ∙ (λ t. record {
-          next = first_or_none (later sort text j);
-          first = same_first j low within (λ less at. omega (arith, less, at, none)) t;
-        });
+          half_linked j d low within
+          ∙ (λ t. record {
+            next = first_or_none (later sort text j);
+            first = same_first j low within (λ less at. omega (arith, less, at, none)) t;
+          });
     }
 
     module _ (some : 0 < next) where
@@ -409,7 +414,10 @@ module _ (sort : FactSort) (text : List ℕ) where
                 subst (λ k. get_or (set (set ls i own_link) next later_link) k d ≡ link_from i k)
                 (sym same)
                 (get_or-set_same (set ls i own_link) next later_link d there
-                ∙ (λ t. record { next = (old_is t).next; first = sym (not_first i below next next_is some) t }))
+                ∙ (λ t. record {
+                  next = (old_is t).next;
+                  first = sym (not_first i below next next_is some) t;
+                }))
             either j d low within (inr other) =
                 get_or-set_other (set ls i own_link) next j later_link d other
                 ∙ half_linked j d low within

@@ -29,8 +29,8 @@ ghost use Rattle.cb_index.specs.steps.Laying.{AreSorted, item_entries};
 use crate::bytes::read_bytes;
 use crate::entry::Entry;
 use crate::items::item_count;
-use crate::memory::OutOfMemory;
 use crate::links::{Link, Links};
+use crate::memory::OutOfMemory;
 use crate::rows::FactSort;
 use cb_scan::{Facts, Source};
 use std::alloc::Global;
@@ -106,7 +106,8 @@ impl Version {
         requires { entries.old ≡ item_entries sort self.old 0 }
         ensures { self.new ≡ self.old }
     {
-        self.links.lay_by_table(sort, &self.source, &self.facts, entries)
+        self.links
+            .lay_by_table(sort, &self.source, &self.facts, entries)
     }
 
     /// Lays the links of a sort by the entries of all items, in order, if there is room.

@@ -39,7 +39,13 @@ use crate::sort::sort;
 use cb_scan::{Facts, Source, key_prefix};
 
 /// Whether two entries of items have one key. Their prefixes are compared first.
-pub(crate) fn entries_match(sort: FactSort, source: &Source, facts: &Facts, a: Entry, b: Entry) -> bool
+pub(crate) fn entries_match(
+    sort: FactSort,
+    source: &Source,
+    facts: &Facts,
+    a: Entry,
+    b: Entry,
+) -> bool
     requires { facts.now ≡ facts_of source.now }
     ensures { result ≡ entries_match sort source.now a b }
 {
@@ -70,14 +76,8 @@ fn link_to(next: Option<u32>, first: bool) -> Link
     ensures { result ≡ link_to next first }
 {
     match next {
-        Some(next) => Link {
-            next,
-            first,
-        },
-        None => Link {
-            next: 0,
-            first,
-        },
+        Some(next) => Link { next, first },
+        None => Link { next: 0, first },
     }
 }
 

@@ -124,9 +124,7 @@ impl Links {
     {
         let looks = entries.len().saturating_mul(LOOKS_PER_ITEM);
         match sort {
-            FactSort::Uses => {
-                lay_in_table(sort, source, facts, entries, &mut self.uses, looks)
-            }
+            FactSort::Uses => { lay_in_table(sort, source, facts, entries, &mut self.uses, looks) }
             FactSort::Callees => {
                 lay_in_table(sort, source, facts, entries, &mut self.callees, looks)
             }

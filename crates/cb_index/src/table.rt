@@ -1,12 +1,11 @@
 //! Laying the links of a version by a table. Each item stands in one of as many places as there are
-//! items, by a hash of its key. The items of one place are chained: the field `version` of the
-//! entry of that number holds the first of them, and the field `name` of the entry of an item the
-//! next one; 0 is for none. The items are noted from the last to the first, so item 0 is in front of
-//! all chains and is never looked for.
+//! items, by a hash of its key. The items of one place are chained in their entries: the field
+//! `version` of the entry of that number holds the first of them, and the field `name` of the entry
+//! of an item the next one; 0 is for none. The items are noted from the last to the first, so item 0
+//! comes before all others and is never looked for.
 ghost use Rattle.std.specs.Prelude.{
   ◌≡◌,
   ◌<◌,
-  ◌≤◌,
   [],
   List,
   ℕ,
@@ -47,7 +46,11 @@ const SPREAD: u64 = 0x9e37_79b9_7f4a_7c15;
 fn key_end(key: &[u8]) -> u64
     ensures { result ≡ key_end key.now }
 {
-    if key.len() > 8 { key_prefix(&key[key.len() - 8..]) } else { 0 }
+    if key.len() > 8 {
+        key_prefix(&key[key.len() - 8..])
+    } else {
+        0
+    }
 }
 
 /// Three numbers as one of 32 bits. Where they differ in any bit, many of its bits differ.
@@ -55,7 +58,9 @@ fn key_end(key: &[u8]) -> u64
 fn mixed(front: u64, end: u64, count: u64) -> u64
     ensures { result ≡ mixed front end count }
 {
-    let whole = front.wrapping_add(end.wrapping_mul(SPREAD)).wrapping_add(count);
+    let whole = front
+        .wrapping_add(end.wrapping_mul(SPREAD))
+        .wrapping_add(count);
     let folded = whole.wrapping_add(whole >> 32);
     folded.wrapping_mul(SPREAD) >> 32
 }
@@ -134,10 +139,7 @@ fn link(links: &mut [Link], item: usize, next: u32)
         → next ≡ first_or_none (later sort text item) → AreLinked sort text (suc item) links.old
         → AreLinked sort text item links.new }
 {
-    links[item] = Link {
-        next,
-        first: true,
-    };
+    links[item] = Link { next, first: true };
     if next == 0 {
         return;
     }
@@ -166,7 +168,8 @@ fn link_item(
 {
     let key = bytes_at(source.bytes(), item_span(sort, facts, entries[item].number));
     let place = place_of(key, entries.len());
-    match find_next(sort, source, facts, entries, item, entries[place].version, left) {
+    let first = entries[place].version;
+    match find_next(sort, source, facts, entries, item, first, left) {
         Some(next) => {
             note(entries, item, place);
             link(links, item, next);
