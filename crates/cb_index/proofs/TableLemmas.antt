@@ -1,6 +1,6 @@
 -- Links that are laid by a table are those of all items.
 use Rattle.std.proofs.Common.{◌≡◌, ◌≢◌, ◌∙◌, ◌+◌, ◌-◌, ◌<◌, ◌≤◌, ℕ, zero, suc, Bool, true, false}
-use Rattle.std.proofs.Common.{List, ◌∷◌, length, filter, get_or, set, refl, sym, ap, subst, arith}
+use Rattle.std.proofs.Common.{List, length, filter, get_or, set, refl, sym, ap, subst, arith}
 use Rattle.std.proofs.Common.{◌⊎◌, inl, inr}
 use Rattle.std.specs.Prelude.{◌&&◌, not, nat_eq}
 use Rattle.std.specs.List.{list_any, range_with_len}
@@ -12,7 +12,7 @@ use Rattle.std.proofs.lemmas.List.FromFn.{fill_by_all, get_or-map-range_with_len
 use Rattle.std.proofs.lemmas.List.FromFn.{length-map-range_with_len}
 use Rattle.std.proofs.lemmas.Slice.Eq.{bytes_eq-Decides}
 use Rattle.cb_scan.specs.Keys.{key_prefix}
-use Rattle.cb_index.specs.Items.{have_one_key, is_first, item_count, item_key, later}
+use Rattle.cb_index.specs.Items.{have_one_key, item_count, item_key, later}
 use Rattle.cb_index.specs.Links.{first_or_none, link_of, links_of}
 use Rattle.cb_index.specs.declared.entry.Entry.{Entry}
 use Rattle.cb_index.specs.declared.links.Link.{Link}
