@@ -43,8 +43,8 @@ impl<'a, 'p> DistinctSpots<'a, 'p> {
         }
     }
 
-    /// How many rows are left. Before the first one is taken, an index knows how many uses and
-    /// calls there are. Else it walks over all that are left.
+    /// How many rows are left. Uses and calls are counted by their index, as long as no row was
+    /// taken. Else it walks over all that are left.
     pub(crate) fn count_left(&self) -> usize
         ensures { result ≡ length self.now }
     {

@@ -103,8 +103,8 @@ fn spot_of_row(row: RefRow<'_>) -> RowSpot<'_>
 }
 
 impl<'a, 'p> FoundRows<'a, 'p> {
-    /// How many rows there are, equal ones once, where an index knows it. Rows that were taken
-    /// are counted or not, so it is for an iterator that has given nothing yet.
+    /// How many rows these are, equal ones once, where an index counts them: uses and calls. It is
+    /// for an iterator that has given nothing yet.
     pub(crate) fn row_count(&self) -> Option<u128>
         ensures { result ≡ counted_rows self.now }
     {

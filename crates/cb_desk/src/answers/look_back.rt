@@ -105,7 +105,7 @@ impl<'a, 'p> LookBack<'a, 'p> {
     }
 
     /// How many rows are left that are equal to none before, where that is known without a walk:
-    /// an index counts them, and none was passed.
+    /// none was passed, and an index counts them.
     pub(crate) fn row_count(&self) -> Option<u128>
         requires kept { IsLookBack self.now }
         requires counted { IsCounted self.now.all }

@@ -63,8 +63,8 @@ impl<'a, 'p> Rows<'a, 'p> {
         }
     }
 
-    /// How many rows are left. Uses and calls are counted by an index before the first row is
-    /// taken; else it walks over all that are left. It takes no memory.
+    /// How many rows are left. Uses and calls are counted by their index, as long as no row was
+    /// taken. Else it walks over all that are left. It takes no memory.
     pub fn count_left(&self) -> usize
         ensures { result ≡ length self.now }
     {

@@ -210,7 +210,7 @@ fn uses_are_counted_by_their_rows(rt: HostRuntime) -> Result<(), AllocError> {
     Ok(())
 }
 
-/// Calls of one function out of two, and of two out of one.
+/// Two functions call `a`, and one of them calls two functions.
 const CALLS_OF_TWO: &[u8] = b"int f(void) { a(); b(); a(); } int g(void) { a(); }";
 
 /// Three calls of a function have two rows, and so have three calls in one.
