@@ -9,14 +9,15 @@ pub mod DeclarationLemmas
 pub mod FactsFew
 pub mod FactsWithin
 pub mod FeedLanes
+pub mod FirstBytes
 pub mod FunctionLemmas
 pub mod FunctionsRise
 pub mod GatherLemmas
 pub mod HeadLemmas
 pub mod InOrder
 pub mod IncludeLines
-pub mod Lengths
 pub mod KeyOrder
+pub mod Lengths
 pub mod LineLemmas
 pub mod LineTable
 pub mod LinedPieces
