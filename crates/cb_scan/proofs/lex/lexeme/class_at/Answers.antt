@@ -1,4 +1,4 @@
-use Rattle.std.proofs.Common.{◌≡◌, ◌∙◌, sym, ap}
+use Rattle.std.proofs.Common.{◌∙◌, sym, ap}
 use Rattle.cb_scan.specs.steps.Cut.{class_at}
 use Rattle.cb_scan.proofs.FirstBytes.{by_code, class_by_code}
 use Rattle.cb_scan.proofs.lex.lexeme.class_at.Goals as goal
@@ -37,4 +37,3 @@ pub returns-in-5 : goal.returns-in-5
 returns-in-5 c =
     sym (class_by_code c.args.text.now c.requires
     ∙ ap (λ n. by_code n (class_at c.args.text.now)) (sym c.first_code.ensures ∙ c.in-5.is))
-
