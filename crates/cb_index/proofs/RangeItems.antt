@@ -1,5 +1,5 @@
 -- Ranges of numbers.
-use Rattle.std.proofs.Common.{◌≡◌, ℕ, suc, List, ◌∷◌, ap, arith}
+use Rattle.std.proofs.Common.{◌≡◌, ℕ, suc, ◌∷◌, ap, arith}
 use Rattle.std.specs.List.{range_with_len}
 
 pub range_next : (n count : ℕ) → range_with_len n (suc count) ≡ n ∷ range_with_len (suc n) count

@@ -1,5 +1,5 @@
 -- The items of a version that have entries ascend by number.
-use Rattle.std.proofs.Common.{◌≤◌, ◌<◌, ℕ, zero, suc, Bool, true, false, List, [], ◌∷◌, Some, None, map, filter, subst, sym, arith}
+use Rattle.std.proofs.Common.{◌<◌, ℕ, zero, suc, Bool, true, false, List, [], ◌∷◌, Some, None, map, filter, subst, sym, arith}
 use Rattle.std.specs.Prelude.{Option, cond}
 use Rattle.std.specs.List.{AllByRecursion, range_with_len}
 use Rattle.cb_scan.specs.Definitions.{facts_of}
