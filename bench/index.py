@@ -7,7 +7,7 @@ A person runs this by hand; no gate does, and nothing here passes or fails by it
     bench/index.py --program PATH FOLDER
 
 The files are the C sources of the folder that are at most 1 MB, at most so many as asked for. The program
-`crates/index_bench` scans them all, makes their key lists and keeps them on a shelf of `cb_index`. Then it measures, with
+`crates/index_bench` scans them all and keeps them on a shelf of `cb_index`. Then it measures, with
 the clock of its processor time:
 
 filled      all files shown together, which fills the five indexes; and hidden together
@@ -15,7 +15,7 @@ one by one  all files shown one after the other
 one file    a file of median size, and the largest, hidden and shown again while all others are shown
 first row   the first row of a question, for the names of some definitions: definitions, uses, calls of, calls in
 
-Memory: the key lists by their lengths, a byte of source; the entries by what is resident more once all files are shown;
+Memory, as bytes a byte of source: what is kept; what is resident more once all files are shown and links are laid;
 and what is resident more once room is made, which nothing has touched.
 
 `cscope -b -q` builds its own indexes of the same files; its time has the reading and scanning in it. A question of cscope
@@ -81,7 +81,7 @@ def put_time(label, nanoseconds, key=None):
 
 def report(pairs):
     """The figures of the program; the seconds in which all five indexes are filled."""
-    counts = {word: int(rest) for word, rest in pairs if word in ("files", "bytes", "defs", "uses", "calls", "entries", "key_bytes")}
+    counts = {word: int(rest) for word, rest in pairs if word in ("files", "bytes", "defs", "uses", "calls")}
     print(", ".join(f"{number:,} {word}" for word, number in counts.items()))
     filled = min(int(rest) for word, rest in pairs if word == "show_all")
     seconds = put_time("all shown together", filled, "filled")
@@ -102,9 +102,8 @@ def report(pairs):
             put_time(f"first row, {word[6:]}, mean of {count}", int(rest) / count, "first row")
             put_time(f"first row, {word[6:]}, worst", most)
             put(f"first row, {word[6:]}, names with one", rows, "")
-    put("key lists", f"{counts['key_bytes'] / counts['bytes']:.3f}", "bytes/byte", "aimed at 0.6")
     grown = resident(pairs, "shown") - resident(pairs, "reserved")
-    put("indexes, resident", f"{grown / counts['entries']:.2f}", "bytes/entry", "aimed at 24")
+    put("indexes, resident", f"{grown / counts['bytes']:.2f}", "bytes/byte")
     put("room, resident", f"{(resident(pairs, 'reserved') - resident(pairs, 'kept')) / 1024:.0f}", "KiB", "aimed at none")
     put("all that is kept, resident", f"{resident(pairs, 'kept') / counts['bytes']:.2f}", "bytes/byte")
     return seconds

@@ -22,9 +22,9 @@ Loads         all files by `:load`, one after the other, in one go, as a multipl
 First         the first question of each kind in a new session, which puts an index in order, and the same once more.
 Questions     where a name is defined, for a thousand names; the median, and the one that 95 in 100 stay below.
               `cscope -d -q -l` answers the same in the same way.
-Rows          the uses of the names that stand most often in the files: until the first bytes of the reply, which is one walk
-              over the rows, since their number comes first; and until its last ones, by row, after a second walk that looks
-              each row's line up and writes it. `cscope -d -q -l` answers the same, walking once.
+Rows          the uses of the names that stand most often in the files: until the first bytes of the reply, which is a sum
+              over the entries of the index, since the number of rows comes first, and as many rows as fill a buffer; and
+              until its last ones, by row. `cscope -d -q -l` answers the same.
 Tags          `:tags 2`.
 
 Other work on the machine makes the times longer: run it twice, and on an idle machine.

@@ -11,6 +11,7 @@ use Rattle.cb_scan.specs.declared.facts.Include.{Include}
 use Rattle.cb_scan.specs.declared.facts.Use.{Use}
 use Rattle.cb_scan.specs.declared.lex.piece.Span.{Span}
 use Rattle.cb_scan.specs.Definitions.{facts_of}
+use Rattle.cb_index.specs.Counts.{column}
 use Rattle.cb_index.specs.Includes.{all_includes, file_includes, include_in}
 use Rattle.cb_index.specs.Rows.{Fact, call_in, calls_in, calls_of, file_calls_in, file_calls_of, file_tags_named, file_uses_of, tag_in, tags_named, use_in, uses_of}
 use Rattle.cb_index.specs.Shelved.{ShownFile, with_facts}
@@ -18,7 +19,7 @@ use Rattle.cb_desk.specs.declared.found.Found.{Found}
 use Rattle.cb_desk.specs.declared.rows.Field.TheVariants.{Symbol, Definition, Called, Calling, File as FileName, Including}
 use Rattle.cb_desk.specs.Answer.{AnswerRow, bytes_of, field_rows, file_rows, found_called, found_calling, found_def, found_include, found_row, found_use, function_name, is_asked, is_header, row_on}
 use Rattle.cb_desk.specs.World.{File}
-use Rattle.cb_desk.specs.steps.Lent.{column, row_around, row_named, row_of_tag}
+use Rattle.cb_desk.specs.steps.Lent.{row_around, row_named, row_of_tag}
 use Rattle.cb_desk.proofs.BytesEqual.{bytes-turned}
 
 -- ---- of each file, of all files

@@ -24,7 +24,7 @@ use Rattle.cb_desk.specs.World.{File, Place, has_file, place_key}
 use Rattle.cb_desk.specs.steps.Edits.{IsDifference, edited, turned_edits}
 use Rattle.cb_desk.specs.steps.Plans.{IsAmong, IsPlan, Keeps, LeadsTo, Planned, is_of, key_then}
 use Rattle.cb_desk.specs.steps.Plans.{name_then, places_without, renumbered}
-use Rattle.cb_desk.specs.steps.Records.{IsFew, Kept, other, other_wanted, place_in, without, world_in}
+use Rattle.cb_desk.specs.steps.Records.{IsFew, Kept, other_wanted, place_in, without, world_in}
 use Rattle.cb_desk.specs.steps.Walks.{IsKept, shows_name, shows_version}
 use Rattle.cb_desk.proofs.AllUsed.{any_shown, none_new, only_new}
 use Rattle.cb_desk.proofs.ArchiveMoves.{Agree, agree_kept, apart_same, below_shown, files_same, order_same, places_same}

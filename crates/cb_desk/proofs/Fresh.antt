@@ -1,5 +1,5 @@
 -- Rows that are equal to none before.
-use Rattle.std.proofs.Common.{◌≡◌, ◌∙◌, sym, ap, refl, ◌+◌, ◌≤◌, Bool, true, false, not, ◌&&◌, ◌||◌, cond, List, [], ◌∷◌, ◌++◌, filter, length, arith}
+use Rattle.std.proofs.Common.{◌≡◌, ◌∙◌, sym, ap, refl, ◌≤◌, Bool, true, false, not, ◌&&◌, ◌||◌, cond, List, [], ◌∷◌, ◌++◌, filter, length, arith}
 use Rattle.std.specs.List.{list_any}
 use Rattle.cb_desk.specs.Answer.{AnswerRow, row_eq, distinct}
 use Rattle.cb_desk.specs.steps.LookBack.{fresh}

@@ -2,6 +2,7 @@ pub mod AllUsed
 pub mod AnswerRows
 pub mod ArchiveMoves
 pub mod BytesEqual
+pub mod CountLemmas
 pub mod Counted
 pub mod DefinitionPlaces
 pub mod EditLemmas

@@ -1,5 +1,5 @@
 -- A plan makes its world the only one to come.
-use Rattle.std.proofs.Common.{◌≡◌, ◌∙◌, ◌≤◌, ◌<◌, ◌+◌, ℕ, true, false, List, [], ◌∷◌, ◌++◌, refl, sym, ap, subst, length, take, drop, reverse, arith, length-append, length-take-le}
+use Rattle.std.proofs.Common.{◌≡◌, ◌∙◌, ◌≤◌, ◌<◌, ℕ, true, false, List, [], ◌∷◌, ◌++◌, refl, sym, ap, subst, length, take, drop, reverse, arith, length-append, length-take-le}
 use Rattle.std.proofs.Math.Seq.{take-append_seam, drop-append_seam}
 use Rattle.cb_desk.specs.declared.limits.TheConstants.{MOST_CHANGES}
 use Rattle.std.proofs.lemmas.Bool.{true≢false}

@@ -3,8 +3,8 @@ ghost use Rattle.std.specs.Prelude.{◌≡◌, ◌≤◌, length, IfOk};
 ghost use Rattle.cb_desk.specs.Desk.{CountsUpTo};
 ghost use Rattle.cb_desk.specs.declared.limits.TheConstants.{MOST_BYTES};
 
-use cb_index::Version;
-use cb_scan::{FactKeys, Meter, Source, scan};
+use cb_index::{Links, Version};
+use cb_scan::{Meter, Source, scan};
 use std::alloc::{AllocError, Global};
 
 /// The version of a source, which is scanned.
@@ -20,10 +20,10 @@ pub(crate) fn scanned_source(
     let Ok(facts) = scan(alloc, meter, &source) else {
         return Err(AllocError);
     };
-    let Ok(keys) = FactKeys::new(alloc, &source, &facts) else {
+    let Ok(links) = Links::new(alloc, &facts) else {
         return Err(AllocError);
     };
-    Ok(Version::new(source, facts, keys))
+    Ok(Version::new(source, facts, links))
 }
 
 /// The version of a text, which is scanned.

@@ -34,9 +34,11 @@ module _ (keyer : Keyer) (a : Archived) (e f : Entry) where
       let name = both_equal (nat_cmp e.name f.name) _ third.1 in
       let version = both_equal (nat_cmp e.version f.version) _ name.1 in
       let number = both_equal (nat_cmp e.number f.number) _ version.1 in
+      let rows = both_equal (nat_cmp e.rows f.rows) _ number.1 in
       λ i. record {
         prefix = same_number e.prefix f.prefix first.0 i;
         name = same_number e.name f.name name.0 i;
         version = same_number e.version f.version version.0 i;
         number = same_number e.number f.number number.0 i;
+        rows = same_number e.rows f.rows rows.0 i;
       }

@@ -4,7 +4,7 @@ use Rattle.std.proofs.lemmas.Bool.{true≢false}
 use Rattle.std.proofs.lemmas.Bool.Decides.{Decides-eqb}
 use Rattle.std.proofs.lemmas.Cmp.{nat_cmp_total, nat_list_cmp_total, tied_itself}
 use Rattle.std.proofs.lemmas.List.Elements.{filter-append}
-use Rattle.std.proofs.lemmas.List.{length-append}
+use Rattle.std.proofs.lemmas.List.{length-append, length-map}
 use Rattle.std.proofs.lemmas.List.Sums.{sum_by-append, sum_by-cons}
 use Rattle.std.proofs.lemmas.Option.{none-some}
 use Rattle.std.proofs.lemmas.Slice.Eq.{bytes_eq-Decides}
@@ -20,9 +20,9 @@ use Rattle.cb_scan.proofs.FunctionsRise.{all_implied}
 use Rattle.cb_scan.proofs.OrderLemmas.{in_order_sum}
 use Rattle.cb_scan.proofs.WithinLemmas.{all-append}
 use Rattle.cb_index.specs.Archived.{Archived, name_of}
-use Rattle.cb_index.specs.Entries.{Keyer, entries_from, file_key, numbers, sort_key}
+use Rattle.cb_index.specs.Entries.{Keyer, file_key, numbers, sort_key}
 use Rattle.cb_index.specs.Files.{AreApart, AreAscending, shown_name, shown_under, total}
-use Rattle.cb_index.specs.Held.{Prefixer, all_entries, entries_of, prefixes_of}
+use Rattle.cb_index.specs.Held.{AreRising, Listed, Lister, all_entries, entries_of, entry_of, listed_of}
 use Rattle.cb_index.specs.Shelved.{IsIndexOf}
 use Rattle.cb_index.specs.declared.entry.Entry.{Entry}
 use Rattle.cb_index.specs.declared.entry.Shown.{Shown}
@@ -30,91 +30,85 @@ use Rattle.cb_index.proofs.EntryLemmas.{file_cmp, sort_exact}
 use Rattle.cb_index.proofs.InOrderLemmas.{filter_in_order, in_order_cong, length_in_order, same_order, sum_flat, sum_flat_put}
 
 -- ---- the entries of one version
-abbrev pub IsNumbered : ℕ → ℕ → ℕ → Entry → Type 0
-IsNumbered name version number e = (e.name ≡ name) × (e.version ≡ version) × (number ≤ e.number)
+abbrev pub IsUnder : Shown → Entry → Type 0
+IsUnder s e = (e.name ≡ s.name) × (e.version ≡ s.version)
 
-numbered_from : (least number name version : ℕ) (ps : List ℕ) → least ≤ number
-    → AllByRecursion (IsNumbered name version least) (entries_from number name version ps)
-numbered_from least number name version [] low = tt
-numbered_from least number name version (p ∷ ps) low =
-    ((refl, refl, low), numbered_from least (suc number) name version ps (omega (arith, low)))
-
-pub length_from : (number name version : ℕ) (ps : List ℕ) → length (entries_from number name version ps) ≡ length ps
-length_from number name version [] = refl
-length_from number name version (p ∷ ps) = ap suc (length_from (suc number) name version ps)
+under_all : (s : Shown) (items : List Listed) → AllByRecursion (IsUnder s) (map (entry_of s) items)
+under_all s [] = tt
+under_all s (item ∷ items) = ((refl, refl), under_all s items)
 
 -- ---- an index takes a version in
-module _ (keyer : Keyer) (prefixer : Prefixer) (a : Archived) (s : Shown) (shown : List Shown) (es : List Entry) where
-  pub indexed_put : IsIndexOf keyer prefixer a shown es
-      → IsIndexOf keyer prefixer a (put (shown_name a) s shown) (in_order (sort_key keyer a) (es ++ entries_of prefixer a s))
+module _ (keyer : Keyer) (lister : Lister) (a : Archived) (s : Shown) (shown : List Shown) (es : List Entry) where
+  pub indexed_put : IsIndexOf keyer lister a shown es
+      → IsIndexOf keyer lister a (put (shown_name a) s shown) (in_order (sort_key keyer a) (es ++ entries_of lister a s))
   indexed_put is =
-      same_order (sort_key keyer a) (sort_exact keyer a) (es ++ entries_of prefixer a s)
-      (all_entries prefixer a (put (shown_name a) s shown))
+      same_order (sort_key keyer a) (sort_exact keyer a) (es ++ entries_of lister a s)
+      (all_entries lister a (put (shown_name a) s shown))
       (λ f.
-      let both : sum_by f (es ++ entries_of prefixer a s) ≡ sum_by f es + sum_by f (entries_of prefixer a s) =
-      sum_by-append f es (entries_of prefixer a s) in
-      let held : sum_by f es ≡ sum_by f (all_entries prefixer a shown) =
-      ap (sum_by f) is ∙ in_order_sum (sort_key keyer a) f (all_entries prefixer a shown) in
-      let more : sum_by f (all_entries prefixer a (put (shown_name a) s shown))
-      ≡ sum_by f (entries_of prefixer a s) + sum_by f (all_entries prefixer a shown) =
-      sum_flat_put (entries_of prefixer a) (shown_name a) f s shown in
+      let both : sum_by f (es ++ entries_of lister a s) ≡ sum_by f es + sum_by f (entries_of lister a s) =
+      sum_by-append f es (entries_of lister a s) in
+      let held : sum_by f es ≡ sum_by f (all_entries lister a shown) =
+      ap (sum_by f) is ∙ in_order_sum (sort_key keyer a) f (all_entries lister a shown) in
+      let more : sum_by f (all_entries lister a (put (shown_name a) s shown))
+      ≡ sum_by f (entries_of lister a s) + sum_by f (all_entries lister a shown) =
+      sum_flat_put (entries_of lister a) (shown_name a) f s shown in
       omega (arith, both, held, more))
 
 -- ---- an index takes many versions in
-module _ (keyer : Keyer) (prefixer : Prefixer) (a : Archived) (shown news : List Shown) (es : List Entry) where
-  pub indexed_each : IsIndexOf keyer prefixer a shown es
-      → IsIndexOf keyer prefixer a (in_order (shown_name a) (shown ++ news))
-      (in_order (sort_key keyer a) (es ++ all_entries prefixer a news))
+module _ (keyer : Keyer) (lister : Lister) (a : Archived) (shown news : List Shown) (es : List Entry) where
+  pub indexed_each : IsIndexOf keyer lister a shown es
+      → IsIndexOf keyer lister a (in_order (shown_name a) (shown ++ news))
+      (in_order (sort_key keyer a) (es ++ all_entries lister a news))
   indexed_each is =
-      same_order (sort_key keyer a) (sort_exact keyer a) (es ++ all_entries prefixer a news)
-      (all_entries prefixer a (in_order (shown_name a) (shown ++ news)))
+      same_order (sort_key keyer a) (sort_exact keyer a) (es ++ all_entries lister a news)
+      (all_entries lister a (in_order (shown_name a) (shown ++ news)))
       (λ f.
-      let size : Shown → ℕ = λ s. sum_by f (entries_of prefixer a s) in
-      let both = sum_by-append f es (all_entries prefixer a news) in
-      let held : sum_by f es ≡ sum_by f (all_entries prefixer a shown) =
-      ap (sum_by f) is ∙ in_order_sum (sort_key keyer a) f (all_entries prefixer a shown) in
-      let old = sum_flat (entries_of prefixer a) f shown in
-      let more = sum_flat (entries_of prefixer a) f news in
-      let whole = sum_flat (entries_of prefixer a) f (in_order (shown_name a) (shown ++ news)) in
+      let size : Shown → ℕ = λ s. sum_by f (entries_of lister a s) in
+      let both = sum_by-append f es (all_entries lister a news) in
+      let held : sum_by f es ≡ sum_by f (all_entries lister a shown) =
+      ap (sum_by f) is ∙ in_order_sum (sort_key keyer a) f (all_entries lister a shown) in
+      let old = sum_flat (entries_of lister a) f shown in
+      let more = sum_flat (entries_of lister a) f news in
+      let whole = sum_flat (entries_of lister a) f (in_order (shown_name a) (shown ++ news)) in
       let moved = in_order_sum (shown_name a) size (shown ++ news) in
       let parts = sum_by-append size shown news in
       omega (arith, both, held, old, more, whole, moved, parts))
 
 -- ---- and lets some go, by the numbers of their names
-module _ (prefixer : Prefixer) (a : Archived) (stays : ℕ → Bool) where
+module _ (lister : Lister) (a : Archived) (stays : ℕ → Bool) where
   nothing : (b : Bool) → ◌≡◌ {A = List Entry} [] (cond b [] [])
   nothing true = refl
   nothing false = refl
 
-  kept_from : (number other version : ℕ) (ps : List ℕ)
-      → filter (λ (e : Entry). stays e.name) (entries_from number other version ps)
-      ≡ cond (stays other) (entries_from number other version ps) []
-  kept_from number other version [] = nothing (stays other)
-  kept_from number other version (p ∷ ps) =
-      step (stays other) (record { prefix = p; name = other; version = version; number = number })
-      (filter (λ (e : Entry). stays e.name) (entries_from (suc number) other version ps))
-      (entries_from (suc number) other version ps) (kept_from (suc number) other version ps)
+  kept_of : (s : Shown) (items : List Listed)
+      → filter (λ (e : Entry). stays e.name) (map (entry_of s) items)
+      ≡ cond (stays s.name) (map (entry_of s) items) []
+  kept_of s [] = nothing (stays s.name)
+  kept_of s (item ∷ items) =
+      step (stays s.name) (entry_of s item)
+      (filter (λ (e : Entry). stays e.name) (map (entry_of s) items))
+      (map (entry_of s) items) (kept_of s items)
     where
       step : (b : Bool) (e : Entry) (kept es : List Entry) → kept ≡ cond b es [] → cond b (e ∷ kept) kept ≡ cond b (e ∷ es) []
       step true e kept es is = ap (λ l. e ∷ l) is
       step false e kept es is = is
 
-  kept_all : (shown : List Shown) → filter (λ (e : Entry). stays e.name) (all_entries prefixer a shown)
-      ≡ all_entries prefixer a (filter (λ (s : Shown). stays s.name) shown)
+  kept_all : (shown : List Shown) → filter (λ (e : Entry). stays e.name) (all_entries lister a shown)
+      ≡ all_entries lister a (filter (λ (s : Shown). stays s.name) shown)
   kept_all [] = refl
   kept_all (s ∷ shown) =
-      filter-append (λ (e : Entry). stays e.name) (entries_of prefixer a s) (all_entries prefixer a shown)
-      ∙ (λ i. kept_from 0 s.name s.version (prefixes_of prefixer a s.version) i ++ kept_all shown i)
+      filter-append (λ (e : Entry). stays e.name) (entries_of lister a s) (all_entries lister a shown)
+      ∙ (λ i. kept_of s (listed_of lister a s.version) i ++ kept_all shown i)
       ∙ elim (stays s.name) as (λ b.
-      cond b (entries_of prefixer a s) [] ++ all_entries prefixer a (filter (λ (t : Shown). stays t.name) shown)
-      ≡ all_entries prefixer a (cond b (s ∷ filter (λ (t : Shown). stays t.name) shown)
+      cond b (entries_of lister a s) [] ++ all_entries lister a (filter (λ (t : Shown). stays t.name) shown)
+      ≡ all_entries lister a (cond b (s ∷ filter (λ (t : Shown). stays t.name) shown)
       (filter (λ (t : Shown). stays t.name) shown))) [ true ↦ refl | false ↦ refl ]
 
-  pub indexed_take : (keyer : Keyer) (shown : List Shown) (es : List Entry) → IsIndexOf keyer prefixer a shown es
-      → IsIndexOf keyer prefixer a (filter (λ (s : Shown). stays s.name) shown) (filter (λ (e : Entry). stays e.name) es)
+  pub indexed_take : (keyer : Keyer) (shown : List Shown) (es : List Entry) → IsIndexOf keyer lister a shown es
+      → IsIndexOf keyer lister a (filter (λ (s : Shown). stays s.name) shown) (filter (λ (e : Entry). stays e.name) es)
   indexed_take keyer shown es is =
       ap (filter (λ (e : Entry). stays e.name)) is
-      ∙ filter_in_order (sort_key keyer a) (sort_exact keyer a) (λ (e : Entry). stays e.name) (all_entries prefixer a shown)
+      ∙ filter_in_order (sort_key keyer a) (sort_exact keyer a) (λ (e : Entry). stays e.name) (all_entries lister a shown)
       ∙ ap (in_order (sort_key keyer a)) (kept_all shown)
 
 -- ---- and lets one version go
@@ -179,32 +173,32 @@ module _ (a : Archived) (name : ℕ) where
             omega (arith, later, whole, kept, stays)
 
   -- an index has the entries of what is shown under the name, and those of the others
-  pub indexed_out : (keyer : Keyer) (prefixer : Prefixer) (shown : List Shown) (one : Shown) (es : List Entry)
-      → shown_under name shown ≡ Some one → AreApart a shown → IsIndexOf keyer prefixer a shown es
+  pub indexed_out : (keyer : Keyer) (lister : Lister) (shown : List Shown) (one : Shown) (es : List Entry)
+      → shown_under name shown ≡ Some one → AreApart a shown → IsIndexOf keyer lister a shown es
       → es ≡ in_order (sort_key keyer a)
-      (entries_of prefixer a one ++ all_entries prefixer a (filter (λ (s : Shown). not (nat_eq s.name name)) shown))
-  indexed_out keyer prefixer shown one es under up is =
+      (entries_of lister a one ++ all_entries lister a (filter (λ (s : Shown). not (nat_eq s.name name)) shown))
+  indexed_out keyer lister shown one es under up is =
       is
-      ∙ same_order (sort_key keyer a) (sort_exact keyer a) (all_entries prefixer a shown)
-      (entries_of prefixer a one ++ all_entries prefixer a (filter (λ (s : Shown). not (nat_eq s.name name)) shown))
+      ∙ same_order (sort_key keyer a) (sort_exact keyer a) (all_entries lister a shown)
+      (entries_of lister a one ++ all_entries lister a (filter (λ (s : Shown). not (nat_eq s.name name)) shown))
       (λ f.
-      let whole = sum_flat (entries_of prefixer a) f shown in
-      let left = sum_flat (entries_of prefixer a) f (filter is_other shown) in
-      let out = out_sum (λ s. sum_by f (entries_of prefixer a s)) shown one under up in
-      let both = sum_by-append f (entries_of prefixer a one) (all_entries prefixer a (filter is_other shown)) in
+      let whole = sum_flat (entries_of lister a) f shown in
+      let left = sum_flat (entries_of lister a) f (filter is_other shown) in
+      let out = out_sum (λ s. sum_by f (entries_of lister a s)) shown one under up in
+      let both = sum_by-append f (entries_of lister a one) (all_entries lister a (filter is_other shown)) in
       omega (arith, whole, left, out, both))
 
 -- ---- the archive changes elsewhere
 abbrev pub IsSame : Archived → Archived → Shown → Type 0
 IsSame a b s = (slice_get b.texts s.version ≡ slice_get a.texts s.version) × (name_of b s.name ≡ name_of a s.name)
 
-module _ (keyer : Keyer) (prefixer : Prefixer) (a b : Archived) where
-  same_entries : (shown : List Shown) → AllByRecursion (IsSame a b) shown → all_entries prefixer b shown ≡ all_entries prefixer a shown
+module _ (keyer : Keyer) (lister : Lister) (a b : Archived) where
+  same_entries : (shown : List Shown) → AllByRecursion (IsSame a b) shown → all_entries lister b shown ≡ all_entries lister a shown
   same_entries [] all = refl
   same_entries (s ∷ shown) all =
-      λ i. entries_from 0 s.name s.version (prefixer (all.0.0 i)) ++ same_entries shown all.1 i
+      λ i. map (entry_of s) (lister (all.0.0 i)) ++ same_entries shown all.1 i
 
-  same_key : (s : Shown) → IsSame a b s → (e : Entry) → IsNumbered s.name s.version 0 e
+  same_key : (s : Shown) → IsSame a b s → (e : Entry) → IsUnder s e
       → sort_key keyer a e ≡ sort_key keyer b e
   unfolding sort_key
   same_key s same e of =
@@ -214,62 +208,62 @@ module _ (keyer : Keyer) (prefixer : Prefixer) (a b : Archived) where
       λ i. e.prefix ∷ (map suc (keyer (text i) (name i) e.number) ++ (0 ∷ (map suc (name i) ++ (0 ∷ numbers e))))
 
   same_keys : (shown : List Shown) → AllByRecursion (IsSame a b) shown
-      → AllByRecursion (λ e. sort_key keyer a e ≡ sort_key keyer b e) (all_entries prefixer a shown)
+      → AllByRecursion (λ e. sort_key keyer a e ≡ sort_key keyer b e) (all_entries lister a shown)
   same_keys [] all = tt
   same_keys (s ∷ shown) all =
-      all-append (λ e. sort_key keyer a e ≡ sort_key keyer b e) (entries_of prefixer a s) (all_entries prefixer a shown)
-      (all_implied (IsNumbered s.name s.version 0) (λ e. sort_key keyer a e ≡ sort_key keyer b e) (same_key s all.0)
-      (entries_of prefixer a s) (numbered_from 0 0 s.name s.version (prefixes_of prefixer a s.version) (omega arith)))
+      all-append (λ e. sort_key keyer a e ≡ sort_key keyer b e) (entries_of lister a s) (all_entries lister a shown)
+      (all_implied (IsUnder s) (λ e. sort_key keyer a e ≡ sort_key keyer b e) (same_key s all.0)
+      (entries_of lister a s) (under_all s (listed_of lister a s.version)))
       (same_keys shown all.1)
 
   -- what an index holds depends on what stands under its numbers alone
   pub indexed_same : (shown : List Shown) (es : List Entry) → AllByRecursion (IsSame a b) shown
-      → IsIndexOf keyer prefixer a shown es → IsIndexOf keyer prefixer b shown es
+      → IsIndexOf keyer lister a shown es → IsIndexOf keyer lister b shown es
   indexed_same shown es all is =
-      is ∙ in_order_cong (sort_key keyer a) (sort_key keyer b) (all_entries prefixer a shown) (same_keys shown all)
+      is ∙ in_order_cong (sort_key keyer a) (sort_key keyer b) (all_entries lister a shown) (same_keys shown all)
       ∙ ap (in_order (sort_key keyer b)) (sym (same_entries shown all))
 
 -- ---- there is room for the entries where there is room for the facts
-module _ (prefixer : Prefixer) (count : Option (List ℕ) → ℕ) (fewer : (t : Option (List ℕ)) → length (prefixer t) ≤ count t) (a : Archived) where
-  pub length_all : (shown : List Shown) → length (all_entries prefixer a shown) ≤ total count a shown
+module _ (lister : Lister) (count : Option (List ℕ) → ℕ) (fewer : (t : Option (List ℕ)) → length (lister t) ≤ count t) (a : Archived) where
+  pub length_all : (shown : List Shown) → length (all_entries lister a shown) ≤ total count a shown
   length_all [] = omega arith
   length_all (s ∷ shown) =
-      let both : length (entries_of prefixer a s ++ all_entries prefixer a shown)
-      ≡ length (entries_of prefixer a s) + length (all_entries prefixer a shown) =
-      length-append (entries_of prefixer a s) (all_entries prefixer a shown) in
-      let one : length (entries_of prefixer a s) ≡ length (prefixer (slice_get a.texts s.version)) =
-      length_from 0 s.name s.version (prefixes_of prefixer a s.version) in
+      let both : length (entries_of lister a s ++ all_entries lister a shown)
+      ≡ length (entries_of lister a s) + length (all_entries lister a shown) =
+      length-append (entries_of lister a s) (all_entries lister a shown) in
+      let one : length (entries_of lister a s) ≡ length (lister (slice_get a.texts s.version)) =
+      length-map (listed_of lister a s.version) (entry_of s) in
       omega (arith, both, one, fewer (slice_get a.texts s.version), length_all shown)
 
-  pub fits : (keyer : Keyer) (shown : List Shown) (es : List Entry) (s : Shown) (room : ℕ) → IsIndexOf keyer prefixer a shown es
+  pub fits : (keyer : Keyer) (shown : List Shown) (es : List Entry) (s : Shown) (room : ℕ) → IsIndexOf keyer lister a shown es
       → total count a shown + count (slice_get a.texts s.version) ≤ room
-      → length es + length (prefixes_of prefixer a s.version) ≤ room
+      → length es + length (listed_of lister a s.version) ≤ room
   fits keyer shown es s room is enough =
-      let held : length es ≡ length (all_entries prefixer a shown) =
-      ap length is ∙ length_in_order (sort_key keyer a) (all_entries prefixer a shown) in
+      let held : length es ≡ length (all_entries lister a shown) =
+      ap length is ∙ length_in_order (sort_key keyer a) (all_entries lister a shown) in
       omega (arith, held, enough, length_all shown, fewer (slice_get a.texts s.version))
 
-  pub each_fits : (keyer : Keyer) (shown news : List Shown) (es : List Entry) (room : ℕ) → IsIndexOf keyer prefixer a shown es
-      → total count a shown + total count a news ≤ room → length es + length (all_entries prefixer a news) ≤ room
+  pub each_fits : (keyer : Keyer) (shown news : List Shown) (es : List Entry) (room : ℕ) → IsIndexOf keyer lister a shown es
+      → total count a shown + total count a news ≤ room → length es + length (all_entries lister a news) ≤ room
   each_fits keyer shown news es room is enough =
-      let held : length es ≡ length (all_entries prefixer a shown) =
-      ap length is ∙ length_in_order (sort_key keyer a) (all_entries prefixer a shown) in
+      let held : length es ≡ length (all_entries lister a shown) =
+      ap length is ∙ length_in_order (sort_key keyer a) (all_entries lister a shown) in
       omega (arith, held, enough, length_all shown, length_all news)
 
 -- ---- the entries of one version after another
-module _ (prefixer : Prefixer) (a : Archived) (shown : List Shown) (i : ℕ) (d : Shown) (es old : List Entry) (room : ℕ) where
-  pub next_fits : i < length shown → es ++ all_entries prefixer a (drop i shown) ≡ old ++ all_entries prefixer a shown
-      → length old + length (all_entries prefixer a shown) ≤ room
-      → length es + length (prefixes_of prefixer a (get_or shown i d).version) ≤ room
+module _ (lister : Lister) (a : Archived) (shown : List Shown) (i : ℕ) (d : Shown) (es old : List Entry) (room : ℕ) where
+  pub next_fits : i < length shown → es ++ all_entries lister a (drop i shown) ≡ old ++ all_entries lister a shown
+      → length old + length (all_entries lister a shown) ≤ room
+      → length es + length (listed_of lister a (get_or shown i d).version) ≤ room
   next_fits below is enough =
       let s : Shown = get_or shown i d in
-      let later : List Entry = all_entries prefixer a (drop (suc i) shown) in
-      let whole : length (es ++ (entries_of prefixer a s ++ later)) ≡ length (old ++ all_entries prefixer a shown) =
-      ap (λ l. length (es ++ all_entries prefixer a l)) (sym (drop-cons shown i d below)) ∙ ap length is in
-      let front = length-append es (entries_of prefixer a s ++ later) in
-      let back = length-append (entries_of prefixer a s) later in
-      let all = length-append old (all_entries prefixer a shown) in
-      let one = length_from 0 s.name s.version (prefixes_of prefixer a s.version) in
+      let later : List Entry = all_entries lister a (drop (suc i) shown) in
+      let whole : length (es ++ (entries_of lister a s ++ later)) ≡ length (old ++ all_entries lister a shown) =
+      ap (λ l. length (es ++ all_entries lister a l)) (sym (drop-cons shown i d below)) ∙ ap length is in
+      let front = length-append es (entries_of lister a s ++ later) in
+      let back = length-append (entries_of lister a s) later in
+      let all = length-append old (all_entries lister a shown) in
+      let one = length-map (listed_of lister a s.version) (entry_of s) in
       omega (arith, whole, front, back, all, one, enough)
 
 -- ---- entries go by file and number
@@ -278,7 +272,7 @@ abbrev pub ComesFirst : Archived → Entry → Entry → Type 0
 ComesFirst a e f = not (is_gt (slice_cmp nat_cmp (file_key a e) (file_key a f))) ≡ true
 
 module _ (a : Archived) where
-  by_number : (e f : Entry) → e.name ≡ f.name → e.version ≡ f.version → e.number < f.number → ComesFirst a e f
+  pub by_number : (e f : Entry) → e.name ≡ f.name → e.version ≡ f.version → e.number < f.number → ComesFirst a e f
   by_number e f name version less =
       let number : nat_cmp e.number f.number ≡ Less = sym (nat_cmp_is e.number f.number Less less) in
       let names : nat_cmp e.name f.name ≡ Equal =
@@ -288,24 +282,22 @@ module _ (a : Archived) where
       let files : slice_cmp nat_cmp (name_of a e.name) (name_of a f.name) ≡ Equal =
       subst (λ n. slice_cmp nat_cmp (name_of a e.name) (name_of a n) ≡ Equal) name (tied_itself nat_list_cmp_total (name_of a e.name)) in
       ap (λ o. not (is_gt o)) (sym (file_cmp a e f)
-      ∙ (λ i. ordering_then (files i) (ordering_then (names i) (ordering_then (versions i) (ordering_then (number i) Equal)))))
+      ∙ (λ i. ordering_then (files i) (ordering_then (names i) (ordering_then (versions i) (ordering_then (number i) (slice_cmp nat_cmp (e.rows ∷ []) (f.rows ∷ [])))))))
 
   by_name : (e f : Entry) → slice_cmp nat_cmp (name_of a e.name) (name_of a f.name) ≡ Less → ComesFirst a e f
   by_name e f less =
       ap (λ o. not (is_gt o)) (sym (file_cmp a e f)
       ∙ ap (λ o. ordering_then o (slice_cmp nat_cmp (numbers e) (numbers f))) less)
 
-  one_ordered : (number name version : ℕ) (ps : List ℕ) → AreOrdered (ComesFirst a) (entries_from number name version ps)
+  behind : (s : Shown) (item : Listed) (items : List Listed) → AllByRecursion (λ (j : Listed). item.number < j.number) items
+      → AllByRecursion (ComesFirst a (entry_of s item)) (map (entry_of s) items)
+  behind s item [] up = tt
+  behind s item (j ∷ items) up = (by_number (entry_of s item) (entry_of s j) refl refl up.0, behind s item items up.1)
+
+  one_ordered : (s : Shown) (items : List Listed) → AreRising items → AreOrdered (ComesFirst a) (map (entry_of s) items)
   unfolding AreOrdered
-  one_ordered number name version [] = tt
-  one_ordered number name version (p ∷ ps) =
-      let e : Entry = record { prefix = p; name = name; version = version; number = number } in (
-        all_implied (IsNumbered name version (suc number)) (ComesFirst a e)
-            (λ f of. by_number e f (sym of.0) (sym of.1) (omega (arith, of.2)))
-            (entries_from (suc number) name version ps)
-            (numbered_from (suc number) (suc number) name version ps (omega arith)),
-        one_ordered (suc number) name version ps,
-      )
+  one_ordered s [] up = tt
+  one_ordered s (item ∷ items) up = (behind s item items up.0, one_ordered s items up.1)
 
   ordered-append : (R : Entry → Entry → Type 0) (xs ys : List Entry) → AreOrdered R xs → AreOrdered R ys
       → AllByRecursion (λ x. AllByRecursion (R x) ys) xs → AreOrdered R (xs ++ ys)
@@ -314,25 +306,25 @@ module _ (a : Archived) where
   ordered-append R (x ∷ xs) ys front back across =
       (all-append (R x) xs ys front.0 across.0, ordered-append R xs ys front.1 back across.1)
 
-  module _ (prefixer : Prefixer) where
+  module _ (lister : Lister) (rising : (t : Option (List ℕ)) → AreRising (lister t)) where
     later_files : (s : Shown) (e : Entry) → e.name ≡ s.name → (shown : List Shown)
         → AllByRecursion (λ (t : Shown). slice_cmp nat_cmp (name_of a s.name) (name_of a t.name) ≡ Less) shown
-        → AllByRecursion (ComesFirst a e) (all_entries prefixer a shown)
+        → AllByRecursion (ComesFirst a e) (all_entries lister a shown)
     later_files s e is [] all = tt
     later_files s e is (t ∷ shown) all =
-        all-append (ComesFirst a e) (entries_of prefixer a t) (all_entries prefixer a shown)
-        (all_implied (IsNumbered t.name t.version 0) (ComesFirst a e)
+        all-append (ComesFirst a e) (entries_of lister a t) (all_entries lister a shown)
+        (all_implied (IsUnder t) (ComesFirst a e)
         (λ f of. by_name e f ((λ i. slice_cmp nat_cmp (name_of a (is i)) (name_of a (of.0 i))) ∙ all.0))
-        (entries_of prefixer a t) (numbered_from 0 0 t.name t.version (prefixes_of prefixer a t.version) (omega arith)))
+        (entries_of lister a t) (under_all t (listed_of lister a t.version)))
         (later_files s e is shown all.1)
 
     -- the entries of files that ascend go by file and number
-    pub all_ordered : (shown : List Shown) → AreAscending a shown → AreOrdered (ComesFirst a) (all_entries prefixer a shown)
+    pub all_ordered : (shown : List Shown) → AreAscending a shown → AreOrdered (ComesFirst a) (all_entries lister a shown)
     unfolding AreOrdered
     all_ordered [] up = tt
     all_ordered (s ∷ shown) up =
-        ordered-append (ComesFirst a) (entries_of prefixer a s) (all_entries prefixer a shown)
-        (one_ordered 0 s.name s.version (prefixes_of prefixer a s.version)) (all_ordered shown up.1)
-        (all_implied (IsNumbered s.name s.version 0) (λ e. AllByRecursion (ComesFirst a e) (all_entries prefixer a shown))
+        ordered-append (ComesFirst a) (entries_of lister a s) (all_entries lister a shown)
+        (one_ordered s (listed_of lister a s.version) (rising (slice_get a.texts s.version))) (all_ordered shown up.1)
+        (all_implied (IsUnder s) (λ e. AllByRecursion (ComesFirst a e) (all_entries lister a shown))
         (λ e of. later_files s e of.0 shown up.0)
-        (entries_of prefixer a s) (numbered_from 0 0 s.name s.version (prefixes_of prefixer a s.version) (omega arith)))
+        (entries_of lister a s) (under_all s (listed_of lister a s.version)))

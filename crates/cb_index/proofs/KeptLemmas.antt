@@ -14,9 +14,9 @@ use Rattle.cb_scan.proofs.WithinLemmas.{all-append}
 use Rattle.cb_index.specs.Archived.{Archived, name_of}
 use Rattle.cb_index.specs.Files.{AreApart, AreAscending, IsThere, is_shown, shown_name}
 use Rattle.cb_index.specs.Entries.{Keyer, sort_key}
-use Rattle.cb_index.specs.Held.{Indexed, Prefixer, all_entries}
+use Rattle.cb_index.specs.Held.{Indexed, Lister, all_entries}
 use Rattle.cb_index.specs.Names.{is_among, names_of}
-use Rattle.cb_index.specs.Orders.{callee_key, callee_prefixes, caller_key, caller_prefixes, def_key, def_prefixes, tag_key, tag_prefixes, use_key, use_prefixes}
+use Rattle.cb_index.specs.Orders.{callee_key, callees_listed, caller_key, callers_listed, def_key, defs_listed, tag_key, tags_listed, use_key, uses_listed}
 use Rattle.cb_index.specs.Shelved.{AreKept, AreWithin, Covers, KeepsRoom, Shelved}
 use Rattle.cb_index.specs.declared.entry.Entry.{Entry}
 use Rattle.cb_index.specs.declared.entry.Shown.{Shown}
@@ -36,11 +36,11 @@ unfolding AreOrdered
 kept_none a shown d t u c e none dh dw th tw uh uw ch cw eh ew = record {
   there = subst (AllByRecursion (IsThere a)) (sym none) tt;
   ascending = subst (AreAscending a) (sym none) tt;
-  defs = covers_none def_key def_prefixes a shown d none dh dw;
-  tags = covers_none tag_key tag_prefixes a shown t none th tw;
-  uses = covers_none use_key use_prefixes a shown u none uh uw;
-  callees = covers_none callee_key callee_prefixes a shown c none ch cw;
-  callers = covers_none caller_key caller_prefixes a shown e none eh ew;
+  defs = covers_none def_key defs_listed a shown d none dh dw;
+  tags = covers_none tag_key tags_listed a shown t none th tw;
+  uses = covers_none use_key uses_listed a shown u none uh uw;
+  callees = covers_none callee_key callees_listed a shown c none ch cw;
+  callers = covers_none caller_key callers_listed a shown e none eh ew;
 }
 
 -- ---- the archive changes elsewhere
@@ -62,11 +62,11 @@ module _ (a b : Archived) where
   kept_same shown d t u c e all there kept = record {
     there = there;
     ascending = same_ascending shown all kept.ascending;
-    defs = covers_same def_key def_prefixes a b shown d all kept.defs;
-    tags = covers_same tag_key tag_prefixes a b shown t all kept.tags;
-    uses = covers_same use_key use_prefixes a b shown u all kept.uses;
-    callees = covers_same callee_key callee_prefixes a b shown c all kept.callees;
-    callers = covers_same caller_key caller_prefixes a b shown e all kept.callers;
+    defs = covers_same def_key defs_listed a b shown d all kept.defs;
+    tags = covers_same tag_key tags_listed a b shown t all kept.tags;
+    uses = covers_same use_key uses_listed a b shown u all kept.uses;
+    callees = covers_same callee_key callees_listed a b shown c all kept.callees;
+    callers = covers_same caller_key callers_listed a b shown e all kept.callers;
   }
 
   -- the same names and texts
@@ -89,11 +89,11 @@ pub kept_as : (a : Archived) (shown then : List Shown) (d t u c e dd td ud cd ed
 kept_as a shown then d t u c e dd td ud cd ed same ds ts us cs es kept = record {
   there = subst (AllByRecursion (IsThere a)) (sym same) kept.there;
   ascending = subst (AreAscending a) (sym same) kept.ascending;
-  defs = covers_as def_key def_prefixes a shown then d dd same ds.0 ds.1 kept.defs;
-  tags = covers_as tag_key tag_prefixes a shown then t td same ts.0 ts.1 kept.tags;
-  uses = covers_as use_key use_prefixes a shown then u ud same us.0 us.1 kept.uses;
-  callees = covers_as callee_key callee_prefixes a shown then c cd same cs.0 cs.1 kept.callees;
-  callers = covers_as caller_key caller_prefixes a shown then e ed same es.0 es.1 kept.callers;
+  defs = covers_as def_key defs_listed a shown then d dd same ds.0 ds.1 kept.defs;
+  tags = covers_as tag_key tags_listed a shown then t td same ts.0 ts.1 kept.tags;
+  uses = covers_as use_key uses_listed a shown then u ud same us.0 us.1 kept.uses;
+  callees = covers_as callee_key callees_listed a shown then c cd same cs.0 cs.1 kept.callees;
+  callers = covers_as caller_key callers_listed a shown then e ed same es.0 es.1 kept.callers;
 }
 
 -- ---- more is kept
@@ -149,11 +149,11 @@ module _ (a : Archived) (shown news : List Shown) (d t u c e dd td ud cd ed : In
       record {
         there = all_in_order (shown_name a) (IsThere a) (shown ++ news) (all-append (IsThere a) shown news kept.there there);
         ascending = ascending_in_order a (shown ++ news) (apart_both a shown news up apart none);
-        defs = covers_more def_key def_prefixes a shown news d dd up apart none ds.0 ds.1 kept.defs;
-        tags = covers_more tag_key tag_prefixes a shown news t td up apart none ts.0 ts.1 kept.tags;
-        uses = covers_more use_key use_prefixes a shown news u ud up apart none us.0 us.1 kept.uses;
-        callees = covers_more callee_key callee_prefixes a shown news c cd up apart none cs.0 cs.1 kept.callees;
-        callers = covers_more caller_key caller_prefixes a shown news e ed up apart none es.0 es.1 kept.callers;
+        defs = covers_more def_key defs_listed a shown news d dd up apart none ds.0 ds.1 kept.defs;
+        tags = covers_more tag_key tags_listed a shown news t td up apart none ts.0 ts.1 kept.tags;
+        uses = covers_more use_key uses_listed a shown news u ud up apart none us.0 us.1 kept.uses;
+        callees = covers_more callee_key callees_listed a shown news c cd up apart none cs.0 cs.1 kept.callees;
+        callers = covers_more caller_key callers_listed a shown news e ed up apart none es.0 es.1 kept.callers;
       }
 
 -- ---- what is shown under some names is hidden
@@ -171,32 +171,32 @@ module _ (a : Archived) (stays : ℕ → Bool) where
   kept_hidden shown then d t u c e dd td ud cd ed left ds ts us cs es kept = record {
     there = subst (AllByRecursion (IsThere a)) (sym left) (all_filter shown_stays (IsThere a) shown kept.there);
     ascending = subst (AreAscending a) (sym left) (ascending_filter a shown_stays shown kept.ascending);
-    defs = covers_hidden def_key def_prefixes a stays shown then d dd left ds.0 ds.1 kept.defs;
-    tags = covers_hidden tag_key tag_prefixes a stays shown then t td left ts.0 ts.1 kept.tags;
-    uses = covers_hidden use_key use_prefixes a stays shown then u ud left us.0 us.1 kept.uses;
-    callees = covers_hidden callee_key callee_prefixes a stays shown then c cd left cs.0 cs.1 kept.callees;
-    callers = covers_hidden caller_key caller_prefixes a stays shown then e ed left es.0 es.1 kept.callers;
+    defs = covers_hidden def_key defs_listed a stays shown then d dd left ds.0 ds.1 kept.defs;
+    tags = covers_hidden tag_key tags_listed a stays shown then t td left ts.0 ts.1 kept.tags;
+    uses = covers_hidden use_key uses_listed a stays shown then u ud left us.0 us.1 kept.uses;
+    callees = covers_hidden callee_key callees_listed a stays shown then c cd left cs.0 cs.1 kept.callees;
+    callers = covers_hidden caller_key callers_listed a stays shown then e ed left es.0 es.1 kept.callers;
   }
 
 -- ---- one version goes
 module _ (a : Archived) (name : ℕ) (shown then : List Shown) (one : Shown) (dd td ud cd ed : Indexed) where
-  abbrev IsLeft : Keyer → Prefixer → ℕ → Indexed → Type 0
-  IsLeft keyer prefixer n x = Covers keyer prefixer a (filter (λ (s : Shown). not (nat_eq s.name n)) shown) x
+  abbrev IsLeft : Keyer → Lister → ℕ → Indexed → Type 0
+  IsLeft keyer lister n x = Covers keyer lister a (filter (λ (s : Shown). not (nat_eq s.name n)) shown) x
 
   pub kept_taken : (d t u c e : Indexed) → then ≡ filter (λ (s : Shown). not (nat_eq s.name name)) shown → one.name ≡ name
-      → IsLeft def_key def_prefixes one.name dd → IsLeft tag_key tag_prefixes one.name td → IsLeft use_key use_prefixes one.name ud
-      → IsLeft callee_key callee_prefixes one.name cd → IsLeft caller_key caller_prefixes one.name ed
+      → IsLeft def_key defs_listed one.name dd → IsLeft tag_key tags_listed one.name td → IsLeft use_key uses_listed one.name ud
+      → IsLeft callee_key callees_listed one.name cd → IsLeft caller_key callers_listed one.name ed
       → AreKept a shown d t u c e → AreKept a then dd td ud cd ed
   kept_taken d t u c e left named ds ts us cs es kept =
       let other : Shown → Bool = λ s. not (nat_eq s.name name) in
       subst (λ l. AreKept a l dd td ud cd ed) (sym left) (record {
         there = all_filter other (IsThere a) shown kept.there;
         ascending = ascending_filter a other shown kept.ascending;
-        defs = subst (λ n. IsLeft def_key def_prefixes n dd) named ds;
-        tags = subst (λ n. IsLeft tag_key tag_prefixes n td) named ts;
-        uses = subst (λ n. IsLeft use_key use_prefixes n ud) named us;
-        callees = subst (λ n. IsLeft callee_key callee_prefixes n cd) named cs;
-        callers = subst (λ n. IsLeft caller_key caller_prefixes n ed) named es;
+        defs = subst (λ n. IsLeft def_key defs_listed n dd) named ds;
+        tags = subst (λ n. IsLeft tag_key tags_listed n td) named ts;
+        uses = subst (λ n. IsLeft use_key uses_listed n ud) named us;
+        callees = subst (λ n. IsLeft callee_key callees_listed n cd) named cs;
+        callers = subst (λ n. IsLeft caller_key callers_listed n ed) named es;
       })
 
 -- ---- room for versions
@@ -218,12 +218,12 @@ each_room s d t u c e n fits =
 
 -- ---- what waits in one index is put in order
 module _ (a : Archived) (shown : List Shown) (d t u c e x : Indexed) (n : Totals) where
-  pub settled_defs : x.held ≡ in_order (sort_key def_key a) (d.held ++ all_entries def_prefixes a d.waiting) → x.waiting ≡ []
+  pub settled_defs : x.held ≡ in_order (sort_key def_key a) (d.held ++ all_entries defs_listed a d.waiting) → x.waiting ≡ []
       → AreKept a shown d t u c e → AreKept a shown x t u c e
   settled_defs held waiting kept = record {
     there = kept.there;
     ascending = kept.ascending;
-    defs = covers_settled def_key def_prefixes a shown d x held waiting kept.defs;
+    defs = covers_settled def_key defs_listed a shown d x held waiting kept.defs;
     tags = kept.tags;
     uses = kept.uses;
     callees = kept.callees;
@@ -239,13 +239,13 @@ module _ (a : Archived) (shown : List Shown) (d t u c e x : Indexed) (n : Totals
     callers = is.callers;
   }
 
-  pub settled_tags : x.held ≡ in_order (sort_key tag_key a) (t.held ++ all_entries tag_prefixes a t.waiting) → x.waiting ≡ []
+  pub settled_tags : x.held ≡ in_order (sort_key tag_key a) (t.held ++ all_entries tags_listed a t.waiting) → x.waiting ≡ []
       → AreKept a shown d t u c e → AreKept a shown d x u c e
   settled_tags held waiting kept = record {
     there = kept.there;
     ascending = kept.ascending;
     defs = kept.defs;
-    tags = covers_settled tag_key tag_prefixes a shown t x held waiting kept.tags;
+    tags = covers_settled tag_key tags_listed a shown t x held waiting kept.tags;
     uses = kept.uses;
     callees = kept.callees;
     callers = kept.callers;
@@ -260,14 +260,14 @@ module _ (a : Archived) (shown : List Shown) (d t u c e x : Indexed) (n : Totals
     callers = is.callers;
   }
 
-  pub settled_uses : x.held ≡ in_order (sort_key use_key a) (u.held ++ all_entries use_prefixes a u.waiting) → x.waiting ≡ []
+  pub settled_uses : x.held ≡ in_order (sort_key use_key a) (u.held ++ all_entries uses_listed a u.waiting) → x.waiting ≡ []
       → AreKept a shown d t u c e → AreKept a shown d t x c e
   settled_uses held waiting kept = record {
     there = kept.there;
     ascending = kept.ascending;
     defs = kept.defs;
     tags = kept.tags;
-    uses = covers_settled use_key use_prefixes a shown u x held waiting kept.uses;
+    uses = covers_settled use_key uses_listed a shown u x held waiting kept.uses;
     callees = kept.callees;
     callers = kept.callers;
   }
@@ -281,7 +281,7 @@ module _ (a : Archived) (shown : List Shown) (d t u c e x : Indexed) (n : Totals
     callers = is.callers;
   }
 
-  pub settled_callees : x.held ≡ in_order (sort_key callee_key a) (c.held ++ all_entries callee_prefixes a c.waiting) → x.waiting ≡ []
+  pub settled_callees : x.held ≡ in_order (sort_key callee_key a) (c.held ++ all_entries callees_listed a c.waiting) → x.waiting ≡ []
       → AreKept a shown d t u c e → AreKept a shown d t u x e
   settled_callees held waiting kept = record {
     there = kept.there;
@@ -289,7 +289,7 @@ module _ (a : Archived) (shown : List Shown) (d t u c e x : Indexed) (n : Totals
     defs = kept.defs;
     tags = kept.tags;
     uses = kept.uses;
-    callees = covers_settled callee_key callee_prefixes a shown c x held waiting kept.callees;
+    callees = covers_settled callee_key callees_listed a shown c x held waiting kept.callees;
     callers = kept.callers;
   }
 
@@ -302,7 +302,7 @@ module _ (a : Archived) (shown : List Shown) (d t u c e x : Indexed) (n : Totals
     callers = is.callers;
   }
 
-  pub settled_callers : x.held ≡ in_order (sort_key caller_key a) (e.held ++ all_entries caller_prefixes a e.waiting) → x.waiting ≡ []
+  pub settled_callers : x.held ≡ in_order (sort_key caller_key a) (e.held ++ all_entries callers_listed a e.waiting) → x.waiting ≡ []
       → AreKept a shown d t u c e → AreKept a shown d t u c x
   settled_callers held waiting kept = record {
     there = kept.there;
@@ -311,7 +311,7 @@ module _ (a : Archived) (shown : List Shown) (d t u c e x : Indexed) (n : Totals
     tags = kept.tags;
     uses = kept.uses;
     callees = kept.callees;
-    callers = covers_settled caller_key caller_prefixes a shown e x held waiting kept.callers;
+    callers = covers_settled caller_key callers_listed a shown e x held waiting kept.callers;
   }
 
   pub within_callers : e.room ≤ x.room → AreWithin n d t u c e → AreWithin n d t u c x

@@ -20,9 +20,9 @@ use Rattle.cb_scan.proofs.WithinLemmas.{all-append, all-drop, all-take}
 use Rattle.cb_tags.specs.TagNames.{base_name, tag_name, without_c}
 use Rattle.cb_index.specs.Archived.{Archived, AreBytes, name_of}
 use Rattle.cb_index.specs.Bytes.{bytes_at, cut}
-use Rattle.cb_index.specs.Entries.{Keyer, entries_from, has_key, key_of}
-use Rattle.cb_index.specs.Held.{Prefixer, all_entries, entries_of}
-use Rattle.cb_index.specs.Orders.{def_key, def_prefix, def_prefixes, tag_front, tag_key, tag_prefix, tag_prefixes}
+use Rattle.cb_index.specs.Entries.{Keyer, has_key, key_of}
+use Rattle.cb_index.specs.Held.{Lister, all_entries, entries_of, entry_of}
+use Rattle.cb_index.specs.Orders.{def_key, def_prefix, defs_listed, numbered, tag_front, tag_key, tag_prefix, tags_listed}
 use Rattle.cb_index.specs.declared.entry.Entry.{Entry}
 use Rattle.cb_index.specs.declared.entry.Shown.{Shown}
 use Rattle.cb_index.proofs.RestLemmas.{at_front, drop_next}
@@ -195,7 +195,7 @@ module _ (front : List ℕ → List ℕ) (keyer : Keyer) (prefixed : List ℕ �
         ∙ sym (ap (λ o. key_prefix (front (keyer o (name_of a s.name) n))) there)
 
     told_from : AreBytes text → (n : ℕ) (defs : List Def) → drop n (facts_of text).defs ≡ defs
-        → AllByRecursion (HasPrefix front keyer a) (entries_from n s.name s.version (map (prefixed text) defs))
+        → AllByRecursion (HasPrefix front keyer a) (map (entry_of s) (numbered n (map (prefixed text) defs)))
     told_from bytes n [] is = tt
     told_from bytes n (d ∷ defs) is = (
       (
@@ -205,26 +205,26 @@ module _ (front : List ℕ → List ℕ) (keyer : Keyer) (prefixed : List ℕ �
       told_from bytes (suc n) defs (drop_next n (facts_of text).defs ∙ ap (drop 1) is),
     )
 
-  module _ (prefixer : Prefixer) (none : prefixer None ≡ []) (some : (text : List ℕ) → prefixer (Some text) ≡ map (prefixed text) (facts_of text).defs)
+  module _ (lister : Lister) (none : lister None ≡ []) (some : (text : List ℕ) → lister (Some text) ≡ numbered 0 (map (prefixed text) (facts_of text).defs))
       (a : Archived) (bytes : AllByRecursion AreBytes a.texts) where
     told_of : (s : Shown) (o : Option (List ℕ)) → slice_get a.texts s.version ≡ o
-        → AllByRecursion (HasPrefix front keyer a) (entries_from 0 s.name s.version (prefixer o))
+        → AllByRecursion (HasPrefix front keyer a) (map (entry_of s) (lister o))
     told_of s None there =
-        subst (λ ps. AllByRecursion (HasPrefix front keyer a) (entries_from 0 s.name s.version ps)) (sym none) tt
+        subst (λ ps. AllByRecursion (HasPrefix front keyer a) (map (entry_of s) ps)) (sym none) tt
     told_of s (Some text) there =
-        subst (λ ps. AllByRecursion (HasPrefix front keyer a) (entries_from 0 s.name s.version ps)) (sym (some text))
+        subst (λ ps. AllByRecursion (HasPrefix front keyer a) (map (entry_of s) ps)) (sym (some text))
         (told_from a s text there (text_of s.version a.texts text there bytes) 0 (facts_of text).defs refl)
 
-    pub all_told : (shown : List Shown) → AllByRecursion (HasPrefix front keyer a) (all_entries prefixer a shown)
+    pub all_told : (shown : List Shown) → AllByRecursion (HasPrefix front keyer a) (all_entries lister a shown)
     all_told [] = tt
     all_told (s ∷ shown) =
-        all-append (HasPrefix front keyer a) (entries_of prefixer a s) (all_entries prefixer a shown)
+        all-append (HasPrefix front keyer a) (entries_of lister a s) (all_entries lister a shown)
         (told_of s (slice_get a.texts s.version) refl) (all_told shown)
 
 -- ---- the two orders
 module _ (a : Archived) (bytes : AllByRecursion AreBytes a.texts) (shown : List Shown) where
-  pub defs_told : AllByRecursion (HasPrefix (λ key. key) def_key a) (all_entries def_prefixes a shown)
-  defs_told = all_told (λ key. key) def_key def_prefix names_told def_prefixes refl (λ text. refl) a bytes shown
+  pub defs_told : AllByRecursion (HasPrefix (λ key. key) def_key a) (all_entries defs_listed a shown)
+  defs_told = all_told (λ key. key) def_key def_prefix names_told defs_listed refl (λ text. refl) a bytes shown
 
-  pub tag_names_told : AllByRecursion (HasPrefix tag_front tag_key a) (all_entries tag_prefixes a shown)
-  tag_names_told = all_told tag_front tag_key tag_prefix tags_told tag_prefixes refl (λ text. refl) a bytes shown
+  pub tag_names_told : AllByRecursion (HasPrefix tag_front tag_key a) (all_entries tags_listed a shown)
+  tag_names_told = all_told tag_front tag_key tag_prefix tags_told tags_listed refl (λ text. refl) a bytes shown

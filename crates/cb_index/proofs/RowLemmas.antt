@@ -29,10 +29,10 @@ use Rattle.cb_tags.specs.TagLines.{Tag}
 use Rattle.cb_tags.specs.TagNames.{tag_name}
 use Rattle.cb_index.specs.Archived.{Archived, AreBytes, name_of}
 use Rattle.cb_index.specs.Bytes.{bytes_at, cut}
-use Rattle.cb_index.specs.Entries.{Keyer, entries_from, file_key, has_key, key_of, sort_key}
+use Rattle.cb_index.specs.Entries.{Keyer, file_key, has_key, key_of, sort_key}
 use Rattle.cb_index.specs.Files.{AreAscending, File, IsThere, file_of, files_of}
-use Rattle.cb_index.specs.Held.{Prefixer, all_entries, entries_of}
-use Rattle.cb_index.specs.Orders.{def_key, def_prefix, def_prefixes, tag_front, tag_key, tag_prefix, tag_prefixes}
+use Rattle.cb_index.specs.Held.{AreRising, Lister, all_entries, entries_of, entry_of}
+use Rattle.cb_index.specs.Orders.{def_key, def_prefix, defs_listed, numbered, tag_front, tag_key, tag_prefix, tags_listed}
 use Rattle.cb_index.specs.Rows.{file_tags, file_tags_named, tag_in, tags_by_name, tags_by_tag_name, tags_named}
 use Rattle.cb_index.specs.Shelved.{IsIndexOf, with_facts}
 use Rattle.cb_index.specs.steps.Found.{tag_at, tag_in_text, tag_of_def}
@@ -44,13 +44,14 @@ use Rattle.cb_index.proofs.InOrderLemmas.{filter_kept, in_order_agree, map_in_or
 use Rattle.cb_index.proofs.IndexLemmas.{ComesFirst, all_ordered}
 use Rattle.cb_index.proofs.PrefixLemmas.{GoesFirst, HasPrefix, defs_told, entry_told, key_decides, names_told, prefixes_first, tag_front_first, tag_names_told, whole_first}
 use Rattle.cb_index.proofs.RestLemmas.{at_front, drop_next}
+use Rattle.cb_index.proofs.RiseLemmas.{defs_rise, tags_rise}
 
 -- ---- an index is in order
-pub again : (keyer : Keyer) (prefixer : Prefixer) (a : Archived) (shown : List Shown) (es : List Entry)
-    → IsIndexOf keyer prefixer a shown es → es ≡ in_order (sort_key keyer a) es
-again keyer prefixer a shown es is =
-    is ∙ same_order (sort_key keyer a) (sort_exact keyer a) (all_entries prefixer a shown) es
-    (λ f. sym (in_order_sum (sort_key keyer a) f (all_entries prefixer a shown)) ∙ sym (ap (sum_by f) is))
+pub again : (keyer : Keyer) (lister : Lister) (a : Archived) (shown : List Shown) (es : List Entry)
+    → IsIndexOf keyer lister a shown es → es ≡ in_order (sort_key keyer a) es
+again keyer lister a shown es is =
+    is ∙ same_order (sort_key keyer a) (sort_exact keyer a) (all_entries lister a shown) es
+    (λ f. sym (in_order_sum (sort_key keyer a) f (all_entries lister a shown)) ∙ sym (ap (sum_by f) is))
 
 -- ---- the bytes of a span that lies in the text
 pub cut_is : (text : List ℕ) (span : Span) → IsWithin text span → cut text span ≡ bytes_of text span
@@ -79,14 +80,14 @@ split_and true c is = (refl, is)
 split_and false c is = absurd (false≢true is)
 
 module _ (keyer : Keyer) (a : Archived) where
-  ordered_cmp : (e f : Entry) → slice_cmp nat_cmp (sort_key keyer a e) (sort_key keyer a f)
+  pub ordered_cmp : (e f : Entry) → slice_cmp nat_cmp (sort_key keyer a e) (sort_key keyer a f)
       ≡ ordering_then (nat_cmp e.prefix f.prefix)
       (ordering_then (slice_cmp nat_cmp (key_of keyer a e) (key_of keyer a f)) (slice_cmp nat_cmp (file_key a e) (file_key a f)))
   unfolding sort_key
   ordered_cmp e f = ap (ordering_then (nat_cmp e.prefix f.prefix)) (sym (bytes_cmp keyer a e f))
 
   -- entries of one key go by file and number
-  one_key : (prefix : ℕ) (key : List ℕ) (e f : Entry) → ComesFirst a e f → has_key keyer a prefix key e ≡ true
+  pub one_key : (prefix : ℕ) (key : List ℕ) (e f : Entry) → ComesFirst a e f → has_key keyer a prefix key e ≡ true
       → has_key keyer a prefix key f ≡ true → goes_first (sort_key keyer a) e f ≡ true
   one_key prefix key e f first has_e has_f =
       let in_e = split_and (nat_eq prefix e.prefix) (bytes_eq key (key_of keyer a e)) has_e in
@@ -118,25 +119,25 @@ module _ (keyer : Keyer) (a : Archived) where
       settled Equal p is = is
       settled Greater p is = refl
 
-  module _ (prefixer : Prefixer) (shown : List Shown) (up : AreAscending a shown) where
+  module _ (lister : Lister) (rising : (t : Option (List ℕ)) → AreRising (lister t)) (shown : List Shown) (up : AreAscending a shown) where
     -- the entries of a key in an index are those of the versions, one after the other
-    pub kept_key : (prefix : ℕ) (key : List ℕ) (es : List Entry) → IsIndexOf keyer prefixer a shown es
-        → filter (has_key keyer a prefix key) es ≡ filter (has_key keyer a prefix key) (all_entries prefixer a shown)
+    pub kept_key : (prefix : ℕ) (key : List ℕ) (es : List Entry) → IsIndexOf keyer lister a shown es
+        → filter (has_key keyer a prefix key) es ≡ filter (has_key keyer a prefix key) (all_entries lister a shown)
     kept_key prefix key es is =
         ap (filter (has_key keyer a prefix key)) is
-        ∙ filter_kept (sort_key keyer a) (has_key keyer a prefix key) (all_entries prefixer a shown)
+        ∙ filter_kept (sort_key keyer a) (has_key keyer a prefix key) (all_entries lister a shown)
         (ordered_with (ComesFirst a)
         (λ e f. has_key keyer a prefix key e ≡ true → has_key keyer a prefix key f ≡ true → goes_first (sort_key keyer a) e f ≡ true)
         (λ (_ : Entry). Unit {0}) (λ e f _ _ first. one_key prefix key e f first)
-        (all_entries prefixer a shown) (all_any (all_entries prefixer a shown)) (all_ordered a prefixer shown up))
+        (all_entries lister a shown) (all_any (all_entries lister a shown)) (all_ordered a lister rising shown up))
 
     -- an index of entries that have the prefixes of their keys goes by key
-    pub kept_order : (front : List ℕ → List ℕ) → GoesFirst front → AllByRecursion (HasPrefix front keyer a) (all_entries prefixer a shown)
-        → (es : List Entry) → IsIndexOf keyer prefixer a shown es → es ≡ in_order (key_of keyer a) (all_entries prefixer a shown)
+    pub kept_order : (front : List ℕ → List ℕ) → GoesFirst front → AllByRecursion (HasPrefix front keyer a) (all_entries lister a shown)
+        → (es : List Entry) → IsIndexOf keyer lister a shown es → es ≡ in_order (key_of keyer a) (all_entries lister a shown)
     kept_order front front_first told es is =
-        is ∙ in_order_agree (sort_key keyer a) (key_of keyer a) (all_entries prefixer a shown)
+        is ∙ in_order_agree (sort_key keyer a) (key_of keyer a) (all_entries lister a shown)
         (ordered_with (ComesFirst a) (λ e f. goes_first (sort_key keyer a) e f ≡ goes_first (key_of keyer a) e f)
-        (HasPrefix front keyer a) (by_key front front_first) (all_entries prefixer a shown) told (all_ordered a prefixer shown up))
+        (HasPrefix front keyer a) (by_key front front_first) (all_entries lister a shown) told (all_ordered a lister rising shown up))
 
 -- ---- the tags of definitions
 -- the name of a tag is the key of its entry
@@ -180,7 +181,7 @@ module _ (a : Archived) (s : Shown) (text : List ℕ) (there : slice_get a.texts
   file = record { name = name_of a s.name; bytes = text }
 
   abbrev entry : ℕ → ℕ → Entry
-  entry prefix n = record { prefix = prefix; name = s.name; version = s.version; number = n }
+  entry prefix n = record { prefix = prefix; name = s.name; version = s.version; number = n; rows = 1 }
 
   module _ (prefix n : ℕ) (d : Def) (rest : List Def) (is : drop n (facts_of text).defs ≡ d ∷ rest) (within : IsWithin text d.name) where
     found_def : slice_get (facts_of text).defs n ≡ Some d
@@ -198,7 +199,7 @@ module _ (a : Archived) (s : Shown) (text : List ℕ) (there : slice_get a.texts
 
   tags_from : (prefixed : Def → ℕ) (n : ℕ) (defs : List Def) → drop n (facts_of text).defs ≡ defs
       → AllByRecursion (λ (d : Def). IsWithin text d.name) defs
-      → map (tag_at a) (entries_from n s.name s.version (map prefixed defs)) ≡ map (tag_in file) defs
+      → map (tag_at a) (map (entry_of s) (numbered n (map prefixed defs))) ≡ map (tag_in file) defs
   tags_from prefixed n [] is within = refl
   tags_from prefixed n (d ∷ defs) is within =
       λ i. tag_is (prefixed d) n d defs is within.0 i
@@ -206,13 +207,13 @@ module _ (a : Archived) (s : Shown) (text : List ℕ) (there : slice_get a.texts
 
   tags_named_from : (name : List ℕ) (n : ℕ) (defs : List Def) → drop n (facts_of text).defs ≡ defs
       → AllByRecursion (λ (d : Def). IsWithin text d.name) defs
-      → map (tag_at a) (filter (has_key def_key a (key_prefix name) name) (entries_from n s.name s.version (map (def_prefix text) defs)))
+      → map (tag_at a) (filter (has_key def_key a (key_prefix name) name) (map (entry_of s) (numbered n (map (def_prefix text) defs))))
       ≡ map (tag_in file) (filter (λ (d : Def). bytes_eq name (bytes_of text d.name)) defs)
   tags_named_from name n [] is within = refl
   tags_named_from name n (d ∷ defs) is within =
       let later = tags_named_from name (suc n) defs (drop_next n (facts_of text).defs ∙ ap (drop 1) is) within.1 in
       let here = entry (def_prefix text d) n in
-      let kept = filter (has_key def_key a (key_prefix name) name) (entries_from (suc n) s.name s.version (map (def_prefix text) defs)) in
+      let kept = filter (has_key def_key a (key_prefix name) name) (map (entry_of s) (numbered (suc n) (map (def_prefix text) defs))) in
       ap (λ b. map (tag_at a) (cond b (here ∷ kept) kept))
       (key_decides (λ key. key) def_key a name here (entry_told (λ key. key) def_key def_prefix names_told a s text there n d defs is)
       ∙ ap (bytes_eq name) (key_is (def_prefix text d) n d defs is within.0))
@@ -220,56 +221,56 @@ module _ (a : Archived) (s : Shown) (text : List ℕ) (there : slice_get a.texts
       (filter (λ (x : Def). bytes_eq name (bytes_of text x.name)) defs) (tag_is (def_prefix text d) n d defs is within.0) later
 
 module _ (a : Archived) where
-  all_tags : (prefixer : Prefixer) (prefixed : List ℕ → Def → ℕ)
-      → ((text : List ℕ) → prefixer (Some text) ≡ map (prefixed text) (facts_of text).defs)
+  all_tags : (lister : Lister) (prefixed : List ℕ → Def → ℕ)
+      → ((text : List ℕ) → lister (Some text) ≡ numbered 0 (map (prefixed text) (facts_of text).defs))
       → (shown : List Shown) → AllByRecursion (IsThere a) shown
-      → map (tag_at a) (all_entries prefixer a shown) ≡ flat_map file_tags (files_of a shown)
-  all_tags prefixer prefixed some [] all = refl
-  all_tags prefixer prefixed some (s ∷ shown) all =
+      → map (tag_at a) (all_entries lister a shown) ≡ flat_map file_tags (files_of a shown)
+  all_tags lister prefixed some [] all = refl
+  all_tags lister prefixed some (s ∷ shown) all =
       let text = get_or a.texts s.version [] in
       let there : slice_get a.texts s.version ≡ Some text = slice_get-get_or a.texts s.version [] all.0.1 in
-      map-append (tag_at a) (entries_of prefixer a s) (all_entries prefixer a shown)
-      ∙ (λ i. (ap (λ o. map (tag_at a) (entries_from 0 s.name s.version (prefixer o))) there
-      ∙ ap (λ ps. map (tag_at a) (entries_from 0 s.name s.version ps)) (some text)
+      map-append (tag_at a) (entries_of lister a s) (all_entries lister a shown)
+      ∙ (λ i. (ap (λ o. map (tag_at a) (map (entry_of s) (lister o))) there
+      ∙ ap (λ ps. map (tag_at a) (map (entry_of s) ps)) (some text)
       ∙ tags_from a s text there (prefixed text) 0 (facts_of text).defs refl (facts_lie text).defs) i
-      ++ all_tags prefixer prefixed some shown all.1 i)
+      ++ all_tags lister prefixed some shown all.1 i)
 
   all_tags_named : (name : List ℕ) (shown : List Shown) → AllByRecursion (IsThere a) shown
-      → map (tag_at a) (filter (has_key def_key a (key_prefix name) name) (all_entries def_prefixes a shown))
+      → map (tag_at a) (filter (has_key def_key a (key_prefix name) name) (all_entries defs_listed a shown))
       ≡ flat_map (file_tags_named name) (files_of a shown)
   all_tags_named name [] all = refl
   all_tags_named name (s ∷ shown) all =
       let text = get_or a.texts s.version [] in
       let there : slice_get a.texts s.version ≡ Some text = slice_get-get_or a.texts s.version [] all.0.1 in
       let has = has_key def_key a (key_prefix name) name in
-      ap (map (tag_at a)) (filter-append has (entries_of def_prefixes a s) (all_entries def_prefixes a shown))
-      ∙ map-append (tag_at a) (filter has (entries_of def_prefixes a s)) (filter has (all_entries def_prefixes a shown))
-      ∙ (λ i. (ap (λ o. map (tag_at a) (filter has (entries_from 0 s.name s.version (def_prefixes o)))) there
+      ap (map (tag_at a)) (filter-append has (entries_of defs_listed a s) (all_entries defs_listed a shown))
+      ∙ map-append (tag_at a) (filter has (entries_of defs_listed a s)) (filter has (all_entries defs_listed a shown))
+      ∙ (λ i. (ap (λ o. map (tag_at a) (filter has (map (entry_of s) (defs_listed o)))) there
       ∙ tags_named_from a s text there name 0 (facts_of text).defs refl (facts_lie text).defs) i ++ all_tags_named name shown all.1 i)
 
   module _ (shown : List Shown) (all : AllByRecursion (IsThere a) shown) (up : AreAscending a shown) (es : List Entry) where
     module _ (bytes : AllByRecursion AreBytes a.texts) where
-      pub rows_by_name : IsIndexOf def_key def_prefixes a shown es → map (tag_at a) es ≡ tags_by_name (files_of a shown)
+      pub rows_by_name : IsIndexOf def_key defs_listed a shown es → map (tag_at a) es ≡ tags_by_name (files_of a shown)
       unfolding tags_by_name
       rows_by_name is =
-          ap (map (tag_at a)) (kept_order def_key a def_prefixes shown up (λ key. key) whole_first (defs_told a bytes shown) es is)
-          ∙ map_in_order (key_of def_key a) (λ (t : Tag). t.name) (tag_at a) (all_entries def_prefixes a shown)
-          (all_of (λ e. key_of def_key a e ≡ (tag_at a e).name) (key_is_name a) (all_entries def_prefixes a shown))
-          ∙ ap (in_order (λ (t : Tag). t.name)) (all_tags def_prefixes def_prefix (λ text. refl) shown all)
+          ap (map (tag_at a)) (kept_order def_key a defs_listed defs_rise shown up (λ key. key) whole_first (defs_told a bytes shown) es is)
+          ∙ map_in_order (key_of def_key a) (λ (t : Tag). t.name) (tag_at a) (all_entries defs_listed a shown)
+          (all_of (λ e. key_of def_key a e ≡ (tag_at a e).name) (key_is_name a) (all_entries defs_listed a shown))
+          ∙ ap (in_order (λ (t : Tag). t.name)) (all_tags defs_listed def_prefix (λ text. refl) shown all)
 
-      pub rows_by_tag_name : IsIndexOf tag_key tag_prefixes a shown es → map (tag_at a) es ≡ tags_by_tag_name (files_of a shown)
+      pub rows_by_tag_name : IsIndexOf tag_key tags_listed a shown es → map (tag_at a) es ≡ tags_by_tag_name (files_of a shown)
       unfolding tags_by_tag_name
       rows_by_tag_name is =
-          ap (map (tag_at a)) (kept_order tag_key a tag_prefixes shown up tag_front tag_front_first (tag_names_told a bytes shown) es is)
-          ∙ map_in_order (key_of tag_key a) (λ (t : Tag). tag_name t.name t.file) (tag_at a) (all_entries tag_prefixes a shown)
-          (all_of (λ e. key_of tag_key a e ≡ tag_name (tag_at a e).name (tag_at a e).file) (key_is_tag_name a) (all_entries tag_prefixes a shown))
-          ∙ ap (in_order (λ (t : Tag). tag_name t.name t.file)) (all_tags tag_prefixes tag_prefix (λ text. refl) shown all)
+          ap (map (tag_at a)) (kept_order tag_key a tags_listed tags_rise shown up tag_front tag_front_first (tag_names_told a bytes shown) es is)
+          ∙ map_in_order (key_of tag_key a) (λ (t : Tag). tag_name t.name t.file) (tag_at a) (all_entries tags_listed a shown)
+          (all_of (λ e. key_of tag_key a e ≡ tag_name (tag_at a e).name (tag_at a e).file) (key_is_tag_name a) (all_entries tags_listed a shown))
+          ∙ ap (in_order (λ (t : Tag). tag_name t.name t.file)) (all_tags tags_listed tag_prefix (λ text. refl) shown all)
 
-    pub rows_named : (name : List ℕ) → IsIndexOf def_key def_prefixes a shown es
+    pub rows_named : (name : List ℕ) → IsIndexOf def_key defs_listed a shown es
         → map (tag_at a) (filter (has_key def_key a (key_prefix name) name) es) ≡ tags_named name (files_of a shown)
     unfolding tags_named
     rows_named name is =
-        ap (map (tag_at a)) (kept_key def_key a def_prefixes shown up (key_prefix name) name es is) ∙ all_tags_named name shown all
+        ap (map (tag_at a)) (kept_key def_key a defs_listed defs_rise shown up (key_prefix name) name es is) ∙ all_tags_named name shown all
 
 -- ---- the files that are shown
 pub entries_are : (a : Archived) (shown : List Shown) → AllByRecursion (IsThere a) shown

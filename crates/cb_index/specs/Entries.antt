@@ -19,7 +19,7 @@ key_of keyer a e = keyer (slice_get a.texts e.version) (name_of a e.name) e.numb
 
 -- the numbers of an entry; of one version its own numbers go by place
 abbrev pub numbers : Entry → List ℕ
-numbers e = e.name ∷ e.version ∷ e.number ∷ []
+numbers e = e.name ∷ e.version ∷ e.number ∷ e.rows ∷ []
 
 -- what orders entries of one key: the file name, then the numbers of the entry. A 0 ends the name,
 -- and no byte is 0 in it
@@ -33,13 +33,6 @@ bytes_key keyer a e = map suc (key_of keyer a e) ++ 0 ∷ file_key a e
 -- what entries are compared by, number by number
 unfoldable pub sort_key : Keyer → Archived → Entry → List ℕ
 sort_key keyer a e = e.prefix ∷ bytes_key keyer a e
-
--- entries of a version under a name with these prefixes, numbered from a number on
-abbrev pub entries_from : ℕ → ℕ → ℕ → List ℕ → List Entry
-entries_from number name version [] = []
-entries_from number name version (p ∷ ps) =
-    record { prefix = p; name = name; version = version; number = number }
-    ∷ entries_from (suc number) name version ps
 
 -- a key with its prefix against an entry
 abbrev pub key_cmp : Keyer → Archived → ℕ → List ℕ → Entry → Ordering

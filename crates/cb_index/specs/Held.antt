@@ -1,8 +1,8 @@
 -- What an index holds.
-use Rattle.std.specs.Prelude.{ℕ, List, Option, slice_get}
+use Rattle.std.specs.Prelude.{ℕ, ◌<◌, List, Option, map, slice_get}
 use Rattle.std.specs.List.{flat_map}
+use Rattle.cb_scan.specs.Order.{AreOrdered}
 use Rattle.cb_index.specs.Archived.{Archived}
-use Rattle.cb_index.specs.Entries.{entries_from}
 use Rattle.cb_index.specs.declared.entry.Entry.{Entry}
 use Rattle.cb_index.specs.declared.entry.Shown.{Shown}
 
@@ -19,18 +19,39 @@ pub record Indexed : Type 0 where
   pub room : ℕ
   pub version_room : ℕ
 
--- the prefixes that an order gives the entries of a text, if it is there
-abbrev pub Prefixer : Type 0
-Prefixer = Option (List ℕ) → List ℕ
+-- an item of a text that has an entry: its number, the prefix of its key, and how many rows the
+-- entry stands for
+pub record Listed : Type 0 where
+  pub number : ℕ
+  pub prefix : ℕ
+  pub rows : ℕ
+
+-- these items ascend by number
+abbrev pub AreRising : List Listed → Type 0
+AreRising items = AreOrdered (λ (i j : Listed). i.number < j.number) items
+
+-- the items of a text that have entries, if it is there
+abbrev pub Lister : Type 0
+Lister = Option (List ℕ) → List Listed
 
 -- those of a version
-abbrev pub prefixes_of : Prefixer → Archived → ℕ → List ℕ
-prefixes_of prefixer a version = prefixer (slice_get a.texts version)
+abbrev pub listed_of : Lister → Archived → ℕ → List Listed
+listed_of lister a version = lister (slice_get a.texts version)
+
+-- the entry of an item of a version under a name
+abbrev pub entry_of : Shown → Listed → Entry
+entry_of s item = record {
+  prefix = item.prefix;
+  name = s.name;
+  version = s.version;
+  number = item.number;
+  rows = item.rows;
+}
 
 -- the entries of a version under a name
-abbrev pub entries_of : Prefixer → Archived → Shown → List Entry
-entries_of prefixer a s = entries_from 0 s.name s.version (prefixes_of prefixer a s.version)
+abbrev pub entries_of : Lister → Archived → Shown → List Entry
+entries_of lister a s = map (entry_of s) (listed_of lister a s.version)
 
 -- the entries of all versions that are shown
-abbrev pub all_entries : Prefixer → Archived → List Shown → List Entry
-all_entries prefixer a shown = flat_map (entries_of prefixer a) shown
+abbrev pub all_entries : Lister → Archived → List Shown → List Entry
+all_entries lister a shown = flat_map (entries_of lister a) shown

@@ -1,10 +1,14 @@
 pub mod Archived
 pub mod Blocks
 pub mod Bytes
+pub mod Counts
 pub mod Entries
 pub mod Files
+pub mod Firsts
 pub mod Held
 pub mod Includes
+pub mod Items
+pub mod Links
 pub mod Names
 pub mod Orders
 pub mod RowOrders

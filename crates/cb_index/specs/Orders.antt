@@ -1,79 +1,80 @@
 -- The five orders.
-use Rattle.std.specs.Prelude.{ℕ, List, [], ◌∷◌, map, codes, nat_eq, Option, Some, None, slice_get}
-use Rattle.std.specs.Prelude.{slice_index_or, if◌then◌else◌}
+use Rattle.std.specs.Prelude.{ℕ, suc, List, [], ◌∷◌, map, codes, nat_eq, Option, Some, None}
+use Rattle.std.specs.Prelude.{slice_get, if◌then◌else◌}
 use Rattle.std.specs.Option.{option_map}
-use Rattle.cb_scan.specs.declared.facts.Call.{Call}
 use Rattle.cb_scan.specs.declared.facts.Def.{Def}
-use Rattle.cb_scan.specs.declared.facts.Use.{Use}
 use Rattle.cb_scan.specs.declared.lex.piece.Span.{Span}
 use Rattle.cb_scan.specs.Definitions.{facts_of}
-use Rattle.cb_scan.specs.FactKeys.{keys_of}
-use Rattle.cb_scan.specs.Keys.{ItemsByKey, key_prefix}
+use Rattle.cb_scan.specs.Keys.{key_prefix}
 use Rattle.cb_scan.specs.TextFacts.{TextFacts}
 use Rattle.cb_tags.specs.TagNames.{tag_name}
 use Rattle.cb_index.specs.Bytes.{bytes_at, cut}
+use Rattle.cb_index.specs.Entries.{Keyer}
+use Rattle.cb_index.specs.Firsts.{firsts}
+use Rattle.cb_index.specs.Held.{Listed, Lister}
+use Rattle.cb_index.specs.Items.{item_key}
+use Rattle.cb_index.specs.declared.rows.FactSort.{FactSort}
+use Rattle.cb_index.specs.declared.rows.FactSort.TheVariants.{Uses, Callees, Callers}
 
--- the first item of a posting
-abbrev pub first_item : ItemsByKey → ℕ → ℕ
-first_item keys number = slice_index_or keys.items (slice_index_or keys.starts number 0) 0
-
--- the names of facts, if they are there
+-- the name of a definition, if it is there
 abbrev pub def_span : TextFacts → ℕ → Option Span
 def_span f item = option_map (λ (d : Def). d.name) (slice_get f.defs item)
 
-abbrev pub use_span : TextFacts → ℕ → Option Span
-use_span f item = option_map (λ (u : Use). u.name) (slice_get f.uses item)
+-- ---- uses and calls: an entry is the first item of a key
 
-abbrev pub callee_span : TextFacts → ℕ → Option Span
-callee_span f item = option_map (λ (c : Call). c.callee) (slice_get f.calls item)
+-- the key of an item of a text, if that is there
+abbrev pub key_in : FactSort → Option (List ℕ) → ℕ → List ℕ
+key_in sort None item = []
+key_in sort (Some text) item = item_key sort text item
 
-abbrev pub caller_span : TextFacts → ℕ → Option Span
-caller_span f item = option_map (λ (c : Call). c.caller) (slice_get f.calls item)
+abbrev pub item_keyer : FactSort → Keyer
+item_keyer sort text file item = key_in sort text item
 
--- ---- uses by name: an entry is a posting
-abbrev pub use_key : Option (List ℕ) → List ℕ → ℕ → List ℕ
-use_key None file number = []
-use_key (Some text) file number =
-    bytes_at text (use_span (facts_of text) (first_item (keys_of text).uses number))
+abbrev pub firsts_in : FactSort → Lister
+firsts_in sort None = []
+firsts_in sort (Some text) = firsts sort text
 
-abbrev pub use_prefixes : Option (List ℕ) → List ℕ
-use_prefixes None = []
-use_prefixes (Some text) = (keys_of text).uses.prefixes
+-- uses by name
+abbrev pub use_key : Keyer
+use_key text file item = key_in Uses text item
 
--- ---- calls by the called name: an entry is a posting
-abbrev pub callee_key : Option (List ℕ) → List ℕ → ℕ → List ℕ
-callee_key None file number = []
-callee_key (Some text) file number =
-    bytes_at text (callee_span (facts_of text) (first_item (keys_of text).callees number))
+abbrev pub uses_listed : Lister
+uses_listed text = firsts_in Uses text
 
-abbrev pub callee_prefixes : Option (List ℕ) → List ℕ
-callee_prefixes None = []
-callee_prefixes (Some text) = (keys_of text).callees.prefixes
+-- calls by the called name
+abbrev pub callee_key : Keyer
+callee_key text file item = key_in Callees text item
 
--- ---- calls by the name that calls: an entry is a posting
-abbrev pub caller_key : Option (List ℕ) → List ℕ → ℕ → List ℕ
-caller_key None file number = []
-caller_key (Some text) file number =
-    bytes_at text (caller_span (facts_of text) (first_item (keys_of text).callers number))
+abbrev pub callees_listed : Lister
+callees_listed text = firsts_in Callees text
 
-abbrev pub caller_prefixes : Option (List ℕ) → List ℕ
-caller_prefixes None = []
-caller_prefixes (Some text) = (keys_of text).callers.prefixes
+-- calls by the name that calls
+abbrev pub caller_key : Keyer
+caller_key text file item = key_in Callers text item
+
+abbrev pub callers_listed : Lister
+callers_listed text = firsts_in Callers text
 
 -- ---- definitions by name: an entry is a definition
-abbrev pub def_key : Option (List ℕ) → List ℕ → ℕ → List ℕ
+abbrev pub def_key : Keyer
 def_key None file number = []
 def_key (Some text) file number = bytes_at text (def_span (facts_of text) number)
 
 unfoldable pub def_prefix : List ℕ → Def → ℕ
 def_prefix text d = key_prefix (cut text d.name)
 
-abbrev pub def_prefixes : Option (List ℕ) → List ℕ
-def_prefixes None = []
-def_prefixes (Some text) = map (def_prefix text) (facts_of text).defs
+-- items with these prefixes, numbered from a number on; each has one row
+abbrev pub numbered : ℕ → List ℕ → List Listed
+numbered number [] = []
+numbered number (p ∷ ps) =
+    record { number = number; prefix = p; rows = 1 } ∷ numbered (suc number) ps
+
+abbrev pub defs_listed : Lister
+defs_listed None = []
+defs_listed (Some text) = numbered 0 (map (def_prefix text) (facts_of text).defs)
 
 -- ---- definitions by tag name: an entry is a definition
-abbrev pub tag_key : Option (List ℕ) → List ℕ → ℕ → List ℕ
+abbrev pub tag_key : Keyer
 tag_key text file number = tag_name (def_key text file number) file
 
 -- what the prefix of a tag name is made of: the tag name, but only the `M` of one that begins with
@@ -88,6 +89,6 @@ tag_key_prefix key = key_prefix (tag_front key)
 unfoldable pub tag_prefix : List ℕ → Def → ℕ
 tag_prefix text d = tag_key_prefix (tag_name (cut text d.name) [])
 
-abbrev pub tag_prefixes : Option (List ℕ) → List ℕ
-tag_prefixes None = []
-tag_prefixes (Some text) = map (tag_prefix text) (facts_of text).defs
+abbrev pub tags_listed : Lister
+tags_listed None = []
+tags_listed (Some text) = numbered 0 (map (tag_prefix text) (facts_of text).defs)

@@ -10,9 +10,9 @@ use Rattle.cb_scan.specs.declared.lex.piece.Span.{Span}
 use Rattle.cb_scan.specs.Definitions.{facts_of}
 use Rattle.cb_scan.specs.Order.{kind_rank}
 use Rattle.cb_index.specs.Archived.{Archived, name_of}
-use Rattle.cb_index.specs.Bytes.{bytes_at}
 use Rattle.cb_index.specs.Entries.{Keyer}
-use Rattle.cb_index.specs.Orders.{callee_span, caller_span, def_span, use_span}
+use Rattle.cb_index.specs.Items.{callee_span, use_span}
+use Rattle.cb_index.specs.Orders.{def_span}
 use Rattle.cb_index.specs.declared.entry.Shown.{Shown}
 use Rattle.cb_index.specs.declared.row.Row.{Row}
 
@@ -62,23 +62,11 @@ abbrev pub no_rank : Placer
 no_rank text item = 0
 
 -- ---- uses by name
-abbrev pub use_item_key : Keyer
-use_item_key None file item = []
-use_item_key (Some text) file item = bytes_at text (use_span (facts_of text) item)
-
 abbrev pub use_start : Placer
 use_start None item = 0
 use_start (Some text) item = start_of (use_span (facts_of text) item)
 
--- ---- calls by the called name and by the name that calls; both go by the place of the called name
-abbrev pub callee_item_key : Keyer
-callee_item_key None file item = []
-callee_item_key (Some text) file item = bytes_at text (callee_span (facts_of text) item)
-
-abbrev pub caller_item_key : Keyer
-caller_item_key None file item = []
-caller_item_key (Some text) file item = bytes_at text (caller_span (facts_of text) item)
-
+-- ---- calls, which go by the place of the called name
 abbrev pub call_start : Placer
 call_start None item = 0
 call_start (Some text) item = start_of (callee_span (facts_of text) item)

@@ -9,9 +9,9 @@ use Rattle.cb_index.specs.Archived.{Archived, name_of}
 use Rattle.cb_index.specs.Entries.{Keyer, sort_key}
 use Rattle.cb_index.specs.Files.{AreApart, AreAscending, File, IsThere, call_count, def_count}
 use Rattle.cb_index.specs.Files.{files_of, is_shown, shown_name, total, use_count}
-use Rattle.cb_index.specs.Held.{Indexed, Prefixer, all_entries}
-use Rattle.cb_index.specs.Orders.{callee_key, callee_prefixes, caller_key, caller_prefixes, def_key}
-use Rattle.cb_index.specs.Orders.{def_prefixes, tag_key, tag_prefixes, use_key, use_prefixes}
+use Rattle.cb_index.specs.Held.{Indexed, Lister, all_entries}
+use Rattle.cb_index.specs.Orders.{callee_key, callees_listed, caller_key, callers_listed, def_key}
+use Rattle.cb_index.specs.Orders.{defs_listed, tag_key, tags_listed, use_key, uses_listed}
 use Rattle.cb_index.specs.declared.asked.Asked.{Asked}
 use Rattle.cb_index.specs.declared.asked.Asked.TheVariants.{Defs, Tags, Uses, Callees, Callers}
 use Rattle.cb_index.specs.declared.entry.Entry.{Entry}
@@ -99,16 +99,16 @@ pub record KeepsRoom (old new : Shelved) : Type 0 where
   pub calls : old.call_room ≤ new.call_room
 
 -- an index holds the entries of all that is shown, in order
-abbrev pub IsIndexOf : Keyer → Prefixer → Archived → List Shown → List Entry → Type 0
-IsIndexOf keyer prefixer a shown es =
-    es ≡ in_order (sort_key keyer a) (all_entries prefixer a shown)
+abbrev pub IsIndexOf : Keyer → Lister → Archived → List Shown → List Entry → Type 0
+IsIndexOf keyer lister a shown es =
+    es ≡ in_order (sort_key keyer a) (all_entries lister a shown)
 
 -- an index is one of what is shown: it holds the entries of some versions in order, the others
 -- wait, and no two of all these have one file name
-pub record Covers (keyer : Keyer) (prefixer : Prefixer) (a : Archived) (shown : List Shown)
+pub record Covers (keyer : Keyer) (lister : Lister) (a : Archived) (shown : List Shown)
     (x : Indexed) : Type 0 where
   pub sorted : List Shown
-  pub held : IsIndexOf keyer prefixer a sorted x.held
+  pub held : IsIndexOf keyer lister a sorted x.held
   pub all : shown ≡ in_order (shown_name a) (sorted ++ x.waiting)
   pub apart : AreApart a (sorted ++ x.waiting)
 
@@ -117,11 +117,11 @@ pub record AreKept (a : Archived) (shown : List Shown)
     (defs_in tags_in uses_in callees_in callers_in : Indexed) : Type 0 where
   pub there : AllByRecursion (IsThere a) shown
   pub ascending : AreAscending a shown
-  pub defs : Covers def_key def_prefixes a shown defs_in
-  pub tags : Covers tag_key tag_prefixes a shown tags_in
-  pub uses : Covers use_key use_prefixes a shown uses_in
-  pub callees : Covers callee_key callee_prefixes a shown callees_in
-  pub callers : Covers caller_key caller_prefixes a shown callers_in
+  pub defs : Covers def_key defs_listed a shown defs_in
+  pub tags : Covers tag_key tags_listed a shown tags_in
+  pub uses : Covers use_key uses_listed a shown uses_in
+  pub callees : Covers callee_key callees_listed a shown callees_in
+  pub callers : Covers caller_key callers_listed a shown callers_in
 
 -- the five indexes have room for so many facts of each kind
 pub record AreWithin (n : Totals)

@@ -1,8 +1,12 @@
 pub mod Bounds
+pub mod Chains
+pub mod Counting
 pub mod Found
 pub mod Includes
+pub mod Laying
 pub mod Left
 pub mod Quick
 pub mod RowsLeft
 pub mod Runs
 pub mod Spread
+pub mod Table

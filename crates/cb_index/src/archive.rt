@@ -12,6 +12,7 @@ ghost use Rattle.std.specs.Prelude.{
   map,
   take,
   IfErr,
+  IfSome,
   IfOk,
   OnOk,
   OnErr,
@@ -20,47 +21,53 @@ ghost use Rattle.std.specs.Prelude.{
 };
 ghost use Rattle.std.specs.Option.{option_copied};
 ghost use Rattle.cb_scan.specs.Definitions.{facts_of};
-ghost use Rattle.cb_scan.specs.FactKeys.{keys_of};
 ghost use Rattle.std.specs.List.{AllByRecursion};
 ghost use Rattle.cb_index.specs.Archived.{AreBytes, name_of};
+ghost use Rattle.cb_index.specs.Links.{link_of, nothing_laid};
+ghost use Rattle.cb_index.specs.steps.Laying.{AreSorted, item_entries};
 
 use crate::bytes::read_bytes;
+use crate::entry::Entry;
+use crate::items::item_count;
+use crate::links::{Link, Links};
 use crate::memory::OutOfMemory;
-use cb_scan::{FactKeys, Facts, Source};
+use crate::rows::FactSort;
+use cb_scan::{Facts, Source};
 use std::alloc::Global;
 use std::marker::Model;
 
-/// A source with the facts of its text, and the same facts by their keys. Its value is the text.
+/// A source with the facts of its text, and links between those of one key. Its value is the text:
+/// whether links are laid is only a matter of time.
 #[derive(Debug, Drop)]
 pub struct Version {
     source: Source,
     facts: Facts,
-    keys: FactKeys,
+    links: Links,
 }
 
 impl Model for Version {
     ghost use Rattle.std.specs.Prelude.{List, ℕ, ◌≡◌};
     ghost use Rattle.cb_scan.specs.Definitions.{facts_of};
-    ghost use Rattle.cb_scan.specs.FactKeys.{keys_of};
+    ghost use Rattle.cb_index.specs.Links.{AreLaid};
 
     ghost Value = { List ℕ };
 
     ghost view = { λ v. v.source };
 
-    ghost invariant = { λ v. (v.facts ≡ facts_of v.source) × (v.keys ≡ keys_of v.source) };
+    ghost invariant = { λ v. (v.facts ≡ facts_of v.source) × AreLaid v.source v.links };
 }
 
 impl Version {
-    /// The version of a source, with its facts and their keys.
-    pub fn new(source: Source, facts: Facts, keys: FactKeys) -> Version
+    /// The version of a source, with its facts and with room for links.
+    pub fn new(source: Source, facts: Facts, links: Links) -> Version
         requires facts { facts ≡ facts_of source }
-        requires keys { keys ≡ keys_of source }
+        requires links { links ≡ nothing_laid }
         ensures { result ≡ source }
     {
         Version {
             source,
             facts,
-            keys,
+            links,
         }
     }
 
@@ -77,10 +84,38 @@ impl Version {
         &self.facts
     }
 
-    pub(crate) fn keys(&self) -> &FactKeys
-        ensures { result.now ≡ keys_of self.now }
+    /// The link of an item, if links are laid.
+    pub(crate) fn link(&self, sort: FactSort, item: u32) -> Option<Link>
+        ensures { IfSome result (λ link. link ≡ link_of sort self.now item) }
     {
-        &self.keys
+        match self.links.of(sort).get(item as usize) {
+            Some(link) => Some(*link),
+            None => None,
+        }
+    }
+
+    /// Whether its links of a sort are not laid, and there is room for them.
+    pub(crate) fn wants_links(&self, sort: FactSort) -> bool {
+        let count = item_count(sort, self);
+        count > 0 && self.links.wants(sort, count)
+    }
+
+    /// Lays the links of a sort by a table of the entries of all items; false, and none are laid,
+    /// where the table is too crowded or where there is too little room.
+    pub(crate) fn lay_by_table(&mut self, sort: FactSort, entries: &mut [Entry]) -> bool
+        requires { entries.old ≡ item_entries sort self.old 0 }
+        ensures { self.new ≡ self.old }
+    {
+        self.links
+            .lay_by_table(sort, &self.source, &self.facts, entries)
+    }
+
+    /// Lays the links of a sort by the entries of all items, in order, if there is room.
+    pub(crate) fn lay_links(&mut self, sort: FactSort, entries: &[Entry])
+        requires { AreSorted sort self.old entries.now }
+        ensures { self.new ≡ self.old }
+    {
+        self.links.lay(sort, &self.source, &self.facts, entries);
     }
 }
 
@@ -231,6 +266,31 @@ impl Archive {
         ensures { result.now ≡ facts_of (slice_index_or self.now.texts version []) }
     {
         self.versions[version as usize].facts()
+    }
+
+    /// Lays links of a version by a table of the entries of all items; false, and none are laid,
+    /// where the table is too crowded or where there is too little room.
+    pub(crate) fn lay_by_table(
+        &mut self,
+        version: u32,
+        sort: FactSort,
+        entries: &mut [Entry],
+    ) -> bool
+        requires there { version < length self.old.texts }
+        requires entries { entries.old
+            ≡ item_entries sort (slice_index_or self.old.texts version []) 0 }
+        ensures { self.new ≡ self.old }
+    {
+        self.versions[version as usize].lay_by_table(sort, entries)
+    }
+
+    /// Lays links of a version by the entries of all items, in order, if there is room.
+    pub(crate) fn lay_links(&mut self, version: u32, sort: FactSort, entries: &[Entry])
+        requires there { version < length self.old.texts }
+        requires entries { AreSorted sort (slice_index_or self.old.texts version []) entries.now }
+        ensures { self.new ≡ self.old }
+    {
+        self.versions[version as usize].lay_links(sort, entries);
     }
 
     /// The version under a number, if it is there.

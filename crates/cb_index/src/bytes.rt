@@ -1,5 +1,5 @@
 //! The bytes that spans name.
-ghost use Rattle.std.specs.Prelude.{◌≡◌, ◌<◌, get_or};
+ghost use Rattle.std.specs.Prelude.{◌≡◌, ◌<◌};
 ghost use Rattle.std.specs.List.{All};
 ghost use Rattle.cb_index.specs.Bytes.{cut, bytes_at};
 
@@ -31,11 +31,4 @@ pub(crate) fn read_bytes(text: &[u8])
     for byte in text {
         let _byte = *byte;
     }
-}
-
-/// The number at a place, or 0 past the end.
-pub(crate) fn number_at(numbers: &[u32], at: usize) -> u32
-    ensures { result ≡ get_or numbers.now at 0 }
-{
-    if at < numbers.len() { numbers[at] } else { 0 }
 }

@@ -9,6 +9,8 @@ pub struct Entry {
     pub name: u32,
     pub version: u32,
     pub number: u32,
+    /// How many rows it stands for; equal ones count as one.
+    pub rows: u32,
 }
 
 /// A version that is shown under a name.

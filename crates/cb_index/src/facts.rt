@@ -1,31 +1,31 @@
 //! Uses and calls, one after another.
-ghost use Rattle.std.specs.Prelude.{◌≡◌, ◌++◌, ◌∷◌, [], MatchOption};
+ghost use Rattle.std.specs.Prelude.{◌≡◌, ◌++◌, ◌∷◌, [], MatchOption, sum_by};
 ghost use Rattle.std.specs.Iterator.{YieldsFirstBy, item_count};
-ghost use Rattle.cb_index.specs.steps.Found.{facts_at, facts_in, keys_for, posting_items};
+ghost use Rattle.cb_index.specs.steps.Found.{facts_at, facts_in};
 ghost use Rattle.cb_index.specs.steps.Left.{
   fact_of,
   fact_of_spot,
+  facts_counted,
   facts_left,
-  posting_left,
-  posting_left_if,
+  group_left,
+  group_left_if,
+  rows_counted,
   spots_left,
 };
 ghost use Rattle.cb_index.specs.steps.Runs.{run_entries};
+ghost use Rattle.cb_index.specs.declared.entry.Entry.{Entry};
 
 use crate::archive::{Archive, Version};
-use crate::bytes::number_at;
 use crate::entry::Entry;
+use crate::items::Chain;
 use crate::rows::{FactRow, FactSort, FactSpot, fact_at};
 use crate::run::Run;
-use cb_scan::{FactKeys, KeyList};
 
-/// The items of one posting that are still to come.
+/// The facts of one key in one version that are still to come.
 #[derive(Clone, Copy)]
-pub(crate) struct Posting<'a> {
-    sort: FactSort,
+pub(crate) struct Group<'a> {
     file: &'a [u8],
-    version: &'a Version,
-    items: &'a [u32],
+    items: Chain<'a>,
 }
 
 /// Uses or calls, without their lines. They take no memory.
@@ -34,7 +34,7 @@ pub struct FactSpots<'a> {
     sort: FactSort,
     archive: &'a Archive,
     entries: Run<'a>,
-    posting: Option<Posting<'a>>,
+    group: Option<Group<'a>>,
 }
 
 /// Uses or calls, each with its line. They take no memory.
@@ -43,54 +43,31 @@ pub struct FactRows<'a> {
     spots: FactSpots<'a>,
 }
 
-pub(crate) fn keys_for(sort: FactSort, keys: &FactKeys) -> &KeyList
-    ensures { result.now ≡ keys_for sort keys.now }
-{
-    match sort {
-        FactSort::Uses => keys.uses(),
-        FactSort::Callees => keys.callees(),
-        FactSort::Callers => keys.callers(),
-    }
-}
-
-/// The items of a posting.
-pub(crate) fn posting_items(keys: &KeyList, number: u32) -> &[u32]
-    ensures { result.now ≡ posting_items keys.now number }
-{
-    let items = keys.items();
-    let end = (number_at(keys.starts(), number as usize + 1) as usize).min(items.len());
-    let start = (number_at(keys.starts(), number as usize) as usize).min(end);
-    &items[start..end]
-}
-
-/// The posting of an entry, if its version is there.
-fn posting_of<'a>(sort: FactSort, archive: &'a Archive, entry: Entry) -> Option<Posting<'a>>
-    ensures { posting_left_if result ≡ facts_at sort archive.now entry }
+/// The facts of an entry, if its version is there.
+fn group_of<'a>(sort: FactSort, archive: &'a Archive, entry: Entry) -> Option<Group<'a>>
+    ensures { group_left_if result ≡ facts_at sort archive.now entry }
 {
     let version = archive.version(entry.version)?;
-    Some(Posting {
-        sort,
+    Some(Group {
         file: archive.name(entry.name),
-        version,
-        items: posting_items(keys_for(sort, version.keys()), entry.number),
+        items: Chain::from(sort, version, entry.number),
     })
 }
 
-/// Takes the first fact of a posting.
-fn take_spot<'a>(posting: &mut Posting<'a>) -> Option<FactSpot<'a>>
-    ensures { MatchOption result (posting_left posting.old ≡ [])
-        (λ s. posting_left posting.old ≡ fact_of_spot s ∷ posting_left posting.new) }
+/// Takes the first fact of a group.
+fn take_spot<'a>(group: &mut Group<'a>) -> Option<FactSpot<'a>>
+    ensures { MatchOption result (group_left group.old ≡ [])
+        (λ s. group_left group.old ≡ fact_of_spot s ∷ group_left group.new) }
 {
-    let (item, rest) = posting.items.split_first()?;
-    posting.items = rest;
-    Some(fact_at(posting.sort, posting.file, posting.version, *item))
+    let item = group.items.take()?;
+    Some(fact_at(group.items.sort(), group.file, group.items.version(), item))
 }
 
-/// A fact, what is left of its posting, and the entries after that.
+/// A fact, what is left of its group, and the entries after that.
 #[derive(Clone, Copy)]
 struct Step<'a> {
     spot: FactSpot<'a>,
-    posting: Posting<'a>,
+    group: Group<'a>,
     entries: Run<'a>,
 }
 
@@ -99,16 +76,16 @@ fn first_spot<'a>(sort: FactSort, archive: &'a Archive, entries: Run<'a>) -> Opt
     ensures { MatchOption result (facts_in sort archive.now (run_entries entries.entry) ≡ [])
         (λ r. facts_in sort archive.now (run_entries entries.entry)
         ≡ fact_of_spot r.spot
-        ∷ (posting_left r.posting ++ facts_in sort archive.now (run_entries r.entries))) }
+        ∷ (group_left r.group ++ facts_in sort archive.now (run_entries r.entries))) }
 {
     let mut left = entries;
     while let Some((entry, rest)) = left.split_first() {
         left = rest;
-        if let Some(mut posting) = posting_of(sort, archive, *entry) {
-            if let Some(spot) = take_spot(&mut posting) {
+        if let Some(mut group) = group_of(sort, archive, *entry) {
+            if let Some(spot) = take_spot(&mut group) {
                 return Some(Step {
                     spot,
-                    posting,
+                    group,
                     entries: left,
                 });
             }
@@ -119,23 +96,42 @@ fn first_spot<'a>(sort: FactSort, archive: &'a Archive, entries: Run<'a>) -> Opt
 
 impl<'a> FactRows<'a> {
     pub(crate) fn new(sort: FactSort, archive: &'a Archive, entries: Run<'a>) -> FactRows<'a>
-        ensures { facts_left result ≡ facts_in sort archive.now (run_entries entries.entry) }
+        ensures rows { facts_left result ≡ facts_in sort archive.now (run_entries entries.entry) }
+        ensures counted { facts_counted result
+            ≡ sum_by (λ (e : Entry). e.rows) (run_entries entries.entry) }
     {
         FactRows {
             spots: FactSpots {
                 sort,
                 archive,
                 entries,
-                posting: None,
+                group: None,
             },
         }
     }
 
     /// The same without their lines.
     pub fn spots(self) -> FactSpots<'a>
-        ensures { spots_left result ≡ facts_left self.entry }
+        ensures rows { spots_left result ≡ facts_left self.entry }
+        ensures counted { rows_counted result ≡ facts_counted self.entry }
     {
         self.spots
+    }
+}
+
+impl<'a> FactSpots<'a> {
+    /// How many rows all of these have, of equal ones in one file one. It asks the entries alone,
+    /// so it is for an iterator that has given nothing yet.
+    pub fn row_count(&self) -> u128
+        ensures { result ≡ rows_counted self.now }
+    {
+        let mut count = 0;
+        let mut left = self.entries;
+        while let Some((entry, rest)) = left.split_first() {
+            left = rest;
+            count += entry.rows as u128;
+        }
+        count
     }
 }
 
@@ -147,14 +143,14 @@ impl<'a> Iterator for FactSpots<'a> {
     ghost remaining = { item_count spots_left };
 
     fn next(&mut self) -> Option<FactSpot<'a>> {
-        if let Some(posting) = &mut self.posting {
-            if let Some(spot) = take_spot(posting) {
+        if let Some(group) = &mut self.group {
+            if let Some(spot) = take_spot(group) {
                 return Some(spot);
             }
         }
-        self.posting = None;
+        self.group = None;
         let found = first_spot(self.sort, self.archive, self.entries)?;
-        self.posting = Some(found.posting);
+        self.group = Some(found.group);
         self.entries = found.entries;
         Some(found.spot)
     }

@@ -128,12 +128,12 @@ impl<O: EntryOrder> Index<O> {
     /// room stays.
     pub(crate) fn take(&mut self, archive: &Archive, one: Shown)
         requires { (shown : List Shown)
-            × Covers O.keyer O.prefixer archive.now shown self.old
+            × Covers O.keyer O.lister archive.now shown self.old
             × (shown_under one.name shown ≡ Some one) }
         ensures others { (shown : List Shown)
-            → Covers O.keyer O.prefixer archive.now shown self.old
+            → Covers O.keyer O.lister archive.now shown self.old
             → shown_under one.name shown ≡ Some one
-            → Covers O.keyer O.prefixer archive.now
+            → Covers O.keyer O.lister archive.now
             (filter (λ (s : Shown). not (nat_eq s.name one.name)) shown) self.new }
         ensures room { self.old.room ≤ self.new.room }
         ensures version_room { self.old.version_room ≤ self.new.version_room }
@@ -169,16 +169,18 @@ impl<O: EntryOrder> Index<O> {
 
     /// Puts what waits in order among the entries that are held, in the room that is there. It
     /// takes no memory.
-    pub(crate) fn settle(&mut self, archive: &Archive)
-        requires order { self.old.held ≡ in_order (sort_key O.keyer archive.now) self.old.held }
+    pub(crate) fn settle(&mut self, archive: &mut Archive)
+        requires order { self.old.held ≡ in_order (sort_key O.keyer archive.old) self.old.held }
         requires room { length self.old.held
-            + length (all_entries O.prefixer archive.now self.old.waiting) ≤ self.old.room }
-        ensures held { self.new.held ≡ in_order (sort_key O.keyer archive.now)
-            (self.old.held ++ all_entries O.prefixer archive.now self.old.waiting) }
+            + length (all_entries O.lister archive.old self.old.waiting) ≤ self.old.room }
+        ensures held { self.new.held ≡ in_order (sort_key O.keyer archive.old)
+            (self.old.held ++ all_entries O.lister archive.old self.old.waiting) }
+        ensures archive { archive.new ≡ archive.old }
         ensures waiting { self.new.waiting ≡ [] }
         ensures room { self.old.room ≤ self.new.room }
         ensures version_room { self.old.version_room ≤ self.new.version_room }
     {
+        self.sorted.lay_each(archive, self.waiting.as_slice());
         self.sorted.put_each(archive, self.waiting.as_slice());
         self.waiting.clear();
     }

@@ -10,24 +10,18 @@ ghost use Rattle.cb_index.specs.Entries.{sort_key};
 ghost use Rattle.cb_index.specs.Files.{call_count, def_count, use_count};
 ghost use Rattle.cb_index.specs.Orders.{
   callee_key,
-  callee_prefixes,
+  callees_listed,
   caller_key,
-  caller_prefixes,
+  callers_listed,
   def_key,
-  def_prefixes,
+  defs_listed,
   tag_key,
   tag_key_prefix,
-  tag_prefixes,
+  tags_listed,
   use_key,
-  use_prefixes,
+  uses_listed,
 };
-ghost use Rattle.cb_index.specs.RowOrders.{
-  callee_item_key,
-  caller_item_key,
-  row_cmp,
-  row_key,
-  use_item_key,
-};
+ghost use Rattle.cb_index.specs.RowOrders.{row_cmp, row_key};
 ghost use Rattle.cb_index.specs.Spreads.{SpreadsInto};
 ghost use Rattle.cb_index.specs.declared.entry.Entry.{Entry};
 ghost use Rattle.cb_index.specs.declared.row.Row.{Row};
@@ -70,11 +64,9 @@ pub fn rows_of_a_key_stand_together<O: RowOrder>()
 /// The entries of a key in an index of files, spread out into rows, are the rows of these files
 /// that have the key, by file name and then by item; so for each of the five orders.
 pub fn ranges_have_the_rows_of_their_keys()
-    ensures defs { SpreadsInto def_key def_prefixes key_prefix None def_key def_count }
-    ensures tags { SpreadsInto tag_key tag_prefixes tag_key_prefix None tag_key def_count }
-    ensures uses { SpreadsInto use_key use_prefixes key_prefix (Some Uses) use_item_key use_count }
-    ensures callees { SpreadsInto callee_key callee_prefixes key_prefix (Some Callees)
-        callee_item_key call_count }
-    ensures callers { SpreadsInto caller_key caller_prefixes key_prefix (Some Callers)
-        caller_item_key call_count }
+    ensures defs { SpreadsInto def_key defs_listed key_prefix None def_count }
+    ensures tags { SpreadsInto tag_key tags_listed tag_key_prefix None def_count }
+    ensures uses { SpreadsInto use_key uses_listed key_prefix (Some Uses) use_count }
+    ensures callees { SpreadsInto callee_key callees_listed key_prefix (Some Callees) call_count }
+    ensures callers { SpreadsInto caller_key callers_listed key_prefix (Some Callers) call_count }
 {}

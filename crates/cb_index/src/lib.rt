@@ -1,9 +1,9 @@
 //! Versions of files and sorted indexes of their facts.
 //!
 //! An [`Archive`] keeps file names and versions, each under a number. A [`Sorted`] keeps entries of
-//! the versions under names in one of five orders. The crate stands on `cb_scan` (facts and their
-//! keys) and `cb_tags` (tag names). The layer above uses the contracts of [`Sorted`]: its entries
-//! are those that were put and not taken, in order, and a range has exactly the entries of a key.
+//! the versions under names in one of five orders. The crate stands on `cb_scan` (facts) and
+//! `cb_tags` (tag names). The layer above uses the contracts of [`Sorted`]: its entries are those
+//! that were put and not taken, in order, and a range has exactly the entries of a key.
 #![tactic(auto)]
 
 mod archive;
@@ -12,12 +12,16 @@ mod block;
 mod blocks;
 mod bytes;
 mod counted;
+mod counts;
 mod entries;
 mod entry;
 mod facts;
 mod includes;
 mod index;
+mod items;
+mod laid;
 pub mod laws;
+mod links;
 mod listed;
 mod memory;
 mod names;
@@ -33,6 +37,7 @@ mod run;
 mod shelf;
 mod sort;
 mod sorted;
+mod table;
 mod tags;
 mod totals;
 
@@ -42,6 +47,7 @@ pub use entries::Entries;
 pub use entry::{Entry, Shown};
 pub use facts::{FactRows, FactSpots};
 pub use includes::IncludeRows;
+pub use links::Links;
 pub use listed::put_all_shown;
 pub use memory::OutOfMemory;
 pub use names::are_rising;

@@ -3,7 +3,7 @@ ghost use Rattle.std.specs.Prelude.{◌≡◌, ◌+◌, ◌≤◌, ◌++◌, len
 ghost use Rattle.std.specs.Cmp.Lexicographic.{slice_cmp};
 ghost use Rattle.std.specs.Ordering.{nat_cmp};
 ghost use Rattle.cb_index.specs.Entries.{bytes_key, file_key, key_of, numbers, sort_key};
-ghost use Rattle.cb_index.specs.Held.{entries_of, prefixes_of};
+ghost use Rattle.cb_index.specs.Held.{entries_of, listed_of};
 
 use crate::archive::Archive;
 use crate::entry::{Entry, Shown};
@@ -14,20 +14,21 @@ use std::cmp::Ordering;
 /// their own numbers. Key and name are looked up in the archive; so what is pushed there changes
 /// nothing of the order of entries that are held. Of one key in one file the numbers go by place.
 pub trait EntryOrder {
-    ghost use Rattle.std.specs.Prelude.{ℕ, List, Option};
+    ghost use Rattle.std.specs.Prelude.{ℕ, ◌≡◌, List, Option, IfSome};
     ghost use Rattle.cb_index.specs.Entries.{Keyer};
-    ghost use Rattle.cb_index.specs.Held.{Prefixer};
+    ghost use Rattle.cb_index.specs.Held.{Lister};
+    ghost use Rattle.cb_index.specs.Orders.{item_keyer};
     ghost use Rattle.cb_index.specs.declared.rows.FactSort.{FactSort};
 
     ghost keyer: { Keyer };
 
-    ghost prefixer: { Prefixer };
+    ghost lister: { Lister };
 
     ghost prefix_of: { List ℕ → ℕ };
 
     ghost sort: { Option FactSort };
 
-    /// The facts whose postings are entries; none where each definition is one.
+    /// The facts of which the first of each key is an entry; none where each definition is one.
     fn sort() -> Option<FactSort>
         ensures { result ≡ sort };
 
@@ -46,21 +47,24 @@ pub trait EntryOrder {
 
     /// How many entries a version has.
     fn count(archive: &Archive, version: u32) -> usize
-        ensures { result ≡ length (prefixes_of prefixer archive.now version) };
+        ensures { result ≡ length (listed_of lister archive.now version) };
 
     /// Puts the entries of a version under a name behind others, in the room that is there.
     fn append(archive: &Archive, shown: Shown, entries: &mut Vec<Entry>)
-        requires { vec_len entries.old + length (prefixes_of prefixer archive.now shown.version)
+        requires { vec_len entries.old + length (listed_of lister archive.now shown.version)
             ≤ vec_capacity entries.old }
         ensures entries { entries.new.items
-            ≡ entries.old.items ++ entries_of prefixer archive.now shown }
+            ≡ entries.old.items ++ entries_of lister archive.now shown }
         ensures room { vec_capacity entries.old ≤ vec_capacity entries.new };
+
+    // entries of uses or calls have the keys of items
+    ghost keyed: { IfSome sort (λ s. keyer ≡ item_keyer s) };
 }
 
-fn numbers(entry: Entry) -> [u32; 3]
+fn numbers(entry: Entry) -> [u32; 4]
     ensures { result ≡ numbers entry }
 {
-    [entry.name, entry.version, entry.number]
+    [entry.name, entry.version, entry.number, entry.rows]
 }
 
 /// The order of two entries with one key.

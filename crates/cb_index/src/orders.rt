@@ -14,29 +14,30 @@ ghost use Rattle.std.specs.Prelude.{
   vec_capacity,
 };
 ghost use Rattle.cb_scan.specs.Definitions.{facts_of};
-ghost use Rattle.cb_index.specs.Entries.{entries_from, key_of};
+ghost use Rattle.std.specs.Cmp.Lexicographic.{slice_cmp};
+ghost use Rattle.std.specs.Ordering.{nat_cmp};
+ghost use Rattle.cb_index.specs.Entries.{key_of};
+ghost use Rattle.cb_index.specs.Firsts.{firsts};
+ghost use Rattle.cb_index.specs.Held.{entry_of};
 ghost use Rattle.cb_tags.specs.TagNames.{tag_name};
 ghost use Rattle.cb_index.specs.Orders.{
-  callee_key,
-  callee_span,
-  caller_key,
-  caller_span,
   def_key,
   def_prefix,
   def_span,
-  first_item,
+  key_in,
+  numbered,
   tag_front,
   tag_prefix,
-  use_key,
-  use_span,
 };
 
 use crate::archive::{Archive, Version};
-use crate::bytes::{bytes_at, cut, number_at};
+use crate::bytes::{bytes_at, cut};
+use crate::counts::row_count;
 use crate::entry::{Entry, Shown};
+use crate::items::{is_first, item_count, item_key};
 use crate::order::EntryOrder;
 use crate::rows::FactSort;
-use cb_scan::{Def, Facts, KeyList, Span, key_prefix};
+use cb_scan::{Def, Facts, Span, key_prefix};
 use cb_tags::{compare_tag_key, compare_tag_names};
 use std::cmp::Ordering;
 
@@ -55,43 +56,6 @@ pub struct DefsByName;
 /// Definitions by the name that a plain tags file has for them.
 pub struct DefsByTagName;
 
-/// The first item of a posting.
-fn first_item(keys: &KeyList, number: u32) -> u32
-    ensures { result ≡ first_item keys.now number }
-{
-    number_at(
-        keys.items(),
-        number_at(keys.starts(), number as usize) as usize,
-    )
-}
-
-pub(crate) fn use_span(facts: &Facts, item: u32) -> Option<Span>
-    ensures { result ≡ use_span facts.now item }
-{
-    match facts.uses().get(item as usize) {
-        Some(found) => Some(found.name),
-        None => None,
-    }
-}
-
-pub(crate) fn callee_span(facts: &Facts, item: u32) -> Option<Span>
-    ensures { result ≡ callee_span facts.now item }
-{
-    match facts.calls().get(item as usize) {
-        Some(found) => Some(found.callee),
-        None => None,
-    }
-}
-
-pub(crate) fn caller_span(facts: &Facts, item: u32) -> Option<Span>
-    ensures { result ≡ caller_span facts.now item }
-{
-    match facts.calls().get(item as usize) {
-        Some(found) => Some(found.caller),
-        None => None,
-    }
-}
-
 pub(crate) fn def_span(facts: &Facts, item: u32) -> Option<Span>
     ensures { result ≡ def_span facts.now item }
 {
@@ -101,62 +65,86 @@ pub(crate) fn def_span(facts: &Facts, item: u32) -> Option<Span>
     }
 }
 
-/// Puts the entries of postings with these prefixes behind others.
-fn append_postings(prefixes: &[u64], shown: Shown, entries: &mut Vec<Entry>)
-    requires room { vec_len entries.old + length prefixes.now ≤ vec_capacity entries.old }
-    requires few { length prefixes.now < 2 ^ 32 }
+/// Puts the entries of a version under a name behind others: an item for each key, the first that
+/// has it.
+fn append_firsts(sort: FactSort, version: &Version, shown: Shown, entries: &mut Vec<Entry>)
+    requires { vec_len entries.old + length (firsts sort version.now) ≤ vec_capacity entries.old }
     ensures entries { entries.new.items
-        ≡ entries.old.items ++ entries_from 0 shown.name shown.version prefixes.now }
+        ≡ entries.old.items ++ map (entry_of shown) (firsts sort version.now) }
     ensures room { vec_capacity entries.old ≤ vec_capacity entries.new }
 {
-    for (i, prefix) in prefixes.iter().enumerate() {
-        let entry = Entry {
-            prefix: *prefix,
-            name: shown.name,
-            version: shown.version,
-            number: i as u32,
-        };
-        let _ = entries.push(entry);
+    for item in 0..item_count(sort, version) {
+        if is_first(sort, version, item as u32) {
+            let entry = Entry {
+                prefix: key_prefix(item_key(sort, version, item as u32)),
+                name: shown.name,
+                version: shown.version,
+                number: item as u32,
+                rows: row_count(sort, version, item as u32),
+            };
+            let _ = entries.push(entry);
+        }
     }
 }
 
-/// The key of a posting, in the text of its version.
-fn use_key(archive: &Archive, entry: Entry) -> &[u8]
-    ensures { result.now ≡ key_of use_key archive.now entry }
+/// How many keys the items of a version have.
+fn first_count(sort: FactSort, version: &Version) -> usize
+    ensures { result ≡ length (firsts sort version.now) }
 {
-    match archive.version(entry.version) {
-        Some(version) => {
-            let item = first_item(version.keys().uses(), entry.number);
-            bytes_at(version.source().bytes(), use_span(version.facts(), item))
+    let mut count = 0;
+    for item in 0..item_count(sort, version) {
+        if is_first(sort, version, item as u32) {
+            count += 1;
         }
+    }
+    count
+}
+
+/// The key of an item, in the text of its version.
+pub(crate) fn key_in(sort: FactSort, archive: &Archive, version: u32, item: u32) -> &[u8]
+    ensures { result.now ≡ key_in sort (slice_get archive.now.texts version) item }
+{
+    match archive.version(version) {
+        Some(version) => item_key(sort, version, item),
         None => &[],
     }
 }
 
+/// The order of the keys of two entries.
+fn compare_items(sort: FactSort, archive: &Archive, a: Entry, b: Entry) -> Ordering
+    ensures { result ≡ slice_cmp nat_cmp
+        (key_in sort (slice_get archive.now.texts a.version) a.number)
+        (key_in sort (slice_get archive.now.texts b.version) b.number) }
+{
+    key_in(sort, archive, a.version, a.number).cmp(key_in(sort, archive, b.version, b.number))
+}
+
 impl EntryOrder for UsesByName {
     ghost use Rattle.cb_scan.specs.Keys.{key_prefix};
-    ghost use Rattle.cb_index.specs.Orders.{use_key, use_prefixes};
-    ghost use Rattle.std.specs.Prelude.{Some};
+    ghost use Rattle.cb_index.specs.Orders.{use_key, uses_listed};
+    ghost use Rattle.std.specs.Prelude.{Some, refl};
     ghost use Rattle.cb_index.specs.declared.rows.FactSort.TheVariants.{Uses};
 
     ghost keyer = { use_key };
 
-    ghost prefixer = { use_prefixes };
+    ghost lister = { uses_listed };
 
     ghost prefix_of = { key_prefix };
 
     ghost sort = { Some Uses };
+
+    ghost keyed = { refl };
 
     fn sort() -> Option<FactSort> {
         Some(FactSort::Uses)
     }
 
     fn compare_keys(archive: &Archive, a: Entry, b: Entry) -> Ordering {
-        use_key(archive, a).cmp(use_key(archive, b))
+        compare_items(FactSort::Uses, archive, a, b)
     }
 
     fn compare_key(archive: &Archive, key: &[u8], entry: Entry) -> Ordering {
-        key.cmp(use_key(archive, entry))
+        key.cmp(key_in(FactSort::Uses, archive, entry.version, entry.number))
     }
 
     fn prefix(key: &[u8]) -> u64 {
@@ -165,55 +153,44 @@ impl EntryOrder for UsesByName {
 
     fn count(archive: &Archive, version: u32) -> usize {
         match archive.version(version) {
-            Some(version) => version.keys().uses().prefixes().len(),
+            Some(version) => first_count(FactSort::Uses, version),
             None => 0,
         }
     }
 
     fn append(archive: &Archive, shown: Shown, entries: &mut Vec<Entry>) {
         if let Some(kept) = archive.version(shown.version) {
-            append_postings(kept.keys().uses().prefixes(), shown, entries);
+            append_firsts(FactSort::Uses, kept, shown, entries);
         }
-    }
-}
-
-/// The key of a posting, in the text of its version.
-fn callee_key(archive: &Archive, entry: Entry) -> &[u8]
-    ensures { result.now ≡ key_of callee_key archive.now entry }
-{
-    match archive.version(entry.version) {
-        Some(version) => {
-            let item = first_item(version.keys().callees(), entry.number);
-            bytes_at(version.source().bytes(), callee_span(version.facts(), item))
-        }
-        None => &[],
     }
 }
 
 impl EntryOrder for CallsByCallee {
     ghost use Rattle.cb_scan.specs.Keys.{key_prefix};
-    ghost use Rattle.cb_index.specs.Orders.{callee_key, callee_prefixes};
-    ghost use Rattle.std.specs.Prelude.{Some};
+    ghost use Rattle.cb_index.specs.Orders.{callee_key, callees_listed};
+    ghost use Rattle.std.specs.Prelude.{Some, refl};
     ghost use Rattle.cb_index.specs.declared.rows.FactSort.TheVariants.{Callees};
 
     ghost keyer = { callee_key };
 
-    ghost prefixer = { callee_prefixes };
+    ghost lister = { callees_listed };
 
     ghost prefix_of = { key_prefix };
 
     ghost sort = { Some Callees };
+
+    ghost keyed = { refl };
 
     fn sort() -> Option<FactSort> {
         Some(FactSort::Callees)
     }
 
     fn compare_keys(archive: &Archive, a: Entry, b: Entry) -> Ordering {
-        callee_key(archive, a).cmp(callee_key(archive, b))
+        compare_items(FactSort::Callees, archive, a, b)
     }
 
     fn compare_key(archive: &Archive, key: &[u8], entry: Entry) -> Ordering {
-        key.cmp(callee_key(archive, entry))
+        key.cmp(key_in(FactSort::Callees, archive, entry.version, entry.number))
     }
 
     fn prefix(key: &[u8]) -> u64 {
@@ -222,55 +199,44 @@ impl EntryOrder for CallsByCallee {
 
     fn count(archive: &Archive, version: u32) -> usize {
         match archive.version(version) {
-            Some(version) => version.keys().callees().prefixes().len(),
+            Some(version) => first_count(FactSort::Callees, version),
             None => 0,
         }
     }
 
     fn append(archive: &Archive, shown: Shown, entries: &mut Vec<Entry>) {
         if let Some(kept) = archive.version(shown.version) {
-            append_postings(kept.keys().callees().prefixes(), shown, entries);
+            append_firsts(FactSort::Callees, kept, shown, entries);
         }
-    }
-}
-
-/// The key of a posting, in the text of its version.
-fn caller_key(archive: &Archive, entry: Entry) -> &[u8]
-    ensures { result.now ≡ key_of caller_key archive.now entry }
-{
-    match archive.version(entry.version) {
-        Some(version) => {
-            let item = first_item(version.keys().callers(), entry.number);
-            bytes_at(version.source().bytes(), caller_span(version.facts(), item))
-        }
-        None => &[],
     }
 }
 
 impl EntryOrder for CallsByCaller {
     ghost use Rattle.cb_scan.specs.Keys.{key_prefix};
-    ghost use Rattle.cb_index.specs.Orders.{caller_key, caller_prefixes};
-    ghost use Rattle.std.specs.Prelude.{Some};
+    ghost use Rattle.cb_index.specs.Orders.{caller_key, callers_listed};
+    ghost use Rattle.std.specs.Prelude.{Some, refl};
     ghost use Rattle.cb_index.specs.declared.rows.FactSort.TheVariants.{Callers};
 
     ghost keyer = { caller_key };
 
-    ghost prefixer = { caller_prefixes };
+    ghost lister = { callers_listed };
 
     ghost prefix_of = { key_prefix };
 
     ghost sort = { Some Callers };
+
+    ghost keyed = { refl };
 
     fn sort() -> Option<FactSort> {
         Some(FactSort::Callers)
     }
 
     fn compare_keys(archive: &Archive, a: Entry, b: Entry) -> Ordering {
-        caller_key(archive, a).cmp(caller_key(archive, b))
+        compare_items(FactSort::Callers, archive, a, b)
     }
 
     fn compare_key(archive: &Archive, key: &[u8], entry: Entry) -> Ordering {
-        key.cmp(caller_key(archive, entry))
+        key.cmp(key_in(FactSort::Callers, archive, entry.version, entry.number))
     }
 
     fn prefix(key: &[u8]) -> u64 {
@@ -279,14 +245,14 @@ impl EntryOrder for CallsByCaller {
 
     fn count(archive: &Archive, version: u32) -> usize {
         match archive.version(version) {
-            Some(version) => version.keys().callers().prefixes().len(),
+            Some(version) => first_count(FactSort::Callers, version),
             None => 0,
         }
     }
 
     fn append(archive: &Archive, shown: Shown, entries: &mut Vec<Entry>) {
         if let Some(kept) = archive.version(shown.version) {
-            append_postings(kept.keys().callers().prefixes(), shown, entries);
+            append_firsts(FactSort::Callers, kept, shown, entries);
         }
     }
 }
@@ -311,7 +277,6 @@ pub(crate) fn defs_of(version: &Version) -> &[Def]
     ensures value { result.now ≡ (facts_of version.now).defs }
     ensures few { length result.now < 2 ^ 32 }
 {
-    let _items = version.keys().defs().items();
     version.facts().defs()
 }
 
@@ -376,7 +341,7 @@ fn append_defs<O: DefOrder>(text: &[u8], defs: &[Def], shown: Shown, entries: &m
     requires room { vec_len entries.old + length defs.now ≤ vec_capacity entries.old }
     requires few { length defs.now < 2 ^ 32 }
     ensures entries { entries.new.items ≡ entries.old.items
-        ++ entries_from 0 shown.name shown.version (map (O.prefixed text.now) defs.now) }
+        ++ map (entry_of shown) (numbered 0 (map (O.prefixed text.now) defs.now)) }
     ensures room { vec_capacity entries.old ≤ vec_capacity entries.new }
 {
     for (i, def) in defs.iter().enumerate() {
@@ -385,6 +350,7 @@ fn append_defs<O: DefOrder>(text: &[u8], defs: &[Def], shown: Shown, entries: &m
             name: shown.name,
             version: shown.version,
             number: i as u32,
+            rows: 1,
         };
         let _ = entries.push(entry);
     }
@@ -392,16 +358,18 @@ fn append_defs<O: DefOrder>(text: &[u8], defs: &[Def], shown: Shown, entries: &m
 
 impl EntryOrder for DefsByName {
     ghost use Rattle.cb_scan.specs.Keys.{key_prefix};
-    ghost use Rattle.cb_index.specs.Orders.{def_key, def_prefixes};
+    ghost use Rattle.cb_index.specs.Orders.{def_key, defs_listed};
     ghost use Rattle.std.specs.Prelude.{None};
 
     ghost keyer = { def_key };
 
-    ghost prefixer = { def_prefixes };
+    ghost lister = { defs_listed };
 
     ghost prefix_of = { key_prefix };
 
     ghost sort = { None };
+
+    ghost keyed = { tt };
 
     fn sort() -> Option<FactSort> {
         None
@@ -434,16 +402,18 @@ impl EntryOrder for DefsByName {
 }
 
 impl EntryOrder for DefsByTagName {
-    ghost use Rattle.cb_index.specs.Orders.{tag_key, tag_key_prefix, tag_prefixes};
+    ghost use Rattle.cb_index.specs.Orders.{tag_key, tag_key_prefix, tags_listed};
     ghost use Rattle.std.specs.Prelude.{None};
 
     ghost keyer = { tag_key };
 
-    ghost prefixer = { tag_prefixes };
+    ghost lister = { tags_listed };
 
     ghost prefix_of = { tag_key_prefix };
 
     ghost sort = { None };
+
+    ghost keyed = { tt };
 
     fn sort() -> Option<FactSort> {
         None

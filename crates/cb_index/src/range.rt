@@ -2,22 +2,37 @@
 ghost use Rattle.std.specs.Prelude.{◌≡◌, ◌++◌, ◌∷◌, [], MatchOption};
 ghost use Rattle.std.specs.Iterator.{YieldsFirst, item_count};
 ghost use Rattle.cb_index.specs.steps.Spread.{items_at, rows_in};
-ghost use Rattle.cb_index.specs.steps.RowsLeft.{entry_rows, entry_rows_if, rows_left};
+ghost use Rattle.cb_index.specs.steps.RowsLeft.{
+  entry_rows,
+  entry_rows_if,
+  items_left,
+  rows_left,
+};
 ghost use Rattle.cb_index.specs.steps.Runs.{run_entries};
 
 use crate::archive::Archive;
 use crate::entry::Entry;
-use crate::facts::{keys_for, posting_items};
+use crate::items::Chain;
 use crate::row::Row;
 use crate::rows::FactSort;
 use crate::run::Run;
-use std::slice;
+
+/// The items of one entry that are still to come.
+#[derive(Clone, Copy)]
+pub(crate) enum Items<'a> {
+    /// None.
+    Nothing,
+    /// A definition.
+    One(u32),
+    /// Uses or calls of one key.
+    Chain(Chain<'a>),
+}
 
 /// The rows of one entry that are still to come.
 #[derive(Clone, Copy)]
 pub(crate) struct EntryRows<'a> {
     entry: Entry,
-    items: &'a [u32],
+    items: Items<'a>,
 }
 
 /// Rows. They take no memory.
@@ -29,16 +44,32 @@ pub struct Rows<'a> {
     first: Option<EntryRows<'a>>,
 }
 
-/// The items of an entry: of a definition its number, of a posting those of its key list.
-fn items_of<'a>(sort: Option<FactSort>, archive: &'a Archive, entry: &'a Entry) -> &'a [u32]
-    ensures { result.now ≡ items_at sort archive.now entry.now }
+/// The items of an entry: a definition, or a use or a call and those behind it that have its key.
+fn items_of<'a>(sort: Option<FactSort>, archive: &'a Archive, entry: Entry) -> Items<'a>
+    ensures { items_left result ≡ items_at sort archive.now entry }
 {
     match sort {
         Some(sort) => match archive.version(entry.version) {
-            Some(version) => posting_items(keys_for(sort, version.keys()), entry.number),
-            None => &[],
+            Some(version) => Items::Chain(Chain::from(sort, version, entry.number)),
+            None => Items::Nothing,
         },
-        None => slice::from_ref(&entry.number),
+        None => Items::One(entry.number),
+    }
+}
+
+/// The first item, and those behind it.
+fn next_item<'a>(items: Items<'a>) -> Option<(u32, Items<'a>)>
+    ensures { MatchOption result (items_left items.entry ≡ [])
+        (λ r. items_left items.entry ≡ r.0 ∷ items_left r.1) }
+{
+    match items {
+        Items::Nothing => None,
+        Items::One(item) => Some((item, Items::Nothing)),
+        Items::Chain(chain) => {
+            let mut rest = chain;
+            let item = rest.take()?;
+            Some((item, Items::Chain(rest)))
+        }
     }
 }
 
@@ -48,11 +79,11 @@ fn next_row<'a>(first: Option<EntryRows<'a>>) -> Option<(Row, EntryRows<'a>)>
         (λ r. entry_rows_if first.entry ≡ r.0 ∷ entry_rows r.1) }
 {
     let first = first?;
-    let (item, rest) = first.items.split_first()?;
+    let (item, rest) = next_item(first.items)?;
     let row = Row {
         name: first.entry.name,
         version: first.entry.version,
-        item: *item,
+        item,
     };
     Some((
         row,
@@ -82,7 +113,7 @@ fn first_row<'a>(sort: Option<FactSort>, archive: &'a Archive, entries: Run<'a>)
         left = rest;
         let here = EntryRows {
             entry: *entry,
-            items: items_of(sort, archive, entry),
+            items: items_of(sort, archive, *entry),
         };
         if let Some((row, first)) = next_row(Some(here)) {
             return Some(Step {

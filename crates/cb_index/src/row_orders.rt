@@ -1,29 +1,29 @@
 //! The five orders of rows.
-ghost use Rattle.std.specs.Prelude.{◌≡◌, Some, length, slice_get};
+ghost use Rattle.std.specs.Prelude.{◌≡◌, Some, slice_get};
+ghost use Rattle.std.specs.Cmp.Lexicographic.{slice_cmp};
+ghost use Rattle.std.specs.Ordering.{nat_cmp};
 ghost use Rattle.cb_scan.specs.Definitions.{facts_of};
 ghost use Rattle.cb_scan.specs.Order.{kind_rank};
 ghost use Rattle.cb_index.specs.Files.{call_count, def_count, use_count};
-ghost use Rattle.cb_index.specs.Orders.{def_key};
+ghost use Rattle.cb_index.specs.Orders.{def_key, key_in};
 ghost use Rattle.cb_index.specs.RowOrders.{
   call_start,
-  callee_item_key,
-  caller_item_key,
   def_rank,
   def_start,
   no_rank,
   row_key,
   start_of,
-  use_item_key,
   use_start,
 };
 
 use crate::archive::{Archive, Version};
 use crate::bytes::bytes_at;
+use crate::items::{item_count, item_span};
 use crate::orders::{
-    CallsByCallee, CallsByCaller, DefsByName, DefsByTagName, UsesByName, callee_span, caller_span,
-    def_span, defs_of, use_span,
+    CallsByCallee, CallsByCaller, DefsByName, DefsByTagName, UsesByName, def_span, defs_of, key_in,
 };
 use crate::row::{Placed, Row, RowOrder, compare_from};
+use crate::rows::FactSort;
 use cb_scan::{Kind, Span};
 use cb_tags::{compare_tag_key, compare_tag_names};
 use std::cmp::Ordering;
@@ -37,32 +37,20 @@ fn start_of(span: Option<Span>) -> u32
     }
 }
 
-/// How many uses a version has.
-fn use_items(version: &Version) -> u32
-    ensures { result ≡ length (facts_of version.now).uses }
+/// The key of the item of a row.
+fn item_of(sort: FactSort, archive: &Archive, row: Row) -> &[u8]
+    ensures { result.now ≡ key_in sort (slice_get archive.now.texts row.version) row.item }
 {
-    version.keys().uses().items().len() as u32
+    key_in(sort, archive, row.version, row.item)
 }
 
-/// How many calls a version has.
-fn call_items(version: &Version) -> u32
-    ensures { result ≡ length (facts_of version.now).calls }
+/// The order of the keys of the items of two rows.
+fn compare_items(sort: FactSort, archive: &Archive, a: Row, b: Row) -> Ordering
+    ensures { result ≡ slice_cmp nat_cmp
+        (key_in sort (slice_get archive.now.texts a.version) a.item)
+        (key_in sort (slice_get archive.now.texts b.version) b.item) }
 {
-    version.keys().callees().items().len() as u32
-}
-
-fn use_name(archive: &Archive, row: Row) -> &[u8]
-    ensures { result.now ≡ row_key use_item_key archive.now row }
-{
-    match archive.version(row.version) {
-        Some(version) => {
-            bytes_at(
-                version.source().bytes(),
-                use_span(version.facts(), row.item),
-            )
-        }
-        None => &[],
-    }
+    item_of(sort, archive, a).cmp(item_of(sort, archive, b))
 }
 
 fn placed_use(archive: &Archive, row: Row) -> Placed
@@ -71,7 +59,7 @@ fn placed_use(archive: &Archive, row: Row) -> Placed
     ensures rank { result.rank ≡ 0 }
 {
     let start = match archive.version(row.version) {
-        Some(version) => start_of(use_span(version.facts(), row.item)),
+        Some(version) => start_of(item_span(FactSort::Uses, version.facts(), row.item)),
         None => 0,
     };
     Placed {
@@ -83,9 +71,10 @@ fn placed_use(archive: &Archive, row: Row) -> Placed
 
 impl RowOrder for UsesByName {
     ghost use Rattle.cb_index.specs.Files.{use_count};
-    ghost use Rattle.cb_index.specs.RowOrders.{no_rank, use_item_key, use_start};
+    ghost use Rattle.cb_index.specs.Orders.{use_key};
+    ghost use Rattle.cb_index.specs.RowOrders.{no_rank, use_start};
 
-    ghost item_keyer = { use_item_key };
+    ghost item_keyer = { use_key };
 
     ghost start = { use_start };
 
@@ -94,7 +83,7 @@ impl RowOrder for UsesByName {
     ghost counter = { use_count };
 
     fn compare(archive: &Archive, a: Row, b: Row) -> Ordering {
-        let keys = use_name(archive, a).cmp(use_name(archive, b));
+        let keys = compare_items(FactSort::Uses, archive, a, b);
         compare_from(
             keys,
             archive,
@@ -104,42 +93,14 @@ impl RowOrder for UsesByName {
     }
 
     fn compare_key(archive: &Archive, key: &[u8], row: Row) -> Ordering {
-        key.cmp(use_name(archive, row))
+        key.cmp(item_of(FactSort::Uses, archive, row))
     }
 
     fn items(archive: &Archive, version: u32) -> u32 {
         match archive.version(version) {
-            Some(version) => use_items(version),
+            Some(version) => item_count(FactSort::Uses, version) as u32,
             None => 0,
         }
-    }
-}
-
-fn callee_name(archive: &Archive, row: Row) -> &[u8]
-    ensures { result.now ≡ row_key callee_item_key archive.now row }
-{
-    match archive.version(row.version) {
-        Some(version) => {
-            bytes_at(
-                version.source().bytes(),
-                callee_span(version.facts(), row.item),
-            )
-        }
-        None => &[],
-    }
-}
-
-fn caller_name(archive: &Archive, row: Row) -> &[u8]
-    ensures { result.now ≡ row_key caller_item_key archive.now row }
-{
-    match archive.version(row.version) {
-        Some(version) => {
-            bytes_at(
-                version.source().bytes(),
-                caller_span(version.facts(), row.item),
-            )
-        }
-        None => &[],
     }
 }
 
@@ -149,7 +110,7 @@ fn placed_call(archive: &Archive, row: Row) -> Placed
     ensures rank { result.rank ≡ 0 }
 {
     let start = match archive.version(row.version) {
-        Some(version) => start_of(callee_span(version.facts(), row.item)),
+        Some(version) => start_of(item_span(FactSort::Callees, version.facts(), row.item)),
         None => 0,
     };
     Placed {
@@ -163,16 +124,17 @@ fn call_count(archive: &Archive, version: u32) -> u32
     ensures { result ≡ call_count (slice_get archive.now.texts version) }
 {
     match archive.version(version) {
-        Some(version) => call_items(version),
+        Some(version) => item_count(FactSort::Callees, version) as u32,
         None => 0,
     }
 }
 
 impl RowOrder for CallsByCallee {
     ghost use Rattle.cb_index.specs.Files.{call_count};
-    ghost use Rattle.cb_index.specs.RowOrders.{call_start, callee_item_key, no_rank};
+    ghost use Rattle.cb_index.specs.Orders.{callee_key};
+    ghost use Rattle.cb_index.specs.RowOrders.{call_start, no_rank};
 
-    ghost item_keyer = { callee_item_key };
+    ghost item_keyer = { callee_key };
 
     ghost start = { call_start };
 
@@ -181,7 +143,7 @@ impl RowOrder for CallsByCallee {
     ghost counter = { call_count };
 
     fn compare(archive: &Archive, a: Row, b: Row) -> Ordering {
-        let keys = callee_name(archive, a).cmp(callee_name(archive, b));
+        let keys = compare_items(FactSort::Callees, archive, a, b);
         compare_from(
             keys,
             archive,
@@ -191,7 +153,7 @@ impl RowOrder for CallsByCallee {
     }
 
     fn compare_key(archive: &Archive, key: &[u8], row: Row) -> Ordering {
-        key.cmp(callee_name(archive, row))
+        key.cmp(item_of(FactSort::Callees, archive, row))
     }
 
     fn items(archive: &Archive, version: u32) -> u32 {
@@ -201,9 +163,10 @@ impl RowOrder for CallsByCallee {
 
 impl RowOrder for CallsByCaller {
     ghost use Rattle.cb_index.specs.Files.{call_count};
-    ghost use Rattle.cb_index.specs.RowOrders.{call_start, caller_item_key, no_rank};
+    ghost use Rattle.cb_index.specs.Orders.{caller_key};
+    ghost use Rattle.cb_index.specs.RowOrders.{call_start, no_rank};
 
-    ghost item_keyer = { caller_item_key };
+    ghost item_keyer = { caller_key };
 
     ghost start = { call_start };
 
@@ -212,7 +175,7 @@ impl RowOrder for CallsByCaller {
     ghost counter = { call_count };
 
     fn compare(archive: &Archive, a: Row, b: Row) -> Ordering {
-        let keys = caller_name(archive, a).cmp(caller_name(archive, b));
+        let keys = compare_items(FactSort::Callers, archive, a, b);
         compare_from(
             keys,
             archive,
@@ -222,7 +185,7 @@ impl RowOrder for CallsByCaller {
     }
 
     fn compare_key(archive: &Archive, key: &[u8], row: Row) -> Ordering {
-        key.cmp(caller_name(archive, row))
+        key.cmp(item_of(FactSort::Callers, archive, row))
     }
 
     fn items(archive: &Archive, version: u32) -> u32 {

@@ -46,7 +46,7 @@ pub struct FactSpot<'a> {
     pub source: &'a Source,
 }
 
-/// What is looked up in the key lists.
+/// The sorts of facts of which the first of each key in a version is an entry of an index.
 #[derive(Clone, Copy, Debug, PartialEq, Eq)]
 pub enum FactSort {
     /// Uses by name.

@@ -30,11 +30,15 @@ ghost use Rattle.std.specs.Ordering.{is_gt, nat_cmp};
 ghost use Rattle.std.specs.Str.{bytes_eq};
 ghost use Rattle.cb_scan.specs.Order.{goes_first, in_order, put};
 ghost use Rattle.cb_index.specs.Archived.{name_of};
+ghost use Rattle.cb_index.specs.Counts.{rows_in_files};
 ghost use Rattle.cb_index.specs.Files.{AreAscending, IsThere, shown_name};
 ghost use Rattle.cb_index.specs.Names.{is_among, names_of};
 ghost use Rattle.cb_index.specs.Rows.{
   calls_in,
   calls_of,
+  file_calls_in,
+  file_calls_of,
+  file_uses_of,
   tags_by_name,
   tags_by_tag_name,
   tags_named,
@@ -51,7 +55,8 @@ ghost use Rattle.cb_index.specs.Shelved.{
   with_facts,
 };
 ghost use Rattle.cb_index.specs.declared.entry.Shown.{Shown};
-ghost use Rattle.cb_index.specs.steps.Left.{entries_left, facts_left, tags_left};
+ghost use Rattle.cb_index.specs.declared.rows.FactSort.TheVariants.{Callees, Callers, Uses};
+ghost use Rattle.cb_index.specs.steps.Left.{entries_left, facts_counted, facts_left, tags_left};
 
 use crate::archive::{Archive, Version};
 use crate::asked::Asked;
@@ -442,11 +447,11 @@ impl Shelf {
         ensures room { KeepsRoom self.old self.new }
     {
         match asked {
-            Asked::Defs => self.defs.settle(&self.archive),
-            Asked::Tags => self.tags.settle(&self.archive),
-            Asked::Uses => self.uses.settle(&self.archive),
-            Asked::Callees => self.callees.settle(&self.archive),
-            Asked::Callers => self.callers.settle(&self.archive),
+            Asked::Defs => self.defs.settle(&mut self.archive),
+            Asked::Tags => self.tags.settle(&mut self.archive),
+            Asked::Uses => self.uses.settle(&mut self.archive),
+            Asked::Callees => self.callees.settle(&mut self.archive),
+            Asked::Callers => self.callers.settle(&mut self.archive),
         }
     }
 
@@ -488,7 +493,9 @@ impl Shelf {
     /// The uses of a name, by file and place. None of them waits.
     pub fn uses(&self, name: &[u8]) -> FactRows<'_>
         requires { self.now.waiting.uses ≡ [] }
-        ensures { facts_left result ≡ uses_of name.now (files self.now) }
+        ensures rows { facts_left result ≡ uses_of name.now (files self.now) }
+        ensures counted { facts_counted result
+            ≡ rows_in_files Uses (file_uses_of name.now) (files self.now) }
     {
         let found = self.uses.with_key(&self.archive, name);
         FactRows::new(FactSort::Uses, &self.archive, found)
@@ -497,7 +504,9 @@ impl Shelf {
     /// The calls of a name, by file and place. None of them waits.
     pub fn calling(&self, name: &[u8]) -> FactRows<'_>
         requires { self.now.waiting.callees ≡ [] }
-        ensures { facts_left result ≡ calls_of name.now (files self.now) }
+        ensures rows { facts_left result ≡ calls_of name.now (files self.now) }
+        ensures counted { facts_counted result
+            ≡ rows_in_files Callees (file_calls_of name.now) (files self.now) }
     {
         let found = self.callees.with_key(&self.archive, name);
         FactRows::new(FactSort::Callees, &self.archive, found)
@@ -506,7 +515,9 @@ impl Shelf {
     /// The calls that stand in what has that name, by file and place. None of them waits.
     pub fn called_by(&self, name: &[u8]) -> FactRows<'_>
         requires { self.now.waiting.callers ≡ [] }
-        ensures { facts_left result ≡ calls_in name.now (files self.now) }
+        ensures rows { facts_left result ≡ calls_in name.now (files self.now) }
+        ensures counted { facts_counted result
+            ≡ rows_in_files Callers (file_calls_in name.now) (files self.now) }
     {
         let found = self.callers.with_key(&self.archive, name);
         FactRows::new(FactSort::Callers, &self.archive, found)

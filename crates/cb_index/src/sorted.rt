@@ -22,7 +22,7 @@ ghost use Rattle.std.specs.List.Sorted.{IsStrictlyIncreasing};
 ghost use Rattle.cb_scan.specs.Order.{goes_first, in_order};
 ghost use Rattle.cb_index.specs.Blocks.{joined};
 ghost use Rattle.cb_index.specs.Entries.{has_key, sort_key};
-ghost use Rattle.cb_index.specs.Held.{all_entries, entries_of, prefixes_of};
+ghost use Rattle.cb_index.specs.Held.{all_entries, entries_of, listed_of};
 ghost use Rattle.cb_index.specs.Names.{is_among, names_of};
 ghost use Rattle.cb_index.specs.steps.RowsLeft.{rows_left};
 ghost use Rattle.cb_index.specs.steps.Runs.{run_entries};
@@ -34,6 +34,7 @@ use crate::archive::Archive;
 use crate::block::HALF;
 use crate::blocks::Blocks;
 use crate::entry::{Entry, Shown};
+use crate::laid::lay;
 use crate::memory::OutOfMemory;
 use crate::names::Names;
 use crate::order::{EntryOrder, compare};
@@ -102,14 +103,24 @@ fn ascend<O: EntryOrder>(archive: &Archive, entries: Run<'_>) -> bool
 
 /// Puts the entries of versions behind others, in the room that is there.
 fn append_each<O: EntryOrder>(archive: &Archive, shown: &[Shown], entries: &mut Vec<Entry>)
-    requires { length entries.old.items + length (all_entries O.prefixer archive.now shown.now)
+    requires { length entries.old.items + length (all_entries O.lister archive.now shown.now)
         ≤ vec_capacity entries.old }
     ensures items { entries.new.items
-        ≡ entries.old.items ++ all_entries O.prefixer archive.now shown.now }
+        ≡ entries.old.items ++ all_entries O.lister archive.now shown.now }
     ensures room { vec_capacity entries.old ≤ vec_capacity entries.new }
 {
     for one in shown {
         O::append(archive, *one, entries);
+    }
+}
+
+/// Lays what helps to find the items of one key of versions, with a list as scratch.
+fn lay_each<O: EntryOrder>(archive: &mut Archive, shown: &[Shown], scratch: &mut Vec<Entry>)
+    ensures archive { archive.new ≡ archive.old }
+    ensures room { vec_capacity scratch.old ≤ vec_capacity scratch.new }
+{
+    for one in shown {
+        lay::<O>(archive, one.version, scratch);
     }
 }
 
@@ -283,7 +294,7 @@ impl<O: EntryOrder> Sorted<O> {
 
     /// How many entries a version has in this order under a name.
     pub fn count(&self, archive: &Archive, shown: Shown) -> usize
-        ensures { result ≡ length (prefixes_of O.prefixer archive.now shown.version) }
+        ensures { result ≡ length (listed_of O.lister archive.now shown.version) }
     {
         O::count(archive, shown.version)
     }
@@ -294,9 +305,9 @@ impl<O: EntryOrder> Sorted<O> {
         requires order { self.old.entries
             ≡ in_order (sort_key O.keyer archive.now) self.old.entries }
         requires room { length self.old.entries
-            + length (prefixes_of O.prefixer archive.now shown.version) ≤ self.old.room }
+            + length (listed_of O.lister archive.now shown.version) ≤ self.old.room }
         ensures entries { self.new.entries ≡ in_order (sort_key O.keyer archive.now)
-            (self.old.entries ++ entries_of O.prefixer archive.now shown) }
+            (self.old.entries ++ entries_of O.lister archive.now shown) }
         ensures room { self.old.room ≤ self.new.room }
     {
         self.scratch.truncate(0);
@@ -310,9 +321,9 @@ impl<O: EntryOrder> Sorted<O> {
         requires order { self.old.entries
             ≡ in_order (sort_key O.keyer archive.now) self.old.entries }
         requires room { length self.old.entries
-            + length (all_entries O.prefixer archive.now shown.now) ≤ self.old.room }
+            + length (all_entries O.lister archive.now shown.now) ≤ self.old.room }
         ensures entries { self.new.entries ≡ in_order (sort_key O.keyer archive.now)
-            (self.old.entries ++ all_entries O.prefixer archive.now shown.now) }
+            (self.old.entries ++ all_entries O.lister archive.now shown.now) }
         ensures room { self.old.room ≤ self.new.room }
     {
         if shown.len() <= self.blocks.used().len() / FEW {
@@ -324,12 +335,21 @@ impl<O: EntryOrder> Sorted<O> {
         }
     }
 
+    /// Lays what helps to find the items of one key of these versions. It takes no memory.
+    pub(crate) fn lay_each(&mut self, archive: &mut Archive, shown: &[Shown])
+        ensures entries { self.new.entries ≡ self.old.entries }
+        ensures room { self.old.room ≤ self.new.room }
+        ensures archive { archive.new ≡ archive.old }
+    {
+        lay_each::<O>(archive, shown, &mut self.scratch);
+    }
+
     /// Puts the entries of many versions among the others by one sort.
     fn sort_each(&mut self, archive: &Archive, shown: &[Shown])
-        requires { length self.old.entries + length (all_entries O.prefixer archive.now shown.now)
+        requires { length self.old.entries + length (all_entries O.lister archive.now shown.now)
             ≤ self.old.room }
         ensures entries { self.new.entries ≡ in_order (sort_key O.keyer archive.now)
-            (self.old.entries ++ all_entries O.prefixer archive.now shown.now) }
+            (self.old.entries ++ all_entries O.lister archive.now shown.now) }
         ensures room { self.old.room ≤ self.new.room }
     {
         self.scratch.truncate(0);
@@ -341,10 +361,10 @@ impl<O: EntryOrder> Sorted<O> {
     /// memory, and the room stays.
     pub fn take_all(&mut self, archive: &Archive, shown: Shown)
         requires { (rest : List Entry) × (self.old.entries ≡ in_order (sort_key O.keyer archive.now)
-            (entries_of O.prefixer archive.now shown ++ rest)) }
+            (entries_of O.lister archive.now shown ++ rest)) }
         ensures entries { (rest : List Entry)
             → self.old.entries ≡ in_order (sort_key O.keyer archive.now)
-            (entries_of O.prefixer archive.now shown ++ rest)
+            (entries_of O.lister archive.now shown ++ rest)
             → self.new.entries ≡ in_order (sort_key O.keyer archive.now) rest }
         ensures room { self.old.room ≤ self.new.room }
     {

@@ -1,5 +1,7 @@
 //! Tests on short texts, with the facts worked out by hand.
+mod counts;
 mod keys;
+mod links;
 mod many;
 mod memory;
 mod model;
@@ -7,13 +9,15 @@ mod rows;
 mod shelf;
 mod shelves;
 mod sorts;
+mod table;
 
 use crate::archive::{Archive, Version};
 use crate::entry::{Entry, Shown};
+use crate::links::Links;
 use crate::order::EntryOrder;
 use crate::run::Run;
 use crate::sorted::Sorted;
-use cb_scan::{FactKeys, Meter, Source, scan};
+use cb_scan::{Meter, Source, scan};
 use std::alloc::Global;
 use std::test::Fail;
 
@@ -28,12 +32,14 @@ const SECOND: &[u8] = b"int main(void) {\n\treturn 0;\n}\n";
 const THIRD: &[u8] =
     b"int sqlite3_open(void) { }\nint sqlite3_(void) { }\nint sqlite3_close(void) { }\n";
 
-/// A text with its facts and their keys.
+/// A text with its facts.
 fn version_of(alloc: Global, text: &[u8]) -> Result<Version, Fail> {
     let source = Source::new(alloc, text.to_vec(alloc)?)?;
     let facts = scan(alloc, &mut Meter::new(), &source)?;
-    let keys = FactKeys::new(alloc, &source, &facts)?;
-    Ok(Version::new(source, facts, keys))
+    match Links::new(alloc, &facts) {
+        Ok(links) => Ok(Version::new(source, facts, links)),
+        Err(_) => Err(Fail::from("out of memory")),
+    }
 }
 
 /// Keeps a name.

@@ -1,5 +1,5 @@
 -- A text has few facts.
-use Rattle.std.proofs.Common.{◌≡◌, ◌∙◌, sym, ap, refl, subst, ℕ, zero, suc, ◌+◌, ◌-◌, ◌*◌, ◌≤◌, ◌<◌, Bool, true, false, not, cond, List, [], ◌∷◌, ◌++◌, map, filter, length, length-append, Option, Some, None, arith, suc-mul}
+use Rattle.std.proofs.Common.{ap, refl, ℕ, zero, suc, ◌+◌, ◌-◌, ◌*◌, ◌≤◌, ◌<◌, Bool, true, false, not, cond, List, [], ◌∷◌, ◌++◌, map, filter, length, length-append, Option, Some, None, arith, suc-mul}
 use Rattle.std.specs.Prelude.{◌&&◌, ◌==◌, find, nat_lt}
 use Rattle.std.specs.List.{AllByRecursion, flat_map, onto_first, range_with_len, slice_split}
 use Rattle.std.specs.Option.{option_map_or, unwrap_or}
@@ -15,7 +15,7 @@ use Rattle.cb_scan.specs.declared.lex.piece.Span.{Span}
 use Rattle.cb_scan.specs.declared.lex.token.Token.{Token}
 use Rattle.cb_scan.specs.Bytes.{close_paren, greater, less}
 use Rattle.cb_scan.specs.Definitions.{calls, facts_of}
-use Rattle.cb_scan.specs.Order.{call_key, goes_first, in_order, put}
+use Rattle.cb_scan.specs.Order.{call_key}
 use Rattle.cb_scan.specs.lex.Tokens.{has_kind, is_any_word, is_mark, is_name_token, is_significant, is_str, kind_is_include, token_of, tokens}
 use Rattle.cb_scan.specs.rules.Code.{code, directives, is_directive, is_newline, logical_lines}
 use Rattle.cb_scan.specs.rules.Depth.{closes, depth, is_counted, token_at}
@@ -27,6 +27,7 @@ use Rattle.cb_scan.specs.rules.Uses.{after_own_word, angle_header, call_at, call
 use Rattle.cb_scan.specs.lex.Tokens.{bytes_of}
 use Rattle.cb_scan.specs.steps.Cut.{pieces}
 use Rattle.cb_scan.specs.steps.Quote.{is_closed}
+use Rattle.cb_scan.proofs.OrderLemmas.{length_in_order}
 use Rattle.cb_scan.proofs.PieceLists.{length-pieces}
 use Rattle.cb_scan.proofs.WithinLemmas.{all-append}
 
@@ -67,20 +68,6 @@ joined-kept test (l ∷ ls) =
       | true ↦ omega (arith, length-append l (joined (filter test ls)), length-append l (joined ls), later)
       | false ↦ omega (arith, length-append l (joined ls), later)
     ]
-
-put-length : {X : Type 0} (key : X → List ℕ) (x : X) (ys : List X) → length (put key x ys) ≡ suc (length ys)
-unfolding put
-put-length key x [] = refl
-put-length key x (y ∷ ys) =
-    elim (goes_first key x y) as (λ b. length (cond b (x ∷ y ∷ ys) (y ∷ put key x ys)) ≡ suc (length (y ∷ ys))) [
-      | true ↦ refl
-      | false ↦ ap suc (put-length key x ys)
-    ]
-
-in-order-length : {X : Type 0} (key : X → List ℕ) (xs : List X) → length (in_order key xs) ≡ length xs
-unfolding in_order
-in-order-length key [] = refl
-in-order-length key (x ∷ xs) = put-length key x (in_order key xs) ∙ ap suc (in-order-length key xs)
 
 -- ---- the tokens of the logical lines
 split-few : (test : Piece → Bool) (ps : List Piece) → length (joined (slice_split test ps)) ≤ length ps
@@ -301,7 +288,7 @@ calls-few text =
     let few = square (length (functions ts)) (length ts) (length text) (omega (arith, functions-few ts, code-few text)) (code-few text) in
     omega (
       arith,
-      in-order-length call_key (function_calls ts ++ macro_calls (macros text (ps text))),
+      length_in_order call_key (function_calls ts ++ macro_calls (macros text (ps text))),
       length-append (function_calls ts) (macro_calls (macros text (ps text))),
       function-calls-few ts,
       few,

@@ -1,8 +1,8 @@
 -- The order of keys, by their prefixes and by all of their bytes.
-use Rattle.std.proofs.Common.{◌≡◌, ◌∙◌, ◌<◌, ◌≤◌, ◌+◌, ◌*◌, ◌^◌, ◌++◌, ℕ, zero, suc, List, [], ◌∷◌, refl, sym, ap, subst, get_or, length, map, arith}
+use Rattle.std.proofs.Common.{◌≡◌, ◌∙◌, ◌<◌, ◌≤◌, ◌+◌, ◌*◌, ◌^◌, ◌++◌, ℕ, zero, suc, List, [], ◌∷◌, refl, sym, ap, subst, map, arith}
 use Rattle.std.proofs.Math.Nat.{mul-le-mul_right, pow-succ', suc-mul}
 use Rattle.std.proofs.lemmas.Bool.Decides.{nat_tests}
-use Rattle.std.proofs.lemmas.Cmp.{by_ranked, nat_list_cmp_total, ranked, tied_itself}
+use Rattle.std.proofs.lemmas.Cmp.{by_ranked, nat_list_cmp_total, ranked}
 use Rattle.std.proofs.lemmas.Map.Text.{is_eq-slice_cmp}
 use Rattle.std.proofs.lemmas.Slice.Eq.{bytes_eq-Decides}
 use Rattle.std.specs.Cmp.Lexicographic.{slice_cmp}
@@ -11,7 +11,6 @@ use Rattle.std.specs.Ordering.{is_eq, nat_cmp, ordering_reverse, ordering_then}
 use Rattle.std.specs.declared.cmp.Ordering.{Ordering}
 use Rattle.std.specs.declared.cmp.Ordering.TheVariants.{Less, Equal, Greater}
 use Rattle.cb_scan.specs.Keys.{key_prefix, leading}
-use Rattle.cb_scan.specs.steps.Keys.{Keyed, sort_key}
 
 -- each number is a byte
 abbrev pub AreBytes : List ℕ → Type 0
@@ -20,10 +19,6 @@ AreBytes bytes = AllByRecursion (λ b. b < 256) bytes
 pub by_recursion : {X : Type 0} (P : X → Type 0) (xs : List X) → All P xs → AllByRecursion P xs
 by_recursion P [] a = tt
 by_recursion P (x ∷ xs) a = (a 0 x (omega arith), by_recursion P xs (λ k d below. a (suc k) d (omega (arith, below))))
-
-pub are_bytes : (bytes : List ℕ) → ((i : ℕ) → get_or bytes i 0 < 256) → AreBytes bytes
-are_bytes [] small = tt
-are_bytes (b ∷ bs) small = (small 0, are_bytes bs (λ i. small (suc i)))
 
 -- ---- numbers
 byte_worth : (b p q : ℕ) → b < 256 → q < p → b * p + q < 256 * p
@@ -48,16 +43,6 @@ leading_below (suc n) [] bytes =
 leading_below (suc n) (b ∷ bs) bytes =
     subst (λ m. b * 256 ^ n + leading n bs < m) (sym (pow-succ' 256 n))
     (byte_worth b (256 ^ n) (leading n bs) bytes.0 (leading_below n bs bytes.1))
-
-next_differs : (x y p q r : ℕ) → y < x → r < p → x * p + q ≡ y * p + r → ⊥
-next_differs x y p q r above below same =
-    let more : suc y * p ≤ x * p = mul-le-mul_right p (omega (arith, above)) in
-    let step : suc y * p ≡ y * p + p = suc-mul y p in
-    omega (arith, more, step, below, same)
-
-rest_same : (x y p q r : ℕ) → x ≡ y → x * p + q ≡ y * p + r → q ≡ r
-rest_same x y p q r first same =
-    let products : x * p ≡ y * p = ap (λ n. n * p) first in omega (arith, products, same)
 
 -- ---- a smaller prefix is that of a smaller key
 pub first_bytes_first : (n : ℕ) (a b : List ℕ) → AreBytes a → AreBytes b → leading n a < leading n b
@@ -99,33 +84,7 @@ zero_cmp y = grind (arith, nat_tests)
 cmp_zero : (x : ℕ) → nat_cmp (suc x) 0 ≡ Greater
 cmp_zero x = grind (arith, nat_tests)
 
--- ---- lengths settle what a prefix does not
--- where the prefixes are one and a key does not go on behind it, the keys are in the order of their
--- lengths
-pub settled : (n : ℕ) (a b : List ℕ) → AreBytes a → AreBytes b → leading n a ≡ leading n b → length a ≤ n
-    → slice_cmp nat_cmp a b ≡ nat_cmp (length a) (length b)
-settled zero [] [] in_a in_b same short = refl
-settled zero [] (y ∷ ys) in_a in_b same short = sym (zero_cmp (length ys))
-settled zero (x ∷ xs) b in_a in_b same short = absurd (omega (arith, short))
-settled (suc n) [] [] in_a in_b same short = refl
-settled (suc n) [] (y ∷ ys) in_a in_b same short = sym (zero_cmp (length ys))
-settled (suc n) (x ∷ xs) [] in_a in_b same short = sym (cmp_zero (length xs))
-settled (suc n) (x ∷ xs) (y ∷ ys) in_a in_b same short =
-    by_ranked (x < y) (x ≡ y) (y < x) (nat_cmp x y) (ranked x y (nat_cmp x y) refl)
-    (λ e below. absurd (next_differs y x (256 ^ n) (leading n ys) (leading n xs) below
-    (leading_below n xs in_a.1) (sym same)))
-    (λ e first. ap (λ o. ordering_then o (slice_cmp nat_cmp xs ys)) e
-    ∙ settled n xs ys in_a.1 in_b.1 (rest_same x y (256 ^ n) (leading n xs) (leading n ys) first same) (omega (arith, short))
-    ∙ sym (suc_cmp (length xs) (length ys)))
-    (λ e above. absurd (next_differs x y (256 ^ n) (leading n xs) (leading n ys) above
-    (leading_below n ys in_b.1) same))
-
 -- ---- keys and then numbers
-pub then_equal : (o : Ordering) → ordering_then o Equal ≡ o
-then_equal Less = refl
-then_equal Equal = refl
-then_equal Greater = refl
-
 pub then_assoc : (o p q : Ordering) → ordering_then (ordering_then o p) q ≡ ordering_then o (ordering_then p q)
 then_assoc Less p q = refl
 then_assoc Equal p q = refl
@@ -143,12 +102,6 @@ ended (x ∷ xs) (y ∷ ys) ps qs =
     (λ k. ordering_then (suc_cmp x y k) (ended xs ys ps qs k))
     ∙ sym (then_assoc (nat_cmp x y) (slice_cmp nat_cmp xs ys) (slice_cmp nat_cmp ps qs))
 
-pub sort_key_cmp : (k l : Keyed) → slice_cmp nat_cmp (sort_key k) (sort_key l)
-    ≡ ordering_then (slice_cmp nat_cmp k.key l.key) (nat_cmp k.item l.item)
-sort_key_cmp k l =
-    ended k.key l.key (k.item ∷ []) (l.item ∷ [])
-    ∙ ap (ordering_then (slice_cmp nat_cmp k.key l.key)) (then_equal (nat_cmp k.item l.item))
-
 pub both_equal : (o p : Ordering) → ordering_then o p ≡ Equal → (o ≡ Equal) × (p ≡ Equal)
 both_equal Less p is = absurd (cc)
 both_equal Equal p is = (refl, is)
@@ -159,11 +112,3 @@ same_bytes a b is = (bytes_eq-Decides a b).0 (sym (is_eq-slice_cmp a b) ∙ ap i
 
 pub same_number : (x y : ℕ) → nat_cmp x y ≡ Equal → x ≡ y
 same_number x y is = ranked x y Equal (sym is)
-
--- no two items are equal in order
-pub sort_exact : (k l : Keyed) → sort_key k ≡ sort_key l → k ≡ l
-sort_exact k l same =
-    let tied : slice_cmp nat_cmp (sort_key k) (sort_key l) ≡ Equal =
-    subst (λ x. slice_cmp nat_cmp (sort_key k) x ≡ Equal) same (tied_itself nat_list_cmp_total (sort_key k)) in
-    let both = both_equal _ _ (sym (sort_key_cmp k l) ∙ tied) in
-    λ i. record { key = same_bytes k.key l.key both.0 i; item = same_number k.item l.item both.1 i }

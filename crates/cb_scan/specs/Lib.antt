@@ -1,6 +1,5 @@
 pub mod Bytes
 pub mod Definitions
-pub mod FactKeys
 pub mod Keys
 pub mod Lines
 pub mod Order

@@ -3,11 +3,9 @@ pub mod Cut
 pub mod Directives
 pub mod Functions
 pub mod Heads
-pub mod Keys
 pub mod Lanes
 pub mod LineStarts
 pub mod Lined
-pub mod Ranks
 pub mod Quote
 pub mod Scopes
 pub mod Structures

@@ -1,5 +1,5 @@
 //! What is found in a text: definitions, uses of names, calls and includes.
-ghost use Rattle.std.specs.Prelude.{◌≡◌};
+ghost use Rattle.std.specs.Prelude.{◌≡◌, ◌<◌, ◌^◌, length};
 
 use crate::lex::piece::Span;
 use std::marker::Model;
@@ -50,7 +50,7 @@ pub struct Include {
     pub scope: Option<Span>,
 }
 
-/// The facts of a text, each list in the order of its places.
+/// The facts of a text: four lists of fewer than 2^32 facts, each in the order of its places.
 #[derive(Debug, Drop)]
 pub struct Facts {
     defs: Vec<Def>,
@@ -60,6 +60,7 @@ pub struct Facts {
 }
 
 impl Model for Facts {
+    ghost use Rattle.std.specs.Prelude.{◌<◌, ◌^◌, length};
     ghost use Rattle.cb_scan.specs.TextFacts.{TextFacts};
 
     ghost Value = { TextFacts };
@@ -70,6 +71,11 @@ impl Model for Facts {
       calls = f.calls.items;
       includes = f.includes.items;
     } };
+
+    ghost invariant = { λ f. (length f.defs.items < 2 ^ 32)
+        × (length f.uses.items < 2 ^ 32)
+        × (length f.calls.items < 2 ^ 32)
+        × (length f.includes.items < 2 ^ 32) };
 }
 
 impl Facts {
@@ -79,6 +85,10 @@ impl Facts {
         calls: Vec<Call>,
         includes: Vec<Include>,
     ) -> Facts
+        requires defs { length defs.items < 2 ^ 32 }
+        requires uses { length uses.items < 2 ^ 32 }
+        requires calls { length calls.items < 2 ^ 32 }
+        requires includes { length includes.items < 2 ^ 32 }
         ensures { result ≡ record {
           defs = defs.items;
           uses = uses.items;
@@ -96,28 +106,32 @@ impl Facts {
 
     /// The definitions.
     pub fn defs(&self) -> &[Def]
-        ensures { result.now ≡ self.now.defs }
+        ensures value { result.now ≡ self.now.defs }
+        ensures few { length result.now < 2 ^ 32 }
     {
         self.defs.as_slice()
     }
 
     /// The uses of names.
     pub fn uses(&self) -> &[Use]
-        ensures { result.now ≡ self.now.uses }
+        ensures value { result.now ≡ self.now.uses }
+        ensures few { length result.now < 2 ^ 32 }
     {
         self.uses.as_slice()
     }
 
     /// The calls.
     pub fn calls(&self) -> &[Call]
-        ensures { result.now ≡ self.now.calls }
+        ensures value { result.now ≡ self.now.calls }
+        ensures few { length result.now < 2 ^ 32 }
     {
         self.calls.as_slice()
     }
 
     /// The includes.
     pub fn includes(&self) -> &[Include]
-        ensures { result.now ≡ self.now.includes }
+        ensures value { result.now ≡ self.now.includes }
+        ensures few { length result.now < 2 ^ 32 }
     {
         self.includes.as_slice()
     }

@@ -1,17 +1,9 @@
 //! What holds of every text, as functions that do nothing and whose contracts are the laws.
-ghost use Rattle.std.specs.Prelude.{◌≡◌, ◌↔◌, ◌≤◌, ℕ, Bool, true, List, length};
+ghost use Rattle.std.specs.Prelude.{◌≡◌, ◌↔◌, ℕ, true, List, length};
 ghost use Rattle.std.specs.List.{AllByRecursion};
 ghost use Rattle.cb_scan.specs.declared.lex.piece.Piece.{Piece};
 ghost use Rattle.cb_scan.specs.lex.Pieces.{IsPieces, Adjoin, LiesIn};
 ghost use Rattle.cb_scan.specs.Definitions.{facts_from, facts_of};
-ghost use Rattle.cb_scan.specs.Keys.{
-  AllNumbered,
-  HoldsOf,
-  items_by_key,
-  items_with,
-  numbers_with,
-  postings,
-};
 ghost use Rattle.cb_scan.specs.lex.Lexeme.{IsClosedLiteral};
 ghost use Rattle.cb_scan.specs.Order.{AreInOrder};
 ghost use Rattle.cb_scan.specs.steps.Cut.{pieces};
@@ -48,21 +40,4 @@ pub fn closed_strings()
 /// one place go by kind.
 pub fn facts_in_order()
     ensures { (text : List ℕ) → AreInOrder (facts_of text) }
-{}
-
-/// A key list has an item for each key and no more postings than items; the items of the postings
-/// of a key are the numbers of the keys that are equal to it, ascending.
-pub fn key_lists_are_whole()
-    ensures items { (keys : List (List ℕ)) → length (items_by_key keys).items ≡ length keys }
-    ensures few { (keys : List (List ℕ)) → length (items_by_key keys).prefixes ≤ length keys }
-    ensures of_key { (key : List ℕ) (keys : List (List ℕ))
-        → items_with key (postings keys) ≡ numbers_with key 0 keys }
-{}
-
-/// A posting has an item, and a test that each key and its number pass is passed by the key of a
-/// posting and each of its items.
-pub fn postings_have_their_keys()
-    ensures { (test : ℕ → List ℕ → Bool) (keys : List (List ℕ))
-        → AllNumbered (λ i key. test i key ≡ true) 0 keys
-        → AllByRecursion (HoldsOf (λ i key. test i key ≡ true)) (postings keys) }
 {}

@@ -8,22 +8,20 @@
 
 mod facts;
 mod gather;
-mod keys;
 pub mod laws;
 mod lex;
 mod meter;
+mod prefix;
 mod rules;
 mod scanner;
 mod source;
 
 pub use facts::{Call, Def, Facts, Include, Kind, Use};
-pub use keys::facts::FactKeys;
-pub use keys::list::KeyList;
-pub use keys::prefix::key_prefix;
 pub use lex::cut::pieces;
 pub use lex::name::is_name;
 pub use lex::piece::{Class, Piece, Pieces, Span};
 pub use meter::Meter;
+pub use prefix::key_prefix;
 pub use scanner::scan;
 pub use source::{ScanError, Source};
 

@@ -142,6 +142,11 @@ fn facts_in(alloc: Global, text: &[u8]) -> Result<Facts, AllocError>
         code.structures.as_slice(),
     )?;
     let calls = ordered_calls(alloc, code.calls.as_slice(), lines.calls.as_slice())?;
+    // No text of a source has so many facts.
+    let most = u32::MAX as usize;
+    if defs.len() > most || uses.len() > most || calls.len() > most || includes.len() > most {
+        return Err(AllocError);
+    }
     Ok(Facts::new(defs, uses, calls, includes))
 }
 

@@ -1,5 +1,5 @@
 -- One round of a run.
-use Rattle.std.proofs.Common.{◌≡◌, ℕ, Bool, false, List, Option, Some, None, Result, Ok, Err, sym, ap, ◌∙◌, subst}
+use Rattle.std.proofs.Common.{◌≡◌, ℕ, Bool, false, List, Option, Some, None, Result, Ok, Err, refl, sym, ap, ◌∙◌, subst, inl, inr}
 use Rattle.std.specs.Prelude.{IsErrAnd}
 use Rattle.std.specs.Io.KnownBytes.{Appends}
 use Rattle.std.proofs.KnownBytes.{Appends-trans}
@@ -14,7 +14,7 @@ use Rattle.cb_session.specs.Inputs.{First, first, ending_of}
 use Rattle.cb_session.specs.Reading.{Reads}
 use Rattle.cb_session.specs.Requests.{Request, overlong}
 use Rattle.cb_session.specs.Serving.{Does, Leaves}
-use Rattle.cb_session.specs.steps.Rounds.{LeavesRound}
+use Rattle.cb_session.specs.steps.Rounds.{EndsRound, IsMoved, LeavesRound}
 use Rattle.cb_session.specs.Output.{prompt, outcome, exchange}
 use Rattle.cb_tags.specs.Writing.{AppendsPrefix}
 use Rattle.cb_session.proofs.Blocks.{IsRead}
@@ -35,20 +35,28 @@ Leaves-whole text meant rest feed old new (Operand place why) e left p = (e, lef
 
 -- a fault that is passed on
 passed_on : (out_of_memory : Bool) (f : First) (t next : Timeline) (feed : Reader) (old new : Writer) (r : Result (Option Ended) Reason) (fault : Reason)
-    → IsErrAnd r (λ e. e ≡ fault) → Leaves (exchange out_of_memory t f.request) (ending_of f.request) f.rest feed old new (Fault fault) → LeavesRound out_of_memory f t next feed old new r
+    → IsErrAnd r (λ e. e ≡ fault) → EndsRound out_of_memory f t next feed old new (Fault fault) → LeavesRound out_of_memory f t next feed old new r
 passed_on out_of_memory f t next feed old new (Ok x) fault e p = absurd e
-passed_on out_of_memory f t next feed old new (Err x) fault e p = subst (λ k. Leaves (exchange out_of_memory t f.request) (ending_of f.request) f.rest feed old new (Fault k)) (sym e) p
+passed_on out_of_memory f t next feed old new (Err x) fault e p = subst (λ k. EndsRound out_of_memory f t next feed old new (Fault k)) (sym e) p
 
 -- the prompt could not be written
-pub Round-unprompted : (f : First) (t next : Timeline) (feed : Reader) (old new : Writer) (r : Result (Option Ended) Reason) (fault : Reason)
-    → IsErrAnd r (λ e. e ≡ fault) → fault ≡ Write → AppendsPrefix old.bytes new.bytes prompt → (out_of_memory : Bool) × LeavesRound out_of_memory f t next feed old new r
-Round-unprompted f t next feed old new r fault e w p =
-    (false, passed_on false f t next feed old new r Write (subst (λ k. IsErrAnd r (λ x. x ≡ k)) w e) (AppendsPrefix-more old.bytes new.bytes prompt (outcome false t f.request).reply p))
+pub Round-unprompted : (f : First) (t : Timeline) (feed : Reader) (old new : Writer) (r : Result (Option Ended) Reason) (fault : Reason)
+    → IsErrAnd r (λ e. e ≡ fault) → fault ≡ Write → AppendsPrefix old.bytes new.bytes prompt → (out_of_memory : Bool) × LeavesRound out_of_memory f t t feed old new r
+Round-unprompted f t feed old new r fault e w p = (
+  false,
+  passed_on false f t t feed old new r Write (subst (λ k. IsErrAnd r (λ x. x ≡ k)) w e)
+      (AppendsPrefix-more old.bytes new.bytes prompt (outcome false t f.request).reply p, inl refl),
+)
 
 -- a line that is too long for the run has a prompt and no reply
 overlong_exchange : (t : Timeline) (e : Request) → e ≡ overlong → exchange false t e ≡ prompt
 unfolding outcome
 overlong_exchange t e h = ap (exchange false t) h
+
+-- and leaves the timeline alone
+overlong_outcome : (t : Timeline) (e : Request) → e ≡ overlong → t ≡ (outcome false t e).timeline
+unfolding outcome
+overlong_outcome t e h = sym (ap (λ x. (outcome false t x).timeline) h)
 
 -- no input could be read
 unread : (f : First) (t : Timeline) (feed : Reader) (old new : Writer) (fault : Reason) → Reads f feed (Err fault) → Appends old.bytes new.bytes prompt
@@ -59,9 +67,17 @@ unread f t feed old new Memory h p = AppendsPrefix-more old.bytes new.bytes prom
 unread f t feed old new LongLine h p = (ap ending_of h, subst (λ l. Appends old.bytes new.bytes l) (sym (overlong_exchange t f.request h)) p)
 unread f t feed old new ManyLines h p = absurd h
 
-pub Round-unread : (f : First) (t next : Timeline) (feed : Reader) (old new : Writer) (r : Result (Option Ended) Reason) (fault : Reason)
-    → IsErrAnd r (λ e. e ≡ fault) → Reads f feed (Err fault) → Appends old.bytes new.bytes prompt → (out_of_memory : Bool) × LeavesRound out_of_memory f t next feed old new r
-Round-unread f t next feed old new r fault e h p = (false, passed_on false f t next feed old new r fault e (unread f t feed old new fault h p))
+unmoved : (f : First) (t : Timeline) (feed : Reader) (fault : Reason) → Reads f feed (Err fault) → IsMoved false t f.request (Fault fault) t
+unmoved f t feed Read h = inl refl
+unmoved f t feed Write h = absurd h
+unmoved f t feed Memory h = inl refl
+unmoved f t feed LongLine h = overlong_outcome t f.request h
+unmoved f t feed ManyLines h = absurd h
+
+pub Round-unread : (f : First) (t : Timeline) (feed : Reader) (old new : Writer) (r : Result (Option Ended) Reason) (fault : Reason)
+    → IsErrAnd r (λ e. e ≡ fault) → Reads f feed (Err fault) → Appends old.bytes new.bytes prompt → (out_of_memory : Bool) × LeavesRound out_of_memory f t t feed old new r
+Round-unread f t feed old new r fault e h p =
+    (false, passed_on false f t t feed old new r fault e (unread f t feed old new fault h p, unmoved f t feed fault h))
 
 -- the reply could not be written
 pub Round-unanswered : (A : Type 0) (f : First) (t next : Timeline) (feed : Reader) (old mid new : Writer) (r : Result (Option Ended) Reason) (fault : Reason) (request : Request)
@@ -71,9 +87,23 @@ Round-unanswered A f t next feed old mid new r fault request e same p d =
     let text : AppendsPrefix old.bytes new.bytes (exchange d.0 t request) =
     AppendsPrefix-after old.bytes mid.bytes new.bytes prompt (outcome d.0 t request).reply p d.1.1.0.2 in (
       d.0,
-      passed_on d.0 f t next feed old new r Write (subst (λ k. IsErrAnd r (λ x. x ≡ k)) d.1.1.1 e)
-          (subst (λ x. AppendsPrefix old.bytes new.bytes (exchange d.0 t x)) same text),
+      passed_on d.0 f t next feed old new r Write (subst (λ k. IsErrAnd r (λ x. x ≡ k)) d.1.1.1 e) (
+        subst (λ x. AppendsPrefix old.bytes new.bytes (exchange d.0 t x)) same text,
+        inr (d.1.0 ∙ ap (λ x. (outcome d.0 t x).timeline) same),
+      ),
     )
+
+-- what was answered has moved the timeline
+moved_whole : (out_of_memory : Bool) (t : Timeline) (e : Request) (ended : Ended) (next : Timeline)
+    → next ≡ (outcome out_of_memory t e).timeline → IsMoved out_of_memory t e ended next
+moved_whole out_of_memory t e (Fault Read) next h = inr h
+moved_whole out_of_memory t e (Fault Write) next h = inr h
+moved_whole out_of_memory t e (Fault Memory) next h = inr h
+moved_whole out_of_memory t e (Fault LongLine) next h = h
+moved_whole out_of_memory t e (Fault ManyLines) next h = h
+moved_whole out_of_memory t e Done next h = h
+moved_whole out_of_memory t e Cut next h = h
+moved_whole out_of_memory t e (Operand place why) next h = h
 
 -- the reply was written
 pub Round-answered : (A : Type 0) (f : First) (t next : Timeline) (feed : Reader) (old mid new : Writer) (ending : Option Ended) (x : A) (request : Request)
@@ -83,25 +113,30 @@ Round-answered A f t next feed old mid new None x request same left e p d =
     let text : Appends old.bytes new.bytes (exchange d.0 t request) = Appends-trans old.bytes mid.bytes new.bytes prompt (outcome d.0 t request).reply p d.1.1.0.2 in
     (d.0, (sym (e ∙ ap ending_of same), left, d.1.0 ∙ ap (λ y. (outcome d.0 t y).timeline) same, subst (λ y. Appends old.bytes new.bytes (exchange d.0 t y)) same text))
 Round-answered A f t next feed old mid new (Some ended) x request same left e p d =
-    let text : Appends old.bytes new.bytes (exchange d.0 t request) = Appends-trans old.bytes mid.bytes new.bytes prompt (outcome d.0 t request).reply p d.1.1.0.2 in
-    (d.0, Leaves-whole (exchange d.0 t f.request) (ending_of f.request) f.rest feed old new ended (sym (e ∙ ap ending_of same)) left (subst (λ y. Appends old.bytes new.bytes (exchange d.0 t y)) same text))
+    let text : Appends old.bytes new.bytes (exchange d.0 t request) = Appends-trans old.bytes mid.bytes new.bytes prompt (outcome d.0 t request).reply p d.1.1.0.2 in (
+      d.0,
+      (
+        Leaves-whole (exchange d.0 t f.request) (ending_of f.request) f.rest feed old new ended (sym (e ∙ ap ending_of same)) left (subst (λ y. Appends old.bytes new.bytes (exchange d.0 t y)) same text),
+        moved_whole d.0 t f.request ended next (d.1.0 ∙ ap (λ y. (outcome d.0 t y).timeline) same),
+      ),
+    )
 
 -- one round, whatever follows what was read: what `round` promises
 abbrev FollowsRound : ℕ → Timeline → Timeline → Writer → Writer → Result (Option Ended) Reason → List ℕ → Reader → Type 0
 FollowsRound limit t next old new r bytes left = (out_of_memory : Bool) × LeavesRound out_of_memory (first limit bytes) t next left old new r
 
-pub Follows-unprompted : (limit : ℕ) (t next : Timeline) (feed : Reader) (old new : Writer) (r : Result (Option Ended) Reason) (fault : Reason)
+pub Follows-unprompted : (limit : ℕ) (t : Timeline) (feed : Reader) (old new : Writer) (r : Result (Option Ended) Reason) (fault : Reason)
     → IsErrAnd r (λ e. e ≡ fault) → fault ≡ Write → AppendsPrefix old.bytes new.bytes prompt
-    → WhateverFollows feed feed (λ bytes left. (out_of_memory : Bool) × LeavesRound out_of_memory (first limit bytes) t next left old new r)
-Follows-unprompted limit t next feed old new r fault e w p =
-    Follows-nothing feed (FollowsRound limit t next old new r) (λ bytes left known. Round-unprompted (first limit bytes) t next left old new r fault e w p)
+    → WhateverFollows feed feed (λ bytes left. (out_of_memory : Bool) × LeavesRound out_of_memory (first limit bytes) t t left old new r)
+Follows-unprompted limit t feed old new r fault e w p =
+    Follows-nothing feed (FollowsRound limit t t old new r) (λ bytes left known. Round-unprompted (first limit bytes) t left old new r fault e w p)
 
-pub Follows-unread : (limit : ℕ) (t next : Timeline) (feed after : Reader) (old new : Writer) (r : Result (Option Ended) Reason) (fault : Reason)
+pub Follows-unread : (limit : ℕ) (t : Timeline) (feed after : Reader) (old new : Writer) (r : Result (Option Ended) Reason) (fault : Reason)
     → IsErrAnd r (λ e. e ≡ fault) → WhateverFollows feed after (λ bytes left. Reads (first limit bytes) left (Err fault)) → Appends old.bytes new.bytes prompt
-    → WhateverFollows feed after (λ bytes left. (out_of_memory : Bool) × LeavesRound out_of_memory (first limit bytes) t next left old new r)
-Follows-unread limit t next feed after old new r fault e h p =
-    Follows-so feed after (λ bytes left. Reads (first limit bytes) left (Err fault)) (FollowsRound limit t next old new r) h
-    (λ bytes left reads. Round-unread (first limit bytes) t next left old new r fault e reads p)
+    → WhateverFollows feed after (λ bytes left. (out_of_memory : Bool) × LeavesRound out_of_memory (first limit bytes) t t left old new r)
+Follows-unread limit t feed after old new r fault e h p =
+    Follows-so feed after (λ bytes left. Reads (first limit bytes) left (Err fault)) (FollowsRound limit t t old new r) h
+    (λ bytes left reads. Round-unread (first limit bytes) t left old new r fault e reads p)
 
 pub Follows-unanswered : (A : Type 0) (limit : ℕ) (t next : Timeline) (feed after : Reader) (old mid new : Writer) (r : Result (Option Ended) Reason) (fault : Reason) (request : Request)
     → IsErrAnd r (λ e. e ≡ fault) → WhateverFollows feed after (λ bytes left. IsRead (first limit bytes) request left) → Appends old.bytes mid.bytes prompt

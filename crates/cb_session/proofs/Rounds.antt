@@ -1,6 +1,6 @@
 -- A run, round by round.
-use Rattle.std.proofs.Common.{◌≡◌, ℕ, zero, suc, Bool, List, [], ◌∷◌, ◌++◌, Option, Some, None, Ok}
-use Rattle.std.proofs.Common.{refl, sym, ap, ◌∙◌, subst, append_assoc, append-nil}
+use Rattle.std.proofs.Common.{◌≡◌, ◌⊎◌, ℕ, zero, suc, Bool, List, [], ◌∷◌, ◌++◌, Option, Some, None, Ok}
+use Rattle.std.proofs.Common.{refl, sym, ap, ◌∙◌, subst, append_assoc, append-nil, ⊎_elim}
 use Rattle.std.specs.Io.KnownBytes.{Appends, Keeps}
 use Rattle.std.proofs.KnownBytes.{Appends-trans, Appends-nil, Appends-kept}
 use Rattle.cb_session.specs.declared.input.Ended.{Ended}
@@ -11,9 +11,9 @@ use Rattle.cb_tags.specs.Writers.{Writer}
 use Rattle.cb_session.specs.Devices.{Reader, WhateverFollows, leaving}
 use Rattle.cb_session.specs.Inputs.{First, Inputs, first, inputs, ending_of, begin_with}
 use Rattle.cb_session.specs.Requests.{Request}
-use Rattle.cb_session.specs.Serving.{Leaves, LeavesRun}
-use Rattle.cb_session.specs.steps.Rounds.{LeavesRound}
-use Rattle.cb_session.specs.Output.{outcome, exchange, output}
+use Rattle.cb_session.specs.Serving.{IsBehindFirst, IsLeft, Leaves, LeavesRun, LeavesSession}
+use Rattle.cb_session.specs.steps.Rounds.{EndsRound, IsMoved, LeavesRound}
+use Rattle.cb_session.specs.Output.{outcome, exchange, output, led_to}
 use Rattle.cb_session.proofs.Follows.{Some-same, Follows-nothing, Follows-so, Follows-then}
 use Rattle.cb_tags.specs.Writing.{AppendsPrefix}
 use Rattle.cb_tags.proofs.Prefixes.{AppendsPrefix-more, AppendsPrefix-after, AppendsPrefix-whole}
@@ -60,7 +60,21 @@ output-nil : (ms : List Bool) (t : Timeline) → output ms t [] ≡ []
 unfolding output
 output-nil ms t = refl
 
--- a run that has so many lines left: what was written so far, and what is still to be read
+-- the timeline behind an input and those after it
+led-cons : (m : Bool) (ms : List Bool) (t : Timeline) (e : Request) (es : List Request)
+    → led_to (m ∷ ms) t (e ∷ es) ≡ led_to ms (outcome m t e).timeline es
+unfolding led_to
+led-cons m ms t e es = refl
+
+led-nil : (ms : List Bool) (t : Timeline) → led_to ms t [] ≡ t
+unfolding led_to
+led-nil ms t = refl
+
+led-one : (m : Bool) (t : Timeline) (e : Request) → led_to (m ∷ []) t (e ∷ []) ≡ (outcome m t e).timeline
+led-one m t e = led-cons m [] t e [] ∙ led-nil [] (outcome m t e).timeline
+
+-- a run that has so many lines left: what was written so far, which inputs led to the timeline, and
+-- what is still to be read
 pub record Rounds (lines limit : ℕ) (bytes : List ℕ) (start : Timeline) (old : Writer) (left : ℕ)
     (t : Timeline) (feed : Reader) (out : Writer) : Type 0 where
   pub rest : List ℕ
@@ -72,6 +86,9 @@ pub record Rounds (lines limit : ℕ) (bytes : List ℕ) (start : Timeline) (old
       ≡ so_far ++ output ms t (inputs left limit rest).requests
   pub ending : (inputs lines limit bytes).ending ≡ (inputs left limit rest).ending
   pub behind : (inputs lines limit bytes).rest ≡ (inputs left limit rest).rest
+  pub done : List Request
+  pub are : (inputs lines limit bytes).requests ≡ done ++ (inputs left limit rest).requests
+  pub led : (ms : List Bool) (es : List Request) → led_to (refusals ++ ms) start (done ++ es) ≡ led_to ms t es
 
 pub Rounds-start : (lines limit : ℕ) (bytes : List ℕ) (start : Timeline) (old : Writer)
     (feed : Reader) → feed.bytes ≡ Some bytes
@@ -85,6 +102,9 @@ Rounds-start lines limit bytes start old feed h = record {
   text = λ ms. refl;
   ending = refl;
   behind = refl;
+  done = [];
+  are = refl;
+  led = λ ms es. refl;
 }
 
 -- one round more
@@ -113,6 +133,13 @@ Rounds-more lines limit bytes start old left t next feed after out new out_of_me
           (output ms next (inputs left limit f.rest).requests));
       ending = r.ending ∙ ap (λ i. i.ending) on;
       behind = r.behind ∙ ap (λ i. i.rest) on;
+      done = r.done ++ f.request ∷ [];
+      are = r.are ∙ ap (λ i. r.done ++ i.requests) on
+          ∙ sym (append_assoc r.done (f.request ∷ []) (inputs left limit f.rest).requests);
+      led = λ ms es.
+          (λ i. led_to (append_assoc r.refusals (out_of_memory ∷ []) ms i) start (append_assoc r.done (f.request ∷ []) es i))
+          ∙ r.led (out_of_memory ∷ ms) (f.request ∷ es) ∙ led-cons out_of_memory ms t f.request es
+          ∙ ap (λ s. led_to ms s es) (sym h.2);
     }
 
 -- a fault in a round: a prefix of the output is written
@@ -178,61 +205,127 @@ Rounds-whole lines limit bytes start old left t feed after out new out_of_memory
     let last = Rounds-last lines limit bytes start old left t feed out new out_of_memory ended r e h in
     (last.ending, unread ∙ ap Some last.behind, last.wrote)
 
+-- where a round that ends the run leaves the timeline
+Rounds-unmoved : (lines limit : ℕ) (bytes : List ℕ) (start : Timeline) (old : Writer) (left : ℕ)
+    (t : Timeline) (feed : Reader) (out : Writer) (out_of_memory : Bool) (next : Timeline)
+    → (r : Rounds lines limit bytes start old (suc left) t feed out) → next ≡ t
+    → IsBehindFirst (r.refusals ++ out_of_memory ∷ []) start (inputs lines limit bytes).requests next
+Rounds-unmoved lines limit bytes start old left t feed out out_of_memory next r same = (
+  r.done,
+  (inputs (suc left) limit r.rest).requests,
+  r.are,
+  same ∙ sym (ap (led_to (r.refusals ++ out_of_memory ∷ []) start) (sym (append-nil r.done))
+      ∙ r.led (out_of_memory ∷ []) [] ∙ led-nil (out_of_memory ∷ []) t),
+)
+
+Rounds-moved : (lines limit : ℕ) (bytes : List ℕ) (start : Timeline) (old : Writer) (left : ℕ)
+    (t : Timeline) (feed : Reader) (out : Writer) (out_of_memory : Bool) (next : Timeline)
+    → (r : Rounds lines limit bytes start old (suc left) t feed out)
+    → next ≡ (outcome out_of_memory t (first limit r.rest).request).timeline
+    → next ≡ led_to (r.refusals ++ out_of_memory ∷ []) start (r.done ++ (first limit r.rest).request ∷ [])
+Rounds-moved lines limit bytes start old left t feed out out_of_memory next r moved =
+    let e = (first limit r.rest).request in
+    moved ∙ sym (r.led (out_of_memory ∷ []) (e ∷ []) ∙ led-one out_of_memory t e)
+
+Rounds-some : (lines limit : ℕ) (bytes : List ℕ) (start : Timeline) (old : Writer) (left : ℕ)
+    (t : Timeline) (feed : Reader) (out : Writer) (out_of_memory : Bool) (next : Timeline)
+    → (r : Rounds lines limit bytes start old (suc left) t feed out)
+    → next ≡ (outcome out_of_memory t (first limit r.rest).request).timeline
+    → IsBehindFirst (r.refusals ++ out_of_memory ∷ []) start (inputs lines limit bytes).requests next
+Rounds-some lines limit bytes start old left t feed out out_of_memory next r moved =
+    let e = (first limit r.rest).request in
+    let b = inputs-begin left limit r.rest in (
+      r.done ++ e ∷ [],
+      b.0,
+      r.are ∙ ap (λ es. r.done ++ es) b.1 ∙ sym (append_assoc r.done (e ∷ []) b.0),
+      Rounds-moved lines limit bytes start old left t feed out out_of_memory next r moved,
+    )
+
+Rounds-first : (lines limit : ℕ) (bytes : List ℕ) (start : Timeline) (old : Writer) (left : ℕ)
+    (t : Timeline) (feed : Reader) (out : Writer) (out_of_memory : Bool) (next : Timeline)
+    → (r : Rounds lines limit bytes start old (suc left) t feed out)
+    → (next ≡ t) ⊎ (next ≡ (outcome out_of_memory t (first limit r.rest).request).timeline)
+    → IsBehindFirst (r.refusals ++ out_of_memory ∷ []) start (inputs lines limit bytes).requests next
+Rounds-first lines limit bytes start old left t feed out out_of_memory next r =
+    ⊎_elim (Rounds-unmoved lines limit bytes start old left t feed out out_of_memory next r)
+    (Rounds-some lines limit bytes start old left t feed out out_of_memory next r)
+
+-- an answered last input leads behind all of them
+Rounds-all : (lines limit : ℕ) (bytes : List ℕ) (start : Timeline) (old : Writer) (left : ℕ)
+    (t : Timeline) (feed : Reader) (out : Writer) (out_of_memory : Bool) (ended : Ended) (next : Timeline)
+    → (r : Rounds lines limit bytes start old (suc left) t feed out)
+    → ending_of (first limit r.rest).request ≡ Some ended
+    → next ≡ (outcome out_of_memory t (first limit r.rest).request).timeline
+    → next ≡ led_to (r.refusals ++ out_of_memory ∷ []) start (inputs lines limit bytes).requests
+Rounds-all lines limit bytes start old left t feed out out_of_memory ended next r e moved =
+    Rounds-moved lines limit bytes start old left t feed out out_of_memory next r moved
+    ∙ ap (led_to (r.refusals ++ out_of_memory ∷ []) start)
+    (sym (r.are ∙ ap (λ i. r.done ++ i.requests) (inputs-last left limit r.rest ended e)))
+
 -- a round in which the run ends
 pub Rounds-end : (lines limit : ℕ) (bytes : List ℕ) (start : Timeline) (old : Writer) (left : ℕ)
-    (t : Timeline) (feed after : Reader) (out new : Writer) (out_of_memory : Bool) (ended : Ended)
+    (t next : Timeline) (feed after : Reader) (out new : Writer) (out_of_memory : Bool) (ended : Ended)
     → (r : Rounds lines limit bytes start old (suc left) t feed out)
-    → Leaves (exchange out_of_memory t (first limit r.rest).request)
-    (ending_of (first limit r.rest).request) (first limit r.rest).rest after out new ended
-    → LeavesRun (inputs lines limit bytes) start after old new ended
-Rounds-end lines limit bytes start old left t feed after out new
+    → EndsRound out_of_memory (first limit r.rest) t next after out new ended
+    → LeavesSession (inputs lines limit bytes) start next after old new ended
+Rounds-end lines limit bytes start old left t next feed after out new
     out_of_memory (Fault Read) r h = (
       r.refusals ++ out_of_memory ∷ [],
-      Rounds-prefix lines limit bytes start old left t feed out new out_of_memory r h,
+      Rounds-prefix lines limit bytes start old left t feed out new out_of_memory r h.0,
+      Rounds-first lines limit bytes start old left t feed out out_of_memory next r h.1,
     )
-Rounds-end lines limit bytes start old left t feed after out new
+Rounds-end lines limit bytes start old left t next feed after out new
     out_of_memory (Fault Write) r h = (
       r.refusals ++ out_of_memory ∷ [],
-      Rounds-prefix lines limit bytes start old left t feed out new out_of_memory r h,
+      Rounds-prefix lines limit bytes start old left t feed out new out_of_memory r h.0,
+      Rounds-first lines limit bytes start old left t feed out out_of_memory next r h.1,
     )
-Rounds-end lines limit bytes start old left t feed after out new
+Rounds-end lines limit bytes start old left t next feed after out new
     out_of_memory (Fault Memory) r h = (
       r.refusals ++ out_of_memory ∷ [],
-      Rounds-prefix lines limit bytes start old left t feed out new out_of_memory r h,
+      Rounds-prefix lines limit bytes start old left t feed out new out_of_memory r h.0,
+      Rounds-first lines limit bytes start old left t feed out out_of_memory next r h.1,
     )
-Rounds-end lines limit bytes start old left t feed after out new out_of_memory (Fault LongLine) r h =
-    let last = Rounds-last lines limit bytes start old left t feed out new out_of_memory (Fault LongLine) r h.0 h.1 in
-    (r.refusals ++ out_of_memory ∷ [], (last.ending, last.wrote))
-Rounds-end lines limit bytes start old left t feed after out new
+Rounds-end lines limit bytes start old left t next feed after out new out_of_memory (Fault LongLine) r h =
+    let last = Rounds-last lines limit bytes start old left t feed out new out_of_memory (Fault LongLine) r h.0.0 h.0.1 in (
+      r.refusals ++ out_of_memory ∷ [],
+      (last.ending, last.wrote),
+      Rounds-all lines limit bytes start old left t feed out out_of_memory (Fault LongLine) next r h.0.0 h.1,
+    )
+Rounds-end lines limit bytes start old left t next feed after out new
     out_of_memory (Fault ManyLines) r h = (
       r.refusals ++ out_of_memory ∷ [],
       Rounds-whole lines limit bytes start old left t feed after out new
-          out_of_memory (Fault ManyLines) r h.0 h.1 h.2,
+          out_of_memory (Fault ManyLines) r h.0.0 h.0.1 h.0.2,
+      Rounds-all lines limit bytes start old left t feed out out_of_memory (Fault ManyLines) next r h.0.0 h.1,
     )
-Rounds-end lines limit bytes start old left t feed after out new
+Rounds-end lines limit bytes start old left t next feed after out new
     out_of_memory Done r h = (
       r.refusals ++ out_of_memory ∷ [],
       Rounds-whole lines limit bytes start old left t feed after out new
-          out_of_memory Done r h.0 h.1 h.2,
+          out_of_memory Done r h.0.0 h.0.1 h.0.2,
+      Rounds-all lines limit bytes start old left t feed out out_of_memory Done next r h.0.0 h.1,
     )
-Rounds-end lines limit bytes start old left t feed after out new
+Rounds-end lines limit bytes start old left t next feed after out new
     out_of_memory Cut r h = (
       r.refusals ++ out_of_memory ∷ [],
       Rounds-whole lines limit bytes start old left t feed after out new
-          out_of_memory Cut r h.0 h.1 h.2,
+          out_of_memory Cut r h.0.0 h.0.1 h.0.2,
+      Rounds-all lines limit bytes start old left t feed out out_of_memory Cut next r h.0.0 h.1,
     )
-Rounds-end lines limit bytes start old left t feed after out new
+Rounds-end lines limit bytes start old left t next feed after out new
     out_of_memory (Operand place why) r h = (
       r.refusals ++ out_of_memory ∷ [],
       Rounds-whole lines limit bytes start old left t feed after out new
-          out_of_memory (Operand place why) r h.0 h.1 h.2,
+          out_of_memory (Operand place why) r h.0.0 h.0.1 h.0.2,
+      Rounds-all lines limit bytes start old left t feed out out_of_memory (Operand place why) next r h.0.0 h.1,
     )
 
 -- no line is left
 pub Rounds-out : (lines limit : ℕ) (bytes : List ℕ) (start : Timeline) (old : Writer) (t : Timeline)
     (feed : Reader) (out : Writer)
     → Rounds lines limit bytes start old zero t feed out
-    → LeavesRun (inputs lines limit bytes) start feed old out (Fault ManyLines)
+    → LeavesSession (inputs lines limit bytes) start t feed old out (Fault ManyLines)
 Rounds-out lines limit bytes start old t feed out r =
     let none = inputs-out limit r.rest in
     let whole : output (r.refusals ++ []) start (inputs lines limit bytes).requests ≡ r.so_far =
@@ -244,6 +337,8 @@ Rounds-out lines limit bytes start old t feed out r =
         r.unread ∙ ap Some (sym (r.behind ∙ ap (λ i. i.rest) none)),
         subst (λ l. Appends old.bytes out.bytes l) (sym whole) r.wrote,
       ),
+      sym (ap (led_to (r.refusals ++ []) start) (r.are ∙ ap (λ i. r.done ++ i.requests) none)
+          ∙ r.led [] [] ∙ led-nil [] t),
     )
 
 -- a round in a run: what it leaves is known for all bytes that the feed may have
@@ -261,17 +356,16 @@ Rounds-next lines limit bytes start old n left t next feed after out new e s h =
     Rounds-more lines limit bytes start old left t next feed after out new m.0 r m.1
 
 pub Rounds-stop : (lines limit : ℕ) (bytes : List ℕ) (start : Timeline) (old : Writer) (n left : ℕ)
-    (t : Timeline) (feed after : Reader) (out new : Writer) (ended : Ended)
+    (t next : Timeline) (feed after : Reader) (out new : Writer) (ended : Ended)
     → n ≡ suc left → Rounds lines limit bytes start old n t feed out
     → ((rest : List ℕ) → feed.bytes ≡ Some rest
-    → (out_of_memory : Bool) × Leaves (exchange out_of_memory t (first limit rest).request)
-    (ending_of (first limit rest).request) (first limit rest).rest after out new ended)
-    → LeavesRun (inputs lines limit bytes) start after old new ended
-Rounds-stop lines limit bytes start old n left t feed after out new ended e s h =
+    → (out_of_memory : Bool) × EndsRound out_of_memory (first limit rest) t next after out new ended)
+    → LeavesSession (inputs lines limit bytes) start next after old new ended
+Rounds-stop lines limit bytes start old n left t next feed after out new ended e s h =
     let r : Rounds lines limit bytes start old (suc left) t feed out =
     subst (λ k. Rounds lines limit bytes start old k t feed out) e s in
     let m = h r.rest r.unread in
-    Rounds-end lines limit bytes start old left t feed after out new m.0 ended r m.1
+    Rounds-end lines limit bytes start old left t next feed after out new m.0 ended r m.1
 
 -- the same, whatever follows what was read
 pub Follows-start : (lines limit n : ℕ) (start : Timeline) (old : Writer) (feed : Reader) → lines ≡ n
@@ -297,48 +391,47 @@ Follows-next lines limit start old n left t next feed mid after out new e s h =
     × LeavesRound out_of_memory (first limit l) t next at out new (Ok None))
     (Some-same more rest same) round))
 
-pub Follows-stop : (lines limit : ℕ) (start : Timeline) (old : Writer) (n left : ℕ) (t : Timeline)
+pub Follows-stop : (lines limit : ℕ) (start : Timeline) (old : Writer) (n left : ℕ) (t next : Timeline)
     (feed mid after : Reader) (out new : Writer) (ended : Ended) → n ≡ suc left
     → WhateverFollows feed mid (λ bytes at. Rounds lines limit bytes start old n t at out)
     → WhateverFollows mid after (λ bytes at. (out_of_memory : Bool)
-    × Leaves (exchange out_of_memory t (first limit bytes).request)
-    (ending_of (first limit bytes).request) (first limit bytes).rest at out new ended)
-    → WhateverFollows feed after (λ bytes at. LeavesRun (inputs lines limit bytes) start at old new ended)
-Follows-stop lines limit start old n left t feed mid after out new ended e s h =
+    × EndsRound out_of_memory (first limit bytes) t next at out new ended)
+    → WhateverFollows feed after (λ bytes at. LeavesSession (inputs lines limit bytes) start next at old new ended)
+Follows-stop lines limit start old n left t next feed mid after out new ended e s h =
     Follows-then feed mid after (λ bytes at. Rounds lines limit bytes start old n t at out)
-    (λ bytes at. (out_of_memory : Bool)
-    × Leaves (exchange out_of_memory t (first limit bytes).request)
-    (ending_of (first limit bytes).request) (first limit bytes).rest at out new ended)
-    (λ bytes at. LeavesRun (inputs lines limit bytes) start at old new ended) s h
+    (λ bytes at. (out_of_memory : Bool) × EndsRound out_of_memory (first limit bytes) t next at out new ended)
+    (λ bytes at. LeavesSession (inputs lines limit bytes) start next at old new ended) s h
     (λ bytes more at rounds round.
-    Rounds-stop lines limit bytes start old n left t (leaving mid more) at out new ended e rounds
+    Rounds-stop lines limit bytes start old n left t next (leaving mid more) at out new ended e rounds
     (λ rest same.
-    subst (λ l. (out_of_memory : Bool) × Leaves (exchange out_of_memory t (first limit l).request)
-    (ending_of (first limit l).request) (first limit l).rest at out new ended)
+    subst (λ l. (out_of_memory : Bool) × EndsRound out_of_memory (first limit l) t next at out new ended)
     (Some-same more rest same) round))
 
 pub Follows-out : (lines limit : ℕ) (start : Timeline) (old : Writer) (n : ℕ) (t : Timeline)
     (feed after : Reader) (out : Writer) → n ≡ zero
     → WhateverFollows feed after (λ bytes at. Rounds lines limit bytes start old n t at out)
-    → WhateverFollows feed after (λ bytes at. LeavesRun (inputs lines limit bytes) start at old out (Fault ManyLines))
+    → WhateverFollows feed after (λ bytes at. LeavesSession (inputs lines limit bytes) start t at old out (Fault ManyLines))
 Follows-out lines limit start old n t feed after out e s =
     Follows-so feed after (λ bytes at. Rounds lines limit bytes start old n t at out)
-    (λ bytes at. LeavesRun (inputs lines limit bytes) start at old out (Fault ManyLines)) s
+    (λ bytes at. LeavesSession (inputs lines limit bytes) start t at old out (Fault ManyLines)) s
     (λ bytes at rounds. Rounds-out lines limit bytes start old t at out
     (subst (λ k. Rounds lines limit bytes start old k t at out) e rounds))
 
 -- no memory for a line, and so no round
-pub LeavesRun-none : (lines limit : ℕ) (bytes : List ℕ) (start : Timeline) (out : Writer) (feed : Reader)
-    → LeavesRun (inputs lines limit bytes) start feed out out (Fault Memory)
-LeavesRun-none lines limit bytes start out feed =
-    ([], ([], output [] start (inputs lines limit bytes).requests, refl, Appends-nil out.bytes))
+pub LeavesSession-none : (lines limit : ℕ) (bytes : List ℕ) (start : Timeline) (out : Writer) (feed : Reader)
+    → LeavesSession (inputs lines limit bytes) start start feed out out (Fault Memory)
+LeavesSession-none lines limit bytes start out feed = (
+  [],
+  ([], output [] start (inputs lines limit bytes).requests, refl, Appends-nil out.bytes),
+  ([], (inputs lines limit bytes).requests, refl, sym (led-nil [] start)),
+)
 
 -- and so over whatever follows what was read
 pub Follows-none : (lines limit : ℕ) (start : Timeline) (out : Writer) (feed : Reader)
-    → WhateverFollows feed feed (λ bytes at. LeavesRun (inputs lines limit bytes) start at out out (Fault Memory))
+    → WhateverFollows feed feed (λ bytes at. LeavesSession (inputs lines limit bytes) start start at out out (Fault Memory))
 Follows-none lines limit start out feed =
-    Follows-nothing feed (λ bytes at. LeavesRun (inputs lines limit bytes) start at out out (Fault Memory))
-    (λ bytes at known. LeavesRun-none lines limit bytes start out at)
+    Follows-nothing feed (λ bytes at. LeavesSession (inputs lines limit bytes) start start at out out (Fault Memory))
+    (λ bytes at known. LeavesSession-none lines limit bytes start out at)
 
 -- a last flush that fails: of all that a run leaves, a prefix is left
 Leaves-prefix : (text : List ℕ) (meant : Option Ended) (rest : List ℕ) (feed : Reader)
@@ -353,14 +446,29 @@ Leaves-prefix text meant rest feed old new Done p = AppendsPrefix-whole old.byte
 Leaves-prefix text meant rest feed old new Cut p = AppendsPrefix-whole old.bytes new.bytes text p.2
 Leaves-prefix text meant rest feed old new (Operand place why) p = AppendsPrefix-whole old.bytes new.bytes text p.2
 
-pub LeavesRun-unflushed : (i : Inputs) (start : Timeline) (feed : Reader) (old mid new : Writer)
-    (ended : Ended) → Keeps mid.bytes new.bytes → LeavesRun i start feed old mid ended
-    → LeavesRun i start feed old new (Fault Write)
-LeavesRun-unflushed i start feed old mid new ended kept run =
+-- a timeline behind all inputs is one behind the first of them
+IsLeft-first : (refusals : List Bool) (t : Timeline) (es : List Request) (ended : Ended) (next : Timeline)
+    → IsLeft refusals t es ended next → IsBehindFirst refusals t es next
+IsLeft-first refusals t es (Fault Read) next h = h
+IsLeft-first refusals t es (Fault Write) next h = h
+IsLeft-first refusals t es (Fault Memory) next h = h
+IsLeft-first refusals t es (Fault LongLine) next h = (es, [], sym (append-nil es), h)
+IsLeft-first refusals t es (Fault ManyLines) next h = (es, [], sym (append-nil es), h)
+IsLeft-first refusals t es Done next h = (es, [], sym (append-nil es), h)
+IsLeft-first refusals t es Cut next h = (es, [], sym (append-nil es), h)
+IsLeft-first refusals t es (Operand place why) next h = (es, [], sym (append-nil es), h)
+
+pub LeavesSession-unflushed : (i : Inputs) (start next : Timeline) (feed : Reader) (old mid new : Writer)
+    (ended : Ended) → Keeps mid.bytes new.bytes → LeavesSession i start next feed old mid ended
+    → LeavesSession i start next feed old new (Fault Write)
+LeavesSession-unflushed i start next feed old mid new ended kept run =
     let p : AppendsPrefix old.bytes mid.bytes (output run.0 start i.requests) =
     Leaves-prefix (output run.0 start i.requests)
-    (Some i.ending) i.rest feed old mid ended run.1 in
-    (run.0, (p.0, p.1, p.2, Appends-kept old.bytes mid.bytes new.bytes p.0 p.3 kept))
+    (Some i.ending) i.rest feed old mid ended run.1 in (
+      run.0,
+      (p.0, p.1, p.2, Appends-kept old.bytes mid.bytes new.bytes p.0 p.3 kept),
+      IsLeft-first run.0 start i.requests ended next run.2,
+    )
 
 -- a last flush keeps what was written
 Leaves-kept : (text : List ℕ) (meant : Option Ended) (rest : List ℕ) (feed : Reader)
@@ -383,8 +491,16 @@ Leaves-kept text meant rest feed old mid new Cut kept p =
 Leaves-kept text meant rest feed old mid new (Operand place why) kept p =
     (p.0, p.1, Appends-kept old.bytes mid.bytes new.bytes text p.2 kept)
 
-pub LeavesRun-flushed : (i : Inputs) (start : Timeline) (feed : Reader) (old mid new : Writer)
-    (ended : Ended) → Keeps mid.bytes new.bytes → LeavesRun i start feed old mid ended
-    → LeavesRun i start feed old new ended
-LeavesRun-flushed i start feed old mid new ended kept run =
-    (run.0, Leaves-kept (output run.0 start i.requests) (Some i.ending) i.rest feed old mid new ended kept run.1)
+pub LeavesSession-flushed : (i : Inputs) (start next : Timeline) (feed : Reader) (old mid new : Writer)
+    (ended : Ended) → Keeps mid.bytes new.bytes → LeavesSession i start next feed old mid ended
+    → LeavesSession i start next feed old new ended
+LeavesSession-flushed i start next feed old mid new ended kept run = (
+  run.0,
+  Leaves-kept (output run.0 start i.requests) (Some i.ending) i.rest feed old mid new ended kept run.1,
+  run.2,
+)
+
+-- what a run leaves beside the session
+pub session_run : (i : Inputs) (start next : Timeline) (feed : Reader) (old new : Writer) (ended : Ended)
+    → LeavesSession i start next feed old new ended → LeavesRun i start feed old new ended
+session_run i start next feed old new ended run = (run.0, run.1)

@@ -7,17 +7,19 @@ use Rattle.cb_session.specs.declared.input.Ended.TheVariants.{Done, Cut, Fault, 
 use Rattle.cb_session.specs.Devices.{Reader, WhateverFollows}
 use Rattle.cb_session.specs.Inputs.{inputs}
 use Rattle.cb_session.specs.Operands.{Loads, Prepares, Runs}
-use Rattle.cb_session.specs.Serving.{LeavesRun}
+use Rattle.cb_session.specs.Serving.{LeavesSession}
 use Rattle.cb_session.proofs.Follows.{Follows-nothing, Follows-so}
+use Rattle.cb_session.proofs.Rounds.{session_run}
 use Rattle.cb_tags.specs.Writers.{Writer}
 
 -- the operands were loaded
-pub Follows-loaded : (files : List File) (lines limit : ℕ) (t : Timeline) (feed after : Reader) (old new : Writer) (ended : Ended) → Loads 0 new_timeline files (Ok t)
-    → WhateverFollows feed after (λ bytes at. LeavesRun (inputs lines limit bytes) t at old new ended)
+pub Follows-loaded : (files : List File) (lines limit : ℕ) (t : Timeline) (feed after : Reader) (old new : Writer) (ended : Ended) (next : Timeline) → Loads 0 new_timeline files (Ok t)
+    → WhateverFollows feed after (λ bytes at. LeavesSession (inputs lines limit bytes) t next at old new ended)
     → WhateverFollows feed after (λ bytes at. Runs files lines limit bytes at old new ended)
-Follows-loaded files lines limit t feed after old new ended loads s =
-    Follows-so feed after (λ bytes at. LeavesRun (inputs lines limit bytes) t at old new ended) (λ bytes at. Runs files lines limit bytes at old new ended) s
-    (λ bytes at run. (Ok t, loads, run))
+Follows-loaded files lines limit t feed after old new ended next loads s =
+    Follows-so feed after (λ bytes at. LeavesSession (inputs lines limit bytes) t next at old new ended)
+    (λ bytes at. Runs files lines limit bytes at old new ended) s
+    (λ bytes at run. (Ok t, loads, session_run (inputs lines limit bytes) t next at old new ended run))
 
 -- an operand was refused
 pub Follows-refused : (files : List File) (lines limit : ℕ) (feed : Reader) (out : Writer) (ended : Ended) → Prepares files (Err ended)

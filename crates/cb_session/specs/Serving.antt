@@ -1,5 +1,5 @@
 -- What a run leaves.
-use Rattle.std.specs.Prelude.{◌≡◌, ℕ, Bool, true, List, Option, None, Some, Result}
+use Rattle.std.specs.Prelude.{◌≡◌, ◌++◌, ℕ, Bool, true, List, Option, None, Some, Result}
 use Rattle.std.specs.Io.KnownBytes.{Appends}
 use Rattle.cb_session.specs.declared.feed.Stage.TheVariants.{Failed}
 use Rattle.cb_session.specs.declared.input.Ended.{Ended}
@@ -10,7 +10,8 @@ use Rattle.cb_desk.specs.Timeline.{Timeline}
 use Rattle.cb_tags.specs.Writers.{Writer}
 use Rattle.cb_session.specs.Devices.{Reader, HoldsOut, WhateverFollows}
 use Rattle.cb_session.specs.Inputs.{Inputs, inputs}
-use Rattle.cb_session.specs.Output.{Outcome, output}
+use Rattle.cb_session.specs.Output.{Outcome, output, led_to}
+use Rattle.cb_session.specs.Requests.{Request}
 use Rattle.cb_tags.specs.Writing.{AppendsPrefix}
 use Rattle.cb_session.specs.Writing.{Puts}
 
@@ -37,6 +38,26 @@ LeavesRun i t feed old new ended =
     (refusals : List Bool)
     × Leaves (output refusals t i.requests) (Some i.ending) i.rest feed old new ended
 
+-- a timeline is that behind the first of these inputs
+abbrev pub IsBehindFirst : List Bool → Timeline → List Request → Timeline → Type 0
+IsBehindFirst refusals t es next =
+    (done later : List Request) × (es ≡ done ++ later) × (next ≡ led_to refusals t done)
+
+-- where a run that ends so leaves the timeline: behind all inputs; after a fault of a device or of
+-- memory behind the first ones
+abbrev pub IsLeft : List Bool → Timeline → List Request → Ended → Timeline → Type 0
+IsLeft refusals t es (Fault Read) next = IsBehindFirst refusals t es next
+IsLeft refusals t es (Fault Write) next = IsBehindFirst refusals t es next
+IsLeft refusals t es (Fault Memory) next = IsBehindFirst refusals t es next
+IsLeft refusals t es ended next = next ≡ led_to refusals t es
+
+-- a run over these inputs, and where it leaves the timeline
+abbrev pub LeavesSession : Inputs → (t next : Timeline) → Reader → Writer → Writer → Ended → Type 0
+LeavesSession i t next feed old new ended =
+    (refusals : List Bool)
+    × Leaves (output refusals t i.requests) (Some i.ending) i.rest feed old new ended
+    × IsLeft refusals t i.requests ended next
+
 -- a fault of a device is answered only where that device has failed
 abbrev pub HasFailed : Reader → Writer → Reason → Type 0
 HasFailed feed out Read = feed.stage ≡ Failed
@@ -60,14 +81,15 @@ abbrev pub IfFault : Ended → (Reason → Type 0) → Type 0
 IfFault (Fault fault) P = P fault
 IfFault _ P = Unit {0}
 
--- a run from a timeline, within so many lines and so many bytes of each: it is a run over the bytes
--- of the reader, where these are known, and over whatever follows those that it has read; a fault
--- of a device is answered only where that has failed, and a device that fails is told
-pub record Serves (lines limit : ℕ) (t : Timeline) (feed feed' : Reader) (out out' : Writer)
+-- a run that leads from a timeline to the next, within so many lines and so many bytes of each: it
+-- is a run over the bytes of the reader, where these are known, and over whatever follows those that
+-- it has read; a fault of a device is answered only where that has failed, and a device that fails
+-- is told
+pub record Serves (lines limit : ℕ) (t next : Timeline) (feed feed' : Reader) (out out' : Writer)
     (ended : Ended) : Type 0 where
   pub output : (bytes : List ℕ) → feed.bytes ≡ Some bytes
-      → LeavesRun (inputs lines limit bytes) t feed' out out' ended
+      → LeavesSession (inputs lines limit bytes) t next feed' out out' ended
   pub every_input : WhateverFollows feed feed'
-      (λ bytes left. LeavesRun (inputs lines limit bytes) t left out out' ended)
+      (λ bytes left. LeavesSession (inputs lines limit bytes) t next left out out' ended)
   pub failed : IfFault ended (HasFailed feed' out')
   pub told : Tells feed feed' out out' (fault_of ended)

@@ -155,8 +155,8 @@ impl Session {
         feed: &mut Feed<R>,
         out: &mut Sink<W>,
     ) -> Ended
-        ensures { Serves limits.now.lines limits.now.line self.old feed.old feed.new
-            out.old out.new result }
+        ensures { Serves limits.now.lines limits.now.line self.old self.new feed.old
+            feed.new out.old out.new result }
     {
         let ended = self.rounds(alloc, limits, feed, out);
         if feed.failed() || out.failed() {
@@ -175,8 +175,8 @@ impl Session {
         feed: &mut Feed<R>,
         out: &mut Sink<W>,
     ) -> Ended
-        ensures { Serves limits.now.lines limits.now.line self.old feed.old feed.new
-            out.old out.new result }
+        ensures { Serves limits.now.lines limits.now.line self.old self.new feed.old
+            feed.new out.old out.new result }
     {
         let mut intake = match Intake::new(alloc) {
             Ok(intake) => intake,

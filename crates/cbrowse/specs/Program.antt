@@ -12,11 +12,10 @@ use Rattle.cb_desk.specs.World.{World, File}
 use Rattle.cb_session.specs.declared.input.Ended.{Ended}
 use Rattle.cb_session.specs.declared.input.Ended.TheVariants.{Done, Fault, Operand}
 use Rattle.cb_session.specs.declared.input.Fault.TheVariants.{Write, Memory}
-use Rattle.cb_session.specs.Devices.{Reader, WhateverFollows}
-use Rattle.cb_session.specs.Inputs.{inputs}
+use Rattle.cb_session.specs.Devices.{Reader}
 use Rattle.cb_session.specs.Output.{row_line}
 use Rattle.cb_session.specs.Operands.{Loads, RefusedOperand}
-use Rattle.cb_session.specs.Serving.{HasFailed, IfFault, LeavesRun, Tells, fault_of}
+use Rattle.cb_session.specs.Serving.{Serves}
 use Rattle.cb_tags.specs.TagLines.{Tag}
 use Rattle.cb_tags.specs.Writers.{Writer}
 use Rattle.cb_tags.specs.Writing.{AppendsPrefix}
@@ -63,17 +62,12 @@ abbrev pub HasPattern : Job → Type 0
 HasPattern (Find field pattern files) = string_bytes pattern ≢ []
 HasPattern _ = Unit {0}
 
--- a job is done from a timeline: a session is a run over the bytes of the reader, and whatever
--- follows those that it has read, a run over these; the rows of a search and tags are written, and
+-- a job is done from a timeline: a session is served; the rows of a search and tags are written, and
 -- the reader is left alone
 abbrev pub DoesJob : Job → (lines limit : ℕ) → Timeline → Reader → Reader → Writer → Writer
     → Ended → Type 0
 DoesJob (Line files) lines limit t feed feed' old new ended =
-    ((bytes : List ℕ) → feed.bytes ≡ Some bytes
-    → LeavesRun (inputs lines limit bytes) t feed' old new ended)
-    × WhateverFollows feed feed'
-    (λ bytes left. LeavesRun (inputs lines limit bytes) t left old new ended)
-    × IfFault ended (HasFailed feed' new) × Tells feed feed' old new (fault_of ended)
+    (next : Timeline) × Serves lines limit t next feed feed' old new ended
 DoesJob (Find field pattern files) lines limit t feed feed' old new ended =
     (feed' ≡ feed)
     × WritesText (flat_map row_line (answer t.present field (string_bytes pattern))) old new ended

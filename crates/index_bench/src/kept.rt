@@ -1,8 +1,8 @@
 //! What is kept of the files.
 
 use crate::failed::Failed;
-use cb_index::{Room, Shelf, Shown, Version};
-use cb_scan::{FactKeys, Facts, KeyList, Meter, Source, scan};
+use cb_index::{Links, Room, Shelf, Shown, Version};
+use cb_scan::{Facts, Meter, Source, scan};
 use std::alloc::Global;
 
 /// More files than are measured.
@@ -25,33 +25,15 @@ struct Counts {
     defs: u64,
     uses: u64,
     calls: u64,
-    /// Entries of all five indexes.
-    entries: u64,
-    key_bytes: u64,
 }
 
 impl Counts {
-    fn add(&mut self, source: &Source, facts: &Facts, keys: &FactKeys) {
+    fn add(&mut self, source: &Source, facts: &Facts) {
         let defs = facts.defs().len() as u64;
         self.bytes = self.bytes.saturating_add(source.bytes().len() as u64);
         self.defs = self.defs.saturating_add(defs);
         self.uses = self.uses.saturating_add(facts.uses().len() as u64);
         self.calls = self.calls.saturating_add(facts.calls().len() as u64);
-        self.entries = self.entries.saturating_add(defs).saturating_add(defs);
-        for list in [keys.uses(), keys.callees(), keys.callers()] {
-            self.entries = self.entries.saturating_add(list.prefixes().len() as u64);
-            self.add_list(list);
-        }
-        self.add_list(keys.defs());
-    }
-
-    fn add_list(&mut self, list: &KeyList) {
-        let numbers = (list.items().len() as u64).saturating_add(list.starts().len() as u64);
-        let prefixes = list.prefixes().len() as u64;
-        self.key_bytes = self
-            .key_bytes
-            .saturating_add(numbers.saturating_mul(4))
-            .saturating_add(prefixes.saturating_mul(8));
     }
 }
 
@@ -73,8 +55,6 @@ impl Kept {
                 defs: 0,
                 uses: 0,
                 calls: 0,
-                entries: 0,
-                key_bytes: 0,
             },
         }
     }
@@ -88,10 +68,10 @@ impl Kept {
     ) -> Result<(), Failed> {
         let source = Source::new(alloc, bytes)?;
         let facts = scan(alloc, &mut Meter::new(), &source)?;
-        let keys = FactKeys::new(alloc, &source, &facts)?;
-        self.counts.add(&source, &facts, &keys);
+        let links = Links::new(alloc, &facts)?;
+        self.counts.add(&source, &facts);
         let name = push_name(&mut self.shelf, name.to_vec(alloc)?)?;
-        let version = push_version(&mut self.shelf, Version::new(source, facts, keys))?;
+        let version = push_version(&mut self.shelf, Version::new(source, facts, links))?;
         self.files.push(Shown { name, version })?;
         Ok(())
     }
@@ -126,8 +106,6 @@ impl Kept {
         println!(rt; "defs {}", self.counts.defs)?;
         println!(rt; "uses {}", self.counts.uses)?;
         println!(rt; "calls {}", self.counts.calls)?;
-        println!(rt; "entries {}", self.counts.entries)?;
-        println!(rt; "key_bytes {}", self.counts.key_bytes)?;
         Ok(())
     }
 }

@@ -1,8 +1,9 @@
 -- What iterators over a shelf still give.
-use Rattle.std.specs.Prelude.{ℕ, List, codes, filter, map, Option, Some, None}
+use Rattle.std.specs.Prelude.{ℕ, List, filter, map}
 use Rattle.std.specs.List.{flat_map}
 use Rattle.cb_scan.specs.Lines.{line_text}
 use Rattle.cb_tags.specs.TagLines.{Tag}
+use Rattle.cb_index.specs.Counts.{column}
 use Rattle.cb_index.specs.Rows.{Fact}
 use Rattle.cb_index.specs.Shelved.{ShownFile}
 use Rattle.cb_index.specs.steps.Includes.{includes_left}
@@ -21,11 +22,6 @@ use Rattle.cb_desk.specs.declared.answers.row_spot.SpotText.TheVariants.{LineOf,
 -- a file that is shown, without what is found in it
 abbrev pub without_facts : ShownFile → File
 without_facts f = record { name = f.name; bytes = f.bytes }
-
--- the name in the function column; outside of functions and macros it is `<global>`
-abbrev pub column : Option (List ℕ) → List ℕ
-column None = codes "<global>"
-column (Some name) = name
 
 -- the row of a fact that shows the name around it
 abbrev pub row_around : Fact → AnswerRow

@@ -2,11 +2,12 @@
 ghost use Rattle.std.specs.Prelude.{◌≡◌};
 ghost use Rattle.std.specs.Iterator.{YieldsFirstBy, item_count};
 ghost use Rattle.std.specs.Option.{option_map};
+ghost use Rattle.cb_index.specs.Counts.{column};
 ghost use Rattle.cb_index.specs.steps.Left.{fact_of, fact_of_spot};
 ghost use Rattle.cb_tags.specs.TagLines.{tag_of};
 ghost use Rattle.cb_desk.specs.Models.{row_of};
+ghost use Rattle.cb_desk.specs.steps.Counts.{counted_rows};
 ghost use Rattle.cb_desk.specs.steps.Lent.{
-  column,
   found_left,
   row_around,
   row_named,
@@ -98,6 +99,22 @@ fn spot_of_row(row: RefRow<'_>) -> RowSpot<'_>
         function: row.function,
         line: row.line,
         text: SpotText::Whole(row.text),
+    }
+}
+
+impl<'a, 'p> FoundRows<'a, 'p> {
+    /// How many rows these are, equal ones once, where an index counts them: uses and calls. It is
+    /// for an iterator that has given nothing yet.
+    pub(crate) fn row_count(&self) -> Option<u128>
+        ensures { result ≡ counted_rows self.now }
+    {
+        match self {
+            FoundRows::Around(spots) => Some(spots.row_count()),
+            FoundRows::Named(spots) => Some(spots.row_count()),
+            FoundRows::Defs(_) => None,
+            FoundRows::Headers(_) => None,
+            FoundRows::Names(_) => None,
+        }
     }
 }
 

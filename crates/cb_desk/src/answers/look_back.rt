@@ -18,6 +18,7 @@ ghost use Rattle.std.specs.Cmp.Lexicographic.{slice_cmp};
 ghost use Rattle.std.specs.Ordering.{nat_cmp};
 ghost use Rattle.cb_desk.specs.Answer.{distinct, row_eq};
 ghost use Rattle.cb_desk.specs.World.{place_key};
+ghost use Rattle.cb_desk.specs.steps.Counts.{IsCounted};
 ghost use Rattle.cb_desk.specs.steps.Lent.{found_left, spot_row};
 ghost use Rattle.cb_desk.specs.steps.LookBack.{
   HaveLineTexts,
@@ -87,6 +88,7 @@ impl<'a, 'p> LookBack<'a, 'p> {
     pub(crate) fn new(rows: FoundRows<'a, 'p>) -> LookBack<'a, 'p>
         requires texts { HaveLineTexts (found_left rows) }
         requires few { length (found_left rows) < 2 ^ 64 }
+        ensures all { result.all ≡ rows.entry }
         ensures kept { IsLookBack result }
         ensures rows { news_left result ≡ distinct (found_left rows.entry) }
         ensures few { length (news_left result) < 2 ^ 64 }
@@ -100,6 +102,19 @@ impl<'a, 'p> LookBack<'a, 'p> {
             rest: rows,
             passed: 0,
         }
+    }
+
+    /// How many rows are left that are equal to none before, where that is known without a walk:
+    /// none was passed, and an index counts them.
+    pub(crate) fn row_count(&self) -> Option<u128>
+        requires kept { IsLookBack self.now }
+        requires counted { IsCounted self.now.all }
+        ensures { MatchOption result ⊤ (λ n. n ≡ length (news_left self.now)) }
+    {
+        if self.passed > 0 {
+            return None;
+        }
+        self.all.row_count()
     }
 }
 
@@ -136,6 +151,7 @@ fn pass<'a, 'p>(
     requires order { order ≡ slice_cmp nat_cmp
         (place_key (record { file = left.old.file.now; line = left.old.line }))
         (row_key (spot_row row.now)) }
+    ensures all { left.new.all ≡ left.old.all }
     ensures kept { IsLookBack left.new }
     ensures seen { seen left.new ≡ seen left.old ++ spot_row row.now ∷ [] }
     ensures rest { found_left left.new.rest ≡ found_left rest.entry }
@@ -163,6 +179,7 @@ fn next_row<'a, 'p>(left: &mut LookBack<'a, 'p>) -> Option<(RowSpot<'a>, bool)>
     ensures rows { MatchOption result (left.new ≡ left.old) (λ r. news_left left.old
         ≡ (if r.1 then spot_row r.0 ∷ news_left left.new else news_left left.new)) }
     ensures none { MatchOption result (news_left left.old ≡ []) (λ _. ⊤) }
+    ensures all { left.new.all ≡ left.old.all }
     ensures kept { IsLookBack left.new }
     ensures fewer { MatchOption result ⊤
         (λ _. length (found_left left.new.rest) < length (found_left left.old.rest)) }
@@ -181,6 +198,7 @@ pub(crate) fn next_new<'a, 'p>(left: &mut LookBack<'a, 'p>) -> Option<RowSpot<'a
     ensures rows { MatchOption result (news_left left.old ≡ [])
         (λ r. news_left left.old ≡ spot_row r ∷ news_left left.new) }
     ensures none { MatchOption result (news_left left.new ≡ []) (λ _. ⊤) }
+    ensures all { left.new.all ≡ left.old.all }
     ensures kept { IsLookBack left.new }
 {
     while let Some((row, is_new)) = next_row(left) {

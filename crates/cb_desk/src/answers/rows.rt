@@ -8,6 +8,7 @@ ghost use Rattle.cb_desk.specs.Answer.{distinct, field_rows};
 ghost use Rattle.cb_desk.specs.Models.{row_of};
 ghost use Rattle.cb_desk.specs.Settled.{IsSettled};
 ghost use Rattle.cb_desk.specs.World.{AreValidFiles};
+ghost use Rattle.cb_desk.specs.steps.Counts.{IsCounted};
 ghost use Rattle.cb_desk.specs.steps.Lent.{found_left};
 
 use crate::answers::distinct::DistinctSpots;
@@ -62,7 +63,8 @@ impl<'a, 'p> Rows<'a, 'p> {
         }
     }
 
-    /// How many rows are left. It walks over all of them, and takes no memory.
+    /// How many rows are left. Uses and calls are counted by their index, as long as no row was
+    /// taken. Else it walks over all that are left. It takes no memory.
     pub fn count_left(&self) -> usize
         ensures { result ≡ length self.now }
     {
@@ -98,6 +100,7 @@ fn found_rows<'a, 'p>(shelf: &'a Shelf, field: Field, pattern: &'p [u8]) -> Foun
     requires settled { IsSettled field shelf.now.waiting }
     ensures rows { found_left result ≡ flat_map (field_rows field pattern.now) (files shelf.now) }
     ensures few { length (found_left result) < 2 ^ 64 }
+    ensures counted { IsCounted result }
 {
     match field {
         Field::Symbol => FoundRows::Around(shelf.uses(pattern).spots()),

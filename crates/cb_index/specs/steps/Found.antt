@@ -1,6 +1,5 @@
 -- The rows of entries, as they are looked up.
-use Rattle.std.specs.Prelude.{ℕ, suc, min, false, List, [], Option, Some, None, length, map}
-use Rattle.std.specs.Prelude.{slice_get, slice_index_or, slice_range}
+use Rattle.std.specs.Prelude.{ℕ, false, List, [], Option, Some, None, map, slice_get}
 use Rattle.std.specs.List.{flat_map}
 use Rattle.std.specs.Option.{option_map}
 use Rattle.cb_scan.specs.declared.facts.Call.{Call}
@@ -8,13 +7,12 @@ use Rattle.cb_scan.specs.declared.facts.Def.{Def}
 use Rattle.cb_scan.specs.declared.facts.Use.{Use}
 use Rattle.cb_scan.specs.declared.facts.Kind.TheVariants as kind
 use Rattle.cb_scan.specs.Definitions.{facts_of}
-use Rattle.cb_scan.specs.FactKeys.{KeysOfFacts, keys_of}
-use Rattle.cb_scan.specs.Keys.{ItemsByKey}
 use Rattle.cb_scan.specs.Lines.{line_text}
 use Rattle.cb_tags.specs.TagLines.{Tag}
 use Rattle.cb_index.specs.Archived.{Archived, name_of}
 use Rattle.cb_index.specs.Bytes.{cut}
 use Rattle.cb_index.specs.Rows.{Fact}
+use Rattle.cb_index.specs.steps.Spread.{items_from}
 use Rattle.cb_index.specs.declared.entry.Entry.{Entry}
 use Rattle.cb_index.specs.declared.rows.FactSort.{FactSort}
 use Rattle.cb_index.specs.declared.rows.FactSort.TheVariants.{Uses, Callees, Callers}
@@ -79,26 +77,10 @@ fact_at Uses file text item = fact_of_use file text (slice_get (facts_of text).u
 fact_at Callees file text item = fact_of_call file text (slice_get (facts_of text).calls item)
 fact_at Callers file text item = fact_of_call file text (slice_get (facts_of text).calls item)
 
--- the key list of a sort
-abbrev pub keys_for : FactSort → KeysOfFacts → ItemsByKey
-keys_for Uses k = k.uses
-keys_for Callees k = k.callees
-keys_for Callers k = k.callers
-
--- the items of a posting, cut at the end of the list
-abbrev pub part : List ℕ → ℕ → ℕ → List ℕ
-part items start end =
-    slice_range items (min start (min end (length items))) (min end (length items))
-
-abbrev pub posting_items : ItemsByKey → ℕ → List ℕ
-posting_items keys number =
-    part keys.items (slice_index_or keys.starts number 0)
-    (slice_index_or keys.starts (suc number) 0)
-
 abbrev pub facts_in_text : FactSort → List ℕ → ℕ → Option (List ℕ) → List Fact
 facts_in_text sort file number None = []
 facts_in_text sort file number (Some text) =
-    map (fact_at sort file text) (posting_items (keys_for sort (keys_of text)) number)
+    map (fact_at sort file text) (items_from sort text number)
 
 -- the facts of an entry
 abbrev pub facts_at : FactSort → Archived → Entry → List Fact

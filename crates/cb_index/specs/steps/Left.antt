@@ -1,5 +1,5 @@
 -- What iterators still give.
-use Rattle.std.specs.Prelude.{ℕ, List, [], ◌∷◌, ◌++◌, Option, Some, None, map, slice_get}
+use Rattle.std.specs.Prelude.{ℕ, List, [], ◌∷◌, ◌++◌, Option, Some, None, map, slice_get, sum_by}
 use Rattle.std.specs.Borrow.{Bor}
 use Rattle.std.specs.Option.{option_map}
 use Rattle.cb_scan.specs.Definitions.{facts_of}
@@ -9,15 +9,17 @@ use Rattle.cb_tags.specs.TagLines.{Tag}
 use Rattle.cb_index.specs.Archived.{Archived, name_of}
 use Rattle.cb_index.specs.Rows.{Fact}
 use Rattle.cb_index.specs.Shelved.{ShownFile}
+use Rattle.cb_index.specs.steps.Chains.{chain_left}
 use Rattle.cb_index.specs.steps.Found.{fact_at, facts_in, tag_at}
 use Rattle.cb_index.specs.steps.Runs.{run_entries}
 use Rattle.cb_index.specs.declared.entries.Entries.{Entries}
+use Rattle.cb_index.specs.declared.entry.Entry.{Entry}
 use Rattle.cb_index.specs.declared.entry.Shown.{Shown}
 use Rattle.cb_index.specs.declared.rows.FactRow.{FactRow}
 use Rattle.cb_index.specs.declared.rows.FactSpot.{FactSpot}
 use Rattle.cb_index.specs.declared.facts.FactRows.{FactRows}
 use Rattle.cb_index.specs.declared.facts.FactSpots.{FactSpots}
-use Rattle.cb_index.specs.declared.facts.Posting.{Posting}
+use Rattle.cb_index.specs.declared.facts.Group.{Group}
 use Rattle.cb_index.specs.declared.tags.TagRows.{TagRows}
 
 -- what a row says
@@ -43,18 +45,25 @@ fact_of_spot s = record {
 abbrev pub tags_left : TagRows → List Tag
 tags_left r = map (tag_at r.archive.now) (run_entries r.entries)
 
-abbrev pub posting_left : Posting → List Fact
-posting_left p = map (fact_at p.sort p.file.now p.version.now) p.items.now
+abbrev pub group_left : Group → List Fact
+group_left g = map (fact_at g.items.sort g.file.now g.items.version.now) (chain_left g.items)
 
-abbrev pub posting_left_if : Option Posting → List Fact
-posting_left_if None = []
-posting_left_if (Some p) = posting_left p
+abbrev pub group_left_if : Option Group → List Fact
+group_left_if None = []
+group_left_if (Some g) = group_left g
 
 abbrev pub spots_left : FactSpots → List Fact
-spots_left r = posting_left_if r.posting ++ facts_in r.sort r.archive.now (run_entries r.entries)
+spots_left r = group_left_if r.group ++ facts_in r.sort r.archive.now (run_entries r.entries)
 
 abbrev pub facts_left : FactRows → List Fact
 facts_left r = spots_left r.spots
+
+-- how many rows the entries that are still to come stand for; what has begun is not counted
+abbrev pub rows_counted : FactSpots → ℕ
+rows_counted r = sum_by (λ (e : Entry). e.rows) (run_entries r.entries)
+
+abbrev pub facts_counted : FactRows → ℕ
+facts_counted r = rows_counted r.spots
 
 -- a file that is lent
 abbrev pub shown_file : Bor (List ℕ) × Bor (List ℕ) × Bor TextFacts → ShownFile

@@ -1,19 +1,23 @@
 -- Entries spread out into their rows.
 use Rattle.std.specs.Prelude.{ℕ, List, [], ◌∷◌, Option, Some, None, map, slice_get}
 use Rattle.std.specs.List.{flat_map}
-use Rattle.cb_scan.specs.FactKeys.{keys_of}
 use Rattle.cb_index.specs.Archived.{Archived}
-use Rattle.cb_index.specs.steps.Found.{keys_for, posting_items}
+use Rattle.cb_index.specs.Items.{later}
 use Rattle.cb_index.specs.declared.entry.Entry.{Entry}
 use Rattle.cb_index.specs.declared.row.Row.{Row}
 use Rattle.cb_index.specs.declared.rows.FactSort.{FactSort}
 
--- the items of a posting in a text, if it is there
-abbrev pub items_in_text : FactSort → ℕ → Option (List ℕ) → List ℕ
-items_in_text sort number None = []
-items_in_text sort number (Some text) = posting_items (keys_for sort (keys_of text)) number
+-- an item and those behind it that have its key
+abbrev pub items_from : FactSort → List ℕ → ℕ → List ℕ
+items_from sort text item = item ∷ later sort text item
 
--- the items of an entry: of a definition its number, of a posting those of its key list
+-- the same in a text, if it is there
+abbrev pub items_in_text : FactSort → ℕ → Option (List ℕ) → List ℕ
+items_in_text sort item None = []
+items_in_text sort item (Some text) = items_from sort text item
+
+-- the items of an entry: of a definition its number, of a use or a call also those behind it that
+-- have its key
 abbrev pub items_at : Option FactSort → Archived → Entry → List ℕ
 items_at None a e = e.number ∷ []
 items_at (Some sort) a e = items_in_text sort e.number (slice_get a.texts e.version)

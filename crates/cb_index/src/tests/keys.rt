@@ -37,7 +37,7 @@ fn has_counts<O: EntryOrder>(
 }
 
 /// The same of an index of these files.
-fn has_postings<O: EntryOrder>(
+fn has_entries<O: EntryOrder>(
     rt: &impl Abort,
     alloc: Global,
     archive: &Archive,
@@ -49,7 +49,7 @@ fn has_postings<O: EntryOrder>(
     has_counts(rt, alloc, archive, &index, len, counts)
 }
 
-/// `add` is called once.
+/// The first call of `add` is the first call of its file, and stands for two rows.
 fn has_call_of_add(
     rt: &impl Abort,
     alloc: Global,
@@ -61,7 +61,8 @@ fn has_call_of_add(
         prefix: 0x6164_6400_0000_0000,
         name: 0,
         version: 0,
-        number: 1,
+        number: 0,
+        rows: 2,
     }];
     assert_eq!(rt; found.as_slice(), wanted.as_slice());
     Ok(())
@@ -91,16 +92,16 @@ fn shows_callees(
 }
 
 #[test]
-fn a_key_has_its_posting(rt: HostRuntime) -> Result<(), Fail> {
+fn a_key_has_its_first_item(rt: HostRuntime) -> Result<(), Fail> {
     let (archive, shown) = three_files(rt.alloc())?;
     shows_callees(&rt, rt.alloc(), &archive, &shown)
 }
 
 #[test]
-fn a_caller_has_its_posting(rt: HostRuntime) -> Result<(), Fail> {
+fn a_caller_has_its_first_call(rt: HostRuntime) -> Result<(), Fail> {
     let (archive, shown) = three_files(rt.alloc())?;
     let counts: [(&[u8], usize); 3] = [(b"main", 1), (b"TWICE", 1), (b"add", 0)];
-    has_postings::<CallsByCaller>(&rt, rt.alloc(), &archive, &shown, 2, &counts)
+    has_entries::<CallsByCaller>(&rt, rt.alloc(), &archive, &shown, 2, &counts)
 }
 
 #[test]
@@ -113,7 +114,7 @@ fn keys_of_one_prefix_are_told_apart(rt: HostRuntime) -> Result<(), Fail> {
         (b"sqlite3_clos", 0),
         (b"main", 2),
     ];
-    has_postings::<DefsByName>(&rt, rt.alloc(), &archive, &shown, 8, &counts)
+    has_entries::<DefsByName>(&rt, rt.alloc(), &archive, &shown, 8, &counts)
 }
 
 /// `main` is used in `m.c` and then in `z/b.c`.

@@ -9,12 +9,13 @@ use super::{FIRST, index_of, three_files};
 use crate::archive::{Archive, Version};
 use crate::asked::Asked;
 use crate::entry::Shown;
+use crate::links::Links;
 use crate::memory::OutOfMemory;
 use crate::orders::UsesByName;
 use crate::room::Room;
 use crate::shelf::Shelf;
 use crate::sorted::Sorted;
-use cb_scan::{FactKeys, Meter, Source, scan};
+use cb_scan::{Meter, Source, scan};
 use std::alloc::Global;
 use std::process::Abort;
 use std::test::Fail;
@@ -61,12 +62,12 @@ fn keep_name(alloc: Global, shelf: &mut Shelf) -> Option<u32> {
 fn keep_version(alloc: Global, shelf: &mut Shelf) -> Option<u32> {
     let source = Source::new(alloc, FIRST.to_vec(alloc).ok()?).ok()?;
     let facts = scan(alloc, &mut Meter::new(), &source).ok()?;
-    let keys = FactKeys::new(alloc, &source, &facts).ok()?;
+    let links = Links::new(alloc, &facts).ok()?;
     if shelf.archive().version_count() > 0 {
         return None;
     }
     match shelf.reserve(&ONE) {
-        Ok(()) => Some(shelf.push_version(Version::new(source, facts, keys))),
+        Ok(()) => Some(shelf.push_version(Version::new(source, facts, links))),
         Err(_) => None,
     }
 }

@@ -40,6 +40,19 @@ class_at (b ∷ rest) =
     else if b == line_feed then Newline
     else Byte
 
+-- what the first byte of a piece says of its class: 0 a name, 1 a blank, 2 a line feed, 3 a number,
+-- 4 a string, 5 a character constant, 6 a lone byte; at 7 what follows decides
+unfoldable pub first_code : ℕ → ℕ
+first_code b =
+    if is_letter b then 0
+    else if b == dot || b == slash || b == backslash then 7
+    else if is_digit b then 3
+    else if b == quote then 4
+    else if b == apostrophe then 5
+    else if is_blank b then 1
+    else if b == line_feed then 2
+    else 6
+
 -- how many bytes go on a number after the byte `last`
 unfoldable pub number_len : ℕ → List ℕ → ℕ
 number_len last [] = 0

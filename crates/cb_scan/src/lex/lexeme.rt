@@ -8,6 +8,7 @@ ghost use Rattle.cb_scan.specs.steps.Cut.{
   ends_join,
   is_alone,
   class_at,
+  first_code,
   number_len,
   blank_len,
   comment_escape,
@@ -80,10 +81,31 @@ fn is_alone(byte: u8) -> bool
     matches!(byte, b'('..=b'-' | b':'..=b'@' | b'{'..)
 }
 
-/// The class of the piece that a text begins with.
+/// What the first byte of a piece says of its class: 0 a name, 1 a blank, 2 a line feed, 3 a number,
+/// 4 a string, 5 a character constant, 6 a lone byte; at 7 what follows decides. Of all bytes this
+/// is one look, where tests one after another are often foreseen wrongly.
+const FIRST: [u8; 256] = [
+    6, 6, 6, 6, 6, 6, 6, 6, 6, 1, 2, 1, 1, 1, 6, 6, 6, 6, 6, 6, 6, 6, 6, 6, 6, 6, 6, 6, 6, 6, 6, 6,
+    1, 6, 4, 6, 6, 6, 6, 5, 6, 6, 6, 6, 6, 6, 7, 7, 3, 3, 3, 3, 3, 3, 3, 3, 3, 3, 6, 6, 6, 6, 6, 6,
+    6, 0, 0, 0, 0, 0, 0, 0, 0, 0, 0, 0, 0, 0, 0, 0, 0, 0, 0, 0, 0, 0, 0, 0, 0, 0, 0, 6, 7, 6, 6, 0,
+    6, 0, 0, 0, 0, 0, 0, 0, 0, 0, 0, 0, 0, 0, 0, 0, 0, 0, 0, 0, 0, 0, 0, 0, 0, 0, 0, 6, 6, 6, 6, 6,
+    6, 6, 6, 6, 6, 6, 6, 6, 6, 6, 6, 6, 6, 6, 6, 6, 6, 6, 6, 6, 6, 6, 6, 6, 6, 6, 6, 6, 6, 6, 6, 6,
+    6, 6, 6, 6, 6, 6, 6, 6, 6, 6, 6, 6, 6, 6, 6, 6, 6, 6, 6, 6, 6, 6, 6, 6, 6, 6, 6, 6, 6, 6, 6, 6,
+    6, 6, 6, 6, 6, 6, 6, 6, 6, 6, 6, 6, 6, 6, 6, 6, 6, 6, 6, 6, 6, 6, 6, 6, 6, 6, 6, 6, 6, 6, 6, 6,
+    6, 6, 6, 6, 6, 6, 6, 6, 6, 6, 6, 6, 6, 6, 6, 6, 6, 6, 6, 6, 6, 6, 6, 6, 6, 6, 6, 6, 6, 6, 6, 6,
+];
+
+/// What a byte says of the class of a piece that begins with it.
 #[inline]
+fn first_code(byte: u8) -> u8
+    ensures { result ≡ first_code byte }
+{
+    FIRST[byte as usize]
+}
+
+/// The class of the piece that a text begins with, by its first byte and what follows.
 #[tactic(auto, unfolding(crate::specs::steps::Cut::class_at))]
-pub(crate) fn class_at(text: &[u8]) -> Class
+fn class_of(text: &[u8]) -> Class
     requires { 0 < length text.now }
     ensures { result ≡ class_at text.now }
 {
@@ -109,6 +131,24 @@ pub(crate) fn class_at(text: &[u8]) -> Class
         b'/' if begins(rest, b'*') => Class::BlockNote,
         b'\\' if ends_join(rest) => Class::Blank,
         _ => Class::Byte,
+    }
+}
+
+/// The class of the piece that a text begins with.
+#[inline]
+pub(crate) fn class_at(text: &[u8]) -> Class
+    requires { 0 < length text.now }
+    ensures { result ≡ class_at text.now }
+{
+    match first_code(text[0]) {
+        0 => Class::Name,
+        1 => Class::Blank,
+        6 => Class::Byte,
+        2 => Class::Newline,
+        3 => Class::Number,
+        4 => Class::Str,
+        5 => Class::Chr,
+        _ => class_of(text),
     }
 }
 

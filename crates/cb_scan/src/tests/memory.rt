@@ -2,7 +2,6 @@
 //! `scripts/each-growth-refused.py` does that. For each call that takes memory,
 //! `refused_growth_of_CALL` passes in each run, and `no_refusal_of_CALL` only in a run that refuses
 //! nothing. `no_growth_of_CALL` may meet no growth.
-use crate::keys::facts::FactKeys;
 use crate::lex::cut::pieces;
 use crate::meter::Meter;
 use crate::scanner::scan;
@@ -71,32 +70,6 @@ fn scan_meets_a_refusal(rt: &impl Abort, alloc: Global) -> bool {
     scans_at_last(rt, alloc, &source, &mut meter)
 }
 
-/// Lists the facts of a source by key; on a refusal once more. Whether memory was refused.
-fn keys_meet_a_refusal(rt: &impl Abort, alloc: Global) -> bool {
-    let Ok(bytes) = TEXT.to_vec(alloc) else {
-        return true;
-    };
-    let Ok(source) = Source::new(alloc, bytes) else {
-        return true;
-    };
-    let Ok(facts) = scan(alloc, &mut Meter::new(), &source) else {
-        return true;
-    };
-    begin(alloc);
-    match FactKeys::new(alloc, &source, &facts) {
-        Ok(keys) => {
-            assert_eq!(rt; keys.defs().items().len(), 17);
-            false
-        }
-        Err(error) => {
-            assert_eq!(rt; error, ScanError::OutOfMemory);
-            let keys = FactKeys::new(alloc, &source, &facts);
-            assert_eq!(rt; keys.map_or(0, |keys| keys.defs().items().len()), 17);
-            true
-        }
-    }
-}
-
 #[test]
 fn refused_growth_of_source(rt: HostRuntime) {
     let _refused = source_meets_a_refusal(&rt, rt.alloc());
@@ -121,16 +94,6 @@ fn no_refusal_of_scan(rt: HostRuntime) {
         !scan_meets_a_refusal(&rt, rt.alloc()),
         "memory was refused"
     );
-}
-
-#[test]
-fn refused_growth_of_keys(rt: HostRuntime) {
-    let _refused = keys_meet_a_refusal(&rt, rt.alloc());
-}
-
-#[test]
-fn no_refusal_of_keys(rt: HostRuntime) {
-    assert!(rt; !keys_meet_a_refusal(&rt, rt.alloc()), "memory was refused");
 }
 
 /// The pieces and the lines of a text, and its facts.

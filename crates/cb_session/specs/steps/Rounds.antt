@@ -1,11 +1,13 @@
 -- What a round of a run leaves, and the replies to moves.
-use Rattle.std.specs.Prelude.{◌≡◌, Bool, List, ℕ, Option, None, Some, Result, Ok, Err}
+use Rattle.std.specs.Prelude.{◌≡◌, ◌⊎◌, Bool, List, ℕ, Option, None, Some, Result, Ok, Err}
 use Rattle.std.specs.Io.KnownBytes.{Appends}
 use Rattle.cb_desk.specs.declared.refusal.Refusal.{Refusal}
 use Rattle.cb_desk.specs.Timeline.{Timeline}
 use Rattle.cb_session.specs.declared.input.Ended.{Ended}
 use Rattle.cb_session.specs.declared.input.Ended.TheVariants.{Fault}
 use Rattle.cb_session.specs.declared.input.Fault.{Fault as Reason}
+use Rattle.cb_session.specs.declared.input.Fault.TheVariants.{Read, Write, Memory}
+use Rattle.cb_session.specs.Requests.{Request}
 use Rattle.cb_session.specs.Devices.{Reader}
 use Rattle.cb_session.specs.Inputs.{First, ending_of}
 use Rattle.cb_session.specs.Serving.{Leaves}
@@ -22,6 +24,23 @@ abbrev pub fault_in : {A : Type 0} → Result A Reason → Option Reason
 fault_in (Ok _) = None
 fault_in (Err fault) = Some fault
 
+-- the timeline after a round that ends the run: an input that was answered has moved it; after a
+-- fault of a device or of memory it may not have moved
+abbrev pub IsMoved : Bool → Timeline → Request → Ended → Timeline → Type 0
+IsMoved out_of_memory t e (Fault Read) next =
+    (next ≡ t) ⊎ (next ≡ (outcome out_of_memory t e).timeline)
+IsMoved out_of_memory t e (Fault Write) next =
+    (next ≡ t) ⊎ (next ≡ (outcome out_of_memory t e).timeline)
+IsMoved out_of_memory t e (Fault Memory) next =
+    (next ≡ t) ⊎ (next ≡ (outcome out_of_memory t e).timeline)
+IsMoved out_of_memory t e ended next = next ≡ (outcome out_of_memory t e).timeline
+
+-- a round that ends the run
+abbrev pub EndsRound : Bool → First → (t next : Timeline) → Reader → Writer → Writer → Ended → Type 0
+EndsRound out_of_memory f t next feed old new ended =
+    Leaves (exchange out_of_memory t f.request) (ending_of f.request) f.rest feed old new ended
+    × IsMoved out_of_memory t f.request ended next
+
 -- one round: the exchange of a prompt and the reply to the first input, and the ending of the run
 -- if it has one
 abbrev pub LeavesRound : Bool → First → Timeline → Timeline → Reader → Writer → Writer
@@ -31,7 +50,6 @@ LeavesRound out_of_memory f t next feed old new (Ok None) =
     × (next ≡ (outcome out_of_memory t f.request).timeline)
     × Appends old.bytes new.bytes (exchange out_of_memory t f.request)
 LeavesRound out_of_memory f t next feed old new (Ok (Some ended)) =
-    Leaves (exchange out_of_memory t f.request) (ending_of f.request) f.rest feed old new ended
+    EndsRound out_of_memory f t next feed old new ended
 LeavesRound out_of_memory f t next feed old new (Err fault) =
-    Leaves (exchange out_of_memory t f.request) (ending_of f.request) f.rest feed old new
-    (Fault fault)
+    EndsRound out_of_memory f t next feed old new (Fault fault)

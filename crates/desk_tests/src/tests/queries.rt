@@ -164,6 +164,76 @@ fn rows_of_equal_texts_on_two_lines_or_in_two_files_stay(
     Ok(())
 }
 
+/// Whether the rows that answer a question are these, each with the count of the rows that are left
+/// before it is taken.
+fn are_counted(desk: &mut Desk, field: Field, pattern: &[u8], rows: &[(usize, Row<'_>)]) -> bool {
+    if pattern.is_empty() {
+        return false;
+    }
+    desk.settle(field);
+    let mut found = desk.rows(field, pattern);
+    let mut same = true;
+    for (left, row) in rows {
+        if found.count_left() != *left {
+            same = false;
+        }
+        if !matches!(found.next(), Some(shown) if is_row(&shown, row)) {
+            same = false;
+        }
+    }
+    same && found.count_left() == 0
+}
+
+/// A name that is used more than once in one function on a line, and in another one between.
+const USED_AGAIN: &[u8] = b"int f(void) { x; x; } int g(void) { x; } int f(void) { x; }";
+
+/// Eight uses on four lines of two files have five rows.
+fn uses_are_counted(rt: &impl Abort, desk: &mut Desk) {
+    let rows: [(usize, Row<'_>); 5] = [
+        (5, (b"a.c", b"<global>", 1, b"x;x;")),
+        (4, (b"a.c", b"f", 2, USED_AGAIN)),
+        (3, (b"a.c", b"g", 2, USED_AGAIN)),
+        (2, (b"a.c", b"f", 3, b"int f(void) { x; }")),
+        (1, (b"b.c", b"<global>", 1, b"x;")),
+    ];
+    assert!(rt; are_counted(desk, Field::Symbol, b"x", &rows));
+    assert!(rt; are_counted(desk, Field::Symbol, b"y", &[]));
+}
+
+#[test]
+fn uses_are_counted_by_their_rows(rt: HostRuntime) -> Result<(), AllocError> {
+    let text =
+        b"x;x;\nint f(void) { x; x; } int g(void) { x; } int f(void) { x; }\nint f(void) { x; }\n";
+    let mut desk = desk_with(rt.alloc(), b"a.c", text)?;
+    one_more_is_loaded(&rt, rt.alloc(), &mut desk, b"b.c", b"x;\n")?;
+    uses_are_counted(&rt, &mut desk);
+    Ok(())
+}
+
+/// Two functions call `a`, and one of them calls two functions.
+const CALLS_OF_TWO: &[u8] = b"int f(void) { a(); b(); a(); } int g(void) { a(); }";
+
+/// Three calls of a function have two rows, and so have three calls in one.
+fn calls_are_counted(rt: &impl Abort, desk: &mut Desk) {
+    let callers: [(usize, Row<'_>); 2] = [
+        (2, (b"a.c", b"f", 1, CALLS_OF_TWO)),
+        (1, (b"a.c", b"g", 1, CALLS_OF_TWO)),
+    ];
+    let callees: [(usize, Row<'_>); 2] = [
+        (2, (b"a.c", b"a", 1, CALLS_OF_TWO)),
+        (1, (b"a.c", b"b", 1, CALLS_OF_TWO)),
+    ];
+    assert!(rt; are_counted(desk, Field::Calling, b"a", &callers));
+    assert!(rt; are_counted(desk, Field::Called, b"f", &callees));
+}
+
+#[test]
+fn calls_are_counted_by_their_rows(rt: HostRuntime) -> Result<(), AllocError> {
+    let mut desk = desk_with(rt.alloc(), b"a.c", CALLS_OF_TWO)?;
+    calls_are_counted(&rt, &mut desk);
+    Ok(())
+}
+
 /// Two files by parts of their names.
 fn two_files_are_found(rt: &impl Abort, desk: &mut Desk) {
     let rows: [Row<'_>; 2] = [

@@ -1,4 +1,4 @@
-use Rattle.std.proofs.Common.{rules, ◌≡◌, ◌+◌, ◌++◌, ◌∷◌, [], true, false}
+use Rattle.std.proofs.Common.{rules, ◌≡◌, ◌++◌, ◌∷◌, [], true, false}
 use Rattle.cb_desk.specs.declared.edits.Step.TheVariants.{Keep, Take, Put}
 use Rattle.cb_desk.specs.steps.Edits.{IsFirstStep}
 use Rattle.cb_desk.proofs.EditLemmas.{goes_kept, goes_taken, goes_put, goes_last, shorter}

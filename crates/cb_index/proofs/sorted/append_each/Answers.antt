@@ -8,7 +8,7 @@ use Rattle.cb_index.proofs.sorted.append_each.Goals as goal
 pub append-requires : goal.append-requires
 append-requires g c =
     let none : Shown = record { name = 0; version = 0 } in
-    let fits = next_fits g.O.EntryOrder.prefixer c.args.archive.now c.args.shown.now c.loop-one.one-index none
+    let fits = next_fits g.O.EntryOrder.lister c.args.archive.now c.args.shown.now c.loop-one.one-index none
     c.loop-one.entries.items c.args.entries.now.items _ c.loop-one-test.true c.loop-one.invariant.entries
     (le_trans c.requires c.loop-one.invariant.grown) in
     omega (arith, c.loop-one.entries.ok.0, fits)

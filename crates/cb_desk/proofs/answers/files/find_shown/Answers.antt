@@ -1,4 +1,4 @@
-use Rattle.std.proofs.Common.{◌∙◌, sym, ap, rules, arith, true, false}
+use Rattle.std.proofs.Common.{◌∙◌, sym, ap, rules, arith}
 use Rattle.std.proofs.lemmas.List.Sorted.{IsPartitionPoint-from_clause}
 use Rattle.std.specs.Str.{bytes_eq}
 use Rattle.cb_index.specs.Files.{file_of, files_of}

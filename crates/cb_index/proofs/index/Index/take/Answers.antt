@@ -18,7 +18,7 @@ place_of-at-requires g c =
 pub take_all-requires : goal.take_all-requires
 take_all-requires g c =
     let keyer = g.O.EntryOrder.keyer in
-    let prefixer = g.O.EntryOrder.prefixer in
+    let lister = g.O.EntryOrder.lister in
     let a = c.args.archive.now in
     let one = c.args.one in
     let x = c.args.self.now in
@@ -26,14 +26,14 @@ take_all-requires g c =
     let at = c.place_of-at.ensures.place ∙ ap (prefix_len (λ (s : Shown). not (nat_eq s.name one.name))) (c.as_slice-waiting.ensures.value ∙ same) in
     let counted : c.len.result ≡ length c.self.inside.waiting.items = search rules in
     let none = none_waits a one.name x.waiting (sym at ∙ c.if-at-len.true ∙ counted ∙ ap length same) in (
-      all_entries prefixer a (filter (λ (s : Shown). not (nat_eq s.name one.name)) c.requires.1.sorted),
-      ap (λ (x : Indexed). x.held) c.self.view_is ∙ covers_held keyer prefixer a one c.requires.0 x none c.requires.2 c.requires.1,
+      all_entries lister a (filter (λ (s : Shown). not (nat_eq s.name one.name)) c.requires.1.sorted),
+      ap (λ (x : Indexed). x.held) c.self.view_is ∙ covers_held keyer lister a one c.requires.0 x none c.requires.2 c.requires.1,
     )
 
 pub returns-then-at-len-clause-others : goal.returns-then-at-len-clause-others
 returns-then-at-len-clause-others g c = λ shown is under.
     let keyer = g.O.EntryOrder.keyer in
-    let prefixer = g.O.EntryOrder.prefixer in
+    let lister = g.O.EntryOrder.lister in
     let a = c.args.archive.now in
     let one = c.args.one in
     let x = c.args.self.now in
@@ -41,14 +41,14 @@ returns-then-at-len-clause-others g c = λ shown is under.
     let at = c.place_of-at.ensures.place ∙ ap (prefix_len (λ (s : Shown). not (nat_eq s.name one.name))) (c.as_slice-waiting.ensures.value ∙ same) in
     let counted : c.len.result ≡ length c.self.inside.waiting.items = search rules in
     let none = none_waits a one.name x.waiting (sym at ∙ c.if-at-len.true ∙ counted ∙ ap length same) in
-    covers_unheld keyer prefixer a one shown x _ none is
-    (c.take_all.ensures.entries (all_entries prefixer a (filter (λ (s : Shown). not (nat_eq s.name one.name)) is.sorted))
-    (ap (λ (x : Indexed). x.held) c.self.view_is ∙ covers_held keyer prefixer a one shown x none under is)) same
+    covers_unheld keyer lister a one shown x _ none is
+    (c.take_all.ensures.entries (all_entries lister a (filter (λ (s : Shown). not (nat_eq s.name one.name)) is.sorted))
+    (ap (λ (x : Indexed). x.held) c.self.view_is ∙ covers_held keyer lister a one shown x none under is)) same
 
 pub returns-clause-others : goal.returns-clause-others
 returns-clause-others g c = λ shown is under.
     let keyer = g.O.EntryOrder.keyer in
-    let prefixer = g.O.EntryOrder.prefixer in
+    let lister = g.O.EntryOrder.lister in
     let a = c.args.archive.now in
     let one = c.args.one in
     let x = c.args.self.now in
@@ -60,6 +60,6 @@ returns-clause-others g c = λ shown is under.
     let counts = counted ∙ ap length same in
     let isnt = c.if-at-len.false in
     let less : c.place_of-at.result < length x.waiting = omega (arith, within, long, counts, isnt) in
-    covers_unwaited keyer prefixer a one.name shown x _ (subst (λ n. n < length x.waiting) at less)
+    covers_unwaited keyer lister a one.name shown x _ (subst (λ n. n < length x.waiting) at less)
     (ap (λ (x : Indexed). x.held) c.self.view_is)
     (c.remove-one.ensures.items ∙ (λ i. remove (same i) (at i))) is

@@ -1,5 +1,5 @@
 use Rattle.std.proofs.Common.{◌∙◌, ap, map}
-use Rattle.cb_index.specs.Orders.{def_key, def_prefixes}
+use Rattle.cb_index.specs.Orders.{def_key, defs_listed}
 use Rattle.cb_index.specs.Rows.{tags_by_name}
 use Rattle.cb_index.specs.Shelved.{Shelved, files}
 use Rattle.cb_index.specs.steps.Found.{tag_at}
@@ -12,7 +12,7 @@ returns c =
     let s = c.self.inside in
     let kept = c.self.invariant.0 in
     let none = ap (λ (v : Shelved). v.waiting.defs) c.self.view_is ∙ c.requires in
-    let held = covers_read def_key def_prefixes s.archive s.shown.items s.defs none kept.defs in
+    let held = covers_read def_key defs_listed s.archive s.shown.items s.defs none kept.defs in
     ap (map (tag_at s.archive)) c.entries.ensures
     ∙ rows_by_name s.archive s.shown.items kept.there kept.ascending s.defs.held c.read_texts.ensures held
     ∙ ap (λ (v : Shelved). tags_by_name (files v)) c.self.view_is

@@ -2,7 +2,7 @@ use Rattle.std.proofs.Common.{◌∙◌, ◌++◌, sym, ap, subst, arith}
 use Rattle.std.proofs.Math.Nat.{le_trans, min-le_left, min-le_right}
 use Rattle.cb_scan.specs.Order.{in_order}
 use Rattle.cb_index.specs.Files.{shown_name}
-use Rattle.cb_index.specs.Orders.{callee_key, callee_prefixes, caller_key, caller_prefixes, def_key, def_prefixes, tag_key, tag_prefixes, use_key, use_prefixes}
+use Rattle.cb_index.specs.Orders.{callee_key, callees_listed, caller_key, callers_listed, def_key, defs_listed, tag_key, tags_listed, use_key, uses_listed}
 use Rattle.cb_index.specs.Shelved.{AreKept, CanShowAll, Shelved}
 use Rattle.cb_index.proofs.CoverLemmas.{covers_length}
 use Rattle.cb_index.proofs.KeptLemmas.{each_room, kept_each}
@@ -23,35 +23,35 @@ pub put-requires : goal.put-requires
 put-requires c =
     let asked = subst (λ (s : Shelved). CanShowAll s c.args.news.now) (sym c.self.view_is) c.requires in
     let fits = (each_room _ _ _ _ _ _ _ asked.entries).1 in
-    let fewer = covers_length def_key def_prefixes c.self.inside.archive c.self.inside.shown.items c.self.inside.defs c.self.invariant.0.defs in
+    let fewer = covers_length def_key defs_listed c.self.inside.archive c.self.inside.shown.items c.self.inside.defs c.self.invariant.0.defs in
     omega (arith, fits, fewer)
 
 pub put-requires-2 : goal.put-requires-2
 put-requires-2 c =
     let asked = subst (λ (s : Shelved). CanShowAll s c.args.news.now) (sym c.self.view_is) c.requires in
     let fits = (each_room _ _ _ _ _ _ _ asked.entries).2 in
-    let fewer = covers_length tag_key tag_prefixes c.self.inside.archive c.self.inside.shown.items c.self.inside.tags c.self.invariant.0.tags in
+    let fewer = covers_length tag_key tags_listed c.self.inside.archive c.self.inside.shown.items c.self.inside.tags c.self.invariant.0.tags in
     omega (arith, fits, fewer)
 
 pub put-requires-3 : goal.put-requires-3
 put-requires-3 c =
     let asked = subst (λ (s : Shelved). CanShowAll s c.args.news.now) (sym c.self.view_is) c.requires in
     let fits = (each_room _ _ _ _ _ _ _ asked.entries).3 in
-    let fewer = covers_length use_key use_prefixes c.self.inside.archive c.self.inside.shown.items c.self.inside.uses c.self.invariant.0.uses in
+    let fewer = covers_length use_key uses_listed c.self.inside.archive c.self.inside.shown.items c.self.inside.uses c.self.invariant.0.uses in
     omega (arith, fits, fewer)
 
 pub put-requires-4 : goal.put-requires-4
 put-requires-4 c =
     let asked = subst (λ (s : Shelved). CanShowAll s c.args.news.now) (sym c.self.view_is) c.requires in
     let fits = (each_room _ _ _ _ _ _ _ asked.entries).4 in
-    let fewer = covers_length callee_key callee_prefixes c.self.inside.archive c.self.inside.shown.items c.self.inside.callees c.self.invariant.0.callees in
+    let fewer = covers_length callee_key callees_listed c.self.inside.archive c.self.inside.shown.items c.self.inside.callees c.self.invariant.0.callees in
     omega (arith, fits, fewer)
 
 pub put-requires-5 : goal.put-requires-5
 put-requires-5 c =
     let asked = subst (λ (s : Shelved). CanShowAll s c.args.news.now) (sym c.self.view_is) c.requires in
     let fits = (each_room _ _ _ _ _ _ _ asked.entries).5 in
-    let fewer = covers_length caller_key caller_prefixes c.self.inside.archive c.self.inside.shown.items c.self.inside.callers c.self.invariant.0.callers in
+    let fewer = covers_length caller_key callers_listed c.self.inside.archive c.self.inside.shown.items c.self.inside.callers c.self.invariant.0.callers in
     omega (arith, fits, fewer)
 
 -- the indexes are those of what is shown now

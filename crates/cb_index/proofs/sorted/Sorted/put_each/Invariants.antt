@@ -9,8 +9,8 @@ abbrev pub invariant-loop-one : goal.invariant-loop-one
 invariant-loop-one g l = record {
   order : l.self.entries ≡ in_order (sort_key g.O.EntryOrder.keyer l.archive) l.self.entries;
   same : in_order (sort_key g.O.EntryOrder.keyer l.archive)
-      (l.self.entries ++ all_entries g.O.EntryOrder.prefixer l.archive (drop l.one-index l.shown))
+      (l.self.entries ++ all_entries g.O.EntryOrder.lister l.archive (drop l.one-index l.shown))
       ≡ in_order (sort_key g.O.EntryOrder.keyer l.archive)
-      (l.initial.self.entries ++ all_entries g.O.EntryOrder.prefixer l.archive l.shown);
+      (l.initial.self.entries ++ all_entries g.O.EntryOrder.lister l.archive l.shown);
   room : l.initial.self.room ≤ l.self.room;
 }

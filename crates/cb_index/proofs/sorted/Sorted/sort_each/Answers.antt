@@ -11,7 +11,7 @@ pub invariant_of-self : goal.invariant_of-self
 invariant_of-self g c =
     let a = c.args.archive.now in
     let key = sort_key g.O.EntryOrder.keyer a in
-    let more = all_entries g.O.EntryOrder.prefixer a c.args.shown.now in
+    let more = all_entries g.O.EntryOrder.lister a c.args.shown.now in
     let size : length c.append_each.new.entries.items ≡ length more =
     ap length (c.append_each.ensures.items ∙ ap (λ l. l ++ more) c.truncate.ensures.items) in
     let fits = subst (λ (h : Held). length h.entries + length more ≤ h.room) (sym c.self.view_is) c.requires in

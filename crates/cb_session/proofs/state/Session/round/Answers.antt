@@ -6,11 +6,11 @@ use Rattle.cb_session.proofs.state.Session.round.Goals as goal
 pub returns-in_err-put_prompt-clause-round : goal.returns-in_err-put_prompt-clause-round
 returns-in_err-put_prompt-clause-round g c = λ bytes e.
     let k = c.in_err-put_prompt.ensures in
-    Round-unprompted (first c.args.limits.now.line bytes) c.args.self.now _ c.args.feed.now c.args.out.now c.put_prompt.new.out _ _ c.from_residual.ensures.1 k.1 k.0.2
+    Round-unprompted (first c.args.limits.now.line bytes) c.args.self.now c.args.feed.now c.args.out.now c.put_prompt.new.out _ _ c.from_residual.ensures.1 k.1 k.0.2
 
 pub returns-in_err-input-clause-round : goal.returns-in_err-input-clause-round
 returns-in_err-input-clause-round g c = λ bytes e.
-    Round-unread (first c.args.limits.now.line bytes) c.args.self.now _ c.read.new.feed c.args.out.now c.put_prompt.new.out _ _ c.from_residual-in_err-input.ensures.1
+    Round-unread (first c.args.limits.now.line bytes) c.args.self.now c.read.new.feed c.args.out.now c.put_prompt.new.out _ _ c.from_residual-in_err-input.ensures.1
     (c.in_err-input.ensures.first bytes e) c.in_ok-put_prompt.ensures.0.2
 
 pub returns-in_err-answer-clause-round : goal.returns-in_err-answer-clause-round
@@ -28,11 +28,11 @@ returns-clause-round g c = λ bytes e.
 pub returns-in_err-put_prompt-clause-every_input : goal.returns-in_err-put_prompt-clause-every_input
 returns-in_err-put_prompt-clause-every_input g c =
     let k = c.in_err-put_prompt.ensures in
-    Follows-unprompted c.args.limits.now.line c.args.self.now _ c.args.feed.now c.args.out.now c.put_prompt.new.out _ _ c.from_residual.ensures.1 k.1 k.0.2
+    Follows-unprompted c.args.limits.now.line c.args.self.now c.args.feed.now c.args.out.now c.put_prompt.new.out _ _ c.from_residual.ensures.1 k.1 k.0.2
 
 pub returns-in_err-input-clause-every_input : goal.returns-in_err-input-clause-every_input
 returns-in_err-input-clause-every_input g c =
-    Follows-unread c.args.limits.now.line c.args.self.now _ c.args.feed.now c.read.new.feed c.args.out.now c.put_prompt.new.out _ _ c.from_residual-in_err-input.ensures.1
+    Follows-unread c.args.limits.now.line c.args.self.now c.args.feed.now c.read.new.feed c.args.out.now c.put_prompt.new.out _ _ c.from_residual-in_err-input.ensures.1
     c.in_err-input.ensures.every_input c.in_ok-put_prompt.ensures.0.2
 
 pub returns-in_err-answer-clause-every_input : goal.returns-in_err-answer-clause-every_input

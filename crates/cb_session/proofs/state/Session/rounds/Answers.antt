@@ -1,6 +1,6 @@
 use Rattle.std.proofs.Common.{◌≡◌, ◌-◌, ◌+◌, suc, Some, None, refl, arith, rules, subst}
 use Rattle.cb_session.specs.declared.input.Ended.TheVariants.{Fault}
-use Rattle.cb_session.proofs.Rounds.{Rounds, Rounds-start, Rounds-next, Rounds-stop, Rounds-out, LeavesRun-none, Follows-start, Follows-next, Follows-stop, Follows-out, Follows-none}
+use Rattle.cb_session.proofs.Rounds.{Rounds, Rounds-start, Rounds-next, Rounds-stop, Rounds-out, LeavesSession-none, Follows-start, Follows-next, Follows-stop, Follows-out, Follows-none}
 use Rattle.cb_session.proofs.Told.{Tells-none, Tells-after}
 use Rattle.cb_session.specs.Serving.{fault_of}
 use Rattle.cb_session.proofs.state.Session.rounds.Goals as goal
@@ -19,7 +19,7 @@ rounds-init g c = record {
 
 pub returns-in-Err : goal.returns-in-Err
 returns-in-Err g c = record {
-  output = λ bytes e. LeavesRun-none c.args.limits.now.lines c.args.limits.now.line bytes c.args.self.now c.args.out.now c.args.feed.now;
+  output = λ bytes e. LeavesSession-none c.args.limits.now.lines c.args.limits.now.line bytes c.args.self.now c.args.out.now c.args.feed.now;
   every_input = Follows-none c.args.limits.now.lines c.args.limits.now.line c.args.self.now c.args.out.now c.args.feed.now;
   failed = search rules;
   told = search rules;
@@ -32,9 +32,9 @@ returns-in-Ok-Some g c =
     let told = Tells-after c.args.feed.now c.rounds.feed c.round.new.feed c.args.out.now c.rounds.out c.round.new.out None c.rounds.invariant.told c.in-Ok-Some.ensures.told in
     record {
       output = λ bytes e.
-          Rounds-stop _ _ bytes _ _ _ _ c.rounds.self c.rounds.feed c.round.new.feed c.rounds.out c.round.new.out c.in-Ok-Some.ended one_more (c.rounds.invariant.output bytes e) (rw c.in-Ok-Some.field-0-is at c.in-Ok-Some.ensures.round);
+          Rounds-stop _ _ bytes _ _ _ _ c.rounds.self c.round.new.self c.rounds.feed c.round.new.feed c.rounds.out c.round.new.out c.in-Ok-Some.ended one_more (c.rounds.invariant.output bytes e) (rw c.in-Ok-Some.field-0-is at c.in-Ok-Some.ensures.round);
       every_input =
-          Follows-stop c.args.limits.now.lines c.args.limits.now.line c.args.self.now c.args.out.now _ _ c.rounds.self c.args.feed.now c.rounds.feed c.round.new.feed c.rounds.out c.round.new.out c.in-Ok-Some.ended one_more
+          Follows-stop c.args.limits.now.lines c.args.limits.now.line c.args.self.now c.args.out.now _ _ c.rounds.self c.round.new.self c.args.feed.now c.rounds.feed c.round.new.feed c.rounds.out c.round.new.out c.in-Ok-Some.ended one_more
           c.rounds.invariant.every_input round.every_input;
       failed = search rules;
       told = Tells-none c.args.feed.now c.round.new.feed c.args.out.now c.round.new.out (fault_of c.in-Ok-Some.ended) told;
@@ -45,9 +45,9 @@ returns-in-Err-round g c =
     let one_more : c.args.limits.now.lines - c.rounds._round ≡ suc (c.args.limits.now.lines - (c.rounds._round + 1)) = omega arith in
     record {
       output = λ bytes e.
-          Rounds-stop _ _ bytes _ _ _ _ c.rounds.self c.rounds.feed c.round.new.feed c.rounds.out c.round.new.out (Fault c.in-Err-round.fault) one_more (c.rounds.invariant.output bytes e) c.in-Err-round.ensures.round;
+          Rounds-stop _ _ bytes _ _ _ _ c.rounds.self c.round.new.self c.rounds.feed c.round.new.feed c.rounds.out c.round.new.out (Fault c.in-Err-round.fault) one_more (c.rounds.invariant.output bytes e) c.in-Err-round.ensures.round;
       every_input =
-          Follows-stop c.args.limits.now.lines c.args.limits.now.line c.args.self.now c.args.out.now _ _ c.rounds.self c.args.feed.now c.rounds.feed c.round.new.feed c.rounds.out c.round.new.out (Fault c.in-Err-round.fault) one_more
+          Follows-stop c.args.limits.now.lines c.args.limits.now.line c.args.self.now c.args.out.now _ _ c.rounds.self c.round.new.self c.args.feed.now c.rounds.feed c.round.new.feed c.rounds.out c.round.new.out (Fault c.in-Err-round.fault) one_more
           c.rounds.invariant.every_input c.in-Err-round.ensures.every_input;
       failed = search rules;
       told = Tells-after c.args.feed.now c.rounds.feed c.round.new.feed c.args.out.now c.rounds.out c.round.new.out (Some c.in-Err-round.fault) c.rounds.invariant.told c.in-Err-round.ensures.told;

@@ -1,17 +1,17 @@
 use Rattle.std.proofs.Common.{rules}
 use Rattle.cb_session.specs.Inputs.{inputs}
 use Rattle.cb_session.proofs.Follows.{Follows-so}
-use Rattle.cb_session.proofs.Rounds.{LeavesRun-flushed, LeavesRun-unflushed}
+use Rattle.cb_session.proofs.Rounds.{LeavesSession-flushed, LeavesSession-unflushed}
 use Rattle.cb_session.proofs.state.Session.serve.Goals as goal
 
 pub returns-in-Ok : goal.returns-in-Ok
 returns-in-Ok g c = record {
   output = λ bytes e.
-      LeavesRun-flushed (inputs c.args.limits.now.lines c.args.limits.now.line bytes) c.args.self.now c.rounds-ended.new.feed c.args.out.now c.rounds-ended.new.out c.flush.new.self c.rounds-ended.result c.in-Ok.ensures.2
+      LeavesSession-flushed (inputs c.args.limits.now.lines c.args.limits.now.line bytes) c.args.self.now c.rounds-ended.new.self c.rounds-ended.new.feed c.args.out.now c.rounds-ended.new.out c.flush.new.self c.rounds-ended.result c.in-Ok.ensures.2
       (c.rounds-ended.ensures.output bytes e);
   every_input =
       Follows-so c.args.feed.now c.rounds-ended.new.feed _ _ c.rounds-ended.ensures.every_input
-      (λ bytes left. LeavesRun-flushed (inputs c.args.limits.now.lines c.args.limits.now.line bytes) c.args.self.now left c.args.out.now c.rounds-ended.new.out c.flush.new.self c.rounds-ended.result c.in-Ok.ensures.2);
+      (λ bytes left. LeavesSession-flushed (inputs c.args.limits.now.lines c.args.limits.now.line bytes) c.args.self.now c.rounds-ended.new.self left c.args.out.now c.rounds-ended.new.out c.flush.new.self c.rounds-ended.result c.in-Ok.ensures.2);
   failed = search rules;
   told = search rules;
 }
@@ -19,11 +19,11 @@ returns-in-Ok g c = record {
 pub returns-in-Err : goal.returns-in-Err
 returns-in-Err g c = record {
   output = λ bytes e.
-      LeavesRun-unflushed (inputs c.args.limits.now.lines c.args.limits.now.line bytes) c.args.self.now c.rounds-ended.new.feed c.args.out.now c.rounds-ended.new.out c.flush.new.self c.rounds-ended.result c.in-Err.ensures.1
+      LeavesSession-unflushed (inputs c.args.limits.now.lines c.args.limits.now.line bytes) c.args.self.now c.rounds-ended.new.self c.rounds-ended.new.feed c.args.out.now c.rounds-ended.new.out c.flush.new.self c.rounds-ended.result c.in-Err.ensures.1
       (c.rounds-ended.ensures.output bytes e);
   every_input =
       Follows-so c.args.feed.now c.rounds-ended.new.feed _ _ c.rounds-ended.ensures.every_input
-      (λ bytes left. LeavesRun-unflushed (inputs c.args.limits.now.lines c.args.limits.now.line bytes) c.args.self.now left c.args.out.now c.rounds-ended.new.out c.flush.new.self c.rounds-ended.result c.in-Err.ensures.1);
+      (λ bytes left. LeavesSession-unflushed (inputs c.args.limits.now.lines c.args.limits.now.line bytes) c.args.self.now c.rounds-ended.new.self left c.args.out.now c.rounds-ended.new.out c.flush.new.self c.rounds-ended.result c.in-Err.ensures.1);
   failed = search rules;
   told = search rules;
 }

@@ -1,4 +1,4 @@
-use Rattle.std.proofs.Common.{◌∙◌, ap, sym, true, false, arith, bytes_eq}
+use Rattle.std.proofs.Common.{◌∙◌, ap, sym, arith, bytes_eq}
 use Rattle.std.specs.Prelude.{slice_index_or}
 use Rattle.cb_index.specs.declared.entry.Shown.{Shown}
 use Rattle.cb_desk.proofs.LinesThen.{lines_at, no_lines_at}

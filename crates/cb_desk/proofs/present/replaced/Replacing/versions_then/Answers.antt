@@ -1,4 +1,4 @@
-use Rattle.std.proofs.Common.{rules, ◌≡◌, ◌∙◌, ◌≤◌, ◌+◌, ap, sym, refl, subst, arith, [], ◌∷◌, ◌++◌, length, append_assoc}
+use Rattle.std.proofs.Common.{rules, ◌≡◌, ◌∙◌, ◌≤◌, ap, sym, refl, subst, arith, [], ◌∷◌, ◌++◌, length, append_assoc}
 use Rattle.std.specs.List.{AllByRecursion}
 use Rattle.cb_index.specs.Files.{IsThere}
 use Rattle.cb_desk.specs.Desk.{bytes_in, counted}

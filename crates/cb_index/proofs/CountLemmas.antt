@@ -1,0 +1,187 @@
+-- How many rows the entries of a key stand for.
+use Rattle.std.proofs.Common.{◌≡◌, ◌∙◌, ◌+◌, ℕ, Bool, true, false, not, List, [], ◌∷◌, Some, None, refl, sym, ap, length, map, filter, get_or, append-nil, arith}
+use Rattle.std.proofs.lemmas.List.{length-map}
+use Rattle.std.proofs.lemmas.List.Elements.{filter-append}
+use Rattle.std.proofs.lemmas.List.Sums.{sum_by-append, sum_by-cons}
+use Rattle.std.proofs.lemmas.Option.{slice_get-get_or}
+use Rattle.std.specs.Prelude.{cond, nat_eq, slice_get, sum_by, Option, ◌&&◌}
+use Rattle.std.specs.List.{AllByRecursion}
+use Rattle.std.specs.Str.{bytes_eq}
+use Rattle.cb_scan.specs.declared.facts.Call.{Call}
+use Rattle.cb_scan.specs.declared.facts.Use.{Use}
+use Rattle.cb_scan.specs.Definitions.{facts_of}
+use Rattle.cb_scan.specs.Keys.{key_prefix}
+use Rattle.cb_index.specs.Archived.{Archived, name_of}
+use Rattle.cb_index.specs.Counts.{column, function_of, row_count, rows_in_files, same_row, unlike}
+use Rattle.cb_index.specs.Entries.{Keyer, has_key}
+use Rattle.cb_index.specs.Files.{AreAscending, File, IsThere, files_of}
+use Rattle.cb_index.specs.Firsts.{firsts, listed}
+use Rattle.cb_index.specs.Held.{all_entries, entries_of, entry_of}
+use Rattle.cb_index.specs.Items.{item_count, item_key}
+use Rattle.cb_index.specs.Orders.{callee_key, callees_listed, caller_key, callers_listed, firsts_in, use_key, uses_listed}
+use Rattle.cb_index.specs.Rows.{Fact, file_calls_in, file_calls_of, file_uses_of}
+use Rattle.cb_index.specs.Shelved.{IsIndexOf}
+use Rattle.cb_index.specs.steps.Found.{fact_at, fact_of_call, fact_of_use, facts_at, facts_in, facts_in_text}
+use Rattle.cb_index.specs.steps.Spread.{items_from}
+use Rattle.cb_index.specs.declared.entry.Entry.{Entry}
+use Rattle.cb_index.specs.declared.entry.Shown.{Shown}
+use Rattle.cb_index.specs.declared.rows.FactSort.{FactSort}
+use Rattle.cb_index.specs.declared.rows.FactSort.TheVariants.{Uses, Callees, Callers}
+use Rattle.cb_index.proofs.FactLemmas.{one_callees, one_callers, one_uses}
+use Rattle.cb_index.proofs.FirstLemmas.{at_most_one, prefix_and_key}
+use Rattle.cb_index.proofs.RiseLemmas.{firsts_rise}
+use Rattle.cb_index.proofs.RowLemmas.{kept_key}
+
+-- ---- the rows of elements, by what tells them apart
+filter_map : {X Y : Type 0} (p : Y → Bool) (f : X → Y) (xs : List X) → filter p (map f xs) ≡ map f (filter (λ x. p (f x)) xs)
+filter_map p f [] = refl
+filter_map p f (x ∷ xs) =
+    let later = filter_map p f xs in
+    elim (p (f x)) as (λ b. cond b (f x ∷ filter p (map f xs)) (filter p (map f xs)) ≡ map f (cond b (x ∷ filter (λ y. p (f y)) xs) (filter (λ y. p (f y)) xs))) [
+      | true ↦ ap (λ l. f x ∷ l) later
+      | false ↦ later
+    ]
+
+module _ {X : Type 0} where
+  -- of the elements that are the same only the first
+  abbrev apart : (X → X → Bool) → List X → List X
+  apart same [] = []
+  apart same (x ∷ xs) = x ∷ filter (λ y. not (same x y)) (apart same xs)
+
+  module _ (sort : FactSort) where
+    unlike_mapped : (fact : X → Fact) (xs : List X) → unlike sort (map fact xs) ≡ map fact (apart (λ x y. same_row sort (fact x) (fact y)) xs)
+    unfolding unlike
+    unlike_mapped fact [] = refl
+    unlike_mapped fact (x ∷ xs) =
+        ap (λ l. fact x ∷ filter (λ g. not (same_row sort (fact x) g)) l) (unlike_mapped fact xs)
+        ∙ ap (λ l. fact x ∷ l) (filter_map (λ g. not (same_row sort (fact x) g)) fact (apart (λ x y. same_row sort (fact x) (fact y)) xs))
+
+    -- where the same elements have equal rows there are as many rows
+    same_count : (f g : X → Fact) → ((x y : X) → same_row sort (f x) (f y) ≡ same_row sort (g x) (g y)) → (xs : List X)
+        → length (unlike sort (map f xs)) ≡ length (unlike sort (map g xs))
+    same_count f g same xs =
+        ap length (unlike_mapped f xs) ∙ length-map (apart (λ x y. same_row sort (f x) (f y)) xs) f
+        ∙ (λ i. length (apart (λ x y. same x y i) xs))
+        ∙ sym (ap length (unlike_mapped g xs) ∙ length-map (apart (λ x y. same_row sort (g x) (g y)) xs) g)
+
+-- ---- the file name plays no part
+module _ (file other text : List ℕ) where
+  use_line : (u : Option Use) → (fact_of_use file text u).line ≡ (fact_of_use other text u).line
+  use_line None = refl
+  use_line (Some u) = refl
+
+  call_line : (c : Option Call) → (fact_of_call file text c).line ≡ (fact_of_call other text c).line
+  call_line None = refl
+  call_line (Some c) = refl
+
+  line_is : (sort : FactSort) (item : ℕ) → (fact_at sort file text item).line ≡ (fact_at sort other text item).line
+  line_is Uses item = use_line (slice_get (facts_of text).uses item)
+  line_is Callees item = call_line (slice_get (facts_of text).calls item)
+  line_is Callers item = call_line (slice_get (facts_of text).calls item)
+
+  use_function : (u : Option Use) → column (fact_of_use file text u).scope ≡ column (fact_of_use other text u).scope
+  use_function None = refl
+  use_function (Some u) = refl
+
+  callee_function : (c : Option Call) → column (fact_of_call file text c).scope ≡ column (fact_of_call other text c).scope
+  callee_function None = refl
+  callee_function (Some c) = refl
+
+  caller_function : (c : Option Call) → (fact_of_call file text c).name ≡ (fact_of_call other text c).name
+  caller_function None = refl
+  caller_function (Some c) = refl
+
+  function_is : (sort : FactSort) (item : ℕ) → function_of sort (fact_at sort file text item) ≡ function_of sort (fact_at sort other text item)
+  function_is Uses item = use_function (slice_get (facts_of text).uses item)
+  function_is Callees item = callee_function (slice_get (facts_of text).calls item)
+  function_is Callers item = caller_function (slice_get (facts_of text).calls item)
+
+  pub in_any_file : (sort : FactSort) (items : List ℕ)
+      → length (unlike sort (map (fact_at sort file text) items)) ≡ length (unlike sort (map (fact_at sort other text) items))
+  in_any_file sort =
+      same_count sort (fact_at sort file text) (fact_at sort other text)
+      (λ x y i. nat_eq (line_is sort x i) (line_is sort y i) && bytes_eq (function_is sort x i) (function_is sort y i))
+
+-- ---- one version
+module _ (sort : FactSort) (a : Archived) (s : Shown) (text : List ℕ) (there : slice_get a.texts s.version ≡ Some text)
+    (key : List ℕ) (keyer : Keyer) (keys_are : (item : ℕ) → keyer (Some text) (name_of a s.name) item ≡ item_key sort text item) where
+  abbrev IsCounted : List Entry → Type 0
+  IsCounted es = sum_by (λ (e : Entry). e.rows) es ≡ length (unlike sort (facts_in sort a es))
+
+  none_counted : IsCounted []
+  unfolding unlike
+  none_counted = refl
+
+  one_counted : (item : ℕ) → IsCounted (entry_of s (listed sort text item) ∷ [])
+  unfolding row_count
+  one_counted item =
+      let facts : facts_in sort a (entry_of s (listed sort text item) ∷ []) ≡ map (fact_at sort (name_of a s.name) text) (items_from sort text item) =
+      append-nil (facts_at sort a (entry_of s (listed sort text item))) ∙ ap (facts_in_text sort (name_of a s.name) item) there in
+      let count : row_count sort text item ≡ length (unlike sort (map (fact_at sort (name_of a s.name) text) (items_from sort text item))) =
+      sym (in_any_file (name_of a s.name) [] text sort (items_from sort text item)) in
+      let same = ap (λ fs. length (unlike sort fs)) facts in
+      let sum = sum_by-cons (λ (e : Entry). e.rows) (entry_of s (listed sort text item)) [] in
+      omega (arith, count, same, sum)
+
+  version_counted : IsCounted (filter (has_key keyer a (key_prefix key) key) (map (entry_of s) (firsts sort text)))
+  version_counted =
+      at_most_one sort text key (has_key keyer a (key_prefix key) key) s
+      (λ item. ap (λ k. nat_eq (key_prefix key) (key_prefix (item_key sort text item)) && bytes_eq key k)
+      (ap (λ t. keyer t (name_of a s.name) item) there ∙ keys_are item)
+      ∙ prefix_and_key key (item_key sort text item))
+      IsCounted none_counted one_counted 0 (item_count sort text)
+
+-- ---- all versions
+module _ (sort : FactSort) (keyer : Keyer) (a : Archived) (key : List ℕ) (rows : File → List Fact)
+    (keys_are : (text file : List ℕ) (item : ℕ) → keyer (Some text) file item ≡ item_key sort text item)
+    (one : (s : Shown) (text : List ℕ) → slice_get a.texts s.version ≡ Some text
+    → facts_in sort a (filter (has_key keyer a (key_prefix key) key) (entries_of (firsts_in sort) a s))
+    ≡ rows (record { name = name_of a s.name; bytes = text })) where
+  abbrev has_it : Entry → Bool
+  has_it = has_key keyer a (key_prefix key) key
+
+  known : (s : Shown) (text : List ℕ) → slice_get a.texts s.version ≡ Some text
+      → sum_by (λ (e : Entry). e.rows) (filter has_it (entries_of (firsts_in sort) a s))
+      ≡ length (unlike sort (rows (record { name = name_of a s.name; bytes = text })))
+  known s text there =
+      let same : entries_of (firsts_in sort) a s ≡ map (entry_of s) (firsts sort text) = ap (λ o. map (entry_of s) (firsts_in sort o)) there in
+      ap (λ es. sum_by (λ (e : Entry). e.rows) (filter has_it es)) same
+      ∙ version_counted sort a s text there key keyer (keys_are text (name_of a s.name))
+      ∙ sym (ap (λ es. length (unlike sort (facts_in sort a (filter has_it es)))) same)
+      ∙ ap (λ fs. length (unlike sort fs)) (one s text there)
+
+  all_counted : (shown : List Shown) → AllByRecursion (IsThere a) shown
+      → sum_by (λ (e : Entry). e.rows) (filter has_it (all_entries (firsts_in sort) a shown)) ≡ rows_in_files sort rows (files_of a shown)
+  all_counted [] all = refl
+  all_counted (s ∷ shown) all =
+      let text = get_or a.texts s.version [] in
+      let file : File = record { name = name_of a s.name; bytes = text } in
+      let here = known s text (slice_get-get_or a.texts s.version [] all.0.1) in
+      ap (sum_by (λ (e : Entry). e.rows)) (filter-append has_it (entries_of (firsts_in sort) a s) (all_entries (firsts_in sort) a shown))
+      ∙ sum_by-append (λ (e : Entry). e.rows) (filter has_it (entries_of (firsts_in sort) a s)) (filter has_it (all_entries (firsts_in sort) a shown))
+      ∙ (λ i. here i + all_counted shown all.1 i)
+      ∙ sym (sum_by-cons (λ (f : File). length (unlike sort (rows f))) file (files_of a shown))
+
+  index_counted : (shown : List Shown) → AllByRecursion (IsThere a) shown → AreAscending a shown → (es : List Entry)
+      → IsIndexOf keyer (firsts_in sort) a shown es
+      → sum_by (λ (e : Entry). e.rows) (filter has_it es) ≡ rows_in_files sort rows (files_of a shown)
+  index_counted shown all up es is =
+      ap (sum_by (λ (e : Entry). e.rows)) (kept_key keyer a (firsts_in sort) (firsts_rise sort) shown up (key_prefix key) key es is)
+      ∙ all_counted shown all
+
+module _ (a : Archived) (shown : List Shown) (all : AllByRecursion (IsThere a) shown)
+    (up : AreAscending a shown) (es : List Entry) (key : List ℕ) where
+  pub uses_counted : IsIndexOf use_key uses_listed a shown es
+      → sum_by (λ (e : Entry). e.rows) (filter (has_key use_key a (key_prefix key) key) es) ≡ rows_in_files Uses (file_uses_of key) (files_of a shown)
+  uses_counted =
+      index_counted Uses use_key a key (file_uses_of key) (λ text file item. refl) (λ s text there. one_uses a s text there key) shown all up es
+
+  pub calls_counted : IsIndexOf callee_key callees_listed a shown es
+      → sum_by (λ (e : Entry). e.rows) (filter (has_key callee_key a (key_prefix key) key) es) ≡ rows_in_files Callees (file_calls_of key) (files_of a shown)
+  calls_counted =
+      index_counted Callees callee_key a key (file_calls_of key) (λ text file item. refl) (λ s text there. one_callees a s text there key) shown all up es
+
+  pub callers_counted : IsIndexOf caller_key callers_listed a shown es
+      → sum_by (λ (e : Entry). e.rows) (filter (has_key caller_key a (key_prefix key) key) es) ≡ rows_in_files Callers (file_calls_in key) (files_of a shown)
+  callers_counted =
+      index_counted Callers caller_key a key (file_calls_in key) (λ text file item. refl) (λ s text there. one_callers a s text there key) shown all up es

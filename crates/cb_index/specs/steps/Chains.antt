@@ -1,0 +1,12 @@
+-- What is left of the items of one key.
+use Rattle.std.specs.Prelude.{ℕ, List, [], Option, Some, None}
+use Rattle.cb_index.specs.steps.Spread.{items_from}
+use Rattle.cb_index.specs.declared.items.Chain.{Chain}
+use Rattle.cb_index.specs.declared.rows.FactSort.{FactSort}
+
+abbrev pub chained : FactSort → List ℕ → Option ℕ → List ℕ
+chained sort text None = []
+chained sort text (Some item) = items_from sort text item
+
+abbrev pub chain_left : Chain → List ℕ
+chain_left c = chained c.sort c.version.now c.next

@@ -1,0 +1,168 @@
+//! Uses and calls by their keys. An item is the number of a use among the uses of a version, or of
+//! a call among its calls, from 0.
+ghost use Rattle.std.specs.Prelude.{◌≡◌, ◌<◌, ◌^◌, ◌∷◌, [], MatchOption};
+ghost use Rattle.cb_index.specs.Items.{
+  have_one_key,
+  is_first,
+  item_count,
+  item_key,
+  item_span,
+  later,
+};
+ghost use Rattle.cb_index.specs.steps.Chains.{chain_left};
+ghost use Rattle.cb_index.specs.steps.Spread.{items_from};
+
+use crate::archive::Version;
+use crate::bytes::bytes_at;
+use crate::rows::FactSort;
+use cb_scan::{Facts, Span};
+
+/// How many items a version has.
+pub(crate) fn item_count(sort: FactSort, version: &Version) -> usize
+    ensures value { result ≡ item_count sort version.now }
+    ensures few { result < 2 ^ 32 }
+{
+    match sort {
+        FactSort::Uses => version.facts().uses().len(),
+        FactSort::Callees => version.facts().calls().len(),
+        FactSort::Callers => version.facts().calls().len(),
+    }
+}
+
+/// The name of a use, the called name of a call or the name that calls, if it is there.
+pub(crate) fn item_span(sort: FactSort, facts: &Facts, item: u32) -> Option<Span>
+    ensures { result ≡ item_span sort facts.now item }
+{
+    match sort {
+        FactSort::Uses => match facts.uses().get(item as usize) {
+            Some(found) => Some(found.name),
+            None => None,
+        },
+        FactSort::Callees => match facts.calls().get(item as usize) {
+            Some(found) => Some(found.callee),
+            None => None,
+        },
+        FactSort::Callers => match facts.calls().get(item as usize) {
+            Some(found) => Some(found.caller),
+            None => None,
+        },
+    }
+}
+
+/// The key of an item; empty where it is not there.
+pub(crate) fn item_key(sort: FactSort, version: &Version, item: u32) -> &[u8]
+    ensures { result.now ≡ item_key sort version.now item }
+{
+    bytes_at(
+        version.source().bytes(),
+        item_span(sort, version.facts(), item),
+    )
+}
+
+/// Whether two items have one key.
+fn have_one_key(sort: FactSort, version: &Version, a: u32, b: u32) -> bool
+    ensures { result ≡ have_one_key sort version.now a b }
+{
+    item_key(sort, version, a) == item_key(sort, version, b)
+}
+
+/// Whether no item before an item has its key, by a search.
+fn search_first(sort: FactSort, version: &Version, item: u32) -> bool
+    ensures { result ≡ is_first sort version.now item }
+{
+    for before in 0..item {
+        if have_one_key(sort, version, item, before) {
+            return false;
+        }
+    }
+    true
+}
+
+/// The next item that has the key of an item, by a search.
+fn search_next(sort: FactSort, version: &Version, item: u32) -> Option<u32>
+    ensures { MatchOption result (later sort version.now item ≡ [])
+        (λ next. later sort version.now item ≡ next ∷ later sort version.now next) }
+{
+    for next in item as usize + 1..item_count(sort, version) {
+        if have_one_key(sort, version, item, next as u32) {
+            return Some(next as u32);
+        }
+    }
+    None
+}
+
+/// Whether no item before an item has its key.
+pub(crate) fn is_first(sort: FactSort, version: &Version, item: u32) -> bool
+    ensures { result ≡ is_first sort version.now item }
+{
+    match version.link(sort, item) {
+        Some(link) => link.first,
+        None => search_first(sort, version, item),
+    }
+}
+
+/// The next item that has the key of an item.
+pub(crate) fn next_of_key(sort: FactSort, version: &Version, item: u32) -> Option<u32>
+    ensures { MatchOption result (later sort version.now item ≡ [])
+        (λ next. later sort version.now item ≡ next ∷ later sort version.now next) }
+{
+    match version.link(sort, item) {
+        Some(link) => {
+            if link.next == 0 {
+                None
+            } else {
+                Some(link.next)
+            }
+        }
+        None => search_next(sort, version, item),
+    }
+}
+
+/// The items of one key that are still to come.
+#[derive(Clone, Copy)]
+pub(crate) struct Chain<'a> {
+    sort: FactSort,
+    version: &'a Version,
+    next: Option<u32>,
+}
+
+impl<'a> Chain<'a> {
+    /// An item and those behind it that have its key.
+    pub(crate) fn from(sort: FactSort, version: &'a Version, item: u32) -> Chain<'a>
+        ensures sort { result.sort ≡ sort }
+        ensures version { result.version.now ≡ version.now }
+        ensures left { chain_left result ≡ items_from sort version.now item }
+    {
+        Chain {
+            sort,
+            version,
+            next: Some(item),
+        }
+    }
+
+    /// The first item.
+    pub(crate) fn take(&mut self) -> Option<u32>
+        ensures left { MatchOption result (chain_left self.old ≡ [])
+            (λ item. chain_left self.old ≡ item ∷ chain_left self.new) }
+        ensures sort { self.new.sort ≡ self.old.sort }
+        ensures version { self.new.version.now ≡ self.old.version.now }
+    {
+        let item = self.next?;
+        self.next = next_of_key(self.sort, self.version, item);
+        Some(item)
+    }
+
+    /// The sort of the items.
+    pub(crate) fn sort(&self) -> FactSort
+        ensures { result ≡ self.now.sort }
+    {
+        self.sort
+    }
+
+    /// The version of the items.
+    pub(crate) fn version(&self) -> &'a Version
+        ensures { result.now ≡ self.now.version.now }
+    {
+        self.version
+    }
+}

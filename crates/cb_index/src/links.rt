@@ -1,0 +1,136 @@
+//! What a version keeps so that items of one key are found without a search.
+ghost use Rattle.std.specs.Prelude.{◌≡◌, ◌⊎◌, [], true, IfOk};
+ghost use Rattle.cb_scan.specs.Definitions.{facts_of};
+ghost use Rattle.cb_index.specs.Links.{links_for, links_of, nothing_laid, with_links};
+ghost use Rattle.cb_index.specs.steps.Laying.{AreSorted, item_entries};
+
+use crate::entry::Entry;
+use crate::laid::lay_in;
+use crate::memory::OutOfMemory;
+use crate::rows::FactSort;
+use crate::table::lay_in_table;
+use cb_scan::{Facts, Source};
+use std::alloc::Global;
+use std::marker::Model;
+
+/// How many looks at other items of its place the table grants, for each item.
+const LOOKS_PER_ITEM: usize = 16;
+
+/// The link of an item: the next item of its key, or 0 where there is none, and whether no item
+/// before it has that key.
+#[derive(Clone, Copy, Debug, PartialEq, Eq)]
+pub(crate) struct Link {
+    pub next: u32,
+    pub first: bool,
+}
+
+/// The links of the uses of a text, of its calls by the called name and of its calls by the name
+/// that calls. Of each sort all are laid or none.
+#[derive(Debug, Drop)]
+pub struct Links {
+    uses: Vec<Link>,
+    callees: Vec<Link>,
+    callers: Vec<Link>,
+}
+
+impl Model for Links {
+    ghost use Rattle.cb_index.specs.Links.{Linked};
+
+    ghost Value = { Linked };
+
+    ghost view = { λ l. record {
+      uses = l.uses.items;
+      callees = l.callees.items;
+      callers = l.callers.items;
+    } };
+}
+
+/// No links, with room for so many.
+fn room_for(alloc: Global, count: usize) -> Result<Vec<Link>, OutOfMemory>
+    ensures { IfOk result (λ links. links.items ≡ []) }
+{
+    match Vec::with_capacity(alloc, count) {
+        Ok(links) => Ok(links),
+        Err(_) => Err(OutOfMemory),
+    }
+}
+
+impl Links {
+    /// No links are laid, and there is room for those of all uses and calls.
+    pub fn new(alloc: Global, facts: &Facts) -> Result<Links, OutOfMemory>
+        ensures { IfOk result (λ l. l ≡ nothing_laid) }
+    {
+        let uses = room_for(alloc, facts.uses().len())?;
+        let callees = room_for(alloc, facts.calls().len())?;
+        let callers = room_for(alloc, facts.calls().len())?;
+        Ok(Links {
+            uses,
+            callees,
+            callers,
+        })
+    }
+
+    /// The links of a sort.
+    pub(crate) fn of(&self, sort: FactSort) -> &[Link]
+        ensures { result.now ≡ links_for sort self.now }
+    {
+        match sort {
+            FactSort::Uses => self.uses.as_slice(),
+            FactSort::Callees => self.callees.as_slice(),
+            FactSort::Callers => self.callers.as_slice(),
+        }
+    }
+
+    /// Whether no links of a sort are laid, and there is room for so many.
+    pub(crate) fn wants(&self, sort: FactSort, count: usize) -> bool
+        ensures { result ≡ true → links_for sort self.now ≡ [] }
+    {
+        let links = match sort {
+            FactSort::Uses => &self.uses,
+            FactSort::Callees => &self.callees,
+            FactSort::Callers => &self.callers,
+        };
+        links.is_empty() && count <= links.capacity()
+    }
+
+    /// Lays the links of a sort by the entries of all items, in order; none where there is too
+    /// little room.
+    pub(crate) fn lay(&mut self, sort: FactSort, source: &Source, facts: &Facts, entries: &[Entry])
+        requires facts { facts.now ≡ facts_of source.now }
+        requires entries { AreSorted sort source.now entries.now }
+        ensures { (self.new ≡ self.old)
+            ⊎ (self.new ≡ with_links sort (links_of sort source.now) self.old) }
+    {
+        match sort {
+            FactSort::Uses => lay_in(sort, source, facts, entries, &mut self.uses),
+            FactSort::Callees => lay_in(sort, source, facts, entries, &mut self.callees),
+            FactSort::Callers => lay_in(sort, source, facts, entries, &mut self.callers),
+        }
+    }
+
+    /// Lays the links of a sort by a table of the entries of all items; false, and none are laid,
+    /// where the table is too crowded or where there is too little room.
+    pub(crate) fn lay_by_table(
+        &mut self,
+        sort: FactSort,
+        source: &Source,
+        facts: &Facts,
+        entries: &mut [Entry],
+    ) -> bool
+        requires facts { facts.now ≡ facts_of source.now }
+        requires entries { entries.old ≡ item_entries sort source.now 0 }
+        ensures { (self.new ≡ with_links sort [] self.old)
+            ⊎ (self.new ≡ with_links sort (links_of sort source.now) self.old) }
+    {
+        let looks = entries.len().saturating_mul(LOOKS_PER_ITEM);
+        match sort {
+            FactSort::Uses => { lay_in_table(sort, source, facts, entries, &mut self.uses, looks) }
+            FactSort::Callees => {
+                lay_in_table(sort, source, facts, entries, &mut self.callees, looks)
+            }
+            FactSort::Callers => {
+                lay_in_table(sort, source, facts, entries, &mut self.callers, looks)
+            }
+        }
+    }
+}

@@ -1,8 +1,0 @@
-use Rattle.std.proofs.Common.{◌≡◌, ◌++◌, map, drop}
-use Rattle.cb_scan.specs.declared.facts.Call.{Call}
-use Rattle.cb_scan.proofs.keys.facts.callees.Given as goal
-
-abbrev pub invariant-loop-fact : goal.invariant-loop-fact
-invariant-loop-fact l =
-    l.spans.items ++ map (λ (f : Call). f.callee) (drop l.fact-index l.calls)
-    ≡ map (λ (f : Call). f.callee) l.calls
