@@ -104,15 +104,15 @@ fn gather(alloc: Global, text: &[u8]) -> Result<Gathered, AllocError>
         naming: Naming::Nothing,
     };
     for lined in lined_pieces(text) {
-        if lined.piece.class == Class::Newline {
-            lines.end(&line, lined.piece.span.start)?;
-            line = Stage::Start;
-        } else if is_significant(lined.piece.class) {
-            let token = token_of(text, lined);
+        if is_significant(lined.piece.class) {
+            let token = token_of(text, &lined);
             lines.add(text, &mut line, &token)?;
             if line.is_code() {
                 code.add(&mut state, &token)?;
             }
+        } else if lined.piece.class == Class::Newline {
+            lines.end(&line, lined.piece.span.start)?;
+            line = Stage::Start;
         }
     }
     lines.end(&line, text.len() as u32)?;

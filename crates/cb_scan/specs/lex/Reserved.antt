@@ -8,19 +8,19 @@ use Rattle.std.specs.Str.{bytes_eq}
 -- lengths
 unfoldable pub reserved_words : List (List ℕ)
 reserved_words =
-    codes "do" ∷ codes "if"
-    ∷ codes "for" ∷ codes "int" ∷ codes "asm"
-    ∷ codes "auto" ∷ codes "case" ∷ codes "char" ∷ codes "else" ∷ codes "enum" ∷ codes "goto"
-    ∷ codes "long" ∷ codes "void"
-    ∷ codes "break" ∷ codes "const" ∷ codes "float" ∷ codes "short" ∷ codes "union" ∷ codes "while"
+    codes "if" ∷ codes "do"
+    ∷ codes "int" ∷ codes "for" ∷ codes "asm"
+    ∷ codes "char" ∷ codes "void" ∷ codes "else" ∷ codes "case" ∷ codes "long" ∷ codes "enum"
+    ∷ codes "goto" ∷ codes "auto"
+    ∷ codes "const" ∷ codes "break" ∷ codes "while" ∷ codes "short" ∷ codes "float" ∷ codes "union"
     ∷ codes "_Bool"
-    ∷ codes "double" ∷ codes "extern" ∷ codes "inline" ∷ codes "return" ∷ codes "signed"
-    ∷ codes "sizeof" ∷ codes "static" ∷ codes "struct" ∷ codes "switch"
-    ∷ codes "default" ∷ codes "typedef" ∷ codes "_Atomic" ∷ codes "__asm__" ∷ codes "defined"
-    ∷ codes "continue" ∷ codes "register" ∷ codes "restrict" ∷ codes "unsigned" ∷ codes "volatile"
+    ∷ codes "struct" ∷ codes "return" ∷ codes "static" ∷ codes "sizeof" ∷ codes "extern"
+    ∷ codes "switch" ∷ codes "double" ∷ codes "signed" ∷ codes "inline"
+    ∷ codes "defined" ∷ codes "default" ∷ codes "typedef" ∷ codes "_Atomic" ∷ codes "__asm__"
+    ∷ codes "unsigned" ∷ codes "continue" ∷ codes "volatile" ∷ codes "register" ∷ codes "restrict"
     ∷ codes "_Alignas" ∷ codes "_Alignof" ∷ codes "_Complex" ∷ codes "_Generic"
-    ∷ codes "_Noreturn" ∷ codes "_Imaginary" ∷ codes "__declspec" ∷ codes "_Thread_local"
-    ∷ codes "__attribute__" ∷ codes "__extension__" ∷ codes "_Static_assert"
+    ∷ codes "__attribute__" ∷ codes "__extension__" ∷ codes "__declspec" ∷ codes "_Noreturn"
+    ∷ codes "_Imaginary" ∷ codes "_Thread_local" ∷ codes "_Static_assert"
     ∷ []
 
 -- one of the reserved words

@@ -63,16 +63,14 @@ fn feeds_among(bytes: &[u8]) -> u32
     count + feeds_of(rest)
 }
 
-/// How many line feeds the bytes of a piece hold: pieces that can hold none are not looked at
-/// again, a lone byte at once, and those that are often long many bytes at a time.
+/// How many line feeds the bytes of a piece hold: a lone byte is looked at once, and pieces that are
+/// often long many bytes at a time.
 #[inline]
 fn feeds_in(class: Class, bytes: &[u8]) -> u32
-    requires none { holds_feeds class ≡ false → count_by is_feed bytes.now ≡ 0 }
-    requires small { length bytes.now ≤ MOST_BYTES }
+    requires { length bytes.now ≤ MOST_BYTES }
     ensures { result ≡ count_by is_feed bytes.now }
 {
     match (class, bytes) {
-        (Class::Name | Class::Number | Class::Byte, _) => 0,
         (Class::LineNote | Class::BlockNote, _) => feeds_among(bytes),
         (_, [byte]) => u32::from(*byte == b'\n'),
         _ => feeds_of(bytes),
@@ -87,8 +85,8 @@ fn are_spaces(text: &[u8], len: usize) -> bool
     text.len() >= LANES && len <= space_run(text)
 }
 
-/// How many line feeds the first bytes of a text hold, which are a piece. An indentation is looked
-/// at as its length was found.
+/// How many line feeds the first bytes of a text hold, which are a piece. Most pieces can hold none
+/// and are not looked at again; an indentation is looked at as its length was found.
 #[inline]
 fn feeds_at(class: Class, text: &[u8], len: usize) -> u32
     requires within { len ≤ length text.now }
@@ -96,10 +94,10 @@ fn feeds_at(class: Class, text: &[u8], len: usize) -> u32
     requires small { length text.now ≤ MOST_BYTES }
     ensures { result ≡ count_by is_feed (take len text.now) }
 {
-    if class == Class::Blank && len > 1 && are_spaces(text, len) {
-        0
-    } else {
-        feeds_in(class, &text[..len])
+    match class {
+        Class::Name | Class::Number | Class::Byte => 0,
+        Class::Blank if len > 1 && are_spaces(text, len) => 0,
+        _ => feeds_in(class, &text[..len]),
     }
 }
 

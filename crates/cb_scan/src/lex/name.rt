@@ -7,31 +7,33 @@ ghost use Rattle.cb_scan.specs.lex.Reserved.{is_name, is_reserved};
 
 use crate::lex::lexeme::{is_letter, is_word};
 
-const TWO: [&[u8]; 2] = [b"do", b"if"];
+// The words of each length, those that stand most often in real code first.
 
-const THREE: [&[u8]; 3] = [b"for", b"int", b"asm"];
+const TWO: [&[u8]; 2] = [b"if", b"do"];
+
+const THREE: [&[u8]; 3] = [b"int", b"for", b"asm"];
 
 const FOUR: [&[u8]; 8] = [
-    b"auto", b"case", b"char", b"else", b"enum", b"goto", b"long", b"void",
+    b"char", b"void", b"else", b"case", b"long", b"enum", b"goto", b"auto",
 ];
 
 const FIVE: [&[u8]; 7] = [
-    b"break", b"const", b"float", b"short", b"union", b"while", b"_Bool",
+    b"const", b"break", b"while", b"short", b"float", b"union", b"_Bool",
 ];
 
 const SIX: [&[u8]; 9] = [
-    b"double", b"extern", b"inline", b"return", b"signed", b"sizeof", b"static", b"struct",
-    b"switch",
+    b"struct", b"return", b"static", b"sizeof", b"extern", b"switch", b"double", b"signed",
+    b"inline",
 ];
 
-const SEVEN: [&[u8]; 5] = [b"default", b"typedef", b"_Atomic", b"__asm__", b"defined"];
+const SEVEN: [&[u8]; 5] = [b"defined", b"default", b"typedef", b"_Atomic", b"__asm__"];
 
 const EIGHT: [&[u8]; 9] = [
+    b"unsigned",
     b"continue",
+    b"volatile",
     b"register",
     b"restrict",
-    b"unsigned",
-    b"volatile",
     b"_Alignas",
     b"_Alignof",
     b"_Complex",
@@ -39,23 +41,30 @@ const EIGHT: [&[u8]; 9] = [
 ];
 
 const LONGER: [&[u8]; 7] = [
-    b"_Noreturn",
-    b"_Imaginary",
-    b"__declspec",
-    b"_Thread_local",
     b"__attribute__",
     b"__extension__",
+    b"__declspec",
+    b"_Noreturn",
+    b"_Imaginary",
+    b"_Thread_local",
     b"_Static_assert",
 ];
 
-/// Whether two words are the same. Most differ in their first byte.
-fn is_same(word: &[u8], other: &[u8]) -> bool
+/// Whether two words are the same, byte by byte: the words are short, and most differ in their
+/// lengths or first bytes.
+#[inline]
+pub(crate) fn is_same(word: &[u8], other: &[u8]) -> bool
     ensures { result ≡ bytes_eq word.now other.now }
 {
-    match (word, other) {
-        ([a, ..], [b, ..]) if *a != *b => false,
-        _ => word == other,
+    if word.len() != other.len() {
+        return false;
     }
+    for (i, byte) in word.iter().enumerate() {
+        if *byte != other[i] {
+            return false;
+        }
+    }
+    true
 }
 
 fn is_among(words: &[&[u8]], word: &[u8]) -> bool

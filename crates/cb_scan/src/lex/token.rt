@@ -1,6 +1,5 @@
 //! Tokens: the pieces that the rules on definitions speak of, each with what it is for them.
 ghost use Rattle.std.specs.Prelude.{◌≡◌, ◌≤◌, ◌<◌, length};
-ghost use Rattle.std.specs.Str.{bytes_eq};
 ghost use Rattle.cb_scan.specs.lex.Tokens.{
   is_any_word,
   is_mark,
@@ -17,7 +16,7 @@ ghost use Rattle.cb_scan.specs.steps.Directives.{lined_token};
 ghost use Rattle.cb_scan.specs.steps.Words.{may_begin, may_mean};
 
 use crate::lex::lined::Lined;
-use crate::lex::name::is_reserved;
+use crate::lex::name::{is_reserved, is_same};
 use crate::lex::piece::{Class, Piece, Span};
 
 /// A `Name` piece: a name, two of which mean something as the own word of a directive; or a
@@ -53,12 +52,6 @@ pub(crate) struct Token {
     pub starts_line: bool,
     pub span: Span,
     pub line: u32,
-}
-
-fn is_same(word: &[u8], other: &[u8]) -> bool
-    ensures { result ≡ bytes_eq word.now other.now }
-{
-    word == other
 }
 
 fn name_kind(name: &[u8]) -> WordKind
@@ -129,11 +122,11 @@ fn word_of(word: &[u8]) -> WordKind
 }
 
 #[inline(always)]
-fn role_of(text: &[u8], piece: Piece) -> Role
-    requires start { piece.span.start < length text.now }
-    requires order { piece.span.start ≤ piece.span.end }
-    requires end { piece.span.end ≤ length text.now }
-    ensures { result ≡ role_of text.now piece }
+fn role_of(text: &[u8], piece: &Piece) -> Role
+    requires start { piece.now.span.start < length text.now }
+    requires order { piece.now.span.start ≤ piece.now.span.end }
+    requires end { piece.now.span.end ≤ length text.now }
+    ensures { result ≡ role_of text.now piece.now }
 {
     let start = piece.span.start as usize;
     if piece.class == Class::Name {
@@ -155,23 +148,26 @@ fn starts_line(text: &[u8], place: u32) -> bool
     place == 0 || text[place as usize - 1] == b'\n'
 }
 
-/// The token of a piece.
+/// The token of a piece. Spans are written number by number here: a copy of both at once would wait
+/// until each, which was written just before, has reached the cache.
 #[inline(always)]
-pub(crate) fn token_of(text: &[u8], lined: Lined) -> Token
-    requires { Within text.now lined }
-    ensures { result ≡ lined_token text.now lined }
+pub(crate) fn token_of(text: &[u8], lined: &Lined) -> Token
+    requires { Within text.now lined.now }
+    ensures { result ≡ lined_token text.now lined.now }
 {
     Token {
-        role: role_of(text, lined.piece),
+        role: role_of(text, &lined.piece),
         starts_line: starts_line(text, lined.piece.span.start),
-        span: lined.piece.span,
+        span: Span {
+            start: lined.piece.span.start,
+            end: lined.piece.span.end,
+        },
         line: lined.line,
     }
 }
 
 impl Token {
-    /// The same token, field by field. A copy of all its bytes at once would wait until each field,
-    /// which was written just before, has reached the cache.
+    /// The same token, number by number, for the reason that [`token_of`] has.
     #[inline(always)]
     pub(crate) fn copied(&self) -> Token
         ensures { result ≡ self.now }
@@ -179,7 +175,10 @@ impl Token {
         Token {
             role: self.role,
             starts_line: self.starts_line,
-            span: self.span,
+            span: Span {
+                start: self.span.start,
+                end: self.span.end,
+            },
             line: self.line,
         }
     }

@@ -57,8 +57,8 @@ loop-lined-init c =
       nested = omega (arith, bounds.len, ap length c.into_iter-lined-iterator.ensures.into_iter_gives);
     }
 
-pub loop-lined-preserved-in-Continue-branch-3 : goal.loop-lined-preserved-in-Continue-branch-3
-loop-lined-preserved-in-Continue-branch-3 c =
+pub loop-lined-preserved-in-Continue-branch-2 : goal.loop-lined-preserved-in-Continue-branch-2
+loop-lined-preserved-in-Continue-branch-2 c =
     let text = c.args.text.now in
     let so_far = c.loop-lined.invariant in
     let all_is = c.in-Some.ensures.steps in
