@@ -23,10 +23,10 @@ use std::marker::Model;
 
 /// The most entries of a block. Room that nothing is put into costs a page of memory a block, so
 /// blocks are large; what is behind an entry moves when it comes or goes, so they are not larger.
-pub(crate) const SIZE: usize = 1024;
+pub(crate) const SIZE: usize = 4096;
 
 /// So many entries stay in a full block that is split.
-pub(crate) const HALF: usize = 512;
+pub(crate) const HALF: usize = 2048;
 
 /// Up to `SIZE` entries, in room that is made once.
 #[derive(Drop)]

@@ -30,7 +30,7 @@ use std::alloc::Global;
 use std::marker::Model;
 
 /// So many entries come into a block where all are put anew. Some room is left for more.
-const FILL: usize = 768;
+const FILL: usize = 3072;
 
 /// Blocks with entries, none of them empty, and blocks to spare. Only `reserve` takes memory.
 #[derive(Drop)]
