@@ -37,6 +37,7 @@ use cb_tags::Sink;
 pub(crate) use finish::refuse;
 use std::alloc::Global;
 use std::io::{BufRead, Write};
+use std::mem::forget;
 use std::rt::Files;
 
 /// The limits of the program's runs.
@@ -102,25 +103,30 @@ fn write_rows<W: Write>(field: Field, pattern: &[u8], desk: &mut Desk, out: &mut
     }
 }
 
-/// Answers a question of a session, and ends the session.
+/// Answers a question of a session, and leaves its memory to the end of the process.
 fn find_in<W: Write>(session: Session, field: Field, pattern: &[u8], out: &mut Sink<W>) -> Ended
     requires { pattern.now ≢ [] }
     ensures { WritesText (flat_map row_line (answer session.present field pattern.now))
         out.old out.new result }
 {
     let mut desk = session.into_desk();
-    write_rows(field, pattern, &mut desk, out)
+    let ended = write_rows(field, pattern, &mut desk, out);
+    forget(desk);
+    ended
 }
 
-/// Writes the tags of a session, and ends the session.
+/// Writes the tags of a session, and leaves its memory to the end of the process.
 fn tags_of<W: Write>(session: Session, listing: bool, format: Format, out: &mut Sink<W>) -> Ended
     ensures { WritesText (tags_output listing format session.present) out.old out.new result }
 {
     let mut desk = session.into_desk();
-    write_tags(listing, format, &mut desk, out)
+    let ended = write_tags(listing, format, &mut desk, out);
+    forget(desk);
+    ended
 }
 
-/// Does a job over input and output, from a session in which its files are loaded.
+/// Does a job over input and output, from a session in which its files are loaded. A job is the
+/// last that a process does, so the memory of the session is not given back.
 pub fn run_job<R: BufRead, W: Write>(
     alloc: Global,
     job: &Job,
@@ -134,7 +140,11 @@ pub fn run_job<R: BufRead, W: Write>(
         out.old out.new result }
 {
     match job {
-        Job::Line { .. } => session.serve(alloc, limits, feed, out),
+        Job::Line { .. } => {
+            let ended = session.serve(alloc, limits, feed, out);
+            forget(session);
+            ended
+        }
         Job::Find { field, pattern, .. } => find_in(session, *field, pattern.as_bytes(), out),
         Job::Tags {
             listing,

@@ -9,4 +9,4 @@ use Rattle.cbrowse.proofs.execute.find_in.Goals as goal
 pub returns : goal.returns
 returns g c =
     subst (λ (t : Timeline). WritesText (flat_map row_line (answer t.present c.args.field c.args.pattern.now))
-    c.args.out.now c.write_rows.new.out c.write_rows.result) c.into_desk-desk.ensures c.write_rows.ensures
+    c.args.out.now c.write_rows-ended.new.out c.write_rows-ended.result) c.into_desk-desk.ensures c.write_rows-ended.ensures
