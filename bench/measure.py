@@ -27,6 +27,18 @@ def keep_to_one_core():
     print("load average %.1f, %d cores" % (os.getloadavg()[0], os.cpu_count()))
 
 
+def use_another_core():
+    """On another core than the programs that were started so far, where there is one."""
+    if hasattr(os, "sched_setaffinity"):
+        taken = os.sched_getaffinity(0)
+        for core in set(range(os.cpu_count())) - taken:
+            try:
+                os.sched_setaffinity(0, {core})
+                return
+            except OSError:
+                pass  # not one that this process may use
+
+
 def processor_time(words, folder, stdin=b""):
     """The seconds that a program takes."""
     fed = folder / "stdin"

@@ -241,7 +241,7 @@ def main():
     found = others()
     if given.folder:
         texts = real_texts(given.folder)
-        programs = [cbrowse] + [str(pathlib.Path(given.before).resolve())] * bool(given.before)
+        programs = [cbrowse] + ([str(pathlib.Path(given.before).resolve())] if given.before else [])
         with tempfile.TemporaryDirectory() as place:
             size, speeds = real_row(programs, found.get("ctags"), pathlib.Path(place), texts)
         names = ["cbrowse"] + ["before"] * bool(given.before) + ["ctags"] * ("ctags" in found)

@@ -24,7 +24,8 @@ Questions     where a name is defined, for a thousand names; the median, and the
               `cscope -d -q -l` answers the same in the same way.
 Rows          the uses of the names that stand most often in the files: until the first bytes of the reply, which is a sum
               over the entries of the index, since the number of rows comes first, and as many rows as fill a buffer; and
-              until its last ones, by row. `cscope -d -q -l` answers the same.
+              until its last ones, by row. `cscope -d -q -l` answers the same. They are read on another core: on one core
+              the program goes on writing before the first bytes are seen.
 Tags          `:tags 2`.
 
 Other work on the machine makes the times longer: run it twice, and on an idle machine.
@@ -42,7 +43,7 @@ import tempfile
 import time
 
 from index import c_files
-from measure import installed, keep_to_one_core, words_given
+from measure import installed, keep_to_one_core, use_another_core, words_given
 
 MOST_FILES = 4096
 FEW = 10  # the small session has one file in so many
@@ -260,8 +261,11 @@ def rows(label, words, folder, names):
     """The uses of the first of these names that have any."""
     session = Session(words, folder)
     session.ask(b"0" + names[0])
+    before = os.sched_getaffinity(0)
+    use_another_core()
     seen = [it for it in (session.ask_for_rows(b"0" + name) for name in names) if it[0] > 0][:USED_NAMES]
     session.end()
+    os.sched_setaffinity(0, before)
     count, first, last = (sum(it[at] for it in seen) for at in range(3))
     put(f"{len(seen)} names used most, {label}", last * 1000,
         f"{count:,} rows: {first / count * 1e9:.0f} ns a row until the first bytes, {last / count * 1e9:.0f} in all")
