@@ -1,14 +1,16 @@
 -- Files with a text replaced on their marked lines, in the numbers of an archive and in a world.
 use Rattle.std.proofs.Common.{◌≡◌, ◌∙◌, ◌+◌, ◌==◌, refl, sym, ap, ℕ, suc, true, false, List, [], ◌∷◌, ◌++◌, length, map, filter, not, ◌||◌, cond, arith, Some}
+use Rattle.std.proofs.Common.{Bool, nat_lt, ◌≤◌}
 use Rattle.std.proofs.lemmas.Bool.{true≢false}
-use Rattle.std.specs.List.{flat_map, list_any}
+use Rattle.std.specs.List.{AllByRecursion, flat_map, list_any}
 use Rattle.bstr.specs.Text.{lines_of}
 use Rattle.cb_index.specs.Archived.{Archived}
 use Rattle.cb_index.specs.Files.{file_of, files_of}
 use Rattle.cb_index.specs.declared.entry.Shown.{Shown}
 use Rattle.cb_desk.specs.declared.spot.NumberedPlace.{NumberedPlace}
+use Rattle.cb_desk.specs.declared.limits.TheConstants.{MOST_BYTES}
 use Rattle.cb_desk.specs.Desk.{is_marked, new_texts}
-use Rattle.cb_desk.specs.Marks.{marked_lines, replaced_file, replaced_files}
+use Rattle.cb_desk.specs.Marks.{is_too_large, marked_lines, replaced_file, replaced_files}
 use Rattle.cb_desk.specs.Places.{is_in}
 use Rattle.cb_desk.specs.Replacement.{marked_from, replaced_if_marked, replaced_text}
 use Rattle.cb_desk.specs.World.{File, Place}
@@ -50,6 +52,9 @@ unmarked_file old new marks f none =
     ap (λ ns. record f { bytes = replaced_text old new ns f.bytes }) (none_in f.name marks none)
     ∙ ap (λ bs. record f { bytes = bs }) (unmarked_text old new f.bytes)
 
+not_large : (n : ℕ) → n ≤ MOST_BYTES → nat_lt MOST_BYTES n ≡ false
+not_large n small = grind (arith, small)
+
 -- ---- in numbers
 module _ (a : Archived) (marks : List NumberedPlace) (old new : List ℕ) where
   pub then_replaced : (ss : List Shown) → files_then a marks old new ss ≡ map (replaced_file old new (places_in a marks)) (files_of a ss)
@@ -68,6 +73,29 @@ module _ (a : Archived) (marks : List NumberedPlace) (old new : List ℕ) where
 
   pub unmarked_then : (s : Shown) → has_mark a marks s ≡ false → file_then a marks old new s ≡ file_of a s
   unmarked_then s hasnt = unmarked_file old new (places_in a marks) (file_of a s) hasnt
+
+  -- a file without a mark is not too large then, since it is not now
+  abbrev is_large : Shown → Bool
+  is_large s = is_too_large (file_then a marks old new s)
+
+  abbrev has_large : List Shown → Bool
+  has_large ss = list_any is_too_large (map (replaced_file old new (places_in a marks)) (files_of a ss))
+
+  pub large_changed : (ss : List Shown) → AllByRecursion (λ (f : File). length f.bytes ≤ MOST_BYTES) (files_of a ss)
+      → list_any is_too_large (files_changed a marks old new ss) ≡ has_large ss
+  large_changed [] small = refl
+  large_changed (s ∷ ss) small = by_test (has_mark a marks s) refl (large_changed ss small.1)
+    where
+      by_test : (has : Bool) → has_mark a marks s ≡ has
+          → list_any is_too_large (files_changed a marks old new ss) ≡ has_large ss
+          → list_any is_too_large
+          (map (file_then a marks old new) (cond has (s ∷ filter (has_mark a marks) ss) (filter (has_mark a marks) ss)))
+          ≡ is_large s || has_large ss
+      by_test true e rest = ap (λ b. is_large s || b) rest
+      by_test false e rest =
+          let still : is_large s ≡ false =
+          ap is_too_large (unmarked_then s e) ∙ not_large (length (file_of a s).bytes) small.0 in
+          rest ∙ ap (λ b. b || has_large ss) (sym still)
 
 -- the files of a world in numbers
 pub world_replaced : (a : Archived) (w : Numbered) (old new : List ℕ)

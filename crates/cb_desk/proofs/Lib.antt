@@ -14,10 +14,10 @@ pub mod Fresh
 pub mod Gaps
 pub mod HeldRows
 pub mod LineTexts
-pub mod LinesThen
 pub mod LoadingLemmas
 pub mod LookBackLemmas
 pub mod MarkPlans
+pub mod MarkedFiles
 pub mod MarkedLines
 pub mod MarksFound
 pub mod MarksValid
@@ -36,6 +36,7 @@ pub mod RowsFew
 pub mod ShownFiles
 pub mod ShownMoves
 pub mod ShownRenewed
+pub mod StayingPlaces
 pub mod StepsValid
 pub mod TagOrder
 pub mod TagPlans

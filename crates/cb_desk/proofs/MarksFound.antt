@@ -32,7 +32,7 @@ then_not_after Greater p e k = cc
 not_after : (p q : Place) → slice_cmp nat_cmp (place_key p) (place_key q) ≡ Less → NotAfter p.file q.file
 not_after p q less = then_not_after _ (nat_cmp p.line q.line) (sym (cmp-places p.file q.file p.line q.line) ∙ less)
 
-less_apart : (a b : List ℕ) → slice_cmp nat_cmp a b ≡ Less → bytes_eq b a ≡ false
+pub less_apart : (a b : List ℕ) → slice_cmp nat_cmp a b ≡ Less → bytes_eq b a ≡ false
 less_apart a b less =
     (elim (bytes_eq b a) as (λ e. bytes_eq b a ≡ e → e ≡ false) [
       | true ↦ λ h. let same : slice_cmp nat_cmp a a ≡ Less = subst (λ n. slice_cmp nat_cmp a n ≡ Less) (same-name b a h) less in let equal = name-equal a in cc
@@ -40,7 +40,7 @@ less_apart a b less =
     ]) refl
 
 -- a name that does not come before another and is not that name comes after it
-strictly : (a b : List ℕ) → NotAfter a b → bytes_eq b a ≡ false → slice_cmp nat_cmp a b ≡ Less
+pub strictly : (a b : List ℕ) → NotAfter a b → bytes_eq b a ≡ false → slice_cmp nat_cmp a b ≡ Less
 strictly a b low other = by_cases (slice_cmp nat_cmp a b) refl
   where
     by_cases : (o : Ordering) → slice_cmp nat_cmp a b ≡ o → slice_cmp nat_cmp a b ≡ Less
@@ -71,7 +71,7 @@ lower_first x y z low less = by_cases (slice_cmp nat_cmp x y) refl
         subst (λ n. slice_cmp nat_cmp n z ≡ Less) (sym same) less
     by_cases Greater e = absurd (low e)
 
-no_lower : (x y : List ℕ) → is_lt (slice_cmp nat_cmp x y) ≡ false → NotAfter y x
+pub no_lower : (x y : List ℕ) → is_lt (slice_cmp nat_cmp x y) ≡ false → NotAfter y x
 no_lower x y isnt after = turned (slice_cmp nat_cmp x y) refl
   where
     turned : (o : Ordering) → slice_cmp nat_cmp x y ≡ o → ⊥
@@ -102,7 +102,7 @@ lines_strict name [] all up = tt
 lines_strict name (p ∷ mine) all up = (lines_later name p mine all.0 all.1 up.0, lines_strict name mine all.1 up.1)
 
 -- ---- lists
-all_from : {X : Type 0} (P : X → Type 0) (xs : List X) (i : ℕ) → AllWithin P xs i (length xs) → AllByRecursion P (drop i xs)
+pub all_from : {X : Type 0} (P : X → Type 0) (xs : List X) (i : ℕ) → AllWithin P xs i (length xs) → AllByRecursion P (drop i xs)
 all_from P [] zero all = tt
 all_from P [] (suc i) all = tt
 all_from P (x ∷ xs) zero all =
@@ -149,13 +149,13 @@ module _ (a : Archived) (name : List ℕ) where
       ap (λ b. cond b (place_in a m ∷ filter (is_in name) (places_in a ms)) (filter (is_in name) (places_in a ms))) here
       ∙ none_before ms i (λ k d low high. below (suc k) d (omega arith) (omega (arith, high))) (omega (arith, within))
 
-  ascend_after : (ms : List NumberedPlace) (i : ℕ) → AreAscending (places_in a ms) → AreAscending (places_in a (drop i ms))
+  pub ascend_after : (ms : List NumberedPlace) (i : ℕ) → AreAscending (places_in a ms) → AreAscending (places_in a (drop i ms))
   unfolding IsStrictlySortedBy
   ascend_after ms zero up = up
   ascend_after [] (suc i) up = up
   ascend_after (m ∷ ms) (suc i) up = ascend_after ms i up.1
 
-  all_out : (m : NumberedPlace) (ms : List NumberedPlace) → slice_cmp nat_cmp name (name_of a m.name) ≡ Less
+  pub all_out : (m : NumberedPlace) (ms : List NumberedPlace) → slice_cmp nat_cmp name (name_of a m.name) ≡ Less
       → AllByRecursion (Later (place_in a m)) (places_in a ms) → AllByRecursion (λ q. is_in name q ≡ false) (places_in a ms)
   all_out m [] above all = tt
   all_out m (n ∷ ms) above all = (
@@ -164,7 +164,7 @@ module _ (a : Archived) (name : List ℕ) where
     all_out m ms above all.1,
   )
 
-  one_more : (n : ℕ) → 1 + n ≡ suc n
+  pub one_more : (n : ℕ) → 1 + n ≡ suc n
   one_more n = omega arith
 
   -- those at the front that are in the file are all of them

@@ -40,6 +40,7 @@ ghost use Rattle.cb_desk.specs.steps.Texts.{bytes_if, bytes_if_other};
 mod changes;
 mod counts;
 pub(crate) mod files;
+mod marked_files;
 mod marks;
 mod moved;
 mod places;

@@ -1,6 +1,6 @@
 -- The replacement of a text on marked lines, in the numbers of an archive.
-use Rattle.std.specs.Prelude.{◌+◌, ℕ, Bool, List, [], ◌∷◌, filter, length, map}
-use Rattle.cb_scan.specs.Lines.{lines}
+use Rattle.std.specs.Prelude.{◌≡◌, ◌+◌, ℕ, Bool, true, false, List, [], ◌∷◌, filter, map}
+use Rattle.std.specs.Prelude.{if◌then◌else◌}
 use Rattle.cb_index.specs.Archived.{Archived}
 use Rattle.cb_index.specs.Files.{file_of}
 use Rattle.cb_index.specs.declared.entry.Shown.{Shown}
@@ -9,7 +9,7 @@ use Rattle.cb_desk.specs.declared.spot.NumberedPlace.{NumberedPlace}
 use Rattle.cb_desk.specs.Desk.{is_marked}
 use Rattle.cb_desk.specs.Marks.{replaced_file}
 use Rattle.cb_desk.specs.Places.{is_place_of}
-use Rattle.cb_desk.specs.World.{File, Place}
+use Rattle.cb_desk.specs.World.{File, Place, has_file, is_named}
 use Rattle.cb_desk.specs.steps.Records.{place_in}
 
 -- the places of marks
@@ -19,6 +19,15 @@ places_in a marks = map (place_in a) marks
 -- a file that is shown has a mark
 abbrev pub has_mark : Archived → List NumberedPlace → Shown → Bool
 has_mark a marks s = is_marked (places_in a marks) (file_of a s)
+
+-- files begin with one of that name, and go on with others
+abbrev pub IsFirst : Archived → List ℕ → Shown → (more files : List Shown) → Type 0
+IsFirst a name s more files = (files ≡ s ∷ more) × (is_named name (file_of a s) ≡ true)
+
+-- the first of some files, if there is one, has another name
+abbrev pub IsNotFirst : Archived → List ℕ → List Shown → Type 0
+IsNotFirst a name [] = Unit {0}
+IsNotFirst a name (s ∷ more) = is_named name (file_of a s) ≡ false
 
 -- a file that is shown, with the old text replaced on its marked lines
 abbrev pub file_then : Archived → List NumberedPlace → (old new : List ℕ) → Shown → File
@@ -38,10 +47,6 @@ files_changed a marks old new shown =
 abbrev pub texts_of : List File → List (List ℕ)
 texts_of files = map (λ (f : File). f.bytes) files
 
--- how many lines files have
-abbrev pub line_counts : List File → List ℕ
-line_counts files = map (λ (f : File). length (lines f.bytes)) files
-
 -- files get new versions, with numbers from one on
 abbrev pub renewals : ℕ → List Shown → List Renewal
 renewals first [] = []
@@ -54,6 +59,14 @@ old_of r = record { name = r.name; version = r.old }
 
 abbrev pub new_of : Renewal → Shown
 new_of r = record { name = r.name; version = r.new }
+
+-- a place that is a line stays one where these files change
+abbrev pub stays_in : List File → Place → Bool
+stays_in changed p = if has_file changed p.file then is_place_of changed p else true
+
+-- the places that do
+abbrev pub staying : Archived → List File → List NumberedPlace → List NumberedPlace
+staying a changed places = filter (λ p. stays_in changed (place_in a p)) places
 
 -- the places of lines that are there
 abbrev pub remaining : Archived → List File → List NumberedPlace → List NumberedPlace

@@ -1,6 +1,6 @@
 //! The replacement of the wanted text on the marked lines.
-ghost use Rattle.std.specs.Prelude.{◌≡◌, ◌≤◌, true, filter, length, None, Some, IfOk};
-ghost use Rattle.cb_scan.specs.Bytes.{line_feed};
+ghost use Rattle.std.specs.Prelude.{◌≡◌, true, filter, None, Some, IfOk};
+ghost use Rattle.cb_index.specs.Files.{AreAscending};
 ghost use Rattle.cb_desk.specs.Desk.{CountsUpTo, bytes_in, new_texts};
 ghost use Rattle.cb_desk.specs.Marks.{
   replace_refusal,
@@ -78,6 +78,8 @@ impl Present {
         made: Vec<Version>,
     ) -> Result<Plan, AllocError>
         requires kept { IsKept self.now.rooms self.now.archive self.now.now }
+        requires valid { IsValidWorld (world_in self.now.archive self.now.now) }
+        requires ascending { AreAscending self.now.archive self.now.now.shown }
         requires archive { replacing.archive.now ≡ self.now.archive }
         requires marks { replacing.marks.now ≡ self.now.now.marks }
         requires marked { marked.now
@@ -89,10 +91,9 @@ impl Present {
             (replaced_files replacing.entry.old.now replacing.entry.new.now
             (world_in self.now.archive self.now.now)))) }
     {
-        let shown = self.shelf.shown();
         let renewals = sorted_renewals(alloc, marked, self.versions)?;
         let places = self.frames.as_slice();
-        let frames = replacing.edits_remaining(alloc, shown, made.as_slice(), places)?;
+        let frames = replacing.edits_staying(alloc, marked, made.as_slice(), places)?;
         let marks = difference(alloc, None, self.marks.as_slice(), &[])?;
         let versions = sum(self.versions, made.len()).ok_or(AllocError)?;
         Ok(Plan {

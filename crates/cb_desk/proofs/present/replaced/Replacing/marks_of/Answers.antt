@@ -1,28 +1,23 @@
-use Rattle.std.proofs.Common.{rules, ◌≡◌, ◌∙◌, ap, sym, subst, refl, List, [], ◌∷◌, ℕ, false, ◌||◌, nat_cmp}
-use Rattle.std.specs.List.{list_any}
+use Rattle.std.proofs.Common.{◌≡◌, ◌∙◌, ap, sym, List, map, take, subst, nat_cmp}
+use Rattle.std.specs.List.{prefix_len}
 use Rattle.std.specs.List.Sorted.{IsStrictlySortedBy}
-use Rattle.cb_index.specs.Archived.{Archived}
 use Rattle.cb_desk.specs.declared.spot.NumberedPlace.{NumberedPlace}
-use Rattle.cb_desk.specs.Places.{is_in}
-use Rattle.cb_desk.specs.steps.Records.{place_in}
 use Rattle.cb_desk.specs.steps.Replaced.{places_in}
-use Rattle.cb_desk.proofs.FilesReplaced.{none_in}
-use Rattle.cb_desk.proofs.MarksFound.{lines_rise}
+use Rattle.cb_desk.proofs.MarksFound.{is_here, lines_found, lines_rise}
 use Rattle.cb_desk.proofs.present.replaced.Replacing.marks_of.Goals as goal
 
-placed : (a : Archived) (name : List ℕ) (marks : List NumberedPlace) → list_any (λ m. is_in name (place_in a m)) marks ≡ list_any (is_in name) (places_in a marks)
-placed a name [] = refl
-placed a name (m ∷ marks) = ap (λ b. is_in name (place_in a m) || b) (placed a name marks)
-
-pub returns-then-not-has_any-clause-lines : goal.returns-then-not-has_any-clause-lines
-returns-then-not-has_any-clause-lines c =
+pub returns-clause-lines : goal.returns-clause-lines
+returns-clause-lines c =
     let a = c.args.self.archive.now in
     let name = c.args.name.now in
-    let marks = c.args.self.marks.now in
-    let none : list_any (λ m. is_in name (place_in a m)) marks ≡ false = search rules in
-    sym (none_in name (places_in a marks) (sym (placed a name marks) ∙ none))
+    let rest = c.split_at.result.1.now in
+    let mine : c.split_at-2.result.0.now ≡ take (prefix_len (is_here a name) rest) rest =
+    c.split_at-2.ensures.front ∙ ap (λ n. take n rest) c.count_in-count.ensures.value in
+    let parted = c.start_of-start.ensures.parted in
+    ap (map (λ (m : NumberedPlace). m.line)) (mine ∙ ap (λ (l : List NumberedPlace). take (prefix_len (is_here a name) l) l) c.split_at.ensures.back)
+    ∙ lines_found a name c.args.self.marks.now c.args.self.ascending c.start_of-start.result c.start_of-start.ensures.within parted.0 parted.1
 
-pub returns-then-not-has_any-clause-ascending : goal.returns-then-not-has_any-clause-ascending
-returns-then-not-has_any-clause-ascending c =
-    subst (IsStrictlySortedBy nat_cmp) (sym (returns-then-not-has_any-clause-lines c))
+pub returns-clause-ascending : goal.returns-clause-ascending
+returns-clause-ascending c =
+    subst (IsStrictlySortedBy nat_cmp) (sym (returns-clause-lines c))
     (lines_rise c.args.self.archive.now c.args.name.now (places_in c.args.self.archive.now c.args.self.marks.now) c.args.self.ascending)

@@ -3,7 +3,7 @@ use Rattle.std.proofs.lemmas.List.Sorted.{IsPartitionPoint-from_clause}
 use Rattle.cb_index.specs.Files.{file_of}
 use Rattle.cb_desk.proofs.NamedFile.{below, parted}
 use Rattle.cb_desk.proofs.ShownFiles.{files-ascend}
-use Rattle.cb_desk.proofs.present.remaining.index_for.Goals as goal
+use Rattle.cb_desk.proofs.present.marked_files.index_for.Goals as goal
 
 pub returns-clause-parted : goal.returns-clause-parted
 returns-clause-parted c =

@@ -1,8 +1,0 @@
-use Rattle.std.proofs.Common.{◌≡◌, take}
-use Rattle.cb_desk.specs.steps.Replaced.{files_then, remaining}
-use Rattle.cb_desk.proofs.present.replaced.Replacing.remaining.Given as goal
-
-abbrev pub invariant-loop-place : goal.invariant-loop-place
-invariant-loop-place l =
-    l.kept.items ≡ remaining l.self.archive.now
-    (files_then l.self.archive.now l.self.marks.now l.self.old.now l.self.new.now l.shown) (take l.place-index l.places)
