@@ -11,7 +11,8 @@ system) of a whole run on one core where the system lets a process choose one, t
 soon as it is ready, by the end of its input. "part" is the time of cbrowse as a part of that of the program beside it.
 
 Ready     `cbrowse line FILES`, beside `cscope -b` and `cscope -b -q`, which write the index that a session of cscope opens.
-Tags      `cbrowse tags`, plain and extended, beside `ctags` (universal and exuberant) with the same kinds of tags.
+Tags      `cbrowse tags`, plain and extended, beside `ctags` (universal and exuberant): with the kinds of tags that it
+          takes by itself, which are more, and with those that cbrowse finds and no others.
 Question  `cbrowse find 1 NAME FILES`, the whole process, beside `cscope -b` and one query.
 One more  `:load` of one more file, of the size nearest to 17 kB, in a session that has all others; by the clock.
 Memory    the most that a session has resident, and per byte of source.
@@ -31,7 +32,7 @@ from session import MOST_FILES, Session
 
 RUNS = 5
 ONE_MORE = 17_000
-KINDS = {"universal": "--kinds-C=dfgstue", "exuberant": "--c-kinds=dfgstue"}
+SAME_KINDS = {"universal": "--kinds-C=dfgstu", "exuberant": "--c-kinds=dfgstu"}
 
 
 def best(words, folder, stdin=b""):
@@ -60,12 +61,13 @@ def tags(cbrowse, names, folder, out):
     (folder / "ctags.list").write_text("\n".join(names) + "\n")
     for form in "1", "2":
         beside = []
-        for kind in KINDS:
-            program = shutil.which(f"ctags-{kind}")
+        for maker, same_kinds in SAME_KINDS.items():
+            program = shutil.which(f"ctags-{maker}")
             if program:
-                words = [program, "--options=NONE", "--languages=C", "--langmap=C:.c.h", KINDS[kind], f"--format={form}"]
+                words = [program, "--options=NONE", "--languages=C", "--langmap=C:.c.h", f"--format={form}"]
                 words += ["-L", "ctags.list", "-f", str(out / "other.tags")]
-                beside.append((kind, best(words, folder)))
+                beside.append((maker, best(words, folder)))
+                beside.append((f"{maker}, same kinds", best(words + [same_kinds], folder)))
         words = [cbrowse, "tags", "-f", str(out / "own.tags"), "--format", form, "--"] + names
         put("plain tags" if form == "1" else "extended tags", best(words, folder), beside)
 
