@@ -7,8 +7,9 @@ A person runs this by hand; no gate does, and nothing here passes or fails by it
     bench/ready.py --cbrowse PATH FOLDER      or: CBROWSE=PATH bench/ready.py FOLDER
 
 The files are the C sources of the folder that are at most 1 MB, at most 4,096 of them. Times are processor time (user and
-system) of a whole run on one core where the system lets a process choose one, the least of five; a session is ended as
-soon as it is ready, by the end of its input. "part" is the time of cbrowse as a part of that of the program beside it.
+system) of a whole run on one core where the system lets a process choose one, the least of five, in turn with the programs
+beside it; a session is ended as soon as it is ready, by the end of its input. "part" is the time of cbrowse as a part of
+that of the program beside it.
 
 Ready     `cbrowse line FILES`, beside `cscope -b` and `cscope -b -q`, which write the index that a session of cscope opens.
 Tags      `cbrowse tags`, plain and extended, beside `ctags` (universal and exuberant): with the kinds of tags that it
@@ -35,9 +36,10 @@ ONE_MORE = 17_000
 SAME_KINDS = {"universal": "--kinds-C=dfgstu", "exuberant": "--c-kinds=dfgstu"}
 
 
-def best(words, folder, stdin=b""):
-    """The seconds of the best run, and of nothing else."""
-    return min(processor_time(words, folder, stdin) for _ in range(RUNS))
+def best_of_each(commands, folder):
+    """The seconds of the best run of each command. They run in turn, so that what slows the machine slows all of them."""
+    rounds = [[processor_time(words, folder) for words in commands] for _ in range(RUNS)]
+    return [min(seconds) for seconds in zip(*rounds)]
 
 
 def put(label, seconds, beside=()):
@@ -48,28 +50,31 @@ def put(label, seconds, beside=()):
 
 def ready(cbrowse, names, folder, out):
     """A session until its first prompt, beside cscope."""
-    beside = []
+    commands, others = [[cbrowse, "line", "--"] + names], []
     if installed("cscope", "-V", "version"):
         (folder / "cscope.list").write_text("\n".join(names) + "\n")
         cscope = ["cscope", "-b", "-u", "-i", "cscope.list", "-f", str(out / "cscope.out")]
-        beside = [("cscope -b", best(cscope, folder)), ("cscope -b -q", best(cscope + ["-q"], folder))]
-    put("ready", best([cbrowse, "line", "--"] + names, folder), beside)
+        commands += [cscope, cscope + ["-q"]]
+        others = ["cscope -b", "cscope -b -q"]
+    seconds, *beside = best_of_each(commands, folder)
+    put("ready", seconds, zip(others, beside))
 
 
 def tags(cbrowse, names, folder, out):
     """Tags files, beside each ctags that is there."""
     (folder / "ctags.list").write_text("\n".join(names) + "\n")
     for form in "1", "2":
-        beside = []
+        commands = [[cbrowse, "tags", "-f", str(out / "own.tags"), "--format", form, "--"] + names]
+        others = []
         for maker, same_kinds in SAME_KINDS.items():
             program = shutil.which(f"ctags-{maker}")
             if program:
                 words = [program, "--options=NONE", "--languages=C", "--langmap=C:.c.h", f"--format={form}"]
                 words += ["-L", "ctags.list", "-f", str(out / "other.tags")]
-                beside.append((maker, best(words, folder)))
-                beside.append((f"{maker}, same kinds", best(words + [same_kinds], folder)))
-        words = [cbrowse, "tags", "-f", str(out / "own.tags"), "--format", form, "--"] + names
-        put("plain tags" if form == "1" else "extended tags", best(words, folder), beside)
+                commands += [words, words + [same_kinds]]
+                others += [maker, f"{maker}, same kinds"]
+        seconds, *beside = best_of_each(commands, folder)
+        put("plain tags" if form == "1" else "extended tags", seconds, zip(others, beside))
 
 
 def question(cbrowse, names, folder, out):
@@ -77,12 +82,13 @@ def question(cbrowse, names, folder, out):
     with open(out / "own.tags", "rb") as it:
         lines = [line for line in it if not line.startswith(b"!")]
     name = lines[len(lines) // 2].split(b"\t")[0].decode()
-    beside = []
+    commands = [[cbrowse, "find", "1", name, "--"] + names]
     if shutil.which("cscope"):
         build = ["cscope", "-b", "-u", "-i", "cscope.list", "-f", str(out / "again.out")]
         ask = ["cscope", "-d", "-L", "-1", name, "-f", str(out / "again.out")]
-        beside = [("cscope -b and a query", best(build, folder) + best(ask, folder))]
-    put(f"find 1 {name}", best([cbrowse, "find", "1", name, "--"] + names, folder), beside)
+        commands += [build, ask]
+    seconds, *beside = best_of_each(commands, folder)
+    put(f"find 1 {name}", seconds, [("cscope -b and a query", sum(beside))] if beside else [])
 
 
 def one_more(cbrowse, sizes, folder):
