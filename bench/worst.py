@@ -7,12 +7,12 @@ A person runs this by hand; no gate does, and nothing here passes or fails by it
     bench/worst.py --cbrowse PATH      or: CBROWSE=PATH bench/worst.py
 
 Each text is one file of a million bytes, the most that a file may have: one shape again and again,
-most of them on a single line. Two rows more are a line of 100,000 uses of one name, and 4,096 files
-that all define one name. A session takes the files as operands, scans them again (`r`), and is
-asked for uses, definitions, callees and callers of the names in them. Shown are the processor time
-(user and system) of the whole session on one core, the least of several, and the most memory that
-it had resident; "times" is the time as a multiple of that of ordinary code in as many bytes and
-files.
+most of them on a single line. Further rows have single lines on which equal rows are far apart or
+very many, and 4,096 files that all define one name. A session takes the files as operands, scans
+them again (`r`), and is asked each of the seven fields about the names in them. Shown are the
+processor time (user and system) of the whole session on one core, the least of several, and the
+most memory that it had resident; "times" is the time as a multiple of that of ordinary code in as
+many bytes and files.
 
 No tags are asked for: each tag shows its whole line, so that n definitions on one line have n times
 its length of them.
@@ -28,11 +28,33 @@ from session import MOST_FILES, Session
 
 RUNS = 3
 MOST_BYTES = 1_000_000
-QUESTIONS = [b"r\n"] + [b"%d%s\n" % (field, name) for name in (b"a", b"f") for field in range(4)]
+QUESTIONS = [b"r\n"] + [b"%s%s\n" % (field, name) for name in (b"a", b"f", b"none") for field in (b"0", b"1", b"2", b"3")]
+QUESTIONS += [b"4none\n", b"7none\n", b"8none\n"]
 SHAPES = [
     b"{", b"}", b"\n", b'"', b"\\", b"(", b"a(", b"#define a(", b"typedef a;", b"f(){}", b"/*",
     b"//\\\n", b"0.e+",
 ]
+
+
+def numbered(form, size=MOST_BYTES):
+    """A form with a number in it, for 1, 2, 3 and so on, up to a size."""
+    text, number = bytearray(), 1
+    while len(text) < size:
+        text += form.replace(b"#", b"%d" % number)
+        number += 1
+    return bytes(text)
+
+
+# single lines on which rows are equal and far apart, or many and all different
+LINES = {
+    "a, then f that uses a, on a line": b"a " * 250_000 + b"f(){" + b"a;" * 240_000 + b"}\n",
+    "many callees of f on a line": b"f(){" + numbered(b"a#();", 990_000) + b"}\n",
+    "many functions that use a on a line": numbered(b"f#(){a;}", 990_000) + b"\n",
+    "many functions that call a on a line": numbered(b"f#(){a();}", 990_000) + b"\n",
+    "two long functions, a in both": b"".join(b"f%s(){%s}" % (b"x" * 240_000, b"a;" * 120_000) for _ in range(2)) + b"\n",
+    "calls in calls": b"f(){" + b"a(" * 490_000 + b"\n",
+    "many names of a typedef": b"typedef " + b"a," * 490_000 + b"a;\n",
+}
 
 
 def again(shape, size=MOST_BYTES):
@@ -82,6 +104,8 @@ def main():
         put("ordinary code", ordinary)
         for shape in SHAPES:
             put(shape.decode().replace("\n", " LF"), measured([again(shape)]), ordinary)
+        for label, line in LINES.items():
+            put(label, measured([line]), ordinary)
         line = b"int a;\nvoid f(void) {" + again(b" a;", 300_000) + b"}\n"
         put("100,000 uses of a name on a line", measured([line]),
             measured([lines(code(), len(line))]))
