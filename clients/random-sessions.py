@@ -8,8 +8,8 @@ A person runs this by hand; no gate does.
     clients/random-sessions.py --first 4711 --sessions 1 --searches 0      one session again, by its seed
     clients/random-sessions.py --without 0 --without r --without find      an older program
 
-First come the worked sessions and runs of `worked_sessions.py`, in which the model and the program have to agree with what
-is worked out by hand, then sessions that reach the limits, then random ones: session number n has the seed n. Each has
+First come the worked sessions of crates/worked_cases and the runs of `worked_runs.py`, in which the model and the program
+have to agree with what is worked out by hand, then sessions that reach the limits, then random ones: session number n has the seed n. Each has
 files of the command line or none, and 5 to 40 inputs or short runs of inputs: all that there are, and wrong ones. Its texts
 have comments, literals, joins, directives, old and new functions, CR LF, no last LF, CRs and blanks within, bytes that are
 no text; some are a mere heap of tokens. Its patterns are parts of these texts, also across the end of a shown line, and
@@ -32,12 +32,16 @@ import os
 import pathlib
 import re
 import subprocess
+import sys
 import tempfile
 
 from draw import NAMES, Draw
 from session_model import FIELDS, MOST_BYTES, MOST_CHANGES, MOST_FILES, Outcome, Session, World, find
 from text_model import cut_lines
-from worked_sessions import FOLDER, PROGRAM, WORKED
+from worked_runs import FOLDER, PROGRAM
+
+sys.path.insert(0, str(pathlib.Path(__file__).resolve().parent.parent / "scripts"))
+from cases import PROMPT, all_cases  # noqa: E402
 
 BATCH = 100  # sessions between two looks at the outcome
 PATIENCE = 120  # seconds until a run is given up
@@ -205,8 +209,10 @@ def batch_of_searches(cbrowse, _, first, number):
 
 
 def check_worked(cbrowse, missing):
-    for what, (files, data, output) in WORKED.items():
-        operands = list(files.items())
+    worked = [case for case in all_cases() if not case.end]
+    for what, operands, exchanges, _ in worked:
+        data = b"".join(exchange.command for exchange in exchanges)
+        output = b"".join(PROMPT + exchange.reply for exchange in exchanges) + PROMPT
         model = modelled(operands, data)
         if bytes(model.out) != output:
             raise Difference(f"the model differs from the worked session '{what}': {bytes(model.out)!r}, not {output!r}")
@@ -216,7 +222,7 @@ def check_worked(cbrowse, missing):
         if words[0] == b"find" and find(words[1:], FOLDER) != expected:
             raise Difference(f"the model differs from the worked run {words!r}: {find(words[1:], FOLDER)!r}")
         compare_run(cbrowse, "the worked run", words, FOLDER, b"", expected)
-    print(f"{len(WORKED)} worked sessions and {len(runs)} worked runs: no difference")
+    print(f"{len(worked)} worked sessions and {len(runs)} worked runs: no difference")
 
 
 def check_limits(cbrowse, missing):

@@ -61,6 +61,3 @@ pub use shelf::Shelf;
 pub use sorted::Sorted;
 pub use tags::TagRows;
 pub use totals::{Totals, totals_of};
-
-#[cfg(test)]
-mod tests;

@@ -24,6 +24,3 @@ pub use meter::Meter;
 pub use prefix::key_prefix;
 pub use scanner::scan;
 pub use source::{ScanError, Source};
-
-#[cfg(test)]
-mod tests;

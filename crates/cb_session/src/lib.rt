@@ -29,6 +29,3 @@ pub use operands::{Operand, Operands, prepare, run};
 pub use reply::{put_answer, put_row};
 pub use state::Session;
 pub use tags::{put_listing_file, put_tags_file};
-
-#[cfg(test)]
-mod tests;

@@ -22,6 +22,3 @@ pub use row::{TagRow, put_extended, put_heads, put_listing, put_plain};
 pub use sink::{Sink, WriteFault};
 pub use tag_name::{compare_tag_key, compare_tag_names};
 pub use text::{put_text, put_texts};
-
-#[cfg(test)]
-mod tests;

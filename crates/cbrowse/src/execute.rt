@@ -23,8 +23,6 @@ ghost use Rattle.cb_session.specs.Writing.{Puts};
 
 mod files;
 mod finish;
-#[cfg(test)]
-mod tests;
 
 use crate::execute::files::{make_file, read_operands};
 use crate::execute::finish::{Finish, conclude, files_of};

@@ -6,8 +6,6 @@ ghost use Rattle.cbrowse.specs.Usages.{IsUsageOf, TellsKind};
 
 mod command;
 mod matched;
-#[cfg(test)]
-mod tests;
 
 use cb_desk::{Field, Format};
 use clap::Error;

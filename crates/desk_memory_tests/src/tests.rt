@@ -1,3 +1,0 @@
-mod marks;
-mod memory;
-mod refused;

@@ -1,2 +1,0 @@
-mod TextNamed
-mod TwoLoads

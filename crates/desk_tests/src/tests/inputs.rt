@@ -1,0 +1,118 @@
+//! Input by bytes, pieces and commands, and single rows of output.
+use cb_desk::{Change, RefRow};
+use cb_session::{Command, Fault, Feed, Input, Intake, Limits, ReadFault, Session, put_row};
+use cb_tags::Sink;
+use std::alloc::Global;
+use std::process::Abort;
+use std::test::Fail;
+
+/// Limits that no short run reaches.
+pub(super) const WIDE: Limits = Limits {
+    line: 1_000_000,
+    lines: 1_000,
+};
+
+/// Three lines of 5,000 bytes.
+const NARROW: Limits = Limits {
+    line: 5_000,
+    lines: 3,
+};
+
+/// The first byte that a run over an input leaves unread.
+fn unread(alloc: Global, limits: &Limits, input: &[u8]) -> Option<u8> {
+    let mut session = Session::new(alloc);
+    let mut feed = Feed::new(input);
+    let mut written = Vec::new(alloc);
+    let mut sink = Sink::new(&mut written);
+    let _ended = session.serve(alloc, limits, &mut feed, &mut sink);
+    match feed.byte() {
+        Ok(byte) => byte,
+        Err(_) => None,
+    }
+}
+
+#[test]
+fn serve_leaves_what_comes_after_its_end(rt: HostRuntime) {
+    assert_eq!(rt; unread(rt.alloc(), &WIDE, b"1f\nq\nz"), Some(b'z'));
+    assert_eq!(rt; unread(rt.alloc(), &WIDE, b":load a.c 3\n{}"), None);
+    assert_eq!(rt;
+        unread(rt.alloc(), &NARROW, b":undo\n1f\n1f\nz"),
+        Some(b'z')
+    );
+}
+
+#[test]
+fn put_row_parts_columns_by_single_spaces(rt: HostRuntime) {
+    let rows = [
+        RefRow {
+            file: b"f.c",
+            function: b"f",
+            line: 1,
+            text: b"int f(void) {",
+        },
+        RefRow {
+            file: b"z/g.h",
+            function: b"<unknown>",
+            line: 1_000_000,
+            text: b"",
+        },
+    ];
+    let mut written = Vec::new(rt.alloc());
+    let mut sink = Sink::new(&mut written);
+    for row in &rows {
+        assert!(rt; put_row(&mut sink, row).is_ok());
+    }
+    assert_eq!(rt;
+        written.as_slice(),
+        b"f.c f 1 int f(void) {\nz/g.h <unknown> 1000000 \n".as_slice()
+    );
+}
+
+/// Whether an intake reads a load with its block.
+fn reads_a_load(rt: &impl Abort, alloc: Global) -> Result<bool, Fault> {
+    let Ok(mut intake) = Intake::new(alloc) else {
+        return Err(Fault::Memory);
+    };
+    let mut feed = Feed::new(b":load f.c 16\nint f(void) {\n}\n1f\n".as_slice());
+    let is_load = match intake.read(alloc, &WIDE, &mut feed)? {
+        Input::Command(Command::Change(Change::Load(name, bytes))) => {
+            assert_eq!(rt; name, b"f.c".as_slice());
+            bytes.as_slice() == b"int f(void) {\n}\n".as_slice()
+        }
+        _ => false,
+    };
+    Ok(is_load && feed.byte() == Ok(Some(b'1')))
+}
+
+#[test]
+fn read_gives_a_load_with_its_block(rt: HostRuntime) {
+    assert!(rt; reads_a_load(&rt, rt.alloc()) == Ok(true));
+}
+
+/// A piece up to so many bytes in all comes, or does not; these bytes are kept then.
+fn keeps(
+    rt: &impl Abort,
+    feed: &mut Feed<&[u8]>,
+    count: usize,
+    kept: &mut Vec<u8>,
+    came: Result<bool, ReadFault>,
+    text: &[u8],
+) {
+    assert!(rt; kept.len() < count);
+    assert!(rt; count <= kept.capacity());
+    assert_eq!(rt; feed.piece(count, kept), came);
+    assert_eq!(rt; kept.as_slice(), text);
+}
+
+#[test]
+fn piece_gives_no_more_than_was_asked_for(rt: HostRuntime) -> Result<(), Fail> {
+    let mut feed = Feed::new(b"abcdef".as_slice());
+    let mut kept = Vec::with_capacity(rt.alloc(), 8)?;
+    kept.push(b'x')?;
+    keeps(&rt, &mut feed, 4, &mut kept, Ok(true), b"xabc");
+    assert_eq!(rt; feed.byte(), Ok(Some(b'd')));
+    keeps(&rt, &mut feed, 8, &mut kept, Ok(true), b"xabcef");
+    keeps(&rt, &mut feed, 8, &mut kept, Ok(false), b"xabcef");
+    assert_eq!(rt; feed.byte(), Ok(None));
+    Ok(())
+}

@@ -1,0 +1,3 @@
+mod kept;
+mod shelf;
+mod sorted;

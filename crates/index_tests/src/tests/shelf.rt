@@ -1,0 +1,155 @@
+//! What a shelf shows, on files whose facts are worked out by hand.
+use super::kept::{FIRST, OTHER, keep};
+use cb_index::{Asked, FactRows, Shelf, Shown, TagRows, Totals, are_rising};
+use std::alloc::Global;
+use std::process::Abort;
+use std::test::Fail;
+
+/// Shows a version where it can be shown.
+fn show(shelf: &mut Shelf, one: Shown) -> Result<(), Fail> {
+    if !shelf.can_show(one.name, one.version) {
+        return Err(Fail::from("cannot be shown"));
+    }
+    shelf.show(one.name, one.version);
+    Ok(())
+}
+
+/// The tags have these names.
+fn has_tags(rt: &impl Abort, rows: TagRows<'_>, names: &[&[u8]]) -> Result<(), Fail> {
+    let mut rows = rows;
+    for name in names {
+        match rows.next() {
+            Some(row) => assert_eq!(rt; row.name, *name),
+            None => return Err(Fail::from("too few tags")),
+        }
+    }
+    assert!(rt; rows.next().is_none());
+    Ok(())
+}
+
+/// The facts have these names and lines.
+fn has_facts(rt: &impl Abort, rows: FactRows<'_>, facts: &[(&[u8], u32)]) -> Result<(), Fail> {
+    let mut rows = rows;
+    for (name, line) in facts {
+        match rows.next() {
+            Some(row) => {
+                assert_eq!(rt; row.name, *name);
+                assert_eq!(rt; row.line, *line);
+            }
+            None => return Err(Fail::from("too few facts")),
+        }
+    }
+    assert!(rt; rows.next().is_none());
+    Ok(())
+}
+
+/// The definitions of both files, in each order.
+fn shows_definitions(rt: &impl Abort, shelf: &mut Shelf) -> Result<(), Fail> {
+    let tags: [&[u8]; 5] = [b"Mb", b"main", b"TWICE", b"add", b"word"];
+    shelf.settle(Asked::Tags);
+    has_tags(rt, shelf.tags(), &tags)?;
+    let names: [&[u8]; 5] = [b"Mb", b"TWICE", b"add", b"main", b"word"];
+    shelf.settle(Asked::Defs);
+    has_tags(rt, shelf.all_defs(), &names)?;
+    has_tags(rt, shelf.defs(b"add"), &[b"add".as_slice()])
+}
+
+/// The uses and calls of both files.
+fn shows_facts(rt: &impl Abort, shelf: &mut Shelf) -> Result<(), Fail> {
+    shelf.settle(Asked::Callees);
+    has_facts(
+        rt,
+        shelf.calling(b"add"),
+        &[(b"add".as_slice(), 2), (b"add", 8)],
+    )?;
+    shelf.settle(Asked::Callers);
+    has_facts(
+        rt,
+        shelf.called_by(b"main"),
+        &[(b"add".as_slice(), 8), (b"TWICE", 8)],
+    )?;
+    shelf.settle(Asked::Uses);
+    let uses = [(b"x".as_slice(), 2), (b"x", 2), (b"x", 2)];
+    has_facts(rt, shelf.uses(b"x"), &uses)
+}
+
+/// The files, by name.
+fn shows_files(rt: &impl Abort, shelf: &Shelf, names: &[&[u8]]) {
+    let mut entries = shelf.entries();
+    for name in names {
+        assert!(rt; matches!(entries.next(), Some((shown, _, _)) if shown == *name));
+    }
+    assert!(rt; entries.next().is_none());
+}
+
+/// Two files are shown, hidden one by one and together, and shown again.
+fn files_come_and_go(
+    rt: &impl Abort,
+    shelf: &mut Shelf,
+    first: Shown,
+    second: Shown,
+) -> Result<(), Fail> {
+    show(shelf, first)?;
+    show(shelf, second)?;
+    shows_definitions(rt, shelf)?;
+    shelf.hide(first.name);
+    shows_files(rt, shelf, &[b"m.c".as_slice()]);
+    assert!(rt;
+        shelf.totals()
+            == Totals {
+                defs: 1,
+                uses: 1,
+                calls: 0
+            }
+    );
+    show(shelf, first)?;
+    assert_eq!(rt; shelf.turns(), 4);
+    Ok(())
+}
+
+/// All that is shown of two files.
+fn shows_both(rt: &impl Abort, shelf: &mut Shelf) -> Result<(), Fail> {
+    shows_definitions(rt, shelf)?;
+    shows_facts(rt, shelf)?;
+    shows_files(rt, shelf, &[b"m.c".as_slice(), b"z/b.c"]);
+    assert!(rt;
+        shelf.totals()
+            == Totals {
+                defs: 5,
+                uses: 15,
+                calls: 3
+            }
+    );
+    Ok(())
+}
+
+/// Both are hidden and shown together.
+fn both_come_and_go(rt: &impl Abort, shelf: &mut Shelf, both: [Shown; 2]) -> Result<(), Fail> {
+    if !are_rising(&both) {
+        return Err(Fail::from("numbers that do not rise"));
+    }
+    shelf.hide_all(&both);
+    shows_files(rt, shelf, &[]);
+    let ascending: [Shown; 2] = [both[1], both[0]];
+    if !shelf.can_show_all(&ascending) {
+        return Err(Fail::from("cannot be shown together"));
+    }
+    shelf.show_all(&ascending);
+    Ok(())
+}
+
+fn show_and_hide(rt: &impl Abort, alloc: Global, shelf: &mut Shelf) -> Result<(), Fail> {
+    let first = keep(alloc, shelf, b"z/b.c", FIRST)?;
+    let second = keep(alloc, shelf, b"m.c", OTHER)?;
+    files_come_and_go(rt, shelf, first, second)?;
+    shows_both(rt, shelf)?;
+    both_come_and_go(rt, shelf, [first, second])?;
+    shows_both(rt, shelf)
+}
+
+#[test]
+fn show_and_hide_change_what_is_shown(rt: HostRuntime) -> Result<(), Fail> {
+    let mut shelf = Shelf::new(rt.alloc());
+    assert_eq!(rt; shelf.turns(), 0);
+    show_and_hide(&rt, rt.alloc(), &mut shelf)
+}

@@ -1,0 +1,4 @@
+mod long;
+mod names;
+mod sources;
+mod tags;

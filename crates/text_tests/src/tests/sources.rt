@@ -1,0 +1,51 @@
+//! Sources, their pieces and keys by their first bytes, worked out by hand.
+use cb_scan::{Class, Piece, ScanError, Source, Span, key_prefix, pieces};
+use std::test::Fail;
+
+#[test]
+fn a_source_has_at_most_1000000_bytes(rt: HostRuntime) -> Result<(), Fail> {
+    let most = Source::new(rt.alloc(), vec![in rt.alloc(); b'\n'; 1_000_000]?)?;
+    assert_eq!(rt; most.line_count(), 1_000_000);
+    assert_eq!(rt; most.line(1_000_000), Some(b"".as_slice()));
+    let larger = Source::new(rt.alloc(), vec![in rt.alloc(); b' '; 1_000_001]?);
+    assert!(rt; matches!(larger, Err(ScanError::TooLarge)));
+    Ok(())
+}
+
+#[test]
+fn line_has_none_beyond_the_count(rt: HostRuntime) -> Result<(), Fail> {
+    let source = Source::new(rt.alloc(), b"a\r\n\n\r".to_vec(rt.alloc())?)?;
+    assert_eq!(rt; source.bytes(), b"a\r\n\n\r".as_slice());
+    assert_eq!(rt; source.line_count(), 3);
+    assert_eq!(rt; source.line(1), Some(b"a".as_slice()));
+    assert_eq!(rt; source.line(3), Some(b"\r".as_slice()));
+    for number in [0, 4, u32::MAX] {
+        assert!(rt; source.line(number).is_none());
+    }
+    Ok(())
+}
+
+#[test]
+fn pieces_cover_a_text(rt: HostRuntime) -> Result<(), Fail> {
+    let source = Source::new(rt.alloc(), b"x1 =".to_vec(rt.alloc())?)?;
+    let wanted = [
+        (Class::Name, 0, 2),
+        (Class::Blank, 2, 3),
+        (Class::Byte, 3, 4),
+    ];
+    let mut found = pieces(&source);
+    for (class, start, end) in wanted {
+        let span = Span { start, end };
+        assert_eq!(rt; found.next(), Some(Piece { class, span }));
+    }
+    assert!(rt; found.next().is_none());
+    Ok(())
+}
+
+#[test]
+fn key_prefix_is_the_first_eight_bytes(rt: HostRuntime) {
+    assert_eq!(rt; key_prefix(b""), 0);
+    assert_eq!(rt; key_prefix(b"a"), 0x6100_0000_0000_0000);
+    assert_eq!(rt; key_prefix(b"sqlite3_"), 0x7371_6c69_7465_335f);
+    assert_eq!(rt; key_prefix(b"sqlite3_open"), 0x7371_6c69_7465_335f);
+}

@@ -1,0 +1,2 @@
+int Mb(void) {
+}
