@@ -1,211 +1,237 @@
 #!/usr/bin/env python3
-"""Refuses each growth of memory in turn, in the tests of each crate.
+"""Refuses each growth of memory of the program in turn.
 
-    scripts/each-growth-refused.py [CRATE..]      all crates that have such tests, or the ones named
-    scripts/each-growth-refused.py --tests FOLDER [CRATE..]
+    scripts/each-growth-refused.py [PROGRAM]      bin/cbrowse, if none is named
 
-It needs the built tests, crates/CRATE/out/CRATE_tests. `make test` leaves them, and so does
-`rt test` in a crate's folder; `--tests` takes FOLDER/CRATE_tests in their place. They are run as
-they were built, under growths.c, which counts the growths of memory and refuses the Nth, for N
-from 1 on until nothing is left to refuse. A run takes some milliseconds.
+It runs the program as it was built, under growths.c, which counts the growths of memory and refuses
+the Nth, for N from 1 on until nothing is left to refuse. `make test` runs it on the program that it
+built.
 
-A test is named after its call:
+Sessions: those of crates/worked_cases/data/memory.txt. A command whose growth is refused says so,
+and has changed nothing: what is shown before and after it is the same, the world before and the
+world after can still be reached, and the command is done when it is given once more. Where there is no
+memory for the files to begin with, or to read the block of a load, the program says so and ends.
+Undo, redo and questions take no memory.
 
-    refused_growth_of_CALL   accepts a refusal, and checks what must hold after it: it has to pass
-                             in every run
-    no_refusal_of_CALL       fails with `memory was refused` where the call met a refusal, and
-                             passes elsewhere
-    no_growth_of_CALL        the call takes no memory: not one growth may be met
+Jobs: a search, a listing and a tags file. Each is done, or says that memory was refused and has
+written nothing; an old tags file then stays.
 
-In a test that calls `begin`, growths count from there on, and up to `end` where it calls that;
-else they count in the whole test. Printed is a line for each call: how many growths it met with
-ample memory, and at which N it was refused. `none` are those N whose growth was refused and that
-the call could do without. The exit status is 1 where a test failed in any run.
+Printed is how many growths each session and job met. The exit status is 1 where a check failed.
 """
 
 import argparse
-import os
 import pathlib
-import re
 import subprocess
 import sys
 import tempfile
 
-from growths import Growths, ranges
+from cases import PROMPT, Case, Exchange, cases_of
+from growths import PATIENCE, Growths
 
 TOP = pathlib.Path(__file__).resolve().parent.parent
-KINDS = ("refused_growth_of_", "no_refusal_of_", "no_growth_of_")
-TEST = re.compile(r"\bfn (?:%s)\w+" % "|".join(KINDS))
-MOST = 10_000  # growths of one call
-
-# Calls that have to meet fewer growths than this: their number must not rise with the files.
-FEWER_THAN = {("desk_memory_tests", "want_with_64_files"): 64}
+REFUSED = b"cscope: refused: out of memory\n"
+TAKES_MEMORY = (b":load", b":reload", b":drop", b":rename", b":mark", b":to", b":tag ", b":pop", b"5", b"r\n")
+# commands that show the present world, and those that show that past and future are there
+SHOWS = (b":marks\n", b":stack\n", b":tags 2\n", b"7.\n")
+MOVES = ((b":redo\n", b":undo\n"), (b":undo\n", b":redo\n"))
+DONE = b"cscope: done\n"
+FEWER = {"a wanted text among 64 files": (b"5g\n", 64)}  # its growths must not rise with the files
+MOST = 10_000  # growths of one run
 
 
 class Wrong(Exception):
-    """A test failed, or the tests are not there."""
+    """What should not be."""
 
 
-def sources(crate):
-    return sorted((TOP / "crates" / crate / "src").rglob("*.rt"))
+class Ended(Exception):
+    """The program ended where a prompt was to come."""
 
 
-def stands_on():
-    """The crates that each crate stands on, itself among them, from the lowest up."""
-    found = {}
-    for line in (TOP / "crates.txt").read_text().splitlines():
-        crate, _, below = line.partition("#")[0].partition(":")
-        if crate.strip():
-            mine = [it for name in below.split() for it in found.get(name, [])]
-            found[crate.strip()] = [*dict.fromkeys([*mine, crate.strip()])]
-    return found
+class Talk:
+    """A session of the program, spoken to command by command."""
+
+    def __init__(self, growths, words, refuse, folder):
+        pipes = {"stdin": subprocess.PIPE, "stdout": subprocess.PIPE, "stderr": subprocess.PIPE}
+        self.run = growths.start(words, refuse, cwd=folder, bufsize=0, **pipes)
+
+    def until_prompt(self):
+        """What is written up to the next prompt; all, and that it ended, where it ends before."""
+        got = b""
+        while not (got == PROMPT or got.endswith(b"\n" + PROMPT)):
+            piece = self.run.stdout.read(65536)
+            if not piece:
+                return got, True
+            got += piece
+        return got[: -len(PROMPT)], False
+
+    def ask(self, command):
+        self.run.stdin.write(command)
+        reply, ended = self.until_prompt()
+        if ended:
+            raise Ended(f"it ended after {command!r}")
+        return reply
+
+    def close(self):
+        """How it ends when the input does: the status and standard error."""
+        self.run.stdin.close()
+        said = self.run.stderr.read()
+        self.run.stdout.close()
+        self.run.stderr.close()
+        return self.run.wait(PATIENCE), said
 
 
-def with_tests():
-    return [crate for crate in stands_on() if any(TEST.search(it.read_text()) for it in sources(crate))]
+def shown(talk):
+    """What the present world shows, and whether there is a past and a future; the world stays."""
+    seen = [talk.ask(it) for it in SHOWS]
+    for there, back in MOVES:
+        moved = talk.ask(there)
+        seen.append(moved)
+        if moved == DONE:
+            seen += [talk.ask(it) for it in SHOWS] + [talk.ask(back)]
+    return seen
 
 
-def program_of(crate, folder):
-    if folder:
-        program = pathlib.Path(folder).resolve() / f"{crate}_tests"
-    else:
-        program = TOP / "crates" / crate / "out" / f"{crate}_tests"
-    if not program.exists():
-        raise Wrong(f"{crate}: there are no built tests: run `make test`, or `rt test` in crates/{crate}")
-    if not folder:
-        for below in stands_on()[crate]:
-            for file in sources(below):
-                if file.stat().st_mtime > program.stat().st_mtime:
-                    raise Wrong(f"{crate}: {file.relative_to(TOP)} is newer than the built tests: run `rt test`")
-    return str(program)
+class Session:
+    """A session, and the folder with its files."""
 
+    def __init__(self, program, growths, case: Case, folder):
+        self.case, self.growths, self.folder = case, growths, folder
+        for name, text in case.files:
+            pathlib.Path(folder, name.decode()).write_bytes(text)
+        self.words = [program, "line", *(name.decode() for name, _ in case.files)]
 
-def calls_of(crate, program):
-    """The calls that the tests of a program are about: for each the full names of its tests, by kind."""
-    listed = subprocess.run([program, "--list"], capture_output=True, text=True, check=True).stdout
-    calls = {}
-    for line in listed.splitlines():
-        name = line.rpartition(": ")[0]
-        module, _, last = name.rpartition("::")
-        for kind in KINDS:
-            if last.startswith(kind):
-                calls.setdefault((module, last[len(kind):]), {})[kind] = name
-    for (_, call), tests in calls.items():
-        if (KINDS[0] in tests) != (KINDS[1] in tests):
-            raise Wrong(f"{crate}: {call}: one of {KINDS[0]}{call} and {KINDS[1]}{call} is missing")
-    if not calls:
-        raise Wrong(f"{crate}: its built tests have none of refused growths: build them anew")
-    return calls
+    def start(self, refuse):
+        return Talk(self.growths, self.words, refuse, self.folder)
 
+    def ample(self):
+        """A run in which nothing is refused: its growths, and what is shown before each command."""
+        talk = self.start(0)
+        talk.until_prompt()
+        before = []
+        for exchange in self.case.exchanges:
+            met = self.growths.met
+            before.append(shown(talk))
+            if self.growths.met != met:
+                raise Wrong(f"{self.case.name}: memory was taken to show what is there")
+            if talk.ask(exchange.command) != exchange.reply:
+                raise Wrong(f"{self.case.name}: another reply to {exchange.command!r}")
+            self.count(exchange, self.growths.met - met)
+        talk.close()
+        return before
 
-class Tests:
-    """The built tests of a crate."""
+    def count(self, exchange: Exchange, growths):
+        if growths and not exchange.command.startswith(TAKES_MEMORY):
+            raise Wrong(f"{self.case.name}: {exchange.command!r} took memory, {growths} times")
+        command, most = FEWER.get(self.case.name, (b"", 0))
+        if exchange.command == command and growths >= most:
+            raise Wrong(f"{self.case.name}: {exchange.command!r}: {growths} growths, not below {most}")
 
-    def __init__(self, crate, program, growths, room):
-        self.crate, self.program, self.growths, self.room = crate, program, growths, room
+    def refuse(self, number, before):
+        """A run in which the growth of this number is refused. Whether there was one."""
+        talk = self.start(number)
+        _, ended = talk.until_prompt()
+        if ended:
+            return self.refused_at_start(number, talk)
+        for exchange, seen in zip(self.case.exchanges, before):
+            try:
+                reply = talk.ask(exchange.command)
+            except Ended:
+                return self.refused_at_block(number, talk, exchange.command)
+            if reply == REFUSED and self.growths.refused == 1:
+                if shown(talk) != seen:
+                    raise Wrong(f"{self.case.name}: growth {number}: {exchange.command!r} was refused, and left a change")
+                reply = talk.ask(exchange.command)
+            if reply != exchange.reply:
+                raise Wrong(f"{self.case.name}: growth {number}: another reply to {exchange.command!r}: {reply!r}")
+        status, said = talk.close()
+        if status or said:
+            raise Wrong(f"{self.case.name}: growth {number}: status {status}, {said!r}")
+        return self.growths.refused > 0
 
-    def run(self, test, refuse, from_mark):
-        how = {"cwd": self.room, "env": {"TMPDIR": self.room}}
-        run = self.growths.run([self.program, test], refuse, from_mark, **how)
-        run.passed = run.status == 0 and run.out.endswith(b"test result: ok\n")
-        run.told = b"memory was refused" in run.out + run.err
-        return run
+    def refused_at_start(self, number, talk):
+        status, said = talk.close()
+        names = [b"", *(name + b": " for name, _ in self.case.files)]
+        if status != 1 or said not in [b"cbrowse: " + name + b"out of memory\n" for name in names]:
+            raise Wrong(f"{self.case.name}: growth {number}: it ended with status {status}: {said!r}")
+        if self.growths.refused != 1:
+            raise Wrong(f"{self.case.name}: growth {number}: it ended where nothing was refused")
+        return True
 
-    def wrong(self, test, run, refuse, why):
-        where = f"with growth {refuse} refused" if refuse else "with ample memory"
-        said = (run.out + run.err).decode(errors="replace").strip()
-        return Wrong(f"{said}\n{self.crate}: {test}: {why}, {where}; its status is {run.status}")
+    def refused_at_block(self, number, talk, command):
+        """No memory for the block of a load or a reload ends the run."""
+        status, said = talk.close()
+        is_block = command.startswith((b":load", b":reload"))
+        if not is_block or status != 1 or said != b"cbrowse: out of memory\n" or self.growths.refused != 1:
+            raise Wrong(f"{self.case.name}: growth {number}: it ended at {command!r} with status {status}: {said!r}")
+        return True
 
-    def of_no_growth(self, call, test):
-        run = self.run(test, 0, True)
-        if not run.passed:
-            raise self.wrong(test, run, 0, "it failed")
-        if not run.begun:
-            raise self.wrong(test, run, 0, "it does not call begin")
-        if run.met:
-            raise self.wrong(test, run, 0, f"{run.met} growths were met and none may be")
-        return f"{self.crate}: {call}: no growth"
-
-    def of_growths(self, call, passes, tells):
-        """Refuses each growth of a call in turn. Of its two tests one passes, the other tells."""
-        ample = self.run(tells, 0, True)
-        from_mark = ample.begun > 0
-        if not from_mark:
-            ample = self.run(tells, 0, False)
-        if not ample.passed:
-            raise self.wrong(tells, ample, 0, "it failed")
-        refused, none = [], []
+    def each(self):
+        before = self.ample()
         for number in range(1, MOST):
-            first = self.run(passes, number, from_mark)
-            if not first.passed:
-                raise self.wrong(passes, first, number, "it failed")
-            second = self.run(tells, number, from_mark)
-            if first.refused != second.refused:
-                raise self.wrong(tells, second, number, "it takes memory otherwise than its twin")
-            if not second.passed and not second.told:
-                raise self.wrong(tells, second, number, "it failed for another reason than a refusal")
-            if not second.passed and not second.refused:
-                raise self.wrong(tells, second, number, "it tells a refusal where there was none")
-            if not second.refused:
-                return self.counted(call, ample, refused, none)
-            (none if second.passed else refused).append(number)
-        raise Wrong(f"{self.crate}: {call}: {MOST} growths were refused, and there are more")
-
-    def counted(self, call, ample, refused, none):
-        if len(refused) + len(none) != ample.met:
-            raise Wrong(f"{self.crate}: {call}: {ample.met} growths, but {len(refused) + len(none)} could be refused")
-        growths = "1 growth" if ample.met == 1 else f"{ample.met} growths"
-        line = f"{self.crate}: {call}: {growths}; refused at {ranges(refused) or 'no N'}"
-        line += f"; none at {ranges(none)}" if none else ""
-        bound = FEWER_THAN.get((self.crate, call))
-        if bound is not None:
-            if ample.met >= bound:
-                raise Wrong(f"{line}\n{self.crate}: {call}: there have to be fewer than {bound} growths")
-            line += f"; fewer than {bound}"
-        return line
+            if not self.refuse(number, before):
+                return number - 1
+        raise Wrong(f"{self.case.name}: more than {MOST} growths")
 
 
-def one_crate(crate, folder, growths, room):
-    """Prints a line for each call of a crate. How many calls failed."""
-    failed = 0
-    try:
-        program = program_of(crate, folder)
-        calls = calls_of(crate, program)
-    except Wrong as wrong:
-        print(wrong, flush=True)
-        return 1
-    tests = Tests(crate, program, growths, room)
-    for (_, call), names in calls.items():
-        try:
-            if KINDS[0] in names:
-                print(tests.of_growths(call, names[KINDS[0]], names[KINDS[1]]), flush=True)
-            if KINDS[2] in names:
-                print(tests.of_no_growth(call, names[KINDS[2]]), flush=True)
-        except Wrong as wrong:
-            print(wrong, flush=True)
-            failed += 1
-    for name, call in FEWER_THAN:
-        if name == crate and call not in [it for _, it in calls]:
-            print(f"{crate}: there is no test of {call}, which has a bound", flush=True)
-            failed += 1
-    return failed
+def job(growths, program, words, folder, number):
+    """A job's status, output, standard error and tags file, with the growth of a number refused."""
+    tags = pathlib.Path(folder, "tags")
+    tags.write_bytes(b"old")
+    pipes = {"stdin": subprocess.DEVNULL, "stdout": subprocess.PIPE, "stderr": subprocess.PIPE}
+    run = growths.start([program, *words], number, cwd=folder, **pipes)
+    out, said = run.communicate(timeout=PATIENCE)
+    return run.returncode, out, said, tags.read_bytes()
+
+
+def each_of_job(growths, program, words, folder):
+    """Refuses each growth of a job. How many there were."""
+    names = [b"", *(word.encode() + b": " for word in words if word.endswith(".c"))]
+    messages = [b"cbrowse: " + name + b"out of memory\n" for name in names]
+    whole = job(growths, program, words, folder, 0)
+    if whole[0] or whole[2]:
+        raise Wrong(f"{words}: status {whole[0]}, {whole[2]!r}")
+    for number in range(1, MOST):
+        status, out, said, tags = found = job(growths, program, words, folder, number)
+        refused = growths.refused
+        is_told = status == 1 and not out and said in messages and tags == b"old"
+        if not (is_told and refused) and found != whole:
+            raise Wrong(f"{words}: growth {number}: status {status}, {said!r}, output {out!r}, tags {tags!r}")
+        if not refused:
+            return number - 1
+    raise Wrong(f"{words}: more than {MOST} growths")
+
+
+JOBS = (
+    ["find", "0", "add", "a.c", "m.c"],
+    ["find", "4", "add", "a.c"],
+    ["tags", "-x", "a.c", "m.c"],
+    ["tags", "a.c", "m.c"],
+    ["tags", "--format", "2", "a.c"],
+)
 
 
 def main():
     parser = argparse.ArgumentParser(description=__doc__, formatter_class=argparse.RawDescriptionHelpFormatter)
-    parser.add_argument("crates", nargs="*", metavar="CRATE")
-    parser.add_argument("--tests", metavar="FOLDER", help="where the built tests are")
-    asked = parser.parse_args()
-    crates = asked.crates or with_tests()
-    unknown = [it for it in crates if it not in stands_on()]
-    if unknown:
-        parser.error(f"there is no crate {unknown[0]}")
+    parser.add_argument("program", nargs="?", default=str(TOP / "bin" / "cbrowse"), metavar="PROGRAM")
+    program = str(pathlib.Path(parser.parse_args().program).resolve())
+    failed = 0
     with tempfile.TemporaryDirectory() as room:
         growths = Growths(room)
-        os.mkdir(f"{room}/data")
-        failed = sum(one_crate(crate, asked.tests, growths, f"{room}/data") for crate in crates)
-    if failed:
-        print(f"FAILED: {failed} of the above")
+        checks = []
+        for place, case in enumerate(cases_of("memory.txt")):
+            folder = pathlib.Path(room, str(place))
+            folder.mkdir()
+            checks.append((case.name, Session(program, growths, case, folder).each))
+        for words in JOBS:
+            # the files of the first session are those of the jobs
+            checks.append((" ".join(words), lambda words=words: each_of_job(growths, program, words, f"{room}/0")))
+        for name, check in checks:
+            try:
+                print(f"{name}: {check()} growths, each refused", flush=True)
+            except (Wrong, Ended) as wrong:
+                print(f"FAILED: {wrong}", flush=True)
+                failed += 1
+    print(f"each growth refused: {len(checks) - failed} passed, {failed} failed")
     return 1 if failed else 0
 
 

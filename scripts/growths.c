@@ -1,13 +1,9 @@
-/* Counts the growths of memory of a program, and refuses one of them. each-growth-refused.py and
- * clients/refused-growths.py build it and preload it, so the program runs as it was built.
+/* Counts the growths of memory of a program, and refuses one of them. each-growth-refused.py builds
+ * it and preloads it, so the program runs as it was built.
  *
- * A growth is a call of malloc or calloc, or one of realloc that asks for more bytes than the
- * block was asked for before. The file that the variable GROWTHS names holds what is counted and
- * what is to be refused; without it nothing is counted. Two sizes stand for marks: a growth of
- * BEGIN bytes begins the count where the file asks for that, one of END bytes ends it. A mark is
- * never counted.
- *
- * The program has one thread. */
+ * A growth is a call of malloc or calloc, or one of realloc that asks for more bytes than the block
+ * was asked for before. The file that the variable GROWTHS names holds what is to be refused and
+ * what was counted; without it nothing is counted. The program has one thread. */
 #include <errno.h>
 #include <fcntl.h>
 #include <malloc.h>
@@ -17,16 +13,11 @@
 #include <sys/mman.h>
 #include <unistd.h>
 
-enum { BEGIN = 70001, END = 70002 };
-
-/* The file, in this order; the scripts read and write it so. */
+/* The file, in this order; growths.py writes and reads it so. */
 struct growths {
-    uint64_t from_mark; /* 1: the count begins at the mark, 0: with the program */
-    uint64_t refuse;    /* the number of the growth to refuse, from 1 on; 0: none */
-    uint64_t met;       /* growths that were counted */
-    uint64_t refused;   /* growths that were refused */
-    uint64_t begun;     /* marks of the beginning that were met */
-    uint64_t ended;     /* marks of the end that were met */
+    uint64_t refuse;  /* the number of the growth to refuse, from 1 on; 0: none */
+    uint64_t met;     /* growths that were counted */
+    uint64_t refused; /* growths that were refused */
 };
 
 static struct growths *shared;
@@ -47,16 +38,10 @@ __attribute__((constructor)) static void open_shared(void)
         shared = at;
 }
 
-/* Counts a growth to this size, and tells whether it is the one to refuse. */
-static int is_refused(size_t size)
+/* Counts a growth, and tells whether it is the one to refuse. */
+static int is_refused(void)
 {
     if (!shared)
-        return 0;
-    if (size == BEGIN || size == END) {
-        *(size == BEGIN ? &shared->begun : &shared->ended) += 1;
-        return 0;
-    }
-    if ((shared->from_mark && !shared->begun) || shared->ended)
         return 0;
     shared->met += 1;
     if (shared->met != shared->refuse)
@@ -86,7 +71,7 @@ static int is_too_large(size_t size)
 
 void *malloc(size_t size)
 {
-    if (is_too_large(size) || is_refused(size)) {
+    if (is_too_large(size) || is_refused()) {
         errno = ENOMEM;
         return NULL;
     }
@@ -96,7 +81,7 @@ void *malloc(size_t size)
 void *calloc(size_t count, size_t each)
 {
     size_t size;
-    if (__builtin_mul_overflow(count, each, &size) || is_too_large(size) || is_refused(size)) {
+    if (__builtin_mul_overflow(count, each, &size) || is_too_large(size) || is_refused()) {
         errno = ENOMEM;
         return NULL;
     }
@@ -109,7 +94,7 @@ void *realloc(void *block, size_t size)
     if (!block)
         return malloc(size);
     memcpy(&before, size_place(block), sizeof before);
-    if (is_too_large(size) || (size > before && is_refused(size))) {
+    if (is_too_large(size) || (size > before && is_refused())) {
         errno = ENOMEM;
         return NULL;
     }

@@ -1,0 +1,382 @@
+#!/usr/bin/env python3
+"""Runs the program on words and files, and compares all that it writes with what it should.
+
+    scripts/whole-program.py [PROGRAM]      bin/cbrowse, if none is named
+
+`make test` runs it on the program that it built. Each row below is the words, what standard output
+and standard error have, the exit status, and the tags file that is then there. Help and the texts
+on wrong words are compared whole or by their first line. After the rows come devices: a bound on
+the size of a file at each byte, standard input that fails after each byte, full devices, a pipe as
+a file, 4,096 files and one more, and words that are not UTF-8. The exit status is 1 where a check
+failed.
+"""
+
+import argparse
+import os
+import pathlib
+import resource
+import signal
+import subprocess
+import sys
+import tempfile
+import tty
+from typing import NamedTuple, Optional
+
+TOP = pathlib.Path(__file__).resolve().parent.parent
+PATIENCE = 60  # seconds until a run is given up
+
+A_C = b"""\
+#include "a.h"
+#define TWICE(x) ((x) + add(x, 0))
+typedef unsigned long word;
+static int add(int a, int b) {
+	return a + b;
+}
+int main(void) {
+	return add(1, 2) / TWICE(3);
+}
+"""
+FILES = {
+    "a.c": A_C,
+    "m.c": b"int Mb(void) {\n}\n",
+    "n.c": b"int a = -x;\n",
+    "a.txt": A_C,
+    "none.h": b"",
+    "last.c": b" " * (1_000_000 - 20) + b"\nint last(void) {\n}\n",
+    "big.c": b" " * 1_000_002,
+}
+PLAIN = b"""\
+Ma	a.c	/^int main(void) {$/
+TWICE	a.c	/^#define TWICE(x) ((x) + add(x, 0))$/
+add	a.c	/^static int add(int a, int b) {$/
+word	a.c	/^typedef unsigned long word;$/
+"""
+EXTENDED = b"""\
+!_TAG_FILE_FORMAT	2	/extended format; --format=1 will not append ;" to lines/
+!_TAG_FILE_SORTED	1	/0=unsorted, 1=sorted, 2=foldcase/
+TWICE	a.c	/^#define TWICE(x) ((x) + add(x, 0))$/;"	d	line:2
+add	a.c	/^static int add(int a, int b) {$/;"	f	line:4	file:
+main	a.c	/^int main(void) {$/;"	f	line:7
+word	a.c	/^typedef unsigned long word;$/;"	t	line:3
+"""
+LISTING = b"""\
+TWICE 2 a.c #define TWICE(x) ((x) + add(x, 0))
+add 4 a.c static int add(int a, int b) {
+main 7 a.c int main(void) {
+word 3 a.c typedef unsigned long word;
+"""
+ROWS_OF_ADD = b"""\
+a.c TWICE 2 #define TWICE(x) ((x) + add(x, 0))
+a.c add 4 static int add(int a, int b) {
+a.c main 8 return add(1, 2) / TWICE(3);
+"""
+CALLS_ADD = b"""\
+a.c TWICE 2 #define TWICE(x) ((x) + add(x, 0))
+a.c main 8 return add(1, 2) / TWICE(3);
+"""
+HELP = b"""\
+Browses C sources
+
+Usage: cbrowse <COMMAND>
+
+Commands:
+  line  Reads commands from standard input and writes their replies
+  find  Writes the rows that answer one question about C sources
+  tags  Writes the tags of C sources to a tags file
+  help  Print this message or the help of the given subcommand(s)
+
+Options:
+  -h, --help     Print help
+  -V, --version  Print version
+"""
+HELP_LINE = b"""\
+Reads commands from standard input and writes their replies
+
+Usage: cbrowse line [FILE]...
+
+Arguments:
+  [FILE]...  C source to load first
+
+Options:
+  -h, --help  Print help
+
+Example: cbrowse line a.c
+"""
+HELP_TAGS = b"""\
+Writes the tags of C sources to a tags file
+
+Usage: cbrowse tags [OPTIONS] <FILE>...
+
+Arguments:
+  <FILE>...  C source to write the tags of
+
+Options:
+  -x                     Write a listing to standard output instead
+  -f <TAGSFILE>          Tags file to write [default: tags]
+      --format <FORMAT>  Format of the tags file: 1 for POSIX ctags, 2 with extension fields [default: 1] [possible values: 1, 2]
+  -h, --help             Print help
+
+Example: cbrowse tags a.c
+"""
+HELP_FIND = b"""\
+Writes the rows that answer one question about C sources
+
+Usage: cbrowse find <NUM> <PATTERN> <FILE>...
+
+Arguments:
+  <NUM>      Field of the search: 0 uses of a name, 1 its definitions, 2 calls in a function, 3 calls of it, 4 a text, 7 file names, 8 includes
+  <PATTERN>  What is searched for; after -- where it begins with -
+  <FILE>...  C source to search
+
+Options:
+  -h, --help  Print help
+
+Example: cbrowse find 1 main a.c
+"""
+
+
+class Row(NamedTuple):
+    """The words; what is written; and, where one is made, a tags file and its bytes. Of a text on
+    wrong words `said` is the beginning."""
+
+    words: list[str | bytes]
+    out: bytes = b""
+    said: bytes = b""
+    status: int = 0
+    tags: Optional[tuple[str, bytes]] = None
+    given: bytes = b":undo\n"
+    begins: bool = False
+
+
+def line(given: bytes, out: bytes, said: bytes = b"", status: int = 0, files: tuple = ()) -> Row:
+    return Row(["line", *files], out, said, status, given=given)
+
+
+def refused(words: list[str], said: bytes, status: int = 1) -> Row:
+    return Row(words, b"", b"cbrowse: " + said + b"\n", status)
+
+
+def wrong(words: list[str], said: bytes) -> Row:
+    return Row(words, b"", b"error: " + said, 2, begins=True)
+
+
+def help_of(words: list[str], said: bytes) -> Row:
+    return Row(words, b"", said, 0)
+
+
+NO_FIELD, NO_PATTERN = b"field not in this profile", b"no pattern"
+LACKS = b"the following required arguments were not provided:\n"
+ROWS = [
+    # sessions
+    line(b"q\n", b">> "),
+    line(b"", b">> "),
+    line(b":load t.c 50\n01234567890123456789", b">> cscope: refused: input ended\n", b"cbrowse: input ended\n", 1),
+    line(b"a" * 1_000_000 + b"\n:undo\n", b">> cscope: refused: line too long\n>> cscope: refused: nothing to undo\n>> "),
+    line(b"a" * 1_000_001, b">> ", b"cbrowse: line over 1000000 bytes\n", 1),
+    line(
+        b"1add\n:undo\n1add\n1Mb\n",
+        b">> cscope: 1 lines\na.c add 4 static int add(int a, int b) {\n>> cscope: done\n"
+        b">> cscope: 0 lines\n>> cscope: 1 lines\nm.c Mb 1 int Mb(void) {\n>> ",
+        files=("m.c", "a.c"),
+    ),
+    # tags files and listings
+    Row(["tags", "a.c"], tags=("tags", PLAIN)),
+    Row(["tags", "--format", "1", "-f", "one", "a.c"], tags=("one", PLAIN)),
+    Row(["tags", "--format", "2", "-f", "two", "a.c"], tags=("two", EXTENDED)),
+    Row(["tags", "a.c", "--format", "2"], tags=("tags", EXTENDED)),
+    Row(["tags", "a.c", "--format=2", "-fout"], tags=("out", EXTENDED)),
+    Row(["tags", "none.h"], tags=("tags", b"")),
+    Row(["tags", "-x", "-f", "no", "--format", "1", "a.c"], LISTING),
+    Row(["tags", "a.c", "-x"], LISTING),
+    Row(["tags", "-x", "last.c"], b"last 2 last.c int last(void) {\n"),
+    # searches
+    Row(["find", "0", "add", "a.c"], ROWS_OF_ADD),
+    Row(["find", "1", "word", "a.c"], b"a.c word 3 typedef unsigned long word;\n"),
+    Row(["find", "2", "TWICE", "a.c"], b"a.c add 2 #define TWICE(x) ((x) + add(x, 0))\n"),
+    Row(["find", "3", "add", "a.c"], CALLS_ADD),
+    Row(["find", "4", "a +", "a.c"], b"a.c <unknown> 5 return a + b;\n"),
+    Row(["find", "4", "--", "-x", "n.c", "a.c"], b"n.c <unknown> 1 int a = -x;\n"),
+    Row(["find", "7", ".c", "n.c", "a.c"], b"a.c <unknown> 1 <unknown>\nn.c <unknown> 1 <unknown>\n"),
+    Row(["find", "8", "a.h", "a.c"], b'a.c <global> 1 #include "a.h"\n'),
+    Row(["find", "1", "none", "a.c"]),
+    # the number is judged first, then the pattern, then the files
+    *(refused(["find", num, pattern, "none.c"], NO_FIELD, 2)
+      for num in ("5", "6", "9", "", "01", "1 ", "x") for pattern in ("f", "")),
+    refused(["find", "1", "", "none.c"], NO_PATTERN, 2),
+    refused(["find", "1", "f", "none.c"], b"none.c: cannot be read"),
+    refused(["find", "1", "f", "a.c", "a.c"], b"a.c: file exists"),
+    refused(["find", "1", "f", "a.txt", "none.c"], b"none.c: cannot be read"),
+    refused(["find", "1", "f", "a.c", "a.txt"], b"a.txt: bad name"),
+    # files that cannot be read or loaded, or written
+    refused(["tags", "a.c", "a.c"], b"a.c: file exists"),
+    refused(["tags", "a.c", "a.txt", "a.c"], b"a.txt: bad name"),
+    refused(["tags", "a.c", "none.c", "a.txt"], b"none.c: cannot be read"),
+    refused(["tags", "a.c", "big.c"], b"big.c: too large"),
+    refused(["tags", "-x", "d.c"], b"d.c: cannot be read"),
+    refused(["tags", "-f", "d.c", "a.c"], b"d.c: cannot be written"),
+    refused(["tags", "-f", "", "a.c"], b": cannot be written"),
+    refused(["line", "a.c", "none2.h"], b"none2.h: cannot be read"),
+    refused(["tags", "--", "-x"], b"-x: cannot be read"),
+    # words that are wrong, and help
+    wrong([], b"'cbrowse' requires a subcommand"),
+    wrong(["search"], b"unrecognized subcommand 'search'"),
+    wrong(["find"], LACKS + b"  <NUM>\n  <PATTERN>\n  <FILE>...\n"),
+    wrong(["find", "1", "f"], LACKS + b"  <FILE>...\n"),
+    wrong(["find", "4", "-x", "a.c"], b"unexpected argument '-x' found"),
+    wrong(["line", "-x"], b"unexpected argument '-x' found"),
+    wrong(["tags"], LACKS + b"  <FILE>...\n"),
+    wrong(["tags", "--format", "3", "a.c"], b"invalid value '3' for '--format <FORMAT>'\n  [possible values: 1, 2]\n"),
+    wrong(["tags", "-q", "a.c"], b"unexpected argument '-q' found"),
+    wrong(["tags", "a.c", "-f"], b"a value is required for '-f <TAGSFILE>' but none was supplied\n"),
+    Row(["find", "0", b"\xff", "a.c"], b"", b"error: a word is not UTF-8\n\nFor more information, try '--help'.\n", 2),
+    help_of(["--help"], HELP),
+    help_of(["line", "--help"], HELP_LINE),
+    help_of(["find", "--help"], HELP_FIND),
+    help_of(["tags", "--help"], HELP_TAGS),
+    help_of(["help", "tags"], HELP_TAGS),
+    help_of(["--version"], b"cbrowse 0.1.0\n"),
+    help_of(["-V"], b"cbrowse 0.1.0\n"),
+]
+
+# a session over a.c: a question, tags, a listing, marks, a change and an undo
+INPUT = b"1add\n:tags\n:listing\n5add\n:markall\n:to sum\n3sum\n:undo\n:marks\n"
+REPLIES = [
+    b"cscope: 1 lines\na.c add 4 static int add(int a, int b) {\n",
+    b"cscope: 4 lines\n" + PLAIN,
+    b"cscope: 4 lines\n" + LISTING,
+    b"cscope: 3 lines\n" + ROWS_OF_ADD.replace(b" TWICE 2", b" <unknown> 2").replace(b" add 4", b" <unknown> 4")
+    .replace(b" main 8", b" <unknown> 8"),
+    b"cscope: done\n",
+    b"cscope: done\n",
+    b"cscope: 2 lines\n" + CALLS_ADD.replace(b"add", b"sum"),
+    b"cscope: done\n",
+]
+REPLIES.append(REPLIES[3])
+OUTPUT = b"".join(b">> " + reply for reply in REPLIES) + b">> "
+WRITERS = [(["tags", "-x", "a.c"], b"", LISTING), (["find", "0", "add", "a.c"], b"", ROWS_OF_ADD),
+           (["line", "a.c"], INPUT, OUTPUT)]
+
+
+def bounded(size: int):
+    """Files may have so many bytes; a write beyond fails, and sends no signal."""
+
+    def before():
+        signal.signal(signal.SIGXFSZ, signal.SIG_IGN)
+        resource.setrlimit(resource.RLIMIT_FSIZE, (size, size))
+
+    return before
+
+
+class Checks:
+    """Runs in a folder with the files; what failed."""
+
+    def __init__(self, program: str, folder: pathlib.Path):
+        self.program, self.folder, self.runs, self.failed = program, folder, 0, 0
+        for name, text in FILES.items():
+            (folder / name).write_bytes(text)
+        (folder / "d.c").mkdir()
+
+    def run(self, words, given=b"", before=None, **how):
+        """Status, standard output and standard error."""
+        self.runs += 1
+        how = {"stdout": subprocess.PIPE, "stderr": subprocess.PIPE, **how}
+        if "stdin" not in how:
+            how["input"] = given
+        ran = subprocess.run([self.program, *words], preexec_fn=before, cwd=self.folder, timeout=PATIENCE, **how)
+        return ran.returncode, ran.stdout, ran.stderr
+
+    def expect(self, what, found, meant):
+        if found != meant:
+            print(f"FAILED: {what}: {str(found)[:400]} and not {str(meant)[:400]}", flush=True)
+            self.failed += 1
+
+    def row(self, row: Row):
+        name, text = row.tags or ("tags", b"old")
+        path = self.folder / name
+        path.write_bytes(b"old")
+        before = set(os.listdir(self.folder))
+        status, out, said = self.run(row.words, row.given)
+        if row.begins:
+            said = said[: len(row.said)]
+        self.expect(row.words, (status, out, said), (row.status, row.out, row.said))
+        self.expect([*row.words, "the tags file"], path.read_bytes(), text)
+        path.unlink()
+        self.expect([*row.words, "the folder"], set(os.listdir(self.folder)) | {name}, before)
+
+    def at_each_byte(self):
+        """A file that takes so many bytes, as standard output and as the tags file."""
+        out = self.folder / "out"
+        for words, given, whole in WRITERS:
+            for size in range(len(whole) + 1):
+                with open(out, "wb") as file:
+                    status, _, said = self.run(words, given, bounded(size), stdout=file)
+                is_whole = size == len(whole)
+                meant = (0, b"") if is_whole else (1, b"cbrowse: write fault\n")
+                self.expect([*words, size], (status, said, out.read_bytes()), (*meant, whole[:size]))
+        for size in range(len(EXTENDED) + 1):
+            found = self.run(["tags", "--format", "2", "-f", "out", "a.c"], b"", bounded(size))
+            is_whole = size == len(EXTENDED)
+            meant = (0, b"", b"") if is_whole else (1, b"", b"cbrowse: out: cannot be written\n")
+            self.expect(["tags -f out", size], (*found, out.read_bytes()), (*meant, EXTENDED[:size]))
+        message = b"cbrowse: none.c: cannot be read\n"
+        for size in range(len(message) + 1):
+            with open(out, "wb") as file:
+                status, _, _ = self.run(["tags", "none.c"], b"", bounded(size), stderr=file)
+            self.expect(["tags none.c", size], (status, out.read_bytes()), (1, message[:size]))
+
+    def reader_fails(self):
+        """Standard input that fails after each byte: the replies of whole lines, and one prompt."""
+        for size in range(len(INPUT) + 1):
+            near, far = os.openpty()
+            tty.setraw(far)
+            started = subprocess.Popen([self.program, "line", "a.c"], cwd=self.folder, stdin=near,
+                                       stdout=subprocess.PIPE, stderr=subprocess.PIPE, pass_fds=())
+            os.close(near)
+            os.write(far, INPUT[:size])
+            os.close(far)
+            out, said = started.communicate(timeout=PATIENCE)
+            self.runs += 1
+            whole = INPUT[:size].count(b"\n")
+            meant = b"".join(b">> " + reply for reply in REPLIES[:whole]) + b">> "
+            self.expect(["a reader that fails after", size], (started.returncode, out, said),
+                        (1, meant, b"cbrowse: read fault\n"))
+
+    def full(self):
+        """/dev/full as standard output and as the tags file."""
+        with open("/dev/full", "wb") as device:
+            for words, given, _ in WRITERS:
+                self.expect([*words, "/dev/full"], self.run(words, given, stdout=device)[::2], (1, b"cbrowse: write fault\n"))
+        found = self.run(["tags", "-f", "/dev/full", "a.c"])
+        self.expect("tags -f /dev/full", found, (1, b"", b"cbrowse: /dev/full: cannot be written\n"))
+
+    def pipes_and_many(self):
+        """A pipe as a file, which has no size; and 4,096 files and one more."""
+        pipe = self.folder / "p.c"
+        os.mkfifo(pipe)
+        feeder = subprocess.Popen(["sh", "-c", "cat a.c > p.c"], cwd=self.folder)
+        self.expect("a pipe", self.run(["find", "1", "add", "p.c"]), (0, b"p.c add 4 static int add(int a, int b) {\n", b""))
+        feeder.wait(PATIENCE)
+        pipe.unlink()
+        for number in range(1, 4098):
+            (self.folder / f"f{number}.c").write_bytes(b"g();\n" if number == 4096 else b"")
+        names = [f"f{number}.c" for number in range(1, 4098)]
+        self.expect("4,096 files", self.run(["find", "0", "g", *names[:4096]]), (0, b"f4096.c <global> 1 g();\n", b""))
+        self.expect("4,097 files", self.run(["find", "0", "g", *names]), (1, b"", b"cbrowse: f4097.c: too many files\n"))
+
+
+def main():
+    parser = argparse.ArgumentParser(description=__doc__, formatter_class=argparse.RawDescriptionHelpFormatter)
+    parser.add_argument("program", nargs="?", default=str(TOP / "bin" / "cbrowse"), metavar="PROGRAM")
+    program = str(pathlib.Path(parser.parse_args().program).resolve())
+    with tempfile.TemporaryDirectory() as room:
+        checks = Checks(program, pathlib.Path(room))
+        for row in ROWS:
+            checks.row(row)
+        for check in (checks.at_each_byte, checks.reader_fails, checks.full, checks.pipes_and_many):
+            check()
+    print(f"whole program: {checks.runs - checks.failed} passed, {checks.failed} failed")
+    return 1 if checks.failed else 0
+
+
+if __name__ == "__main__":
+    sys.exit(main())
