@@ -1,27 +1,23 @@
-# make: proves every crate, and builds the program where there is one. make test: the gate.
-# make install, make uninstall: the program, its two companions in sh, cbrowse.vim and the manual pages under PREFIX.
-.PHONY: all prove program test install uninstall clean
+# make          proves the crates of the program, and builds bin/cbrowse
+# make test     the gate
+# make install, make uninstall    the program, its companions, cbrowse.vim and the manual pages
+.PHONY: all program test install uninstall clean
 
 PREFIX ?= /usr/local
 
-all: prove program
+all: program
 
-prove:
-	rt all check
-
-ifneq ($(wildcard crates/cbrowse/src/main.rt),)
-program: prove
+program:
+	scripts/prove.py
 	cd crates/cbrowse && rt run -- line </dev/null >/dev/null
 	mkdir -p bin
 	cp crates/cbrowse/out/cbrowse bin/cbrowse
-else
-program:
-endif
 
 test:
-	rt ci
+	scripts/gate.py
 
-# The program is copied as it stands in bin: nothing is proved anew, unless there is none. DESTDIR goes before PREFIX.
+# The program is copied as it stands in bin: nothing is proved anew, unless there is none. DESTDIR
+# goes before PREFIX.
 install: bin/cbrowse
 	install -d $(DESTDIR)$(PREFIX)/bin $(DESTDIR)$(PREFIX)/share/man/man1 $(DESTDIR)$(PREFIX)/share/cbrowse
 	install -m 755 bin/cbrowse editors/cbrowse-cscope editors/cbrowse-tree $(DESTDIR)$(PREFIX)/bin

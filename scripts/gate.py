@@ -1,0 +1,57 @@
+#!/usr/bin/env python3
+"""The gate: what every change has to pass. `make test` runs it.
+
+1. `rt ci` proves each crate from nothing, tries the wrong bodies, and runs the tests and programs.
+2. The program that it built is run on words, files and failing devices (whole-program.py).
+3. Each growth of memory is refused to it in turn (each-growth-refused.py).
+
+At the end it says how long each step took, and how many checks passed and failed; the exit status is
+1 where one failed.
+"""
+
+import pathlib
+import re
+import subprocess
+import sys
+import time
+
+TOP = pathlib.Path(__file__).resolve().parent.parent
+PROGRAM = TOP / "crates" / "cbrowse" / "out" / "cbrowse"
+STEPS = (
+    ("rt ci", ["rt", "ci"]),
+    ("the whole program", ["scripts/whole-program.py", str(PROGRAM)]),
+    ("each growth refused", ["scripts/each-growth-refused.py", str(PROGRAM)]),
+)
+COUNTS = re.compile(r"(\d+) passed, (\d+) failed")
+
+
+def step(words: list[str]) -> tuple[int, int, float]:
+    """Runs a step and shows what it writes: how many passed and failed, and its seconds."""
+    began, counts = time.monotonic(), None
+    run = subprocess.Popen(words, cwd=TOP, stdout=subprocess.PIPE, stderr=subprocess.STDOUT, text=True, errors="replace")
+    for line in run.stdout:
+        print(line, end="", flush=True)
+        counts = COUNTS.search(line) or counts
+    status = run.wait()
+    passed, failed = (int(counts[1]), int(counts[2])) if counts else (0, 0)
+    if status and not failed:
+        failed = 1
+    return passed, failed, time.monotonic() - began
+
+
+def main() -> int:
+    passed, failed, told = 0, 0, []
+    for name, words in STEPS:
+        good, bad, seconds = step(words)
+        passed, failed = passed + good, failed + bad
+        told.append(f"{name}: {int(seconds) // 60}:{int(seconds) % 60:02} min, {good} passed, {bad} failed")
+        if bad and words == STEPS[0][1]:
+            # without a proved program there is nothing to run
+            break
+    print("\n".join(told))
+    print(f"{passed} passed, {failed} failed")
+    return 1 if failed else 0
+
+
+if __name__ == "__main__":
+    sys.exit(main())
