@@ -1,5 +1,5 @@
 -- One round of a run.
-use Rattle.std.proofs.Common.{◌≡◌, ℕ, Bool, false, List, Option, Some, None, Result, Ok, Err, refl, sym, ap, ◌∙◌, subst, inl, inr}
+use Rattle.std.proofs.Common.{◌≡◌, ℕ, Bool, true, false, if◌then◌else◌, List, Option, Some, None, Result, Ok, Err, refl, sym, ap, ◌∙◌, subst, inl, inr}
 use Rattle.std.specs.Prelude.{IsErrAnd}
 use Rattle.std.specs.Io.KnownBytes.{Appends}
 use Rattle.std.proofs.KnownBytes.{Appends-trans}
@@ -10,9 +10,9 @@ use Rattle.cb_session.specs.declared.input.Fault.TheVariants.{Read, Write, Memor
 use Rattle.cb_desk.specs.Timeline.{Timeline}
 use Rattle.cb_tags.specs.Writers.{Writer}
 use Rattle.cb_session.specs.Devices.{Reader, WhateverFollows}
-use Rattle.cb_session.specs.Inputs.{First, first, ending_of}
+use Rattle.cb_session.specs.Inputs.{First, first, ending_of, is_cut}
 use Rattle.cb_session.specs.Reading.{Reads}
-use Rattle.cb_session.specs.Requests.{Request, overlong}
+use Rattle.cb_session.specs.Requests.{Request, query, change, undo, redo, rebuild, tags_file, listing, marks, stack, refused, nothing, quit, overlong}
 use Rattle.cb_session.specs.Serving.{Does, Leaves}
 use Rattle.cb_session.specs.steps.Rounds.{EndsRound, IsMoved, LeavesRound}
 use Rattle.cb_session.specs.Output.{prompt, outcome, exchange}
@@ -67,17 +67,18 @@ unread f t feed old new Memory h p = AppendsPrefix-more old.bytes new.bytes prom
 unread f t feed old new LongLine h p = (ap ending_of h, subst (λ l. Appends old.bytes new.bytes l) (sym (overlong_exchange t f.request h)) p)
 unread f t feed old new ManyLines h p = absurd h
 
-unmoved : (f : First) (t : Timeline) (feed : Reader) (fault : Reason) → Reads f feed (Err fault) → IsMoved false t f.request (Fault fault) t
-unmoved f t feed Read h = inl refl
-unmoved f t feed Write h = absurd h
-unmoved f t feed Memory h = inl refl
-unmoved f t feed LongLine h = overlong_outcome t f.request h
-unmoved f t feed ManyLines h = absurd h
+unmoved : (f : First) (t : Timeline) (feed : Reader) (old new : Writer) (fault : Reason) → Reads f feed (Err fault) → Appends old.bytes new.bytes prompt → new.pending ≡ false
+    → IsMoved false t f.request old new (Fault fault) t
+unmoved f t feed old new Read h p q = (refl, p, q)
+unmoved f t feed old new Write h p q = absurd h
+unmoved f t feed old new Memory h p q = inl refl
+unmoved f t feed old new LongLine h p q = overlong_outcome t f.request h
+unmoved f t feed old new ManyLines h p q = absurd h
 
 pub Round-unread : (f : First) (t : Timeline) (feed : Reader) (old new : Writer) (r : Result (Option Ended) Reason) (fault : Reason)
-    → IsErrAnd r (λ e. e ≡ fault) → Reads f feed (Err fault) → Appends old.bytes new.bytes prompt → (out_of_memory : Bool) × LeavesRound out_of_memory f t t feed old new r
-Round-unread f t feed old new r fault e h p =
-    (false, passed_on false f t t feed old new r fault e (unread f t feed old new fault h p, unmoved f t feed fault h))
+    → IsErrAnd r (λ e. e ≡ fault) → Reads f feed (Err fault) → Appends old.bytes new.bytes prompt → new.pending ≡ false → (out_of_memory : Bool) × LeavesRound out_of_memory f t t feed old new r
+Round-unread f t feed old new r fault e h p q =
+    (false, passed_on false f t t feed old new r fault e (unread f t feed old new fault h p, unmoved f t feed old new fault h p q))
 
 -- the reply could not be written
 pub Round-unanswered : (A : Type 0) (f : First) (t next : Timeline) (feed : Reader) (old mid new : Writer) (r : Result (Option Ended) Reason) (fault : Reason) (request : Request)
@@ -93,17 +94,37 @@ Round-unanswered A f t next feed old mid new r fault request e same p d =
       ),
     )
 
+-- no request ends a run by a read fault
+cut_or_not : (b : Bool) → (if b then Some Cut else None) ≡ Some (Fault Read) → ⊥
+cut_or_not true e = cc
+cut_or_not false e = cc
+
+ends_unread : (e : Request) → ending_of e ≡ Some (Fault Read) → ⊥
+ends_unread (query field pattern) h = cc
+ends_unread (change s) h = cc
+ends_unread undo h = cc
+ends_unread redo h = cc
+ends_unread rebuild h = cc
+ends_unread (tags_file format) h = cc
+ends_unread listing h = cc
+ends_unread marks h = cc
+ends_unread stack h = cc
+ends_unread (refused r) h = cut_or_not (is_cut r) h
+ends_unread nothing h = cc
+ends_unread quit h = cc
+ends_unread overlong h = cc
+
 -- what was answered has moved the timeline
-moved_whole : (out_of_memory : Bool) (t : Timeline) (e : Request) (ended : Ended) (next : Timeline)
-    → next ≡ (outcome out_of_memory t e).timeline → IsMoved out_of_memory t e ended next
-moved_whole out_of_memory t e (Fault Read) next h = inr h
-moved_whole out_of_memory t e (Fault Write) next h = inr h
-moved_whole out_of_memory t e (Fault Memory) next h = inr h
-moved_whole out_of_memory t e (Fault LongLine) next h = h
-moved_whole out_of_memory t e (Fault ManyLines) next h = h
-moved_whole out_of_memory t e Done next h = h
-moved_whole out_of_memory t e Cut next h = h
-moved_whole out_of_memory t e (Operand place why) next h = h
+moved_whole : (out_of_memory : Bool) (t : Timeline) (e : Request) (old new : Writer) (ended : Ended) (next : Timeline)
+    → ending_of e ≡ Some ended → next ≡ (outcome out_of_memory t e).timeline → IsMoved out_of_memory t e old new ended next
+moved_whole out_of_memory t e old new (Fault Read) next is h = absurd (ends_unread e is)
+moved_whole out_of_memory t e old new (Fault Write) next is h = inr h
+moved_whole out_of_memory t e old new (Fault Memory) next is h = inr h
+moved_whole out_of_memory t e old new (Fault LongLine) next is h = h
+moved_whole out_of_memory t e old new (Fault ManyLines) next is h = h
+moved_whole out_of_memory t e old new Done next is h = h
+moved_whole out_of_memory t e old new Cut next is h = h
+moved_whole out_of_memory t e old new (Operand place why) next is h = h
 
 -- the reply was written
 pub Round-answered : (A : Type 0) (f : First) (t next : Timeline) (feed : Reader) (old mid new : Writer) (ending : Option Ended) (x : A) (request : Request)
@@ -117,7 +138,7 @@ Round-answered A f t next feed old mid new (Some ended) x request same left e p 
       d.0,
       (
         Leaves-whole (exchange d.0 t f.request) (ending_of f.request) f.rest feed old new ended (sym (e ∙ ap ending_of same)) left (subst (λ y. Appends old.bytes new.bytes (exchange d.0 t y)) same text),
-        moved_whole d.0 t f.request ended next (d.1.0 ∙ ap (λ y. (outcome d.0 t y).timeline) same),
+        moved_whole d.0 t f.request old new ended next (sym (e ∙ ap ending_of same)) (d.1.0 ∙ ap (λ y. (outcome d.0 t y).timeline) same),
       ),
     )
 
@@ -132,11 +153,11 @@ Follows-unprompted limit t feed old new r fault e w p =
     Follows-nothing feed (FollowsRound limit t t old new r) (λ bytes left known. Round-unprompted (first limit bytes) t left old new r fault e w p)
 
 pub Follows-unread : (limit : ℕ) (t : Timeline) (feed after : Reader) (old new : Writer) (r : Result (Option Ended) Reason) (fault : Reason)
-    → IsErrAnd r (λ e. e ≡ fault) → WhateverFollows feed after (λ bytes left. Reads (first limit bytes) left (Err fault)) → Appends old.bytes new.bytes prompt
+    → IsErrAnd r (λ e. e ≡ fault) → WhateverFollows feed after (λ bytes left. Reads (first limit bytes) left (Err fault)) → Appends old.bytes new.bytes prompt → new.pending ≡ false
     → WhateverFollows feed after (λ bytes left. (out_of_memory : Bool) × LeavesRound out_of_memory (first limit bytes) t t left old new r)
-Follows-unread limit t feed after old new r fault e h p =
+Follows-unread limit t feed after old new r fault e h p q =
     Follows-so feed after (λ bytes left. Reads (first limit bytes) left (Err fault)) (FollowsRound limit t t old new r) h
-    (λ bytes left reads. Round-unread (first limit bytes) t left old new r fault e reads p)
+    (λ bytes left reads. Round-unread (first limit bytes) t left old new r fault e reads p q)
 
 pub Follows-unanswered : (A : Type 0) (limit : ℕ) (t next : Timeline) (feed after : Reader) (old mid new : Writer) (r : Result (Option Ended) Reason) (fault : Reason) (request : Request)
     → IsErrAnd r (λ e. e ≡ fault) → WhateverFollows feed after (λ bytes left. IsRead (first limit bytes) request left) → Appends old.bytes mid.bytes prompt

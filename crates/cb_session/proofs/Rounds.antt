@@ -1,5 +1,5 @@
 -- A run, round by round.
-use Rattle.std.proofs.Common.{◌≡◌, ◌⊎◌, ℕ, zero, suc, Bool, List, [], ◌∷◌, ◌++◌, Option, Some, None, Ok}
+use Rattle.std.proofs.Common.{◌≡◌, ◌⊎◌, ℕ, zero, suc, Bool, true, false, List, [], ◌∷◌, ◌++◌, Option, Some, None, Ok}
 use Rattle.std.proofs.Common.{refl, sym, ap, ◌∙◌, subst, append_assoc, append-nil, ⊎_elim}
 use Rattle.std.specs.Io.KnownBytes.{Appends, Keeps}
 use Rattle.std.proofs.KnownBytes.{Appends-trans, Appends-nil, Appends-kept}
@@ -11,9 +11,9 @@ use Rattle.cb_tags.specs.Writers.{Writer}
 use Rattle.cb_session.specs.Devices.{Reader, WhateverFollows, leaving}
 use Rattle.cb_session.specs.Inputs.{First, Inputs, first, inputs, ending_of, begin_with}
 use Rattle.cb_session.specs.Requests.{Request}
-use Rattle.cb_session.specs.Serving.{IsBehindFirst, IsLeft, Leaves, LeavesRun, LeavesSession}
-use Rattle.cb_session.specs.steps.Rounds.{EndsRound, IsMoved, LeavesRound}
-use Rattle.cb_session.specs.Output.{outcome, exchange, output, led_to}
+use Rattle.cb_session.specs.Serving.{HandsOn, IsBehindFirst, IsCutShort, IsLeft, Leaves, LeavesRun, LeavesSession}
+use Rattle.cb_session.specs.steps.Rounds.{EndsRound, IsMoved, LeavesRound, is_unread}
+use Rattle.cb_session.specs.Output.{outcome, exchange, output, led_to, prompt}
 use Rattle.cb_session.proofs.Follows.{Some-same, Follows-nothing, Follows-so, Follows-then}
 use Rattle.cb_tags.specs.Writing.{AppendsPrefix}
 use Rattle.cb_tags.proofs.Prefixes.{AppendsPrefix-more, AppendsPrefix-after, AppendsPrefix-whole}
@@ -80,15 +80,21 @@ pub record Rounds (lines limit : ℕ) (bytes : List ℕ) (start : Timeline) (old
   pub rest : List ℕ
   pub refusals : List Bool
   pub so_far : List ℕ
+  pub done : List Request
   pub unread : feed.bytes ≡ Some rest
   pub wrote : Appends old.bytes out.bytes so_far
-  pub text : (ms : List Bool) → output (refusals ++ ms) start (inputs lines limit bytes).requests
-      ≡ so_far ++ output ms t (inputs left limit rest).requests
+  pub said : (ms : List Bool) (es : List Request) → output (refusals ++ ms) start (done ++ es) ≡ so_far ++ output ms t es
   pub ending : (inputs lines limit bytes).ending ≡ (inputs left limit rest).ending
   pub behind : (inputs lines limit bytes).rest ≡ (inputs left limit rest).rest
-  pub done : List Request
   pub are : (inputs lines limit bytes).requests ≡ done ++ (inputs left limit rest).requests
   pub led : (ms : List Bool) (es : List Request) → led_to (refusals ++ ms) start (done ++ es) ≡ led_to ms t es
+
+-- the whole output
+Rounds-text : {lines limit : ℕ} {bytes : List ℕ} {start : Timeline} {old : Writer} {left : ℕ} {t : Timeline} {feed : Reader} {out : Writer}
+    (r : Rounds lines limit bytes start old left t feed out) (ms : List Bool)
+    → output (r.refusals ++ ms) start (inputs lines limit bytes).requests ≡ r.so_far ++ output ms t (inputs left limit r.rest).requests
+Rounds-text {lines = lines} {limit = limit} {start = start} {left = left} r ms =
+    ap (λ es. output (r.refusals ++ ms) start es) r.are ∙ r.said ms (inputs left limit r.rest).requests
 
 pub Rounds-start : (lines limit : ℕ) (bytes : List ℕ) (start : Timeline) (old : Writer)
     (feed : Reader) → feed.bytes ≡ Some bytes
@@ -99,7 +105,7 @@ Rounds-start lines limit bytes start old feed h = record {
   so_far = [];
   unread = h;
   wrote = Appends-nil old.bytes;
-  text = λ ms. refl;
+  said = λ ms es. refl;
   ending = refl;
   behind = refl;
   done = [];
@@ -122,15 +128,12 @@ Rounds-more lines limit bytes start old left t next feed after out new out_of_me
       so_far = r.so_far ++ exchange out_of_memory t f.request;
       unread = h.1;
       wrote = Appends-trans old.bytes out.bytes new.bytes r.so_far (exchange out_of_memory t f.request) r.wrote h.3;
-      text = λ ms.
-          ap (λ l. output l start (inputs lines limit bytes).requests) (append_assoc r.refusals (out_of_memory ∷ []) ms)
-          ∙ r.text (out_of_memory ∷ ms)
-          ∙ ap (λ i. r.so_far ++ output (out_of_memory ∷ ms) t i.requests) on
-          ∙ ap (λ l. r.so_far ++ l) (output-cons out_of_memory ms t f.request (inputs left limit f.rest).requests)
-          ∙ ap (λ s. r.so_far ++ (exchange out_of_memory t f.request
-          ++ output ms s (inputs left limit f.rest).requests)) (sym h.2)
-          ∙ sym (append_assoc r.so_far (exchange out_of_memory t f.request)
-          (output ms next (inputs left limit f.rest).requests));
+      said = λ ms es.
+          (λ i. output (append_assoc r.refusals (out_of_memory ∷ []) ms i) start (append_assoc r.done (f.request ∷ []) es i))
+          ∙ r.said (out_of_memory ∷ ms) (f.request ∷ es)
+          ∙ ap (λ l. r.so_far ++ l) (output-cons out_of_memory ms t f.request es)
+          ∙ ap (λ s. r.so_far ++ (exchange out_of_memory t f.request ++ output ms s es)) (sym h.2)
+          ∙ sym (append_assoc r.so_far (exchange out_of_memory t f.request) (output ms next es));
       ending = r.ending ∙ ap (λ i. i.ending) on;
       behind = r.behind ∙ ap (λ i. i.rest) on;
       done = r.done ++ f.request ∷ [];
@@ -155,7 +158,7 @@ Rounds-prefix lines limit bytes start old left t feed out new out_of_memory r h 
     let after = output [] (outcome out_of_memory t f.request).timeline b.0 in
     let whole : output (r.refusals ++ out_of_memory ∷ []) start (inputs lines limit bytes).requests
     ≡ r.so_far ++ (exchange out_of_memory t f.request ++ after) =
-    r.text (out_of_memory ∷ []) ∙ ap (λ es. r.so_far ++ output (out_of_memory ∷ []) t es) b.1
+    Rounds-text r (out_of_memory ∷ []) ∙ ap (λ es. r.so_far ++ output (out_of_memory ∷ []) t es) b.1
     ∙ ap (λ l. r.so_far ++ l) (output-cons out_of_memory [] t f.request b.0) in
     subst (λ l. AppendsPrefix old.bytes new.bytes l) (sym whole)
     (AppendsPrefix-after old.bytes out.bytes new.bytes r.so_far (exchange out_of_memory t f.request ++ after) r.wrote
@@ -179,7 +182,7 @@ Rounds-last lines limit bytes start old left t feed out new out_of_memory ended 
     let last = inputs-last left limit r.rest ended e in
     let whole : output (r.refusals ++ out_of_memory ∷ []) start (inputs lines limit bytes).requests
     ≡ r.so_far ++ exchange out_of_memory t f.request =
-    r.text (out_of_memory ∷ []) ∙ ap (λ i. r.so_far ++ output (out_of_memory ∷ []) t i.requests) last
+    Rounds-text r (out_of_memory ∷ []) ∙ ap (λ i. r.so_far ++ output (out_of_memory ∷ []) t i.requests) last
     ∙ ap (λ l. r.so_far ++ l) (output-cons out_of_memory [] t f.request []
     ∙ ap (λ l. exchange out_of_memory t f.request ++ l)
     (output-nil [] (outcome out_of_memory t f.request).timeline)
@@ -250,6 +253,27 @@ Rounds-first lines limit bytes start old left t feed out out_of_memory next r =
     ⊎_elim (Rounds-unmoved lines limit bytes start old left t feed out out_of_memory next r)
     (Rounds-some lines limit bytes start old left t feed out out_of_memory next r)
 
+-- a read fault: the inputs before this round are answered, and a prompt is written behind
+Rounds-cut : (lines limit : ℕ) (bytes : List ℕ) (start : Timeline) (old : Writer) (left : ℕ)
+    (t : Timeline) (feed : Reader) (out new : Writer) (out_of_memory : Bool) (next : Timeline)
+    → (r : Rounds lines limit bytes start old (suc left) t feed out)
+    → next ≡ t → Appends out.bytes new.bytes prompt → new.pending ≡ false
+    → IsCutShort (r.refusals ++ out_of_memory ∷ []) start (inputs lines limit bytes).requests old new next
+unfolding Rounds-unmoved
+Rounds-cut lines limit bytes start old left t feed out new out_of_memory next r same prompted handed_on =
+    let first_ones = Rounds-unmoved lines limit bytes start old left t feed out out_of_memory next r same in
+    let text : output (r.refusals ++ out_of_memory ∷ []) start r.done ≡ r.so_far =
+    ap (output (r.refusals ++ out_of_memory ∷ []) start) (sym (append-nil r.done)) ∙ r.said (out_of_memory ∷ []) []
+    ∙ ap (λ l. r.so_far ++ l) (output-nil (out_of_memory ∷ []) t) ∙ append-nil r.so_far in (
+      r.done,
+      (inputs (suc left) limit r.rest).requests,
+      r.are,
+      first_ones.3,
+      subst (λ l. Appends old.bytes new.bytes (l ++ prompt)) (sym text)
+          (Appends-trans old.bytes out.bytes new.bytes r.so_far prompt r.wrote prompted),
+      handed_on,
+    )
+
 -- an answered last input leads behind all of them
 Rounds-all : (lines limit : ℕ) (bytes : List ℕ) (start : Timeline) (old : Writer) (left : ℕ)
     (t : Timeline) (feed : Reader) (out : Writer) (out_of_memory : Bool) (ended : Ended) (next : Timeline)
@@ -272,7 +296,7 @@ Rounds-end lines limit bytes start old left t next feed after out new
     out_of_memory (Fault Read) r h = (
       r.refusals ++ out_of_memory ∷ [],
       Rounds-prefix lines limit bytes start old left t feed out new out_of_memory r h.0,
-      Rounds-first lines limit bytes start old left t feed out out_of_memory next r h.1,
+      Rounds-cut lines limit bytes start old left t feed out new out_of_memory next r h.1.0 h.1.1 h.1.2,
     )
 Rounds-end lines limit bytes start old left t next feed after out new
     out_of_memory (Fault Write) r h = (
@@ -329,7 +353,7 @@ pub Rounds-out : (lines limit : ℕ) (bytes : List ℕ) (start : Timeline) (old 
 Rounds-out lines limit bytes start old t feed out r =
     let none = inputs-out limit r.rest in
     let whole : output (r.refusals ++ []) start (inputs lines limit bytes).requests ≡ r.so_far =
-    r.text [] ∙ ap (λ i. r.so_far ++ output [] t i.requests) none
+    Rounds-text r [] ∙ ap (λ i. r.so_far ++ output [] t i.requests) none
     ∙ ap (λ l. r.so_far ++ l) (output-nil [] t) ∙ append-nil r.so_far in (
       r.refusals ++ [],
       (
@@ -447,16 +471,16 @@ Leaves-prefix text meant rest feed old new Cut p = AppendsPrefix-whole old.bytes
 Leaves-prefix text meant rest feed old new (Operand place why) p = AppendsPrefix-whole old.bytes new.bytes text p.2
 
 -- a timeline behind all inputs is one behind the first of them
-IsLeft-first : (refusals : List Bool) (t : Timeline) (es : List Request) (ended : Ended) (next : Timeline)
-    → IsLeft refusals t es ended next → IsBehindFirst refusals t es next
-IsLeft-first refusals t es (Fault Read) next h = h
-IsLeft-first refusals t es (Fault Write) next h = h
-IsLeft-first refusals t es (Fault Memory) next h = h
-IsLeft-first refusals t es (Fault LongLine) next h = (es, [], sym (append-nil es), h)
-IsLeft-first refusals t es (Fault ManyLines) next h = (es, [], sym (append-nil es), h)
-IsLeft-first refusals t es Done next h = (es, [], sym (append-nil es), h)
-IsLeft-first refusals t es Cut next h = (es, [], sym (append-nil es), h)
-IsLeft-first refusals t es (Operand place why) next h = (es, [], sym (append-nil es), h)
+IsLeft-first : (refusals : List Bool) (t : Timeline) (es : List Request) (old new : Writer) (ended : Ended) (next : Timeline)
+    → IsLeft refusals t es old new ended next → IsBehindFirst refusals t es next
+IsLeft-first refusals t es old new (Fault Read) next h = (h.0, h.1, h.2, h.3)
+IsLeft-first refusals t es old new (Fault Write) next h = h
+IsLeft-first refusals t es old new (Fault Memory) next h = h
+IsLeft-first refusals t es old new (Fault LongLine) next h = (es, [], sym (append-nil es), h)
+IsLeft-first refusals t es old new (Fault ManyLines) next h = (es, [], sym (append-nil es), h)
+IsLeft-first refusals t es old new Done next h = (es, [], sym (append-nil es), h)
+IsLeft-first refusals t es old new Cut next h = (es, [], sym (append-nil es), h)
+IsLeft-first refusals t es old new (Operand place why) next h = (es, [], sym (append-nil es), h)
 
 pub LeavesSession-unflushed : (i : Inputs) (start next : Timeline) (feed : Reader) (old mid new : Writer)
     (ended : Ended) → Keeps mid.bytes new.bytes → LeavesSession i start next feed old mid ended
@@ -467,7 +491,7 @@ LeavesSession-unflushed i start next feed old mid new ended kept run =
     (Some i.ending) i.rest feed old mid ended run.1 in (
       run.0,
       (p.0, p.1, p.2, Appends-kept old.bytes mid.bytes new.bytes p.0 p.3 kept),
-      IsLeft-first run.0 start i.requests ended next run.2,
+      IsLeft-first run.0 start i.requests old mid ended next run.2,
     )
 
 -- a last flush keeps what was written
@@ -491,16 +515,54 @@ Leaves-kept text meant rest feed old mid new Cut kept p =
 Leaves-kept text meant rest feed old mid new (Operand place why) kept p =
     (p.0, p.1, Appends-kept old.bytes mid.bytes new.bytes text p.2 kept)
 
+IsLeft-kept : (refusals : List Bool) (t : Timeline) (es : List Request) (old mid new : Writer) (ended : Ended) (next : Timeline) → Keeps mid.bytes new.bytes
+    → new.pending ≡ false → IsLeft refusals t es old mid ended next → IsLeft refusals t es old new ended next
+IsLeft-kept refusals t es old mid new (Fault Read) next kept none h =
+    (h.0, h.1, h.2, h.3, Appends-kept old.bytes mid.bytes new.bytes (output refusals t h.0 ++ prompt) h.4 kept, none)
+IsLeft-kept refusals t es old mid new (Fault Write) next kept none h = h
+IsLeft-kept refusals t es old mid new (Fault Memory) next kept none h = h
+IsLeft-kept refusals t es old mid new (Fault LongLine) next kept none h = h
+IsLeft-kept refusals t es old mid new (Fault ManyLines) next kept none h = h
+IsLeft-kept refusals t es old mid new Done next kept none h = h
+IsLeft-kept refusals t es old mid new Cut next kept none h = h
+IsLeft-kept refusals t es old mid new (Operand place why) next kept none h = h
+
 pub LeavesSession-flushed : (i : Inputs) (start next : Timeline) (feed : Reader) (old mid new : Writer)
-    (ended : Ended) → Keeps mid.bytes new.bytes → LeavesSession i start next feed old mid ended
+    (ended : Ended) → Keeps mid.bytes new.bytes → new.pending ≡ false → LeavesSession i start next feed old mid ended
     → LeavesSession i start next feed old new ended
-LeavesSession-flushed i start next feed old mid new ended kept run = (
+LeavesSession-flushed i start next feed old mid new ended kept none run = (
   run.0,
   Leaves-kept (output run.0 start i.requests) (Some i.ending) i.rest feed old mid new ended kept run.1,
-  run.2,
+  IsLeft-kept run.0 start i.requests old mid new ended next kept none run.2,
 )
+
+-- what a flush leaves is handed on
+pub HandsOn-flushed : (out : Writer) (ended : Ended) → out.pending ≡ false → HandsOn out ended
+HandsOn-flushed out (Fault Read) h = h
+HandsOn-flushed out (Fault Write) h = tt
+HandsOn-flushed out (Fault Memory) h = h
+HandsOn-flushed out (Fault LongLine) h = h
+HandsOn-flushed out (Fault ManyLines) h = h
+HandsOn-flushed out Done h = h
+HandsOn-flushed out Cut h = h
+HandsOn-flushed out (Operand place why) h = tt
+
+-- and so is what a read fault leaves
+pub HandsOn-unread : (lines limit : ℕ) (start next : Timeline) (feed after : Reader) (old new : Writer) (ended : Ended) → is_unread ended ≡ true
+    → WhateverFollows feed after (λ bytes at. LeavesSession (inputs lines limit bytes) start next at old new ended)
+    → HandsOn new ended
+HandsOn-unread lines limit start next feed after old new (Fault Read) is s =
+    let cut : LeavesSession (inputs lines limit (s.0 ++ [])) start next (leaving after []) old new (Fault Read) = s.2 [] (λ e. refl) in
+    cut.2.5
+HandsOn-unread lines limit start next feed after old new (Fault Write) is s = tt
+HandsOn-unread lines limit start next feed after old new (Fault Memory) is s = cc
+HandsOn-unread lines limit start next feed after old new (Fault LongLine) is s = cc
+HandsOn-unread lines limit start next feed after old new (Fault ManyLines) is s = cc
+HandsOn-unread lines limit start next feed after old new Done is s = cc
+HandsOn-unread lines limit start next feed after old new Cut is s = cc
+HandsOn-unread lines limit start next feed after old new (Operand place why) is s = tt
 
 -- what a run leaves beside the session
 pub session_run : (i : Inputs) (start next : Timeline) (feed : Reader) (old new : Writer) (ended : Ended)
     → LeavesSession i start next feed old new ended → LeavesRun i start feed old new ended
-session_run i start next feed old new ended run = (run.0, run.1)
+session_run i start next feed old new ended run = (next, run)

@@ -2,6 +2,7 @@
 ghost use Rattle.std.specs.Prelude.{◌≡◌};
 ghost use Rattle.cb_session.specs.Inputs.{is_cut, ending_of};
 ghost use Rattle.cb_session.specs.Models.{request_of, going_of};
+ghost use Rattle.cb_session.specs.steps.Rounds.{is_unread};
 
 use crate::ReadFault;
 use cb_desk::{Change, Field, Format, Refusal};
@@ -102,6 +103,15 @@ fn is_cut(refusal: Refusal) -> bool
     ensures { result ≡ is_cut refusal }
 {
     matches!(refusal, Refusal::InputEnded)
+}
+
+impl Ended {
+    /// Whether a read fault ended the run.
+    pub(crate) fn is_unread(self) -> bool
+        ensures { result ≡ is_unread self }
+    {
+        matches!(self, Ended::Fault(Fault::Read))
+    }
 }
 
 impl Input<'_> {

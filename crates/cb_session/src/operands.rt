@@ -1,7 +1,7 @@
 //! Files that are loaded before a run.
 ghost use Rattle.std.specs.Prelude.{◌≡◌, List, ℕ, Some, map};
 ghost use Rattle.cb_session.specs.Devices.{WhateverFollows};
-ghost use Rattle.cb_session.specs.Serving.{HasFailed, IfFault, Tells, fault_of};
+ghost use Rattle.cb_session.specs.Serving.{HandsOn, HasFailed, IfFault, Tells, fault_of};
 ghost use Rattle.cb_session.specs.Operands.{file_of_operand, Prepares, Runs};
 
 use crate::{Ended, Feed, Limits, Session};
@@ -57,6 +57,7 @@ pub fn run<R: BufRead, W: Write>(
         left out.old out.new result) }
     ensures failed { IfFault result (HasFailed feed.new out.new) }
     ensures told { Tells feed.old feed.new out.old out.new (fault_of result) }
+    ensures handed_on { HandsOn out.new result }
 {
     match prepare(alloc, operands) {
         Ok(mut session) => session.serve(alloc, limits, feed, out),

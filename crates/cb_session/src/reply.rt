@@ -1,4 +1,5 @@
 //! The replies, and the texts that they are made of.
+ghost use Rattle.std.specs.Prelude.{◌≡◌, IfOk, false};
 ghost use Rattle.std.specs.List.{flat_map};
 ghost use Rattle.cb_session.specs.Writing.{Puts};
 ghost use Rattle.cb_session.specs.Output.{
@@ -36,7 +37,8 @@ pub fn put_all<W: Write>(out: &mut Sink<W>, texts: &[&[u8]]) -> Result<(), Fault
 
 /// Writes the prompt, and hands it on.
 pub fn put_prompt<W: Write>(out: &mut Sink<W>) -> Result<(), Fault>
-    ensures { Puts out.old out.new result prompt }
+    ensures put { Puts out.old out.new result prompt }
+    ensures handed_on { IfOk result (λ _. out.new.pending ≡ false) }
 {
     put(out, b">> ")?;
     out.flush()?;

@@ -6,7 +6,7 @@ ghost use Rattle.cb_desk.specs.Timeline.{new_timeline};
 ghost use Rattle.cb_session.specs.Devices.{WhateverFollows};
 ghost use Rattle.cb_session.specs.Inputs.{first, ending_of};
 ghost use Rattle.cb_session.specs.Models.{request_of, going_of, HasPattern};
-ghost use Rattle.cb_session.specs.Serving.{Does, HasFailed, IfFault, Serves, Tells};
+ghost use Rattle.cb_session.specs.Serving.{Does, HasFailed, IfFault, Serves, ServesInputs, Tells};
 ghost use Rattle.cb_session.specs.steps.Rounds.{LeavesRound, fault_in};
 ghost use Rattle.cb_session.specs.Output.{outcome};
 ghost use Rattle.cb_session.specs.Requests.{change as change_asked};
@@ -159,7 +159,8 @@ impl Session {
             feed.new out.old out.new result }
     {
         let ended = self.rounds(alloc, limits, feed, out);
-        if feed.failed() || out.failed() {
+        // The prompt before a read fault was handed on.
+        if ended.is_unread() {
             return ended;
         }
         match out.flush() {
@@ -175,7 +176,7 @@ impl Session {
         feed: &mut Feed<R>,
         out: &mut Sink<W>,
     ) -> Ended
-        ensures { Serves limits.now.lines limits.now.line self.old self.new feed.old
+        ensures { ServesInputs limits.now.lines limits.now.line self.old self.new feed.old
             feed.new out.old out.new result }
     {
         let mut intake = match Intake::new(alloc) {

@@ -1,5 +1,5 @@
 -- Texts, and prefixes of them, that a writer has taken.
-use Rattle.std.proofs.Common.{◌≡◌, ◌≢◌, ℕ, suc, ◌+◌, ◌<◌, true, List, [], ◌∷◌, ◌++◌, length, take, drop, get_or, Option, None, Some, Result, Ok, Err, refl, sym, ap, ◌∙◌, subst, append_assoc, append-nil, take-append-drop}
+use Rattle.std.proofs.Common.{arith, ◌≡◌, ◌≢◌, ℕ, zero, suc, ◌+◌, ◌<◌, ◌≤◌, true, List, [], ◌∷◌, ◌++◌, length, take, drop, get_or, Option, None, Some, Result, Ok, Err, refl, sym, ap, ◌∙◌, subst, append_assoc, append-nil, take-append-drop}
 use Rattle.std.specs.Prelude.{IsErrAnd}
 use Rattle.std.specs.List.{flat_map}
 use Rattle.std.proofs.lemmas.Bool.{false≢true}
@@ -37,13 +37,13 @@ cons≢nil x xs = λ e. cc
 
 -- nothing was written
 pub PutsAll-none : (w : Writer) → PutsAll w w []
-PutsAll-none w = (refl, λ h. absurd (h refl), Appends-nil w.bytes)
+PutsAll-none w = (refl, λ h. absurd (h refl), Appends-nil w.bytes, λ e. refl)
 
 -- one text, and then another
 pub PutsAll-after : (old mid new : Writer) (text more : List ℕ) → PutsAll old mid text → PutsAll mid new more → PutsAll old new (text ++ more)
-PutsAll-after old mid new [] more p q = (q.0 ∙ p.0, λ h. sym p.0 ∙ q.1 h, Appends-trans old.bytes mid.bytes new.bytes [] more p.2 q.2)
+PutsAll-after old mid new [] more p q = (q.0 ∙ p.0, λ h. sym p.0 ∙ q.1 h, Appends-trans old.bytes mid.bytes new.bytes [] more p.2 q.2, λ e. q.3 e ∙ p.3 refl)
 PutsAll-after old mid new (x ∷ xs) more p q =
-    (q.0 ∙ p.0, λ h. p.1 (cons≢nil x xs), Appends-trans old.bytes mid.bytes new.bytes (x ∷ xs) more p.2 q.2)
+    (q.0 ∙ p.0, λ h. p.1 (cons≢nil x xs), Appends-trans old.bytes mid.bytes new.bytes (x ∷ xs) more p.2 q.2, λ e. absurd (cons≢nil x (xs ++ more) e))
 
 -- a prefix of a text is one of each longer text
 pub PutsPrefix-more : (old new : Writer) (text more : List ℕ) → PutsPrefix old new text → PutsPrefix old new (text ++ more)
@@ -51,14 +51,17 @@ PutsPrefix-more old new text more p = (p.0, p.1, AppendsPrefix-more old.bytes ne
 
 -- a whole text, and then a prefix of another
 pub PutsPrefix-after : (old mid new : Writer) (text more : List ℕ) → PutsAll old mid text → PutsPrefix mid new more → PutsPrefix old new (text ++ more)
-PutsPrefix-after old mid new [] more p q =
-    (q.0, λ h. Keeps-trans old.bytes mid.bytes new.bytes (Keeps-none old.bytes mid.bytes p.2) (q.1 (p.0 ∙ h)), AppendsPrefix-after old.bytes mid.bytes new.bytes [] more p.2 q.2)
+PutsPrefix-after old mid new [] more p q = (
+  q.0,
+  λ h. let k = q.1 (p.0 ∙ h) in (Keeps-trans old.bytes mid.bytes new.bytes (Keeps-none old.bytes mid.bytes p.2) k.0, k.1 ∙ p.3 refl),
+  AppendsPrefix-after old.bytes mid.bytes new.bytes [] more p.2 q.2,
+)
 PutsPrefix-after old mid new (x ∷ xs) more p q =
     (q.0, λ h. absurd (false≢true (sym (p.1 (cons≢nil x xs)) ∙ h)), AppendsPrefix-after old.bytes mid.bytes new.bytes (x ∷ xs) more p.2 q.2)
 
 -- the writer failed at once
-pub PutsPrefix-none : (old new : Writer) (text : List ℕ) → new.failed ≡ true → Keeps old.bytes new.bytes → PutsPrefix old new text
-PutsPrefix-none old new text f k = (f, λ h. k, ([], text, refl, Appends-kept old.bytes old.bytes new.bytes [] (Appends-nil old.bytes) k))
+pub PutsPrefix-none : (old new : Writer) (text : List ℕ) → new.failed ≡ true → Keeps old.bytes new.bytes → new.pending ≡ old.pending → PutsPrefix old new text
+PutsPrefix-none old new text f k same = (f, λ h. (k, same), ([], text, refl, Appends-kept old.bytes old.bytes new.bytes [] (Appends-nil old.bytes) k))
 
 -- the fault of a writer that was passed on
 pub Puts-fault : {A E : Type 0} (old new : Writer) (r : Result A E) (fault : E → Type 0) (text : List ℕ) → IsErrAnd r fault → PutsPrefix old new text → Puts old new r text
@@ -70,19 +73,25 @@ pub Puts-after : {A E : Type 0} (old mid new : Writer) (r : Result A E) (text mo
 Puts-after old mid new (Ok x) text more p q = PutsAll-after old mid new text more p q
 Puts-after old mid new (Err x) text more p q = PutsPrefix-after old mid new text more p q
 
+-- some bytes are no empty text
+take-some : (n : ℕ) (xs : List ℕ) → 1 ≤ n → n ≤ length xs → take n xs ≢ []
+take-some zero xs p q = let none : ⊥ = omega (arith, p) in absurd none
+take-some (suc n) [] p q = let none : ⊥ = omega (arith, q) in absurd none
+take-some (suc n) (x ∷ xs) p q = cons≢nil x (take n xs)
+
 -- the next bytes of a text
 pub PutsAll-next : (old mid new : Writer) (text : List ℕ) (at n : ℕ) → PutsAll old mid (take at text) → TakesBytes mid new (Ok n) (drop at text)
     → PutsAll old new (take (at + n) text)
 PutsAll-next old mid new text at n p q =
     subst (λ t. PutsAll old new t) (sym (take-add at n text))
-    (PutsAll-after old mid new (take at text) (take n (drop at text)) p (q.1 ∙ sym q.0, λ h. q.0, q.4))
+    (PutsAll-after old mid new (take at text) (take n (drop at text)) p (q.1 ∙ sym q.0, λ h. q.0, q.4, λ e. absurd (take-some n (drop at text) q.2 q.3 e)))
 
 -- a text of which the first bytes were written, and nothing after them
 pub PutsPrefix-stopped : (old mid new : Writer) (text : List ℕ) (at : ℕ) → PutsAll old mid (take at text)
-    → (new.failed ≡ true) × Keeps mid.bytes new.bytes → PutsPrefix old new text
+    → (new.failed ≡ true) × Keeps mid.bytes new.bytes × (new.pending ≡ mid.pending) → PutsPrefix old new text
 PutsPrefix-stopped old mid new text at p q =
     subst (λ t. PutsPrefix old new t) (take-append-drop at text)
-    (PutsPrefix-after old mid new (take at text) (drop at text) p (PutsPrefix-none mid new (drop at text) q.0 q.1))
+    (PutsPrefix-after old mid new (take at text) (drop at text) p (PutsPrefix-none mid new (drop at text) q.0 q.1 q.2))
 
 -- the texts of the elements of a list: those before an element, that of the element, those after it
 pub flat_map-at : {X : Type 0} (f : X → List ℕ) (xs : List X) (i : ℕ) (d : X) → i < length xs

@@ -14,6 +14,7 @@ pub struct WriteFault;
 pub struct Sink<W: Write> {
     writer: W,
     broken: bool,
+    pending: bool,
 }
 
 impl<W: Write> Model for Sink<W> {
@@ -21,18 +22,20 @@ impl<W: Write> Model for Sink<W> {
 
     ghost Value = { Writer };
 
-    ghost view = { λ s. record { bytes = W.contents s.writer; failed = s.broken } };
+    ghost view = { λ s.
+        record { bytes = W.contents s.writer; failed = s.broken; pending = s.pending } };
 }
 
 impl<W: Write> Sink<W> {
-    /// A sink that has not failed.
+    /// A sink that has not failed, and has taken nothing.
     pub fn new(writer: W) -> Sink<W>
         ensures bytes { result.bytes ≡ W.contents writer }
-        ensures fine { result.failed ≡ false }
+        ensures fine { (result.failed ≡ false) × (result.pending ≡ false) }
     {
         Sink {
             writer,
             broken: false,
+            pending: false,
         }
     }
 
@@ -46,7 +49,10 @@ impl<W: Write> Sink<W> {
             return Err(WriteFault);
         }
         match self.writer.write(bytes) {
-            Ok(taken) if taken > 0 => Ok(taken),
+            Ok(taken) if taken > 0 => {
+                self.pending = true;
+                Ok(taken)
+            }
             _ => {
                 self.broken = true;
                 Err(WriteFault)
@@ -62,7 +68,10 @@ impl<W: Write> Sink<W> {
             return Err(WriteFault);
         }
         match self.writer.flush() {
-            Ok(()) => Ok(()),
+            Ok(()) => {
+                self.pending = false;
+                Ok(())
+            }
             Err(_) => {
                 self.broken = true;
                 Err(WriteFault)

@@ -51,7 +51,8 @@ tags_output listing format w = output_text listing format (tags (output_format l
 
 -- the whole text was written and handed on; or the writer failed, and a prefix was written
 abbrev pub WritesText : List ℕ → Writer → Writer → Ended → Type 0
-WritesText text old new Done = (new.failed ≡ false) × Appends old.bytes new.bytes text
+WritesText text old new Done =
+    (new.failed ≡ false) × Appends old.bytes new.bytes text × (new.pending ≡ false)
 WritesText text old new (Fault Write) = (new.failed ≡ true) × AppendsPrefix old.bytes new.bytes text
 WritesText text old new _ = ⊥
 

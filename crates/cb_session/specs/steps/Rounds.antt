@@ -1,5 +1,5 @@
 -- What a round of a run leaves, and the replies to moves.
-use Rattle.std.specs.Prelude.{◌≡◌, ◌⊎◌, Bool, List, ℕ, Option, None, Some, Result, Ok, Err}
+use Rattle.std.specs.Prelude.{◌≡◌, ◌⊎◌, Bool, List, ℕ, Option, None, Some, Result, Ok, Err, true, false}
 use Rattle.std.specs.Io.KnownBytes.{Appends}
 use Rattle.cb_desk.specs.declared.refusal.Refusal.{Refusal}
 use Rattle.cb_desk.specs.Timeline.{Timeline}
@@ -11,7 +11,7 @@ use Rattle.cb_session.specs.Requests.{Request}
 use Rattle.cb_session.specs.Devices.{Reader}
 use Rattle.cb_session.specs.Inputs.{First, ending_of}
 use Rattle.cb_session.specs.Serving.{Leaves}
-use Rattle.cb_session.specs.Output.{refused_line, outcome, exchange}
+use Rattle.cb_session.specs.Output.{refused_line, outcome, exchange, prompt}
 use Rattle.cb_tags.specs.Writers.{Writer}
 
 -- the reply to a move of the timeline, by that of one that is done
@@ -24,22 +24,28 @@ abbrev pub fault_in : {A : Type 0} → Result A Reason → Option Reason
 fault_in (Ok _) = None
 fault_in (Err fault) = Some fault
 
+-- a read fault ended the run
+abbrev pub is_unread : Ended → Bool
+is_unread (Fault Read) = true
+is_unread ended = false
+
 -- the timeline after a round that ends the run: an input that was answered has moved it; after a
--- fault of a device or of memory it may not have moved
-abbrev pub IsMoved : Bool → Timeline → Request → Ended → Timeline → Type 0
-IsMoved out_of_memory t e (Fault Read) next =
+-- fault of reading it has not moved, and only the prompt was written, and handed on; after one of
+-- writing or of memory it may not have moved
+abbrev pub IsMoved : Bool → Timeline → Request → Writer → Writer → Ended → Timeline → Type 0
+IsMoved out_of_memory t e old new (Fault Read) next =
+    (next ≡ t) × Appends old.bytes new.bytes prompt × (new.pending ≡ false)
+IsMoved out_of_memory t e old new (Fault Write) next =
     (next ≡ t) ⊎ (next ≡ (outcome out_of_memory t e).timeline)
-IsMoved out_of_memory t e (Fault Write) next =
+IsMoved out_of_memory t e old new (Fault Memory) next =
     (next ≡ t) ⊎ (next ≡ (outcome out_of_memory t e).timeline)
-IsMoved out_of_memory t e (Fault Memory) next =
-    (next ≡ t) ⊎ (next ≡ (outcome out_of_memory t e).timeline)
-IsMoved out_of_memory t e ended next = next ≡ (outcome out_of_memory t e).timeline
+IsMoved out_of_memory t e old new ended next = next ≡ (outcome out_of_memory t e).timeline
 
 -- a round that ends the run
 abbrev pub EndsRound : Bool → First → (t next : Timeline) → Reader → Writer → Writer → Ended → Type 0
 EndsRound out_of_memory f t next feed old new ended =
     Leaves (exchange out_of_memory t f.request) (ending_of f.request) f.rest feed old new ended
-    × IsMoved out_of_memory t f.request ended next
+    × IsMoved out_of_memory t f.request old new ended next
 
 -- one round: the exchange of a prompt and the reply to the first input, and the ending of the run
 -- if it has one

@@ -10,13 +10,13 @@ returns-in-Ok-clause-output g c = λ bytes e. (
   Ok c.in-Ok.session,
   c.in-Ok.ensures,
   session_run (inputs c.args.limits.now.lines c.args.limits.now.line bytes) c.in-Ok.session c.serve.new.self
-      c.serve.new.feed c.args.out.now c.serve.new.out c.serve.result (c.serve.ensures.output bytes e),
+      c.serve.new.feed c.args.out.now c.serve.new.out c.serve.result (c.serve.ensures.0.output bytes e),
 )
 
 pub returns-in-Ok-clause-every_input : goal.returns-in-Ok-clause-every_input
 returns-in-Ok-clause-every_input g c =
     Follows-loaded _ c.args.limits.now.lines c.args.limits.now.line c.in-Ok.session c.args.feed.now c.serve.new.feed c.args.out.now c.serve.new.out c.serve.result
-    c.serve.new.self c.in-Ok.ensures c.serve.ensures.every_input
+    c.serve.new.self c.in-Ok.ensures c.serve.ensures.0.every_input
 
 pub returns-in-Err-clause-every_input : goal.returns-in-Err-clause-every_input
 returns-in-Err-clause-every_input g c = Follows-refused _ c.args.limits.now.lines c.args.limits.now.line c.args.feed.now c.args.out.now c.in-Err.ended c.in-Err.ensures

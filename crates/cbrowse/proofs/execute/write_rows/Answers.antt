@@ -13,5 +13,5 @@ returns-in-Err-flush g c =
     let prefix : PutsPrefix c.args.out.now c.flush.new.self text =
     subst (PutsPrefix c.args.out.now c.flush.new.self) (append-nil text)
     (PutsPrefix-after c.args.out.now c.put_answer.new.out c.flush.new.self text [] put
-    (PutsPrefix-none c.put_answer.new.out c.flush.new.self [] c.in-Err-flush.ensures.0 c.in-Err-flush.ensures.1)) in
+    (PutsPrefix-none c.put_answer.new.out c.flush.new.self [] c.in-Err-flush.ensures.0 c.in-Err-flush.ensures.1 c.in-Err-flush.ensures.2)) in
     (prefix.0, prefix.2)
