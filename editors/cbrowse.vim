@@ -13,7 +13,9 @@
 " Lists go to the quickfix window. Without NAME the word under the cursor is asked for. An answer is about the files as they
 " were last saved: a write of vim sends the file by `:reload`, or by `:load` where it is new. A file that is gone is dropped
 " at the next question. Files belong to the session if they are in the folder in which it began, or below it, and cbrowse
-" takes their names and their bytes: 255 bytes of ASCII without blanks, ending in .c or .h, and 1,000,000 bytes.
+" takes their names and their bytes: 255 bytes of ASCII without blanks, ending in .c or .h, and 1,000,000 bytes. A file whose
+" tags would have over 100,000,000 bytes and over 100 times its own is left out and told, since each row shows its whole line;
+" `let g:cbrowse_all = 1` takes it. A list has the first 10,000 rows, and the first 400 bytes of each.
 "
 " The program is cbrowse, or what g:cbrowse_program names. It needs vim 8.2 with +job and +channel.
 
@@ -28,6 +30,8 @@ let g:loaded_cbrowse = 1
 
 const s:patience = 20000 " milliseconds until a reply is given up
 const s:most_bytes = 1000000
+const s:most_rows = 10000
+const s:most_shown = 400 " bytes of a row
 let s:root = ''  " the folder of the session, with its last slash
 let s:names = {} " the names of its files
 
@@ -75,12 +79,36 @@ function! s:drop(name) abort
   endif
 endfunction
 
+" Whether the tags of a file would be very large. A line of n bytes has fewer than n / 2 definitions, so few files are counted.
+function! s:is_very_large(path) abort
+  let size = getfsize(a:path)
+  if get(g:, 'cbrowse_all', 0) || size <= 20000
+    return 0
+  endif
+  let most = max([100000000, 100 * size])
+  let bound = 0
+  for line in readfile(a:path, 'b')
+    let bound += len(line) * len(line) / 2
+  endfor
+  if bound <= most
+    return 0
+  endif
+  let words = [get(g:, 'cbrowse_program', 'cbrowse'), 'tags', '-x', '--', fnamemodify(a:path, ':t')]
+  let command = join(map(words, 'shellescape(v:val)')) .. ' 2>/dev/null | head -c ' .. (most + 1) .. ' | wc -c'
+  return str2nr(system('cd ' .. shellescape(fnamemodify(a:path, ':h')) .. ' && ' .. command)) > most
+endfunction
+
 " Sends the bytes that a file has on disk. Once the history is full a new session begins.
 function! s:send(name) abort
   let bytes = readblob(s:root .. a:name)
   if len(bytes) > s:most_bytes
     call s:drop(a:name)
     call s:warn(a:name .. ': too large')
+    return
+  endif
+  if s:is_very_large(s:root .. a:name)
+    call s:drop(a:name)
+    call s:warn(a:name .. ': its tags would be very large (g:cbrowse_all = 1 takes it)')
     return
   endif
   let word = has_key(s:names, a:name) ? ':reload' : ':load'
@@ -126,7 +154,7 @@ endfunction
 " The entry of the quickfix list for a row: its file, function, line and text.
 function! s:entry(row) abort
   let [file, place, line, text] = matchlist(a:row, '\v^(\S+) (\S+) (\d+) (\_.*)$')[1:4]
-  return {'filename': s:root .. file, 'lnum': str2nr(line), 'text': place .. ': ' .. text}
+  return {'filename': s:root .. file, 'lnum': str2nr(line), 'text': strpart(place .. ': ' .. text, 0, s:most_shown)}
 endfunction
 
 " Asks a field and lists the rows. Files that are gone are dropped before.
@@ -139,8 +167,12 @@ function! s:question(digit, pattern) abort
     call s:drop(name)
   endfor
   let [reply, rows] = s:ask(a:digit .. a:pattern)
-  let entries = map(rows, {_, row -> s:entry(row)})
+  let count = len(rows)
+  let entries = map(rows[: s:most_rows - 1], {_, row -> s:entry(row)})
   call setqflist([], ' ', {'title': 'cbrowse ' .. a:digit .. a:pattern, 'items': entries})
+  if count > s:most_rows
+    call s:warn(printf('the first %d of %d rows are listed', s:most_rows, count))
+  endif
   if empty(entries)
     call s:warn(reply =~# '^refused' ? substitute(reply, '^refused: ', '', '') : 'nothing is found')
   endif
