@@ -1,4 +1,1 @@
-pub mod Choices
-pub mod Local
-pub mod Refusing
 pub mod Working

@@ -12,8 +12,8 @@ use Rattle.cb_session.specs.Operands.{Loads, Prepares, RefusedOperand, file_of_o
 use Rattle.cb_tags.specs.Writers.{Writer}
 use Rattle.cbrowse.specs.declared.execute.finish.Finish.{Finish}
 use Rattle.cbrowse.specs.declared.execute.finish.Finish.TheVariants.{Ran, Unreadable, Unwritable}
-use Rattle.cbrowse.specs.declared.job.Job.{Job}
-use Rattle.cbrowse.specs.declared.job.Job.TheVariants.{Line, Find, Tags}
+use Rattle.cb_words.specs.declared.job.Job.{Job}
+use Rattle.cb_words.specs.declared.job.Job.TheVariants.{Line, Find, Tags}
 use Rattle.cbrowse.specs.Messages.{files_of}
 use Rattle.cbrowse.specs.Program.{DoesFrom, DoesJob, DoesLoaded, EndsIntoFile, Reaches, Works, WritesFile, WritesText, file_text, most_line_bytes, most_lines, writes_file}
 

@@ -4,12 +4,12 @@ use Rattle.clap.specs.Words.{subcommand_of}
 use Rattle.cb_session.specs.Devices.{Reader}
 use Rattle.cb_tags.specs.Writers.{Writer}
 use Rattle.cbrowse.specs.declared.execute.finish.Finish.{Finish}
-use Rattle.cbrowse.specs.declared.job.Job.{Job}
-use Rattle.cbrowse.specs.declared.job.Usage.{Usage}
-use Rattle.cbrowse.specs.Jobs.{browse_app, IsJobOf}
+use Rattle.cb_words.specs.declared.job.Job.{Job}
+use Rattle.cb_words.specs.declared.job.Usage.{Usage}
+use Rattle.cb_words.specs.Jobs.{browse_app, IsJobOf}
 use Rattle.cbrowse.specs.Messages.{Says, said_of, status_of, usage_said, usage_status}
 use Rattle.cbrowse.specs.Program.{LeavesAlone, Works}
-use Rattle.cbrowse.specs.Usages.{IsUsageOf}
+use Rattle.cb_words.specs.Usages.{IsUsageOf}
 
 -- the job of the words is done, and the exit status and standard error tell how it ended
 abbrev pub EndsJob : List (List ℕ) → ℕ → Reader → Reader → Writer → Writer

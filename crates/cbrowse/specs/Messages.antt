@@ -12,11 +12,11 @@ use Rattle.cb_tags.specs.Writers.{Writer}
 use Rattle.cb_tags.specs.Writing.{AppendsPrefix}
 use Rattle.cbrowse.specs.declared.execute.finish.Finish.{Finish}
 use Rattle.cbrowse.specs.declared.execute.finish.Finish.TheVariants.{Ran, Unreadable, Unwritable}
-use Rattle.cbrowse.specs.declared.job.Job.{Job}
-use Rattle.cbrowse.specs.declared.job.Job.TheVariants.{Line, Find, Tags}
-use Rattle.cbrowse.specs.declared.job.Usage.{Usage}
-use Rattle.cbrowse.specs.declared.job.Usage.TheVariants.{Help, Wrong, BadField, NoPattern}
-use Rattle.cbrowse.specs.declared.job.Usage.TheVariants.{Memory as NoMemory}
+use Rattle.cb_words.specs.declared.job.Job.{Job}
+use Rattle.cb_words.specs.declared.job.Job.TheVariants.{Line, Find, Tags}
+use Rattle.cb_words.specs.declared.job.Usage.{Usage}
+use Rattle.cb_words.specs.declared.job.Usage.TheVariants.{Help, Wrong, BadField, NoPattern}
+use Rattle.cb_words.specs.declared.job.Usage.TheVariants.{Memory as NoMemory}
 
 -- the names of a job's files
 abbrev pub files_of : Job → List (List ℕ)

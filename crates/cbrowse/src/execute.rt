@@ -26,12 +26,12 @@ mod finish;
 
 use crate::execute::files::{make_file, read_operands};
 use crate::execute::finish::{Finish, conclude, files_of};
-use crate::job::{Job, job_of};
 use cb_desk::{Desk, Field, Format, TagRows};
 use cb_session::{
     Ended, Fault, Feed, Limits, Session, prepare, put_answer, put_listing_file, put_tags_file,
 };
 use cb_tags::Sink;
+use cb_words::{Job, job_of};
 pub(crate) use finish::refuse;
 use std::alloc::Global;
 use std::io::{BufRead, Write};

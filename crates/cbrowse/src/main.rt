@@ -2,11 +2,10 @@
 #![tactic(auto)]
 
 mod execute;
-mod job;
 
-use crate::job::Usage;
 use cb_session::Feed;
 use cb_tags::Sink;
+use cb_words::Usage;
 use std::env;
 use std::io::{self, BufReader, BufWriter, ErrorKind};
 use std::process::ExitCode;

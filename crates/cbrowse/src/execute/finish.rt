@@ -17,9 +17,9 @@ ghost use Rattle.cbrowse.specs.Messages.{
   usage_said,
 };
 
-use crate::job::{Job, Usage};
 use cb_session::{Ended, Fault};
 use cb_tags::{Sink, WriteFault, put_texts};
+use cb_words::{Job, Usage};
 use std::io::Write;
 
 /// How a job ended.

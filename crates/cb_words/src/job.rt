@@ -1,8 +1,8 @@
 //! What the words of the command line ask for.
 ghost use Rattle.std.specs.Prelude.{◌≡◌, MatchResult, map, string_bytes};
 ghost use Rattle.clap.specs.Words.{kind_of, subcommand_of};
-ghost use Rattle.cbrowse.specs.Jobs.{browse_app, IsJobOf};
-ghost use Rattle.cbrowse.specs.Usages.{IsUsageOf, TellsKind};
+ghost use Rattle.cb_words.specs.Jobs.{browse_app, IsJobOf};
+ghost use Rattle.cb_words.specs.Usages.{IsUsageOf, TellsKind};
 
 mod command;
 mod matched;
@@ -51,7 +51,7 @@ pub enum Usage {
 }
 
 impl From<AllocError> for Usage {
-    ghost use Rattle.cbrowse.specs.declared.job.Usage.TheVariants.{Memory};
+    ghost use Rattle.cb_words.specs.declared.job.Usage.TheVariants.{Memory};
 
     ghost from_gives = { λ _ usage. usage ≡ Memory };
 

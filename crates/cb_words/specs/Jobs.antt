@@ -9,8 +9,8 @@ use Rattle.cb_desk.specs.Answer.{field_of_digit}
 use Rattle.cb_desk.specs.declared.rows.Field.{Field}
 use Rattle.cb_desk.specs.declared.tags.Format.{Format}
 use Rattle.cb_desk.specs.declared.tags.Format.TheVariants.{Plain, Extended}
-use Rattle.cbrowse.specs.declared.job.Job.{Job}
-use Rattle.cbrowse.specs.declared.job.Job.TheVariants.{Line, Find, Tags}
+use Rattle.cb_words.specs.declared.job.Job.{Job}
+use Rattle.cb_words.specs.declared.job.Job.TheVariants.{Line, Find, Tags}
 
 -- `FILE..`, of which there may have to be one
 abbrev pub files_rule : Bool → Rule

@@ -2,11 +2,11 @@
 ghost use Rattle.std.specs.Prelude.{◌≡◌, IfOk, MatchResult, Some, codes, map, string_bytes};
 ghost use Rattle.std.specs.Option.{MatchOption};
 ghost use Rattle.clap.specs.Words.{subcommand_rows_of};
-ghost use Rattle.cbrowse.specs.Jobs.{IsJobOf, all_or_none, field_of, first_or, format_number};
-ghost use Rattle.cbrowse.specs.Usages.{IsBadSearch};
-ghost use Rattle.cbrowse.specs.declared.job.Job.{Job};
+ghost use Rattle.cb_words.specs.Jobs.{IsJobOf, all_or_none, field_of, first_or, format_number};
+ghost use Rattle.cb_words.specs.Usages.{IsBadSearch};
+ghost use Rattle.cb_words.specs.declared.job.Job.{Job};
 ghost use Rattle.cb_desk.specs.declared.tags.Format.{Format};
-ghost use Rattle.cbrowse.specs.Commands.{rows_in};
+ghost use Rattle.cb_words.specs.Commands.{rows_in};
 
 use crate::job::{Job, Usage};
 use cb_desk::{Field, Format};

@@ -1,9 +1,9 @@
 use Rattle.std.proofs.Common.{◌≡◌, ◌∙◌, ap, inr, sym, subst, map, string_bytes}
 use Rattle.clap.specs.Words.{is_simple, is_simple_and_free, subcommand_of, subcommand_rows_of}
-use Rattle.cbrowse.specs.Jobs.{browse_app, IsJobOf}
-use Rattle.cbrowse.proofs.Choices.{same_found}
-use Rattle.cbrowse.proofs.Refusing.{usage_from_kind, usage_from_search}
-use Rattle.cbrowse.proofs.job.job_of.Goals as goal
+use Rattle.cb_words.specs.Jobs.{browse_app, IsJobOf}
+use Rattle.cb_words.proofs.Choices.{same_found}
+use Rattle.cb_words.proofs.Refusing.{usage_from_kind, usage_from_search}
+use Rattle.cb_words.proofs.job.job_of.Goals as goal
 
 pub returns-in-Some : goal.returns-in-Some
 returns-in-Some c =

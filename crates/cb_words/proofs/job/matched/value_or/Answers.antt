@@ -2,7 +2,7 @@ use Rattle.std.proofs.Common.{◌≡◌, ◌∙◌, ap, refl, Option, Some, None
 use Rattle.std.specs.Option.{option_map, unwrap_or}
 use Rattle.clap.specs.Words.{found_of}
 use Rattle.clap.proofs.WalkLemmas.{first_value-rows}
-use Rattle.cbrowse.proofs.job.matched.value_or.Goals as goal
+use Rattle.cb_words.proofs.job.matched.value_or.Goals as goal
 
 -- what is seen of a value or else of a default
 seen_or : {X Y : Type 0} (view : X → Y) (o : Option X) (d : X) → view (unwrap_or o d) ≡ unwrap_or (option_map view o) (view d)

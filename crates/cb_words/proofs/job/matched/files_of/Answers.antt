@@ -3,7 +3,7 @@ use Rattle.std.proofs.lemmas.Result.{IfOk-weaker}
 use Rattle.std.specs.Option.{unwrap_or}
 use Rattle.clap.specs.Words.{found_of}
 use Rattle.clap.proofs.WalkLemmas.{raw_values-rows}
-use Rattle.cbrowse.proofs.job.matched.files_of.Goals as goal
+use Rattle.cb_words.proofs.job.matched.files_of.Goals as goal
 
 pub returns-in-Some : goal.returns-in-Some
 returns-in-Some c = IfOk-weaker c.copies_of.result _ _

@@ -4,11 +4,11 @@ use Rattle.std.specs.Borrow.{Bor}
 use Rattle.clap.specs.Words.{App, IsAmong, Row, Text, fault_of, subcommand_of}
 use Rattle.clap.specs.declared.error.kind.ErrorKind.{ErrorKind}
 use Rattle.clap.specs.declared.error.kind.ErrorKind.TheVariants.{OutOfMemory}
-use Rattle.cbrowse.specs.Commands.{browse_app_of}
-use Rattle.cbrowse.specs.Jobs.{browse_app}
-use Rattle.cbrowse.specs.Usages.{IsBadSearch, IsUsageOf, ShowsText, TellsKind}
-use Rattle.cbrowse.specs.declared.job.Usage.{Usage}
-use Rattle.cbrowse.specs.declared.job.Usage.TheVariants.{Help, Wrong, BadField, NoPattern, Memory}
+use Rattle.cb_words.specs.Commands.{browse_app_of}
+use Rattle.cb_words.specs.Jobs.{browse_app}
+use Rattle.cb_words.specs.Usages.{IsBadSearch, IsUsageOf, ShowsText, TellsKind}
+use Rattle.cb_words.specs.declared.job.Usage.{Usage}
+use Rattle.cb_words.specs.declared.job.Usage.TheVariants.{Help, Wrong, BadField, NoPattern, Memory}
 
 -- want of memory shows no text
 no-memory : (kind : ErrorKind) → kind ≡ OutOfMemory → ShowsText kind → ⊥

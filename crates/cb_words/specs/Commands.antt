@@ -5,8 +5,8 @@ use Rattle.std.specs.Borrow.{Bor}
 use Rattle.clap.specs.Words.{App, Row, Text, found_of, new_app, rows_of, with_rule, with_subcommand}
 use Rattle.clap.specs.declared.builder.ValueParser.TheVariants.{Names}
 use Rattle.clap.specs.declared.ArgMatches.{ArgMatches}
-use Rattle.cbrowse.specs.Jobs.{files_rule, find_app, format_rule, line_app}
-use Rattle.cbrowse.specs.Jobs.{listing_rule, tagsfile_rule, with_version}
+use Rattle.cb_words.specs.Jobs.{files_rule, find_app, format_rule, line_app}
+use Rattle.cb_words.specs.Jobs.{listing_rule, tagsfile_rule, with_version}
 
 -- a command with `--format`, which takes these texts alone
 abbrev pub with_format : App → Bor (List (Bor Text)) → App

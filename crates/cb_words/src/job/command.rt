@@ -1,7 +1,7 @@
 //! The command line, as clap is to read it.
 ghost use Rattle.std.specs.Prelude.{◌≡◌, IfOk};
 ghost use Rattle.clap.specs.Words.{app_of, with_rule};
-ghost use Rattle.cbrowse.specs.Jobs.{
+ghost use Rattle.cb_words.specs.Jobs.{
   files_rule,
   find_app,
   line_app,
@@ -10,7 +10,7 @@ ghost use Rattle.cbrowse.specs.Jobs.{
   pattern_rule,
   tagsfile_rule,
 };
-ghost use Rattle.cbrowse.specs.Commands.{TakesFormats, browse_app_of, tags_app_of, with_format};
+ghost use Rattle.cb_words.specs.Commands.{TakesFormats, browse_app_of, tags_app_of, with_format};
 
 use clap::builder::ValueParser;
 use clap::{Arg, ArgAction, Command};

@@ -5,11 +5,11 @@ use Rattle.clap.specs.Words.{IsAmong, Row, Text, fault_of, subcommand_of}
 use Rattle.clap.specs.declared.error.kind.ErrorKind.{ErrorKind}
 use Rattle.clap.specs.declared.error.kind.ErrorKind.TheVariants.{DisplayHelp, DisplayVersion}
 use Rattle.clap.specs.declared.error.kind.ErrorKind.TheVariants.{OutOfMemory}
-use Rattle.cbrowse.specs.Commands.{browse_app_of}
-use Rattle.cbrowse.specs.Jobs.{IsJobOf, browse_app, field_of, first_or}
-use Rattle.cbrowse.specs.declared.job.Job.{Job}
-use Rattle.cbrowse.specs.declared.job.Usage.{Usage}
-use Rattle.cbrowse.specs.declared.job.Usage.TheVariants.{Help, Wrong, BadField, NoPattern, Memory}
+use Rattle.cb_words.specs.Commands.{browse_app_of}
+use Rattle.cb_words.specs.Jobs.{IsJobOf, browse_app, field_of, first_or}
+use Rattle.cb_words.specs.declared.job.Job.{Job}
+use Rattle.cb_words.specs.declared.job.Usage.{Usage}
+use Rattle.cb_words.specs.declared.job.Usage.TheVariants.{Help, Wrong, BadField, NoPattern, Memory}
 
 -- clap's own definition gives this kind of error for the words, in the command whose formats are
 -- the texts 1 and 2

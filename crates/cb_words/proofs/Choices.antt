@@ -14,8 +14,8 @@ use Rattle.clap.specs.Simple.{App, Shape, argument_words, built, entered, label_
 use Rattle.clap.specs.declared.builder.ValueParser.{ValueParser}
 use Rattle.clap.specs.declared.builder.ValueParser.TheVariants as parsers
 use Rattle.clap.proofs.WalkLemmas.{find-map}
-use Rattle.cbrowse.specs.Jobs.{browse_app}
-use Rattle.cbrowse.specs.Commands.{browse_app_of}
+use Rattle.cb_words.specs.Jobs.{browse_app}
+use Rattle.cb_words.specs.Commands.{browse_app_of}
 
 -- any text in the place of some
 abbrev loose : ValueParser → ValueParser

@@ -1,9 +1,9 @@
 use Rattle.std.proofs.Common.{rules, ◌≡◌, ◌∙◌, ap, ap₂, codes}
 use Rattle.std.proofs.lemmas.Result.{IfOk-weaker}
 use Rattle.clap.specs.Words.{App, app_of, with_subcommand, new_app}
-use Rattle.cbrowse.specs.Jobs.{with_version}
-use Rattle.cbrowse.proofs.Local.{third-false}
-use Rattle.cbrowse.proofs.job.command.browse_command.Goals as goal
+use Rattle.cb_words.specs.Jobs.{with_version}
+use Rattle.cb_words.proofs.Local.{third-false}
+use Rattle.cb_words.proofs.job.command.browse_command.Goals as goal
 
 pub returns : goal.returns
 returns c =

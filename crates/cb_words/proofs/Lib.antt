@@ -1,0 +1,3 @@
+pub mod Choices
+pub mod Local
+pub mod Refusing

@@ -1,0 +1,3 @@
+pub mod Commands
+pub mod Jobs
+pub mod Usages
