@@ -1,3 +1,4 @@
+mod Process
 pub mod Choices
 pub mod Local
 pub mod Refusing
