@@ -12,7 +12,7 @@ use Rattle.cb_session.specs.Devices.{Reader, WhateverFollows, leaving}
 use Rattle.cb_session.specs.Inputs.{First, Inputs, first, inputs, ending_of, begin_with}
 use Rattle.cb_session.specs.Requests.{Request}
 use Rattle.cb_session.specs.Serving.{HandsOn, IsBehindFirst, IsCutShort, IsLeft, Leaves, LeavesRun, LeavesSession}
-use Rattle.cb_session.specs.steps.Rounds.{EndsRound, IsMoved, LeavesRound, is_unread}
+use Rattle.cb_session.specs.steps.Rounds.{EndsRound, LeavesRound, is_unread}
 use Rattle.cb_session.specs.Output.{outcome, exchange, output, led_to, prompt}
 use Rattle.cb_session.proofs.Follows.{Some-same, Follows-nothing, Follows-so, Follows-then}
 use Rattle.cb_tags.specs.Writing.{AppendsPrefix}

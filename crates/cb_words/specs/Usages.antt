@@ -1,5 +1,5 @@
 -- Why the words give no job: clap shows help or refuses them, or memory was refused.
-use Rattle.std.specs.Prelude.{◌≡◌, ◌≢◌, ◌⊎◌, List, ◌∷◌, [], Option, None, Some, codes, map}
+use Rattle.std.specs.Prelude.{◌≡◌, ◌≢◌, ◌⊎◌, List, ◌∷◌, [], Option, None, Some, codes, map, string_bytes}
 use Rattle.std.specs.Borrow.{Bor}
 use Rattle.clap.specs.Words.{IsAmong, Row, Text, fault_of, subcommand_of}
 use Rattle.clap.specs.declared.error.kind.ErrorKind.{ErrorKind}
@@ -62,3 +62,11 @@ TellsKind kind (Wrong text) = (kind ≢ DisplayHelp) × (kind ≢ DisplayVersion
 TellsKind kind Memory = Unit {0}
 TellsKind kind BadField = ⊥
 TellsKind kind NoPattern = ⊥
+
+-- why the words of a process are not there: one of them is not UTF-8, or memory was refused
+abbrev pub IsWordFault : Usage → Type 0
+IsWordFault (Wrong text) =
+    string_bytes text
+    ≡ codes "error: a word is not UTF-8\n\nFor more information, try '--help'.\n"
+IsWordFault Memory = Unit {0}
+IsWordFault usage = ⊥

@@ -1,1 +1,2 @@
+mod Process
 pub mod Working

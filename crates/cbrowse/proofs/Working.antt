@@ -1,6 +1,8 @@
 -- A job over files: from the loads to what is done.
-use Rattle.std.proofs.Common.{◌≡◌, ◌∙◌, ap, subst, sym, refl, inr, ℕ, true, false, List, [], ◌∷◌, map, Result, Ok, Err}
+use Rattle.std.proofs.Common.{arith, ◌≡◌, ◌∙◌, ◌<◌, ap, length, string_bytes, take, String, subst, sym, refl, inr, ℕ, true, false, List, [], ◌∷◌, map, Result, Ok, Err}
 use Rattle.std.proofs.lemmas.Bool.{true≢false}
+use Rattle.std.proofs.lemmas.List.{length-map, take-map}
+use Rattle.std.specs.Global.{Global}
 use Rattle.cb_desk.specs.Timeline.{Timeline, new_timeline}
 use Rattle.cb_session.specs.declared.input.Ended.{Ended}
 use Rattle.cb_session.specs.declared.input.Fault.{Fault as WhatFailed}
@@ -67,3 +69,12 @@ over_both (Line files) t feed feed' out out' ended writes does = does
 over_both (Find field pattern files) t feed feed' out out' ended writes does = does
 over_both (Tags true tagsfile format files) t feed feed' out out' ended writes does = does
 over_both (Tags false tagsfile format files) t feed feed' out out' ended writes does = cc
+
+-- a file that can't be read, behind those that were
+pub stops_at : (names : List (List ℕ)) (files : List (String Global)) (idx place : ℕ) → place ≡ idx → idx < length files
+    → names ≡ map string_bytes (take idx files)
+    → (place < length (map string_bytes files)) × (names ≡ take place (map string_bytes files))
+stops_at names files idx place same within read = (
+  omega (arith, same, within, length-map files string_bytes),
+  read ∙ sym (take-map string_bytes idx files) ∙ ap (λ k. take k (map string_bytes files)) (sym same),
+)

@@ -1,7 +1,8 @@
 -- How the program ends: its exit status and what it says on standard error.
-use Rattle.std.specs.Prelude.{◌≡◌, ℕ, false, List, [], ◌++◌, codes, map, string_bytes}
+use Rattle.std.specs.Prelude.{◌≡◌, ◌==◌, ◌&&◌, ◌+◌, ◌/◌, ◌%◌, ℕ, Bool, false, not, nat_lt, List, []}
+use Rattle.std.specs.Prelude.{◌∷◌, ◌++◌, codes, map, string_bytes, if◌then◌else◌}
 use Rattle.std.specs.Io.KnownBytes.{Appends}
-use Rattle.std.specs.List.{slice_index_or}
+use Rattle.std.specs.List.{flat_map, slice_index_or}
 use Rattle.cb_desk.specs.Refusals.{text_of}
 use Rattle.cb_session.specs.declared.input.Ended.{Ended}
 use Rattle.cb_session.specs.declared.input.Ended.TheVariants.{Done, Cut, Fault, Operand}
@@ -34,9 +35,28 @@ tagsfile_of (Tags listing tagsfile format files) = string_bytes tagsfile
 abbrev pub error_line : List ℕ → List ℕ
 error_line text = codes "cbrowse: " ++ text ++ codes "\n"
 
+-- a byte that stands for itself in a name that is told: it is printable ASCII, and no backslash
+abbrev pub is_plain : ℕ → Bool
+is_plain b = nat_lt 31 b && (nat_lt b 127 && not (b == 92))
+
+-- a hexadecimal digit
+abbrev pub hex_digit : ℕ → ℕ
+hex_digit n = if nat_lt n 10 then 48 + n else 87 + n
+
+-- how a byte of a name is told: as itself, or as `\x` and its two hexadecimal digits
+abbrev pub told_byte : ℕ → List ℕ
+told_byte b =
+    if is_plain b then b ∷ []
+    else (codes "\\x" ++ hex_digit (b / 16) ∷ hex_digit (b % 16) ∷ [])
+
+-- how a name is told: in one line, whatever its bytes
+abbrev pub told_name : List ℕ → List ℕ
+told_name name = flat_map told_byte name
+
 -- a line that names the program and a file
 abbrev pub file_line : List ℕ → List ℕ → List ℕ
-file_line name text = codes "cbrowse: " ++ name ++ codes ": " ++ text ++ codes "\n"
+file_line name text =
+    codes "cbrowse: " ++ (told_name name ++ (codes ": " ++ text ++ codes "\n"))
 
 -- what a fault is called
 abbrev pub fault_text : Reason → List ℕ

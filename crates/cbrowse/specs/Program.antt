@@ -1,6 +1,6 @@
 -- What the program does: the files of a job are read and loaded, and then the job is done.
 use Rattle.std.specs.Prelude.{◌≡◌, ◌≢◌, ◌⊎◌, ℕ, ◌<◌, Bool, true, false, not, List, [], IsTrue}
-use Rattle.std.specs.Prelude.{length, Some, Result, Ok, Err, map, string_bytes}
+use Rattle.std.specs.Prelude.{length, take, Option, None, Some, Result, Ok, Err, map, string_bytes}
 use Rattle.std.specs.List.{flat_map}
 use Rattle.std.specs.Io.KnownBytes.{Appends}
 use Rattle.cb_desk.specs.Answer.{answer}
@@ -10,8 +10,9 @@ use Rattle.cb_desk.specs.Tags.{tags, tags_text, listing_text}
 use Rattle.cb_desk.specs.Timeline.{Timeline, new_timeline}
 use Rattle.cb_desk.specs.World.{World, File}
 use Rattle.cb_session.specs.declared.input.Ended.{Ended}
-use Rattle.cb_session.specs.declared.input.Ended.TheVariants.{Done, Fault, Operand}
+use Rattle.cb_session.specs.declared.input.Ended.TheVariants.{Done, Fault, Operand as StoppedAt}
 use Rattle.cb_session.specs.declared.input.Fault.TheVariants.{Write, Memory}
+use Rattle.cb_session.specs.declared.operands.Operand.{Operand}
 use Rattle.cb_session.specs.Devices.{Reader}
 use Rattle.cb_session.specs.Output.{row_line}
 use Rattle.cb_session.specs.Operands.{Loads, RefusedOperand}
@@ -32,6 +33,10 @@ most_lines = 1000000000
 -- the most bytes of such a line
 abbrev pub most_line_bytes : ℕ
 most_line_bytes = 1000000
+
+-- the most bytes that are read of a file: one more than a text may have, so that a longer one is seen
+abbrev pub most_read : ℕ
+most_read = 1000001
 
 -- ---- tags
 
@@ -100,6 +105,10 @@ file_text (Line files) w = []
 file_text (Find field pattern files) w = []
 file_text (Tags listing tagsfile format files) w = tags_output listing format w
 
+-- a writer that has taken nothing yet
+abbrev pub fresh : Option (List ℕ) → Writer
+fresh bytes = record { bytes = bytes; failed = false; pending = false }
+
 -- the whole text was written into a file and handed on; or the file can't be written, and a prefix
 -- was written
 abbrev pub WritesFile : List ℕ → Writer → Writer → Finish → Type 0
@@ -113,11 +122,22 @@ EndsIntoFile (Ran ended) = EndsFile ended
 EndsIntoFile Unwritable = Unit {0}
 EndsIntoFile (Unreadable place) = ⊥
 
--- reading the files stops: memory is refused, or one of them can't be read
-abbrev pub StopsReading : {A : Type 0} → List A → Finish → Type 0
-StopsReading files (Ran ended) = ended ≡ Fault Memory
-StopsReading files (Unreadable place) = place < length files
-StopsReading files Unwritable = ⊥
+-- the names of operands
+abbrev pub names_of : List Operand → List (List ℕ)
+names_of operands = map (λ operand. operand.name.items) operands
+
+-- what a file that is opened late holds: nothing before it is open
+abbrev pub late_contents : {F : Type 0} → (F → Option (List ℕ)) → Option F → Option (List ℕ)
+late_contents contents None = Some []
+late_contents contents (Some file) = contents file
+
+-- reading the files stops: memory is refused, or the file at a place can't be read, and those before
+-- it were
+abbrev pub StopsReading : List (List ℕ) → (read : List (List ℕ)) → Finish → Type 0
+StopsReading files read (Ran ended) = ended ≡ Fault Memory
+StopsReading files read (Unreadable place) =
+    (place < length files) × (read ≡ take place files)
+StopsReading files read Unwritable = ⊥
 
 -- the files of a job under their names, in order, with some contents, and where their loads lead
 abbrev pub Reaches : Job → Result Timeline RefusedOperand → Type 0
@@ -140,7 +160,7 @@ DoesFrom t (Tags false tagsfile format files) feed feed' out out' ended =
 abbrev pub DoesLoaded : Job → Result Timeline RefusedOperand → Reader → Reader → Writer
     → Writer → Ended → Type 0
 DoesLoaded job (Err stop) feed feed' out out' ended =
-    (ended ≡ Operand stop.place stop.why) × LeavesAlone feed feed' out out'
+    (ended ≡ StoppedAt stop.place stop.why) × LeavesAlone feed feed' out out'
 DoesLoaded job (Ok t) feed feed' out out' ended = DoesFrom t job feed feed' out out' ended
 
 -- a job is done, for some contents of its files; or memory was refused before their loads; or one

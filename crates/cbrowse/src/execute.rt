@@ -1,10 +1,11 @@
 //! The program behind its entry: words in, a job done, an exit status out.
-ghost use Rattle.std.specs.Prelude.{◌≡◌, ◌≢◌, ◌⊎◌, [], true, false, map, string_bytes};
+ghost use Rattle.std.specs.Prelude.{◌≡◌, ◌≢◌, ◌⊎◌, [], true, false, IfOk, map, string_bytes};
+ghost use Rattle.std.specs.Vec.Iter.{into_iter_items};
 ghost use Rattle.std.specs.List.{flat_map};
 ghost use Rattle.std.specs.Option.{MatchOption};
 ghost use Rattle.cb_desk.specs.Answer.{answer};
 ghost use Rattle.cb_session.specs.Output.{row_line};
-ghost use Rattle.cbrowse.specs.Endings.{EndsJob, EndsUsage};
+ghost use Rattle.cbrowse.specs.Endings.{EndsJob, EndsProcess, EndsUsage, TakesWords};
 ghost use Rattle.cbrowse.specs.Messages.{tagsfile_of};
 ghost use Rattle.cbrowse.specs.Program.{
   HasPattern,
@@ -17,6 +18,7 @@ ghost use Rattle.cbrowse.specs.Program.{
   WritesText,
   DoesJob,
   EndsIntoFile,
+  fresh,
   Works,
 };
 ghost use Rattle.cb_session.specs.Writing.{Puts};
@@ -31,10 +33,11 @@ use cb_session::{
     Ended, Fault, Feed, Limits, Session, prepare, put_answer, put_listing_file, put_tags_file,
 };
 use cb_tags::Sink;
-use cb_words::{Job, job_of};
+use cb_words::{Job, Usage, job_of};
 pub(crate) use finish::refuse;
-use std::alloc::Global;
-use std::io::{BufRead, Write};
+use std::alloc::{AllocError, Global};
+use std::env::Args;
+use std::io::{self, BufRead, ErrorKind, Write};
 use std::mem::forget;
 use std::rt::Files;
 
@@ -192,26 +195,24 @@ fn run_job_over<I: BufRead, W: Write>(
     }
 }
 
-/// Does a job of tags into a file of this name.
-fn run_job_into<R: Files + AllocGlobal, I: BufRead>(
-    rt: &R,
-    folder: &str,
-    name: &str,
+/// Does a job of tags into a file that was just made: how it ended, and what the file was left as.
+fn run_job_into<I: BufRead, W: Write>(
+    alloc: Global,
     job: &Job,
     session: Session,
     feed: &mut Feed<I>,
-) -> Finish
+    writer: W,
+) -> (Finish, Sink<W>)
     requires file { writes_file job.now ≡ true }
     requires pattern { HasPattern job.now }
-    ensures end { EndsIntoFile result }
+    ensures written { WritesFile (file_text job.now session.present) (fresh (W.contents writer))
+        result.1 result.0 }
+    ensures end { EndsIntoFile result.0 }
     ensures feed { feed.new ≡ feed.old }
 {
-    let writer = match make_file(rt, folder, name) {
-        Ok(writer) => writer,
-        Err(end) => return end,
-    };
     let mut out = Sink::new(writer);
-    run_job_over(rt.alloc(), job, session, feed, &mut out)
+    let end = run_job_over(alloc, job, session, feed, &mut out);
+    (end, out)
 }
 
 /// Does a job: every file is read, then all are loaded, and only then a tags file is made or
@@ -226,16 +227,20 @@ fn work<R: Files + AllocGlobal, I: BufRead, O: Write>(
     requires { HasPattern job.now }
     ensures { Works job.now feed.old feed.new out.old out.new result }
 {
-    let operands = match read_operands(rt, folder, files_of(job)) {
-        Ok(operands) => operands,
+    let mut operands = Vec::new(rt.alloc());
+    match read_operands(rt, folder, files_of(job), &mut operands) {
+        Ok(()) => {}
         Err(end) => return end,
-    };
+    }
     let session = match prepare(rt.alloc(), operands) {
         Ok(session) => session,
         Err(ended) => return Finish::Ran(ended),
     };
     match output_file(job) {
-        Some(name) => run_job_into(rt, folder, name, job, session, feed),
+        Some(name) => match make_file(rt, folder, name) {
+            Ok(writer) => run_job_into(rt.alloc(), job, session, feed, writer).0,
+            Err(end) => end,
+        },
         None => Finish::Ran(run_job(rt.alloc(), job, &LIMITS, session, feed, out)),
     }
 }
@@ -258,5 +263,43 @@ pub fn execute<R: Files + AllocGlobal, I: BufRead, O: Write, E: Write>(
     match job_of(rt.alloc(), words) {
         Ok(job) => conclude(errors, &job, work(rt, folder, &job, feed, out)),
         Err(usage) => refuse(errors, &usage),
+    }
+}
+
+/// The same on the words of the process, with no folder.
+pub fn execute_process<R: Files + AllocGlobal, I: BufRead, O: Write, E: Write>(
+    rt: &R,
+    words: io::Result<Args>,
+    feed: &mut Feed<I>,
+    out: &mut Sink<O>,
+    errors: &mut Sink<E>,
+) -> u8
+    ensures { EndsProcess words result feed.old feed.new out.old out.new errors.old errors.new }
+{
+    match taken_words(rt.alloc(), words) {
+        Ok(words) => execute(rt, "", words.as_slice(), feed, out, errors),
+        Err(missing) => refuse(errors, &missing),
+    }
+}
+
+fn all_words(alloc: Global, words: Args) -> Result<Vec<String>, AllocError>
+    ensures { IfOk result (λ taken. taken.items ≡ into_iter_items words) }
+{
+    words.collect(alloc)
+}
+
+/// The words of the process, the first of which is the program's name.
+fn taken_words(alloc: Global, words: io::Result<Args>) -> Result<Vec<String>, Usage>
+    ensures { TakesWords words result }
+{
+    match words {
+        Ok(words) => Ok(all_words(alloc, words)?),
+        Err(error) if error.kind() == ErrorKind::InvalidData => Err(Usage::Wrong(
+            String::from_str(
+                alloc,
+                "error: a word is not UTF-8\n\nFor more information, try '--help'.\n",
+            )?,
+        )),
+        Err(_) => Err(Usage::Memory),
     }
 }

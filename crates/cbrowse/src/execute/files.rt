@@ -1,6 +1,6 @@
 //! The files of the program: operands that are read, and a tags file that is written.
-ghost use Rattle.std.specs.Prelude.{◌≡◌, ◌≤◌, IfOk, IfErr, MatchResult, length, map, string_bytes};
-ghost use Rattle.cbrowse.specs.Program.{EndsIntoFile, StopsReading};
+ghost use Rattle.std.specs.Prelude.{◌≡◌, [], IfOk, IfErr, IfSome, MatchResult, map, string_bytes, take};
+ghost use Rattle.cbrowse.specs.Program.{EndsIntoFile, StopsReading, most_read, names_of};
 
 use crate::execute::finish::Finish;
 use cb_session::{Ended, Fault, Operand, Operands};
@@ -22,37 +22,22 @@ fn path_of(alloc: Global, folder: &str, name: &str) -> Result<String, AllocError
     Ok(path)
 }
 
-/// Reads until the bytes are full or the end comes: how many were read, and whether it came.
-/// Reading that was interrupted is left to the caller.
-fn fill<F: Read>(file: &mut F, bytes: &mut [u8]) -> io::Result<(usize, bool)>
-    ensures { IfOk result (λ r. r.0 ≤ length bytes.new) }
+/// The bytes that are left, at most `MOST_READ`. There is room for so many of them, and for one more
+/// that would show that there are more, before the first is read.
+fn read_whole<F: Read + Drop>(alloc: Global, file: F, size: u64) -> io::Result<Vec<u8>>
+    ensures { IfOk result (λ bytes.
+        IfSome (F.remaining file) (λ left. bytes.items ≡ take most_read left)) }
 {
-    let mut at = 0;
-    while at < bytes.len() {
-        match file.read(&mut bytes[at..]) {
-            Ok(0) => return Ok((at, true)),
-            Ok(count) => at += count,
-            Err(error) if error.kind() == ErrorKind::Interrupted => return Ok((at, false)),
-            Err(error) => return Err(error),
-        }
-    }
-    Ok((at, false))
+    let mut bytes = Vec::with_capacity(alloc, size.min(MOST_READ) as usize + 1)?;
+    file.take(MOST_READ).read_to_end(&mut bytes)?;
+    Ok(bytes)
 }
 
-/// The first bytes of a file. They are read into one buffer of its size, with a byte to spare that
-/// shows its end; where it has grown since, or has no size, what is left is read as it comes.
+/// The first bytes of a file.
 fn read_file<R: Files + AllocGlobal>(rt: &R, path: &str) -> io::Result<Vec<u8>> {
     let file = fs::open(rt, path)?;
-    let size = file.metadata()?.len().min(MOST_READ) as usize;
-    let mut bytes = Vec::new(rt.alloc());
-    bytes.resize(size + 1, 0)?;
-    let mut file = file.take(MOST_READ);
-    let (count, ended) = fill(&mut file, bytes.as_mut_slice())?;
-    bytes.truncate(count);
-    if !ended {
-        file.read_to_end(&mut bytes)?;
-    }
-    Ok(bytes)
+    let size = file.metadata()?.len();
+    read_whole(rt.alloc(), file, size)
 }
 
 /// Reads one file.
@@ -65,28 +50,31 @@ fn read_operand<R: Files + AllocGlobal>(rt: &R, folder: &str, name: &str) -> io:
     Ok(Operand { name, bytes })
 }
 
-/// Reads files in order. The first that cannot be read ends it.
+/// Reads files in order, behind none. The first that cannot be read ends it.
 pub(crate) fn read_operands<R: Files + AllocGlobal>(
     rt: &R,
     folder: &str,
     files: &[String],
-) -> Result<Operands, Finish>
+    operands: &mut Operands,
+) -> Result<(), Finish>
+    requires { operands.old.items ≡ [] }
     ensures { MatchResult result
-        (λ operands. map (λ o. o.name.items) operands.items ≡ map string_bytes files.now)
-        (StopsReading files.now) }
+        (λ _. names_of operands.new.items ≡ map string_bytes files.now)
+        (StopsReading (map string_bytes files.now) (names_of operands.new.items)) }
 {
-    let mut operands = Vec::new(rt.alloc());
+    let mut place = 0;
     for name in files {
         let operand = match read_operand(rt, folder, name.as_str()) {
             Ok(operand) => operand,
             Err(error) if error.kind() == ErrorKind::OutOfMemory => return Err(OUT_OF_MEMORY),
-            Err(_) => return Err(Finish::Unreadable(operands.len())),
+            Err(_) => return Err(Finish::Unreadable(place)),
         };
         if operands.push(operand).is_err() {
             return Err(OUT_OF_MEMORY);
         }
+        place += 1;
     }
-    Ok(operands)
+    Ok(())
 }
 
 /// A file behind a buffer: it is opened once the buffer's memory is there, since a file that is
@@ -97,6 +85,10 @@ pub(crate) struct LateFile<F: Write + Drop> {
 }
 
 impl<F: Write + Drop> Write for LateFile<F> {
+    ghost use Rattle.cbrowse.specs.Program.{late_contents};
+
+    ghost contents = { λ late. late_contents F.contents late.file };
+
     fn write(&mut self, buf: &[u8]) -> io::Result<usize> {
         match &mut self.file {
             Some(file) => file.write(buf),

@@ -1,5 +1,5 @@
 //! How the program ends: its exit status, and what it says on standard error.
-ghost use Rattle.std.specs.Prelude.{◌≡◌, [], map, string_bytes};
+ghost use Rattle.std.specs.Prelude.{◌≡◌, ◌<◌, [], map, string_bytes};
 ghost use Rattle.std.specs.List.{slice_index_or};
 ghost use Rattle.cb_tags.specs.Writing.{Puts};
 ghost use Rattle.cbrowse.specs.Messages.{
@@ -7,6 +7,10 @@ ghost use Rattle.cbrowse.specs.Messages.{
   error_line,
   fault_text,
   file_line,
+  hex_digit,
+  is_plain,
+  told_byte,
+  told_name,
   files_of,
   tagsfile_of,
   run_said,
@@ -18,7 +22,7 @@ ghost use Rattle.cbrowse.specs.Messages.{
 };
 
 use cb_session::{Ended, Fault};
-use cb_tags::{Sink, WriteFault, put_texts};
+use cb_tags::{Sink, WriteFault, put_text, put_texts};
 use cb_words::{Job, Usage};
 use std::io::Write;
 
@@ -104,6 +108,48 @@ fn put_error<E: Write>(errors: &mut Sink<E>, text: &[u8]) -> Result<(), WriteFau
     put_texts(errors, &[b"cbrowse: ", text, b"\n"])
 }
 
+/// Whether a byte of a name is told as it is.
+fn is_plain(byte: u8) -> bool
+    ensures { result ≡ is_plain byte }
+{
+    byte > 31 && (byte < 127 && !(byte == b'\\'))
+}
+
+fn hex_digit(number: u8) -> u8
+    requires { number < 16 }
+    ensures { result ≡ hex_digit number }
+{
+    if number < 10 {
+        48 + number
+    } else {
+        87 + number
+    }
+}
+
+/// Writes a byte of a name.
+fn put_byte<E: Write>(errors: &mut Sink<E>, byte: u8) -> Result<(), WriteFault>
+    ensures { Puts errors.old errors.new result (told_byte byte) }
+{
+    if is_plain(byte) {
+        put_text(errors, &[byte])
+    } else {
+        put_text(
+            errors,
+            &[b'\\', b'x', hex_digit(byte / 16), hex_digit(byte % 16)],
+        )
+    }
+}
+
+/// Writes a name in one line, whatever its bytes.
+fn put_name<E: Write>(errors: &mut Sink<E>, name: &[u8]) -> Result<(), WriteFault>
+    ensures { Puts errors.old errors.new result (told_name name.now) }
+{
+    for byte in name {
+        put_byte(errors, *byte)?;
+    }
+    Ok(())
+}
+
 fn put_file_error<E: Write>(
     errors: &mut Sink<E>,
     name: &[u8],
@@ -111,7 +157,9 @@ fn put_file_error<E: Write>(
 ) -> Result<(), WriteFault>
     ensures { Puts errors.old errors.new result (file_line name.now text.now) }
 {
-    put_texts(errors, &[b"cbrowse: ", name, b": ", text, b"\n"])
+    put_text(errors, b"cbrowse: ")?;
+    put_name(errors, name)?;
+    put_texts(errors, &[b": ", text, b"\n"])
 }
 
 /// What a fault is called.

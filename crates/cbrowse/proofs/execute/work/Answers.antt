@@ -1,4 +1,4 @@
-use Rattle.std.proofs.Common.{◌∙◌, inr, Ok}
+use Rattle.std.proofs.Common.{◌∙◌, inr, refl, Ok}
 use Rattle.cbrowse.proofs.Working.{into_file, over_both, reaches, stopped}
 use Rattle.cbrowse.proofs.execute.work.Goals as goal
 
@@ -6,10 +6,15 @@ pub returns-in-Err-prepare : goal.returns-in-Err-prepare
 returns-in-Err-prepare g c =
     inr (stopped _ _ _ _ _ (c.in-Ok.ensures ∙ c.files_of.ensures) c.in-Err-prepare.ensures)
 
-pub returns-in-Some : goal.returns-in-Some
-returns-in-Some g c =
+pub returns-in-Ok-make_file : goal.returns-in-Ok-make_file
+returns-in-Ok-make_file g c =
     into_file _ _ _ _ _ _ c.in-Some.ensures.0 (reaches _ _ (Ok _) (c.in-Ok.ensures ∙ c.files_of.ensures) c.in-Ok-prepare.ensures)
     c.run_job_into.ensures.end c.run_job_into.ensures.feed
+
+pub returns-in-Err-make_file : goal.returns-in-Err-make_file
+returns-in-Err-make_file g c =
+    into_file _ _ _ _ _ _ c.in-Some.ensures.0 (reaches _ _ (Ok _) (c.in-Ok.ensures ∙ c.files_of.ensures) c.in-Ok-prepare.ensures)
+    c.in-Err-make_file.ensures refl
 
 pub returns-in-None : goal.returns-in-None
 returns-in-None g c =
