@@ -15,6 +15,7 @@ use Rattle.cb_index.proofs.TotalLemmas.{same_total, total_append, total_filter, 
 use Rattle.cb_desk.specs.steps.Plans.{HasRoomFor, Keeps, Planned}
 use Rattle.cb_desk.specs.steps.Records.{AreThere, Kept, Rooms, other, without}
 use Rattle.cb_desk.specs.steps.Room.{IsRoomFor, texts_with, with_texts}
+use Rattle.cb_desk.specs.steps.Edits.{more}
 use Rattle.cb_desk.proofs.PlacePlans.{edited_length}
 
 -- ---- what is left when some are hidden
@@ -72,7 +73,7 @@ module _ (k : Kept) (p : Planned) (a : Archived) (keeps : Keeps k.archive k.now 
 
 pub has_room : (k : Kept) (p : Planned) (r : Room) (rooms : Rooms) → IsRoomFor k p r → r.entries ≤ rooms.files
     → r.defs ≤ rooms.defs → r.uses ≤ rooms.uses → r.calls ≤ rooms.calls
-    → length k.now.marks + length p.turn.marks ≤ rooms.marks → length k.now.frames + length p.turn.frames ≤ rooms.frames
+    → length k.now.marks + more p.turn.marks ≤ rooms.marks → length k.now.frames + more p.turn.frames ≤ rooms.frames
     → HasRoomFor rooms k.archive k.now p
 has_room k p r rooms is files defs uses calls marks frames a keeps = record {
   files =

@@ -52,7 +52,7 @@ mod replace;
 mod replaced;
 mod replacement;
 
-use crate::edits::{Edit, turn_edits};
+use crate::place_edits::PlaceEdits;
 use crate::place_list::PlaceList;
 use crate::plan::Plan;
 use crate::record::Record;
@@ -137,14 +137,14 @@ fn turn_wanted(wanted: &mut Option<Vec<u8>>, other: &mut Option<Option<Vec<u8>>>
 }
 
 /// Makes edits, and makes them those that take them back.
-fn turn_places(places: &mut PlaceList, edits: &mut Vec<Edit>)
-    requires { length (edited edits.old.items places.old.places) ≤ places.old.room }
-    ensures places { places.new.places ≡ edited edits.old.items places.old.places }
-    ensures edits { edits.new.items ≡ turned_edits edits.old.items }
+fn turn_places(places: &mut PlaceList, edits: &mut PlaceEdits)
+    requires { length (edited edits.old places.old.places) ≤ places.old.room }
+    ensures places { places.new.places ≡ edited edits.old places.old.places }
+    ensures edits { edits.new ≡ turned_edits edits.old }
     ensures room { places.old.room ≤ places.new.room }
 {
-    places.edit(edits.as_slice());
-    turn_edits(edits.as_mut_slice());
+    places.edit(edits);
+    edits.turn();
 }
 
 /// Keeps names, in the room that is there.
@@ -295,8 +295,8 @@ impl Present {
             Ok(()) => {}
             Err(_) => return Err(AllocError),
         }
-        self.marks.reserve_more(plan.record.marks.len())?;
-        self.frames.reserve_more(plan.record.frames.len())
+        self.marks.reserve_more(plan.record.marks.more())?;
+        self.frames.reserve_more(plan.record.frames.more())
     }
 
     /// Drops from the archive what only later worlds use, and keeps new names and versions, in the
