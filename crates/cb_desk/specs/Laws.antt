@@ -1,6 +1,7 @@
 -- What follows from the definitions of worlds and timelines.
 use Rattle.std.specs.Prelude.{◌≡◌, ◌∷◌, [], Ok}
-use Rattle.cb_desk.specs.declared.limits.TheConstants.{MOST_BYTES, MOST_FILES, MOST_TEXT, MOST_CHANGES}
+use Rattle.cb_desk.specs.declared.limits.TheConstants.{MOST_BYTES, MOST_CHANGES}
+use Rattle.cb_desk.specs.declared.limits.TheConstants.{MOST_FILES, MOST_TEXT}
 use Rattle.cb_desk.specs.World.{World, IsValidWorld}
 use Rattle.cb_desk.specs.Step.{Step, step}
 use Rattle.cb_desk.specs.Timeline.{Timeline, changed, undone, redone, IsValidTimeline}

@@ -5,7 +5,7 @@ ghost use Rattle.std.specs.Prelude.{
   ◌+◌,
   ◌++◌,
   [],
-  ⊤,
+  ◌^◌,
   length,
   map,
   take,
@@ -33,7 +33,7 @@ ghost use Rattle.cb_desk.specs.steps.Records.{
   turned,
   without,
 };
-ghost use Rattle.cb_desk.specs.steps.Room.{IsRoomFor};
+ghost use Rattle.cb_desk.specs.steps.Room.{IsCountable, IsRoomFor};
 ghost use Rattle.cb_desk.specs.steps.Still.{IsStill};
 ghost use Rattle.cb_desk.specs.steps.Texts.{bytes_if, bytes_if_other};
 
@@ -179,7 +179,7 @@ fn keep_versions(shelf: &mut Shelf, versions: Vec<Version>)
 
 /// A number and a count together, if they are a number.
 fn sum(number: u32, count: usize) -> Option<u32>
-    ensures { MatchOption result ⊤ (λ n. n ≡ number + count) }
+    ensures { MatchOption result (2 ^ 32 ≤ number + count) (λ n. n ≡ number + count) }
 {
     let count = u32::try_from(count).ok()?;
     number.checked_add(count)
@@ -257,7 +257,8 @@ impl Present {
     /// numbers are.
     fn room_for(&self, plan: &Plan) -> Option<Room>
         requires { AreThere self.now.archive self.now.now }
-        ensures { MatchOption result ⊤ (IsRoomFor self.now plan.now) }
+        ensures { MatchOption result (IsCountable self.now plan.now → ⊥)
+            (IsRoomFor self.now plan.now) }
     {
         let archive = self.shelf.archive();
         let shown = self.shelf.shown();
