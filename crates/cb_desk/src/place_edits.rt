@@ -108,15 +108,18 @@ pub(crate) fn difference(
     ensures { IfOk result (λ edits. IsDifference edits old.now new.now) }
 {
     let edits = each_difference(alloc, gone, old, new)?;
-    if old.len() <= edits.len() && new.len() <= edits.len() {
+    // An edit is as large as three places.
+    if old.len().saturating_add(new.len()) / 3 < edits.len() {
         let before = Vec::from_slice(alloc, old)?;
         let after = Vec::from_slice(alloc, new)?;
         return Ok(PlaceEdits {
             way: Way::Both(before, after),
         });
     }
+    // A list that was grown place by place may have twice the room.
+    let exact = Vec::from_slice(alloc, edits.as_slice())?;
     Ok(PlaceEdits {
-        way: Way::Each(edits),
+        way: Way::Each(exact),
     })
 }
 
