@@ -16,12 +16,11 @@ use Rattle.cb_index.specs.declared.entry.Shown.{Shown}
 use Rattle.cb_index.proofs.InOrderLemmas.{map_in_order}
 use Rattle.cb_index.proofs.AscendLemmas.{ascending_sorted}
 use Rattle.cb_index.proofs.ListedLemmas.{ascending_apart, ascending_in_order, other_turned}
-use Rattle.cb_desk.specs.declared.edits.Edit.{Edit}
 use Rattle.cb_desk.specs.declared.spot.NumberedPlace.{NumberedPlace}
 use Rattle.cb_desk.specs.Files.{loaded, reloaded, renamed, unloaded, with_file}
 use Rattle.cb_desk.specs.Places.{is_in, renamed_place, renamed_places, without_places}
 use Rattle.cb_desk.specs.World.{File, Place, has_file, place_key}
-use Rattle.cb_desk.specs.steps.Edits.{IsDifference, edited, turned_edits}
+use Rattle.cb_desk.specs.steps.Edits.{Edits, IsDifference, each, edited, turned_edits}
 use Rattle.cb_desk.specs.steps.Plans.{IsAmong, IsPlan, Keeps, LeadsTo, Planned, is_of, key_then}
 use Rattle.cb_desk.specs.steps.Plans.{name_then, places_without, renumbered}
 use Rattle.cb_desk.specs.steps.Records.{IsFew, Kept, other_wanted, place_in, without, world_in}
@@ -181,7 +180,7 @@ module _ (k : Kept) (p : Planned) (kept : IsKept k.rooms k.archive k.now)
       ∙ map-filter (place_in k.archive) (λ q. not (is_in name q)) ps
 
 -- ---- a file goes
-module _ (k : Kept) (p : Planned) (h : Shown) (marks frames : List Edit) (kept : IsKept k.rooms k.archive k.now)
+module _ (k : Kept) (p : Planned) (h : Shown) (marks frames : Edits) (kept : IsKept k.rooms k.archive k.now)
     (ascending : AreAscending k.archive k.now.shown) (among : IsAmong k.now.shown h)
     (names : p.names ≡ []) (texts : p.texts ≡ [])
     (turn : p.turn ≡ record {
@@ -248,8 +247,8 @@ module _ (k : Kept) (p : Planned) (name text : List ℕ) (kept : IsKept k.rooms 
       hides = [];
       shows = record { name = k.now.names; version = k.now.versions } ∷ [];
       wanted = None;
-      marks = [];
-      frames = [];
+      marks = each [];
+      frames = each [];
       names = number;
       versions = version;
     })
@@ -265,8 +264,8 @@ module _ (k : Kept) (p : Planned) (name text : List ℕ) (kept : IsKept k.rooms 
       hides = [];
       shows = new ∷ [];
       wanted = None;
-      marks = [];
-      frames = [];
+      marks = each [];
+      frames = each [];
       names = number;
       versions = version;
     };
@@ -311,7 +310,7 @@ module _ (k : Kept) (p : Planned) (name text : List ℕ) (kept : IsKept k.rooms 
   load_planned = subst (λ q. IsPlan k q (loaded (world_in k.archive k.now) name text)) (sym is_planned_load) load_leads
 
 -- ---- a file has other bytes
-module _ (k : Kept) (p : Planned) (h : Shown) (text : List ℕ) (marks frames : List Edit)
+module _ (k : Kept) (p : Planned) (h : Shown) (text : List ℕ) (marks frames : Edits)
     (kept : IsKept k.rooms k.archive k.now)
     (ascending : AreAscending k.archive k.now.shown) (among : IsAmong k.now.shown h)
     (names : p.names ≡ []) (texts : p.texts ≡ text ∷ []) (version : ℕ)
@@ -390,7 +389,7 @@ module _ (k : Kept) (p : Planned) (h : Shown) (text : List ℕ) (marks frames : 
       (sym is_planned_reload) reload_leads
 
 -- ---- a file gets another name
-module _ (k : Kept) (p : Planned) (h : Shown) (new_bytes : List ℕ) (marks frames : List Edit)
+module _ (k : Kept) (p : Planned) (h : Shown) (new_bytes : List ℕ) (marks frames : Edits)
     (kept : IsKept k.rooms k.archive k.now)
     (ascending : AreAscending k.archive k.now.shown) (among : IsAmong k.now.shown h)
     (fresh : has_file (files_of k.archive k.now.shown) new_bytes ≡ false)

@@ -30,6 +30,7 @@ pub mod Placed
 pub mod PlanLemmas
 pub mod ReplacePlans
 pub mod ReplacedLines
+pub mod SamePlaces
 pub mod Replays
 pub mod RoomLemmas
 pub mod RowsFew

@@ -27,6 +27,7 @@ use Rattle.cb_desk.specs.declared.refusal.Refusal.TheVariants.{BadName, FileExis
 use Rattle.cb_desk.specs.Files.{load_refusal, loaded}
 use Rattle.cb_desk.specs.Timeline.{moved_on, new_timeline, redone}
 use Rattle.cb_desk.specs.World.{IsValidWorld, World, has_file}
+use Rattle.cb_desk.specs.steps.Edits.{each}
 use Rattle.cb_desk.specs.steps.Loading.{AreLoaded, HasRoomToShow, just_room, loaded_numbers, loads_recorded}
 use Rattle.cb_desk.specs.steps.Plans.{HasRoomFor, IsPlan, Keeps, LeadsTo, Planned}
 use Rattle.cb_desk.specs.steps.Records.{AreThere, KeepsRooms, Kept, Rooms, Turn, no_numbers, other, turned, world_in}
@@ -189,8 +190,8 @@ pub turn_back : {n m : ℕ} (u : Turn) (count : ℕ) → count ≡ n → count �
       hides = record { name = count; version = count } ∷ [];
       shows = [];
       wanted = None;
-      marks = [];
-      frames = [];
+      marks = each [];
+      frames = each [];
       names = count;
       versions = count;
     }
@@ -198,8 +199,8 @@ pub turn_back : {n m : ℕ} (u : Turn) (count : ℕ) → count ≡ n → count �
       hides = record { name = n; version = m } ∷ [];
       shows = [];
       wanted = None;
-      marks = [];
-      frames = [];
+      marks = each [];
+      frames = each [];
       names = n;
       versions = m;
     }
@@ -208,8 +209,8 @@ turn_back u count named kept is =
       hides = record { name = named i; version = kept i } ∷ [];
       shows = [];
       wanted = None;
-      marks = [];
-      frames = [];
+      marks = each [];
+      frames = each [];
       names = named i;
       versions = kept i;
     })
@@ -267,8 +268,8 @@ module _ (a b : Archived) (hidden shown : List Shown) (records : List Turn) (nam
     hides = [];
     shows = new ∷ [];
     wanted = None;
-    marks = [];
-    frames = [];
+    marks = each [];
+    frames = each [];
     names = length a.names + 1;
     versions = length a.texts + 1;
   }

@@ -14,7 +14,8 @@ use Rattle.cb_desk.specs.declared.spot.NumberedPlace.{NumberedPlace}
 use Rattle.std.proofs.lemmas.List.{length-map}
 use Rattle.cb_desk.specs.Stack.{popped}
 use Rattle.cb_desk.specs.World.{World}
-use Rattle.cb_desk.specs.steps.Edits.{IsDifference, edited, turned_edits}
+use Rattle.cb_desk.specs.declared.renaming.Renaming.{Renaming}
+use Rattle.cb_desk.specs.steps.Edits.{Edits, IsDifference, both, each, edited, edited_each, more, renamed, renaming, turned_edits, with_number}
 use Rattle.cb_desk.specs.steps.Plans.{AreEdits, IsPlan, Keeps, LeadsTo, Planned, with_places}
 use Rattle.cb_desk.specs.steps.Records.{Kept, Numbered, Turn, other, other_wanted, place_in, without, world_in}
 use Rattle.cb_desk.specs.steps.Walks.{IsKept, shows_name, shows_version}
@@ -23,16 +24,16 @@ use Rattle.cb_desk.proofs.TurnLemmas.{few_small}
 use Rattle.cb_desk.proofs.ArchiveMoves.{Agree, agree_kept, apart_same, below_shown, files_same, order_same, places_same}
 
 -- ---- the length of an edited list
-pub edited_length : (es : List Edit) (ps : List NumberedPlace) → length (edited es ps) ≤ length ps + length es
-edited_length [] ps = omega arith
-edited_length (e ∷ es) ps =
+each_length : (es : List Edit) (ps : List NumberedPlace) → length (edited_each es ps) ≤ length ps + length es
+each_length [] ps = omega arith
+each_length (e ∷ es) ps =
     let here = parts e.kept ps in
-    let put = edited_length es (drop e.kept ps) in
-    let taken = edited_length es (drop 1 (drop e.kept ps)) in
+    let put = each_length es (drop e.kept ps) in
+    let taken = each_length es (drop 1 (drop e.kept ps)) in
     let fewer = drop_one (drop e.kept ps) in
-    elim e.is_put as (λ b. length (take e.kept ps ++ (cond b (e.place ∷ edited es (drop e.kept ps)) (edited es (drop 1 (drop e.kept ps))))) ≤ length ps + length (e ∷ es)) [
-      | true ↦ let all = length-append (take e.kept ps) (e.place ∷ edited es (drop e.kept ps)) in omega (arith, here, put, all)
-      | false ↦ let all = length-append (take e.kept ps) (edited es (drop 1 (drop e.kept ps))) in omega (arith, here, taken, fewer, all)
+    elim e.is_put as (λ b. length (take e.kept ps ++ (cond b (e.place ∷ edited_each es (drop e.kept ps)) (edited_each es (drop 1 (drop e.kept ps))))) ≤ length ps + length (e ∷ es)) [
+      | true ↦ let all = length-append (take e.kept ps) (e.place ∷ edited_each es (drop e.kept ps)) in omega (arith, here, put, all)
+      | false ↦ let all = length-append (take e.kept ps) (edited_each es (drop 1 (drop e.kept ps))) in omega (arith, here, taken, fewer, all)
     ]
   where
     parts : (n : ℕ) (xs : List NumberedPlace) → length (take n xs) + length (drop n xs) ≡ length xs
@@ -41,6 +42,31 @@ edited_length (e ∷ es) ps =
     drop_one : (xs : List NumberedPlace) → length (drop 1 xs) ≤ length xs
     drop_one [] = omega arith
     drop_one (x ∷ xs) = omega arith
+
+-- a renamed list is as long
+pub renamed_length : (r : Renaming) (ps : List NumberedPlace) → length (renamed r ps) ≡ length ps
+renamed_length r ps =
+    let qs = map (with_number r) ps in
+    let all = parts r.end qs in
+    let front = parts r.start (take r.end qs) in
+    let range = parts r.split (drop r.start (take r.end qs)) in
+    let kept = take r.start (take r.end qs) in
+    let first = take r.split (drop r.start (take r.end qs)) in
+    let others = drop r.split (drop r.start (take r.end qs)) in
+    let one : length (renamed r ps) ≡ length (kept ++ (others ++ first)) + length (drop r.end qs) =
+    length-append (kept ++ (others ++ first)) (drop r.end qs) in
+    let two = length-append kept (others ++ first) in
+    let three = length-append others first in
+    let same = length-map ps (with_number r) in
+    omega (arith, all, front, range, one, two, three, same)
+  where
+    parts : (n : ℕ) (xs : List NumberedPlace) → length (take n xs) + length (drop n xs) ≡ length xs
+    parts n xs = sym (length-append (take n xs) (drop n xs)) ∙ ap length (take-append-drop n xs)
+
+pub edited_length : (es : Edits) (ps : List NumberedPlace) → length (edited es ps) ≤ length ps + more es
+edited_length (each es) ps = each_length es ps
+edited_length (both old new) ps = omega arith
+edited_length (renaming r) ps = let same = renamed_length r ps in omega (arith, same)
 
 -- ---- a list that is in order
 pub put_first : {X : Type 0} (key : X → List ℕ) (x : X) (xs : List X) → AllByRecursion (λ y. goes_first key x y ≡ true) xs → put key x xs ≡ x ∷ xs
@@ -58,7 +84,7 @@ pub without_none : (shown : List Shown) → without [] shown ≡ shown
 without_none [] = refl
 without_none (s ∷ shown) = ap (λ xs. s ∷ xs) (without_none shown)
 
-module _ (k : Kept) (p : Planned) (wanted : Option (Option (List ℕ))) (marks frames : List Edit) (kept : IsKept k.rooms k.archive k.now)
+module _ (k : Kept) (p : Planned) (wanted : Option (Option (List ℕ))) (marks frames : Edits) (kept : IsKept k.rooms k.archive k.now)
     (ascending : AreAscending k.archive k.now.shown) (names : p.names ≡ []) (texts : p.texts ≡ [])
     (turn : p.turn ≡ record { hides = []; shows = []; wanted = wanted; marks = marks; frames = frames; names = k.now.names; versions = k.now.versions })
     (are_marks : AreEdits k.now.names marks k.now.marks) (are_frames : AreEdits k.now.names frames k.now.frames) where
@@ -137,14 +163,14 @@ module _ (k : Kept) (p : Planned) (wanted : Option (Option (List ℕ))) (marks f
   places_planned a keeps = subst (λ t. LeadsTo k (record p { turn = t }) (with_places k.archive k.now wanted marks frames) a) (sym turn) (leads a keeps)
 
 -- ---- edits that make one list from another
-pub are_edits : (names : ℕ) (es : List Edit) (ps qs : List NumberedPlace) → IsDifference es ps qs
+pub are_edits : (names : ℕ) (es : Edits) (ps qs : List NumberedPlace) → IsDifference es ps qs
     → AllByRecursion (λ (p : NumberedPlace). p.name < names) qs → AreEdits names es ps
 are_edits names es ps qs is named = record {
   back = ap (edited (turned_edits es)) is.on ∙ is.back;
   named = subst (AllByRecursion (λ (p : NumberedPlace). p.name < names)) (sym is.on) named;
 }
 
-pub no_edits : (names : ℕ) (es : List Edit) (ps : List NumberedPlace) → es ≡ [] → AllByRecursion (λ (p : NumberedPlace). p.name < names) ps → AreEdits names es ps
+pub no_edits : (names : ℕ) (es : Edits) (ps : List NumberedPlace) → es ≡ each [] → AllByRecursion (λ (p : NumberedPlace). p.name < names) ps → AreEdits names es ps
 no_edits names es ps none named =
     subst (λ xs. AreEdits names xs ps) (sym none) (record { back = refl; named = named })
 
@@ -161,7 +187,7 @@ below_pushed names p [] here all = (here, tt)
 below_pushed names p (q ∷ ps) here all = (all.0, below_pushed names p ps here all.1)
 
 -- ---- the worlds of such edits
-module _ (k : Kept) (v : World) (wanted : Option (Option (List ℕ))) (marks frames : List Edit) (new_marks new_frames : List NumberedPlace)
+module _ (k : Kept) (v : World) (wanted : Option (Option (List ℕ))) (marks frames : Edits) (new_marks new_frames : List NumberedPlace)
     (are_marks : edited marks k.now.marks ≡ new_marks) (are_frames : edited frames k.now.frames ≡ new_frames) where
   pub world_of_edits : with_places k.archive k.now wanted marks frames
       ≡ record (world_in k.archive k.now) { wanted = other_wanted wanted k.now.wanted; marks = map (place_in k.archive) new_marks; frames = map (place_in k.archive) new_frames }
@@ -178,8 +204,8 @@ module _ (a : Archived) where
   taken_places (suc n) [] = refl
   taken_places (suc n) (p ∷ ps) = ap (λ xs. place_in a p ∷ xs) (taken_places n ps)
 
-  pub popped_world : (w : Numbered) (frames : List Edit) → edited frames w.frames ≡ take (length w.frames - 1) w.frames
-      → with_places a w None [] frames ≡ popped (world_in a w)
+  pub popped_world : (w : Numbered) (frames : Edits) → edited frames w.frames ≡ take (length w.frames - 1) w.frames
+      → with_places a w None (each []) frames ≡ popped (world_in a w)
   popped_world w frames is =
       ap (λ xs. record (world_in a w) { frames = xs })
       (ap (map (place_in a)) is ∙ taken_places (length w.frames - 1) w.frames

@@ -14,13 +14,12 @@ use Rattle.cb_scan.specs.Order.{in_order}
 use Rattle.cb_index.specs.Archived.{Archived, name_of}
 use Rattle.cb_index.specs.Files.{AreAscending, file_of, files_of, shown_name}
 use Rattle.cb_index.specs.declared.entry.Shown.{Shown}
-use Rattle.cb_desk.specs.declared.edits.Edit.{Edit}
 use Rattle.cb_desk.specs.declared.present.renewal.Renewal.{Renewal}
 use Rattle.cb_desk.specs.declared.spot.NumberedPlace.{NumberedPlace}
 use Rattle.cb_desk.specs.Marks.{replaced_files, with_files}
 use Rattle.cb_desk.specs.Places.{is_place_of}
 use Rattle.cb_desk.specs.World.{File}
-use Rattle.cb_desk.specs.steps.Edits.{IsDifference}
+use Rattle.cb_desk.specs.steps.Edits.{Edits, IsDifference}
 use Rattle.cb_desk.specs.steps.Plans.{IsPlan, Keeps, LeadsTo, Planned}
 use Rattle.cb_desk.specs.steps.Records.{IsFew, Kept, place_in, without, world_in}
 use Rattle.cb_desk.specs.steps.Replaced.{file_then, files_changed, files_then, has_mark, new_of, old_of, remaining, renewals, texts_of}
@@ -105,7 +104,7 @@ module _ (b a : Archived) (n v : ℕ) (same : Agree b a n v) (marks : List Numbe
           let still : file_of a s ≡ file_of b s = λ i. record { name = same.names s.name all.0.0 i; bytes = same.bytes s.version all.0.1 i } in
           λ i. (still ∙ sym (unmarked_then b marks old new s is)) i ∷ later first at i
 
-module _ (k : Kept) (p : Planned) (old new : List ℕ) (rs : List Renewal) (marks frames : List Edit) (versions : ℕ)
+module _ (k : Kept) (p : Planned) (old new : List ℕ) (rs : List Renewal) (marks frames : Edits) (versions : ℕ)
     (kept : IsKept k.rooms k.archive k.now) (ascending : AreAscending k.archive k.now.shown) (names : p.names ≡ [])
     (texts : p.texts ≡ texts_of (files_changed k.archive k.now.marks old new k.now.shown))
     (same : IsPermutation (renewals k.now.versions (filter (has_mark k.archive k.now.marks) k.now.shown)) rs)

@@ -1,6 +1,6 @@
 -- There is room for the world that a plan leads to.
 use Rattle.std.proofs.Common.{◌≡◌, ◌∙◌, ◌≤◌, ◌<◌, ◌+◌, ℕ, take, List, [], ◌∷◌, ◌++◌, refl, length, filter, not, cond, arith, true, false, length-append, Bool}
-use Rattle.std.specs.Prelude.{Err, Ok, OnOk, Option, Result}
+use Rattle.std.specs.Prelude.{◌^◌, Err, MatchOption, None, Ok, OnOk, Option, Result}
 use Rattle.cb_scan.proofs.FunctionsRise.{all_implied}
 use Rattle.cb_index.specs.Archived.{Archived}
 use Rattle.cb_index.specs.Files.{call_count, def_count, shown_name, total, use_count}
@@ -14,7 +14,8 @@ use Rattle.cb_index.proofs.FrontLemmas.{length_front}
 use Rattle.cb_index.proofs.TotalLemmas.{same_total, total_append, total_filter, total_front, total_in_order, total_more}
 use Rattle.cb_desk.specs.steps.Plans.{HasRoomFor, Keeps, Planned}
 use Rattle.cb_desk.specs.steps.Records.{AreThere, Kept, Rooms, other, without}
-use Rattle.cb_desk.specs.steps.Room.{IsRoomFor, texts_with, with_texts}
+use Rattle.cb_desk.specs.steps.Room.{IsCountable, IsRoomFor, fact_count, facts_with, texts_with, with_texts}
+use Rattle.cb_desk.specs.steps.Edits.{more}
 use Rattle.cb_desk.proofs.PlacePlans.{edited_length}
 
 -- ---- what is left when some are hidden
@@ -38,6 +39,25 @@ shown_total count k p there =
     (all_implied (λ (s : Shown). (s.name < k.now.names) × (s.version < k.now.versions)) (λ (s : Shown). s.version < length front.texts)
     (λ s at. length_front k.now.versions k.archive.texts s.version at.1 (let some = there.versions in omega (arith, at.1, some)))
     k.now.shown there.shown)
+
+-- facts that are no number together are not countable
+pub not_countable : (k : Kept) (p : Planned) (now : Totals) → AreThere k.archive k.now
+    → AreTotals k.archive k.now.shown now
+    → 2 ^ 64 ≤ facts_with now (fact_count (texts_with k p) p.turn.shows) → IsCountable k p → ⊥
+not_countable k p now there are many is =
+    let texts = with_texts (texts_with k p) in
+    let d = are.defs ∙ shown_total def_count k p there in
+    let u = are.uses ∙ shown_total use_count k p there in
+    let c = are.calls ∙ shown_total call_count k p there in
+    let least : 2 ^ 64 ≤ now.defs + now.uses + now.calls
+    + (total def_count texts p.turn.shows + total use_count texts p.turn.shows + total call_count texts p.turn.shows) = many in
+    let most : (total def_count texts k.now.shown + total use_count texts k.now.shown + total call_count texts k.now.shown)
+    + (total def_count texts p.turn.shows + total use_count texts p.turn.shows + total call_count texts p.turn.shows) < 2 ^ 64 = is.facts in
+    omega (arith, d, u, c, least, most)
+
+-- what holds where nothing is given
+pub none_given : {T : Type 0} (A : Type 0) (B : T → Type 0) (o : Option T) → o ≡ None → A → MatchOption o A B
+none_given A B o is a = rw is a
 
 -- the room that is asked for where the totals of what is shown are known
 pub room_asked : (k : Kept) (p : Planned) (r : Room) (now : Totals) → AreThere k.archive k.now
@@ -72,7 +92,7 @@ module _ (k : Kept) (p : Planned) (a : Archived) (keeps : Keeps k.archive k.now 
 
 pub has_room : (k : Kept) (p : Planned) (r : Room) (rooms : Rooms) → IsRoomFor k p r → r.entries ≤ rooms.files
     → r.defs ≤ rooms.defs → r.uses ≤ rooms.uses → r.calls ≤ rooms.calls
-    → length k.now.marks + length p.turn.marks ≤ rooms.marks → length k.now.frames + length p.turn.frames ≤ rooms.frames
+    → length k.now.marks + more p.turn.marks ≤ rooms.marks → length k.now.frames + more p.turn.frames ≤ rooms.frames
     → HasRoomFor rooms k.archive k.now p
 has_room k p r rooms is files defs uses calls marks frames a keeps = record {
   files =

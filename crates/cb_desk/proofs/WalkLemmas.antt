@@ -12,7 +12,7 @@ use Rattle.cb_desk.specs.declared.refusal.Refusal.TheVariants.{NothingToUndo, No
 use Rattle.cb_desk.specs.Timeline.{IsValidTimeline, Timeline, new_timeline, undone, redone}
 use Rattle.cb_desk.specs.Turns.{touched}
 use Rattle.cb_desk.specs.World.{IsValidWorld, empty_world}
-use Rattle.cb_desk.specs.steps.Edits.{edited, turned_edits}
+use Rattle.cb_desk.specs.steps.Edits.{Edits, both, each, edited, renaming, turned_each, turned_edits}
 use Rattle.cb_desk.specs.steps.Records.{Fits, IsTurn, Kept, KeepsRooms, Numbered, no_numbers, Rooms, Turn, kept_wanted, other, other_wanted, turned, without, world_in}
 use Rattle.cb_desk.specs.steps.Walks.{IsKept, IsNext, IsRecorded, LeadsBack, LeadsOn, Recorded, timeline_in, turns_back, turns_on, walk, worlds_in}
 use Rattle.cb_desk.proofs.AllUsed.{all_used}
@@ -23,9 +23,14 @@ not_not : (b : Bool) → not (not b) ≡ b
 not_not true = refl
 not_not false = refl
 
-turned_twice : (es : List Edit) → turned_edits (turned_edits es) ≡ es
-turned_twice [] = refl
-turned_twice (e ∷ es) = ap (λ b. record e { is_put = b } ∷ turned_edits (turned_edits es)) (not_not e.is_put) ∙ ap (λ xs. e ∷ xs) (turned_twice es)
+each_twice : (es : List Edit) → turned_each (turned_each es) ≡ es
+each_twice [] = refl
+each_twice (e ∷ es) = ap (λ b. record e { is_put = b } ∷ turned_each (turned_each es)) (not_not e.is_put) ∙ ap (λ xs. e ∷ xs) (each_twice es)
+
+turned_twice : (es : Edits) → turned_edits (turned_edits es) ≡ es
+turned_twice (each es) = ap each (each_twice es)
+turned_twice (both old new) = refl
+turned_twice (renaming r) = refl
 
 wanted_again : (t w : Option (Option (List ℕ))) (x : Option (List ℕ)) → t ≡ w → other_wanted (kept_wanted t x) (other_wanted t x) ≡ x
 wanted_again None w x e = refl

@@ -15,11 +15,11 @@ ghost use Rattle.std.specs.Prelude.{
   MatchOption,
 };
 ghost use Rattle.cb_desk.specs.steps.Edits.{
-  IsDifference,
+  IsEachDifference,
   IsFirstStep,
-  edited,
+  edited_each,
   turned_edit,
-  turned_edits,
+  turned_each,
 };
 
 use crate::spot::NumberedPlace;
@@ -49,7 +49,7 @@ impl Edit {
 #[tactic(auto, using(std::proofs::lemmas::List::Edits::map_over_more))]
 /// Makes edits those that take them back.
 pub(crate) fn turn_edits(edits: &mut [Edit])
-    ensures { edits.new ≡ turned_edits edits.old }
+    ensures { edits.new ≡ turned_each edits.old }
 {
     for edit in edits.iter_mut() {
         *edit = edit.turned();
@@ -67,7 +67,7 @@ fn without_first(places: &[NumberedPlace]) -> &[NumberedPlace]
 }
 
 /// Adds places to a list that has room for them.
-fn put_places(places: &[NumberedPlace], into: &mut Vec<NumberedPlace>)
+pub(crate) fn put_places(places: &[NumberedPlace], into: &mut Vec<NumberedPlace>)
     requires { length into.old.items + length places.now ≤ vec_capacity into.old }
     ensures items { into.new.items ≡ into.old.items ++ places.now }
     ensures room { vec_capacity into.old ≤ vec_capacity into.new }
@@ -79,8 +79,8 @@ fn put_places(places: &[NumberedPlace], into: &mut Vec<NumberedPlace>)
 
 /// Writes what edits make of a list into one that has room for it.
 pub(crate) fn edit_into(edits: &[Edit], places: &[NumberedPlace], into: &mut Vec<NumberedPlace>)
-    requires { length (edited edits.now places.now) ≤ vec_capacity into.old }
-    ensures items { into.new.items ≡ edited edits.now places.now }
+    requires { length (edited_each edits.now places.now) ≤ vec_capacity into.old }
+    ensures items { into.new.items ≡ edited_each edits.now places.now }
     ensures room { vec_capacity into.old ≤ vec_capacity into.new }
 {
     into.truncate(0);
@@ -112,7 +112,7 @@ enum Step {
 /// What is done first, if anything is left. Of two places that differ the old one is taken out if
 /// its file is gone or if more old places than new ones are left.
 fn first_step(gone: Option<u32>, olds: &[NumberedPlace], news: &[NumberedPlace]) -> Option<Step>
-    ensures { MatchOption result (IsDifference [] olds.now news.now)
+    ensures { MatchOption result (IsEachDifference [] olds.now news.now)
         (λ step. IsFirstStep step olds.now news.now) }
 {
     match (olds.first(), news.first()) {
@@ -131,13 +131,13 @@ fn first_step(gone: Option<u32>, olds: &[NumberedPlace], news: &[NumberedPlace])
 
 /// Edits that make one list of places from another. `gone` is the name of a file that goes away, if
 /// one does: with it the edits are no more than the places that change.
-pub(crate) fn difference(
+pub(crate) fn each_difference(
     alloc: Global,
     gone: Option<u32>,
     old: &[NumberedPlace],
     new: &[NumberedPlace],
 ) -> Result<Vec<Edit>, AllocError>
-    ensures { IfOk result (λ edits. IsDifference edits.items old.now new.now) }
+    ensures { IfOk result (λ edits. IsEachDifference edits.items old.now new.now) }
 {
     let mut edits = Vec::new(alloc);
     let mut kept = 0;
@@ -189,7 +189,7 @@ pub(crate) fn push_edits(
     place: NumberedPlace,
 ) -> Result<Vec<Edit>, AllocError>
     ensures { IfOk result
-        (λ edits. IsDifference edits.items places.now (places.now ++ place ∷ [])) }
+        (λ edits. IsEachDifference edits.items places.now (places.now ++ place ∷ [])) }
 {
     let kept = places.len();
     one_edit(
@@ -205,7 +205,7 @@ pub(crate) fn push_edits(
 /// The edits that take the last place out, if there is one.
 pub(crate) fn pop_edits(alloc: Global, places: &[NumberedPlace]) -> Result<Vec<Edit>, AllocError>
     ensures { IfOk result
-        (λ edits. IsDifference edits.items places.now (take (length places.now - 1) places.now)) }
+        (λ edits. IsEachDifference edits.items places.now (take (length places.now - 1) places.now)) }
 {
     match places.split_last() {
         Some((last, rest)) => one_edit(

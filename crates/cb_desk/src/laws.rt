@@ -1,5 +1,6 @@
 //! What follows from the definitions alone: no code runs here.
 ghost use Rattle.cb_desk.specs.Laws.{
+  AreLimits,
   UndoTakesBack,
   RedoTakesBack,
   StepKeepsValid,
@@ -7,6 +8,11 @@ ghost use Rattle.cb_desk.specs.Laws.{
 };
 ghost use Rattle.cb_desk.specs.Replacement.{HasOneCut};
 ghost use Rattle.cb_desk.specs.Survivors.{TimelineIsReplayed};
+
+/// The limits as numbers.
+pub fn limits_are_numbers()
+    ensures { AreLimits }
+{}
 
 /// An accepted change followed by undo gives back the past and the present; the new world is then
 /// the future.

@@ -25,6 +25,7 @@ ghost use Rattle.cb_desk.specs.steps.Loading.{HasRoomToShow};
 
 use crate::history::History;
 use crate::limits::MOST_CHANGES;
+use crate::place_edits::PlaceEdits;
 use crate::present::Present;
 use crate::present::files::only_one;
 use crate::present::refusals::load_refusal;
@@ -170,8 +171,8 @@ impl Loading {
             hides,
             shows: Vec::new(alloc),
             wanted: None,
-            marks: Vec::new(alloc),
-            frames: Vec::new(alloc),
+            marks: PlaceEdits::none(alloc),
+            frames: PlaceEdits::none(alloc),
             names: count,
             versions: count,
         });

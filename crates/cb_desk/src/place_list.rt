@@ -2,7 +2,7 @@
 ghost use Rattle.std.specs.Prelude.{◌≡◌, ◌≤◌, ◌+◌, ◌++◌, ◌∷◌, [], length, IfErr, OnOk};
 ghost use Rattle.cb_desk.specs.steps.Edits.{edited};
 
-use crate::edits::{Edit, edit_into};
+use crate::place_edits::PlaceEdits;
 use crate::spot::NumberedPlace;
 use std::alloc::{AllocError, Global};
 use std::marker::Model;
@@ -70,12 +70,12 @@ impl PlaceList {
     }
 
     /// Makes edits, in the room that is there. It takes no memory.
-    pub(crate) fn edit(&mut self, edits: &[Edit])
+    pub(crate) fn edit(&mut self, edits: &PlaceEdits)
         requires { length (edited edits.now self.old.places) ≤ self.old.room }
         ensures places { self.new.places ≡ edited edits.now self.old.places }
         ensures room { self.old.room ≤ self.new.room }
     {
-        edit_into(edits, self.places.as_slice(), &mut self.spare);
+        edits.write_into(self.places.as_mut_slice(), &mut self.spare);
         mem::swap(&mut self.places, &mut self.spare);
     }
 }

@@ -5,7 +5,7 @@ ghost use Rattle.std.specs.Prelude.{
   ◌+◌,
   ◌++◌,
   [],
-  ⊤,
+  ◌^◌,
   length,
   map,
   take,
@@ -33,7 +33,7 @@ ghost use Rattle.cb_desk.specs.steps.Records.{
   turned,
   without,
 };
-ghost use Rattle.cb_desk.specs.steps.Room.{IsRoomFor};
+ghost use Rattle.cb_desk.specs.steps.Room.{IsCountable, IsRoomFor};
 ghost use Rattle.cb_desk.specs.steps.Still.{IsStill};
 ghost use Rattle.cb_desk.specs.steps.Texts.{bytes_if, bytes_if_other};
 
@@ -52,7 +52,7 @@ mod replace;
 mod replaced;
 mod replacement;
 
-use crate::edits::{Edit, turn_edits};
+use crate::place_edits::PlaceEdits;
 use crate::place_list::PlaceList;
 use crate::plan::Plan;
 use crate::record::Record;
@@ -137,14 +137,14 @@ fn turn_wanted(wanted: &mut Option<Vec<u8>>, other: &mut Option<Option<Vec<u8>>>
 }
 
 /// Makes edits, and makes them those that take them back.
-fn turn_places(places: &mut PlaceList, edits: &mut Vec<Edit>)
-    requires { length (edited edits.old.items places.old.places) ≤ places.old.room }
-    ensures places { places.new.places ≡ edited edits.old.items places.old.places }
-    ensures edits { edits.new.items ≡ turned_edits edits.old.items }
+fn turn_places(places: &mut PlaceList, edits: &mut PlaceEdits)
+    requires { length (edited edits.old places.old.places) ≤ places.old.room }
+    ensures places { places.new.places ≡ edited edits.old places.old.places }
+    ensures edits { edits.new ≡ turned_edits edits.old }
     ensures room { places.old.room ≤ places.new.room }
 {
-    places.edit(edits.as_slice());
-    turn_edits(edits.as_mut_slice());
+    places.edit(edits);
+    edits.turn();
 }
 
 /// Keeps names, in the room that is there.
@@ -179,7 +179,7 @@ fn keep_versions(shelf: &mut Shelf, versions: Vec<Version>)
 
 /// A number and a count together, if they are a number.
 fn sum(number: u32, count: usize) -> Option<u32>
-    ensures { MatchOption result ⊤ (λ n. n ≡ number + count) }
+    ensures { MatchOption result (2 ^ 32 ≤ number + count) (λ n. n ≡ number + count) }
 {
     let count = u32::try_from(count).ok()?;
     number.checked_add(count)
@@ -257,7 +257,8 @@ impl Present {
     /// numbers are.
     fn room_for(&self, plan: &Plan) -> Option<Room>
         requires { AreThere self.now.archive self.now.now }
-        ensures { MatchOption result ⊤ (IsRoomFor self.now plan.now) }
+        ensures { MatchOption result (IsCountable self.now plan.now → ⊥)
+            (IsRoomFor self.now plan.now) }
     {
         let archive = self.shelf.archive();
         let shown = self.shelf.shown();
@@ -295,8 +296,8 @@ impl Present {
             Ok(()) => {}
             Err(_) => return Err(AllocError),
         }
-        self.marks.reserve_more(plan.record.marks.len())?;
-        self.frames.reserve_more(plan.record.frames.len())
+        self.marks.reserve_more(plan.record.marks.more())?;
+        self.frames.reserve_more(plan.record.frames.more())
     }
 
     /// Drops from the archive what only later worlds use, and keeps new names and versions, in the

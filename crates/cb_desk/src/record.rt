@@ -1,7 +1,7 @@
 //! What leads from one world to another, in memory.
 ghost use Rattle.std.specs.Prelude.{◌≡◌};
 
-use crate::edits::Edit;
+use crate::place_edits::PlaceEdits;
 use cb_index::Shown;
 use std::marker::Model;
 
@@ -13,8 +13,8 @@ pub(crate) struct Record {
     pub(crate) hides: Vec<Shown>,
     pub(crate) shows: Vec<Shown>,
     pub(crate) wanted: Option<Option<Vec<u8>>>,
-    pub(crate) marks: Vec<Edit>,
-    pub(crate) frames: Vec<Edit>,
+    pub(crate) marks: PlaceEdits,
+    pub(crate) frames: PlaceEdits,
     pub(crate) names: u32,
     pub(crate) versions: u32,
 }
@@ -29,8 +29,8 @@ impl Model for Record {
       hides = r.hides.items;
       shows = r.shows.items;
       wanted = bytes_if_other r.wanted;
-      marks = r.marks.items;
-      frames = r.frames.items;
+      marks = r.marks;
+      frames = r.frames;
       names = r.names;
       versions = r.versions;
     } };

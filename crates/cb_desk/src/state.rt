@@ -163,6 +163,7 @@ impl Desk {
     pub fn files(&self) -> Files<'_>
         ensures value { result ≡ self.now.timeline.present.files }
         ensures valid { IsValidWorld self.now.timeline.present }
+        ensures timeline { IsValidTimeline self.now.timeline }
     {
         self.history.present().files()
     }

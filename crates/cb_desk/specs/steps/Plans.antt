@@ -5,9 +5,8 @@ use Rattle.std.specs.List.{AllByRecursion}
 use Rattle.std.specs.Str.{bytes_eq}
 use Rattle.cb_index.specs.Archived.{Archived, name_of}
 use Rattle.cb_index.specs.declared.entry.Shown.{Shown}
-use Rattle.cb_desk.specs.declared.edits.Edit.{Edit}
 use Rattle.cb_desk.specs.declared.spot.NumberedPlace.{NumberedPlace}
-use Rattle.cb_desk.specs.steps.Edits.{edited, turned_edits}
+use Rattle.cb_desk.specs.steps.Edits.{Edits, edited, turned_edits}
 use Rattle.cb_desk.specs.steps.Records.{AreThere, Fits, IsTurn, Kept, Numbered, Rooms, Turn, other}
 use Rattle.cb_desk.specs.steps.Records.{other_wanted, place_in, world_in}
 use Rattle.cb_desk.specs.steps.Walks.{IsNext, UsesAll}
@@ -41,13 +40,13 @@ abbrev pub HasRoomFor : Rooms → Archived → Numbered → Planned → Type 0
 HasRoomFor rooms old w p = (a : Archived) → Keeps old w p a → Fits rooms a (other a p.turn w)
 
 -- edits that can be taken back and leave places whose names are below that number
-pub record AreEdits (names : ℕ) (es : List Edit) (ps : List NumberedPlace) : Type 0 where
+pub record AreEdits (names : ℕ) (es : Edits) (ps : List NumberedPlace) : Type 0 where
   pub back : edited (turned_edits es) (edited es ps) ≡ ps
   pub named : AllByRecursion (λ (p : NumberedPlace). p.name < names) (edited es ps)
 
 -- the world with other marks and frames, and another wanted text if there is one
 abbrev pub with_places : Archived → Numbered → Option (Option (List ℕ))
-    → (marks frames : List Edit) → World
+    → (marks frames : Edits) → World
 with_places a w wanted marks frames = record (world_in a w) {
   wanted = other_wanted wanted w.wanted;
   marks = map (place_in a) (edited marks w.marks);

@@ -11,9 +11,8 @@ use Rattle.cb_index.specs.Files.{shown_name, total, use_count}
 use Rattle.cb_index.specs.Names.{is_among, names_of}
 use Rattle.cb_index.specs.Shelved.{Shelved, Waiting}
 use Rattle.cb_index.specs.declared.entry.Shown.{Shown}
-use Rattle.cb_desk.specs.declared.edits.Edit.{Edit}
 use Rattle.cb_desk.specs.declared.spot.NumberedPlace.{NumberedPlace}
-use Rattle.cb_desk.specs.steps.Edits.{edited, turned_edits}
+use Rattle.cb_desk.specs.steps.Edits.{Edits, edited, turned_edits}
 use Rattle.cb_desk.specs.Places.{same_place}
 use Rattle.cb_desk.specs.Search.{lines_with}
 use Rattle.cb_desk.specs.Turns.{touched}
@@ -35,8 +34,8 @@ pub record Turn : Type 0 where
   pub hides : List Shown
   pub shows : List Shown
   pub wanted : Option (Option (List ℕ))
-  pub marks : List Edit
-  pub frames : List Edit
+  pub marks : Edits
+  pub frames : Edits
   pub names : ℕ
   pub versions : ℕ
 

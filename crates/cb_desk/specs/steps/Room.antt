@@ -1,5 +1,5 @@
 -- For how much there has to be room.
-use Rattle.std.specs.Prelude.{◌≡◌, ◌+◌, ℕ, List, [], ◌++◌, length, take}
+use Rattle.std.specs.Prelude.{◌≡◌, ◌≤◌, ◌<◌, ◌+◌, ◌^◌, ℕ, List, [], ◌++◌, length, take}
 use Rattle.cb_scan.specs.TextFacts.{TextFacts}
 use Rattle.cb_index.specs.Archived.{Archived}
 use Rattle.cb_index.specs.Files.{call_count, def_count, total, use_count}
@@ -13,11 +13,26 @@ use Rattle.cb_desk.specs.steps.Records.{Kept}
 abbrev pub with_texts : List (List ℕ) → Archived
 with_texts texts = record { names = []; texts = texts; name_room = 0; version_room = 0 }
 
+-- how many facts versions have among some texts, and how many there are with those of totals
+abbrev pub fact_count : List (List ℕ) → List Shown → ℕ
+fact_count texts shown =
+    total def_count (with_texts texts) shown + total use_count (with_texts texts) shown
+    + total call_count (with_texts texts) shown
+
+abbrev pub facts_with : Totals → ℕ → ℕ
+facts_with before more = before.defs + before.uses + before.calls + more
+
 -- totals with the facts of one version more
 pub record AreMore (facts : TextFacts) (before after : Totals) : Type 0 where
   pub defs : after.defs ≡ before.defs + length facts.defs
   pub uses : after.uses ≡ before.uses + length facts.uses
   pub calls : after.calls ≡ before.calls + length facts.calls
+
+-- together they are no number of 64 bits
+abbrev pub AreTooMany : TextFacts → Totals → Type 0
+AreTooMany facts before =
+    2 ^ 64
+    ≤ facts_with before (length facts.defs + length facts.uses + length facts.calls)
 
 -- totals with the facts of some of these texts more
 pub record AreCounted (texts : List (List ℕ)) (shown : List Shown)
@@ -41,3 +56,11 @@ pub record IsRoomFor (k : Kept) (p : Planned) (r : Room) : Type 0 where
       + total use_count (with_texts (texts_with k p)) p.turn.shows
   pub calls : r.calls ≡ total call_count (with_texts (texts_with k p)) k.now.shown
       + total call_count (with_texts (texts_with k p)) p.turn.shows
+
+-- the counts of that room are numbers: of 32 bits, and all facts together of 64 bits
+pub record IsCountable (k : Kept) (p : Planned) : Type 0 where
+  pub names : k.now.names + length p.names < 2 ^ 32
+  pub versions : k.now.versions + length p.texts < 2 ^ 32
+  pub entries : length k.now.shown + length p.turn.shows < 2 ^ 32
+  pub facts : fact_count (texts_with k p) k.now.shown + fact_count (texts_with k p) p.turn.shows
+      < 2 ^ 64

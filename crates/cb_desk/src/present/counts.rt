@@ -1,8 +1,8 @@
 //! How many facts versions have.
-ghost use Rattle.std.specs.Prelude.{◌≡◌, ◌≤◌, ◌++◌, ⊤, length, map, take, slice_get, MatchOption};
+ghost use Rattle.std.specs.Prelude.{◌≡◌, ◌≤◌, ◌++◌, ◌^◌, length, map, take, slice_get, MatchOption};
 ghost use Rattle.std.specs.Option.{option_copied, option_map};
 ghost use Rattle.cb_scan.specs.Definitions.{facts_of};
-ghost use Rattle.cb_desk.specs.steps.Room.{AreCounted, AreMore};
+ghost use Rattle.cb_desk.specs.steps.Room.{AreCounted, AreMore, AreTooMany, fact_count, facts_with};
 
 use cb_index::{Archive, Shown, Totals, Version};
 use cb_scan::Facts;
@@ -27,7 +27,7 @@ fn facts_at<'a>(
 
 /// The totals with facts added, if they are numbers.
 fn with_facts(totals: Totals, facts: &Facts) -> Option<Totals>
-    ensures { MatchOption result ⊤ (AreMore facts.now totals) }
+    ensures { MatchOption result (AreTooMany facts.now totals) (AreMore facts.now totals) }
 {
     Some(Totals {
         defs: totals.defs.checked_add(facts.defs().len() as u64)?,
@@ -46,7 +46,9 @@ pub(crate) fn with_versions(
     before: Totals,
 ) -> Option<Totals>
     requires { kept ≤ length archive.now.texts }
-    ensures { MatchOption result ⊤
+    ensures { MatchOption result
+        (2 ^ 64 ≤ facts_with before
+        (fact_count (take kept archive.now.texts ++ news.now) shown.now))
         (AreCounted (take kept archive.now.texts ++ news.now) shown.now before) }
 {
     let mut totals = before;

@@ -9,7 +9,7 @@ ghost use Rattle.cb_desk.specs.steps.Plans.{IsAmong, IsPlan, places_without};
 ghost use Rattle.cb_desk.specs.steps.Records.{world_in};
 ghost use Rattle.cb_desk.specs.steps.Walks.{IsKept};
 
-use crate::edits::{Edit, difference};
+use crate::place_edits::{PlaceEdits, difference};
 use crate::plan::Plan;
 use crate::present::moved::{edits_moved, edits_renumbered};
 use crate::present::{Present, sum};
@@ -42,8 +42,8 @@ fn edits_without(
     archive: &Archive,
     gone: u32,
     places: &[NumberedPlace],
-) -> Result<Vec<Edit>, AllocError>
-    ensures { IfOk result (λ edits. IsDifference edits.items places.now
+) -> Result<PlaceEdits, AllocError>
+    ensures { IfOk result (λ edits. IsDifference edits places.now
         (places_without archive.now (name_of archive.now gone) places.now)) }
 {
     let kept = places_without(alloc, archive, archive.name(gone), places)?;
@@ -113,8 +113,8 @@ impl Present {
                 hides: Vec::new(alloc),
                 shows: only_one(alloc, new)?,
                 wanted: None,
-                marks: Vec::new(alloc),
-                frames: Vec::new(alloc),
+                marks: PlaceEdits::none(alloc),
+                frames: PlaceEdits::none(alloc),
                 names,
                 versions,
             },

@@ -7,7 +7,7 @@ ghost use Rattle.cb_index.specs.Archived.{name_of};
 ghost use Rattle.cb_desk.specs.steps.Edits.{IsDifference};
 ghost use Rattle.cb_desk.specs.steps.Plans.{key_then, name_then, renumbered};
 
-use crate::edits::{Edit, difference};
+use crate::place_edits::{PlaceEdits, renaming_difference};
 use crate::spot::NumberedPlace;
 use cb_index::Archive;
 use std::alloc::{AllocError, Global};
@@ -92,12 +92,12 @@ pub(crate) fn edits_renumbered(
     old: u32,
     number: u32,
     places: &[NumberedPlace],
-) -> Result<Vec<Edit>, AllocError>
-    ensures { IfOk result (λ edits. IsDifference edits.items places.now
+) -> Result<PlaceEdits, AllocError>
+    ensures { IfOk result (λ edits. IsDifference edits places.now
         (map (renumbered archive.now (name_of archive.now old) number) places.now)) }
 {
     let made = renumbered(alloc, archive, archive.name(old), number, places)?;
-    difference(alloc, Some(old), places, made.as_slice())
+    renaming_difference(alloc, old, number, places, made.as_slice())
 }
 
 /// The same for places that are by file and line, and stay so.
@@ -108,12 +108,12 @@ pub(crate) fn edits_moved(
     number: u32,
     new: &[u8],
     places: &[NumberedPlace],
-) -> Result<Vec<Edit>, AllocError>
-    ensures { IfOk result (λ edits. IsDifference edits.items places.now
+) -> Result<PlaceEdits, AllocError>
+    ensures { IfOk result (λ edits. IsDifference edits places.now
         (in_order (key_then archive.now number new.now)
         (map (renumbered archive.now (name_of archive.now old) number) places.now))) }
 {
     let mut made = renumbered(alloc, archive, archive.name(old), number, places)?;
     sort_places(archive, number, new, &mut made)?;
-    difference(alloc, Some(old), places, made.as_slice())
+    renaming_difference(alloc, old, number, places, made.as_slice())
 }

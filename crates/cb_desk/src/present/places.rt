@@ -13,7 +13,7 @@ ghost use Rattle.cb_desk.specs.steps.Texts.{bytes_if_other};
 ghost use Rattle.cb_desk.specs.steps.Walks.{IsKept};
 
 use crate::answers::{nth_definition, shown_as};
-use crate::edits::{Edit, difference, pop_edits, push_edits};
+use crate::place_edits::{PlaceEdits, difference, popped, pushed};
 use crate::plan::Plan;
 use crate::present::Present;
 use crate::record::Record;
@@ -28,14 +28,14 @@ impl Present {
         &self,
         alloc: Global,
         wanted: Option<Option<Vec<u8>>>,
-        marks: Vec<Edit>,
-        frames: Vec<Edit>,
+        marks: PlaceEdits,
+        frames: PlaceEdits,
     ) -> Result<Plan, AllocError>
         requires kept { IsKept self.now.rooms self.now.archive self.now.now }
-        requires marks { AreEdits self.now.now.names marks.items self.now.now.marks }
-        requires frames { AreEdits self.now.now.names frames.items self.now.now.frames }
+        requires marks { AreEdits self.now.now.names marks self.now.now.marks }
+        requires frames { AreEdits self.now.now.names frames self.now.now.frames }
         ensures { IfOk result (λ p. IsPlan self.now p (with_places self.now.archive self.now.now
-            (bytes_if_other wanted) marks.items frames.items)) }
+            (bytes_if_other wanted) marks frames)) }
     {
         let _shown = self.shelf.shown();
         Ok(Plan {
@@ -79,8 +79,8 @@ impl Present {
             (pushed (world_in self.now.archive self.now.now)
             (Some (place_in self.now.archive place)))) }
     {
-        let frames = push_edits(alloc, self.frames.as_slice(), place)?;
-        self.plan_places(alloc, None, Vec::new(alloc), frames)
+        let frames = pushed(alloc, self.frames.as_slice(), place)?;
+        self.plan_places(alloc, None, PlaceEdits::none(alloc), frames)
     }
 
     /// The plan to take the top frame away.
@@ -89,8 +89,8 @@ impl Present {
         ensures { IfOk result
             (λ p. IsPlan self.now p (popped (world_in self.now.archive self.now.now))) }
     {
-        let frames = pop_edits(alloc, self.frames.as_slice())?;
-        self.plan_places(alloc, None, Vec::new(alloc), frames)
+        let frames = popped(alloc, self.frames.as_slice())?;
+        self.plan_places(alloc, None, PlaceEdits::none(alloc), frames)
     }
 
     /// The plan to have other marks, and to want another text if one is given.
@@ -107,7 +107,7 @@ impl Present {
             (bytes_if_other wanted) marks.now)) }
     {
         let edits = difference(alloc, None, self.marks.as_slice(), marks)?;
-        self.plan_places(alloc, wanted, edits, Vec::new(alloc))
+        self.plan_places(alloc, wanted, edits, PlaceEdits::none(alloc))
     }
 
     /// The plan to want a text, and to take all marks away.

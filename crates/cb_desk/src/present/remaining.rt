@@ -5,7 +5,7 @@ ghost use Rattle.cb_desk.specs.steps.Edits.{IsDifference};
 ghost use Rattle.cb_desk.specs.steps.Records.{place_in};
 ghost use Rattle.cb_desk.specs.steps.Replaced.{files_then, staying, stays_in, texts_of};
 
-use crate::edits::{Edit, difference};
+use crate::place_edits::{PlaceEdits, difference};
 use crate::present::marked_files::index_for;
 use crate::present::replaced::Replacing;
 use crate::spot::NumberedPlace;
@@ -63,11 +63,11 @@ impl<'a> Replacing<'a> {
         changed: &[Shown],
         versions: &[Version],
         places: &[NumberedPlace],
-    ) -> Result<Vec<Edit>, AllocError>
+    ) -> Result<PlaceEdits, AllocError>
         requires ascending { AreAscending self.archive.now changed.now }
         requires versions { versions.now ≡ texts_of
             (files_then self.archive.now self.marks.now self.old.now self.new.now changed.now) }
-        ensures { IfOk result (λ edits. IsDifference edits.items places.now
+        ensures { IfOk result (λ edits. IsDifference edits places.now
             (staying self.entry.archive.now (files_then self.entry.archive.now
             self.entry.marks.now self.entry.old.now self.entry.new.now changed.now) places.now)) }
     {

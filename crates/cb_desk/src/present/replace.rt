@@ -15,7 +15,7 @@ ghost use Rattle.cb_desk.specs.steps.Replaced.{files_changed, has_mark, texts_of
 ghost use Rattle.cb_desk.specs.steps.Walks.{IsKept};
 
 use crate::Refusal;
-use crate::edits::difference;
+use crate::place_edits::difference;
 use crate::plan::Plan;
 use crate::present::refusals::is_short;
 use crate::present::renewal::{new_versions, old_versions, sorted_renewals};

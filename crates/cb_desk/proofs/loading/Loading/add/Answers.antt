@@ -6,6 +6,7 @@ use Rattle.cb_desk.specs.declared.limits.TheConstants.{MOST_CHANGES}
 use Rattle.cb_desk.specs.Files.{loaded as after}
 use Rattle.cb_desk.specs.Timeline.{moved_on}
 use Rattle.cb_desk.specs.World.{IsValidWorld, has_file}
+use Rattle.cb_desk.specs.steps.Edits.{each}
 use Rattle.cb_desk.specs.steps.Loading.{Loaded, loads_recorded}
 use Rattle.cb_desk.specs.steps.Records.{Turn}
 use Rattle.cb_desk.specs.steps.Walks.{timeline_in}
@@ -106,13 +107,13 @@ invariant_of-self-2 c =
       hides = c.in_ok-hides.hides.items;
       shows = c.new.result.items;
       wanted = None;
-      marks = c.new-2.result.items;
-      frames = c.new-3.result.items;
+      marks = c.none.result;
+      frames = c.none-2.result;
       names = c.len-count.result;
       versions = c.len-count.result;
     } in
-    let turn : ◌≡◌ {A = Turn} u (record { hides = record { name = c.len-count.result; version = c.len-count.result } ∷ []; shows = []; wanted = None; marks = []; frames = []; names = c.len-count.result; versions = c.len-count.result }) =
-    (λ i. record u { hides = c.in_ok-hides.ensures i; shows = c.new.ensures.items i; marks = c.new-2.ensures.items i; frames = c.new-3.ensures.items i }) in
+    let turn : ◌≡◌ {A = Turn} u (record { hides = record { name = c.len-count.result; version = c.len-count.result } ∷ []; shows = []; wanted = None; marks = each []; frames = each []; names = c.len-count.result; versions = c.len-count.result }) =
+    (λ i. record u { hides = c.in_ok-hides.ensures i; shows = c.new.ensures.items i; marks = c.none.ensures i; frames = c.none-2.ensures i }) in
     let pushed : c.push_reserved.new.self.items ≡ records ++ u ∷ [] =
     c.push_reserved.ensures.items ∙ ap (λ l. l ++ u ∷ []) c.make_room.ensures.same_records in
     rw (hidden, pushed)
@@ -147,13 +148,13 @@ returns-clause-timeline c =
       hides = c.in_ok-hides.hides.items;
       shows = c.new.result.items;
       wanted = None;
-      marks = c.new-2.result.items;
-      frames = c.new-3.result.items;
+      marks = c.none.result;
+      frames = c.none-2.result;
       names = c.len-count.result;
       versions = c.len-count.result;
     } in
-    let turn : ◌≡◌ {A = Turn} u (record { hides = record { name = c.len-count.result; version = c.len-count.result } ∷ []; shows = []; wanted = None; marks = []; frames = []; names = c.len-count.result; versions = c.len-count.result }) =
-    (λ i. record u { hides = c.in_ok-hides.ensures i; shows = c.new.ensures.items i; marks = c.new-2.ensures.items i; frames = c.new-3.ensures.items i }) in
+    let turn : ◌≡◌ {A = Turn} u (record { hides = record { name = c.len-count.result; version = c.len-count.result } ∷ []; shows = []; wanted = None; marks = each []; frames = each []; names = c.len-count.result; versions = c.len-count.result }) =
+    (λ i. record u { hides = c.in_ok-hides.ensures i; shows = c.new.ensures.items i; marks = c.none.ensures i; frames = c.none-2.ensures i }) in
     let pushed : c.push_reserved.new.self.items ≡ records ++ u ∷ [] =
     c.push_reserved.ensures.items ∙ ap (λ l. l ++ u ∷ []) c.make_room.ensures.same_records in
     rw (pushed)

@@ -18,7 +18,7 @@ pub returns : goal.returns
 returns c =
     let k = c.args.self.now in
     let r = c.args.replacing in
-    let frames = c.in_ok-frames.frames.items in
+    let frames = c.in_ok-frames.frames in
     let then = files_then k.archive k.now.marks r.old.now r.new.now k.now.shown in
     let left = remaining k.archive then k.now.frames in
     let new_files = files_then r.archive.now r.marks.now r.old.now r.new.now c.args.marked.now in
@@ -31,6 +31,6 @@ returns c =
     subst (λ ps. IsDifference frames ps left) places
     (subst (IsDifference frames c.as_slice-places.result.now) stay c.in_ok-frames.ensures) in
     replace_planned k _ r.old.now r.new.now c.in_ok-renewals.renewals.items
-    c.in_ok-marks.marks.items frames c.in_ok-versions.versions
+    c.in_ok-marks.marks frames c.in_ok-versions.versions
     c.requires.kept c.requires.ascending (search rules) (search rules) (search rules) (search rules)
     (search rules) (search rules) (search rules) are_frames

@@ -2,7 +2,7 @@ use Rattle.std.proofs.Common.{rules, ◌≡◌, ◌++◌, ◌∷◌, [], true, f
 use Rattle.cb_desk.specs.declared.edits.Step.TheVariants.{Keep, Take, Put}
 use Rattle.cb_desk.specs.steps.Edits.{IsFirstStep}
 use Rattle.cb_desk.proofs.EditLemmas.{goes_kept, goes_taken, goes_put, goes_last, shorter}
-use Rattle.cb_desk.proofs.edits.difference.Goals as goal
+use Rattle.cb_desk.proofs.edits.each_difference.Goals as goal
 
 pub loop-step-preserved-in-Keep : goal.loop-step-preserved-in-Keep
 loop-step-preserved-in-Keep c =

@@ -1,6 +1,6 @@
 use Rattle.std.proofs.Common.{◌≤◌, ◌+◌, length}
 use Rattle.cb_desk.proofs.EditLemmas.{Goes}
-use Rattle.cb_desk.proofs.edits.difference.Given as goal
+use Rattle.cb_desk.proofs.edits.each_difference.Given as goal
 
 abbrev pub invariant-loop-step : goal.invariant-loop-step
 invariant-loop-step l = record {

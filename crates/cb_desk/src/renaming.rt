@@ -1,0 +1,168 @@
+//! Places of a file that gets another number.
+ghost use Rattle.std.specs.Prelude.{
+  ◌≡◌,
+  ◌≤◌,
+  ◌+◌,
+  ◌++◌,
+  ⊤,
+  length,
+  drop,
+  map,
+  take,
+  true,
+  vec_capacity,
+  IfOk,
+  MatchOption,
+};
+ghost use Rattle.cb_desk.specs.steps.Edits.{renamed, rotated, turned_renaming, with_number};
+
+use crate::edits::put_places;
+use crate::spot::NumberedPlace;
+use std::alloc::{AllocError, Global};
+
+/// A file's number becomes another one. In the range from `start` to `end` the first `split` places
+/// then go behind the others, so that places by file and line stay so; `back` is how many go behind
+/// the others on the way back.
+#[derive(Clone, Copy, Debug)]
+pub(crate) struct Renaming {
+    pub(crate) from: u32,
+    pub(crate) to: u32,
+    pub(crate) start: usize,
+    pub(crate) end: usize,
+    pub(crate) split: usize,
+    pub(crate) back: usize,
+}
+
+/// How many places stand before the first one of a file.
+fn count_before(places: &[NumberedPlace], name: u32) -> usize {
+    places.iter().take_while(|place| place.name != name).count()
+}
+
+/// A list with its first so many places behind the others is written behind what is there.
+fn put_rotated(places: &[NumberedPlace], split: usize, into: &mut Vec<NumberedPlace>)
+    requires { length into.old.items + length places.now ≤ vec_capacity into.old }
+    ensures items { into.new.items
+        ≡ into.old.items ++ (drop split places.now ++ take split places.now) }
+    ensures room { vec_capacity into.old ≤ vec_capacity into.new }
+{
+    let (first, more) = places.split_at(split.min(places.len()));
+    put_places(more, into);
+    put_places(first, into);
+}
+
+impl Renaming {
+    /// The renaming that leads from one list to another, where the places of a file are together
+    /// in each of them or are where they were.
+    fn between(from: u32, to: u32, old: &[NumberedPlace], new: &[NumberedPlace]) -> Renaming {
+        let count = old.iter().filter(|place| place.name == from).count();
+        let before = count_before(old, from);
+        let after = count_before(new, to);
+        let moved = before.abs_diff(after);
+        let is_later = before <= after;
+        Renaming {
+            from,
+            to,
+            start: before.min(after),
+            end: before.max(after).saturating_add(count),
+            split: if is_later { count } else { moved },
+            back: if is_later { moved } else { count },
+        }
+    }
+
+    /// The renaming that takes this one back.
+    pub(crate) fn turned(self) -> Renaming
+        ensures { result ≡ turned_renaming self }
+    {
+        Renaming {
+            from: self.to,
+            to: self.from,
+            start: self.start,
+            end: self.end,
+            split: self.back,
+            back: self.split,
+        }
+    }
+
+    /// A place, in the file of the other number if it is in the one of the first.
+    fn with_number(self, place: NumberedPlace) -> NumberedPlace
+        ensures { result ≡ with_number self place }
+    {
+        if place.name == self.from {
+            NumberedPlace {
+                name: self.to,
+                line: place.line,
+            }
+        } else {
+            place
+        }
+    }
+
+    #[tactic(auto, using(std::proofs::lemmas::List::Edits::map_over_more))]
+    /// Gives all places of the file the other number.
+    fn renumber(self, places: &mut [NumberedPlace])
+        ensures { places.new ≡ map (with_number self) places.old }
+    {
+        for place in places.iter_mut() {
+            *place = self.with_number(*place);
+        }
+    }
+
+    /// Writes places at which the range is turned into a list that has room for them.
+    fn rotate_into(self, places: &[NumberedPlace], into: &mut Vec<NumberedPlace>)
+        requires { length places.now ≤ vec_capacity into.old }
+        ensures items { into.new.items
+            ≡ rotated self.start self.end self.split places.now }
+        ensures room { vec_capacity into.old ≤ vec_capacity into.new }
+    {
+        into.truncate(0);
+        let (front, rest) = places.split_at(self.end.min(places.len()));
+        let (start, range) = front.split_at(self.start.min(front.len()));
+        put_places(start, into);
+        put_rotated(range, self.split, into);
+        put_places(rest, into);
+    }
+
+    /// Renames in a list, and writes what that makes into one that has room for it.
+    pub(crate) fn write_into(self, places: &mut [NumberedPlace], into: &mut Vec<NumberedPlace>)
+        requires { length places.old ≤ vec_capacity into.old }
+        ensures items { into.new.items ≡ renamed self places.old }
+        ensures room { vec_capacity into.old ≤ vec_capacity into.new }
+    {
+        self.renumber(places);
+        self.rotate_into(places, into);
+    }
+
+    /// Whether this makes one list from another.
+    fn leads(
+        self,
+        alloc: Global,
+        old: &[NumberedPlace],
+        new: &[NumberedPlace],
+    ) -> Result<bool, AllocError>
+        ensures { IfOk result (λ leads. leads ≡ true → renamed self old.now ≡ new.now) }
+    {
+        let mut places = Vec::from_slice(alloc, old)?;
+        let mut made = Vec::with_capacity(alloc, old.len())?;
+        self.write_into(places.as_mut_slice(), &mut made);
+        Ok(made.as_slice() == new)
+    }
+
+    /// The renaming that makes one list from another and back, if one does.
+    pub(crate) fn found(
+        alloc: Global,
+        from: u32,
+        to: u32,
+        old: &[NumberedPlace],
+        new: &[NumberedPlace],
+    ) -> Result<Option<Renaming>, AllocError>
+        ensures { IfOk result (λ found. MatchOption found ⊤ (λ r.
+            (renamed r old.now ≡ new.now) × (renamed (turned_renaming r) new.now ≡ old.now))) }
+    {
+        let way = Renaming::between(from, to, old, new);
+        if way.leads(alloc, old, new)? && way.turned().leads(alloc, new, old)? {
+            Ok(Some(way))
+        } else {
+            Ok(None)
+        }
+    }
+}
