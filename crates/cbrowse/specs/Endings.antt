@@ -34,7 +34,8 @@ EndsUsage words status feed feed' out out' errors errors' =
     × (status ≡ usage_status usage) × Says errors errors' (usage_said usage)
 
 -- all words of a process are taken; or there are none, which is told, or memory was refused
-abbrev pub TakesWords : Result (IntoIter (String Global) Global) Error → Result (Vec (String Global) Global) Usage → Type 0
+abbrev pub TakesWords : Result (IntoIter (String Global) Global) Error
+    → Result (Vec (String Global) Global) Usage → Type 0
 TakesWords (Ok given) (Ok words) = words.items ≡ into_iter_items given
 TakesWords (Err error) (Ok words) = ⊥
 TakesWords (Ok given) (Err usage) = usage ≡ Memory
@@ -42,8 +43,8 @@ TakesWords (Err error) (Err usage) = IsWordFault usage
 
 -- the words of a process are taken, all of them; or they are not there, input and output are left
 -- alone, and the exit status and standard error tell why
-abbrev pub EndsProcess : Result (IntoIter (String Global) Global) Error → ℕ → Reader → Reader → Writer → Writer
-    → Writer → Writer → Type 0
+abbrev pub EndsProcess : Result (IntoIter (String Global) Global) Error → ℕ → Reader → Reader
+    → Writer → Writer → Writer → Writer → Type 0
 EndsProcess (Ok given) status feed feed' out out' errors errors' =
     EndsJob (map string_bytes (into_iter_items given)) status feed feed' out out' errors errors'
     ⊎ EndsUsage (map string_bytes (into_iter_items given)) status feed feed' out out' errors errors'

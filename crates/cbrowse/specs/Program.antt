@@ -34,7 +34,8 @@ most_lines = 1000000000
 abbrev pub most_line_bytes : ℕ
 most_line_bytes = 1000000
 
--- the most bytes that are read of a file: one more than a text may have, so that a longer one is seen
+-- the most bytes that are read of a file: one more than a text may have, so that a longer one is
+-- seen
 abbrev pub most_read : ℕ
 most_read = 1000001
 
