@@ -1,5 +1,5 @@
--- A question has as many rows, equal ones once, as the entries of its index stand for.
-use Rattle.std.proofs.Common.{◌≡◌, ◌∙◌, sym, ap, refl, subst, ℕ, ◌+◌, Bool, true, false, not, ◌&&◌, ◌==◌, cond, List, [], ◌∷◌, ◌++◌, map, filter, length, length-append, take, drop, bytes_eq, nat_cmp, Less}
+-- The rows of the facts that an index gives are those of all facts, equal ones once.
+use Rattle.std.proofs.Common.{◌≡◌, ◌∙◌, sym, ap, refl, subst, ℕ, ◌+◌, ◌<◌, ◌^◌, arith, Bool, true, false, not, ◌&&◌, ◌==◌, cond, List, [], ◌∷◌, ◌++◌, map, filter, length, length-append, bytes_eq, nat_cmp, Less}
 use Rattle.std.specs.Cmp.Lexicographic.{slice_cmp}
 use Rattle.std.specs.List.{AllByRecursion, flat_map}
 use Rattle.std.specs.List.Sorted.{IsStrictlySortedBy}
@@ -10,17 +10,15 @@ use Rattle.std.proofs.lemmas.List.Elements.{filter-append}
 use Rattle.std.proofs.lemmas.List.Sums.{sum_by-cons}
 use Rattle.std.proofs.lemmas.Slice.Eq.{bytes_eq-Decides}
 use Rattle.cb_scan.specs.Lines.{line_text}
-use Rattle.cb_index.specs.Counts.{rows_in_files, same_row, unlike}
+use Rattle.cb_index.specs.Counts.{rows_in_files, same_row, unlike, unlike_in_files}
 use Rattle.cb_index.specs.Rows.{Fact, call_in, calls_in, calls_of, file_calls_in, file_calls_of, file_uses_of, use_in, uses_of}
 use Rattle.cb_index.specs.declared.rows.FactSort.{FactSort}
 use Rattle.cb_index.specs.declared.rows.FactSort.TheVariants.{Uses, Callees, Callers}
 use Rattle.cb_desk.specs.Answer.{AnswerRow, distinct, row_eq, unindented}
 use Rattle.cb_desk.specs.World.{File, IsAscending}
-use Rattle.cb_desk.specs.declared.answers.look_back.LookBack.{LookBack}
-use Rattle.cb_desk.specs.steps.Lent.{found_left, row_around, row_named}
-use Rattle.cb_desk.specs.steps.LookBack.{IsLookBack, fresh, news_left}
+use Rattle.cb_desk.specs.steps.Lent.{row_around, row_named}
 use Rattle.cb_desk.proofs.EqualRows.{row_same}
-use Rattle.cb_desk.proofs.Fresh.{fresh-distinct}
+use Rattle.cb_desk.proofs.Fresh.{fresh-distinct, fresh-few}
 use Rattle.cb_desk.proofs.TextRowsApart.{not-below}
 use Rattle.cb_desk.proofs.Valid.{all-along, all-filter, all-join}
 
@@ -98,9 +96,6 @@ module _ (sort : FactSort) (row : Fact → AnswerRow) (files-kept : (f : Fact) �
         ap (λ l. row f ∷ filter (λ q. not (row_eq (row f) q)) l) (rows-unlike fs all.1)
         ∙ ap (λ l. row f ∷ l) (kept-rows f all.0 (unlike sort fs) (unlike-in fs all.1))
 
-    pub file-counted : (fs : List Fact) → AllByRecursion (IsIn file) fs → length (distinct (map row fs)) ≡ length (unlike sort fs)
-    file-counted fs all = ap length (rows-unlike fs all) ∙ length-map (unlike sort fs) row
-
   -- ---- facts of all files
   -- rows of two files differ
   other-files : (name : List ℕ) (f g : Fact) → f.file ≡ name → slice_cmp nat_cmp name g.file ≡ Less → row_eq (row f) (row g) ≡ false
@@ -119,21 +114,21 @@ module _ (sort : FactSort) (row : Fact → AnswerRow) (files-kept : (f : Fact) �
         (λ g is. subst (λ n. slice_cmp nat_cmp name n ≡ Less) (sym is.0) all.0) (in-file file))
         (above name files all.1)
 
-    pub files-counted : (files : List File) → IsAscending files → length (distinct (map row (flat_map facts files))) ≡ rows_in_files sort facts files
+    pub files-distinct : (files : List File) → IsAscending files
+        → map row (unlike_in_files sort facts files) ≡ distinct (map row (flat_map facts files))
     unfolding distinct Others IsStrictlySortedBy
-    files-counted [] up = refl
-    files-counted (file ∷ files) up =
+    files-distinct [] up = refl
+    files-distinct (file ∷ files) up =
         let later = above file.name files up.0 in
         let apart = all-map (λ r. Others r (map row (flat_map facts files))) row (facts file)
         (all-along (IsIn file) (λ f. Others (row f) (map row (flat_map facts files))) (facts file)
         (λ f is. all-map (λ q. row_eq (row f) q ≡ false) row (flat_map facts files)
         (all-along (λ (g : Fact). slice_cmp nat_cmp file.name g.file ≡ Less) (λ g. row_eq (row f) (row g) ≡ false) (flat_map facts files)
         (λ g less. other-files file.name f g is.0 less) later)) (in-file file)) in
-        ap (λ rows. length (distinct rows)) (map-append row (facts file) (flat_map facts files))
-        ∙ ap length (distinct-join (map row (facts file)) (map row (flat_map facts files)) apart)
-        ∙ length-append (distinct (map row (facts file))) (distinct (map row (flat_map facts files)))
-        ∙ (λ i. file-counted file (facts file) (in-file file) i + files-counted files up.1 i)
-        ∙ sym (sum_by-cons (λ (f : File). length (unlike sort (facts f))) file files)
+        map-append row (unlike sort (facts file)) (unlike_in_files sort facts files)
+        ∙ (λ i. sym (rows-unlike file (facts file) (in-file file)) i ++ files-distinct files up.1 i)
+        ∙ sym (ap distinct (map-append row (facts file) (flat_map facts files))
+        ∙ distinct-join (map row (facts file)) (map row (flat_map facts files)) apart)
 
 -- ---- uses and calls
 all-in : {X : Type 0} (file : File) (made : X → Fact) → ((x : X) → IsIn file (made x)) → (xs : List X) → AllByRecursion (IsIn file) (map made xs)
@@ -150,21 +145,32 @@ agree-callers : (file : File) (f g : Fact) → IsIn file f → IsIn file g → r
 agree-callers file f g one other = two-columns _ _ _ _ (files-same file f g one other) (texts-same file f g one other)
 
 module _ (p : List ℕ) (files : List File) (up : IsAscending files) where
-  pub uses-counted : rows_in_files Uses (file_uses_of p) files ≡ length (distinct (map row_around (uses_of p files)))
+  pub uses-distinct : map row_around (unlike_in_files Uses (file_uses_of p) files) ≡ distinct (map row_around (uses_of p files))
   unfolding uses_of
-  uses-counted = sym (files-counted Uses row_around (λ f. refl) agree-uses (file_uses_of p) (λ file. all-in file (use_in file) (λ u. (refl, refl)) _) files up)
+  uses-distinct = files-distinct Uses row_around (λ f. refl) agree-uses (file_uses_of p) (λ file. all-in file (use_in file) (λ u. (refl, refl)) _) files up
 
-  pub callees-counted : rows_in_files Callees (file_calls_of p) files ≡ length (distinct (map row_around (calls_of p files)))
+  pub callees-distinct : map row_around (unlike_in_files Callees (file_calls_of p) files) ≡ distinct (map row_around (calls_of p files))
   unfolding calls_of
-  callees-counted = sym (files-counted Callees row_around (λ f. refl) agree-callees (file_calls_of p) (λ file. all-in file (call_in file) (λ c. (refl, refl)) _) files up)
+  callees-distinct = files-distinct Callees row_around (λ f. refl) agree-callees (file_calls_of p) (λ file. all-in file (call_in file) (λ c. (refl, refl)) _) files up
 
-  pub callers-counted : rows_in_files Callers (file_calls_in p) files ≡ length (distinct (map row_named (calls_in p files)))
+  pub callers-distinct : map row_named (unlike_in_files Callers (file_calls_in p) files) ≡ distinct (map row_named (calls_in p files))
   unfolding calls_in
-  callers-counted = sym (files-counted Callers row_named (λ f. refl) agree-callers (file_calls_in p) (λ file. all-in file (call_in file) (λ c. (refl, refl)) _) files up)
+  callers-distinct = files-distinct Callers row_named (λ f. refl) agree-callers (file_calls_in p) (λ file. all-in file (call_in file) (λ c. (refl, refl)) _) files up
 
--- ---- rows of which none was passed
--- all of them are left, equal ones once
-pub none-passed : (s : LookBack) → IsLookBack s → s.passed ≡ 0 → length (distinct (found_left s.all)) ≡ length (news_left s)
-none-passed s kept none =
-    let rest : found_left s.rest ≡ found_left s.all = kept.left ∙ ap (λ n. drop n (found_left s.all)) none in
-    sym ((λ i. length (fresh (take (none i) (found_left s.all)) (rest i))) ∙ ap length (fresh-distinct (found_left s.all)))
+-- ---- as many rows as an index counts, and few
+pub index-counts : (sort : FactSort) (facts : File → List Fact) (files : List File)
+    → rows_in_files sort facts files ≡ length (unlike_in_files sort facts files)
+index-counts sort facts [] = refl
+index-counts sort facts (file ∷ files) =
+    sum_by-cons (λ (f : File). length (unlike sort (facts f))) file files
+    ∙ ap (λ n. length (unlike sort (facts file)) + n) (index-counts sort facts files)
+    ∙ sym (length-append (unlike sort (facts file)) (unlike_in_files sort facts files))
+
+pub few-distinct : (row : Fact → AnswerRow) (facts : List Fact) (rows : List AnswerRow) → map row facts ≡ distinct rows
+    → length rows < 2 ^ 64 → length facts < 2 ^ 64
+few-distinct row facts rows is few =
+    let same = ap length is in
+    let long = length-map facts row in
+    let less = fresh-few [] rows in
+    let all = ap length (fresh-distinct rows) in
+    omega (arith, same, long, less, all, few)

@@ -1,5 +1,4 @@
 pub mod Asked
-pub mod Counts
 pub mod Edits
 pub mod Held
 pub mod Lent

@@ -1,6 +1,7 @@
 //! The answers of a desk, row by row, from what a shelf shows. None of them takes memory or scans.
 mod definitions;
 mod distinct;
+mod fact_rows;
 mod files;
 mod found;
 mod headers;

@@ -1,34 +1,35 @@
 -- How many rows the entries of a key stand for.
-use Rattle.std.proofs.Common.{◌≡◌, ◌∙◌, ◌+◌, ℕ, Bool, true, false, not, List, [], ◌∷◌, Some, None, refl, sym, ap, length, map, filter, get_or, append-nil, arith}
+use Rattle.std.proofs.Common.{◌≡◌, ◌∙◌, ◌+◌, ℕ, Bool, true, false, not, List, [], ◌∷◌, ◌++◌, Some, refl, sym, ap, length, map, filter, get_or, append-nil, arith}
 use Rattle.std.proofs.lemmas.List.{length-map}
 use Rattle.std.proofs.lemmas.List.Elements.{filter-append}
+use Rattle.std.proofs.lemmas.List.Concat.{flat_map-append}
 use Rattle.std.proofs.lemmas.List.Sums.{sum_by-append, sum_by-cons}
 use Rattle.std.proofs.lemmas.Option.{slice_get-get_or}
-use Rattle.std.specs.Prelude.{cond, nat_eq, slice_get, sum_by, Option, ◌&&◌}
+use Rattle.std.specs.Prelude.{cond, nat_eq, slice_get, sum_by, ◌&&◌}
 use Rattle.std.specs.List.{AllByRecursion}
 use Rattle.std.specs.Str.{bytes_eq}
-use Rattle.cb_scan.specs.declared.facts.Call.{Call}
-use Rattle.cb_scan.specs.declared.facts.Use.{Use}
-use Rattle.cb_scan.specs.Definitions.{facts_of}
 use Rattle.cb_scan.specs.Keys.{key_prefix}
 use Rattle.cb_index.specs.Archived.{Archived, name_of}
-use Rattle.cb_index.specs.Counts.{column, function_of, row_count, rows_in_files, same_row, unlike}
+use Rattle.cb_index.specs.Counts.{row_count, rows_in_files, same_row, unlike, unlike_in_files}
 use Rattle.cb_index.specs.Entries.{Keyer, has_key}
 use Rattle.cb_index.specs.Files.{AreAscending, File, IsThere, files_of}
 use Rattle.cb_index.specs.Firsts.{firsts, listed}
 use Rattle.cb_index.specs.Held.{all_entries, entries_of, entry_of}
-use Rattle.cb_index.specs.Items.{item_count, item_key}
+use Rattle.cb_index.specs.Items.{is_first, item_count, item_key}
 use Rattle.cb_index.specs.Orders.{callee_key, callees_listed, caller_key, callers_listed, firsts_in, use_key, uses_listed}
 use Rattle.cb_index.specs.Rows.{Fact, file_calls_in, file_calls_of, file_uses_of}
 use Rattle.cb_index.specs.Shelved.{IsIndexOf}
-use Rattle.cb_index.specs.steps.Found.{fact_at, fact_of_call, fact_of_use, facts_at, facts_in, facts_in_text}
+use Rattle.cb_index.specs.steps.Found.{fact_at, facts_at, facts_in, facts_in_text}
+use Rattle.cb_index.specs.steps.Given.{given_at, given_in, given_in_text}
 use Rattle.cb_index.specs.steps.Spread.{items_from}
 use Rattle.cb_index.specs.declared.entry.Entry.{Entry}
 use Rattle.cb_index.specs.declared.entry.Shown.{Shown}
 use Rattle.cb_index.specs.declared.rows.FactSort.{FactSort}
 use Rattle.cb_index.specs.declared.rows.FactSort.TheVariants.{Uses, Callees, Callers}
+use Rattle.cb_index.proofs.AnyFileLemmas.{same_anywhere}
 use Rattle.cb_index.proofs.FactLemmas.{one_callees, one_callers, one_uses}
 use Rattle.cb_index.proofs.FirstLemmas.{at_most_one, prefix_and_key}
+use Rattle.cb_index.proofs.NewRowLemmas.{rows_new}
 use Rattle.cb_index.proofs.RiseLemmas.{firsts_rise}
 use Rattle.cb_index.proofs.RowLemmas.{kept_key}
 
@@ -66,41 +67,10 @@ module _ {X : Type 0} where
 
 -- ---- the file name plays no part
 module _ (file other text : List ℕ) where
-  use_line : (u : Option Use) → (fact_of_use file text u).line ≡ (fact_of_use other text u).line
-  use_line None = refl
-  use_line (Some u) = refl
-
-  call_line : (c : Option Call) → (fact_of_call file text c).line ≡ (fact_of_call other text c).line
-  call_line None = refl
-  call_line (Some c) = refl
-
-  line_is : (sort : FactSort) (item : ℕ) → (fact_at sort file text item).line ≡ (fact_at sort other text item).line
-  line_is Uses item = use_line (slice_get (facts_of text).uses item)
-  line_is Callees item = call_line (slice_get (facts_of text).calls item)
-  line_is Callers item = call_line (slice_get (facts_of text).calls item)
-
-  use_function : (u : Option Use) → column (fact_of_use file text u).scope ≡ column (fact_of_use other text u).scope
-  use_function None = refl
-  use_function (Some u) = refl
-
-  callee_function : (c : Option Call) → column (fact_of_call file text c).scope ≡ column (fact_of_call other text c).scope
-  callee_function None = refl
-  callee_function (Some c) = refl
-
-  caller_function : (c : Option Call) → (fact_of_call file text c).name ≡ (fact_of_call other text c).name
-  caller_function None = refl
-  caller_function (Some c) = refl
-
-  function_is : (sort : FactSort) (item : ℕ) → function_of sort (fact_at sort file text item) ≡ function_of sort (fact_at sort other text item)
-  function_is Uses item = use_function (slice_get (facts_of text).uses item)
-  function_is Callees item = callee_function (slice_get (facts_of text).calls item)
-  function_is Callers item = caller_function (slice_get (facts_of text).calls item)
-
   pub in_any_file : (sort : FactSort) (items : List ℕ)
       → length (unlike sort (map (fact_at sort file text) items)) ≡ length (unlike sort (map (fact_at sort other text) items))
   in_any_file sort =
-      same_count sort (fact_at sort file text) (fact_at sort other text)
-      (λ x y i. nat_eq (line_is sort x i) (line_is sort y i) && bytes_eq (function_is sort x i) (function_is sort y i))
+      same_count sort (fact_at sort file text) (fact_at sort other text) (same_anywhere file other text sort)
 
 -- ---- one version
 module _ (sort : FactSort) (a : Archived) (s : Shown) (text : List ℕ) (there : slice_get a.texts s.version ≡ Some text)
@@ -129,7 +99,31 @@ module _ (sort : FactSort) (a : Archived) (s : Shown) (text : List ℕ) (there :
       (λ item. ap (λ k. nat_eq (key_prefix key) (key_prefix (item_key sort text item)) && bytes_eq key k)
       (ap (λ t. keyer t (name_of a s.name) item) there ∙ keys_are item)
       ∙ prefix_and_key key (item_key sort text item))
-      IsCounted none_counted one_counted 0 (item_count sort text)
+      IsCounted none_counted (λ item first. one_counted item) 0 (item_count sort text)
+
+  -- ---- those that are no repeats
+  abbrev AreNew : List Entry → Type 0
+  AreNew es = given_in false sort a es ≡ unlike sort (facts_in sort a es)
+
+  none_new : AreNew []
+  unfolding unlike
+  none_new = refl
+
+  one_new : (item : ℕ) → is_first sort text item ≡ true → AreNew (entry_of s (listed sort text item) ∷ [])
+  one_new item first =
+      append-nil (given_at false sort a (entry_of s (listed sort text item)))
+      ∙ ap (given_in_text false sort (name_of a s.name) item) there
+      ∙ sym (rows_new (name_of a s.name) sort text item first)
+      ∙ sym (ap (unlike sort) (append-nil (facts_at sort a (entry_of s (listed sort text item)))
+      ∙ ap (facts_in_text sort (name_of a s.name) item) there))
+
+  version_new : AreNew (filter (has_key keyer a (key_prefix key) key) (map (entry_of s) (firsts sort text)))
+  version_new =
+      at_most_one sort text key (has_key keyer a (key_prefix key) key) s
+      (λ item. ap (λ k. nat_eq (key_prefix key) (key_prefix (item_key sort text item)) && bytes_eq key k)
+      (ap (λ t. keyer t (name_of a s.name) item) there ∙ keys_are item)
+      ∙ prefix_and_key key (item_key sort text item))
+      AreNew none_new one_new 0 (item_count sort text)
 
 -- ---- all versions
 module _ (sort : FactSort) (keyer : Keyer) (a : Archived) (key : List ℕ) (rows : File → List Fact)
@@ -169,6 +163,34 @@ module _ (sort : FactSort) (keyer : Keyer) (a : Archived) (key : List ℕ) (rows
       ap (sum_by (λ (e : Entry). e.rows)) (kept_key keyer a (firsts_in sort) (firsts_rise sort) shown up (key_prefix key) key es is)
       ∙ all_counted shown all
 
+  -- ---- those that are no repeats
+  known_new : (s : Shown) (text : List ℕ) → slice_get a.texts s.version ≡ Some text
+      → given_in false sort a (filter has_it (entries_of (firsts_in sort) a s))
+      ≡ unlike sort (rows (record { name = name_of a s.name; bytes = text }))
+  known_new s text there =
+      let same : entries_of (firsts_in sort) a s ≡ map (entry_of s) (firsts sort text) = ap (λ o. map (entry_of s) (firsts_in sort o)) there in
+      ap (λ es. given_in false sort a (filter has_it es)) same
+      ∙ version_new sort a s text there key keyer (keys_are text (name_of a s.name))
+      ∙ sym (ap (λ es. unlike sort (facts_in sort a (filter has_it es))) same)
+      ∙ ap (unlike sort) (one s text there)
+
+  all_new : (shown : List Shown) → AllByRecursion (IsThere a) shown
+      → given_in false sort a (filter has_it (all_entries (firsts_in sort) a shown)) ≡ unlike_in_files sort rows (files_of a shown)
+  all_new [] all = refl
+  all_new (s ∷ shown) all =
+      let text = get_or a.texts s.version [] in
+      let here = known_new s text (slice_get-get_or a.texts s.version [] all.0.1) in
+      ap (given_in false sort a) (filter-append has_it (entries_of (firsts_in sort) a s) (all_entries (firsts_in sort) a shown))
+      ∙ flat_map-append (given_at false sort a) (filter has_it (entries_of (firsts_in sort) a s)) (filter has_it (all_entries (firsts_in sort) a shown))
+      ∙ (λ i. here i ++ all_new shown all.1 i)
+
+  index_new : (shown : List Shown) → AllByRecursion (IsThere a) shown → AreAscending a shown → (es : List Entry)
+      → IsIndexOf keyer (firsts_in sort) a shown es
+      → given_in false sort a (filter has_it es) ≡ unlike_in_files sort rows (files_of a shown)
+  index_new shown all up es is =
+      ap (given_in false sort a) (kept_key keyer a (firsts_in sort) (firsts_rise sort) shown up (key_prefix key) key es is)
+      ∙ all_new shown all
+
 module _ (a : Archived) (shown : List Shown) (all : AllByRecursion (IsThere a) shown)
     (up : AreAscending a shown) (es : List Entry) (key : List ℕ) where
   pub uses_counted : IsIndexOf use_key uses_listed a shown es
@@ -185,3 +207,18 @@ module _ (a : Archived) (shown : List Shown) (all : AllByRecursion (IsThere a) s
       → sum_by (λ (e : Entry). e.rows) (filter (has_key caller_key a (key_prefix key) key) es) ≡ rows_in_files Callers (file_calls_in key) (files_of a shown)
   callers_counted =
       index_counted Callers caller_key a key (file_calls_in key) (λ text file item. refl) (λ s text there. one_callers a s text there key) shown all up es
+
+  pub uses_new : IsIndexOf use_key uses_listed a shown es
+      → given_in false Uses a (filter (has_key use_key a (key_prefix key) key) es) ≡ unlike_in_files Uses (file_uses_of key) (files_of a shown)
+  uses_new =
+      index_new Uses use_key a key (file_uses_of key) (λ text file item. refl) (λ s text there. one_uses a s text there key) shown all up es
+
+  pub calls_new : IsIndexOf callee_key callees_listed a shown es
+      → given_in false Callees a (filter (has_key callee_key a (key_prefix key) key) es) ≡ unlike_in_files Callees (file_calls_of key) (files_of a shown)
+  calls_new =
+      index_new Callees callee_key a key (file_calls_of key) (λ text file item. refl) (λ s text there. one_callees a s text there key) shown all up es
+
+  pub callers_new : IsIndexOf caller_key callers_listed a shown es
+      → given_in false Callers a (filter (has_key caller_key a (key_prefix key) key) es) ≡ unlike_in_files Callers (file_calls_in key) (files_of a shown)
+  callers_new =
+      index_new Callers caller_key a key (file_calls_in key) (λ text file item. refl) (λ s text there. one_callers a s text there key) shown all up es

@@ -28,6 +28,8 @@ use Rattle.cb_index.specs.Rows.{Fact, call_in, calls_in, calls_of, file_calls_in
 use Rattle.cb_index.specs.Rows.{file_uses_of, use_in, uses_of}
 use Rattle.cb_index.specs.Shelved.{IsIndexOf}
 use Rattle.cb_index.specs.steps.Found.{fact_at, fact_of_call, fact_of_use, facts_at, facts_in, facts_in_text}
+use Rattle.cb_index.specs.steps.Given.{given_in, given_in_text}
+use Rattle.cb_index.specs.steps.Spread.{items_from}
 use Rattle.cb_index.specs.declared.entry.Entry.{Entry}
 use Rattle.cb_index.specs.declared.entry.Shown.{Shown}
 use Rattle.cb_index.specs.declared.rows.FactSort.{FactSort}
@@ -241,3 +243,20 @@ module _ (a : Archived) (shown : List Shown) (all : AllByRecursion (IsThere a) s
   rows_of_callers is =
       index_facts Callers caller_key callers_listed (firsts_rise Callers) a key (file_calls_in key)
       (λ s text there. one_callers a s text there key) shown all up es is
+
+-- ---- where all are given
+given_all : (sort : FactSort) (file : List ℕ) (item : ℕ) (text : Option (List ℕ))
+    → given_in_text true sort file item text ≡ facts_in_text sort file item text
+given_all sort _ item None = refl
+given_all sort file item (Some text) =
+    ap (map (fact_at sort file text)) (kept_all (items_from sort text item))
+  where
+    kept_all : (items : List ℕ) → filter (λ i. true) items ≡ items
+    kept_all [] = refl
+    kept_all (i ∷ items) = ap (λ l. i ∷ l) (kept_all items)
+
+pub all_given : (sort : FactSort) (a : Archived) (es : List Entry)
+    → given_in true sort a es ≡ facts_in sort a es
+all_given sort a es =
+    λ i. flat_map
+    (λ (e : Entry). given_all sort (name_of a e.name) e.number (slice_get a.texts e.version) i) es

@@ -1,3 +1,4 @@
+pub mod AnyFileLemmas
 pub mod AscendLemmas
 pub mod BlockLemmas
 pub mod CountLemmas
@@ -15,10 +16,12 @@ pub mod KeptLemmas
 pub mod LayLemmas
 pub mod ListedLemmas
 pub mod NameLemmas
+pub mod NewRowLemmas
 pub mod PrefixLemmas
 pub mod PutLemmas
 pub mod RangeItems
 pub mod RangeLemmas
+pub mod RepeatLemmas
 pub mod RestLemmas
 pub mod RiseLemmas
 pub mod RowLemmas
@@ -29,4 +32,3 @@ pub mod SortedLemmas
 pub mod SpreadLemmas
 pub mod TableLemmas
 pub mod TotalLemmas
-pub mod WalkLemmas

@@ -3,6 +3,7 @@
 -- same name in the function column.
 use Rattle.std.specs.Prelude.{ℕ, Bool, ◌&&◌, not, nat_eq, List, [], ◌∷◌, Option, Some, None, codes}
 use Rattle.std.specs.Prelude.{length, map, filter, sum_by}
+use Rattle.std.specs.List.{flat_map}
 use Rattle.std.specs.Str.{bytes_eq}
 use Rattle.cb_index.specs.Files.{File}
 use Rattle.cb_index.specs.Rows.{Fact}
@@ -43,3 +44,7 @@ row_count sort text item = length (unlike sort (key_facts sort text item))
 -- how many rows facts of one key have in files
 abbrev pub rows_in_files : FactSort → (File → List Fact) → List File → ℕ
 rows_in_files sort facts fs = sum_by (λ (f : File). length (unlike sort (facts f))) fs
+
+-- and the facts of these rows
+abbrev pub unlike_in_files : FactSort → (File → List Fact) → List File → List Fact
+unlike_in_files sort facts fs = flat_map (λ (f : File). unlike sort (facts f)) fs

@@ -11,6 +11,7 @@ pub mod Items
 pub mod Links
 pub mod Names
 pub mod Orders
+pub mod Repeats
 pub mod RowOrders
 pub mod Rows
 pub mod Shelved

@@ -2,10 +2,12 @@ pub mod Bounds
 pub mod Chains
 pub mod Counting
 pub mod Found
+pub mod Given
 pub mod Includes
 pub mod Laying
 pub mod Left
 pub mod Quick
+pub mod Repeating
 pub mod RowsLeft
 pub mod Runs
 pub mod Spread

@@ -24,6 +24,7 @@ ghost use Rattle.cb_scan.specs.Definitions.{facts_of};
 ghost use Rattle.std.specs.List.{AllByRecursion};
 ghost use Rattle.cb_index.specs.Archived.{AreBytes, name_of};
 ghost use Rattle.cb_index.specs.Links.{link_of, nothing_laid};
+ghost use Rattle.cb_index.specs.Repeats.{is_repeat};
 ghost use Rattle.cb_index.specs.steps.Laying.{AreSorted, item_entries};
 
 use crate::bytes::read_bytes;
@@ -94,10 +95,34 @@ impl Version {
         }
     }
 
+    /// Whether an item is a repeat, if that is laid.
+    pub(crate) fn repeat(&self, sort: FactSort, item: u32) -> Option<bool>
+        ensures { IfSome result (λ repeat. repeat ≡ is_repeat sort self.now item) }
+    {
+        match self.links.repeats(sort).get(item as usize) {
+            Some(repeat) => Some(*repeat),
+            None => None,
+        }
+    }
+
+    /// Finds the repeats of a sort by a table of the entries of all items, if there is room.
+    pub(crate) fn find_repeats(&mut self, sort: FactSort, entries: &mut [Entry])
+        requires entries { entries.old ≡ item_entries sort self.old 0 }
+        ensures { self.new ≡ self.old }
+    {
+        self.links
+            .find_repeats(sort, &self.source, &self.facts, entries);
+    }
+
     /// Whether its links of a sort are not laid, and there is room for them.
     pub(crate) fn wants_links(&self, sort: FactSort) -> bool {
         let count = item_count(sort, self);
         count > 0 && self.links.wants(sort, count)
+    }
+
+    /// Whether the repeats of a sort are not found yet.
+    pub(crate) fn wants_repeats(&self, sort: FactSort) -> bool {
+        self.links.repeats(sort).is_empty()
     }
 
     /// Lays the links of a sort by a table of the entries of all items; false, and none are laid,
@@ -291,6 +316,16 @@ impl Archive {
         ensures { self.new ≡ self.old }
     {
         self.versions[version as usize].lay_links(sort, entries);
+    }
+
+    /// Finds the repeats of a version by a table of the entries of all items, if there is room.
+    pub(crate) fn find_repeats(&mut self, version: u32, sort: FactSort, entries: &mut [Entry])
+        requires there { version < length self.old.texts }
+        requires entries { entries.old
+            ≡ item_entries sort (slice_index_or self.old.texts version []) 0 }
+        ensures { self.new ≡ self.old }
+    {
+        self.versions[version as usize].find_repeats(sort, entries);
     }
 
     /// The version under a number, if it is there.

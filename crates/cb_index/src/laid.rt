@@ -156,8 +156,8 @@ fn append_items(sort: FactSort, version: &Version, number: u32, entries: &mut Ve
 }
 
 /// Puts the entries of all items of a version, under a number, into a list in place of what it had.
-/// It answers whether it did: the links of the version are wanted, and the list has room.
-pub(crate) fn list_items(
+/// It answers whether it did: the version is there, and the list has room.
+fn list_all(
     sort_of: FactSort,
     archive: &Archive,
     version: u32,
@@ -170,7 +170,7 @@ pub(crate) fn list_items(
 {
     match archive.version(version) {
         Some(kept) => {
-            if !kept.wants_links(sort_of) || scratch.capacity() < item_count(sort_of, kept) {
+            if scratch.capacity() < item_count(sort_of, kept) {
                 return false;
             }
             scratch.truncate(0);
@@ -179,6 +179,38 @@ pub(crate) fn list_items(
         }
         None => false,
     }
+}
+
+/// Whether the links of a version are wanted.
+fn wants_links(sort_of: FactSort, archive: &Archive, version: u32) -> bool {
+    match archive.version(version) {
+        Some(kept) => kept.wants_links(sort_of),
+        None => false,
+    }
+}
+
+/// Whether the repeats of a version are wanted.
+fn wants_repeats(sort_of: FactSort, archive: &Archive, version: u32) -> bool {
+    match archive.version(version) {
+        Some(kept) => kept.wants_repeats(sort_of),
+        None => false,
+    }
+}
+
+/// Puts the entries of all items of a version, under a number, into a list in place of what it had.
+/// It answers whether it did: the links of the version are wanted, and the list has room.
+pub(crate) fn list_items(
+    sort_of: FactSort,
+    archive: &Archive,
+    version: u32,
+    number: u32,
+    scratch: &mut Vec<Entry>,
+) -> bool
+    ensures listed { result ≡ true
+        → AreListed sort_of archive.now version number scratch.new.items }
+    ensures room { vec_capacity scratch.old ≤ vec_capacity scratch.new }
+{
+    wants_links(sort_of, archive, version) && list_all(sort_of, archive, version, number, scratch)
 }
 
 /// Lays links of a version, with a list as scratch: by a table, or by a sort where the places of
@@ -206,13 +238,28 @@ fn lay_sort<O: EntryOrder>(
     archive.lay_links(version, sort_of, scratch.as_slice());
 }
 
-/// Lays what helps to find the items of one key of a version, with a list as scratch. It takes no
-/// memory: where there is too little room, nothing is laid.
+/// Finds the repeats of a version, with a list as scratch.
+fn lay_repeats(sort_of: FactSort, archive: &mut Archive, version: u32, scratch: &mut Vec<Entry>)
+    ensures archive { archive.new ≡ archive.old }
+    ensures room { vec_capacity scratch.old ≤ vec_capacity scratch.new }
+{
+    if !wants_repeats(sort_of, archive, version) {
+        return;
+    }
+    if !list_all(sort_of, archive, version, 0, scratch) {
+        return;
+    }
+    archive.find_repeats(version, sort_of, scratch.as_mut_slice());
+}
+
+/// Lays what helps to find the items of one key of a version and their repeats, with a list as
+/// scratch. It takes no memory: where there is too little room, nothing is laid.
 pub(crate) fn lay<O: EntryOrder>(archive: &mut Archive, version: u32, scratch: &mut Vec<Entry>)
     ensures archive { archive.new ≡ archive.old }
     ensures room { vec_capacity scratch.old ≤ vec_capacity scratch.new }
 {
     if let Some(sort_of) = O::sort() {
         lay_sort::<O>(sort_of, archive, version, scratch);
+        lay_repeats(sort_of, archive, version, scratch);
     }
 }

@@ -29,6 +29,7 @@ mod order;
 mod orders;
 mod place;
 mod range;
+mod repeats;
 mod room;
 mod row;
 mod row_orders;

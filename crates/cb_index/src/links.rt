@@ -1,12 +1,21 @@
 //! What a version keeps so that items of one key are found without a search.
 ghost use Rattle.std.specs.Prelude.{◌≡◌, ◌⊎◌, [], true, IfOk};
 ghost use Rattle.cb_scan.specs.Definitions.{facts_of};
-ghost use Rattle.cb_index.specs.Links.{links_for, links_of, nothing_laid, with_links};
+ghost use Rattle.cb_index.specs.Links.{
+  links_for,
+  links_of,
+  nothing_laid,
+  repeats_for,
+  with_links,
+  with_repeats,
+};
+ghost use Rattle.cb_index.specs.Repeats.{repeats_of};
 ghost use Rattle.cb_index.specs.steps.Laying.{AreSorted, item_entries};
 
 use crate::entry::Entry;
 use crate::laid::lay_in;
 use crate::memory::OutOfMemory;
+use crate::repeats::find_repeats;
 use crate::rows::FactSort;
 use crate::table::lay_in_table;
 use cb_scan::{Facts, Source};
@@ -25,12 +34,15 @@ pub(crate) struct Link {
 }
 
 /// The links of the uses of a text, of its calls by the called name and of its calls by the name
-/// that calls. Of each sort all are laid or none.
+/// that calls, and which of them are repeats. Of each sort all are laid or none.
 #[derive(Debug, Drop)]
 pub struct Links {
     uses: Vec<Link>,
     callees: Vec<Link>,
     callers: Vec<Link>,
+    use_repeats: Vec<bool>,
+    callee_repeats: Vec<bool>,
+    caller_repeats: Vec<bool>,
 }
 
 impl Model for Links {
@@ -42,15 +54,18 @@ impl Model for Links {
       uses = l.uses.items;
       callees = l.callees.items;
       callers = l.callers.items;
+      use_repeats = l.use_repeats.items;
+      callee_repeats = l.callee_repeats.items;
+      caller_repeats = l.caller_repeats.items;
     } };
 }
 
-/// No links, with room for so many.
-fn room_for(alloc: Global, count: usize) -> Result<Vec<Link>, OutOfMemory>
-    ensures { IfOk result (λ links. links.items ≡ []) }
+/// An empty list, with room for so many.
+fn room_for<T>(alloc: Global, count: usize) -> Result<Vec<T>, OutOfMemory>
+    ensures { IfOk result (λ list. list.items ≡ []) }
 {
     match Vec::with_capacity(alloc, count) {
-        Ok(links) => Ok(links),
+        Ok(list) => Ok(list),
         Err(_) => Err(OutOfMemory),
     }
 }
@@ -63,10 +78,16 @@ impl Links {
         let uses = room_for(alloc, facts.uses().len())?;
         let callees = room_for(alloc, facts.calls().len())?;
         let callers = room_for(alloc, facts.calls().len())?;
+        let use_repeats = room_for(alloc, facts.uses().len())?;
+        let callee_repeats = room_for(alloc, facts.calls().len())?;
+        let caller_repeats = room_for(alloc, facts.calls().len())?;
         Ok(Links {
             uses,
             callees,
             callers,
+            use_repeats,
+            callee_repeats,
+            caller_repeats,
         })
     }
 
@@ -78,6 +99,41 @@ impl Links {
             FactSort::Uses => self.uses.as_slice(),
             FactSort::Callees => self.callees.as_slice(),
             FactSort::Callers => self.callers.as_slice(),
+        }
+    }
+
+    /// Which items of a sort are repeats.
+    pub(crate) fn repeats(&self, sort: FactSort) -> &[bool]
+        ensures { result.now ≡ repeats_for sort self.now }
+    {
+        match sort {
+            FactSort::Uses => self.use_repeats.as_slice(),
+            FactSort::Callees => self.callee_repeats.as_slice(),
+            FactSort::Callers => self.caller_repeats.as_slice(),
+        }
+    }
+
+    /// Finds the repeats of a sort by a table of the entries of all items, if there is room.
+    pub(crate) fn find_repeats(
+        &mut self,
+        sort: FactSort,
+        source: &Source,
+        facts: &Facts,
+        entries: &mut [Entry],
+    )
+        requires facts { facts.now ≡ facts_of source.now }
+        requires entries { entries.old ≡ item_entries sort source.now 0 }
+        ensures { (self.new ≡ with_repeats sort [] self.old)
+            ⊎ (self.new ≡ with_repeats sort (repeats_of sort source.now) self.old) }
+    {
+        match sort {
+            FactSort::Uses => find_repeats(sort, source, facts, entries, &mut self.use_repeats),
+            FactSort::Callees => {
+                find_repeats(sort, source, facts, entries, &mut self.callee_repeats)
+            }
+            FactSort::Callers => {
+                find_repeats(sort, source, facts, entries, &mut self.caller_repeats)
+            }
         }
     }
 

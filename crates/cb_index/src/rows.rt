@@ -1,6 +1,7 @@
 //! The rows that entries stand for.
 ghost use Rattle.std.specs.Prelude.{◌≡◌};
 ghost use Rattle.std.specs.Option.{option_copied};
+ghost use Rattle.cb_scan.specs.Definitions.{facts_of};
 ghost use Rattle.cb_scan.specs.Lines.{line_text};
 ghost use Rattle.cb_tags.specs.TagLines.{tag_of};
 ghost use Rattle.cb_index.specs.steps.Found.{
@@ -17,7 +18,7 @@ ghost use Rattle.cb_index.specs.steps.Left.{fact_of, fact_of_spot};
 use crate::archive::{Archive, Version};
 use crate::bytes::bytes_at;
 use crate::entry::Entry;
-use cb_scan::{Call, Def, Kind, Source, Use};
+use cb_scan::{Call, Def, Facts, Kind, Source, Use};
 use cb_tags::TagRow;
 
 /// A use or a call. Of a call the name is the called one, and the scope the one that calls.
@@ -173,6 +174,24 @@ impl<'a> FactSpot<'a> {
     }
 }
 
+/// The fact of an item of a text.
+pub(crate) fn fact_in<'a>(
+    sort: FactSort,
+    file: &'a [u8],
+    source: &'a Source,
+    facts: &Facts,
+    item: u32,
+) -> FactSpot<'a>
+    requires { facts.now ≡ facts_of source.now }
+    ensures { fact_of_spot result ≡ fact_at sort file.now source.now item }
+{
+    match sort {
+        FactSort::Uses => fact_of_use(file, source, facts.uses().get(item as usize)),
+        FactSort::Callees => fact_of_call(file, source, facts.calls().get(item as usize)),
+        FactSort::Callers => fact_of_call(file, source, facts.calls().get(item as usize)),
+    }
+}
+
 /// The fact of an item.
 pub(crate) fn fact_at<'a>(
     sort: FactSort,
@@ -182,11 +201,5 @@ pub(crate) fn fact_at<'a>(
 ) -> FactSpot<'a>
     ensures { fact_of_spot result ≡ fact_at sort file.now version.now item }
 {
-    let facts = version.facts();
-    let source = version.source();
-    match sort {
-        FactSort::Uses => fact_of_use(file, source, facts.uses().get(item as usize)),
-        FactSort::Callees => fact_of_call(file, source, facts.calls().get(item as usize)),
-        FactSort::Callers => fact_of_call(file, source, facts.calls().get(item as usize)),
-    }
+    fact_in(sort, file, version.source(), version.facts(), item)
 }

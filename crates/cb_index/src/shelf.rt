@@ -30,7 +30,7 @@ ghost use Rattle.std.specs.Ordering.{is_gt, nat_cmp};
 ghost use Rattle.std.specs.Str.{bytes_eq};
 ghost use Rattle.cb_scan.specs.Order.{goes_first, in_order, put};
 ghost use Rattle.cb_index.specs.Archived.{name_of};
-ghost use Rattle.cb_index.specs.Counts.{rows_in_files};
+ghost use Rattle.cb_index.specs.Counts.{rows_in_files, unlike_in_files};
 ghost use Rattle.cb_index.specs.Files.{AreAscending, IsThere, shown_name};
 ghost use Rattle.cb_index.specs.Names.{is_among, names_of};
 ghost use Rattle.cb_index.specs.Rows.{
@@ -56,7 +56,7 @@ ghost use Rattle.cb_index.specs.Shelved.{
 };
 ghost use Rattle.cb_index.specs.declared.entry.Shown.{Shown};
 ghost use Rattle.cb_index.specs.declared.rows.FactSort.TheVariants.{Callees, Callers, Uses};
-ghost use Rattle.cb_index.specs.steps.Left.{entries_left, facts_counted, facts_left, tags_left};
+ghost use Rattle.cb_index.specs.steps.Left.{entries_left, facts_counted, facts_left, facts_new, tags_left};
 
 use crate::archive::{Archive, Version};
 use crate::asked::Asked;
@@ -494,6 +494,8 @@ impl Shelf {
     pub fn uses(&self, name: &[u8]) -> FactRows<'_>
         requires { self.now.waiting.uses ≡ [] }
         ensures rows { facts_left result ≡ uses_of name.now (files self.now) }
+        ensures new { facts_new result
+            ≡ unlike_in_files Uses (file_uses_of name.now) (files self.now) }
         ensures counted { facts_counted result
             ≡ rows_in_files Uses (file_uses_of name.now) (files self.now) }
     {
@@ -505,6 +507,8 @@ impl Shelf {
     pub fn calling(&self, name: &[u8]) -> FactRows<'_>
         requires { self.now.waiting.callees ≡ [] }
         ensures rows { facts_left result ≡ calls_of name.now (files self.now) }
+        ensures new { facts_new result
+            ≡ unlike_in_files Callees (file_calls_of name.now) (files self.now) }
         ensures counted { facts_counted result
             ≡ rows_in_files Callees (file_calls_of name.now) (files self.now) }
     {
@@ -516,6 +520,8 @@ impl Shelf {
     pub fn called_by(&self, name: &[u8]) -> FactRows<'_>
         requires { self.now.waiting.callers ≡ [] }
         ensures rows { facts_left result ≡ calls_in name.now (files self.now) }
+        ensures new { facts_new result
+            ≡ unlike_in_files Callers (file_calls_in name.now) (files self.now) }
         ensures counted { facts_counted result
             ≡ rows_in_files Callers (file_calls_in name.now) (files self.now) }
     {

@@ -46,8 +46,9 @@ use std::alloc::Global;
 use std::cmp::Ordering;
 use std::marker::{Model, PhantomData};
 
-/// Versions are put one after another where they are at most this part of the blocks.
-const FEW: usize = 8;
+/// Entries are put one after another where they are at most this part of those that are held. One
+/// that is put so takes about as long as that many take in a sort of all.
+const FEW: usize = 5;
 
 /// The entries of the versions that were put, in the order `O`. A second list has room for all of
 /// them; there they are sorted where many come in at once.
@@ -97,6 +98,19 @@ fn ascend<O: EntryOrder>(archive: &Archive, entries: Run<'_>) -> bool
         }
         last = *entry;
         left = rest;
+    }
+    true
+}
+
+/// Whether the entries of versions are few beside so many.
+fn are_few<O: EntryOrder>(archive: &Archive, shown: &[Shown], held: usize) -> bool {
+    let mut left = held / FEW;
+    for one in shown {
+        let count = O::count(archive, one.version);
+        if count > left {
+            return false;
+        }
+        left -= count;
     }
     true
 }
@@ -326,7 +340,7 @@ impl<O: EntryOrder> Sorted<O> {
             (self.old.entries ++ all_entries O.lister archive.now shown.now) }
         ensures room { self.old.room ≤ self.new.room }
     {
-        if shown.len() <= self.blocks.used().len() / FEW {
+        if are_few::<O>(archive, shown, self.entries().len()) {
             for one in shown {
                 self.put_all(archive, *one);
             }

@@ -44,7 +44,7 @@ const SPREAD: u64 = 0x9e37_79b9_7f4a_7c15;
 
 /// The last eight bytes of a key as a number, where it is longer than that.
 #[tactic(auto, unfolding(crate::specs::steps::Table::key_end))]
-fn key_end(key: &[u8]) -> u64
+pub(crate) fn key_end(key: &[u8]) -> u64
     ensures { result ≡ key_end key.now }
 {
     if key.len() > 8 {
@@ -56,7 +56,7 @@ fn key_end(key: &[u8]) -> u64
 
 /// Three numbers as one of 32 bits. Where they differ in any bit, many of its bits differ.
 #[tactic(auto, unfolding(crate::specs::steps::Table::mixed))]
-fn mixed(front: u64, end: u64, count: u64) -> u64
+pub(crate) fn mixed(front: u64, end: u64, count: u64) -> u64
     ensures { result ≡ mixed front end count }
 {
     let whole = front

@@ -1,5 +1,5 @@
 -- What iterators over a shelf still give.
-use Rattle.std.specs.Prelude.{ℕ, List, filter, map}
+use Rattle.std.specs.Prelude.{ℕ, Bool, true, false, List, filter, map}
 use Rattle.std.specs.List.{flat_map}
 use Rattle.cb_scan.specs.Lines.{line_text}
 use Rattle.cb_tags.specs.TagLines.{Tag}
@@ -7,12 +7,11 @@ use Rattle.cb_index.specs.Counts.{column}
 use Rattle.cb_index.specs.Rows.{Fact}
 use Rattle.cb_index.specs.Shelved.{ShownFile}
 use Rattle.cb_index.specs.steps.Includes.{includes_left}
-use Rattle.cb_index.specs.steps.Left.{entries_left, spots_left, tags_left}
+use Rattle.cb_index.specs.steps.Left.{entries_left, tags_left}
 use Rattle.cb_desk.specs.Answer.{AnswerRow, file_rows, is_header, unindented}
 use Rattle.cb_desk.specs.World.{File}
 use Rattle.cb_desk.specs.declared.answers.found.FoundRows.{FoundRows}
-use Rattle.cb_desk.specs.declared.answers.found.FoundRows.TheVariants.{Around, Named, Defs, Headers}
-use Rattle.cb_desk.specs.declared.answers.found.FoundRows.TheVariants.{Names}
+use Rattle.cb_desk.specs.declared.answers.found.FoundRows.TheVariants.{Defs, Headers, Names}
 use Rattle.cb_desk.specs.declared.answers.headers.HeaderRows.{HeaderRows}
 use Rattle.cb_desk.specs.declared.answers.names.NameRows.{NameRows}
 use Rattle.cb_desk.specs.declared.answers.row_spot.RowSpot.{RowSpot}
@@ -31,6 +30,11 @@ row_around f =
 -- the row of a fact that shows its own name
 abbrev pub row_named : Fact → AnswerRow
 row_named f = record { file = f.file; function = f.name; line = f.line; text = unindented f.text }
+
+-- the row of a fact that shows its own name, or the one around it
+abbrev pub row_shown : Bool → Fact → AnswerRow
+row_shown true f = row_named f
+row_shown false f = row_around f
 
 -- the row of a definition
 abbrev pub row_of_tag : Tag → AnswerRow
@@ -60,8 +64,6 @@ names_left r = flat_map (λ (f : ShownFile). file_rows r.pattern.now f.name) (en
 
 -- the rows of a question
 abbrev pub found_left : FoundRows → List AnswerRow
-found_left (Around r) = map row_around (spots_left r)
-found_left (Named r) = map row_named (spots_left r)
 found_left (Defs r) = map row_of_tag (tags_left r)
 found_left (Headers r) = map row_around (headers_left r)
 found_left (Names r) = names_left r

@@ -2,7 +2,6 @@
 ghost use Rattle.std.specs.Prelude.{◌≡◌, ◌<◌, ◌^◌, length};
 ghost use Rattle.std.specs.Iterator.{YieldsFirstBy, item_count};
 ghost use Rattle.cb_desk.specs.Answer.{distinct};
-ghost use Rattle.cb_desk.specs.steps.Counts.{IsCounted};
 ghost use Rattle.cb_desk.specs.steps.Lent.{found_left, spot_row};
 ghost use Rattle.cb_desk.specs.steps.LookBack.{HaveLineTexts};
 
@@ -20,22 +19,19 @@ pub(crate) struct DistinctSpots<'a, 'p> {
 impl<'a, 'p> Model for DistinctSpots<'a, 'p> {
     ghost use Rattle.std.specs.Prelude.{List, ◌<◌, ◌^◌, length};
     ghost use Rattle.cb_desk.specs.Answer.{AnswerRow};
-    ghost use Rattle.cb_desk.specs.steps.Counts.{IsCounted};
     ghost use Rattle.cb_desk.specs.steps.LookBack.{IsLookBack, news_left};
 
     ghost Value = { List AnswerRow };
 
     ghost view = { λ d. news_left d.left };
 
-    ghost invariant = { λ d. IsLookBack d.left × IsCounted d.left.all
-        × (length (news_left d.left) < 2 ^ 64) };
+    ghost invariant = { λ d. IsLookBack d.left × (length (news_left d.left) < 2 ^ 64) };
 }
 
 impl<'a, 'p> DistinctSpots<'a, 'p> {
     pub(crate) fn new(rows: FoundRows<'a, 'p>) -> DistinctSpots<'a, 'p>
         requires texts { HaveLineTexts (found_left rows) }
         requires few { length (found_left rows) < 2 ^ 64 }
-        requires counted { IsCounted rows }
         ensures { result ≡ distinct (found_left rows.entry) }
     {
         DistinctSpots {
@@ -43,14 +39,10 @@ impl<'a, 'p> DistinctSpots<'a, 'p> {
         }
     }
 
-    /// How many rows are left. Uses and calls are counted by their index, as long as no row was
-    /// taken. Else it walks over all that are left.
+    /// How many rows are left. It walks over all of them.
     pub(crate) fn count_left(&self) -> usize
         ensures { result ≡ length self.now }
     {
-        if let Some(count) = self.left.row_count() {
-            return count as usize;
-        }
         let spots = DistinctSpots { left: self.left };
         spots.count()
     }

@@ -1,4 +1,4 @@
-//! The rows of a question that is no search of texts, equal ones included.
+//! The rows of definitions, of includes and of names of files, equal ones included.
 ghost use Rattle.std.specs.Prelude.{◌≡◌};
 ghost use Rattle.std.specs.Iterator.{YieldsFirstBy, item_count};
 ghost use Rattle.std.specs.Option.{option_map};
@@ -6,7 +6,6 @@ ghost use Rattle.cb_index.specs.Counts.{column};
 ghost use Rattle.cb_index.specs.steps.Left.{fact_of, fact_of_spot};
 ghost use Rattle.cb_tags.specs.TagLines.{tag_of};
 ghost use Rattle.cb_desk.specs.Models.{row_of};
-ghost use Rattle.cb_desk.specs.steps.Counts.{counted_rows};
 ghost use Rattle.cb_desk.specs.steps.Lent.{
   found_left,
   row_around,
@@ -19,16 +18,12 @@ use crate::answers::headers::HeaderRows;
 use crate::answers::names::NameRows;
 use crate::answers::row_spot::{RowSpot, SpotText};
 use crate::rows::{RefRow, unindented};
-use cb_index::{FactRow, FactSpot, FactSpots, TagRows};
+use cb_index::{FactRow, FactSpot, TagRows};
 use cb_tags::TagRow;
 
 /// The rows of a question, by file and place.
 #[derive(Clone, Copy)]
 pub(crate) enum FoundRows<'a, 'p> {
-    /// Facts, each with the name around it.
-    Around(FactSpots<'a>),
-    /// Facts, each with its own name.
-    Named(FactSpots<'a>),
     /// Definitions.
     Defs(TagRows<'a>),
     /// Includes.
@@ -47,7 +42,7 @@ fn column(scope: Option<&[u8]>) -> &[u8]
     }
 }
 
-fn spot_around(fact: FactSpot<'_>) -> RowSpot<'_>
+pub(crate) fn spot_around(fact: FactSpot<'_>) -> RowSpot<'_>
     ensures { spot_row result ≡ row_around (fact_of_spot fact.entry) }
 {
     RowSpot {
@@ -58,7 +53,7 @@ fn spot_around(fact: FactSpot<'_>) -> RowSpot<'_>
     }
 }
 
-fn spot_named(fact: FactSpot<'_>) -> RowSpot<'_>
+pub(crate) fn spot_named(fact: FactSpot<'_>) -> RowSpot<'_>
     ensures { spot_row result ≡ row_named (fact_of_spot fact.entry) }
 {
     RowSpot {
@@ -102,22 +97,6 @@ fn spot_of_row(row: RefRow<'_>) -> RowSpot<'_>
     }
 }
 
-impl<'a, 'p> FoundRows<'a, 'p> {
-    /// How many rows these are, equal ones once, where an index counts them: uses and calls. It is
-    /// for an iterator that has given nothing yet.
-    pub(crate) fn row_count(&self) -> Option<u128>
-        ensures { result ≡ counted_rows self.now }
-    {
-        match self {
-            FoundRows::Around(spots) => Some(spots.row_count()),
-            FoundRows::Named(spots) => Some(spots.row_count()),
-            FoundRows::Defs(_) => None,
-            FoundRows::Headers(_) => None,
-            FoundRows::Names(_) => None,
-        }
-    }
-}
-
 impl<'a, 'p> Iterator for FoundRows<'a, 'p> {
     type Item = RowSpot<'a>;
 
@@ -127,14 +106,6 @@ impl<'a, 'p> Iterator for FoundRows<'a, 'p> {
 
     fn next(&mut self) -> Option<RowSpot<'a>> {
         match self {
-            FoundRows::Around(rows) => {
-                let fact = rows.next()?;
-                Some(spot_around(fact))
-            }
-            FoundRows::Named(rows) => {
-                let fact = rows.next()?;
-                Some(spot_named(fact))
-            }
             FoundRows::Defs(rows) => {
                 let tag = rows.next()?;
                 Some(spot_of_tag(tag))

@@ -18,7 +18,6 @@ ghost use Rattle.std.specs.Cmp.Lexicographic.{slice_cmp};
 ghost use Rattle.std.specs.Ordering.{nat_cmp};
 ghost use Rattle.cb_desk.specs.Answer.{distinct, row_eq};
 ghost use Rattle.cb_desk.specs.World.{place_key};
-ghost use Rattle.cb_desk.specs.steps.Counts.{IsCounted};
 ghost use Rattle.cb_desk.specs.steps.Lent.{found_left, spot_row};
 ghost use Rattle.cb_desk.specs.steps.LookBack.{
   HaveLineTexts,
@@ -102,19 +101,6 @@ impl<'a, 'p> LookBack<'a, 'p> {
             rest: rows,
             passed: 0,
         }
-    }
-
-    /// How many rows are left that are equal to none before, where that is known without a walk:
-    /// none was passed, and an index counts them.
-    pub(crate) fn row_count(&self) -> Option<u128>
-        requires kept { IsLookBack self.now }
-        requires counted { IsCounted self.now.all }
-        ensures { MatchOption result ⊤ (λ n. n ≡ length (news_left self.now)) }
-    {
-        if self.passed > 0 {
-            return None;
-        }
-        self.all.row_count()
     }
 }
 

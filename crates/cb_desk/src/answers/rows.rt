@@ -8,10 +8,10 @@ ghost use Rattle.cb_desk.specs.Answer.{distinct, field_rows};
 ghost use Rattle.cb_desk.specs.Models.{row_of};
 ghost use Rattle.cb_desk.specs.Settled.{IsSettled};
 ghost use Rattle.cb_desk.specs.World.{AreValidFiles};
-ghost use Rattle.cb_desk.specs.steps.Counts.{IsCounted};
 ghost use Rattle.cb_desk.specs.steps.Lent.{found_left};
 
 use crate::answers::distinct::DistinctSpots;
+use crate::answers::fact_rows::FactRows;
 use crate::answers::files::Files;
 use crate::answers::found::FoundRows;
 use crate::answers::headers::HeaderRows;
@@ -21,10 +21,11 @@ use crate::rows::{Field, RefRow};
 use cb_index::Shelf;
 use std::marker::Model;
 
-/// Lines that hold a text, no two of which are equal, or other rows.
+/// Lines that hold a text or rows of facts, no two of which are equal, or other rows.
 #[derive(Drop)]
 enum RowSource<'a, 'p> {
     Lines(TextRows<'a, 'p>),
+    Facts(FactRows<'a>),
     Others(DistinctSpots<'a, 'p>),
 }
 
@@ -57,6 +58,15 @@ impl<'a, 'p> Rows<'a, 'p> {
             Field::Text => Rows {
                 source: RowSource::Lines(TextRows::new(files, pattern)),
             },
+            Field::Symbol => Rows {
+                source: RowSource::Facts(use_rows(shelf, pattern)),
+            },
+            Field::Called => Rows {
+                source: RowSource::Facts(called_rows(shelf, pattern)),
+            },
+            Field::Calling => Rows {
+                source: RowSource::Facts(calling_rows(shelf, pattern)),
+            },
             _ => Rows {
                 source: RowSource::Others(DistinctSpots::new(found_rows(shelf, field, pattern))),
             },
@@ -70,6 +80,7 @@ impl<'a, 'p> Rows<'a, 'p> {
     {
         match &self.source {
             RowSource::Lines(rows) => rows.count_left(),
+            RowSource::Facts(rows) => rows.count_left(),
             RowSource::Others(rows) => rows.count_left(),
         }
     }
@@ -85,6 +96,10 @@ impl<'a, 'p> Iterator for Rows<'a, 'p> {
     fn next(&mut self) -> Option<RefRow<'a>> {
         match &mut self.source {
             RowSource::Lines(rows) => rows.next(),
+            RowSource::Facts(spots) => {
+                let spot = spots.next()?;
+                Some(spot.row())
+            }
             RowSource::Others(spots) => {
                 let spot = spots.next()?;
                 Some(spot.row())
@@ -93,24 +108,53 @@ impl<'a, 'p> Iterator for Rows<'a, 'p> {
     }
 }
 
-/// The rows of facts and of names of files, by file and place, equal ones included.
+/// The rows of the uses of a name.
+fn use_rows<'a>(shelf: &'a Shelf, pattern: &[u8]) -> FactRows<'a>
+    requires valid { AreValidFiles (files shelf.now) }
+    requires settled { IsSettled Field.Symbol shelf.now.waiting }
+    ensures { result
+        ≡ distinct (flat_map (field_rows Field.Symbol pattern.now) (files shelf.now)) }
+{
+    FactRows::new(shelf.uses(pattern).spots(), false)
+}
+
+/// The rows of the calls that stand in what has that name.
+fn called_rows<'a>(shelf: &'a Shelf, pattern: &[u8]) -> FactRows<'a>
+    requires valid { AreValidFiles (files shelf.now) }
+    requires settled { IsSettled Field.Called shelf.now.waiting }
+    ensures { result
+        ≡ distinct (flat_map (field_rows Field.Called pattern.now) (files shelf.now)) }
+{
+    FactRows::new(shelf.called_by(pattern).spots(), true)
+}
+
+/// The rows of the calls of a name.
+fn calling_rows<'a>(shelf: &'a Shelf, pattern: &[u8]) -> FactRows<'a>
+    requires valid { AreValidFiles (files shelf.now) }
+    requires settled { IsSettled Field.Calling shelf.now.waiting }
+    ensures { result
+        ≡ distinct (flat_map (field_rows Field.Calling pattern.now) (files shelf.now)) }
+{
+    FactRows::new(shelf.calling(pattern).spots(), false)
+}
+
+/// The rows of definitions, includes and names of files, by file and place, equal ones included.
 fn found_rows<'a, 'p>(shelf: &'a Shelf, field: Field, pattern: &'p [u8]) -> FoundRows<'a, 'p>
-    requires field { field ≢ Field.Text }
+    requires no_text { field ≢ Field.Text }
+    requires no_use { field ≢ Field.Symbol }
+    requires no_called { field ≢ Field.Called }
+    requires no_calling { field ≢ Field.Calling }
     requires valid { AreValidFiles (files shelf.now) }
     requires settled { IsSettled field shelf.now.waiting }
     ensures rows { found_left result ≡ flat_map (field_rows field pattern.now) (files shelf.now) }
     ensures few { length (found_left result) < 2 ^ 64 }
-    ensures counted { IsCounted result }
 {
     match field {
-        Field::Symbol => FoundRows::Around(shelf.uses(pattern).spots()),
         Field::Definition => {
             let rows = shelf.defs(pattern);
             let _count = rows.len();
             FoundRows::Defs(rows)
         }
-        Field::Called => FoundRows::Named(shelf.called_by(pattern).spots()),
-        Field::Calling => FoundRows::Around(shelf.calling(pattern).spots()),
         Field::Including => FoundRows::Headers(HeaderRows {
             rest: shelf.includes(),
             pattern,
@@ -119,6 +163,6 @@ fn found_rows<'a, 'p>(shelf: &'a Shelf, field: Field, pattern: &'p [u8]) -> Foun
             rest: shelf.entries(),
             pattern,
         }),
-        Field::Text => unreachable!(),
+        Field::Text | Field::Symbol | Field::Called | Field::Calling => unreachable!(),
     }
 }

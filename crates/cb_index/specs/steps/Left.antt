@@ -1,5 +1,5 @@
 -- What iterators still give.
-use Rattle.std.specs.Prelude.{ℕ, List, [], ◌∷◌, ◌++◌, Option, Some, None, map, slice_get, sum_by}
+use Rattle.std.specs.Prelude.{ℕ, Bool, true, false, List, [], ◌∷◌, ◌++◌, Option, Some, None, map, slice_get, sum_by}
 use Rattle.std.specs.Borrow.{Bor}
 use Rattle.std.specs.Option.{option_map}
 use Rattle.cb_scan.specs.Definitions.{facts_of}
@@ -9,8 +9,8 @@ use Rattle.cb_tags.specs.TagLines.{Tag}
 use Rattle.cb_index.specs.Archived.{Archived, name_of}
 use Rattle.cb_index.specs.Rows.{Fact}
 use Rattle.cb_index.specs.Shelved.{ShownFile}
-use Rattle.cb_index.specs.steps.Chains.{chain_left}
-use Rattle.cb_index.specs.steps.Found.{fact_at, facts_in, tag_at}
+use Rattle.cb_index.specs.steps.Found.{fact_at, tag_at}
+use Rattle.cb_index.specs.steps.Given.{given_in, given_left}
 use Rattle.cb_index.specs.steps.Runs.{run_entries}
 use Rattle.cb_index.specs.declared.entries.Entries.{Entries}
 use Rattle.cb_index.specs.declared.entry.Entry.{Entry}
@@ -20,6 +20,7 @@ use Rattle.cb_index.specs.declared.rows.FactSpot.{FactSpot}
 use Rattle.cb_index.specs.declared.facts.FactRows.{FactRows}
 use Rattle.cb_index.specs.declared.facts.FactSpots.{FactSpots}
 use Rattle.cb_index.specs.declared.facts.Group.{Group}
+use Rattle.cb_index.specs.declared.facts.Walk.{Walk}
 use Rattle.cb_index.specs.declared.tags.TagRows.{TagRows}
 
 -- what a row says
@@ -45,25 +46,33 @@ fact_of_spot s = record {
 abbrev pub tags_left : TagRows → List Tag
 tags_left r = map (tag_at r.archive.now) (run_entries r.entries)
 
-abbrev pub group_left : Group → List Fact
-group_left g = map (fact_at g.items.sort g.file.now g.items.version.now) (chain_left g.items)
+abbrev pub group_left : Bool → Group → List Fact
+group_left all g = map (fact_at g.items.sort g.file.now g.items.version.now) (given_left all g.items)
 
-abbrev pub group_left_if : Option Group → List Fact
-group_left_if None = []
-group_left_if (Some g) = group_left g
+abbrev pub group_left_if : Bool → Option Group → List Fact
+group_left_if all None = []
+group_left_if all (Some g) = group_left all g
 
-abbrev pub spots_left : FactSpots → List Fact
-spots_left r = group_left_if r.group ++ facts_in r.sort r.archive.now (run_entries r.entries)
+abbrev pub walk_left : Bool → Walk → List Fact
+walk_left all w =
+    group_left_if all w.group ++ given_in all w.sort w.archive.now (run_entries w.entries)
 
 abbrev pub facts_left : FactRows → List Fact
-facts_left r = spots_left r.spots
+facts_left r = walk_left true r.walk
+
+-- of these the ones that are no repeats
+abbrev pub facts_new : FactRows → List Fact
+facts_new r = walk_left false r.walk
+
+abbrev pub spots_left : FactSpots → List Fact
+spots_left r = walk_left false r.walk
 
 -- how many rows the entries that are still to come stand for; what has begun is not counted
 abbrev pub rows_counted : FactSpots → ℕ
-rows_counted r = sum_by (λ (e : Entry). e.rows) (run_entries r.entries)
+rows_counted r = sum_by (λ (e : Entry). e.rows) (run_entries r.walk.entries)
 
 abbrev pub facts_counted : FactRows → ℕ
-facts_counted r = rows_counted r.spots
+facts_counted r = sum_by (λ (e : Entry). e.rows) (run_entries r.walk.entries)
 
 -- a file that is lent
 abbrev pub shown_file : Bor (List ℕ) × Bor (List ℕ) × Bor TextFacts → ShownFile

@@ -1,5 +1,5 @@
 use Rattle.std.proofs.Common.{◌≡◌, length}
-use Rattle.cb_index.specs.steps.Found.{facts_in}
+use Rattle.cb_index.specs.steps.Given.{given_in}
 use Rattle.cb_index.specs.steps.Runs.{run_entries}
 use Rattle.cb_index.proofs.facts.first_spot.Given as goal
 
@@ -7,4 +7,4 @@ abbrev pub decreases-loop-entry : goal.decreases-loop-entry
 decreases-loop-entry l = length (run_entries l.left)
 
 abbrev pub invariant-loop-entry : goal.invariant-loop-entry
-invariant-loop-entry l = facts_in l.sort l.archive (run_entries l.left) ≡ facts_in l.sort l.archive (run_entries l.fn.entries)
+invariant-loop-entry l = given_in l.all l.sort l.archive (run_entries l.left) ≡ given_in l.all l.sort l.archive (run_entries l.fn.entries)

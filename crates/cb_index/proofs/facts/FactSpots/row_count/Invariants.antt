@@ -11,5 +11,5 @@ decreases-loop-entry l = length (run_entries l.left)
 abbrev pub invariant-loop-entry : goal.invariant-loop-entry
 invariant-loop-entry l = record {
   counted : l.count + sum_by (λ (e : Entry). e.rows) (run_entries l.left) ≡ rows_counted l.self;
-  few : l.count + length (run_entries l.left) * 2 ^ 32 ≤ length (run_entries l.self.entries) * 2 ^ 32;
+  few : l.count + length (run_entries l.left) * 2 ^ 32 ≤ length (run_entries l.self.walk.entries) * 2 ^ 32;
 }

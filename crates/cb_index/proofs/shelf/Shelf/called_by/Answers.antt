@@ -1,13 +1,14 @@
-use Rattle.std.proofs.Common.{◌∙◌, ap}
+use Rattle.std.proofs.Common.{◌∙◌, ap, false}
 use Rattle.std.specs.Prelude.{sum_by}
-use Rattle.cb_index.specs.Counts.{rows_in_files}
+use Rattle.cb_index.specs.Counts.{rows_in_files, unlike_in_files}
 use Rattle.cb_index.specs.Orders.{caller_key, callers_listed}
 use Rattle.cb_index.specs.Rows.{calls_in, file_calls_in}
 use Rattle.cb_index.specs.Shelved.{Shelved, files}
 use Rattle.cb_index.specs.steps.Found.{facts_in}
+use Rattle.cb_index.specs.steps.Given.{given_in}
 use Rattle.cb_index.specs.declared.entry.Entry.{Entry}
 use Rattle.cb_index.specs.declared.rows.FactSort.TheVariants.{Callers}
-use Rattle.cb_index.proofs.CountLemmas.{callers_counted}
+use Rattle.cb_index.proofs.CountLemmas.{callers_counted, callers_new}
 use Rattle.cb_index.proofs.CoverLemmas.{covers_read}
 use Rattle.cb_index.proofs.FactLemmas.{rows_of_callers}
 use Rattle.cb_index.proofs.RowLemmas.{again}
@@ -36,3 +37,13 @@ returns-clause-counted c =
     c.new.ensures.counted ∙ ap (sum_by (λ (e : Entry). e.rows)) c.with_key-found.ensures
     ∙ callers_counted s.archive s.shown.items kept.there kept.ascending s.callers.held c.args.name.now held
     ∙ ap (λ (v : Shelved). rows_in_files Callers (file_calls_in c.args.name.now) (files v)) c.self.view_is
+
+pub returns-clause-new : goal.returns-clause-new
+returns-clause-new c =
+    let s = c.self.inside in
+    let kept = c.self.invariant.0 in
+    let none = ap (λ (v : Shelved). v.waiting.callers) c.self.view_is ∙ c.requires in
+    let held = covers_read caller_key callers_listed s.archive s.shown.items s.callers none kept.callers in
+    c.new.ensures.new ∙ ap (given_in false Callers s.archive) c.with_key-found.ensures
+    ∙ callers_new s.archive s.shown.items kept.there kept.ascending s.callers.held c.args.name.now held
+    ∙ ap (λ (v : Shelved). unlike_in_files Callers (file_calls_in c.args.name.now) (files v)) c.self.view_is

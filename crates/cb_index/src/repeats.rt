@@ -1,0 +1,285 @@
+//! Items whose row is that of an earlier item. They are found once for each version, by a table:
+//! each item that is no repeat stands in one of as many places as there are items, by a hash of its
+//! key and its row. The items of one place are chained: the field `version` of the entry of that
+//! number holds the last of them, and the field `name` of the entry of an item the one before it;
+//! each holds one more than the item, and 0 is for none.
+ghost use Rattle.std.specs.Prelude.{
+  ◌≡◌,
+  ◌<◌,
+  ◌≤◌,
+  ◌^◌,
+  ◌⊎◌,
+  [],
+  List,
+  ℕ,
+  true,
+  false,
+  suc,
+  length,
+  vec_capacity,
+  ◌∷◌,
+  MatchOption,
+};
+ghost use Rattle.std.specs.Str.{bytes_eq};
+ghost use Rattle.cb_scan.specs.Definitions.{facts_of};
+ghost use Rattle.cb_index.specs.Counts.{function_of};
+ghost use Rattle.cb_index.specs.Items.{item_count};
+ghost use Rattle.cb_index.specs.Repeats.{have_one_row, is_repeat, repeats_of};
+ghost use Rattle.cb_index.specs.declared.rows.FactSort.{FactSort};
+ghost use Rattle.cb_index.specs.steps.Found.{fact_at};
+ghost use Rattle.cb_index.specs.steps.Given.{given_left};
+ghost use Rattle.cb_index.specs.steps.Laying.{item_entries};
+ghost use Rattle.cb_index.specs.steps.Left.{fact_of_spot};
+ghost use Rattle.cb_index.specs.steps.Repeating.{
+  AreSeen,
+  function_span,
+  hash,
+  last_at,
+  place_among,
+  row_place,
+};
+
+use crate::archive::Version;
+use crate::bytes::bytes_at;
+use crate::entry::Entry;
+use crate::items::{Chain, item_span};
+use crate::rows::{FactSort, FactSpot, fact_in};
+use crate::table::{key_end, mixed};
+use cb_scan::{Facts, Source, Span, key_prefix};
+
+/// The name in the function column.
+fn function_of<'a>(sort: FactSort, spot: FactSpot<'a>) -> &'a [u8]
+    ensures { result.now ≡ function_of sort (fact_of_spot spot.entry) }
+{
+    match sort {
+        FactSort::Callers => spot.name,
+        _ => match spot.scope {
+            Some(name) => name,
+            None => b"<global>",
+        },
+    }
+}
+
+/// Where the name in the function column stands in the text, if it is there.
+fn function_span(sort: FactSort, facts: &Facts, item: u32) -> Option<Span>
+    ensures { result ≡ function_span sort facts.now item }
+{
+    match sort {
+        FactSort::Uses => match facts.uses().get(item as usize) {
+            Some(found) => found.scope,
+            None => None,
+        },
+        FactSort::Callees => item_span(FactSort::Callers, facts, item),
+        FactSort::Callers => item_span(FactSort::Callees, facts, item),
+    }
+}
+
+/// Whether two items show a name at one place of the text.
+fn have_one_span(sort: FactSort, facts: &Facts, a: u32, b: u32) -> bool
+    ensures { result ≡ true → function_span sort facts.now a ≡ function_span sort facts.now b }
+{
+    match (function_span(sort, facts, a), function_span(sort, facts, b)) {
+        (Some(one), Some(other)) => one.start == other.start && one.end == other.end,
+        _ => false,
+    }
+}
+
+/// Whether two items show one name. Its bytes are looked at only where it stands at two places: a
+/// name may be long, and around many items.
+fn have_one_function(sort: FactSort, source: &Source, facts: &Facts, a: u32, b: u32) -> bool
+    requires { facts.now ≡ facts_of source.now }
+    ensures { result ≡ bytes_eq (function_of sort (fact_at sort [] source.now b))
+        (function_of sort (fact_at sort [] source.now a)) }
+{
+    if have_one_span(sort, facts, a, b) {
+        return true;
+    }
+    let one = fact_in(sort, b"", source, facts, a);
+    let other = fact_in(sort, b"", source, facts, b);
+    function_of(sort, other) == function_of(sort, one)
+}
+
+/// Whether two items have one key, and equal rows under it.
+fn have_one_row(sort: FactSort, source: &Source, facts: &Facts, a: u32, b: u32) -> bool
+    requires { facts.now ≡ facts_of source.now }
+    ensures { result ≡ have_one_row sort source.now a b }
+{
+    let one = fact_in(sort, b"", source, facts, a);
+    let other = fact_in(sort, b"", source, facts, b);
+    (other.line == one.line && have_one_function(sort, source, facts, a, b))
+        && bytes_at(source.bytes(), item_span(sort, facts, a))
+            == bytes_at(source.bytes(), item_span(sort, facts, b))
+}
+
+/// Bytes as a number of 32 bits.
+#[tactic(auto, unfolding(crate::specs::steps::Repeating::hash))]
+fn hash(bytes: &[u8]) -> u64
+    ensures { result ≡ hash bytes.now }
+{
+    mixed(key_prefix(bytes), key_end(bytes), bytes.len() as u64)
+}
+
+/// The place of a key, of a name in the function column and of a line, among so many.
+#[tactic(auto, unfolding(crate::specs::steps::Repeating::place_among))]
+fn place_among(key: &[u8], function: &[u8], line: u32, count: usize) -> usize
+    requires { 0 < count }
+    ensures value { result ≡ place_among key.now function.now line count }
+    ensures within { result < count }
+{
+    (mixed(hash(key), hash(function), line as u64) % count as u64) as usize
+}
+
+/// The place of the row of an item.
+fn row_place(sort: FactSort, source: &Source, facts: &Facts, item: u32, count: usize) -> usize
+    requires facts { facts.now ≡ facts_of source.now }
+    requires count { count ≡ item_count sort source.now }
+    requires some { 0 < count }
+    ensures value { result ≡ row_place sort source.now item }
+    ensures within { result < count }
+{
+    let fact = fact_in(sort, b"", source, facts, item);
+    let key = bytes_at(source.bytes(), item_span(sort, facts, item));
+    place_among(key, function_of(sort, fact), fact.line, count)
+}
+
+/// Whether an item is a repeat, by the items of its place from the last one on.
+fn find_row(
+    sort: FactSort,
+    source: &Source,
+    facts: &Facts,
+    entries: &[Entry],
+    item: usize,
+    last: u32,
+) -> bool
+    requires facts { facts.now ≡ facts_of source.now }
+    requires item { item < item_count sort source.now }
+    requires few { length entries.now < 2 ^ 32 }
+    requires seen { AreSeen sort source.now item entries.now }
+    requires last { last ≡ last_at sort source.now (row_place sort source.now item) item }
+    ensures { result ≡ is_repeat sort source.now item }
+{
+    let mut at = last;
+    while at != 0 {
+        let other = at - 1;
+        if have_one_row(sort, source, facts, item as u32, other) {
+            return true;
+        }
+        at = entries[other as usize].name;
+    }
+    false
+}
+
+/// Puts an item in front of the chain of its place.
+fn stand(entries: &mut [Entry], item: usize, place: usize)
+    requires item { item < length entries.old }
+    requires place { place < length entries.old }
+    requires few { length entries.old < 2 ^ 32 }
+    ensures { (sort : FactSort) (text : List ℕ) → item < item_count sort text
+        → place ≡ row_place sort text item → is_repeat sort text item ≡ false
+        → AreSeen sort text item entries.old → AreSeen sort text (suc item) entries.new }
+{
+    let own = entries[item];
+    entries[item] = Entry {
+        prefix: own.prefix,
+        name: entries[place].version,
+        version: own.version,
+        number: own.number,
+        rows: own.rows,
+    };
+    let head = entries[place];
+    entries[place] = Entry {
+        prefix: head.prefix,
+        name: head.name,
+        version: item as u32 + 1,
+        number: head.number,
+        rows: head.rows,
+    };
+}
+
+/// Whether an item is a repeat; if not, it is put into its place.
+fn see(sort: FactSort, source: &Source, facts: &Facts, entries: &mut [Entry], item: usize) -> bool
+    requires facts { facts.now ≡ facts_of source.now }
+    requires item { item < item_count sort source.now }
+    requires few { length entries.old < 2 ^ 32 }
+    requires seen { AreSeen sort source.now item entries.old }
+    ensures value { result ≡ is_repeat sort source.now item }
+    ensures seen { AreSeen sort source.now (suc item) entries.new }
+    ensures len { length entries.new ≡ length entries.old }
+{
+    let place = row_place(sort, source, facts, item as u32, entries.len());
+    if find_row(sort, source, facts, entries, item, entries[place].version) {
+        return true;
+    }
+    stand(entries, item, place);
+    false
+}
+
+/// Finds the repeats by a table of the entries of all items, where there is room for what is told
+/// of them.
+pub(crate) fn find_repeats(
+    sort: FactSort,
+    source: &Source,
+    facts: &Facts,
+    entries: &mut [Entry],
+    repeats: &mut Vec<bool>,
+)
+    requires facts { facts.now ≡ facts_of source.now }
+    requires entries { entries.old ≡ item_entries sort source.now 0 }
+    ensures { (repeats.new.items ≡ []) ⊎ (repeats.new.items ≡ repeats_of sort source.now) }
+{
+    repeats.truncate(0);
+    if entries.len() > u32::MAX as usize || repeats.capacity() < entries.len() {
+        return;
+    }
+    for item in 0..entries.len() {
+        let repeat = see(sort, source, facts, entries, item);
+        let _ = repeats.push(repeat);
+    }
+}
+
+/// The same of two items of a version.
+fn have_row(sort: FactSort, version: &Version, a: u32, b: u32) -> bool
+    ensures { result ≡ have_one_row sort version.now a b }
+{
+    have_one_row(sort, version.source(), version.facts(), a, b)
+}
+
+/// Whether an item is a repeat, by a search.
+fn search_repeat(sort: FactSort, version: &Version, item: u32) -> bool
+    ensures { result ≡ is_repeat sort version.now item }
+{
+    let mut before = item;
+    while before > 0 {
+        before -= 1;
+        if have_row(sort, version, item, before) {
+            return true;
+        }
+    }
+    false
+}
+
+/// Whether an item before an item has its key and its row.
+pub(crate) fn is_repeat(sort: FactSort, version: &Version, item: u32) -> bool
+    ensures { result ≡ is_repeat sort version.now item }
+{
+    match version.repeat(sort, item) {
+        Some(repeat) => repeat,
+        None => search_repeat(sort, version, item),
+    }
+}
+
+/// The first of the items of one key that are still to come: of all, or of those that are no
+/// repeats.
+pub(crate) fn take_given(items: &mut Chain<'_>, all: bool) -> Option<u32>
+    ensures left { MatchOption result (given_left all items.old ≡ [])
+        (λ item. given_left all items.old ≡ item ∷ given_left all items.new) }
+    ensures sort { items.new.sort ≡ items.old.sort }
+    ensures version { items.new.version.now ≡ items.old.version.now }
+{
+    while let Some(item) = items.take() {
+        if all || !is_repeat(items.sort(), items.version(), item) {
+            return Some(item);
+        }
+    }
+    None
+}
