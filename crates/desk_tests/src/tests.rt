@@ -2,4 +2,5 @@ mod bounds;
 mod devices;
 mod inputs;
 mod meters;
+mod sessions;
 mod tables;
