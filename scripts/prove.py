@@ -4,19 +4,18 @@
     scripts/prove.py [PROGRAM]      cbrowse, if none is named
 
 A crate begins once those that it stands on are proved, and crates that do not stand on one another
-are proved side by side. A check has as many jobs as there are cores, or fewer where memory is short:
-a job takes up to 2.5 GB. What an earlier run proved and nothing has changed since is not proved
+are proved side by side. They share as many jobs as there are cores, by their lines, or fewer where
+memory is short: a job takes up to 2.5 GB. What an earlier run proved and nothing has changed since is not proved
 again. A crate is told when it begins and when it ends, with its time, and the whole at the end. The
 exit status is 1 where a crate is not proved; what the check said then comes first.
 """
 
+import os
 import pathlib
 import subprocess
 import sys
 import threading
 import time
-
-import os
 
 TOP = pathlib.Path(__file__).resolve().parent.parent
 BYTES_OF_A_JOB = 2_500_000_000
@@ -41,6 +40,11 @@ def jobs() -> int:
     lines = pathlib.Path("/proc/meminfo").read_text().splitlines()
     free = next((1024 * int(it.split()[1]) for it in lines if it.startswith("MemAvailable")), 0)
     return max(1, min(cores, free // BYTES_OF_A_JOB))
+
+
+def lines_of(crate: str) -> int:
+    files = [it for end in ("rt", "antt") for it in (TOP / "crates" / crate).rglob(f"*.{end}")]
+    return sum(it.read_bytes().count(b"\n") for it in files)
 
 
 def minutes(seconds: float) -> str:
@@ -81,10 +85,11 @@ class Proof:
         with self.changed:
             while (self.left and not self.failed) or self.running:
                 ready = [] if self.failed else self.ready()
+                lines = {crate: lines_of(crate) for crate in ready}
                 for crate in ready:
                     self.left.remove(crate)
                     self.running.add(crate)
-                    share = max(1, self.jobs // len(ready))
+                    share = max(1, round(self.jobs * lines[crate] / sum(lines.values())))
                     number = self.count - len(self.left)
                     print(f"{crate}: proving, {number} of {self.count} crates, up to {share} jobs", flush=True)
                     threading.Thread(target=self.one, args=(crate, share)).start()

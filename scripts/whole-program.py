@@ -217,6 +217,10 @@ ROWS = [
     refused(["tags", "-f", "", "a.c"], b": cannot be written"),
     refused(["line", "a.c", "none2.h"], b"none2.h: cannot be read"),
     refused(["tags", "--", "-x"], b"-x: cannot be read"),
+    # a message is one line whatever bytes a name has
+    refused(["find", "0", "x", "a\x1b\n\\.c"], b"a\\x1b\\x0a\\x5c.c: cannot be read"),
+    refused(["line", "\u00e9.c"], b"\\xc3\\xa9.c: cannot be read"),
+    refused(["tags", "-f", "none/\n", "a.c"], b"none/\\x0a: cannot be written"),
     # words that are wrong, and help
     wrong([], b"'cbrowse' requires a subcommand"),
     wrong(["search"], b"unrecognized subcommand 'search'"),
