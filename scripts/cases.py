@@ -1,5 +1,7 @@
 """Reads the sessions of crates/worked_cases/data, whose form the README of that crate tells."""
 
+from __future__ import annotations
+
 import pathlib
 import re
 from typing import NamedTuple

@@ -9,6 +9,8 @@ At the end it says how long each step took, and how many checks passed and faile
 1 where one failed.
 """
 
+from __future__ import annotations
+
 import pathlib
 import re
 import subprocess

@@ -10,6 +10,8 @@ again. A crate is told when it begins and when it ends, with its time, and the w
 exit status is 1 where a crate is not proved; what the check said then comes first.
 """
 
+from __future__ import annotations
+
 import os
 import pathlib
 import subprocess

@@ -11,6 +11,8 @@ a file, 4,096 files and one more, and words that are not UTF-8. The exit status 
 failed.
 """
 
+from __future__ import annotations
+
 import argparse
 import os
 import pathlib
