@@ -102,6 +102,19 @@ def ends(place):
     check("no program", status == 1 and said == "cbrowse-cscope: /nowhere/cbrowse: no such program\n", said)
 
 
+def others(place):
+    """A source or a database of cscope is left alone, unless one says otherwise."""
+    for name, text in ("s.c", "int f(void) {\n}\n"), ("cscope.out", "cscope 15 $HOME -c\n"):
+        place.put("others/a.c")
+        place.put(f"others/{name}", text)
+        status, _, said = place.run("-b", "-f", name, "a.c", below="others")
+        check(f"{name} as a list", status == 1 and (place.folder / "others" / name).read_text() == text and "-W" in said, said)
+        status, _, said = place.run("-b", "-W", "-f", name, "a.c", below="others")
+        check(f"{name} that is replaced", status == 0 and (place.folder / "others" / name).read_text() == "a.c\n", said)
+    status, _, said = place.run("-b", "a.c", below="others")
+    check("a list that is written again", status == 0, said)
+
+
 def main():
     options = argparse.ArgumentParser(description=__doc__, formatter_class=argparse.RawDescriptionHelpFormatter)
     options.add_argument("--cbrowse", default=os.environ.get("CBROWSE", TOP / "bin" / "cbrowse"), help="the program")
@@ -113,6 +126,7 @@ def main():
         no_list(place)
         away(place)
         ends(place)
+        others(place)
         long_list(place)
     print(f"{failed} failed")
     sys.exit(failed > 0)

@@ -12,6 +12,7 @@ Odd names  what cbrowse does not take is told and left out, the status is 1, and
            and `-x`, and a tags file named `-t`, are taken as they are.
 Ends       numbers that begin with 0; a tags file that is a link, a pipe or the name of another's folder; no standard error;
            a program in a folder of PATH that does not begin with /; folders that cannot be read (as root, who runs as nobody).
+Sources    a file that is no tags file is left alone, unless --force is given.
 Failures   an old tags file stays as it was, and the status is 1, where a folder is not there, where the program or `sort`
            fails, and where the temporary folder is full: each size of a small one is tried (as root alone, with `mount`).
 """
@@ -26,6 +27,9 @@ import tempfile
 TOP = pathlib.Path(__file__).resolve().parent.parent
 TREE = TOP / "editors" / "cbrowse-tree"
 failed = 0
+
+
+OLD = "old\told.c\t/^old$/\n"
 
 
 def check(what, is_right, said=""):
@@ -94,7 +98,7 @@ def ends(place):
         status, _, said = place.run("-j", number, "-f", "few.tags", "few")
         check(f"-j {number}", status == 0 and (place.folder / "few.tags").read_bytes() == expected, said)
     check("-j 000", place.run("-j", "000", "few")[0] == 2)
-    place.put("real", "old\n")
+    place.put("real", OLD)
     (place.folder / "link").symlink_to("real")
     status, _, said = place.run("-f", "link", "few")
     check("a link", status == 0 and (place.folder / "link").is_symlink() and (place.folder / "real").read_bytes() == expected, said)
@@ -118,23 +122,37 @@ def ends(place):
     place.put("closed/a.c", "int g(void) {\n}\n")
     (place.folder / "closed").chmod(0o700)
     place.folder.chmod(0o777)
-    place.put("old", "old\n")
+    place.put("old", OLD)
     (place.folder / "old").chmod(0o666)
     nobody = ["setpriv", "--reuid=65534", "--regid=65534", "--clear-groups", "env", f"CBROWSE={place.cbrowse}", "sh", str(TREE)]
     done = subprocess.run([*nobody, "-f", "old", "closed"], cwd=place.folder, stderr=subprocess.PIPE)
-    check("a folder that cannot be read", done.returncode == 1 and (place.folder / "old").read_text() == "old\n", done.stderr)
+    check("a folder that cannot be read", done.returncode == 1 and (place.folder / "old").read_text() == OLD, done.stderr)
     (place.folder / "old").chmod(0o444)
     done = subprocess.run([*nobody, "-f", "old", "few"], cwd=place.folder, stderr=subprocess.PIPE)
-    check("a tags file that may not be written", done.returncode == 1 and (place.folder / "old").read_text() == "old\n", done.stderr)
+    check("a tags file that may not be written", done.returncode == 1 and (place.folder / "old").read_text() == OLD, done.stderr)
+
+
+def sources(place):
+    """A file that is no tags file is left alone, unless one says otherwise."""
+    source = "int f(void) {\n}\n"
+    place.put("victim/a.c", source)
+    status, _, said = place.run("-f", "victim/a.c", "victim")
+    check("a source as a tags file", status == 1 and (place.folder / "victim/a.c").read_text() == source and "--force" in said, said)
+    status, _, said = place.run("--force", "-f", "victim/a.c", "victim")
+    check("a source that is replaced", status == 0 and (place.folder / "victim/a.c").read_text().startswith("f\tvictim/a.c\t"), said)
+    place.put("victim/b.c", source)
+    place.put("victim.tags", "!_TAG_FILE_SORTED\t1\t//\n")
+    status, _, said = place.run("-f", "victim.tags", "victim")
+    check("a tags file of another program", status == 0 and "victim/b.c" in (place.folder / "victim.tags").read_text(), said)
 
 
 def stays(place, what, *words, **more):
     """The old tags file stays, nothing else is left, and the status is 1."""
-    place.put("old", "old\n")
+    place.put("old", OLD)
     before = sorted(os.listdir(place.folder))
     status, _, said = place.run("-f", "old", *words, **more)
     rest = sorted(os.listdir(place.folder))
-    check(what, status == 1 and (place.folder / "old").read_text() == "old\n" and rest == before and said != "", (status, said))
+    check(what, status == 1 and (place.folder / "old").read_text() == OLD and rest == before and said != "", (status, said))
     return said
 
 
@@ -155,14 +173,14 @@ def failures(place):
             print("       a full folder is not tried: nothing can be mounted here")
             return
         try:
-            place.put("old", "old\n")
+            place.put("old", OLD)
             status, _, said = place.run("-j", "1", "-f", "old", "many/d0", TMPDIR=small)
             held = (place.folder / "old").read_text()
             if status == 0:
                 check(f"a temporary folder of {blocks * 4} kB is enough", held == place.one(
                     sorted(str(path.relative_to(place.folder)) for path in (place.folder / "many/d0").iterdir())).decode(), said)
                 return
-            if held != "old\n" or said == "":
+            if held != OLD or said == "":
                 check(f"a temporary folder of {blocks * 4} kB", False, (status, said, held[:80]))
         finally:
             subprocess.run(["umount", small], check=True)
@@ -180,6 +198,7 @@ def main():
         whole(place)
         odd_names(place)
         ends(place)
+        sources(place)
         failures(place)
     print(f"{failed} failed")
     sys.exit(failed > 0)
