@@ -2,6 +2,8 @@
 """The gate: what every change has to pass. `make test` runs it.
 
 1. `rt ci` proves each crate from nothing, tries the wrong bodies, and runs the tests and programs.
+   It has as many tasks as cores, or as RT_JOBS says: left to itself it believes that a proof of a
+   large crate takes 10 GB, where it takes 3, and lets the wrong bodies wait for it.
 2. The program that it built is run on words, files and failing devices (whole-program.py).
 3. Each growth of memory is refused to it in turn (each-growth-refused.py).
 
@@ -11,6 +13,7 @@ At the end it says how long each step took, and how many checks passed and faile
 
 from __future__ import annotations
 
+import os
 import pathlib
 import re
 import subprocess
@@ -24,13 +27,22 @@ STEPS = (
     ("the whole program", ["scripts/whole-program.py", str(PROGRAM)]),
     ("each growth refused", ["scripts/each-growth-refused.py", str(PROGRAM)]),
 )
+BYTES_OF_A_TASK = 4_500_000_000
 COUNTS = re.compile(r"(\d+) passed, (\d+) failed")
+
+
+def tasks() -> int:
+    """As many as there are cores, or fewer where memory is short."""
+    lines = pathlib.Path("/proc/meminfo").read_text().splitlines()
+    free = next((1024 * int(it.split()[1]) for it in lines if it.startswith("MemAvailable")), 0)
+    return max(1, min(len(os.sched_getaffinity(0)), free // BYTES_OF_A_TASK))
 
 
 def step(words: list[str]) -> tuple[int, int, float]:
     """Runs a step and shows what it writes: how many passed and failed, and its seconds."""
     began, counts = time.monotonic(), None
-    run = subprocess.Popen(words, cwd=TOP, stdout=subprocess.PIPE, stderr=subprocess.STDOUT, text=True, errors="replace")
+    how = {"cwd": TOP, "env": {"RT_JOBS": str(tasks()), **os.environ}}
+    run = subprocess.Popen(words, stdout=subprocess.PIPE, stderr=subprocess.STDOUT, text=True, errors="replace", **how)
     for line in run.stdout:
         print(line, end="", flush=True)
         counts = COUNTS.search(line) or counts
