@@ -3,7 +3,7 @@ use Rattle.std.specs.List.{flat_map}
 use Rattle.cb_index.specs.Rows.{file_uses_of}
 use Rattle.cb_index.specs.Shelved.{files}
 use Rattle.cb_index.specs.steps.Left.{spots_left}
-use Rattle.cb_index.specs.declared.rows.FactSort.TheVariants.{Uses}
+use Rattle.cb_index.specs.declared.kind.FactKind.TheVariants.{Uses}
 use Rattle.cb_desk.specs.Answer.{distinct, field_rows}
 use Rattle.cb_desk.specs.declared.rows.Field.{Field}
 use Rattle.cb_desk.specs.steps.Lent.{row_around}

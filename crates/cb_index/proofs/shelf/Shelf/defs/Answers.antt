@@ -15,7 +15,7 @@ pub returns : goal.returns
 returns c =
     let s = c.self.inside in
     let kept = c.self.invariant.0 in
-    let none = ap (λ (v : Shelved). v.waiting.defs) c.self.view_is ∙ c.requires in
+    let none = ap (λ (v : Shelved). v.pending.defs) c.self.view_is ∙ c.requires in
     let held = covers_read def_key defs_listed s.archive s.shown.items s.defs none kept.defs in
     ap (map (tag_at s.archive)) c.with_key.ensures
     ∙ rows_named s.archive s.shown.items kept.there kept.ascending s.defs.held c.args.name.now held
