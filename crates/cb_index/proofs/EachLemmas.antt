@@ -1,8 +1,13 @@
 -- Indexes that become others, one after another.
-use Rattle.std.proofs.Common.{◌≡◌, ◌≤◌, ◌<◌, ℕ, zero, suc, List, [], ◌∷◌, refl, sym, ap, subst, length, map, slice_index_or, slice_set, arith}
+use Rattle.std.proofs.Common.{◌≡◌, ◌∙◌, ◌≤◌, ◌<◌, ℕ, zero, suc, List, [], ◌∷◌, refl, sym, ap, subst, length, map, slice_index_or, slice_set, arith}
+use Rattle.std.proofs.lemmas.List.{length-map}
 use Rattle.std.specs.List.{AllByRecursion}
 use Rattle.cb_index.specs.Held.{Indexed}
+use Rattle.cb_index.specs.Kinds.{all_kinds}
+use Rattle.cb_index.specs.Shelved.{kind_place}
+use Rattle.cb_index.specs.declared.kind.FactKind.TheVariants.{Uses, Callees, Callers}
 use Rattle.cb_index.specs.declared.kind.IndexKind.{IndexKind}
+use Rattle.cb_index.specs.declared.kind.IndexKind.TheVariants.{DefsByName, DefsByTagName, Facts}
 use Rattle.cb_index.specs.steps.Moves.{Become}
 
 abbrev pub kinds_of : List Indexed → List IndexKind
@@ -109,3 +114,32 @@ pub kinds_set : (xs : List Indexed) (i : ℕ) (y d : Indexed) → i < length xs 
 kinds_set [] i y d below same = absurd (omega (arith, below))
 kinds_set (x ∷ xs) zero y d below same = λ i. same i ∷ kinds_of xs
 kinds_set (x ∷ xs) (suc n) y d below same = λ i. x.kind ∷ kinds_set xs n y d (omega (arith, below)) same i
+
+-- ---- the index of a kind
+map_at : (xs : List Indexed) (n : ℕ) (d : Indexed) → (slice_index_or xs n d).kind ≡ slice_index_or (kinds_of xs) n d.kind
+map_at [] n d = refl
+map_at (x ∷ xs) zero d = refl
+map_at (x ∷ xs) (suc n) d = map_at xs n d
+
+in_place : (kind other : IndexKind) → slice_index_or all_kinds (kind_place kind) other ≡ kind
+in_place DefsByName other = refl
+in_place DefsByTagName other = refl
+in_place (Facts Uses) other = refl
+in_place (Facts Callees) other = refl
+in_place (Facts Callers) other = refl
+
+pub kind_at : (kind : IndexKind) (xs : List Indexed) (d : Indexed) → kinds_of xs ≡ all_kinds → (slice_index_or xs (kind_place kind) d).kind ≡ kind
+kind_at kind xs d kinds = map_at xs (kind_place kind) d ∙ ap (λ l. slice_index_or l (kind_place kind) d.kind) kinds ∙ in_place kind d.kind
+
+five : (kind : IndexKind) → kind_place kind < 5
+five DefsByName = omega arith
+five DefsByTagName = omega arith
+five (Facts Uses) = omega arith
+five (Facts Callees) = omega arith
+five (Facts Callers) = omega arith
+
+pub place_below : (kind : IndexKind) (xs : List Indexed) → kinds_of xs ≡ all_kinds → kind_place kind < length xs
+place_below kind xs kinds =
+    let same = length-map xs (λ (x : Indexed). x.kind) in
+    let count = ap length kinds in
+    omega (arith, five kind, same, count)

@@ -1,8 +1,8 @@
 -- What a shelf keeps while versions come and go.
 use Rattle.std.proofs.Common.{◌≡◌, ◌∙◌, ◌≤◌, ◌<◌, ◌+◌, ℕ, suc, Bool, true, false, List, [], ◌∷◌, ◌++◌, Some, refl, sym, ap, subst, length, take, drop, drop-cons, drop_of_length-le, filter, get_or, arith}
 use Rattle.std.proofs.lemmas.List.{length-append}
-use Rattle.std.proofs.Math.Nat.{le_trans, min-le_left, min-le_right}
-use Rattle.std.specs.Prelude.{cond, min, nat_eq, not, slice_get, ◌||◌}
+use Rattle.std.proofs.Math.Nat.{le_trans, le-max_left}
+use Rattle.std.specs.Prelude.{cond, nat_eq, not, slice_get, slice_index_or, slice_set, ◌||◌}
 use Rattle.std.specs.Cmp.Lexicographic.{slice_cmp}
 use Rattle.std.specs.List.{AllByRecursion, list_any}
 use Rattle.std.specs.Ordering.{nat_cmp}
@@ -18,7 +18,7 @@ use Rattle.cb_index.specs.Entries.{Keyer, sort_key}
 use Rattle.cb_index.specs.Held.{Indexed, Lister, all_entries}
 use Rattle.cb_index.specs.Names.{is_among, names_of}
 use Rattle.cb_index.specs.Orders.{def_key, defs_listed, tag_key, tags_listed}
-use Rattle.cb_index.specs.Shelved.{AreKept, AreTotals, AreWithin, CanShow, Covers, HasRoom, IsIndex, IsIndexOf, IsPrompt, KeepsRoom, Shelved, room_for, total_for}
+use Rattle.cb_index.specs.Shelved.{AreKept, AreTotals, AreWithin, CanShow, Covers, HasRoom, IsIndex, IsIndexOf, IsPrompt, KeepsRoom, Shelved, larger_room, room_for, total_for}
 use Rattle.cb_index.specs.steps.Moves.{Become, CanTakeIn, IsTaken, LetsGo, LetsGoAll, StaysItself, StaysSame, TakesIn}
 use Rattle.cb_index.specs.declared.entry.Entry.{Entry}
 use Rattle.cb_index.specs.declared.entry.Shown.{Shown}
@@ -29,7 +29,7 @@ use Rattle.cb_index.specs.declared.room.Room.{Room}
 use Rattle.cb_index.specs.declared.totals.Totals.{Totals}
 use Rattle.cb_index.proofs.AscendLemmas.{ascending_filter}
 use Rattle.cb_index.proofs.CoverLemmas.{covers_as, covers_fits, covers_hidden, covers_length, covers_more, covers_none, covers_read, covers_same, covers_settled}
-use Rattle.cb_index.proofs.EachLemmas.{become_all, become_kinds, kinds_of}
+use Rattle.cb_index.proofs.EachLemmas.{all_at, all_set, become_all, become_kinds, kinds_of, kinds_set}
 use Rattle.cb_index.proofs.FewerLemmas.{fewer_of}
 use Rattle.cb_index.proofs.FrontLemmas.{get_or_front, get_or_left, length_front, slice_get_front, slice_get_left}
 use Rattle.cb_index.proofs.InOrderLemmas.{all_filter}
@@ -213,6 +213,10 @@ module _ (a : Archived) (shown then : List Shown) (xs ys : List Indexed) where
       (subst (AllByRecursion (IsThere a)) (sym left) (all_filter other (IsThere a) shown kept.there))
       (subst (AreAscending a) (sym left) (ascending_filter a other shown kept.ascending)) kept
 
+-- the same list
+pub kept_list : (a : Archived) (shown then : List Shown) (xs : List Indexed) → then ≡ shown → AreKept a shown xs → AreKept a then xs
+kept_list a shown then xs same kept = subst (λ l. AreKept a l xs) (sym same) kept
+
 -- ---- versions are shown
 module _ (a : Archived) (shown news : List Shown) (apart : AreApart a news) (none : list_any (is_shown a shown) news ≡ false)
     (up : AreAscending a shown) where
@@ -313,6 +317,21 @@ stays_same x = record {
   pending = refl;
 }
 
+-- a greater room
+pub record IsLarger (r s : Room) : Type 0 where
+  pub entries : s.entries ≤ r.entries
+  pub defs : s.defs ≤ r.defs
+  pub uses : s.uses ≤ r.uses
+  pub calls : s.calls ≤ r.calls
+
+pub larger_fits : (r s t : Room) → r ≡ larger_room s t → IsLarger r s
+larger_fits r s t is = subst (λ q. IsLarger q s) (sym is) (record {
+  entries = le-max_left s.entries t.entries;
+  defs = le-max_left s.defs t.defs;
+  uses = le-max_left s.uses t.uses;
+  calls = le-max_left s.calls t.calls;
+})
+
 abbrev pub no_room : Room
 no_room = record { versions = 0; names = 0; entries = 0; defs = 0; uses = 0; calls = 0 }
 
@@ -328,14 +347,45 @@ has_none [] = tt
 has_none (x ∷ xs) = ((omega (arith, none_wanted x.kind), omega arith), has_none xs)
 
 -- the room stays
+room_stays : (room : Room) (x y : Indexed) → StaysItself x y → HasRoom room x → HasRoom room y
+room_stays room x y way has = (
+  le_trans (subst (λ k. room_for k room ≤ x.room) (sym way.kind) has.0) way.room,
+  le_trans has.1 way.version_room,
+)
+
 pub rooms_stay : (way : Indexed → Indexed → Type 0) → ((x y : Indexed) → way x y → StaysItself x y) → (room : Room)
     → (xs ys : List Indexed) → Become way xs ys → AllByRecursion (HasRoom room) xs → AllByRecursion (HasRoom room) ys
 rooms_stay way itself room =
-    become_all way (HasRoom room) (HasRoom room)
-    (λ x y w has. (
-      le_trans (subst (λ k. room_for k room ≤ x.room) (sym (itself x y w).kind) has.0) (itself x y w).room,
-      le_trans has.1 (itself x y w).version_room,
-    ))
+    become_all way (HasRoom room) (HasRoom room) (λ x y w has. room_stays room x y (itself x y w) has)
+
+-- ---- what is pending in one index is put in order
+module _ (a : Archived) (shown : List Shown) (xs : List Indexed) (n : ℕ) (y d : Indexed) (below : n < length xs)
+    (itself : StaysItself (slice_index_or xs n d) y) where
+  abbrev x : Indexed
+  x = slice_index_or xs n d
+
+  pub kept_flushed : y.held ≡ in_order (sort_key (keyer_of x.kind) a) (x.held ++ all_entries (lister_of x.kind) a x.pending) → y.pending ≡ []
+      → AreKept a shown xs → AreKept a shown (slice_set xs n y)
+  kept_flushed held none kept =
+      let is : IsIndex a shown x = all_at (IsIndex a shown) xs n d below kept.each in
+      record {
+        there = kept.there;
+        ascending = kept.ascending;
+        kinds = kinds_set xs n y d below itself.kind ∙ kept.kinds;
+        each = all_set (IsIndex a shown) xs n y
+            (of_its_kind a shown x y itself.kind (covers_settled (keyer_of x.kind) (lister_of x.kind) a shown x y held none is.0, prompt_none x.kind y.pending none))
+            kept.each;
+      }
+
+  pub within_flushed : (capacity : ℕ) (t : Totals) (room : Room) → AreWithin shown capacity t room xs → AreWithin shown capacity t room (slice_set xs n y)
+  within_flushed capacity t room is = record {
+    entries = is.entries;
+    defs = is.defs;
+    uses = is.uses;
+    calls = is.calls;
+    listed = is.listed;
+    each = all_set (HasRoom room) xs n y (room_stays room x y itself (all_at (HasRoom room) xs n d below is.each)) is.each;
+  }
 
 -- ---- filters by one number after another
 module _ (name : ℕ) (names : List ℕ) where

@@ -89,7 +89,11 @@ module _ (sort : FactKind) (text key : List ℕ) where
                     ap (has sort text key) same ∙ isnt
 
     pub searched_new : map fact (filter (gives false sort text) (items_with sort text key)) ≡ unlike sort (map fact (items_with sort text key))
-    searched_new = new_from (item_count sort text) 0 refl (λ before low. absurd (omega (arith, low)))
+    searched_new =
+        let all : item_count sort text - 0 ≡ item_count sort text = omega arith in
+        subst (λ n. map fact (filter (gives false sort text) (filter (has sort text key) (range_with_len 0 n)))
+        ≡ unlike sort (map fact (filter (has sort text key) (range_with_len 0 n)))) all
+        (new_from (item_count sort text) 0 (omega arith) (λ before low. absurd (omega (arith, low))))
 
   -- as many as the first item and those behind it have
   pub searched_rows : (file : List ℕ) (item : ℕ) → is_first sort text item ≡ true → items_with sort text key ≡ items_from sort text item

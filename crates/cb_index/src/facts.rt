@@ -42,33 +42,33 @@ pub(crate) struct Group<'a> {
 
 /// Where the groups of a key are found.
 #[derive(Clone, Copy)]
-pub(crate) enum Groups<'a> {
+pub(crate) enum Groups<'a, 'p> {
     /// In the entries of an index.
     Held(Run<'a>),
     /// By a search for the key in each of these files.
-    Searched(&'a [u8], &'a [Shown]),
+    Searched(&'p [u8], &'a [Shown]),
 }
 
 /// The facts of a key that are still to come: those of the group, and then those of the others.
 #[derive(Clone, Copy)]
-pub(crate) struct Walk<'a> {
+pub(crate) struct Walk<'a, 'p> {
     sort: FactKind,
     archive: &'a Archive,
-    groups: Groups<'a>,
+    groups: Groups<'a, 'p>,
     group: Option<Group<'a>>,
 }
 
 /// Uses or calls that are no repeats, without their lines: of those of one key with equal rows the
 /// first. They take no memory.
 #[derive(Clone, Copy)]
-pub struct FactSpots<'a> {
-    walk: Walk<'a>,
+pub struct FactSpots<'a, 'p> {
+    walk: Walk<'a, 'p>,
 }
 
 /// Uses or calls, each with its line. They take no memory.
 #[derive(Clone, Copy)]
-pub struct FactRows<'a> {
-    walk: Walk<'a>,
+pub struct FactRows<'a, 'p> {
+    walk: Walk<'a, 'p>,
 }
 
 /// The facts of an entry, if its version is there.
@@ -125,17 +125,17 @@ fn search_group<'a>(
 
 /// A group, which may be none, and those after it.
 #[derive(Clone, Copy)]
-pub(crate) struct GroupStep<'a> {
+pub(crate) struct GroupStep<'a, 'p> {
     group: Option<Group<'a>>,
-    rest: Groups<'a>,
+    rest: Groups<'a, 'p>,
 }
 
 /// The first of some groups.
-fn next_group<'a>(
+fn next_group<'a, 'p>(
     sort: FactKind,
     archive: &'a Archive,
-    groups: Groups<'a>,
-) -> Option<GroupStep<'a>>
+    groups: Groups<'a, 'p>,
+) -> Option<GroupStep<'a, 'p>>
     ensures given { (all : Bool) → MatchOption result (groups_left all sort archive.now groups.entry ≡ [])
         (λ r. groups_left all sort archive.now groups.entry
         ≡ group_left_if all r.group ++ groups_left all sort archive.now r.rest) }
@@ -161,19 +161,19 @@ fn next_group<'a>(
 
 /// A fact, what is left of its group, and the groups after that.
 #[derive(Clone, Copy)]
-struct Step<'a> {
+struct Step<'a, 'p> {
     spot: FactSpot<'a>,
     group: Group<'a>,
-    groups: Groups<'a>,
+    groups: Groups<'a, 'p>,
 }
 
 /// The first fact of some groups that is given.
-fn first_spot<'a>(
+fn first_spot<'a, 'p>(
     sort: FactKind,
     archive: &'a Archive,
-    groups: Groups<'a>,
+    groups: Groups<'a, 'p>,
     all: bool,
-) -> Option<Step<'a>>
+) -> Option<Step<'a, 'p>>
     ensures { MatchOption result (groups_left all sort archive.now groups.entry ≡ [])
         (λ r. groups_left all sort archive.now groups.entry
         ≡ fact_of_spot r.spot
@@ -196,7 +196,7 @@ fn first_spot<'a>(
 }
 
 /// The next fact that is given.
-fn next_spot<'a>(walk: &mut Walk<'a>, all: bool) -> Option<FactSpot<'a>>
+fn next_spot<'a, 'p>(walk: &mut Walk<'a, 'p>, all: bool) -> Option<FactSpot<'a>>
     ensures { YieldsFirstBy fact_of_spot (walk_left all) walk.old result walk.new }
 {
     if let Some(group) = &mut walk.group {
@@ -211,9 +211,9 @@ fn next_spot<'a>(walk: &mut Walk<'a>, all: bool) -> Option<FactSpot<'a>>
     Some(found.spot)
 }
 
-impl<'a> FactRows<'a> {
+impl<'a, 'p> FactRows<'a, 'p> {
     /// The facts of entries.
-    pub(crate) fn held(sort: FactKind, archive: &'a Archive, entries: Run<'a>) -> FactRows<'a>
+    pub(crate) fn held(sort: FactKind, archive: &'a Archive, entries: Run<'a>) -> FactRows<'a, 'p>
         ensures rows { facts_left result ≡ facts_in sort archive.now (run_entries entries.entry) }
         ensures new { facts_new result
             ≡ given_in false sort archive.now (run_entries entries.entry) }
@@ -234,9 +234,9 @@ impl<'a> FactRows<'a> {
     pub(crate) fn searched(
         sort: FactKind,
         archive: &'a Archive,
-        key: &'a [u8],
+        key: &'p [u8],
         shown: &'a [Shown],
-    ) -> FactRows<'a>
+    ) -> FactRows<'a, 'p>
         ensures rows { facts_left result
             ≡ flat_map (searched_at true sort archive.now key.now) shown.now }
         ensures new { facts_new result
@@ -255,7 +255,7 @@ impl<'a> FactRows<'a> {
     }
 
     /// Those that are no repeats, without their lines.
-    pub fn spots(self) -> FactSpots<'a>
+    pub fn spots(self) -> FactSpots<'a, 'p>
         ensures rows { spots_left result ≡ facts_new self.entry }
         ensures counted { rows_counted result ≡ facts_counted self.entry }
     {
@@ -300,7 +300,7 @@ fn count_searched(sort: FactKind, archive: &Archive, key: &[u8], shown: &[Shown]
     count
 }
 
-impl<'a> FactSpots<'a> {
+impl<'a, 'p> FactSpots<'a, 'p> {
     /// How many they are. It asks the groups alone, so it is for an iterator that has given nothing
     /// yet.
     pub fn row_count(&self) -> u128
@@ -315,7 +315,7 @@ impl<'a> FactSpots<'a> {
     }
 }
 
-impl<'a> Iterator for FactSpots<'a> {
+impl<'a, 'p> Iterator for FactSpots<'a, 'p> {
     type Item = FactSpot<'a>;
 
     ghost next_gives = { YieldsFirstBy fact_of_spot spots_left };
@@ -327,7 +327,7 @@ impl<'a> Iterator for FactSpots<'a> {
     }
 }
 
-impl<'a> Iterator for FactRows<'a> {
+impl<'a, 'p> Iterator for FactRows<'a, 'p> {
     type Item = FactRow<'a>;
 
     ghost next_gives = { YieldsFirstBy fact_of facts_left };

@@ -9,9 +9,9 @@ ghost use Rattle.cb_index.specs.Kinds.{keyer_of};
 ghost use Rattle.cb_index.specs.RowOrders.{
   def_rank,
   def_start,
-  item_start,
   rank_for,
   row_key,
+  row_numbers,
   row_order,
   start_for,
   start_of,

@@ -277,9 +277,7 @@ impl Shelf {
     /// Whether versions, whose file names ascend, can be shown together: they are there, no file of
     /// one of their names is shown, and there is room for all.
     pub fn can_show(&self, news: &[Shown]) -> bool
-        ensures can { result ≡ true → CanShow self.now news.now }
-        ensures cannot { AreAscending self.now.archive news.now → CanShow self.now news.now
-            → result ≡ true }
+        ensures { result ≡ true → CanShow self.now news.now }
     {
         if !are_there(&self.archive, news) || !ascend(&self.archive, news) {
             return false;
@@ -442,7 +440,7 @@ impl Shelf {
 
     /// The uses or calls of a kind that have a key, by file and place. They are looked up in the
     /// index, or searched in the files where some are pending.
-    pub fn facts<'a>(&'a self, kind: FactKind, key: &'a [u8]) -> FactRows<'a>
+    pub fn facts<'a, 'p>(&'a self, kind: FactKind, key: &'p [u8]) -> FactRows<'a, 'p>
         ensures rows { facts_left result ≡ facts_named kind key.now (files self.now) }
         ensures new { facts_new result ≡ unlike_in_files kind (file_facts kind key.now)
             (files self.now) }
@@ -451,28 +449,27 @@ impl Shelf {
     {
         let index = self.index(IndexKind::Facts(kind));
         if index.is_flushed() {
-            FactRows::held(kind, &self.archive, index.with_key(&self.archive, key))
-        } else {
-            FactRows::searched(kind, &self.archive, key, self.shown.as_slice())
+            return FactRows::held(kind, &self.archive, index.with_key(&self.archive, key));
         }
+        FactRows::searched(kind, &self.archive, key, self.shown.as_slice())
     }
 
     /// The uses of a name, by file and place.
-    pub fn uses<'a>(&'a self, name: &'a [u8]) -> FactRows<'a>
+    pub fn uses<'a, 'p>(&'a self, name: &'p [u8]) -> FactRows<'a, 'p>
         ensures { facts_left result ≡ uses_of name.now (files self.now) }
     {
         self.facts(FactKind::Uses, name)
     }
 
     /// The calls of a name, by file and place.
-    pub fn calling<'a>(&'a self, name: &'a [u8]) -> FactRows<'a>
+    pub fn calling<'a, 'p>(&'a self, name: &'p [u8]) -> FactRows<'a, 'p>
         ensures { facts_left result ≡ calls_of name.now (files self.now) }
     {
         self.facts(FactKind::Callees, name)
     }
 
     /// The calls that stand in what has that name, by file and place.
-    pub fn called_by<'a>(&'a self, name: &'a [u8]) -> FactRows<'a>
+    pub fn called_by<'a, 'p>(&'a self, name: &'p [u8]) -> FactRows<'a, 'p>
         ensures { facts_left result ≡ calls_in name.now (files self.now) }
     {
         self.facts(FactKind::Callers, name)

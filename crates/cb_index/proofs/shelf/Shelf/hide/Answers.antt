@@ -1,7 +1,9 @@
-use Rattle.std.proofs.Common.{◌≡◌, ◌∙◌, sym, ap, subst, filter, length, vec_capacity, arith}
-use Rattle.std.proofs.lemmas.List.Filters.{length-filter}
+use Rattle.std.proofs.Common.{◌≡◌, ◌∙◌, Bool, nat_eq, sym, ap, subst, filter, length, arith}
+use Rattle.std.proofs.lemmas.List.Sums.{length-filter}
+use Rattle.std.specs.Prelude.{not}
 use Rattle.cb_index.specs.Files.{call_count, def_count, use_count}
 use Rattle.cb_index.specs.Shelved.{AreKept, AreTotals, AreWithin, Shelved}
+use Rattle.cb_index.specs.declared.entry.Shown.{Shown}
 use Rattle.cb_index.specs.steps.Moves.{LetsGo}
 use Rattle.cb_index.proofs.CoverLemmas.{under_itself, under_named}
 use Rattle.cb_index.proofs.IndexLemmas.{is_other, none_under}
@@ -39,7 +41,8 @@ invariant_of-self-2 c =
     let left = c.take_under.ensures.items in
     let less = c.without-self-inside.ensures in
     let within = c.self.invariant.2 in
-    let fewer = length-filter (is_other a c.args.name) shown in
+    let other : Shown → Bool = λ s. not (nat_eq s.name c.args.name) in
+    let fewer = length-filter other shown in
     let count = ap length left in (
       kept_taken a shown c.take_under.new.shown.items x.indexes c.take_from_each.new.indexes c.args.name c.in-Some.one left named itself
           c.take_from_each.ensures c.self.invariant.0,
@@ -70,9 +73,13 @@ invariant_of-self c =
     let within = c.self.invariant.2 in (
       subst (λ l. AreKept x.archive l x.indexes) (sym same) c.self.invariant.0,
       subst (λ l. AreTotals x.archive l x.totals) (sym same) c.self.invariant.1,
-      record within {
+      record {
         entries = let count = ap length same in omega (arith, within.entries, count);
+        defs = within.defs;
+        uses = within.uses;
+        calls = within.calls;
         listed = omega (arith, within.listed, c.take_under.ensures.room);
+        each = within.each;
       },
     )
 

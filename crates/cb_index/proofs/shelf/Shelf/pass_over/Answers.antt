@@ -1,6 +1,6 @@
 use Rattle.std.proofs.Common.{rules, ◌∙◌, Bool, ap, filter, length, arith}
 use Rattle.std.proofs.lemmas.Fn.{filter_same}
-use Rattle.std.proofs.lemmas.List.Filters.{length-filter}
+use Rattle.std.proofs.lemmas.List.Sums.{length-filter}
 use Rattle.std.specs.Prelude.{not}
 use Rattle.cb_index.specs.Files.{call_count, def_count, total, use_count}
 use Rattle.cb_index.specs.Names.{is_among, names_of}
