@@ -1,6 +1,6 @@
 //! The files of the program: operands that are read, and a tags file that is written.
 ghost use Rattle.std.specs.Prelude.{◌≡◌, [], IfOk, IfErr, IfSome, MatchResult, map, string_bytes, take};
-ghost use Rattle.cbrowse.specs.Program.{EndsIntoFile, StopsReading, most_read, names_of};
+ghost use Rattle.cbrowse.specs.Program.{MakesNone, StopsReading, most_read, names_of};
 
 use crate::execute::finish::Finish;
 use cb_session::{Ended, Fault, Operand, Operands};
@@ -104,13 +104,16 @@ impl<F: Write + Drop> Write for LateFile<F> {
     }
 }
 
+/// A tags file that was made.
+pub(crate) type TagsFile<F> = BufWriter<LateFile<F>>;
+
 /// Makes or empties a tags file. Where memory is refused, the old one stays as it was.
 pub(crate) fn make_file<R: Files + AllocGlobal>(
     rt: &R,
     folder: &str,
     name: &str,
-) -> Result<BufWriter<LateFile<R::File>>, Finish>
-    ensures { IfErr result EndsIntoFile }
+) -> Result<TagsFile<R::File>, Finish>
+    ensures { IfErr result MakesNone }
 {
     match open_new(rt, folder, name) {
         Ok(writer) => Ok(writer),
@@ -123,7 +126,7 @@ fn open_new<R: Files + AllocGlobal>(
     rt: &R,
     folder: &str,
     name: &str,
-) -> io::Result<BufWriter<LateFile<R::File>>> {
+) -> io::Result<TagsFile<R::File>> {
     let path = path_of(rt.alloc(), folder, name)?;
     let mut writer = BufWriter::new(rt.alloc(), LateFile { file: None })?;
     writer.get_mut().file = Some(fs::create(rt, path.as_str())?);

@@ -1,5 +1,5 @@
-use Rattle.std.proofs.Common.{◌≡◌, ◌∙◌, Bool, nat_eq, sym, ap, subst, filter, length, arith}
-use Rattle.std.proofs.lemmas.List.Sums.{length-filter}
+use Rattle.std.proofs.Common.{◌≡◌, ◌∙◌, Bool, nat_eq, refl, sym, ap, subst, filter, length, arith}
+use Rattle.std.proofs.lemmas.List.Filters.{length-filter_both}
 use Rattle.std.specs.Prelude.{not}
 use Rattle.cb_index.specs.Files.{call_count, def_count, use_count}
 use Rattle.cb_index.specs.Shelved.{AreKept, AreTotals, AreWithin, Shelved}
@@ -42,7 +42,7 @@ invariant_of-self-2 c =
     let less = c.without-self-inside.ensures in
     let within = c.self.invariant.2 in
     let other : Shown → Bool = λ s. not (nat_eq s.name c.args.name) in
-    let fewer = length-filter other shown in
+    let fewer = length-filter_both other (λ s. not (other s)) (λ s. refl) shown in
     let count = ap length left in (
       kept_taken a shown c.take_under.new.shown.items x.indexes c.take_from_each.new.indexes c.args.name c.in-Some.one left named itself
           c.take_from_each.ensures c.self.invariant.0,
