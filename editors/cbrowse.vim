@@ -167,11 +167,11 @@ function! s:question(digit, pattern) abort
     call s:drop(name)
   endfor
   let [reply, rows] = s:ask(a:digit .. a:pattern)
-  let count = len(rows)
+  let number = len(rows)
   let entries = map(rows[: s:most_rows - 1], {_, row -> s:entry(row)})
   call setqflist([], ' ', {'title': 'cbrowse ' .. a:digit .. a:pattern, 'items': entries})
-  if count > s:most_rows
-    call s:warn(printf('the first %d of %d rows are listed', s:most_rows, count))
+  if number > s:most_rows
+    call s:warn(printf('the first %d of %d rows are listed', s:most_rows, number))
   endif
   if empty(entries)
     call s:warn(reply =~# '^refused' ? substitute(reply, '^refused: ', '', '') : 'nothing is found')
