@@ -7,8 +7,8 @@
 2. The program that it built is run on words, files and failing devices (whole-program.py).
 3. Each growth of memory is refused to it in turn (each-growth-refused.py).
 
-At the end it says how long each step took, and how many checks passed and failed; the exit status is
-1 where one failed.
+At the end it says how long each step took, and how many checks passed and failed; the exit status
+is 1 where one failed.
 """
 
 from __future__ import annotations
@@ -42,7 +42,9 @@ def step(words: list[str]) -> tuple[int, int, float]:
     """Runs a step and shows what it writes: how many passed and failed, and its seconds."""
     began, counts = time.monotonic(), None
     how = {"cwd": TOP, "env": {"RT_JOBS": str(tasks()), **os.environ}}
-    run = subprocess.Popen(words, stdout=subprocess.PIPE, stderr=subprocess.STDOUT, text=True, errors="replace", **how)
+    run = subprocess.Popen(
+        words, stdout=subprocess.PIPE, stderr=subprocess.STDOUT, text=True, errors="replace", **how
+    )
     for line in run.stdout:
         print(line, end="", flush=True)
         counts = COUNTS.search(line) or counts
@@ -58,7 +60,9 @@ def main() -> int:
     for name, words in STEPS:
         good, bad, seconds = step(words)
         passed, failed = passed + good, failed + bad
-        told.append(f"{name}: {int(seconds) // 60}:{int(seconds) % 60:02} min, {good} passed, {bad} failed")
+        told.append(
+            f"{name}: {int(seconds) // 60}:{int(seconds) % 60:02} min, {good} passed, {bad} failed"
+        )
         if bad and words == STEPS[0][1]:
             # without a proved program there is nothing to run
             break

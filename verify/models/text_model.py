@@ -1,29 +1,40 @@
-"""Lines of texts and what is found in them: written from docs/PROFILE.md alone and not from the code.
+"""Lines of texts and what is found in them: written from docs/PROFILE.md alone.
 
-It goes its own way: one regular expression cuts a text into pieces, then each rule looks at whole lists of tokens. Any
-bytes are a text.
+It goes its own way: one regular expression cuts a text into pieces, then each rule looks at whole
+lists of tokens. Any bytes are a text.
 """
+
+from __future__ import annotations
 
 import bisect
 import functools
 import re
 from typing import NamedTuple, Optional
 
-RESERVED = frozenset(b"""
-    auto break case char const continue default do double else enum extern float for goto if inline int long register
-    restrict return short signed sizeof static struct switch typedef union unsigned void volatile while _Alignas _Alignof
-    _Atomic _Bool _Complex _Generic _Imaginary _Noreturn _Static_assert _Thread_local __attribute__ __declspec __asm__ asm
-    __extension__ defined""".split())
-PIECE = re.compile(rb"""
+RESERVED = frozenset(
+    b"""
+    auto break case char const continue default do double else enum extern float for goto if inline
+    int long register restrict return short signed sizeof static struct switch typedef union
+    unsigned void volatile while _Alignas _Alignof _Atomic _Bool _Complex _Generic _Imaginary
+    _Noreturn _Static_assert _Thread_local __attribute__ __declspec __asm__ asm __extension__
+    defined
+    """.split()
+)
+PIECE = re.compile(
+    rb"""
     (?P<word> [A-Za-z_][A-Za-z0-9_]* )
     | (?P<number> \.?[0-9] (?: [eEpP][+-] | [A-Za-z0-9_.] )* )
-    | (?P<literal> " (?: \\\r\n | \\. | [^"\\\n] )* (?: " | \\\Z )? | ' (?: \\\r\n | \\. | [^'\\\n] )* (?: ' | \\\Z )? )
+    | (?P<literal> " (?: \\\r\n | \\. | [^"\\\n] )* (?: " | \\\Z )?
+        | ' (?: \\\r\n | \\. | [^'\\\n] )* (?: ' | \\\Z )? )
     | (?P<comment> // (?: [^\n] | (?<=\\)\n | (?<=\\\r)\n )* | /\* .*? (?: \*/ | \Z ) )
     | (?P<blank> (?: [ \t\v\f\r] | \\\r?\n )+ )
     | (?P<end> \n )
-    | (?P<byte> . )""", re.VERBOSE | re.DOTALL)
+    | (?P<byte> . )""",
+    re.VERBOSE | re.DOTALL,
+)
 CLOSED = re.compile(rb'"((?:\\\r\n|\\.|[^"\\\n])*)"', re.DOTALL)
-KINDS = b"fdtsug"  # functions, macros, typedefs, structures, unions, enumerations: their order at one place
+# functions, macros, typedefs, structures, unions, enumerations: their order at one place
+KINDS = b"fdtsug"
 SHAPES = {b"struct": b"s", b"union": b"u", b"enum": b"g"}
 
 
@@ -37,8 +48,10 @@ def cut_lines(text):
 
 def replaced(text, old, new, numbers):
     """The text with `new` in place of `old` on the lines with these numbers."""
-    return b"".join((shown.replace(old, new) if number in numbers else shown) + end
-                    for number, (shown, end) in enumerate(cut_lines(text), 1))
+    return b"".join(
+        (shown.replace(old, new) if number in numbers else shown) + end
+        for number, (shown, end) in enumerate(cut_lines(text), 1)
+    )
 
 
 # ---- tokens
@@ -60,6 +73,7 @@ class Token(NamedTuple):
 
 class Line(NamedTuple):
     """A logical line: its tokens, and the place where it ends."""
+
     tokens: list
     end: int
 
@@ -85,11 +99,15 @@ def logical_lines(text):
 
 def called(tokens):
     """The index of each name that is directly followed by a parenthesis."""
-    return [index for index in range(len(tokens) - 1) if tokens[index + 1].text == b"(" and tokens[index].is_name]
+    return [
+        index
+        for index in range(len(tokens) - 1)
+        if tokens[index + 1].text == b"(" and tokens[index].is_name
+    ]
 
 
 class Code:
-    """The code of a text: its tokens, the depth before each and behind the last, and which of them are stops."""
+    """The code of a text: its tokens, the depth before each and after the last, and the stops."""
 
     def __init__(self, text, tokens):
         self.tokens, self.depths = tokens, [0]
@@ -100,15 +118,21 @@ class Code:
             if token.text == b"{" and not self.is_uncounted(index):
                 after += 1
             elif token.text == b"}":
-                first = token.place == 0 or text[token.place - 1:token.place] == b"\n"
+                first = token.place == 0 or text[token.place - 1 : token.place] == b"\n"
                 after = 0 if first else max(depth - 1, 0)
             self.depths.append(after)
-            if (token.text == b";" and depth == 0 or token.text == b"}" and after == 0
-                    or token.text == b"{" and self.is_uncounted(index)):
+            if (
+                token.text == b";"
+                and depth == 0
+                or token.text == b"}"
+                and after == 0
+                or token.text == b"{"
+                and self.is_uncounted(index)
+            ):
                 self.stops.append(index)
 
     def is_uncounted(self, index):
-        before = self.tokens[max(index - 2, 0):index]
+        before = self.tokens[max(index - 2, 0) : index]
         return len(before) == 2 and before[0].text == b"extern" and before[1].text[:1] == b'"'
 
     def follows_stop(self, index):
@@ -120,11 +144,14 @@ class Code:
 
     def opened(self):
         """The index of each counted brace at depth 0."""
-        return [index for index, token in enumerate(self.tokens)
-                if token.text == b"{" and self.depths[index] == 0 and not self.is_uncounted(index)]
+        return [
+            index
+            for index, token in enumerate(self.tokens)
+            if token.text == b"{" and self.depths[index] == 0 and not self.is_uncounted(index)
+        ]
 
     def first_after(self, index, text, depth):
-        """The first token of this text behind an index with depth 0 before it, or after it; else None."""
+        """The first token of this text after an index, at depth 0 before or after it, or None."""
         for later in range(index + 1, len(self.tokens)):
             if self.tokens[later].text == text and self.depths[later + depth] == 0:
                 return later
@@ -135,7 +162,8 @@ class Code:
 
 
 class Range(NamedTuple):
-    """A function or a macro with arguments: its name, the end of its range, and the tokens of its body."""
+    """A function or macro with arguments: its name, the end of its range, its body."""
+
     name: Token
     end: int
     body: list
@@ -144,17 +172,22 @@ class Range(NamedTuple):
 
 
 def segments_before(code, brace):
-    """What stands between neighbouring stops before a brace, the nearest first, up to a stop that is no semicolon."""
-    stops = code.stops[:bisect.bisect_left(code.stops, brace)]
+    """What stands between the stops before a brace, nearest first, down to one that is no `;`."""
+    stops = code.stops[: bisect.bisect_left(code.stops, brace)]
     while stops and code.tokens[stops[-1]].text == b";":
         end = stops.pop()
-        yield code.tokens[stops[-1] + 1 if stops else 0:end]
+        yield code.tokens[stops[-1] + 1 if stops else 0 : end]
 
 
 def head_name(head):
     """The name of the function with this head, if it is one."""
     texts = {token.text for token in head}
-    if not head or head[0].text == b"typedef" or b"=" in texts or not (head[-1].text == b")" or head[-1].is_name):
+    if (
+        not head
+        or head[0].text == b"typedef"
+        or b"=" in texts
+        or not (head[-1].text == b")" or head[-1].is_name)
+    ):
         return None
     names = called(head)
     return head[names[0]] if names else None
@@ -167,22 +200,34 @@ def opening_name(segment):
     names = called(segment)
     if not names:
         return None
-    shape = b"".join(b"n" if token.is_name else b"w" if token.is_word else token.text if len(token.text) == 1 else b"?"
-                     for token in segment[names[0] + 1:])
+    shape = b"".join(
+        b"n"
+        if token.is_name
+        else b"w"
+        if token.is_word
+        else token.text
+        if len(token.text) == 1
+        else b"?"
+        for token in segment[names[0] + 1 :]
+    )
     return segment[names[0]] if re.match(rb"\(n(?:,n)*\)[nw]", shape) else None
 
 
 def is_declaration(segment):
-    return (bool(segment) and segment[0].is_word and segment[0].text != b"typedef"
-            and b"=" not in {token.text for token in segment})
+    return (
+        bool(segment)
+        and segment[0].is_word
+        and segment[0].text != b"typedef"
+        and b"=" not in {token.text for token in segment}
+    )
 
 
 def head_before(code, brace):
-    """The tokens that make a brace the beginning of a body, and the name of the function; or two times None."""
-    stops = code.stops[:bisect.bisect_left(code.stops, brace)]
+    """The tokens that make a brace begin a body, and the name of the function; else None twice."""
+    stops = code.stops[: bisect.bisect_left(code.stops, brace)]
     last = stops[-1] if stops else -1
     if last < brace - 1:
-        head = code.tokens[last + 1:brace]
+        head = code.tokens[last + 1 : brace]
         return head, head_name(head)
     for segment in segments_before(code, brace):
         name = opening_name(segment)
@@ -200,7 +245,15 @@ def functions(code, size):
         if name is not None:
             last = code.first_after(brace, b"}", 1)
             end = size if last is None else code.tokens[last].end
-            found.append(Range(name, end, code.tokens[brace + 1:last], b"f", b"static" in {one.text for one in head}))
+            found.append(
+                Range(
+                    name,
+                    end,
+                    code.tokens[brace + 1 : last],
+                    b"f",
+                    b"static" in {one.text for one in head},
+                )
+            )
     return found
 
 
@@ -211,8 +264,10 @@ def macros(directives):
         tokens = line.tokens
         if line.own_word == b"define" and len(tokens) > 2 and tokens[2].is_name:
             if len(tokens) > 3 and tokens[3].text == b"(" and tokens[3].place == tokens[2].end:
-                closing = [index for index, token in enumerate(tokens) if index > 3 and token.text == b")"]
-                body = tokens[closing[0] + 1:] if closing else []
+                closing = [
+                    index for index, token in enumerate(tokens) if index > 3 and token.text == b")"
+                ]
+                body = tokens[closing[0] + 1 :] if closing else []
                 with_arguments.append(Range(tokens[2], line.end, body, b"d", False))
             else:
                 without.append(tokens[2])
@@ -220,8 +275,11 @@ def macros(directives):
 
 
 def part_name(part):
-    """The name that a part of a typedef defines, if it does; with each token whether it is outside parentheses."""
-    shape = b"".join(token.text if token.text in (b"(", b"*") else b"n" if token.is_name else b"?" for token, _ in part)
+    """The name that a part of a typedef defines, if any; each token is or isn't in parentheses."""
+    shape = b"".join(
+        token.text if token.text in (b"(", b"*") else b"n" if token.is_name else b"?"
+        for token, _ in part
+    )
     starred = re.search(rb"\(\*+n", shape)
     if starred:
         return part[starred.end() - 1][0]
@@ -245,20 +303,32 @@ def typedef_names(taken):
 
 
 def typedefs(code):
-    starts = [index for index, token in enumerate(code.tokens) if token.text == b"typedef" and code.follows_stop(index)]
+    starts = [
+        index
+        for index, token in enumerate(code.tokens)
+        if token.text == b"typedef" and code.follows_stop(index)
+    ]
     found = []
     for start, following in zip(starts, starts[1:] + [len(code.tokens)]):
         end = code.first_after(start, b";", 0)
         if end is not None and end < following:
-            found += typedef_names([token for token, depth in zip(code.tokens[start:end], code.depths[start:end])
-                                    if depth == 0 and token.text not in (b"{", b"}")])
+            found += typedef_names(
+                [
+                    token
+                    for token, depth in zip(code.tokens[start:end], code.depths[start:end])
+                    if depth == 0 and token.text not in (b"{", b"}")
+                ]
+            )
     return found
 
 
 def structures(code):
     """The names of structures, unions and enumerations, each with its kind."""
-    return [(name, SHAPES[before.text]) for before, name, after in zip(code.tokens, code.tokens[1:], code.tokens[2:])
-            if before.text in SHAPES and name.is_name and after.text == b"{"]
+    return [
+        (name, SHAPES[before.text])
+        for before, name, after in zip(code.tokens, code.tokens[1:], code.tokens[2:])
+        if before.text in SHAPES and name.is_name and after.text == b"{"
+    ]
 
 
 # ---- what a text holds
@@ -291,6 +361,7 @@ class Include(NamedTuple):
 
 class Facts(NamedTuple):
     """All that is found in a text, each list by place."""
+
     definitions: list
     uses: list
     calls: list
@@ -301,7 +372,9 @@ class Scopes:
     """The function or macro of each place; neither two functions nor two macros overlap."""
 
     def __init__(self, of_functions, of_macros):
-        self.kinds = [sorted(ranges, key=lambda one: one.name.place) for ranges in (of_macros, of_functions)]
+        self.kinds = [
+            sorted(ranges, key=lambda one: one.name.place) for ranges in (of_macros, of_functions)
+        ]
         self.starts = [[one.name.place for one in ranges] for ranges in self.kinds]
 
     def at(self, place):
@@ -321,7 +394,7 @@ def header(text, tokens):
     if closed:
         return third.place + 1, closed[1]
     ends = [token.place for token in tokens[3:] if token.text == b">"]
-    return (third.end, text[third.end:ends[0]]) if third.text == b"<" and ends else (0, b"")
+    return (third.end, text[third.end : ends[0]]) if third.text == b"<" and ends else (0, b"")
 
 
 @functools.lru_cache(maxsize=4096)
@@ -340,21 +413,32 @@ def facts(text):
     scopes = Scopes(own_functions, own_macros)
 
     named = [(one.name, one.kind, one.local) for one in own_functions + own_macros]
-    named += [(name, b"d", False) for name in others] + [(name, b"t", False) for name in typedefs(code)]
+    named += [(name, b"d", False) for name in others] + [
+        (name, b"t", False) for name in typedefs(code)
+    ]
     named += [(name, kind, False) for name, kind in structures(code)]
     named.sort(key=lambda one: (one[0].place, KINDS.index(one[1])))
 
     used = [token for token in code.tokens if token.is_name]
     for line in directives:
         if line.own_word != b"include":
-            used += [token for index, token in enumerate(line.tokens)
-                     if token.is_name and not (index == 1 and line.own_word)]
+            used += [
+                token
+                for index, token in enumerate(line.tokens)
+                if token.is_name and not (index == 1 and line.own_word)
+            ]
     used.sort(key=lambda token: token.place)
 
-    calls = [(one.body[index], one.name.text) for one in own_functions + own_macros for index in called(one.body)]
+    calls = [
+        (one.body[index], one.name.text)
+        for one in own_functions + own_macros
+        for index in called(one.body)
+    ]
     calls.sort(key=lambda call: call[0].place)
     headers = [header(text, line.tokens) for line in directives if line.own_word == b"include"]
-    return Facts([Definition(name.text, line_of(name.place), kind, local) for name, kind, local in named],
-                 [Use(token.text, line_of(token.place), scopes.at(token.place)) for token in used],
-                 [Call(token.text, line_of(token.place), caller) for token, caller in calls],
-                 [Include(name, line_of(place), scopes.at(place)) for place, name in headers if name])
+    return Facts(
+        [Definition(name.text, line_of(name.place), kind, local) for name, kind, local in named],
+        [Use(token.text, line_of(token.place), scopes.at(token.place)) for token in used],
+        [Call(token.text, line_of(token.place), caller) for token, caller in calls],
+        [Include(name, line_of(place), scopes.at(place)) for place, name in headers if name],
+    )

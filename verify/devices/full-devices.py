@@ -1,28 +1,26 @@
 #!/usr/bin/env python3
-"""Runs the program into devices that are full, closed, or go away, and checks what it says and how it ends.
+"""Runs the program into devices that are full, closed, or go away, and checks how it ends.
 
-A person runs this by hand; no gate does. As root it mounts a small file system of its own.
+    make && verify/devices/full-devices.py
+    verify/devices/full-devices.py --cbrowse PATH
 
-    make && clients/full-devices.py           runs bin/cbrowse
-    clients/full-devices.py PROGRAM
-
-Each of these is one line on standard error and status 1, and what was taken is a prefix of what the
-program writes elsewhere:
+As root it mounts a small file system of its own. Each of these is one line on standard error and
+status 1, and what was taken is a prefix of what the program writes elsewhere:
 
     /dev/full    as standard output, and as the tags file
     closed       standard output is closed, or the reader of the pipe is, with SIGPIPE as a shell
                  leaves it and with SIGPIPE ignored
-    a reader     that takes so many bytes of a pipe and goes away
-    a bound      on the size of a file: standard output, and the tags file, take so many bytes
-    a full disk  the tags file on a file system with so many pages left
+    a reader     that takes some bytes of a pipe and goes away
+    a bound      on the size of a file: standard output, and the tags file, take only these bytes
+    a full disk  the tags file on a file system with few pages left
     no input     standard input is closed, or a folder
 
 Standard error that is full or closed changes no status. Each failure is printed, and the exit
-status is 1 if there is one; where there is none, a line for each device says how many runs there
-were.
+status is 1 if there is one. A line for each device says how many runs there were.
 """
 
-import argparse
+from __future__ import annotations
+
 import contextlib
 import fcntl
 import os
@@ -33,15 +31,23 @@ import subprocess
 import sys
 import tempfile
 
-TOP = pathlib.Path(__file__).resolve().parent.parent
+sys.path.insert(0, str(pathlib.Path(__file__).resolve().parents[1]))
+from shared import words_given, options  # noqa: E402
+
 PATIENCE = 60  # seconds until a run is given up
 PIPE = 4096  # the least room of a pipe
 READ, WRITE = b"cbrowse: read fault\n", b"cbrowse: write fault\n"
 LARGE = b"".join(b"int function_%04d(int x) {\n\treturn x;\n}\n" % n for n in range(1500))
-INPUT = b"".join(b"1function_%04d\n" % n for n in range(200)) + b":tags\n:listing\n5return x\n:marks\n"
+INPUT = (
+    b"".join(b"1function_%04d\n" % n for n in range(200)) + b":tags\n:listing\n5return x\n:marks\n"
+)
 
 # What writes to standard output, with what it is given.
-WRITERS = [(["find", "4", "return", "large.c"], b""), (["tags", "-x", "large.c"], b""), (["line", "large.c"], INPUT)]
+WRITERS = [
+    (["find", "4", "return", "large.c"], b""),
+    (["tags", "-x", "large.c"], b""),
+    (["line", "large.c"], INPUT),
+]
 TAGS = ["tags", "-f"]  # and then the tags file and large.c
 
 
@@ -83,12 +89,15 @@ class Checks:
 
     def expect_prefix(self, words, device, taken, whole, at_least):
         if not whole.startswith(taken) or len(taken) < at_least:
-            print(f"{' '.join(words)}, {device}: {len(taken)} bytes, which are no prefix or too few", flush=True)
+            print(
+                f"{' '.join(words)}, {device}: {len(taken)} bytes, which are no prefix or too few",
+                flush=True,
+            )
             self.failed += 1
 
 
 def no_signal():
-    """SIGPIPE and SIGXFSZ stop nothing, as in a program that python starts without restoring signals."""
+    """SIGPIPE and SIGXFSZ stop nothing, as Python leaves them to a program that it starts."""
     signal.signal(signal.SIGPIPE, signal.SIG_IGN)
     signal.signal(signal.SIGXFSZ, signal.SIG_IGN)
 
@@ -97,9 +106,16 @@ def full(checks):
     """/dev/full."""
     with open("/dev/full", "wb") as device:
         for words, given in WRITERS:
-            checks.expect(words, "into /dev/full", checks.run(words, given, stdout=device), (1, WRITE))
+            checks.expect(
+                words, "into /dev/full", checks.run(words, given, stdout=device), (1, WRITE)
+            )
         words = [*TAGS, "whole", "large.c"]
-        checks.expect(words, "into /dev/full, which it leaves alone", checks.run(words, stdout=device), (0, b""))
+        checks.expect(
+            words,
+            "into /dev/full, which it leaves alone",
+            checks.run(words, stdout=device),
+            (0, b""),
+        )
     words = [*TAGS, "/dev/full", "large.c"]
     checks.expect(words, "", checks.run(words), (1, b"cbrowse: /dev/full: cannot be written\n"))
 
@@ -123,7 +139,19 @@ def reader_goes(checks):
     """A reader that takes so many bytes of a pipe, and goes away."""
     for words, given in WRITERS:
         whole = checks.whole(words, given)
-        for count in [*range(20), 100, 1000, 4095, 4096, 4097, 8191, 8192, 8193, 20000, len(whole) - 3 * PIPE]:
+        for count in [
+            *range(20),
+            100,
+            1000,
+            4095,
+            4096,
+            4097,
+            8191,
+            8192,
+            8193,
+            20000,
+            len(whole) - 3 * PIPE,
+        ]:
             reader, writer = os.pipe()
             fcntl.fcntl(writer, fcntl.F_SETPIPE_SZ, PIPE)
             checks.runs += 1
@@ -148,10 +176,12 @@ def reader_goes(checks):
 
 def bounded(checks):
     """A bound on the size of a file, as of a disk quota: so many bytes are taken."""
+
     def with_bound(count):
         def before():
             no_signal()
             resource.setrlimit(resource.RLIMIT_FSIZE, (count, count))
+
         return before
 
     out = pathlib.Path(checks.folder, "out")
@@ -170,7 +200,12 @@ def bounded(checks):
         with open(out, "wb") as file:
             ended = checks.run(words, given, before=with_bound(len(whole)), stdout=file)
         checks.expect(words, "with a bound of all its bytes", ended, (0, b""))
-        checks.expect(words, "with a bound of all its bytes", (tags if is_file else out).read_bytes() == whole, True)
+        checks.expect(
+            words,
+            "with a bound of all its bytes",
+            (tags if is_file else out).read_bytes() == whole,
+            True,
+        )
 
 
 def full_disk(checks):
@@ -178,7 +213,9 @@ def full_disk(checks):
     disk = pathlib.Path(checks.folder, "disk")
     disk.mkdir()
     size = 64 * PIPE
-    mounted = subprocess.run(["mount", "-t", "tmpfs", "-o", f"size={size}", "tmpfs", str(disk)], capture_output=True)
+    mounted = subprocess.run(
+        ["mount", "-t", "tmpfs", "-o", f"size={size}", "tmpfs", str(disk)], capture_output=True
+    )
     if mounted.returncode:
         return "no file system can be mounted here, so a full disk was not tried"
     try:
@@ -205,7 +242,9 @@ def no_input(checks):
     words = ["line", "large.c"]
     folder = os.open(checks.folder, os.O_RDONLY)
     try:
-        checks.expect(words, "with a folder as its input", checks.run(words, stdin=folder), (1, READ))
+        checks.expect(
+            words, "with a folder as its input", checks.run(words, stdin=folder), (1, READ)
+        )
     finally:
         os.close(folder)
     ended = checks.run(words, stdin=subprocess.DEVNULL, before=lambda: os.close(0))
@@ -214,8 +253,13 @@ def no_input(checks):
 
 def no_complaints(checks):
     """Standard error that is full or closed."""
-    cases = [(["find", "1", "f", "none.c"], 1), (["find", "6", "f", "large.c"], 2), (["search"], 2), (["--help"], 0),
-             (["find", "1", "f", "large.c"], 0)]
+    cases = [
+        (["find", "1", "f", "none.c"], 1),
+        (["find", "6", "f", "large.c"], 2),
+        (["search"], 2),
+        (["--help"], 0),
+        (["find", "1", "f", "large.c"], 0),
+    ]
     for words, status in cases:
         with open("/dev/full", "wb") as device:
             ended = checks.run(words, stderr=device)
@@ -224,19 +268,16 @@ def no_complaints(checks):
         checks.expect(words, "with closed standard error", ended, (status, None))
 
 
-def main():
-    parser = argparse.ArgumentParser(description=__doc__, formatter_class=argparse.RawDescriptionHelpFormatter)
-    parser.add_argument("program", nargs="?", type=pathlib.Path, default=TOP / "bin" / "cbrowse")
-    program = parser.parse_args().program.resolve()
-    if not program.exists():
-        parser.error(f"there is no {program}: run make, or name the program")
+def main() -> int:
+    program = words_given(options(__doc__)).cbrowse
     failed = 0
     with tempfile.TemporaryDirectory() as folder:
         for device in (full, closed, reader_goes, bounded, full_disk, no_input, no_complaints):
             checks = Checks(program, folder)
             passed_over = device(checks)
             title = device.__doc__.rstrip(".").split("\n")[0]
-            print(f"{title}: {passed_over or f'{checks.runs} runs, {checks.failed} failed'}", flush=True)
+            told = passed_over or f"{checks.runs} runs, {checks.failed} failed"
+            print(f"{title}: {told}", flush=True)
             failed += checks.failed
     return 1 if failed else 0
 

@@ -1,5 +1,7 @@
-"""Runs of the program that are worked out by hand: in a folder, by its words, standard output, standard error and exit
-status. An error of None is a text of clap's. Worked sessions are in crates/worked_cases/data.
+"""Runs of the program that are worked out by hand.
+
+They take place in a folder. Each has its words, standard output, standard error and exit status; an
+error of None is a text of clap's. Worked sessions are in crates/worked_cases/data.
 """
 
 A_C = b"""\
@@ -24,15 +26,29 @@ def output(*lines):
 
 
 PROGRAM = [
-    ([b"tags", b"-x", b"a.c"], output(
-        b"TWICE 2 a.c #define TWICE(x) ((x) + add(x, 0))", b"add 4 a.c static int add(int a, int b) {",
-        b"main 7 a.c int main(void) {", b"word 3 a.c typedef unsigned long word;")),
-    ([b"find", b"0", b"add", b"a.c"], output(
-        b"a.c TWICE 2 #define TWICE(x) ((x) + add(x, 0))", b"a.c add 4 static int add(int a, int b) {",
-        b"a.c main 8 return add(1, 2) / TWICE(3);")),
+    (
+        [b"tags", b"-x", b"a.c"],
+        output(
+            b"TWICE 2 a.c #define TWICE(x) ((x) + add(x, 0))",
+            b"add 4 a.c static int add(int a, int b) {",
+            b"main 7 a.c int main(void) {",
+            b"word 3 a.c typedef unsigned long word;",
+        ),
+    ),
+    (
+        [b"find", b"0", b"add", b"a.c"],
+        output(
+            b"a.c TWICE 2 #define TWICE(x) ((x) + add(x, 0))",
+            b"a.c add 4 static int add(int a, int b) {",
+            b"a.c main 8 return add(1, 2) / TWICE(3);",
+        ),
+    ),
     ([b"find", b"8", b"a.h", b"a.c"], output(b'a.c <global> 1 #include "a.h"')),
     ([b"find", b"4", b"--", b"-x", b"n.c"], output(b"n.c <unknown> 1 int a = -x;")),
-    ([b"find", b"7", b".c", b"n.c", b"a.c"], output(b"a.c <unknown> 1 <unknown>", b"n.c <unknown> 1 <unknown>")),
+    (
+        [b"find", b"7", b".c", b"n.c", b"a.c"],
+        output(b"a.c <unknown> 1 <unknown>", b"n.c <unknown> 1 <unknown>"),
+    ),
     ([b"find", b"1", b"none", b"a.c"], output()),
     ([b"find", b"6", b"x", b"a.c"], WRONG_FIELD),
     ([b"find", b"5", b"x", b"a.c"], WRONG_FIELD),

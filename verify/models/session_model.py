@@ -1,8 +1,10 @@
-"""What cbrowse writes: a model of its sessions and of its program, written from docs/ alone and not from the code.
+"""What cbrowse writes: a model of its sessions and its program, written from docs/ alone.
 
-`docs/COMMANDS.md` has the commands, refusals and the words of the program, `docs/FORMATS.md` rows and tag lines. What
-texts hold is in `text_model.py`. Memory never runs out here.
+`docs/COMMANDS.md` has the commands, refusals and the words of the program, `docs/FORMATS.md` rows
+and tag lines. What texts hold is in `text_model.py`. Memory never runs out here.
 """
+
+from __future__ import annotations
 
 import re
 from typing import NamedTuple, Optional
@@ -11,8 +13,10 @@ from text_model import cut_lines, facts, replaced
 
 MOST_BYTES, MOST_FILES, MOST_LINE, MOST_CHANGES = 1_000_000, 4_096, 4_096, 65_536
 PROMPT, DONE = b">> ", b"cscope: done\n"
-HEADS = (b'!_TAG_FILE_FORMAT\t2\t/extended format; --format=1 will not append ;" to lines/\n',
-         b"!_TAG_FILE_SORTED\t1\t/0=unsorted, 1=sorted, 2=foldcase/\n")
+HEADS = (
+    b'!_TAG_FILE_FORMAT\t2\t/extended format; --format=1 will not append ;" to lines/\n',
+    b"!_TAG_FILE_SORTED\t1\t/0=unsorted, 1=sorted, 2=foldcase/\n",
+)
 
 
 class Refused(Exception):
@@ -21,6 +25,7 @@ class Refused(Exception):
 
 class Tag(NamedTuple):
     """A definition in a file."""
+
     name: bytes
     file: bytes
     line: int
@@ -31,6 +36,7 @@ class Tag(NamedTuple):
 
 class World(NamedTuple):
     """All that a change can change. Nothing in it is ever altered: a change makes another world."""
+
     files: dict
     wanted: Optional[bytes] = None
     marks: tuple = ()
@@ -45,19 +51,29 @@ def line_row(file, function, line, text):
 
 
 def place_rows(world, places):
-    return [line_row(file, b"<unknown>", line, cut_lines(world.files[file])[line - 1][0]) for file, line in places]
+    return [
+        line_row(file, b"<unknown>", line, cut_lines(world.files[file])[line - 1][0])
+        for file, line in places
+    ]
 
 
 def places_of_text(world, pattern):
     """File and line of each shown line that holds the pattern, by file and line."""
-    return [(file, number) for file in sorted(world.files)
-            for number, (shown, _) in enumerate(cut_lines(world.files[file]), 1) if pattern in shown]
+    return [
+        (file, number)
+        for file in sorted(world.files)
+        for number, (shown, _) in enumerate(cut_lines(world.files[file]), 1)
+        if pattern in shown
+    ]
 
 
 def tags_of(world):
     """All definitions, by file and place."""
-    return [Tag(name, file, line, cut_lines(text)[line - 1][0], kind, local)
-            for file, text in sorted(world.files.items()) for name, line, kind, local in facts(text).definitions]
+    return [
+        Tag(name, file, line, cut_lines(text)[line - 1][0], kind, local)
+        for file, text in sorted(world.files.items())
+        for name, line, kind, local in facts(text).definitions
+    ]
 
 
 def tag_name(tag):
@@ -77,8 +93,11 @@ def plain_lines(world):
 
 def extended_lines(world):
     tags = sorted(tags_of(world), key=lambda tag: (tag.name, tag.file))
-    return [*HEADS] + [b'%s\t%s\t%s;"\t%s\tline:%d%s\n' % (
-        tag.name, tag.file, address(tag), tag.kind, tag.line, b"\tfile:" if tag.local else b"") for tag in tags]
+    return [*HEADS] + [
+        b'%s\t%s\t%s;"\t%s\tline:%d%s\n'
+        % (tag.name, tag.file, address(tag), tag.kind, tag.line, b"\tfile:" if tag.local else b"")
+        for tag in tags
+    ]
 
 
 def listing_lines(world):
@@ -87,7 +106,7 @@ def listing_lines(world):
 
 
 def found_in(text, digit, pattern):
-    """The function column and the line of each row of a field in a text, by place; no function is outside of them all."""
+    """The function column and line of each row of a field in a text, by place; None is outside."""
     if digit == b"0":
         return [(use.scope, use.line) for use in facts(text).uses if use.name == pattern]
     if digit == b"1":
@@ -97,9 +116,16 @@ def found_in(text, digit, pattern):
     if digit == b"3":
         return [(call.caller, call.line) for call in facts(text).calls if call.callee == pattern]
     if digit == b"8":
-        return [(one.scope, one.line) for one in facts(text).includes
-                if one.header == pattern or one.header.endswith(b"/" + pattern)]
-    return [(b"<unknown>", number) for number, (shown, _) in enumerate(cut_lines(text), 1) if pattern in shown]
+        return [
+            (one.scope, one.line)
+            for one in facts(text).includes
+            if one.header == pattern or one.header.endswith(b"/" + pattern)
+        ]
+    return [
+        (b"<unknown>", number)
+        for number, (shown, _) in enumerate(cut_lines(text), 1)
+        if pattern in shown
+    ]
 
 
 def answer(world, digit, pattern):
@@ -107,9 +133,16 @@ def answer(world, digit, pattern):
     refuse_if(digit in b"69", "field not in this profile")
     refuse_if(not pattern, "no pattern")
     if digit == b"7":
-        return [line_row(file, b"<unknown>", 1, b"<unknown>") for file in sorted(world.files) if pattern in file]
-    places = dict.fromkeys((file, function or b"<global>", line) for file, text in sorted(world.files.items())
-                           for function, line in found_in(text, digit, pattern))  # the text follows from file and line
+        return [
+            line_row(file, b"<unknown>", 1, b"<unknown>")
+            for file in sorted(world.files)
+            if pattern in file
+        ]
+    places = dict.fromkeys(
+        (file, function or b"<global>", line)
+        for file, text in sorted(world.files.items())
+        for function, line in found_in(text, digit, pattern)
+    )  # the text follows from file and line
     return [line_row(*place, cut_lines(world.files[place[0]])[place[2] - 1][0]) for place in places]
 
 
@@ -142,9 +175,11 @@ def reload(world, name, text):
 
 def drop(world, name):
     refuse_if(name not in world.files, "no such file")
-    return world._replace(files={file: text for file, text in world.files.items() if file != name},
-                          marks=tuple(place for place in world.marks if place[0] != name),
-                          frames=tuple(place for place in world.frames if place[0] != name))
+    return world._replace(
+        files={file: text for file, text in world.files.items() if file != name},
+        marks=tuple(place for place in world.marks if place[0] != name),
+        frames=tuple(place for place in world.frames if place[0] != name),
+    )
 
 
 def rename(world, old, new):
@@ -155,9 +190,11 @@ def rename(world, old, new):
     def renamed(name):
         return new if name == old else name
 
-    return world._replace(files={renamed(file): text for file, text in world.files.items()},
-                          marks=tuple(sorted((renamed(file), line) for file, line in world.marks)),
-                          frames=tuple((renamed(file), line) for file, line in world.frames))
+    return world._replace(
+        files={renamed(file): text for file, text in world.files.items()},
+        marks=tuple(sorted((renamed(file), line) for file, line in world.marks)),
+        frames=tuple((renamed(file), line) for file, line in world.frames),
+    )
 
 
 def want(world, text):
@@ -207,7 +244,7 @@ def words_in(rest, *missing):
     """The words after a command; a missing one is the one given here."""
     words = [] if rest is None else rest.split(b" ")
     refuse_if(len(words) > len(missing), "unknown command")
-    return words + [*missing[len(words):]]
+    return words + [*missing[len(words) :]]
 
 
 def number_of(word):
@@ -220,11 +257,9 @@ def lines_reply(lines):
 
 
 class Session:
-    """A session: its worlds, what it has written, and, once it has ended, the line on standard error. An older program
-    misses some fields, or `r`."""
+    """A session: its worlds, its output and, once it has ended, the line on standard error."""
 
-    def __init__(self, missing=()):
-        self.missing = missing
+    def __init__(self):
         self.past, self.present, self.future = [], World({}), []
         self.out, self.ended = bytearray(), None
 
@@ -237,7 +272,7 @@ class Session:
         return DONE
 
     def move(self, origin, target, refusal):
-        """Undo and redo: the nearest world of a list becomes the present one, which goes to the other list."""
+        """Undo and redo: the nearest world of a list becomes present; the old one changes lists."""
         refuse_if(not origin, refusal)
         target.append(self.present)
         self.present = origin.pop()
@@ -259,7 +294,7 @@ class Session:
             feed = data.find(b"\n", place)
             line, place = (data[place:], len(data)) if feed < 0 else (data[place:feed], feed + 1)
             size = self.block_size(line)
-            reply = self.reply(line, data[place:place + size])
+            reply = self.reply(line, data[place : place + size])
             self.out += PROMPT + reply
             place += size
 
@@ -291,7 +326,6 @@ class Session:
             return b"cscope: refused: %s\n" % str(refused).encode()
 
     def query(self, digit, pattern):
-        refuse_if(digit in self.missing, "field not in this profile")
         if digit == b"5":
             self.change(want, pattern)
             digit = b"4"
@@ -341,7 +375,7 @@ class Session:
             b":listing": lambda: lines_reply(listing_lines(self.present)),
             b"r": lambda: DONE,
         }
-        refuse_if(word not in commands or rest is not None or word in self.missing, "unknown command")
+        refuse_if(word not in commands or rest is not None, "unknown command")
         return commands[word]()
 
 
@@ -349,7 +383,8 @@ class Session:
 
 
 class Outcome(NamedTuple):
-    """What a program writes and its status. An error of None is a text of clap's, of which no page tells the words."""
+    """What a program writes, and its status. An error of None is a text of clap's, any text."""
+
     out: bytes
     error: Optional[bytes] = b""
     status: int = 0
@@ -364,18 +399,18 @@ def is_text(word):
 
 
 def plain_words(words):
-    """The words that are no options, and the outcome where an option is among them: help, or wrong words."""
+    """The words that are no options, and the outcome where one is: help, or wrong words."""
     end = words.index(b"--") if b"--" in words else len(words)
     options = [word for word in words[:end] if word[:1] == b"-" and word != b"-"]
     if not all(map(is_text, words)):
         return [], WRONG_WORDS
     if options:
         return [], HELP if options[0] == b"--help" or options[0][:2] == b"-h" else WRONG_WORDS
-    return words[:end] + words[end + 1:], None
+    return words[:end] + words[end + 1 :], None
 
 
 def loaded(operands, files):
-    """A session with the files of the command line, or the outcome where one cannot be read or is refused."""
+    """A session with the files of the command line, or the outcome where one is refused."""
     for name in operands:
         if name not in files:
             return None, Outcome(b"", b"cbrowse: %s: cannot be read\n" % name, 1)
@@ -388,7 +423,7 @@ def loaded(operands, files):
 
 
 def find(words, files):
-    """`cbrowse find` with the words behind it, in a folder with these files."""
+    """`cbrowse find` and the words after it, in a folder with these files."""
     plain, failed = plain_words(words)
     if failed:
         return failed
