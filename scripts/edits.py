@@ -62,11 +62,11 @@ def all_functions(crate: pathlib.Path) -> tuple[Function, ...]:
 
 
 class Edit(NamedTuple):
-    """An edit: its file, and each text that stands once in a source and is replaced."""
+    """An edit: its file, and its changes in turn, each a source, a text in it, and a new text."""
 
     path: pathlib.Path
     crate: pathlib.Path
-    changes: tuple[tuple[pathlib.Path, str], ...]
+    changes: tuple[tuple[pathlib.Path, str, str], ...]
 
     @property
     def name(self) -> str:
@@ -76,9 +76,19 @@ class Edit(NamedTuple):
     def in_gate(self) -> bool:
         return self.path.suffix == ".edit"
 
+    def applies(self) -> bool:
+        """Whether each text stands once in its file when its turn comes."""
+        texts: dict[pathlib.Path, str] = {}
+        for file, old, new in self.changes:
+            text = texts.setdefault(file, file.read_text() if file.exists() else "")
+            if text.count(old) != 1:
+                return False
+            texts[file] = text.replace(old, new)
+        return True
+
     def function(self) -> Function | None:
         """The function whose body it breaks: of several changes the last in a body."""
-        for file, old in reversed(self.changes):
+        for file, old, _ in reversed(self.changes):
             place = file.read_text().find(old)
             around = [it for it in functions(file) if it.start <= place < it.end]
             if place >= 0 and around:
@@ -95,7 +105,7 @@ class Edit(NamedTuple):
             alike = [it for it in all_functions(self.crate) if it.name == function.name]
             with_type = snake(f"{function.owner}_{function.name}").strip("_")
             return [function.name, with_type] if len(alike) == 1 else [with_type]
-        file, old = self.changes[-1]
+        file, old, _ = self.changes[-1]
         text = file.read_text()
         form = CONSTANT if file.suffix == ".rt" else DEFINITION
         before = [it[1] for it in form.finditer(text, 0, text.find(old) + len(old))]
@@ -107,12 +117,14 @@ def edits(crate: pathlib.Path) -> list[Edit]:
     found = []
     folder = crate / "must-fail"
     for path in [*sorted(folder.glob("*.edit")), *sorted(folder.glob("more/*.edit.md"))]:
-        file, changes = None, []
+        file, old, changes = crate, "", []
         for line in path.read_text().split("\n"):
             word, _, rest = line.partition(": ")
             if word == "file":
                 file = crate / rest
-            elif word == "old" and file:
-                changes.append((file, rest))
+            elif word == "old":
+                old = rest
+            elif word == "new":
+                changes.append((file, old, rest))
         found.append(Edit(path, crate, tuple(changes)))
     return found
