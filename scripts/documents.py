@@ -8,7 +8,9 @@
    begins with the function, the constant or the definition that it breaks.
 3. Each file and folder that a document or a script names is there. A name may leave out the folders
    before it, as `state.rt` does.
-4. No line of a document or a script in Python is longer than 100 columns, except in tables and in
+4. docs/DESIGN.md names each module and each file of definitions of the crates of the program, or
+   the folder that holds it.
+5. No line of a document or a script in Python is longer than 100 columns, except in tables and in
    pictures of what a program writes.
 
 The exit status is 1 where one is not so; each is told.
@@ -85,6 +87,26 @@ def missing(paths: list[pathlib.PurePath]) -> list[str]:
     return told
 
 
+def unnamed() -> list[str]:
+    """Modules and definitions that the page on the design leaves out."""
+    named = set(re.findall(r"`([\w./]+)`", (TOP / "docs" / "DESIGN.md").read_text()))
+    told = []
+    for name in index.CRATES:
+        for folder, ending in ("src", "rt"), ("specs", "antt"):
+            base = TOP / "crates" / name / folder
+            for file in sorted(base.rglob(f"*.{ending}")):
+                path = file.relative_to(base)
+                if path.parts[0] in ("steps", f"steps.{ending}") or path.stem.lower() in (
+                    "lib",
+                    "main",
+                ):
+                    continue
+                above = {f"{'/'.join(path.parts[:n])}/" for n in range(1, len(path.parts))}
+                if not named & {str(path), f"{path.with_suffix('')}/", *above}:
+                    told.append(f"docs/DESIGN.md: it leaves out {file.relative_to(TOP)}")
+    return told
+
+
 def wide(paths: list[pathlib.PurePath]) -> list[str]:
     told = []
     for path in filter(is_text, paths):
@@ -102,7 +124,7 @@ def main() -> int:
     stale = (
         [] if index.is_current() else ["docs/INDEX.md is not current: scripts/index.py writes it"]
     )
-    checks = [stale, wrong_edits(), missing(paths), wide(paths)]
+    checks = [stale, wrong_edits(), missing(paths), unnamed(), wide(paths)]
     for it in checks:
         print("".join(f"{line}\n" for line in it), end="")
     failed = sum(map(bool, checks))
