@@ -35,11 +35,19 @@ COMMANDS = {
     "cb_desk Desk::redo": ":redo$",
     "cb_desk Desk::rebuild": "r$",
     "cb_desk Desk::marks": ":marks$",
+    "cb_desk Desk::wanted": ":(mark |markall|to)",
+    "cb_desk Desk::source": ":(marks|stack)$",
     "cb_desk Desk::frames": ":stack$",
     "cb_desk Desk::rows": QUESTION,
     "cb_desk Desk::settle": QUESTION,
     "cb_desk Desk::tag_rows": ":(tags|listing)",
     "cb_desk Desk::settle_tags": ":(tags|listing)",
+    "cb_index Entries::next": "r$",
+    "cb_index FactRows::spots": "[023].",
+    "cb_index FactSpots::next": "[023].",
+    "cb_index FactSpots::row_count": "[023].",
+    "cb_index Shelf::includes": "8.",
+    "cb_index IncludeRows::next": "8.",
     "cb_desk Rows::next": QUESTION,
     "cb_desk Rows::count_left": QUESTION,
     "cb_desk TagRows::next": ":(tags|listing)",
@@ -65,10 +73,18 @@ COMMANDS = {
     "cb_session put_listing_file": ":listing",
 }
 # What begins a session rather than a command of it.
-BEGINS = {"cb_desk Loading::load", "cb_desk Loading::desk", "cb_session prepare", "cb_session run"}
+BEGINS = {
+    "cb_index totals_of",
+    "cb_desk Loading::new",
+    "cb_desk Loading::load",
+    "cb_desk Loading::desk",
+    "cb_session prepare",
+    "cb_session run",
+}
 # The rows of scripts/whole-program.py that show a function, by the note above them.
 WHOLE = {
     "cb_words job_of": "words that are wrong, and help",
+    "cb_session Session::into_desk": "searches",
     "cbrowse run_job": "searches",
     "cbrowse execute": "files that cannot be read or loaded, or written",
     "cbrowse execute_process": "words that are wrong, and help",
@@ -181,7 +197,7 @@ def definitions(function: Function) -> str:
 
 # Names of methods that collections and iterators have too.
 STANDARD = set("add at clear clone end find get grow is_empty len new next push read write".split())
-CALL = re.compile(r"(?:\b(\w+)::|(\bself)\.|(\.))?\b(\w+)(?:::<[^>]*>)?\(")
+CALL = re.compile(r"(?:\b(\w+)::|(\bself)\.|(\w*\.))?\b(\w+)(?:::<[^>]*>)?\(")
 
 
 @functools.lru_cache(maxsize=None)
@@ -217,8 +233,10 @@ class Functions:
             elif own or dot:
                 methods = [it for it in alike if it.owner]
                 alike = [it for it in methods if it.owner in words_of(function.file)]
-                if not alike and len({it.owner for it in methods}) == 1 and name not in STANDARD:
+                is_only = len({it.owner for it in methods}) == 1 and name not in STANDARD
+                if not alike and is_only:
                     alike = methods
+                alike = alike or [it for it in methods if f"{snake(it.owner)}." == dot]
             else:
                 alike = [it for it in alike if not it.owner]
             found += [it for it in alike if it not in found]
@@ -344,19 +362,23 @@ class Crate:
         self.name, self.tests, self.broken = name, tests, broken
         path = TOP / "crates" / name
         self.public = public(path)
-        self.all = Functions(all_functions(path))
         self.private = Functions(it for it in all_functions(path) if not it.public)
 
-    def shown_by(self, function: Function) -> list[str]:
-        """The tests; without them the tested functions that call it, also by private ones."""
+    def callers(self, function: Function) -> list[Function]:
+        """The tested functions that call it, themselves or by private ones."""
+        found = []
+        for it in self.public:
+            inside = [it, *self.private.reached(it)]
+            if it != function and any(function in self.tests.product.called(one) for one in inside):
+                found += [it] if self.tests.of(f"{self.name} {it.path}", it) else []
+        return found
+
+    def shown_by(self, function: Function, crates: list[Crate]) -> list[str]:
+        """The tests; without them the tested functions that call it, of this crate or above."""
         told = self.tests.of(f"{self.name} {function.path}", function)
         if told or function.file.name == "laws.rt":
             return told
-        by = []
-        for it in self.public:
-            inside = [it, *self.private.reached(it)]
-            if it != function and any(function in self.all.called(one) for one in inside):
-                by += [f"`{it.path}`"] if self.tests.of(f"{self.name} {it.path}", it) else []
+        by = [f"`{it.path}`" for crate in crates for it in crate.callers(function)]
         return ["by " + ", ".join(by[:MOST])] if by else []
 
     def wrong_bodies(self, function: Function) -> list[str]:
@@ -372,27 +394,28 @@ class Crate:
             told.append("below: " + ", ".join(below[:MOST]) + more)
         return told
 
-    def row(self, function: Function) -> str:
+    def row(self, function: Function, crates: list[Crate]) -> str:
         is_law = function.file.name == "laws.rt"
         shown = f"laws::{function.name}" if is_law else function.path
         cells = [
             f"[`{shown}`](../crates/{function.file.relative_to(TOP / 'crates')})",
             clauses(function),
-            definitions(function),
-            "<br>".join(self.shown_by(function)),
+            definitions(function) or "none",
+            "<br>".join(self.shown_by(function, crates)),
             "<br>".join(self.wrong_bodies(function)),
         ]
         return "| " + " | ".join(it.replace("|", "\\|") or "–" for it in cells) + " |"
 
-    def table(self) -> str:
-        rows = [self.row(it) for it in self.public]
+    def table(self, crates: list[Crate]) -> str:
+        rows = [self.row(it, crates) for it in self.public]
         return "\n".join([f"## {self.name}\n", COLUMNS, *rows]) + "\n"
 
 
 def page() -> str:
     tests = Tests([it for name in CRATES for it in all_functions(TOP / "crates" / name)])
     broken = edits_by_function()
-    return "\n".join([HEAD, *(Crate(name, tests, broken).table() for name in CRATES)])
+    crates = [Crate(name, tests, broken) for name in CRATES]
+    return "\n".join([HEAD, *(it.table(crates) for it in crates)])
 
 
 def is_current() -> bool:
