@@ -16,6 +16,7 @@ from __future__ import annotations
 import argparse
 import os
 import pathlib
+import re
 import resource
 import signal
 import subprocess
@@ -137,6 +138,10 @@ Options:
 
 Example: cbrowse find 1 main a.c
 """
+
+
+NOTES = (TOP / "docs" / "RELEASES.md").read_text()
+VERSION = b"cbrowse %s\n" % re.findall(r"^## (\S+)", NOTES, re.MULTILINE)[0].encode()
 
 
 class Row(NamedTuple):
@@ -270,8 +275,8 @@ ROWS = [
     help_of(["find", "--help"], HELP_FIND),
     help_of(["tags", "--help"], HELP_TAGS),
     help_of(["help", "tags"], HELP_TAGS),
-    help_of(["--version"], b"cbrowse 0.1.0\n"),
-    help_of(["-V"], b"cbrowse 0.1.0\n"),
+    help_of(["--version"], VERSION),
+    help_of(["-V"], VERSION),
 ]
 
 # a session over a.c: a question, tags, a listing, marks, a change and an undo

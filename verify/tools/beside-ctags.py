@@ -71,6 +71,14 @@ def definitions(words: list, names: list[str], folder: pathlib.Path) -> collecti
         return found
 
 
+def follows_no_stop(lines: list[str]) -> bool:
+    """Whether the last `typedef` of these lines follows what is no end of a declaration."""
+    text = re.sub(r"(?m)^[ \t]*#(?:.*\\\n)*.*", "", "\n".join(lines))
+    text = re.sub(r"/\*.*?\*/|//[^\n]*", "", text, flags=re.DOTALL)
+    before = text[: text.rfind("typedef")].rstrip()
+    return before != "" and before[-1] not in ";{}"
+
+
 def reason(item: Found, by_ctags: bool, other_side: collections.Counter, lines: list) -> str:
     """Why one program finds it and the other does not."""
     text = lines[item.line - 1] if item.line <= len(lines) else ""
@@ -92,6 +100,10 @@ def reason(item: Found, by_ctags: bool, other_side: collections.Counter, lines: 
         if any(CPP.search(line) for line in lines):
             return "the file is C++"
         return "other functions"
+    if by_ctags and follows_no_stop(lines[: item.line]):
+        return "what stands before `typedef` has no `;`, as a macro on a line of its own"
+    if by_ctags and re.search(r"[(]\s*\w+\b[\s*]*\b%s\s*[)]" % re.escape(item.name), text):
+        return "a macro stands before the star and the name of a pointer to a function"
     if near or re.search(r"[)]\s*\w+\s*[(]", text):
         return "a macro with arguments follows the name of a typedef"
     if re.search(r"[(]\s*%s\s*[)]" % re.escape(item.name), text):

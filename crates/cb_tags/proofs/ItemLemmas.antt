@@ -1,7 +1,10 @@
 -- The items of an address: those that are read a byte a step, and those that are written.
-use Rattle.std.proofs.Common.{◌≡◌, ◌≢◌, ◌⊎◌, ◌∙◌, ℕ, Bool, true, false, cond, not, ◌==◌, ◌&&◌, List, [], ◌∷◌, ◌++◌, refl, sym, ap, subst, inl, inr, ⊎_elim, arith}
+use Rattle.std.proofs.Common.{◌≡◌, ◌≢◌, ◌⊎◌, ◌∙◌, ℕ, Bool, true, false, cond, not, ◌==◌, ◌&&◌, List}
+use Rattle.std.proofs.Common.{[], ◌∷◌, ◌++◌, refl, sym, ap, subst, inl, inr, ⊎_elim, arith}
 use Rattle.std.specs.List.{flat_map}
-use Rattle.std.proofs.lemmas.Bool.{cases_Bool, false≢true, cond-true, cond-false, eqb-true, eq-eqb, ne_eqb, and_from, and_parts, or_left, or_right, or_from, or_cases}
+use Rattle.std.proofs.lemmas.Bool.{cases_Bool, false≢true, cond-true, cond-false, eqb-true, eq-eqb}
+use Rattle.std.proofs.lemmas.Bool.{ne_eqb, and_from, and_parts, or_left, or_right, or_from}
+use Rattle.std.proofs.lemmas.Bool.{or_cases}
 use Rattle.cb_tags.specs.Addresses.{is_escaped, escaped, escape, Items, no_item, escaped_item, own_item, IsOneLine}
 use Rattle.cb_tags.specs.steps.Items.{are_items, unescaped}
 
@@ -44,7 +47,8 @@ read-Items (b ∷ c ∷ bs) t = ⊎_elim
     (cases_Bool (b == 92))
 
 -- items are read, as what they stand for
-pub Items-reads : (items text : List ℕ) → Items items text → (are_items false items ≡ true) × (unescaped false items ≡ text)
+pub Items-reads : (items text : List ℕ) → Items items text
+    → (are_items false items ≡ true) × (unescaped false items ≡ text)
 unfolding are_items unescaped
 Items-reads _ _ no_item = (refl, refl)
 Items-reads _ _ (escaped_item {a} {b} {items} {text} e w r) =
@@ -76,7 +80,8 @@ unfolding escape
 Items-written _ _ no_item = (refl, tt)
 Items-written _ _ (escaped_item {a} {b} {items} {text} e w r) =
     let k = Items-written items text r in (
-      ap (λ x. x ∷ b ∷ items) e ∙ ap (λ t. 92 ∷ b ∷ t) k.0 ∙ ap (λ e. cond e (92 ∷ b ∷ []) (b ∷ []) ++ flat_map escaped text) (sym (is_one b w)),
+      ap (λ x. x ∷ b ∷ items) e ∙ ap (λ t. 92 ∷ b ∷ t) k.0
+          ∙ ap (λ e. cond e (92 ∷ b ∷ []) (b ∷ []) ++ flat_map escaped text) (sym (is_one b w)),
       (⊎_elim (λ is f. absurd (omega (arith, is, f))) (λ is f. absurd (omega (arith, is, f))) w, k.1),
     )
 Items-written _ _ (own_item {b} {items} {text} x y z r) =

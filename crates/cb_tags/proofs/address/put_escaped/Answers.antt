@@ -21,12 +21,15 @@ loop-i-preserved g c =
       | then-is_escaped+in_ok-put_texts w ↦
           rw (w.out-is, w.start-is) record {
             within = omega arith;
-            written = Owes-escaped _ _ _ _ l.start l.i _ l.invariant.within c.loop-i-test.true (sym c.is_escaped.ensures ∙ w.if-is_escaped.true) l.invariant.written w.in_ok-put_texts.ensures;
+            written = Owes-escaped _ _ _ _ l.start l.i _ l.invariant.within c.loop-i-test.true
+                (sym c.is_escaped.ensures
+                  ∙ w.if-is_escaped.true) l.invariant.written w.in_ok-put_texts.ensures;
           }
       | else-is_escaped w ↦
           rw (w.out-is, w.start-is) record {
             within = omega (arith, l.invariant.within);
-            written = Owes-own _ _ _ l.start l.i _ l.invariant.within c.loop-i-test.true (sym c.is_escaped.ensures ∙ w.if-is_escaped.false) l.invariant.written;
+            written = Owes-own _ _ _ l.start l.i _ l.invariant.within c.loop-i-test.true
+                (sym c.is_escaped.ensures ∙ w.if-is_escaped.false) l.invariant.written;
           }
     ]
 

@@ -9,6 +9,7 @@ returns-in-Some c = (c.in-Some.items.now, c.in-Some.ensures, read-Items c.in-Som
 
 pub returns-in_default : goal.returns-in_default
 returns-in_default c = elim c.in_default.branch [
-  | in_default-via-in-Some+else-are_items w ↦ not_items _ _ w.in-Some.ensures (sym w.are_items.ensures ∙ w.if-are_items.false)
+  | in_default-via-in-Some+else-are_items w ↦ not_items _ _ w.in-Some.ensures
+      (sym w.are_items.ensures ∙ w.if-are_items.false)
   | in_default-via-in_default w ↦ λ text p. w.in_default.ensures p.0 p.1
 ]
