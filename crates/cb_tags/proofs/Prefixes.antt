@@ -118,7 +118,7 @@ pub PutsAll-element : {X : Type 0} (f : X → List ℕ) (old mid new : Writer) (
 PutsAll-element f old mid new xs i d h p q =
     let e : flat_map f (take (i + 1) xs) ≡ flat_map f (take i xs) ++ f (get_or xs i d) =
     ap (flat_map f) (take_more xs i d h) ∙ flat_map-append f (take i xs) (get_or xs i d ∷ [])
-        ∙ ap (λ t. flat_map f (take i xs) ++ t) (append-nil (f (get_or xs i d))) in
+    ∙ ap (λ t. flat_map f (take i xs) ++ t) (append-nil (f (get_or xs i d))) in
     subst (λ t. PutsAll old new t) (sym e) (PutsAll-after old mid new (flat_map f (take i xs)) (f (get_or xs i d)) p q)
 
 -- a prefix of the text of the next element

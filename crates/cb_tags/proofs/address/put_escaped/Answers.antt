@@ -23,7 +23,7 @@ loop-i-preserved g c =
             within = omega arith;
             written = Owes-escaped _ _ _ _ l.start l.i _ l.invariant.within c.loop-i-test.true
                 (sym c.is_escaped.ensures
-                  ∙ w.if-is_escaped.true) l.invariant.written w.in_ok-put_texts.ensures;
+                ∙ w.if-is_escaped.true) l.invariant.written w.in_ok-put_texts.ensures;
           }
       | else-is_escaped w ↦
           rw (w.out-is, w.start-is) record {
