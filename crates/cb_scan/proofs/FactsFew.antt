@@ -112,7 +112,13 @@ module _ (text : List ℕ) where
 
   lines-few : length (joined lines) ≤ length text
   lines-few =
-      omega (arith, tokens-few text (slice_split (λ (p : Piece). is_newline p.class) ps), split-few (λ (p : Piece). is_newline p.class) ps, length-pieces 0 text)
+      omega (
+        arith,
+        tokens-few text (slice_split (λ (p : Piece). is_newline p.class) ps),
+        split-few
+            (λ (p : Piece). is_newline p.class) ps,
+        length-pieces 0 text,
+      )
 
 -- ---- uses
 own-word-few : (l : List Token) → length (after_own_word l) ≤ length l
@@ -140,7 +146,13 @@ use_at text t = record { name = t.span; line = t.line; scope = scope text (piece
 pub uses-few : (text : List ℕ) → length (facts_of text).uses ≤ length text
 unfolding uses
 uses-few text =
-    omega (arith, length-map (flat_map used (lines text)) (use_at text), flat-below used used-few (lines text), lines-few text)
+    omega (
+      arith,
+      length-map (flat_map used (lines text)) (use_at text),
+      flat-below used used-few
+          (lines text),
+      lines-few text,
+    )
 
 -- ---- includes
 between-few : (start end line : ℕ) → length (header_between start end line) ≤ 1
@@ -165,7 +177,8 @@ angle-few t rest = by_cases (find (λ (u : Token). is_mark greater u.role) rest)
 
 header-few : (text : List ℕ) (t : Token) (rest : List Token) → length (header_of text t rest) ≤ 1
 header-few text t rest =
-    elim (is_str t.role) as (λ b. length (cond b (string_header text t) (cond (is_mark less t.role) (angle_header t rest) [])) ≤ 1) [
+    elim (is_str t.role) as (λ b. length
+    (cond b (string_header text t) (cond (is_mark less t.role) (angle_header t rest) [])) ≤ 1) [
       | true ↦ string-few text t
       | false ↦ elim (is_mark less t.role) as (λ b. length (cond b (angle_header t rest) []) ≤ 1)
           [ true ↦ angle-few t rest | false ↦ omega arith ]
@@ -220,7 +233,8 @@ module _ (ts : List Token) where
 
   ends-below : (k : ℕ) → k < length ts → AllByRecursion (λ (f : Function). f.end ≤ length ts) (function_at ts k)
   ends-below k within =
-      elim (is_counted ts k && depth ts k == 0) as (λ b. AllByRecursion (λ (f : Function). f.end ≤ length ts) (cond b (function_from ts k (signature ts k)) [])) [
+      elim (is_counted ts k && depth ts k == 0) as (λ b. AllByRecursion
+      (λ (f : Function). f.end ≤ length ts) (cond b (function_from ts k (signature ts k)) [])) [
         | true ↦ from-ends k within (signature ts k)
         | false ↦ tt
       ]
@@ -252,7 +266,12 @@ module _ (ts : List Token) where
       [ true ↦ omega arith | false ↦ omega arith ]
 
   body-few : (f : Function) → f.end ≤ length ts → length (calls_of_function ts f) ≤ length ts
-  body-few f within = omega (arith, one-each (call_at ts f.name.span) (call-one f.name.span) f.body (f.end - f.body), within)
+  body-few f within = omega (
+    arith,
+    one-each (call_at ts f.name.span) (call-one f.name.span) f.body
+        (f.end - f.body),
+    within,
+  )
 
   bodies-few : (fs : List Function) → AllByRecursion (λ (f : Function). f.end ≤ length ts) fs
       → AllByRecursion (λ (f : Function). length (calls_of_function ts f) ≤ length ts) fs
@@ -282,7 +301,9 @@ among-few caller [] = omega arith
 among-few caller (t ∷ []) = omega arith
 among-few caller (t ∷ u ∷ l) =
     let later = among-few caller (u ∷ l) in
-    elim (is_call t u) as (λ b. length (cond b (call_of caller t ∷ calls_among caller (u ∷ l)) (calls_among caller (u ∷ l))) ≤ length (t ∷ u ∷ l)) [
+    elim (is_call t u) as (λ b. length
+    (cond b (call_of caller t ∷ calls_among caller (u ∷ l))
+    (calls_among caller (u ∷ l))) ≤ length (t ∷ u ∷ l)) [
       | true ↦ omega (arith, later)
       | false ↦ omega (arith, later)
     ]
@@ -310,7 +331,15 @@ macros-few : (ls : List (List Token)) → length (flat_map calls_in_macro (flat_
 macros-few [] = omega arith
 macros-few (l ∷ ls) =
     let e = ap length (flat_map-append calls_in_macro (macro_of l) (flat_map macro_of ls)) in
-    omega (arith, e, length-append (flat_map calls_in_macro (macro_of l)) (flat_map calls_in_macro (flat_map macro_of ls)), length-append l (joined ls), macro-few l, macros-few ls)
+    omega (
+      arith,
+      e,
+      length-append (flat_map calls_in_macro (macro_of l))
+          (flat_map calls_in_macro (flat_map macro_of ls)),
+      length-append l (joined ls),
+      macro-few l,
+      macros-few ls,
+    )
 
 square : (a b n : ℕ) → a ≤ n → b ≤ n → a * b ≤ n * n
 square a b n = grind arith
