@@ -6,9 +6,9 @@
 `make test` runs it on the program that it built. Each row below is the words, what standard output
 and standard error have, the exit status, and the tags file that is then there. Help and the texts
 on wrong words are compared whole or by their first line. After the rows come devices: a bound on
-the size of a file at each byte, standard input that fails after each byte, full devices, a pipe as
-a file, 4,096 files and one more, and words that are not UTF-8. The exit status is 1 where a check
-failed.
+the size of a file at each byte, standard input that fails after each byte, full devices, sources
+in the place of a tags file, a pipe as a file, 4,096 files and one more, and words that are not
+UTF-8. The exit status is 1 where a check failed.
 """
 
 from __future__ import annotations
@@ -115,7 +115,7 @@ Arguments:
 
 Options:
   -x                     Write a listing to standard output instead
-  -f <TAGSFILE>          Tags file to write [default: tags]
+  -f <TAGSFILE>          Tags file to write, - for standard output [default: tags]
       --format <FORMAT>  Format of the tags file: 1 for POSIX ctags, 2 with extension fields \
 [default: 1] [possible values: 1, 2]
   -h, --help             Print help
@@ -205,6 +205,10 @@ ROWS = [
     Row(["tags", "none.h"], tags=("tags", b"")),
     Row(["tags", "-x", "-f", "no", "--format", "1", "a.c"], LISTING),
     Row(["tags", "a.c", "-x"], LISTING),
+    Row(["tags", "-f", "-", "a.c"], PLAIN),
+    Row(["tags", "-f-", "--format", "2", "a.c"], EXTENDED),
+    Row(["tags", "-x", "-f", "-", "a.c"], LISTING),
+    Row(["tags", "-f", "./-", "a.c"], tags=("-", PLAIN)),
     Row(["tags", "-x", "last.c"], b"last 2 last.c int last(void) {\n"),
     # searches
     Row(["find", "0", "add", "a.c"], ROWS_OF_ADD),
@@ -237,6 +241,7 @@ ROWS = [
     refused(["tags", "-x", "d.c"], b"d.c: cannot be read"),
     refused(["tags", "-f", "d.c", "a.c"], b"d.c: cannot be written"),
     refused(["tags", "-f", "", "a.c"], b": cannot be written"),
+    refused(["tags", "-f", "-", "none.c"], b"none.c: cannot be read"),
     refused(["line", "a.c", "none2.h"], b"none2.h: cannot be read"),
     refused(["tags", "--", "-x"], b"-x: cannot be read"),
     # a message is one line whatever bytes a name has
@@ -294,6 +299,7 @@ OUTPUT = b"".join(b">> " + reply for reply in REPLIES) + b">> "
 WRITERS = [
     (["tags", "-x", "a.c"], b"", LISTING),
     (["find", "0", "add", "a.c"], b"", ROWS_OF_ADD),
+    (["tags", "-f", "-", "--format", "2", "a.c"], b"", EXTENDED),
     (["line", "a.c"], INPUT, OUTPUT),
 ]
 
@@ -411,6 +417,42 @@ class Checks:
             "tags -f /dev/full", found, (1, b"", b"cbrowse: /dev/full: cannot be written\n")
         )
 
+    def sources(self):
+        """A C source that holds something is no tags file, whatever way leads to it. One that is
+        empty or not there is written."""
+        source = self.folder / "source.h"
+        (self.folder / "link").symlink_to("source.h")
+        (self.folder / "link.c").symlink_to("source.h")
+        for name in ("source.h", "./source.h", "link.c", str(source)):
+            source.write_bytes(A_C)
+            message = b"cbrowse: " + name.encode() + b": cannot be written\n"
+            self.expect(
+                ["tags -f", name], self.run(["tags", "-f", name, "m.c", "n.c"]), (1, b"", message)
+            )
+            self.expect(["tags -f", name, "the source"], source.read_bytes(), A_C)
+        found = self.run(["tags", "-f", "a.c", "m.c", "a.c"])
+        self.expect(
+            "tags -f a.c over itself", found, (1, b"", b"cbrowse: a.c: cannot be written\n")
+        )
+        found = self.run(["tags", "-f", "a.c", "none.c"])
+        self.expect("tags -f a.c none.c", found, (1, b"", b"cbrowse: none.c: cannot be read\n"))
+        self.expect(
+            "tags -x -f a.c", self.run(["tags", "-x", "-f", "a.c", "a.c"]), (0, LISTING, b"")
+        )
+        self.expect("a.c after these runs", (self.folder / "a.c").read_bytes(), A_C)
+        for given in (b"", None):
+            source.unlink()
+            if given is not None:
+                source.write_bytes(given)
+            self.expect(
+                ["tags -f source.h", given],
+                self.run(["tags", "-f", "source.h", "a.c"]),
+                (0, b"", b""),
+            )
+            self.expect(["source.h", given], source.read_bytes(), PLAIN)
+        self.expect("tags -f link", self.run(["tags", "-f", "link", "m.c"]), (0, b"", b""))
+        self.expect("link", source.read_bytes(), b"Mb\tm.c\t/^int Mb(void) {$/\n")
+
     def pipes_and_many(self):
         """A pipe as a file, which has no size; and 4,096 files and one more."""
         pipe = self.folder / "p.c"
@@ -450,7 +492,13 @@ def main():
         checks = Checks(program, pathlib.Path(room))
         for row in ROWS:
             checks.row(row)
-        for check in (checks.at_each_byte, checks.reader_fails, checks.full, checks.pipes_and_many):
+        for check in (
+            checks.at_each_byte,
+            checks.reader_fails,
+            checks.full,
+            checks.sources,
+            checks.pipes_and_many,
+        ):
             check()
     print(f"whole program: {checks.runs - checks.failed} passed, {checks.failed} failed")
     return 1 if checks.failed else 0

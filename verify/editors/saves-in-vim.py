@@ -1,11 +1,11 @@
 #!/usr/bin/env python3
-"""Saves files in vim, and checks what `editors/cbrowse.vim` finds before and after.
+"""Saves files in vim, and checks what the plugin finds before and after.
 
     make && verify/editors/saves-in-vim.py FOLDER
-    verify/editors/saves-in-vim.py --cbrowse PATH --files 200 --vim PATH FOLDER
+    verify/editors/saves-in-vim.py --cbrowse PATH --files 200 --vim nvim FOLDER
 
-Some C files of the folder are copied to a temporary folder, by their names in it. vim (with +job
-and +channel) begins a session with them. A call that is typed into a buffer is not found; once the
+Some C files of the folder are copied to a temporary folder, by their names in it; for nvim those in
+ASCII. vim (with +job and +channel) or nvim begins a session with them. A call that is typed into a buffer is not found; once the
 buffer is written it is, and its line is the new one. A new file is found once it is written. A file
 that is deleted is found no more, and neither is what a longer edit took away. After each step the
 quickfix list of callers, uses, definitions and lines is that of `cbrowse find` over the files on
@@ -30,7 +30,10 @@ CALLED = "cbrowse_is_called_here"
 
 # Does the steps of the file `steps` and writes the quickfix list after each question.
 SCRIPT = r"""
-set nocompatible nomore nofixendofline hidden encoding=latin1 fileencodings=latin1
+set nocompatible nomore nofixendofline hidden fileencodings=latin1
+if !has('nvim')
+  set encoding=latin1
+endif
 let g:cbrowse_program = $CBROWSE
 execute 'source' $PLUGIN
 let found = []
@@ -51,10 +54,11 @@ qall!
 """
 
 
-def copied(folder: pathlib.Path, number: int, home: pathlib.Path) -> list[str]:
+def copied(folder: pathlib.Path, number: int, home: pathlib.Path, ascii_alone: bool) -> list[str]:
     """The names of some C files, copied: none begins with `-`, and none holds a byte 0."""
-    names = [*c_files(folder, form="[!-,.-~][!-~]*")]
-    names = spread((name for name in names if b"\0" not in (folder / name).read_bytes()), number)
+    texts = {name: (folder / name).read_bytes() for name in c_files(folder, form="[!-,.-~][!-~]*")}
+    names = (name for name, text in texts.items() if b"\0" not in text)
+    names = spread((name for name in names if not ascii_alone or texts[name].isascii()), number)
     copy(folder, names, home)
     return names
 
@@ -152,13 +156,15 @@ def main() -> int:
     words = words_given(parser)
     with tempfile.TemporaryDirectory() as place, tempfile.TemporaryDirectory() as beside:
         home, beside = pathlib.Path(place).resolve(), pathlib.Path(beside)
-        plan = steps(words.cbrowse, home, copied(words.folder.resolve(), words.files, home))
+        is_nvim = pathlib.Path(words.vim).name == "nvim"
+        names = copied(words.folder.resolve(), words.files, home, is_nvim)
+        plan = steps(words.cbrowse, home, names)
         (beside / "steps").write_text(json.dumps(plan.told))
         (beside / "script.vim").write_text(SCRIPT)
         files = {
             "STEPS": beside / "steps",
             "FOUND": beside / "found",
-            "PLUGIN": TOP / "editors" / "cbrowse.vim",
+            "PLUGIN": TOP / "editors" / "vim" / "plugin" / "cbrowse.vim",
             "CBROWSE": words.cbrowse,
         }
         subprocess.run(

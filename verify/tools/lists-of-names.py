@@ -4,8 +4,11 @@
     make && verify/tools/lists-of-names.py
     verify/tools/lists-of-names.py --cbrowse PATH
 
-Long    more names than one command can be given: the first 4,096 files are listed, and how many are
-        left out is told.
+Long    more names than one command can be given: all are listed, and that a session takes the first
+        4,096 is told; line by line the first answer has two more rows that say so, whatever it
+        finds, and the next one has none.
+Odd     names with blanks, in quotes or not, and in UTF-8, files that are too large and folders are
+        passed over, and told with how many they are, in each mode.
 None    a folder is no list: an old list stays, and the status is 1.
 Away    a list in another folder is read there, whatever CDPATH says; names that the way to it makes
         too long, or gives a blank, are left out and told.
@@ -28,6 +31,12 @@ report = Report()
 check = report.check
 
 
+def left(*counts: object) -> str:
+    """The line that tells how many files are left out: a number and a reason, again and again."""
+    reasons = ", ".join(f"{counts[i]} {counts[i + 1]}" for i in range(0, len(counts), 2))
+    return f"cbrowse-cscope: files left out: {reasons}\n"
+
+
 def long_list(place: Place) -> None:
     place.put("long/a.c")
     for folder in range(70):
@@ -39,10 +48,52 @@ def long_list(place: Place) -> None:
     lines = (place.folder / "long/cscope.out").read_text().splitlines()
     check(
         "70,001 names",
-        status == 0 and len(lines) == 4096 and said == "cbrowse-cscope: 65905 files are left out\n",
+        (status, len(lines)) == (0, 70001)
+        and said == "cbrowse-cscope: a session takes the first 4096 of 70001 files\n",
         said,
     )
-    check("one of them is found", place.run("-L", "-1", "f", "-R", below="long")[:2] == (0, ROW))
+    found = place.run("-L", "-1", "f", "-R", below="long")
+    check("one of them is found", found == (0, ROW, left(65905, "more than 4096")), found)
+    told = (
+        b"cscope.out left-out 1 65905 files are left out: a session takes 4096\n"
+        b"cscope.out left-out 1 cbrowse-tree find answers about all\n"
+    )
+    for name, count, row in ("f", 1, ROW), ("none", 0, b""):
+        _, out, _ = place.run("-l", below="long", stdin=f"1{name}\n1f\n")
+        first = b">> cscope: %d lines\n" % (count + 2) + told + row
+        check(
+            f"told in the answer to 1{name}",
+            out == first + b">> cscope: 1 lines\n" + ROW + b">> ",
+            out,
+        )
+
+
+def odd_names(place: Place) -> None:
+    for name in "a.c", "a b.c", "\u00e9.c", "c.h":
+        place.put(f"odd/{name}")
+    place.put("odd/large.c", " " * 1_000_001)
+    (place.folder / "odd/d.c").mkdir()
+    said = left(2, "with a bad name", 1, "too large or not there to read")
+    status, _, heard = place.run("-b", below="odd")
+    lines = (place.folder / "odd/cscope.out").read_text()
+    check("odd names", (status, lines, heard) == (0, "a.c\nc.h\n", said), heard)
+    (place.folder / "odd/cscope.out").unlink()
+    found = place.run("-L", "-1", "f", below="odd")
+    check(
+        "the same, one question",
+        found == (0, ROW + b"c" + ROW[1:].replace(b".c", b".h"), said),
+        found,
+    )
+    found = place.run("-l", below="odd", stdin="1none\n")
+    check("the same, line by line", found == (0, b">> cscope: 0 lines\n>> ", said), found)
+    place.put("odd/names", '"a.c" "a b.c"\t"c.h"\r\nd.c no.c "\n')
+    said = left(1, "with a bad name", 2, "too large or not there to read")
+    status, _, heard = place.run("-b", "-i", "names", below="odd")
+    lines = (place.folder / "odd/cscope.out").read_text()
+    check("names in quotes", (status, lines, heard) == (0, "a.c\nc.h\n", said), (lines, heard))
+    for word in "--help", "-h", "--version":
+        status, out, heard = place.run(word)
+        check(word, status == 0 and out.startswith(b"cbrowse-cscope") and heard == "", heard)
 
 
 def no_list(place: Place) -> None:
@@ -82,7 +133,7 @@ def away(place: Place) -> None:
     check(
         "a blank on the way",
         status == 0
-        and said == "cbrowse-cscope: 1 files are left out\n"
+        and said == left(1, "with a bad name from the folder of the list")
         and (place.folder / "a blank/s/list").read_text() == "",
         said,
     )
@@ -133,6 +184,7 @@ def main() -> int:
     with tempfile.TemporaryDirectory() as folder:
         place = Place(folder, cbrowse, "cbrowse-cscope")
         no_list(place)
+        odd_names(place)
         away(place)
         ends(place)
         others(place)

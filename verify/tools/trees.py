@@ -6,8 +6,13 @@
 
 Whole      the tags file, plain and extended, and the listing of a tree are those of one
            `cbrowse tags` over its files, byte for byte, by one process and by four.
-Odd names  what cbrowse does not take is told and left out, the status is 1, and all else is there;
-           folders named `!`, `(` and `-x`, and a tags file named `-t`, are taken as they are.
+Questions  the rows of `find` are those of one `cbrowse find`, byte for byte, for each field, by one
+           process and by four; so are those of many questions; a question that is none is refused.
+Names      names from lists and from standard input, folders and files in any mix, what is left out
+           by --exclude, and which of them decide the status.
+Odd names  what cbrowse does not take is told once for each reason, with how many and three names,
+           and left out, and all else is there; folders named `!`, `(` and `-x`, and a tags file
+           named `-t`, are taken as they are.
 Ends       numbers that begin with 0; a tags file that is a link, a pipe or the name of another's
            folder; no standard error; a program in a folder of PATH that does not begin with /;
            folders that cannot be read (as root, who runs as nobody).
@@ -30,6 +35,7 @@ from shared import Place, Report, words_given, options  # noqa: E402
 
 OLD = "old\told.c\t/^old$/\n"
 TEXT = "int g(void) {\n}\n"
+CALLS = "#include <stdio.h>\nint f{number}(void) {{\n\treturn f{other}('*') + f7();\n}}\n"
 BODY = "#define M{number} 1\nstruct s {{\nint x;\n}};\nint main(void) {{\n}}\n"
 report = Report()
 check = report.check
@@ -37,7 +43,7 @@ check = report.check
 
 def one(place: Place, names: list[str], *words: str) -> bytes:
     """What one run of cbrowse makes of these files."""
-    command = [place.cbrowse, "tags", "-f", "whole", *words, "--", *names]
+    command = [place.cbrowse, "tags", "-f", "whole", *(words or ["--format", "2"]), "--", *names]
     subprocess.run(command, cwd=place.folder, check=True)
     return (place.folder / "whole").read_bytes()
 
@@ -50,7 +56,7 @@ def whole(place: Place) -> None:
             names[-1],
             f"int f{number % 100}(void) {{\n}}\n" + BODY.format(number=number),
         )
-    for words in ([], ["--format", "2"]):
+    for words in ([], ["--format", "1"]):
         for jobs in "1", "4":
             status, _, said = place.run("-j", jobs, "-f", "parts", *words, "many")
             same = (place.folder / "parts").read_bytes() == one(place, sorted(names), *words)
@@ -62,12 +68,153 @@ def whole(place: Place) -> None:
     ).stdout
     status, out, said = place.run("-x", "many")
     check("one listing", status == 0 and out == listing, said)
+    status, out, said = place.run("-f", "-", "many")
+    check("standard output", status == 0 and out == one(place, sorted(names)), said)
+    check("no progress where nobody looks", said == "", said)
+
+
+def questions(place: Place) -> None:
+    """The rows of one question, and of many."""
+    names = []
+    for number in range(1200):
+        names.append(f"asked/d{number % 5}/f{number}.c")
+        place.put(names[-1], CALLS.format(number=number, other=number * 7 % 1200))
+    place.put("asked/!.c", CALLS.format(number=9999, other=7))
+    names = sorted([*names, "asked/!.c"])
+    asked = ["0f7", "1f7", "2f9", "3f7", "4return", "4'", "7f1", "8stdio.h", "1none", "4*", "4 "]
+    rows = {}
+    for question in asked:
+        words = ["find", question[0], "--", question[1:], *names]
+        done = subprocess.run([place.cbrowse, *words], cwd=place.folder, capture_output=True)
+        rows[question] = done.stdout
+        for jobs in "1", "4":
+            words = ["find", "-j", jobs, "--", question[0], question[1:], "asked"]
+            status, out, said = place.run(*words)
+            check(f"find {question} by {jobs}", (status, out) == (0, done.stdout), said)
+    place.put("questions", "".join(f"{question}\n" for question in asked))
+    expected = b"".join(
+        question.encode() + b"\t" + row
+        for question in asked
+        for row in rows[question].splitlines(keepends=True)
+    )
+    for jobs in "1", "4":
+        status, out, said = place.run("find", "-j", jobs, "--questions", "questions", "asked")
+        check(f"many questions by {jobs}", (status, out) == (0, expected), said)
+    place.put("questions", "1f7\n6f7\n")
+    check("a question that is none", place.run("find", "--questions", "questions", "asked")[0] == 2)
+    for words, said in (("6", "x"), "field not in this profile"), (("1", ""), "no pattern"):
+        found = place.run("find", *words, "asked")
+        check(f"find {words}", found == (2, b"", f"cbrowse: {said}\n"), found)
+    check("find without a pattern", place.run("find", "1")[0] == 2)
+
+
+def names_given(place: Place) -> None:
+    """Lists, folders and files in any mix."""
+    for name in "x/a.c", "x/b.h", "x/build/c.c", "y/d.c", "y/test_e.c", "-z.c":
+        place.put(f"given/{name}", TEXT)
+    place.put("given/list", "y/d.c\n\ny/test_e.c\n")
+
+    def files(*words: str, stdin: str = "") -> tuple[int, list[str], str]:
+        status, out, said = place.run(
+            "--format", "1", "-f", "-", *words, below="given", stdin=stdin
+        )
+        return status, [line.split("\t")[1] for line in out.decode().splitlines()], said
+
+    def takes(what: str, found: object, *expected: str, status: int = 0, said: str = "") -> None:
+        check(what, found == (status, list(expected), said), found)
+
+    whole = ["x/a.c", "x/b.h", "x/build/c.c"]
+    takes("a list", files("-L", "list"), "y/d.c", "y/test_e.c")
+    takes("two lists", files("-Llist", "-L", "list"), "y/d.c", "y/test_e.c")
+    takes("standard input", files("-L", "-", stdin="x/b.h\nx/a.c"), "x/a.c", "x/b.h")
+    takes("a mix", files("y/d.c", "-L", "list", "x", "x/a.c"), *whole, "y/d.c", "y/test_e.c")
+    takes("a name with a dash", files("--", "-z.c"), "./-z.c")
+    takes("excluded by a name", files("x", "--exclude", "build"), "x/a.c", "x/b.h")
+    takes(
+        "excluded by a glob",
+        files("x", "y", "--exclude=test_*", "--exclude", "*.h"),
+        "x/a.c",
+        "x/build/c.c",
+        "y/d.c",
+    )
+    takes(
+        "excluded by a path",
+        files("x", "y", "--exclude", "x/build/"),
+        "x/a.c",
+        "x/b.h",
+        "y/d.c",
+        "y/test_e.c",
+    )
+    takes(
+        "excluded by the end of a path",
+        files(".", "--exclude", "y/*.c", "--exclude", "-z.c"),
+        *(f"./{name}" for name in whole),
+    )
+    takes(
+        "excluded from a list",
+        files("-L", "list", "x/build/c.c", "--exclude", "build", "--exclude", "test_*"),
+        "y/d.c",
+    )
+    left = "cbrowse-tree: 1 left out, {}\n"
+    takes(
+        "a file that is not there",
+        files("x/a.c", "no.c"),
+        "x/a.c",
+        status=1,
+        said=left.format("no such file: no.c"),
+    )
+    takes(
+        "a name of a list that is not there",
+        files("-L", "-", stdin="x/a.c\nno/no.h\n"),
+        "x/a.c",
+        status=1,
+        said=left.format("no such file: no/no.h"),
+    )
+    takes(
+        "a file that is not C",
+        files("list", "x/a.c"),
+        "x/a.c",
+        status=1,
+        said=left.format("not named .c or .h: list"),
+    )
+    takes(
+        "a folder in a list",
+        files("-L", "-", stdin="x\ny/d.c\n"),
+        "y/d.c",
+        status=1,
+        said=left.format("not named .c or .h: x"),
+    )
+    place.put("given/large.c", " " * 1_000_001)
+    takes(
+        "a large file that is named",
+        files("large.c", "y/d.c"),
+        "y/d.c",
+        status=1,
+        said=left.format("too large: large.c"),
+    )
+    takes(
+        "a large file that is found",
+        files(".", "--exclude", "[xy]", "--exclude", "-*"),
+        said=left.format("too large: ./large.c"),
+    )
+    status, _, said = place.run("-L", "nowhere", below="given")
+    check(
+        "a list that is not there",
+        status == 1 and said == "cbrowse-tree: nowhere: cannot be read\n",
+        said,
+    )
+    check("nothing to take", place.run(below="given")[0] == 2)
+    for word in "--help", "-h", "--version":
+        status, out, said = place.run(word)
+        check(word, status == 0 and out.startswith(b"cbrowse-tree") and said == "", (out, said))
 
 
 def odd_names(place: Place) -> None:
     text = TEXT
     for name in (
         "odd/a b.c",
+        "odd/a c.c",
+        "odd/a d.c",
         "odd/\u00e9.c",
         "odd/'$(x)*.c",
         "odd/good.c",
@@ -79,18 +226,24 @@ def odd_names(place: Place) -> None:
     place.put("odd/large.c", " " * 1_000_001)
     status, _, said = place.run("-f", "odd.tags", "odd")
     lines = (place.folder / "odd.tags").read_text().splitlines()
+    told = [
+        "cbrowse-tree: 1 left out, too large: odd/large.c",
+        "cbrowse-tree: 4 left out, bad name: odd/??.c, odd/a?b.c, odd/a?c.c ..",
+    ]
     check(
         "odd names",
-        status == 1
-        and len(said.splitlines()) == 3
-        and [line.split("\t")[1] for line in lines] == ["odd/'$(x)*.c", "odd/good.c"],
+        status == 0
+        and said.splitlines() == told
+        and [line.split("\t")[1] for line in lines[2:]] == ["odd/'$(x)*.c", "odd/good.c"],
         said,
     )
+    status, _, said = place.run("--verbose", "-f", "odd.tags", "odd")
+    check("odd names, one by one", status == 0 and len(said.splitlines()) == 5, said)
     for folder in "!", "(", "./-x":
         status, _, said = place.run("-f", "-t", folder)
         check(
             f"a folder named {folder}",
-            status == 0 and (place.folder / "-t").read_text().startswith("g\t"),
+            status == 0 and "\ng\t" in (place.folder / "-t").read_text(),
             said,
         )
 
@@ -183,7 +336,7 @@ def sources(place: Place) -> None:
     status, _, said = place.run("--force", "-f", "victim/a.c", "victim")
     check(
         "a source that is replaced",
-        status == 0 and (place.folder / "victim/a.c").read_text().startswith("f\tvictim/a.c\t"),
+        status == 0 and "\nf\tvictim/a.c\t" in (place.folder / "victim/a.c").read_text(),
         said,
     )
     place.put("victim/b.c", source)
@@ -253,6 +406,8 @@ def main() -> int:
     with tempfile.TemporaryDirectory() as folder:
         place = Place(folder, cbrowse, "cbrowse-tree")
         whole(place)
+        questions(place)
+        names_given(place)
         odd_names(place)
         ends(place)
         sources(place)
