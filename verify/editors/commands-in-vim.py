@@ -44,13 +44,15 @@ for step in json_decode(join(readfile($STEPS), ''))
   catch
     let said = 'THROWN ' .. v:exception
   endtry
-  let rows = map(getqflist(), {_, one -> [fnamemodify(bufname(one.bufnr), ':.'), one.lnum, one.text]})
+  let rows = getqflist()
+  call map(rows, {_, one -> [fnamemodify(bufname(one.bufnr), ':.'), one.lnum, one.text]})
   call add(found, [said, rows, fnamemodify(bufname('%'), ':.'), line('.'), winnr('$')])
 endfor
 call writefile([json_encode(found)], $FOUND)
 qall!
 """
-KILL = "call system('kill ' .. join(split(system('pgrep -P ' .. getpid() .. ' -f line')))) | sleep 300m"
+CHILDREN = "split(system('pgrep -P ' .. getpid() .. ' -f line'))"
+KILL = f"call system('kill ' .. join({CHILDREN})) | sleep 300m"
 
 
 class Step(NamedTuple):
@@ -178,7 +180,10 @@ def failures(plan: Plan) -> None:
     word = "cbrowse: there is no word under the cursor; name one after the command"
     plan.add("CbrowseDefine", word)
     plan.add("CbrowseLeftOut", "cbrowse: no file is left out")
-    odd = "call mkdir('odd') | for i in range(500) | call writefile([''], printf('odd/a %d.c', i)) | endfor"
+    odd = (
+        "call mkdir('odd') | for i in range(500)"
+        " | call writefile([''], printf('odd/a %d.c', i)) | endfor"
+    )
     plan.add(odd)
     plan.add("call writefile([repeat(' ', 1000001)], 'odd/large.h')")
     said = "cbrowse: left out: 500 bad name, 1 too large; :CbrowseLeftOut lists them"
@@ -190,10 +195,13 @@ def failures(plan: Plan) -> None:
     plan.add("silent edit odd/large.h | silent write | messages clear")
     plan.add(
         "edit c.h | cd odd | CbrowseStart *.x",
-        "cbrowse: no C files are here; :cd to their folder," " or name them after :CbrowseStart",
+        "cbrowse: no C files are here; :cd to their folder, or name them after :CbrowseStart",
     )
     plan.add("cd ..")
-    many = "call mkdir('many') | for i in range(4200) | call writefile(['x;'], printf('many/%d.c', i)) | endfor"
+    many = (
+        "call mkdir('many') | for i in range(4200)"
+        " | call writefile(['x;'], printf('many/%d.c', i)) | endfor"
+    )
     plan.add(many)
     plan.add(
         "CbrowseStart many",
