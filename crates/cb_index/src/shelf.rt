@@ -277,7 +277,9 @@ impl Shelf {
     /// Whether versions, whose file names ascend, can be shown together: they are there, no file of
     /// one of their names is shown, and there is room for all.
     pub fn can_show(&self, news: &[Shown]) -> bool
-        ensures { result ≡ true → CanShow self.now news.now }
+        ensures can { result ≡ true → CanShow self.now news.now }
+        ensures cannot { AreAscending self.now.archive news.now → CanShow self.now news.now
+            → result ≡ true }
     {
         if !are_there(&self.archive, news) || !ascend(&self.archive, news) {
             return false;
