@@ -10,7 +10,7 @@ use Rattle.cb_index.proofs.listed.ascend.Goals as goal
 
 -- each name is below the next, so no two are one
 pub returns-clause-apart : goal.returns-clause-apart
-returns-clause-apart c is =
+returns-clause-apart c = λ is.
     let a = c.args.archive.now in
     ascending_apart a c.args.news.now (ascending_if a c.args.news.now
     (subst (IsAllAdjacentAnswer (λ (s t : Shown) b. b ≡ is_lt (slice_cmp nat_cmp (name_of a s.name) (name_of a t.name))) c.args.news.now) is
@@ -19,7 +19,7 @@ returns-clause-apart c is =
 
 -- where each name is below the next, no two are found that are not
 pub returns-clause-ascending : goal.returns-clause-ascending
-returns-clause-ascending c up =
+returns-clause-ascending c = λ up.
     let a = c.args.archive.now in
     let news = c.args.news.now in
     ascending_answer a news c.is_sorted_by.result up
