@@ -2,7 +2,14 @@
 ghost use Rattle.std.specs.Prelude.{◌≡◌, ◌≢◌, [], IfErr, IfOk};
 ghost use Rattle.std.specs.Option.{option_copied};
 ghost use Rattle.cb_desk.specs.Answer.{answer};
-ghost use Rattle.cb_desk.specs.Desk.{Counts, CountsUpTo, bytes_in, counted, definitions_in, scanned};
+ghost use Rattle.cb_desk.specs.Desk.{
+  Counts,
+  CountsUpTo,
+  bytes_in,
+  counted,
+  definitions_in,
+  scanned,
+};
 ghost use Rattle.cb_desk.specs.Models.{step_of};
 ghost use Rattle.cb_desk.specs.Settled.{AreTagsSettled, IsSettled};
 ghost use Rattle.cb_desk.specs.Tags.{tags};
