@@ -1,9 +1,15 @@
-# make          proves the crates of the program, and builds bin/cbrowse
-# make test     the gate
-# make install, make uninstall    the program, its companions, cbrowse.vim and the manual pages
-.PHONY: all program test install uninstall clean
+# make              proves the crates of the program, and builds bin/cbrowse
+# make test         the gate
+# make install      the program, its companions, the plugin for vim and nvim, completions, manual
+#                   pages and documents, below PREFIX; DESTDIR goes before it
+# make uninstall    takes away what make install puts in place, and the folders that are then empty
+# make deb          dist/cbrowse_VERSION_ARCH.deb, a Debian package of the same
+# make dist         a tar of the same, and one of the sources of the last commit, in dist/
+.PHONY: all program test install uninstall deb dist clean
 
 PREFIX ?= /usr/local
+# Where zsh looks for completions of programs below PREFIX.
+ZSH ?= $(PREFIX)/share/zsh/site-functions
 
 all: program
 
@@ -16,21 +22,21 @@ program:
 test:
 	scripts/gate.py
 
-# The program is copied as it stands in bin: nothing is proved anew, unless there is none. DESTDIR
-# goes before PREFIX.
+# The program is copied as it stands in bin: nothing is proved anew, unless there is none.
 install: bin/cbrowse
-	install -d $(DESTDIR)$(PREFIX)/bin $(DESTDIR)$(PREFIX)/share/man/man1 $(DESTDIR)$(PREFIX)/share/cbrowse
-	install -m 755 bin/cbrowse editors/cbrowse-cscope editors/cbrowse-tree $(DESTDIR)$(PREFIX)/bin
-	install -m 644 man/cbrowse.1 man/cbrowse-tree.1 $(DESTDIR)$(PREFIX)/share/man/man1
-	install -m 644 editors/cbrowse.vim $(DESTDIR)$(PREFIX)/share/cbrowse
+	scripts/install.sh "$(DESTDIR)" "$(PREFIX)" "$(ZSH)"
+
+uninstall:
+	scripts/install.sh --undo "$(DESTDIR)" "$(PREFIX)" "$(ZSH)"
+
+deb: bin/cbrowse
+	scripts/package.sh deb
+
+dist: bin/cbrowse
+	scripts/package.sh tar
 
 bin/cbrowse:
 	$(MAKE) program
 
-uninstall:
-	rm -f $(DESTDIR)$(PREFIX)/bin/cbrowse $(DESTDIR)$(PREFIX)/bin/cbrowse-cscope $(DESTDIR)$(PREFIX)/bin/cbrowse-tree
-	rm -f $(DESTDIR)$(PREFIX)/share/man/man1/cbrowse.1 $(DESTDIR)$(PREFIX)/share/man/man1/cbrowse-tree.1
-	rm -rf $(DESTDIR)$(PREFIX)/share/cbrowse
-
 clean:
-	rm -rf bin crates/*/out
+	rm -rf bin dist crates/*/out

@@ -3,10 +3,11 @@
 #
 #     bench/corpus.sh FOLDER
 #
-# FOLDER/files gets 4,096 of the .c and .h files of nine source packages of Debian 12, each below the name of its package:
-# those that cbrowse takes, without copies of one another, the first by the SHA-256 of their contents. What was fetched
-# stays in FOLDER/packages, so a second run fetches nothing. Printed are the packages, the number and the bytes of the
-# files, and the SHA-256 of the list of their digests and names; it is the same wherever the files are the same.
+# FOLDER/files gets 4,096 of the .c and .h files of nine source packages of Debian 12, each below
+# the name of its package: those that cbrowse takes, without copies of one another, the first by the
+# SHA-256 of their contents. What was fetched stays in FOLDER/packages, so a second run fetches
+# nothing. Printed are the packages, the number and the bytes of the files, and the SHA-256 of the
+# list of their digests and names; it is the same wherever the files are the same.
 #
 # It needs apt-get, tar and the network. It changes no setting of the system.
 set -eu
@@ -31,7 +32,11 @@ if [ ! -e packages/done ]; then
     set -- -q -o Dir::Etc::sourcelist="$folder/sources.list" -o Dir::Etc::sourceparts=/dev/null \
         -o Dir::State::Lists="$folder/lists"
     apt-get "$@" update
-    (cd packages && for package in $packages; do apt-get "$@" source --download-only "$package"; done)
+    cd packages
+    for package in $packages; do
+        apt-get "$@" source --download-only "$package"
+    done
+    cd ..
     touch packages/done
 fi
 
@@ -46,7 +51,8 @@ for archive in packages/*.orig*.tar.*; do
     tar -xf "$archive" -C "all/${name%%_*}"
 done
 cd all
-find . -type f -name '*.[ch]' -size -1000001c | sed 's/^\.\///' | grep -x '[!-~]\{2,255\}' | sort >../names
+find . -type f -name '*.[ch]' -size -1000001c | sed 's/^\.\///' |
+    grep -x '[!-~]\{2,255\}' | sort >../names
 xargs -d '\n' sha256sum <../names | sort -u -k1,1 | head -n "$count" | sort -k2 >../digests
 while read -r _ name; do
     mkdir -p "../files/$(dirname "$name")"
@@ -54,4 +60,5 @@ while read -r _ name; do
 done <../digests
 cd ..
 rm -rf all names
-echo "$(wc -l <digests) files, $(find files -type f -exec cat {} + | wc -c) bytes, list $(sha256sum <digests | cut -d' ' -f1)"
+bytes=$(find files -type f -exec cat {} + | wc -c)
+echo "$(wc -l <digests) files, $bytes bytes, list $(sha256sum <digests | cut -d' ' -f1)"

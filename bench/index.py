@@ -1,28 +1,31 @@
 #!/usr/bin/env python3
-"""How fast five sorted indexes of real sources are filled, changed and asked, and how much memory they take, beside cscope.
-
-A person runs this by hand; no gate does, and nothing here passes or fails by its time.
+"""How fast five sorted indexes of real sources are filled, changed and asked, beside cscope.
 
     (cd crates/index_bench && rt run) && bench/index.py FOLDER
     bench/index.py --program PATH FOLDER
 
-The files are the C sources of the folder that are at most 1 MB, at most so many as asked for. The program
-`crates/index_bench` scans them all and keeps them on a shelf of `cb_index`. Then it measures, with
-the clock of its processor time:
+The program `crates/index_bench` scans the C sources of the folder, at most 4,096 of them or as many
+as `--files` says, and keeps them on a shelf of `cb_index`. Then it measures, with the clock of its
+processor time:
 
 filled      all files shown together, which fills the five indexes; and hidden together
 one by one  all files shown one after the other
-one file    a file of median size, and the largest, hidden and shown again while all others are shown
-first row   the first row of a question, for the names of some definitions: definitions, uses, calls of, calls in
+one file    a file of median size, and the largest, hidden and shown again among all others
+first row   the first row of a question, for the names of some definitions: definitions, uses, calls
+            of, calls in
 
-Memory, as bytes a byte of source: what is kept; what is resident more once all files are shown and links are laid;
-and what is resident more once room is made, which nothing has touched.
+Memory, as bytes a byte of source: what is kept; what more is resident once all files are shown and
+links are laid; and what more is resident once room is made, which nothing has touched.
 
-`cscope -b -q` builds its own indexes of the same files; its time has the reading and scanning in it. A question of cscope
-is the time of a session of `cscope -d -l` with many questions, without that of one with none.
+`cscope -b -q` builds its own indexes of the same files; its time includes reading and scanning. A
+question of cscope is the time of a session of `cscope -d -l` with many questions, without that of
+one with none.
 
-The times are the best of several. Other work on the machine still makes them longer: run it twice, and on an idle machine.
+The times are the best of several. Other work on the machine still makes them longer: run it twice,
+and on an idle machine.
 """
+
+from __future__ import annotations
 
 import argparse
 import os
@@ -31,33 +34,30 @@ import re
 import subprocess
 import tempfile
 
-from measure import PATIENCE, installed, keep_to_one_core, processor_time
+from measure import PATIENCE, TOP, c_files, installed, keep_to_one_core, processor_time
 
 QUESTIONS = 200  # in one session of cscope
 RUNS = 3
 WANTED = {  # the figures that were aimed at: milliseconds, or bytes
-    "filled": 500, "hidden": 1000, "median hide": 8, "median show": 8, "largest hide": 20, "largest show": 20, "first row": 0.05,
+    "filled": 500,
+    "hidden": 1000,
+    "median hide": 8,
+    "median show": 8,
+    "largest hide": 20,
+    "largest show": 20,
+    "first row": 0.05,
 }
-
-
-def c_files(folder, most, largest=1_000_000):
-    """The C sources under a folder that are not too large, ascending by the bytes of their names, and their sizes."""
-    found = {}
-    for place, _, files in os.walk(folder):
-        for file in files:
-            path = pathlib.Path(place, file)
-            name = str(path.relative_to(folder))
-            if file.endswith((".c", ".h")) and re.fullmatch("[!-~]{2,255}", name) and path.stat().st_size <= largest:
-                found[name] = path.stat().st_size
-    names = sorted(found, key=os.fsencode)[:most]
-    return {name: found[name] for name in names}
 
 
 def measured(program, folder, sizes):
     """What the program prints, in order: pairs of a word and the rest of the line."""
     by_size = sorted(sizes, key=lambda name: sizes[name])
     words = [program, by_size[len(by_size) // 2], by_size[-1]] + list(sizes)
-    lines = subprocess.run(words, cwd=folder, stdout=subprocess.PIPE, timeout=PATIENCE, check=True).stdout.decode().splitlines()
+    lines = (
+        subprocess.run(words, cwd=folder, stdout=subprocess.PIPE, timeout=PATIENCE, check=True)
+        .stdout.decode()
+        .splitlines()
+    )
     if any(line.startswith("failed") for line in lines) or not lines:
         raise SystemExit(f"{program}: no figures")
     return [tuple(line.split(" ", 1)) for line in lines]
@@ -81,11 +81,19 @@ def put_time(label, nanoseconds, key=None):
 
 def report(pairs):
     """The figures of the program; the seconds in which all five indexes are filled."""
-    counts = {word: int(rest) for word, rest in pairs if word in ("files", "bytes", "defs", "uses", "calls")}
+    counts = {
+        word: int(rest)
+        for word, rest in pairs
+        if word in ("files", "bytes", "defs", "uses", "calls")
+    }
     print(", ".join(f"{number:,} {word}" for word, number in counts.items()))
     filled = min(int(rest) for word, rest in pairs if word == "show_all")
     seconds = put_time("all shown together", filled, "filled")
-    put_time("all hidden together", min(int(rest) for word, rest in pairs if word == "hide_all"), "hidden")
+    put_time(
+        "all hidden together",
+        min(int(rest) for word, rest in pairs if word == "hide_all"),
+        "hidden",
+    )
     put_time("all shown one by one", next(int(rest) for word, rest in pairs if word == "show_each"))
     place = None
     times = {}
@@ -104,8 +112,17 @@ def report(pairs):
             put(f"first row, {word[6:]}, names with one", rows, "")
     grown = resident(pairs, "shown") - resident(pairs, "reserved")
     put("indexes, resident", f"{grown / counts['bytes']:.2f}", "bytes/byte")
-    put("room, resident", f"{(resident(pairs, 'reserved') - resident(pairs, 'kept')) / 1024:.0f}", "KiB", "aimed at none")
-    put("all that is kept, resident", f"{resident(pairs, 'kept') / counts['bytes']:.2f}", "bytes/byte")
+    put(
+        "room, resident",
+        f"{(resident(pairs, 'reserved') - resident(pairs, 'kept')) / 1024:.0f}",
+        "KiB",
+        "aimed at none",
+    )
+    put(
+        "all that is kept, resident",
+        f"{resident(pairs, 'kept') / counts['bytes']:.2f}",
+        "bytes/byte",
+    )
     return seconds
 
 
@@ -119,18 +136,41 @@ def report_cscope(folder, sizes, place, seconds):
             path.unlink()
         with open(os.devnull, "rb") as nothing:
             before = os.times()
-            subprocess.run(build, cwd=folder, stdin=nothing, stdout=subprocess.DEVNULL, timeout=PATIENCE, check=True)
+            subprocess.run(
+                build,
+                cwd=folder,
+                stdin=nothing,
+                stdout=subprocess.DEVNULL,
+                timeout=PATIENCE,
+                check=True,
+            )
             after = os.times()
-        return after.children_user - before.children_user + after.children_system - before.children_system
+        return (
+            after.children_user
+            - before.children_user
+            + after.children_system
+            - before.children_system
+        )
 
     best = min(built() for _ in range(RUNS))
-    put("cscope -b -q", f"{best * 1000:.0f}", "ms", f"{best / seconds:.1f} times all shown together; aimed at 4")
+    put(
+        "cscope -b -q",
+        f"{best * 1000:.0f}",
+        "ms",
+        f"{best / seconds:.1f} times all shown together; aimed at 4",
+    )
     session = ["cscope", "-d", "-l", "-q", "-f", str(place / "out")]
     for field, kind in ("0", "uses"), ("1", "defs"), ("3", "calling"), ("2", "called_by"):
         asked = b"".join(b"%s%s\n" % (field.encode(), name) for name in names_of(place)) + b"q\n"
         least = min(processor_time(session, place, asked) for _ in range(RUNS)) - min(
-            processor_time(session, place, b"q\n") for _ in range(RUNS))
-        put(f"cscope, one question, {kind}", f"{max(least, 0) * 1000 / QUESTIONS:.3f}", "ms", "all rows, also written")
+            processor_time(session, place, b"q\n") for _ in range(RUNS)
+        )
+        put(
+            f"cscope, one question, {kind}",
+            f"{max(least, 0) * 1000 / QUESTIONS:.3f}",
+            "ms",
+            "all rows, also written",
+        )
 
 
 def names_of(place):
@@ -141,18 +181,29 @@ def names_of(place):
 
 
 def main():
-    root = pathlib.Path(__file__).resolve().parent.parent
-    options = argparse.ArgumentParser(description=__doc__, formatter_class=argparse.RawDescriptionHelpFormatter)
-    options.add_argument("folder", help="a folder with C files, at least 3,000 for figures that mean something")
-    options.add_argument("--files", type=int, default=4096, help="how many of them at most, 4,096 by default")
-    options.add_argument("--program", default=root / "crates" / "index_bench" / "out" / "index_bench", help="the program")
-    given = options.parse_args()
+    parser = argparse.ArgumentParser(
+        description=__doc__, formatter_class=argparse.RawDescriptionHelpFormatter
+    )
+    parser.add_argument(
+        "folder", help="a folder with C files, at least 3,000 for figures that mean something"
+    )
+    parser.add_argument(
+        "--files", type=int, default=4096, help="how many of them at most, 4,096 by default"
+    )
+    parser.add_argument(
+        "--program",
+        default=TOP / "crates" / "index_bench" / "out" / "index_bench",
+        help="the program",
+    )
+    given = parser.parse_args()
     program = str(pathlib.Path(given.program).resolve())
     if not os.path.isfile(program):
-        raise SystemExit(f"{program}: there is no such program; rt run in crates/index_bench builds it")
+        raise SystemExit(
+            f"{program}: there is no such program; rt run in crates/index_bench builds it"
+        )
     folder = pathlib.Path(given.folder).resolve()
     keep_to_one_core()
-    sizes = c_files(folder, given.files)
+    sizes = c_files(folder, most=given.files)
     if not sizes:
         raise SystemExit(f"{folder}: no C files")
     seconds = report(measured(program, folder, sizes))

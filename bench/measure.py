@@ -1,23 +1,19 @@
-"""What the measurements of this folder share: the program that is measured, its processor time, other programs."""
+"""What the measurements share: processor time, cores, other programs, and verify/shared.py."""
+
+from __future__ import annotations
 
 import os
 import pathlib
 import resource
 import shutil
 import subprocess
+import sys
+
+sys.path.insert(0, str(pathlib.Path(__file__).resolve().parent.parent / "verify"))
+from shared import MOST_BYTES, MOST_FILES, TOP, c_files, copy  # noqa: E402, F401
+from shared import options, words_given  # noqa: E402, F401
 
 PATIENCE = 120  # seconds until a run is given up
-
-
-def words_given(options):
-    """The words of the command line; `cbrowse` is the path of a program that is there."""
-    root = pathlib.Path(__file__).resolve().parent.parent
-    options.add_argument("--cbrowse", default=os.environ.get("CBROWSE", root / "bin" / "cbrowse"), help="the program")
-    given = options.parse_args()
-    given.cbrowse = str(pathlib.Path(given.cbrowse).resolve())
-    if not os.path.isfile(given.cbrowse):
-        raise SystemExit(f"{given.cbrowse}: there is no such program; make builds it")
-    return given
 
 
 def keep_to_one_core():
@@ -45,17 +41,29 @@ def processor_time(words, folder, stdin=b""):
     fed.write_bytes(stdin)
     with open(fed, "rb") as feed:
         before = resource.getrusage(resource.RUSAGE_CHILDREN)
-        subprocess.run(words, cwd=folder, stdin=feed, stdout=subprocess.DEVNULL, stderr=subprocess.DEVNULL,
-                       timeout=PATIENCE, check=True)
+        subprocess.run(
+            words,
+            cwd=folder,
+            stdin=feed,
+            stdout=subprocess.DEVNULL,
+            stderr=subprocess.DEVNULL,
+            timeout=PATIENCE,
+            check=True,
+        )
         after = resource.getrusage(resource.RUSAGE_CHILDREN)
     return after.ru_utime - before.ru_utime + after.ru_stime - before.ru_stime
 
 
 def installed(name, flag, says, package=None):
-    """Whether a program is installed and says this of itself; a line tells its version, or that it is not."""
+    """Whether a program is there and says this of itself; a line tells its version."""
     if shutil.which(name):
-        asked = subprocess.run([name, flag], stdin=subprocess.DEVNULL, stdout=subprocess.PIPE,
-                               stderr=subprocess.STDOUT, text=True).stdout
+        asked = subprocess.run(
+            [name, flag],
+            stdin=subprocess.DEVNULL,
+            stdout=subprocess.PIPE,
+            stderr=subprocess.STDOUT,
+            text=True,
+        ).stdout
         if says in asked:
             print(asked.splitlines()[0])
             return True

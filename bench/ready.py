@@ -1,25 +1,26 @@
 #!/usr/bin/env python3
-"""What a user of a large tree waits for: the start, the first answer, a tags file; and how much memory that takes.
-
-A person runs this by hand; no gate does, and nothing here passes or fails by its time.
+"""What a user of a large tree waits for: the start, the first answer, a tags file; and the memory.
 
     bench/corpus.sh FOLDER && make && bench/ready.py FOLDER/files
     bench/ready.py --cbrowse PATH FOLDER      or: CBROWSE=PATH bench/ready.py FOLDER
 
-The files are the C sources of the folder that are at most 1 MB, at most 4,096 of them. Times are processor time (user and
-system) of a whole run on one core where the system lets a process choose one, the least of five, in turn with the programs
-beside it; a session is ended as soon as it is ready, by the end of its input. "part" is the time of cbrowse as a part of
-that of the program beside it.
+It takes the C sources of the folder, at most 4,096 of them. Times are processor time (user and
+system) of a whole run on one core where the system lets a process choose one, the least of five, in
+turn with the programs beside it. A session is ended as soon as it is ready, by the end of its
+input. "part" is the time of cbrowse as a part of that of the program beside it.
 
-Ready     `cbrowse line FILES`, beside `cscope -b` and `cscope -b -q`, which write the index that a session of cscope opens.
-Tags      `cbrowse tags`, plain and extended, beside `ctags` (universal and exuberant): with the kinds of tags that it
-          takes by itself, which are more, and with those that cbrowse finds and no others.
+Ready     `cbrowse line FILES`, beside `cscope -b` and `cscope -b -q`, which write the index that a
+          session of cscope opens.
+Tags      `cbrowse tags`, plain and extended, beside `ctags` (universal and exuberant): with the
+          kinds of tags that it takes by itself, which are more, and with those of cbrowse alone.
 Question  `cbrowse find 1 NAME FILES`, the whole process, beside `cscope -b` and one query.
-One more  `:load` of one more file, of the size nearest to 17 kB, in a session that has all others; by the clock.
+One more  `:load` of one more file, of the size nearest to 17 kB, in a session that has all others;
+          by the clock.
 Memory    the most that a session has resident, and per byte of source.
 """
 
-import argparse
+from __future__ import annotations
+
 import os
 import pathlib
 import shutil
@@ -27,9 +28,9 @@ import statistics
 import subprocess
 import tempfile
 
-from index import c_files
-from measure import installed, keep_to_one_core, processor_time, words_given
-from session import MOST_FILES, Session
+from measure import MOST_FILES, c_files, copy, installed, keep_to_one_core
+from measure import options, processor_time, words_given
+from session import Session
 
 RUNS = 5
 ONE_MORE = 17_000
@@ -37,14 +38,16 @@ SAME_KINDS = {"universal": "--kinds-C=dfgstu", "exuberant": "--c-kinds=dfgstu"}
 
 
 def best_of_each(commands, folder):
-    """The seconds of the best run of each command. They run in turn, so that what slows the machine slows all of them."""
+    """The seconds of the best run of each command, in turn, so that other work slows all alike."""
     rounds = [[processor_time(words, folder) for words in commands] for _ in range(RUNS)]
     return [min(seconds) for seconds in zip(*rounds)]
 
 
 def put(label, seconds, beside=()):
     """One line: a figure of cbrowse, and those of other programs with what part of each it is."""
-    others = "   ".join(f"{name} {other * 1000:.0f} ms, part {seconds / other:.3f}" for name, other in beside)
+    others = "   ".join(
+        f"{name} {other * 1000:.0f} ms, part {seconds / other:.3f}" for name, other in beside
+    )
     print(f"{label:<24}{seconds * 1000:>10.1f} ms   {others}".rstrip(), flush=True)
 
 
@@ -69,7 +72,13 @@ def tags(cbrowse, names, folder, out):
         for maker, same_kinds in SAME_KINDS.items():
             program = shutil.which(f"ctags-{maker}")
             if program:
-                words = [program, "--options=NONE", "--languages=C", "--langmap=C:.c.h", f"--format={form}"]
+                words = [
+                    program,
+                    "--options=NONE",
+                    "--languages=C",
+                    "--langmap=C:.c.h",
+                    f"--format={form}",
+                ]
                 words += ["-L", "ctags.list", "-f", str(out / "other.tags")]
                 commands += [words, words + [same_kinds]]
                 others += [maker, f"{maker}, same kinds"]
@@ -108,26 +117,33 @@ def one_more(cbrowse, sizes, folder):
 
 def memory(cbrowse, names, sizes, folder):
     """The most that a session has resident."""
-    process = subprocess.Popen([cbrowse, "line", "--"] + names, cwd=folder, stdin=subprocess.DEVNULL,
-                               stdout=subprocess.DEVNULL)
+    process = subprocess.Popen(
+        [cbrowse, "line", "--"] + names,
+        cwd=folder,
+        stdin=subprocess.DEVNULL,
+        stdout=subprocess.DEVNULL,
+    )
     _, _, used = os.wait4(process.pid, 0)
     most = used.ru_maxrss * 1024
-    print(f"{'memory of a session':<24}{most / 1e6:>10.1f} MB   {most / sum(sizes.values()):.2f} bytes a byte of source")
+    print(
+        f"{'memory of a session':<24}{most / 1e6:>10.1f} MB"
+        f"   {most / sum(sizes.values()):.2f} bytes a byte of source"
+    )
 
 
 def main():
-    options = argparse.ArgumentParser(description=__doc__, formatter_class=argparse.RawDescriptionHelpFormatter)
-    options.add_argument("folder", help="a folder with C files, at least 3,000 for figures that mean something")
-    given = words_given(options)
+    parser = options(__doc__)
+    parser.add_argument(
+        "folder", help="a folder with C files, at least 3,000 for figures that mean something"
+    )
+    given = words_given(parser)
     keep_to_one_core()
     source = pathlib.Path(given.folder).resolve()
-    sizes = c_files(source, MOST_FILES)
+    sizes = c_files(source, most=MOST_FILES)
     with tempfile.TemporaryDirectory() as place:
         folder, out = pathlib.Path(place, "src"), pathlib.Path(place, "out")
         out.mkdir()
-        for name in sizes:
-            (folder / name).parent.mkdir(parents=True, exist_ok=True)
-            shutil.copyfile(source / name, folder / name)
+        copy(source, sizes, folder)
         names = list(sizes)
         print(f"{len(sizes):,} files, {sum(sizes.values()) / 1e6:.1f} MB")
         ready(given.cbrowse, names, folder, out)

@@ -1,84 +1,111 @@
 #!/usr/bin/env python3
 """How fast cbrowse scans: megabytes a second, beside ctags and cscope.
 
-A person runs this by hand; no gate does, and nothing here passes or fails by its time.
-
     make && bench/scan.py
     bench/scan.py --cbrowse PATH      or: CBROWSE=PATH bench/scan.py
     bench/scan.py --folder FOLDER --before PATH
 
-What is counted. `:load` takes a file in; then `r`, which scans every loaded file again, is given N times. Taken away is
-the time of a session that loads the same bytes, undoes the load and gives `r` as often over no file: start, reading,
-loading, prompts and replies. What is left are N scans: all lists of facts, and the freeing of them. N is 10 MB / size. An
-older cbrowse, which has no `r`, is asked `1NoSuchName` in its place: it scans every loaded file afresh for each question.
+What is measured. `:load` takes a file in; then `r`, which scans every loaded file again, is given N
+times. The time of a session that loads the same bytes, undoes the load and gives `r` as often over
+no file is taken away: start, reading, loading, prompts and replies. What is left are N scans: all
+lists of facts, and the freeing of them. N is 10 MB / size.
 
-`ctags -x` and `cscope -b -k` do their whole work once on the file of 1 MB, with printing or writing what they found;
-their time on an empty file is taken away. They look for other things than cbrowse does, so "times" says an order of
-magnitude and no more. Where one is missing its columns are left out; where one fails on an input the table says so.
+`ctags -x` and `cscope -b -k` do their whole work once on the file of 1 MB, and print or write what
+they found; their time on an empty file is taken away. They look for other things than cbrowse does,
+so "times" says an order of magnitude and no more. Where one is missing its columns are left out;
+where one fails on an input the table says so.
 
-All times are processor time (user and system) of the program, on one core where the system lets a process choose one,
-the best of several runs. Other work on the machine still makes them longer: run it twice, and on an idle machine.
+All times are processor time (user and system) of the program, on one core where the system lets a
+process choose one, the best of several runs. Other work on the machine still makes them longer: run
+it twice, and on an idle machine.
 
-Inputs, made anew and the same in each run, of at most 10,000, 100,000 and 1,000,000 bytes (the most that a file may
-have), cut at the end of a line: ordinary code with includes, macros, typedefs, comments, strings and functions; one `{`
-after another; names; `#define` lines; CR LF alone; a comment that is never closed.
+Inputs, the same in each run, of at most 10,000, 100,000 and 1,000,000 bytes (the most that a file
+may have), cut at the end of a line: ordinary code with includes, macros, typedefs, comments,
+strings and functions; one `{` after another; names; `#define` lines; CR LF alone; a comment that is
+never closed.
 
-With --folder one row more is of the C files in a folder, at most 4,096 of them that are no larger than a file may be: one
-session loads them all and scans them N times, and a session that loads them and scans them once is taken away. `ctags`
-takes the same files in one run. With --before the row also has the MB/s of another cbrowse, and those of this one as a multiple of it;
-runs of the programs take turns, so that other work on the machine slows each of them alike.
+With --folder there is one more row, of the C files in a folder, at most 4,096 of them: one session
+loads them all and scans them N times, and the time of a session that loads them and scans them once
+is taken away. `ctags` takes the same files in one run. With --before the row also has the MB/s of
+another cbrowse, and those of this one as a multiple of it; the programs take turns, so that other
+work on the machine slows each of them alike.
 
-Columns: MB/s of cbrowse; time per byte as a multiple of that at 10 KB (1.0 is linear); at 1 MB the MB/s of ctags and of
-cscope, each with the MB/s of cbrowse as a multiple of it.
+Columns: MB/s of cbrowse; time per byte as a multiple of that at 10 KB (1.0 is linear); at 1 MB the
+MB/s of ctags and of cscope, each with the MB/s of cbrowse as a multiple of it.
 """
 
-import argparse
+from __future__ import annotations
+
 import pathlib
 import random
 import subprocess
 import tempfile
 
-from measure import PATIENCE, installed, keep_to_one_core, processor_time, words_given
+from measure import MOST_FILES, PATIENCE, c_files, installed, keep_to_one_core
+from measure import options, processor_time, words_given
 
 SIZES = [("10 KB", 10_000), ("100 KB", 100_000), ("1 MB", 1_000_000)]
 SCANNED = 10_000_000  # bytes scanned by one session
 RUNS = 15
-MOST_BYTES, MOST_FILES = 1_000_000, 4_096  # of a session
 REAL_TIMES, REAL_RUNS = 3, 5
 
-AGAIN, QUERY = b"r\n", b"1NoSuchName\n"  # what scans all files in a session, and in one of an older cbrowse
-PROMPT, DONE, NOTHING = b">> ", b"cscope: done\n", b"cscope: 0 lines\n"
+AGAIN = b"r\n"  # scans all files of a session
+PROMPT, DONE = b">> ", b"cscope: done\n"
 
 
 def code():
     """Lines of a plausible C program, without end."""
     rng = random.Random(1)
-    words = "node list size next head table entry buffer count flags state index value key name data offset limit".split()
-    types = ["int", "char *", "unsigned long ", "size_t ", "const char *", "struct node *", "void *"]
+    words = """
+        node list size next head table entry buffer count flags state index value key name data
+        offset limit
+        """.split()
+    types = [
+        "int",
+        "char *",
+        "unsigned long ",
+        "size_t ",
+        "const char *",
+        "struct node *",
+        "void *",
+    ]
 
     def name():
         return rng.choice(words) + "_" + rng.choice(words)
 
     def expression():
-        return rng.choice([
-            f"{name()} + {rng.randrange(4096)}",
-            f"{name()}->{rng.choice(words)}",
-            f"{name()}({name()}, {rng.choice(words)}[i])",
-            f"0x{rng.randrange(65536):04x}u & ~{name()}",
-            f"{name()} == '\\n' ? {name()} : {rng.randrange(99)}",
-            f"({rng.choice(types).strip()}) {name()}(&{name()})",
-        ])
+        return rng.choice(
+            [
+                f"{name()} + {rng.randrange(4096)}",
+                f"{name()}->{rng.choice(words)}",
+                f"{name()}({name()}, {rng.choice(words)}[i])",
+                f"0x{rng.randrange(65536):04x}u & ~{name()}",
+                f"{name()} == '\\n' ? {name()} : {rng.randrange(99)}",
+                f"({rng.choice(types).strip()}) {name()}(&{name()})",
+            ]
+        )
 
     def statement():
-        return rng.choice([
-            lambda: [f"\t{name()} = {expression()};"],
-            lambda: [f"\tif ({expression()} < {name()})", f"\t\treturn {expression()};"],
-            lambda: [f"\tfor (i = 0; i < {name()}; i++) {{", f"\t\t{name()}[i] += {expression()};", "\t}"],
-            lambda: [f"\twhile ({name()} != NULL)", f"\t\t{name()} = {name()}->next; // {name()}"],
-            lambda: [f'\tfprintf(stderr, "%s: no {name()} in \\"%d\\"\\n", {name()}, {name()});'],
-            lambda: [f"\t/* The {name()} is {name()} here. */"],
-            lambda: [""],
-        ])()
+        return rng.choice(
+            [
+                lambda: [f"\t{name()} = {expression()};"],
+                lambda: [f"\tif ({expression()} < {name()})", f"\t\treturn {expression()};"],
+                lambda: [
+                    f"\tfor (i = 0; i < {name()}; i++) {{",
+                    f"\t\t{name()}[i] += {expression()};",
+                    "\t}",
+                ],
+                lambda: [
+                    f"\twhile ({name()} != NULL)",
+                    f"\t\t{name()} = {name()}->next; // {name()}",
+                ],
+                lambda: [
+                    f'\tfprintf(stderr, "%s: no {name()} in \\"%d\\"\\n", {name()}, {name()});'
+                ],
+                lambda: [f"\t/* The {name()} is {name()} here. */"],
+                lambda: [""],
+            ]
+        )()
 
     number = 0
     while True:
@@ -94,11 +121,12 @@ def code():
         for _ in range(5):
             number += 1
             yield "/*"
-            yield f" * Gives the {name()} of a {rng.choice(words)}, or {name()} where there is none;"
+            yield f" * Gives the {name()} of a {rng.choice(words)}, or {name()} if there is none;"
             yield f" * the caller's {name()} is left as it was."
             yield " */"
             yield rng.choice(["static ", ""]) + rng.choice(types).strip()
-            yield f"{name()}_{number}({rng.choice(types)}{rng.choice(words)}, {rng.choice(types)}{name()})"
+            first, second = rng.choice(types) + rng.choice(words), rng.choice(types) + name()
+            yield f"{name()}_{number}({first}, {second})"
             yield "{"
             yield f"\tint i, {name()} = {rng.randrange(100)};"
             for _ in range(rng.randrange(3, 15)):
@@ -147,7 +175,7 @@ INPUTS = [
 
 
 def speed(size, with_work, without):
-    """MB/s from the best runs with and without the work; both are functions that run once and give their seconds."""
+    """MB/s from the best runs with and without the work; each function runs once."""
     runs = [(with_work(), without()) for _ in range(RUNS)]
     seconds = min(run[0] for run in runs) - min(run[1] for run in runs)
     return size / max(seconds, 1e-6) / 1e6
@@ -155,29 +183,28 @@ def speed(size, with_work, without):
 
 def replies_of(words, commands):
     """What a session writes."""
-    return subprocess.run(words, input=commands, stdout=subprocess.PIPE, timeout=PATIENCE, check=True).stdout
-
-
-def scanning_command(words):
-    """The command that scans all files in a session of this cbrowse, and its reply."""
-    return (AGAIN, DONE) if replies_of(words, AGAIN) == PROMPT + DONE + PROMPT else (QUERY, NOTHING)
+    return subprocess.run(
+        words, input=commands, stdout=subprocess.PIPE, timeout=PATIENCE, check=True
+    ).stdout
 
 
 def cbrowse_speed(cbrowse, folder, text):
     times = SCANNED // len(text)
     load = b":load f.c %d\n%s" % (len(text), text)
     words = [cbrowse, "line"]
-    command, reply = scanning_command(words)
-    scanning, idle = load + command * times, load + b":undo\n" + command * times
+    scanning, idle = load + AGAIN * times, load + b":undo\n" + AGAIN * times
     replies = replies_of(words, scanning)
-    if replies != PROMPT + DONE + (PROMPT + reply) * times + PROMPT:
-        raise SystemExit(f"{cbrowse}: other replies than {reply.decode().strip()}: {replies[:200]!r}")
-    return speed(len(text) * times, lambda: processor_time(words, folder, scanning),
-                 lambda: processor_time(words, folder, idle))
+    if replies != (PROMPT + DONE) * (1 + times) + PROMPT:
+        raise SystemExit(f"{cbrowse}: other replies than {DONE!r}: {replies[:200]!r}")
+    return speed(
+        len(text) * times,
+        lambda: processor_time(words, folder, scanning),
+        lambda: processor_time(words, folder, idle),
+    )
 
 
 def other_speed(words, folder, text):
-    """The speed of a program on a file; what cscope has built before is taken away, since it would use it again."""
+    """The speed of a program on a file, without the database that cscope left before."""
     (folder / "text.c").write_bytes(text)
     (folder / "empty.c").write_bytes(b"")
 
@@ -190,14 +217,15 @@ def other_speed(words, folder, text):
 
 def real_texts(folder):
     """The C files of a folder and the folders in it, as many and as large as a session takes."""
-    paths = sorted(path for path in folder.rglob("*.[ch]") if path.is_file() and path.stat().st_size <= MOST_BYTES)
-    return [path.read_bytes() for path in paths[:MOST_FILES]]
+    return [(folder / name).read_bytes() for name in c_files(folder, most=MOST_FILES)]
 
 
 def real_row(programs, ctags, folder, texts):
-    """Speeds on real files: of each program that scans them in a session, and of ctags, runs taking turns."""
+    """Speeds on real files: of each program in a session, and of ctags, runs taking turns."""
     size = sum(len(text) for text in texts)
-    load = b"".join(b":load %d.c %d\n%s" % (number, len(text), text) for number, text in enumerate(texts))
+    load = b"".join(
+        b":load %d.c %d\n%s" % (number, len(text), text) for number, text in enumerate(texts)
+    )
     sources = folder / "real"
     sources.mkdir()
     for number, text in enumerate(texts):
@@ -210,12 +238,16 @@ def real_row(programs, ctags, folder, texts):
 
     for _ in range(REAL_RUNS):
         for program in programs:
-            command, _ = scanning_command([program, "line"])
-            note((program, "one"), processor_time([program, "line"], folder, load + command))
-            note((program, "all"), processor_time([program, "line"], folder, load + command * (1 + REAL_TIMES)))
+            words = [program, "line"]
+            note((program, "one"), processor_time(words, folder, load + AGAIN))
+            scans = load + AGAIN * (1 + REAL_TIMES)
+            note((program, "all"), processor_time(words, folder, scans))
         if ctags:
             note("ctags", processor_time(ctags + ["-L", "list"], folder))
-    speeds = [size * REAL_TIMES / (best[program, "all"] - best[program, "one"]) / 1e6 for program in programs]
+    speeds = [
+        size * REAL_TIMES / (best[program, "all"] - best[program, "one"]) / 1e6
+        for program in programs
+    ]
     if ctags:
         speeds.append(size / best["ctags"] / 1e6)
     return size, speeds
@@ -232,10 +264,10 @@ def others():
 
 
 def main():
-    options = argparse.ArgumentParser(description=__doc__, formatter_class=argparse.RawDescriptionHelpFormatter)
-    options.add_argument("--folder", type=pathlib.Path, help="a folder with C files to scan too")
-    options.add_argument("--before", help="another cbrowse to scan them with")
-    given = words_given(options)
+    parser = options(__doc__)
+    parser.add_argument("--folder", type=pathlib.Path, help="a folder with C files to scan too")
+    parser.add_argument("--before", help="another cbrowse to scan them with")
+    given = words_given(parser)
     cbrowse = given.cbrowse
     keep_to_one_core()
     found = others()
@@ -245,11 +277,25 @@ def main():
         with tempfile.TemporaryDirectory() as place:
             size, speeds = real_row(programs, found.get("ctags"), pathlib.Path(place), texts)
         names = ["cbrowse"] + ["before"] * bool(given.before) + ["ctags"] * ("ctags" in found)
-        print(f"{len(texts)} real files, {size / 1e6:.1f} MB: " + ", ".join(
-            f"{name} {speed:.1f} MB/s" + (f" (times {speeds[0] / speed:.2f})" if name != "cbrowse" else "")
-            for name, speed in zip(names, speeds)), flush=True)
+        print(
+            f"{len(texts)} real files, {size / 1e6:.1f} MB: "
+            + ", ".join(
+                f"{name} {speed:.1f} MB/s"
+                + (f" (times {speeds[0] / speed:.2f})" if name != "cbrowse" else "")
+                for name, speed in zip(names, speeds)
+            ),
+            flush=True,
+        )
     row = "{:<18}{:>8}{:>12}{:>12}" + "{:>12}{:>8}" * len(found)
-    print(row.format("input", "size", "cbrowse", "per byte", *(word for name in found for word in (name, "times"))))
+    print(
+        row.format(
+            "input",
+            "size",
+            "cbrowse",
+            "per byte",
+            *(word for name in found for word in (name, "times")),
+        )
+    )
     with tempfile.TemporaryDirectory() as place:
         folder = pathlib.Path(place)
         for kind, make in INPUTS:

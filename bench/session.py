@@ -1,37 +1,43 @@
 #!/usr/bin/env python3
 """How fast a session over thousands of real files changes, goes back and answers, beside cscope.
 
-A person runs this by hand; no gate does, and nothing here passes or fails by its time.
-
     make && bench/session.py FOLDER
     bench/session.py --cbrowse PATH FOLDER      or: CBROWSE=PATH bench/session.py FOLDER
 
-The files are the C sources of the folder that are at most 1 MB, at most 4,096 of them. One session has them all as
-operands, another one only every tenth of them. In both, one at a time, a command is written and its reply is read up to
-the next prompt; the figure is the time until then by the clock, the median of several. An empty line does nothing: its
-time, which is that of the pipes between the programs, is printed first and taken away from the others. "few" is the
-figure in the small session, and "times" the one as a multiple of the other: near 1 where a small change is a small work.
+It takes the C sources of the folder, at most 4,096 of them. One session has them all as operands,
+another one only every tenth of them. In both, one at a time, a command is written and its reply is
+read up to the next prompt; the figure is the time until then by the clock, the median of several.
+An empty line does nothing: its time, which is that of the pipes between the programs, is printed
+first and taken away from the others. "few" is the figure in the small session, and "times" the one
+as a multiple of the other: near 1 where a small change is little work.
 
-One file      of median size: dropped, and that undone and redone; renamed; a text on one of its lines changed, and that undone.
-Pairs         a change of that file and what takes it back, 10,000 times in one go, where no reply is waited for: such changes
-              take less than the pipes do, so that their times one at a time say little. Nothing is taken away from these.
-All files     a text is changed in all of them, and that undone and redone. The change scans the new contents, so the time
-              of `r`, which scans all files, is taken away from it. For this each file is copied with a comment at its end.
+One file      of median size: dropped, and that undone and redone; renamed; a text on one of its
+              lines changed, and that undone.
+Pairs         a change of that file and what takes it back, 10,000 times in one go, where no reply
+              is waited for: such changes take less than the pipes do, so that their times one at a
+              time say little. Nothing is taken away from these.
+All files     a text is changed in all of them, and that undone and redone. The change scans the new
+              contents, so the time of `r`, which scans all files, is taken away from it. For this
+              each file is copied with a comment at its end.
 Many changes  65,536 times `:mark 1`, and as many times `:undo`, in one go.
-Loads         all files by `:load`, one after the other, in one go, as a multiple of the time of `r`.
-First         the first question of each kind in a new session, which puts an index in order, and the same once more.
-Questions     where a name is defined, for a thousand names; the median, and the one that 95 in 100 stay below.
-              `cscope -d -q -l` answers the same in the same way.
-Rows          the uses of the names that stand most often in the files: until the first bytes of the reply, which is a sum
-              over the entries of the index, since the number of rows comes first, and as many rows as fill a buffer; and
-              until its last ones, by row. `cscope -d -q -l` answers the same. They are read on another core: on one core
-              the program goes on writing before the first bytes are seen.
+Loads         all files by `:load`, one after the other, in one go, as a multiple of the time of
+              `r`.
+First         the first question of each kind in a new session, which puts an index in order, and
+              the same once more.
+Questions     where a name is defined, for a thousand names: the median, and the time that 95 in 100
+              stay below. `cscope -d -q -l` answers the same in the same way.
+Rows          the uses of the names that stand most often in the files: until the first bytes of the
+              reply, which is a sum over the entries of the index, since the number of rows comes
+              first, and as many rows as fill a buffer; and until its last ones, by row. `cscope -d
+              -q -l` answers the same. They are read on another core: on one core the program goes
+              on writing before the first bytes are seen.
 Tags          `:tags 2`.
 
 Other work on the machine makes the times longer: run it twice, and on an idle machine.
 """
 
-import argparse
+from __future__ import annotations
+
 import collections
 import os
 import pathlib
@@ -42,11 +48,10 @@ import subprocess
 import tempfile
 import time
 
-from index import c_files
-from measure import installed, keep_to_one_core, use_another_core, words_given
+from measure import MOST_BYTES, MOST_FILES, c_files, copy, installed, keep_to_one_core
+from measure import options, use_another_core, words_given
 
-MOST_FILES = 4096
-FEW = 10  # the small session has one file in so many
+FEW = 10  # the small session has every tenth file
 TIMES = 9  # each change is made so often
 QUESTIONS = 1000
 USED_NAMES = 50
@@ -60,8 +65,14 @@ class Session:
     """A program in line mode: commands go in, replies come out."""
 
     def __init__(self, words, folder):
-        self.process = subprocess.Popen(words, cwd=folder, stdin=subprocess.PIPE, stdout=subprocess.PIPE,
-                                        stderr=subprocess.DEVNULL, bufsize=0)
+        self.process = subprocess.Popen(
+            words,
+            cwd=folder,
+            stdin=subprocess.PIPE,
+            stdout=subprocess.PIPE,
+            stderr=subprocess.DEVNULL,
+            bufsize=0,
+        )
         self.read()
 
     def read(self):
@@ -73,7 +84,7 @@ class Session:
             if not more:
                 raise SystemExit(f"the session ended: {bytes(reply[-200:])!r}")
             reply += more
-        return bytes(reply[:-len(PROMPT)])
+        return bytes(reply[: -len(PROMPT)])
 
     def ask(self, command):
         """The reply to a command, and the seconds until it is there."""
@@ -83,7 +94,7 @@ class Session:
         return reply, time.perf_counter() - begin
 
     def ask_for_rows(self, command):
-        """The rows of a reply, and the seconds until its first bytes and until its last ones are there."""
+        """The rows of a reply, and the seconds until its first bytes and until its last ones."""
         begin = time.perf_counter()
         self.process.stdin.write(command + b"\n")
         select.select([self.process.stdout], [], [])
@@ -116,7 +127,7 @@ class Session:
             if b"refused" in more:
                 raise SystemExit(f"refused: {more[:200]!r}")
             prompts += (seen + more).count(b"\n" + PROMPT)
-            seen = (seen + more)[-len(PROMPT):]
+            seen = (seen + more)[-len(PROMPT) :]
         os.waitpid(feeder, 0)
         return time.perf_counter() - begin
 
@@ -149,8 +160,13 @@ def small_changes(session, name, text):
     seen = collections.defaultdict(list)
     for _ in range(TIMES):
         for label, command in (
-            ("nothing", b""), ("drop", b":drop " + name), ("undo of it", b":undo"), ("redo of it", b":redo"), (None, b":undo"),
-            ("rename", b":rename %s z/%s" % (name, name)), (None, b":undo"),
+            ("nothing", b""),
+            ("drop", b":drop " + name),
+            ("undo of it", b":undo"),
+            ("redo of it", b":redo"),
+            (None, b":undo"),
+            ("rename", b":rename %s z/%s" % (name, name)),
+            (None, b":undo"),
         ):
             seen[label].append(session.do(command))
         mark_in(session, name, text)
@@ -159,12 +175,16 @@ def small_changes(session, name, text):
         session.do(b":undo")
         session.do(b":undo")
     nothing = statistics.median(seen["nothing"])
-    return {label: statistics.median(times) - (nothing if label != "nothing" else 0)
-            for label, times in seen.items() if label}
+    return {
+        label: statistics.median(times) - (nothing if label != "nothing" else 0)
+        for label, times in seen.items()
+        if label
+    }
 
 
 def pairs_of_changes(session, name):
     """The seconds of a change of one file and of what takes it back, in one go, each an average."""
+
     def pair(first, second):
         return session.many([first + b"\n" + second + b"\n"] * PAIRS, 2 * PAIRS) / PAIRS
 
@@ -186,8 +206,13 @@ def one_file(cbrowse, folder, sizes):
     names = list(sizes)
     few = names[::FEW]
     name, text = next(
-        (name, text) for name in sorted(few, key=lambda name: abs(sizes[name] - statistics.median(sizes.values())))
-        for text in [line_of_its_own(folder / name)] if text)
+        (name, text)
+        for name in sorted(
+            few, key=lambda name: abs(sizes[name] - statistics.median(sizes.values()))
+        )
+        for text in [line_of_its_own(folder / name)]
+        if text
+    )
     figures = []
     for files in (names, few):
         session = Session([cbrowse, "line"] + files, folder)
@@ -208,7 +233,11 @@ def all_files(cbrowse, folder, sizes):
     put("all files scanned (r)", scanned * 1000)
     session.do(b"5a text in every file")
     session.do(b":markall")
-    put("a text changed in all files", (session.do(b":to another text") - scanned) * 1000, "beside the scan")
+    put(
+        "a text changed in all files",
+        (session.do(b":to another text") - scanned) * 1000,
+        "beside the scan",
+    )
     put("undo of it", session.do(b":undo") * 1000)
     put("redo of it", session.do(b":redo") * 1000)
     for _ in range(3):
@@ -227,23 +256,39 @@ def many_changes(cbrowse, folder, sizes):
     count = MOST_CHANGES - made
     begin = session.many([b":mark 1\n"] * count, count)
     back = session.many([b":undo\n"] * count, count)
-    put(f"{count:,} times :mark 1", begin * 1000, f"and :undo {back * 1000:.0f} ms, together {(begin + back) * 1000:.0f}")
+    put(
+        f"{count:,} times :mark 1",
+        begin * 1000,
+        f"and :undo {back * 1000:.0f} ms, together {(begin + back) * 1000:.0f}",
+    )
     session.end()
 
 
 def loads(cbrowse, folder, sizes, scanned):
     """All files loaded one after the other."""
     session = Session([cbrowse, "line"], folder)
-    blocks = [b":load %s %d\n%s" % (os.fsencode(name), size, (folder / name).read_bytes()) for name, size in sizes.items()]
+    blocks = [
+        b":load %s %d\n%s" % (os.fsencode(name), size, (folder / name).read_bytes())
+        for name, size in sizes.items()
+    ]
     seconds = session.many(blocks, len(blocks))
-    put(f"{len(blocks):,} times :load", seconds * 1000, f"{seconds / scanned:.2f} times the scan of all files")
+    put(
+        f"{len(blocks):,} times :load",
+        seconds * 1000,
+        f"{seconds / scanned:.2f} times the scan of all files",
+    )
     session.end()
 
 
 def first_questions(cbrowse, folder, sizes):
     """The first question of each kind."""
     session = Session([cbrowse, "line"] + list(sizes), folder)
-    for label, field in (("uses", b"0"), ("definitions", b"1"), ("callees", b"2"), ("callers", b"3")):
+    for label, field in (
+        ("uses", b"0"),
+        ("definitions", b"1"),
+        ("callees", b"2"),
+        ("callers", b"3"),
+    ):
         first, again = (session.do(field + b"NoSuchName") for _ in range(2))
         put(f"first question about {label}", first * 1000, f"then {again * 1000:.4f} ms")
     session.end()
@@ -263,12 +308,18 @@ def rows(label, words, folder, names):
     session.ask(b"0" + names[0])
     before = os.sched_getaffinity(0)
     use_another_core()
-    seen = [it for it in (session.ask_for_rows(b"0" + name) for name in names) if it[0] > 0][:USED_NAMES]
+    seen = [it for it in (session.ask_for_rows(b"0" + name) for name in names) if it[0] > 0][
+        :USED_NAMES
+    ]
     session.end()
     os.sched_setaffinity(0, before)
     count, first, last = (sum(it[at] for it in seen) for at in range(3))
-    put(f"{len(seen)} names used most, {label}", last * 1000,
-        f"{count:,} rows: {first / count * 1e9:.0f} ns a row until the first bytes, {last / count * 1e9:.0f} in all")
+    put(
+        f"{len(seen)} names used most, {label}",
+        last * 1000,
+        f"{count:,} rows: {first / count * 1e9:.0f} ns a row until the first bytes,"
+        f" {last / count * 1e9:.0f} in all",
+    )
 
 
 def defined(cbrowse, folder, sizes):
@@ -276,8 +327,14 @@ def defined(cbrowse, folder, sizes):
     with tempfile.TemporaryDirectory() as place:
         tags = pathlib.Path(place, "tags")
         subprocess.run([cbrowse, "tags", "-f", tags] + list(sizes), cwd=folder, check=True)
-        names = sorted({line.split(b"\t", 1)[0] for line in tags.read_bytes().split(b"\n") if line and not line.startswith(b"!")})
-    return (names[::max(len(names) // QUESTIONS, 1)] * QUESTIONS)[:QUESTIONS]
+        names = sorted(
+            {
+                line.split(b"\t", 1)[0]
+                for line in tags.read_bytes().split(b"\n")
+                if line and not line.startswith(b"!")
+            }
+        )
+    return (names[:: max(len(names) // QUESTIONS, 1)] * QUESTIONS)[:QUESTIONS]
 
 
 def questions(words, folder, names):
@@ -290,30 +347,41 @@ def questions(words, folder, names):
 
 
 def put_questions(label, times):
-    put(label, statistics.median(times) * 1000, f"95 in 100 below {times[len(times) * 95 // 100] * 1000:.3f} ms")
+    put(
+        label,
+        statistics.median(times) * 1000,
+        f"95 in 100 below {times[len(times) * 95 // 100] * 1000:.3f} ms",
+    )
 
 
 def cscope_words(folder, sizes, place):
     """A session of cscope over the same files."""
     (place / "files").write_text("\n".join(sizes) + "\n")
-    subprocess.run(["cscope", "-b", "-q", "-i", str(place / "files"), "-f", str(place / "out")], cwd=folder, check=True,
-                   stdout=subprocess.DEVNULL, stderr=subprocess.DEVNULL)
+    subprocess.run(
+        ["cscope", "-b", "-q", "-i", str(place / "files"), "-f", str(place / "out")],
+        cwd=folder,
+        check=True,
+        stdout=subprocess.DEVNULL,
+        stderr=subprocess.DEVNULL,
+    )
     return ["cscope", "-d", "-q", "-l", "-f", str(place / "out")]
 
 
 def main():
-    options = argparse.ArgumentParser(description=__doc__, formatter_class=argparse.RawDescriptionHelpFormatter)
-    options.add_argument("folder", help="a folder with C files, at least 3,000 for figures that mean something")
-    given = words_given(options)
+    parser = options(__doc__)
+    parser.add_argument(
+        "folder", help="a folder with C files, at least 3,000 for figures that mean something"
+    )
+    given = words_given(parser)
     keep_to_one_core()
     with tempfile.TemporaryDirectory() as place:
         place = pathlib.Path(place)
-        sizes = c_files(pathlib.Path(given.folder).resolve(), MOST_FILES, 1_000_000 - len(LAST_LINE))
+        source, folder = pathlib.Path(given.folder).resolve(), place / "src"
+        sizes = c_files(source, largest=MOST_BYTES - len(LAST_LINE), most=MOST_FILES)
+        copy(source, sizes, folder)
         for name in sizes:
-            (place / "src" / name).parent.mkdir(parents=True, exist_ok=True)
-            (place / "src" / name).write_bytes(pathlib.Path(given.folder, name).read_bytes() + LAST_LINE)
-            sizes[name] += len(LAST_LINE)
-        folder = place / "src"
+            with open(folder / name, "ab") as file:
+                sizes[name] += file.write(LAST_LINE)
         print(f"{len(sizes):,} files, {sum(sizes.values()) / 1e6:.1f} MB")
         one_file(given.cbrowse, folder, sizes)
         scanned = all_files(given.cbrowse, folder, sizes)
@@ -321,7 +389,10 @@ def main():
         loads(given.cbrowse, folder, sizes, scanned)
         first_questions(given.cbrowse, folder, sizes)
         names, used = defined(given.cbrowse, folder, sizes), used_most(folder, sizes)
-        put_questions(f"{len(names):,} names, cbrowse", questions([given.cbrowse, "line"] + list(sizes), folder, names))
+        put_questions(
+            f"{len(names):,} names, cbrowse",
+            questions([given.cbrowse, "line"] + list(sizes), folder, names),
+        )
         rows("cbrowse", [given.cbrowse, "line"] + list(sizes), folder, used)
         if installed("cscope", "-V", "version"):
             words = cscope_words(folder, sizes, place)

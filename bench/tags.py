@@ -1,44 +1,49 @@
 #!/usr/bin/env python3
 """How fast cbrowse writes tags files of real sources, and in how much memory, beside ctags.
 
-A person runs this by hand; no gate does, and nothing here passes or fails by its time.
-
     make && bench/tags.py FOLDER
     bench/tags.py --cbrowse PATH FOLDER      or: CBROWSE=PATH bench/tags.py FOLDER
 
-Files of the folder (default /usr/include; sources say more than headers) are copied to a temporary folder, by their names
-in it: as many as asked for, drawn at random and the same in each run. Those that cbrowse takes no name or size of are left
-out. Of them 50, 100, 200 and 400 get a plain tags file, each number with the files of the one before, and the greatest
-number an extended file and a listing too.
+Files of the folder are copied to a temporary folder, by their names in it, drawn at random and the
+same in each run. Of them 50, 100, 200 and 400 get a plain tags file, each number with the files of
+the one before, and the greatest number an extended file and a listing too.
 
-`ctags` does the same for the same files, with the same three kinds, whole lines as addresses and all files taken for C; it
-also has macros without arguments, and it finds functions and typedefs in another way, so "times" says an order of
+`ctags` does the same for the same files, with the same six kinds, whole lines as addresses and all
+files taken for C. It finds functions and typedefs in another way, so "times" says an order of
 magnitude and no more. Where it is missing its columns are left out.
 
-Times are processor time (user and system) of a whole run, its start included, on one core where the system lets a process
-choose one, the best of several runs. Other work on the machine still makes them longer: run it twice, and on an idle
-machine. Memory is the most that a run had resident, as `time -f %M` (GNU time) tells; without that its column is left out.
+Times are processor time (user and system) of a whole run, its start included, on one core where the
+system lets a process choose one, the best of several runs. Other work on the machine still makes
+them longer: run it twice, and on an idle machine. Memory is the most that a run had resident, as
+`time -f %M` (GNU time) tells; without that its column is left out.
 
-Columns: files, their bytes and definitions; seconds and MB/s of cbrowse; time per byte, and per n log n of n definitions,
-as multiples of the first row's (near 1.0 where the time grows in proportion); peak memory as a multiple of the bytes;
-MB/s of ctags, and the MB/s of cbrowse as a multiple of it.
+Columns: files, their bytes and definitions; seconds and MB/s of cbrowse; time per byte, and per n
+log n of n definitions, as multiples of the first row's (near 1.0 where the time grows in
+proportion); peak memory as a multiple of the bytes; MB/s of ctags, and the MB/s of cbrowse as a
+multiple of it.
 """
 
-import argparse
+from __future__ import annotations
+
 import math
-import os
 import pathlib
 import random
-import re
-import shutil
 import subprocess
 import tempfile
 
-from measure import PATIENCE, installed, keep_to_one_core, processor_time, words_given
+from measure import PATIENCE, c_files, copy, installed, keep_to_one_core
+from measure import options, processor_time, words_given
 
 SERIES = [50, 100, 200, 400]
 RUNS = 7
-CTAGS = ["ctags", "--options=NONE", "--languages=C", "--langmap=C:.c.h", "--kinds-C=fdt", "--pattern-length-limit=0"]
+CTAGS = [
+    "ctags",
+    "--options=NONE",
+    "--languages=C",
+    "--langmap=C:.c.h",
+    "--kinds-C=fdtsug",
+    "--pattern-length-limit=0",
+]
 
 # What is written: the words of cbrowse and of ctags.
 PLAIN = ["-f", "own.tags"], ["--format=1", "-f", "other.tags"]
@@ -47,16 +52,12 @@ LISTING = ["-x"], ["-x"]
 
 
 def drawn(folder, number):
-    """The names of so many C files of the folder, at random."""
-    names = []
-    for place, _, files in os.walk(folder):
-        for path in (pathlib.Path(place, file) for file in files if file.endswith((".c", ".h"))):
-            name = str(path.relative_to(folder))
-            if re.fullmatch("[!-~]{2,255}", name) and path.is_file() and path.stat().st_size <= 1_000_000:
-                names.append(name)
+    """The names of this many C files of the folder, at random."""
+    names = [*c_files(folder)]
     if len(names) < number:
-        raise SystemExit(f"{folder}: {len(names)} files that cbrowse takes, and {number} are asked for (see --files)")
-    return random.Random(1).sample(sorted(names), number)
+        told = f"{len(names)} files that cbrowse takes, and {number} are asked for (see --files)"
+        raise SystemExit(f"{folder}: {told}")
+    return random.Random(1).sample(names, number)
 
 
 def best(words, folder):
@@ -66,35 +67,62 @@ def best(words, folder):
 
 def peak(words, folder):
     """The most bytes that a run had resident."""
-    subprocess.run(["time", "-f", "%M", "-o", "peak"] + words, cwd=folder, stdin=subprocess.DEVNULL,
-                   stdout=subprocess.DEVNULL, timeout=PATIENCE, check=True)
+    subprocess.run(
+        ["time", "-f", "%M", "-o", "peak"] + words,
+        cwd=folder,
+        stdin=subprocess.DEVNULL,
+        stdout=subprocess.DEVNULL,
+        timeout=PATIENCE,
+        check=True,
+    )
     return int((folder / "peak").read_text()) * 1024
 
 
 def definitions(cbrowse, names, folder):
-    listing = subprocess.run([cbrowse, "tags", "-x", "--"] + names, cwd=folder, stdin=subprocess.DEVNULL,
-                             stdout=subprocess.PIPE, timeout=PATIENCE, check=True).stdout
+    listing = subprocess.run(
+        [cbrowse, "tags", "-x", "--"] + names,
+        cwd=folder,
+        stdin=subprocess.DEVNULL,
+        stdout=subprocess.PIPE,
+        timeout=PATIENCE,
+        check=True,
+    ).stdout
     return listing.count(b"\n")
 
 
 def main():
-    options = argparse.ArgumentParser(description=__doc__, formatter_class=argparse.RawDescriptionHelpFormatter)
-    options.add_argument("folder", nargs="?", default="/usr/include", help="a folder with C files, /usr/include by default")
-    options.add_argument("--files", type=int, nargs="+", default=SERIES, help="the numbers of files, ascending")
-    given = words_given(options)
+    parser = options(__doc__)
+    parser.add_argument(
+        "folder",
+        help="a folder with C files",
+    )
+    parser.add_argument(
+        "--files", type=int, nargs="+", default=SERIES, help="the numbers of files, ascending"
+    )
+    given = words_given(parser)
     source = pathlib.Path(given.folder).resolve()
     drawn_names = drawn(source, max(given.files))
     keep_to_one_core()
     beside = installed("ctags", "--version", "Universal Ctags", "universal-ctags")
     timed = installed("time", "--version", "GNU", "GNU time")
     row = "{:<10}{:>6}{:>8}{:>8}{:>10}{:>8}{:>10}{:>13}" + "{:>8}" * timed + "{:>10}{:>8}" * beside
-    print(row.format("written", "files", "MB", "defs", "seconds", "MB/s", "per byte", "per n log n",
-                     *["memory"] * timed, *["ctags", "times"] * beside))
+    print(
+        row.format(
+            "written",
+            "files",
+            "MB",
+            "defs",
+            "seconds",
+            "MB/s",
+            "per byte",
+            "per n log n",
+            *["memory"] * timed,
+            *["ctags", "times"] * beside,
+        )
+    )
     with tempfile.TemporaryDirectory() as place:
         folder = pathlib.Path(place)
-        for name in drawn_names:
-            (folder / name).parent.mkdir(parents=True, exist_ok=True)
-            shutil.copyfile(source / name, folder / name)
+        copy(source, drawn_names, folder)
         first = None
         jobs = [("plain", PLAIN, number) for number in given.files]
         jobs += [("extended", EXTENDED, given.files[-1]), ("listing", LISTING, given.files[-1])]
@@ -106,8 +134,16 @@ def main():
             seconds = best(words, folder)
             rates = seconds / size, seconds / (max(count, 2) * math.log2(max(count, 2)))
             first = first or rates
-            cells = [label, number, f"{size / 1e6:.2f}", count, f"{seconds:.3f}", f"{size / seconds / 1e6:.1f}",
-                     f"{rates[0] / first[0]:.2f}", f"{rates[1] / first[1]:.2f}"]
+            cells = [
+                label,
+                number,
+                f"{size / 1e6:.2f}",
+                count,
+                f"{seconds:.3f}",
+                f"{size / seconds / 1e6:.1f}",
+                f"{rates[0] / first[0]:.2f}",
+                f"{rates[1] / first[1]:.2f}",
+            ]
             if timed:
                 cells.append(f"{peak(words, folder) / size:.1f}")
             if beside:

@@ -1,41 +1,54 @@
 #!/usr/bin/env python3
 """What the texts cost that are hardest for a scanner: time and memory, beside ordinary code.
 
-A person runs this by hand; no gate does, and nothing here passes or fails by its time.
-
     make && bench/worst.py
     bench/worst.py --cbrowse PATH      or: CBROWSE=PATH bench/worst.py
 
 Each text is one file of a million bytes, the most that a file may have: one shape again and again,
 most of them on a single line. Further rows have single lines on which equal rows are far apart or
 very many, and 4,096 files that all define one name. A session takes the files as operands, scans
-them again (`r`), and is asked each of the seven fields about the names in them; of single lines, where each row would show
-a million bytes, about a name that is not there, which still has all facts put in order. Shown are the
-processor time (user and system) of the whole session on one core, the least of several, and the
-most memory that it had resident; "times" is the time as a multiple of that of ordinary code in as
-many bytes and files.
+them again (`r`), and is asked each of the seven fields about the names in them. Of single lines,
+where each row would show a million bytes, it is asked about a name that is not there, which still
+puts all facts in order. Shown are the processor time (user and system) of the whole session on one
+core, the least of several, and the most memory that it had resident; "times" is the time as a
+multiple of that of ordinary code in as many bytes and files.
 
 No tags are asked for: each tag shows its whole line, so that n definitions on one line have n times
 its length of them.
 """
 
-import argparse
+from __future__ import annotations
+
 import pathlib
 import tempfile
 
-from measure import keep_to_one_core, processor_time, words_given
+from measure import MOST_BYTES, MOST_FILES, keep_to_one_core, options, processor_time, words_given
 from scan import code, lines
-from session import MOST_FILES, Session
+from session import Session
 
 RUNS = 3
-MOST_BYTES = 1_000_000
-QUESTIONS = [b"r\n"] + [b"%s%s\n" % (field, name) for name in (b"a", b"f", b"none") for field in (b"0", b"1", b"2", b"3")]
+QUESTIONS = [b"r\n"] + [
+    b"%s%s\n" % (field, name)
+    for name in (b"a", b"f", b"none")
+    for field in (b"0", b"1", b"2", b"3")
+]
 QUESTIONS += [b"4none\n", b"7none\n", b"8none\n"]
 # a row shows its whole line, so of long lines only the first question of each field is asked
 FIRST_QUESTIONS = [question for question in QUESTIONS if b"none" in question or question == b"r\n"]
 SHAPES = [
-    b"{", b"}", b"\n", b'"', b"\\", b"(", b"a(", b"#define a(", b"typedef a;", b"f(){}", b"/*",
-    b"//\\\n", b"0.e+",
+    b"{",
+    b"}",
+    b"\n",
+    b'"',
+    b"\\",
+    b"(",
+    b"a(",
+    b"#define a(",
+    b"typedef a;",
+    b"f(){}",
+    b"/*",
+    b"//\\\n",
+    b"0.e+",
 ]
 
 
@@ -54,7 +67,10 @@ LINES = {
     "many callees of f on a line": b"f(){" + numbered(b"a#();", 990_000) + b"}\n",
     "many functions that use a on a line": numbered(b"f#(){a;}", 990_000) + b"\n",
     "many functions that call a on a line": numbered(b"f#(){a();}", 990_000) + b"\n",
-    "two long functions, a in both": b"".join(b"f%s(){%s}" % (b"x" * 240_000, b"a;" * 120_000) for _ in range(2)) + b"\n",
+    "two long functions, a in both": b"".join(
+        b"f%s(){%s}" % (b"x" * 240_000, b"a;" * 120_000) for _ in range(2)
+    )
+    + b"\n",
     "calls in calls": b"f(){" + b"a(" * 490_000 + b"\n",
     "many names of a typedef": b"typedef " + b"a," * 490_000 + b"a;\n",
 }
@@ -95,11 +111,12 @@ def put(label, found, ordinary=None):
 
 
 def main():
-    options = argparse.ArgumentParser(description=__doc__, formatter_class=argparse.RawDescriptionHelpFormatter)
-    given = words_given(options)
+    parser = options(__doc__)
+    given = words_given(parser)
     keep_to_one_core()
     print(f"{'':<34}{'time':>13}{'memory':>13}{'times':>8}")
     with tempfile.TemporaryDirectory() as folder:
+
         def measured(texts, questions=QUESTIONS):
             return asked(given.cbrowse, folder, texts, questions)
 
@@ -110,13 +127,19 @@ def main():
         for label, line in LINES.items():
             put(label, measured([line], FIRST_QUESTIONS), ordinary)
         line = b"int a;\nvoid f(void) {" + again(b" a;", 300_000) + b"}\n"
-        put("100,000 uses of a name on a line", measured([line]),
-            measured([lines(code(), len(line))]))
+        put(
+            "100,000 uses of a name on a line",
+            measured([line]),
+            measured([lines(code(), len(line))]),
+        )
         one = b"int a(void) { return 1; }\n"
         some = lines(code(), 4_000)
-        many = [some[at:at + len(one)] for at in range(0, len(one) * 100, len(one))]
-        put("4,096 files that define one name", measured([one] * MOST_FILES),
-            measured([many[number % len(many)] for number in range(MOST_FILES)]))
+        many = [some[at : at + len(one)] for at in range(0, len(one) * 100, len(one))]
+        put(
+            "4,096 files that define one name",
+            measured([one] * MOST_FILES),
+            measured([many[number % len(many)] for number in range(MOST_FILES)]),
+        )
 
 
 if __name__ == "__main__":

@@ -9,8 +9,8 @@ built.
 
 Sessions: those of crates/worked_cases/data/memory.txt. A command whose growth is refused says so,
 and has changed nothing: what is shown before and after it is the same, the world before and the
-world after can still be reached, and the command is done when it is given once more. Where there is no
-memory for the files to begin with, or to read the block of a load, the program says so and ends.
+world after can still be reached, and the command is done when it is given once more. Where there is
+no memory for the files to begin with, or to read the block of a load, the program says so and ends.
 Undo, redo and questions take no memory.
 
 Jobs: a search, a listing and a tags file. Each is done, or says that memory was refused and has
@@ -30,7 +30,18 @@ from growths import PATIENCE, Growths
 
 TOP = pathlib.Path(__file__).resolve().parent.parent
 REFUSED = b"cscope: refused: out of memory\n"
-TAKES_MEMORY = (b":load", b":reload", b":drop", b":rename", b":mark", b":to", b":tag ", b":pop", b"5", b"r\n")
+TAKES_MEMORY = (
+    b":load",
+    b":reload",
+    b":drop",
+    b":rename",
+    b":mark",
+    b":to",
+    b":tag ",
+    b":pop",
+    b"5",
+    b"r\n",
+)
 # commands that show the present world, and those that show that past and future are there
 SHOWS = (b":marks\n", b":stack\n", b":tags 2\n", b"7.\n")
 MOVES = ((b":redo\n", b":undo\n"), (b":undo\n", b":redo\n"))
@@ -124,7 +135,9 @@ class Session:
             raise Wrong(f"{self.case.name}: {exchange.command!r} took memory, {growths} times")
         command, most = FEWER.get(self.case.name, (b"", 0))
         if exchange.command == command and growths >= most:
-            raise Wrong(f"{self.case.name}: {exchange.command!r}: {growths} growths, not below {most}")
+            raise Wrong(
+                f"{self.case.name}: {exchange.command!r}: {growths} growths, not below {most}"
+            )
 
     def refuse(self, number, before):
         """A run in which the growth of this number is refused. Whether there was one."""
@@ -139,10 +152,16 @@ class Session:
                 return self.refused_at_block(number, talk, exchange.command)
             if reply == REFUSED and self.growths.refused == 1:
                 if shown(talk) != seen:
-                    raise Wrong(f"{self.case.name}: growth {number}: {exchange.command!r} was refused, and left a change")
+                    raise Wrong(
+                        f"{self.case.name}: growth {number}:"
+                        f" {exchange.command!r} was refused, and left a change"
+                    )
                 reply = talk.ask(exchange.command)
             if reply != exchange.reply:
-                raise Wrong(f"{self.case.name}: growth {number}: another reply to {exchange.command!r}: {reply!r}")
+                raise Wrong(
+                    f"{self.case.name}: growth {number}:"
+                    f" another reply to {exchange.command!r}: {reply!r}"
+                )
         status, said = talk.close()
         if status or said:
             raise Wrong(f"{self.case.name}: growth {number}: status {status}, {said!r}")
@@ -152,7 +171,9 @@ class Session:
         status, said = talk.close()
         names = [b"", *(name + b": " for name, _ in self.case.files)]
         if status != 1 or said not in [b"cbrowse: " + name + b"out of memory\n" for name in names]:
-            raise Wrong(f"{self.case.name}: growth {number}: it ended with status {status}: {said!r}")
+            raise Wrong(
+                f"{self.case.name}: growth {number}: it ended with status {status}: {said!r}"
+            )
         if self.growths.refused != 1:
             raise Wrong(f"{self.case.name}: growth {number}: it ended where nothing was refused")
         return True
@@ -161,8 +182,16 @@ class Session:
         """No memory for the block of a load or a reload ends the run."""
         status, said = talk.close()
         is_block = command.startswith((b":load", b":reload"))
-        if not is_block or status != 1 or said != b"cbrowse: out of memory\n" or self.growths.refused != 1:
-            raise Wrong(f"{self.case.name}: growth {number}: it ended at {command!r} with status {status}: {said!r}")
+        if (
+            not is_block
+            or status != 1
+            or said != b"cbrowse: out of memory\n"
+            or self.growths.refused != 1
+        ):
+            raise Wrong(
+                f"{self.case.name}: growth {number}:"
+                f" it ended at {command!r} with status {status}: {said!r}"
+            )
         return True
 
     def each(self):
@@ -195,7 +224,10 @@ def each_of_job(growths, program, words, folder):
         refused = growths.refused
         is_told = status == 1 and not out and said in messages and tags == b"old"
         if not (is_told and refused) and found != whole:
-            raise Wrong(f"{words}: growth {number}: status {status}, {said!r}, output {out!r}, tags {tags!r}")
+            raise Wrong(
+                f"{words}: growth {number}:"
+                f" status {status}, {said!r}, output {out!r}, tags {tags!r}"
+            )
         if not refused:
             return number - 1
     raise Wrong(f"{words}: more than {MOST} growths")
@@ -211,8 +243,12 @@ JOBS = (
 
 
 def main():
-    parser = argparse.ArgumentParser(description=__doc__, formatter_class=argparse.RawDescriptionHelpFormatter)
-    parser.add_argument("program", nargs="?", default=str(TOP / "bin" / "cbrowse"), metavar="PROGRAM")
+    parser = argparse.ArgumentParser(
+        description=__doc__, formatter_class=argparse.RawDescriptionHelpFormatter
+    )
+    parser.add_argument(
+        "program", nargs="?", default=str(TOP / "bin" / "cbrowse"), metavar="PROGRAM"
+    )
     program = str(pathlib.Path(parser.parse_args().program).resolve())
     failed = 0
     with tempfile.TemporaryDirectory() as room:
@@ -224,7 +260,12 @@ def main():
             checks.append((case.name, Session(program, growths, case, folder).each))
         for words in JOBS:
             # the files of the first session are those of the jobs
-            checks.append((" ".join(words), lambda words=words: each_of_job(growths, program, words, f"{room}/0")))
+            checks.append(
+                (
+                    " ".join(words),
+                    lambda words=words: each_of_job(growths, program, words, f"{room}/0"),
+                )
+            )
         for name, check in checks:
             try:
                 print(f"{name}: {check()} growths, each refused", flush=True)

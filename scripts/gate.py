@@ -1,14 +1,15 @@
 #!/usr/bin/env python3
 """The gate: what every change has to pass. `make test` runs it.
 
-1. `rt ci` proves each crate from nothing, tries the wrong bodies, and runs the tests and programs.
+1. What documents, scripts and wrong bodies say about the repository is so (documents.py).
+2. `rt ci` proves each crate from nothing, tries the wrong bodies, and runs the tests and programs.
    It has as many tasks as cores, or as RT_JOBS says: left to itself it believes that a proof of a
    large crate takes 10 GB, where it takes 3, and lets the wrong bodies wait for it.
-2. The program that it built is run on words, files and failing devices (whole-program.py).
-3. Each growth of memory is refused to it in turn (each-growth-refused.py).
+3. The program that it built is run on words, files and failing devices (whole-program.py).
+4. Each growth of memory is refused to it in turn (each-growth-refused.py).
 
-At the end it says how long each step took, and how many checks passed and failed; the exit status is
-1 where one failed.
+At the end it says how long each step took, and how many checks passed and failed; the exit status
+is 1 where one failed.
 """
 
 from __future__ import annotations
@@ -22,8 +23,10 @@ import time
 
 TOP = pathlib.Path(__file__).resolve().parent.parent
 PROGRAM = TOP / "crates" / "cbrowse" / "out" / "cbrowse"
+BUILD = ["rt", "ci"]
 STEPS = (
-    ("rt ci", ["rt", "ci"]),
+    ("the documents", ["scripts/documents.py"]),
+    ("rt ci", BUILD),
     ("the whole program", ["scripts/whole-program.py", str(PROGRAM)]),
     ("each growth refused", ["scripts/each-growth-refused.py", str(PROGRAM)]),
 )
@@ -42,7 +45,9 @@ def step(words: list[str]) -> tuple[int, int, float]:
     """Runs a step and shows what it writes: how many passed and failed, and its seconds."""
     began, counts = time.monotonic(), None
     how = {"cwd": TOP, "env": {"RT_JOBS": str(tasks()), **os.environ}}
-    run = subprocess.Popen(words, stdout=subprocess.PIPE, stderr=subprocess.STDOUT, text=True, errors="replace", **how)
+    run = subprocess.Popen(
+        words, stdout=subprocess.PIPE, stderr=subprocess.STDOUT, text=True, errors="replace", **how
+    )
     for line in run.stdout:
         print(line, end="", flush=True)
         counts = COUNTS.search(line) or counts
@@ -58,8 +63,10 @@ def main() -> int:
     for name, words in STEPS:
         good, bad, seconds = step(words)
         passed, failed = passed + good, failed + bad
-        told.append(f"{name}: {int(seconds) // 60}:{int(seconds) % 60:02} min, {good} passed, {bad} failed")
-        if bad and words == STEPS[0][1]:
+        told.append(
+            f"{name}: {int(seconds) // 60}:{int(seconds) % 60:02} min, {good} passed, {bad} failed"
+        )
+        if bad and words == BUILD:
             # without a proved program there is nothing to run
             break
     print("\n".join(told))

@@ -1,5 +1,5 @@
-/* Counts the growths of memory of a program, and refuses one of them. each-growth-refused.py builds
- * it and preloads it, so the program runs as it was built.
+/* Counts the growths of memory of a program, and refuses one of them. growths.py builds it and
+ * preloads it, so the program runs as it was built.
  *
  * A growth is a call of malloc or calloc, or one of realloc that asks for more bytes than the block
  * was asked for before. The file that the variable GROWTHS names holds what is to be refused and

@@ -18,7 +18,15 @@ class Growths:
 
     def __init__(self, folder):
         self.library, self.path = f"{folder}/growths.so", f"{folder}/growths"
-        words = [os.environ.get("CC", "cc"), "-shared", "-fPIC", "-O2", "-o", self.library, str(SOURCE)]
+        words = [
+            os.environ.get("CC", "cc"),
+            "-shared",
+            "-fPIC",
+            "-O2",
+            "-o",
+            self.library,
+            str(SOURCE),
+        ]
         try:
             subprocess.run(words, check=True)
         except (OSError, subprocess.CalledProcessError) as error:

@@ -1,6 +1,7 @@
 #!/usr/bin/env bash
-# Tries the edits that the gate leaves out: the prover has to refuse each of crates/NAME/must-fail/more/*.edit.md. (The
-# gate tries every file *.edit below must-fail, so those that it leaves out end in .md.)
+# Tries the edits that the gate leaves out: the prover has to refuse each file *.edit.md of
+# crates/NAME/must-fail/more. (The gate tries every file *.edit below must-fail, so those that it
+# leaves out end in .md.)
 #
 #     scripts/more-edits.sh [CRATE..]      all crates, or the ones named
 #

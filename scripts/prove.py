@@ -5,9 +5,9 @@
 
 A crate begins once those that it stands on are proved, and crates that do not stand on one another
 are proved side by side. They share as many jobs as there are cores, by their lines, or fewer where
-memory is short: a job takes up to 2.5 GB. What an earlier run proved and nothing has changed since is not proved
-again. A crate is told when it begins and when it ends, with its time, and the whole at the end. The
-exit status is 1 where a crate is not proved; what the check said then comes first.
+memory is short: a job takes up to 2.5 GB. What an earlier run proved and nothing has changed since
+is not proved again. A crate is told when it begins and when it ends, with its time, and the whole
+at the end. The exit status is 1 where a crate is not proved; what the check said then comes first.
 """
 
 from __future__ import annotations
@@ -71,7 +71,9 @@ class Proof:
     def one(self, crate: str, share: int):
         began = time.monotonic()
         words = ["rt", "check", "--jobs", str(share)]
-        ran = subprocess.run(words, cwd=TOP / "crates" / crate, stdout=subprocess.PIPE, stderr=subprocess.STDOUT)
+        ran = subprocess.run(
+            words, cwd=TOP / "crates" / crate, stdout=subprocess.PIPE, stderr=subprocess.STDOUT
+        )
         with self.changed:
             self.running.discard(crate)
             if ran.returncode:
@@ -93,7 +95,10 @@ class Proof:
                     self.running.add(crate)
                     share = max(1, round(self.jobs * lines[crate] / sum(lines.values())))
                     number = self.count - len(self.left)
-                    print(f"{crate}: proving, {number} of {self.count} crates, up to {share} jobs", flush=True)
+                    print(
+                        f"{crate}: proving, {number} of {self.count} crates, up to {share} jobs",
+                        flush=True,
+                    )
                     threading.Thread(target=self.one, args=(crate, share)).start()
                 self.changed.wait()
         return not self.failed
@@ -102,7 +107,10 @@ class Proof:
 def main() -> int:
     began = time.monotonic()
     is_proved = Proof(sys.argv[1] if len(sys.argv) > 1 else "cbrowse").all()
-    print(f"all proved in {minutes(time.monotonic() - began)}" if is_proved else "NOT PROVED", flush=True)
+    print(
+        f"all proved in {minutes(time.monotonic() - began)}" if is_proved else "NOT PROVED",
+        flush=True,
+    )
     return 0 if is_proved else 1
 
 

@@ -6,9 +6,9 @@
 `make test` runs it on the program that it built. Each row below is the words, what standard output
 and standard error have, the exit status, and the tags file that is then there. Help and the texts
 on wrong words are compared whole or by their first line. After the rows come devices: a bound on
-the size of a file at each byte, standard input that fails after each byte, full devices, a pipe as
-a file, 4,096 files and one more, and words that are not UTF-8. The exit status is 1 where a check
-failed.
+the size of a file at each byte, standard input that fails after each byte, full devices, sources
+in the place of a tags file, a pipe as a file, 4,096 files and one more, and words that are not
+UTF-8. The exit status is 1 where a check failed.
 """
 
 from __future__ import annotations
@@ -16,6 +16,7 @@ from __future__ import annotations
 import argparse
 import os
 import pathlib
+import re
 import resource
 import signal
 import subprocess
@@ -114,8 +115,9 @@ Arguments:
 
 Options:
   -x                     Write a listing to standard output instead
-  -f <TAGSFILE>          Tags file to write [default: tags]
-      --format <FORMAT>  Format of the tags file: 1 for POSIX ctags, 2 with extension fields [default: 1] [possible values: 1, 2]
+  -f <TAGSFILE>          Tags file to write, - for standard output [default: tags]
+      --format <FORMAT>  Format of the tags file: 1 for POSIX ctags, 2 with extension fields \
+[default: 1] [possible values: 1, 2]
   -h, --help             Print help
 
 Example: cbrowse tags a.c
@@ -126,7 +128,8 @@ Writes the rows that answer one question about C sources
 Usage: cbrowse find <NUM> <PATTERN> <FILE>...
 
 Arguments:
-  <NUM>      Field of the search: 0 uses of a name, 1 its definitions, 2 calls in a function, 3 calls of it, 4 a text, 7 file names, 8 includes
+  <NUM>      Field of the search: 0 uses of a name, 1 its definitions, 2 calls in a function, \
+3 calls of it, 4 a text, 7 file names, 8 includes
   <PATTERN>  What is searched for; after -- where it begins with -
   <FILE>...  C source to search
 
@@ -135,6 +138,10 @@ Options:
 
 Example: cbrowse find 1 main a.c
 """
+
+
+NOTES = (TOP / "docs" / "RELEASES.md").read_text()
+VERSION = b"cbrowse %s\n" % re.findall(r"^## (\S+)", NOTES, re.MULTILINE)[0].encode()
 
 
 class Row(NamedTuple):
@@ -172,8 +179,16 @@ ROWS = [
     # sessions
     line(b"q\n", b">> "),
     line(b"", b">> "),
-    line(b":load t.c 50\n01234567890123456789", b">> cscope: refused: input ended\n", b"cbrowse: input ended\n", 1),
-    line(b"a" * 1_000_000 + b"\n:undo\n", b">> cscope: refused: line too long\n>> cscope: refused: nothing to undo\n>> "),
+    line(
+        b":load t.c 50\n01234567890123456789",
+        b">> cscope: refused: input ended\n",
+        b"cbrowse: input ended\n",
+        1,
+    ),
+    line(
+        b"a" * 1_000_000 + b"\n:undo\n",
+        b">> cscope: refused: line too long\n>> cscope: refused: nothing to undo\n>> ",
+    ),
     line(b"a" * 1_000_001, b">> ", b"cbrowse: line over 1000000 bytes\n", 1),
     line(
         b"1add\n:undo\n1add\n1Mb\n",
@@ -190,6 +205,10 @@ ROWS = [
     Row(["tags", "none.h"], tags=("tags", b"")),
     Row(["tags", "-x", "-f", "no", "--format", "1", "a.c"], LISTING),
     Row(["tags", "a.c", "-x"], LISTING),
+    Row(["tags", "-f", "-", "a.c"], PLAIN),
+    Row(["tags", "-f-", "--format", "2", "a.c"], EXTENDED),
+    Row(["tags", "-x", "-f", "-", "a.c"], LISTING),
+    Row(["tags", "-f", "./-", "a.c"], tags=("-", PLAIN)),
     Row(["tags", "-x", "last.c"], b"last 2 last.c int last(void) {\n"),
     # searches
     Row(["find", "0", "add", "a.c"], ROWS_OF_ADD),
@@ -198,12 +217,17 @@ ROWS = [
     Row(["find", "3", "add", "a.c"], CALLS_ADD),
     Row(["find", "4", "a +", "a.c"], b"a.c <unknown> 5 return a + b;\n"),
     Row(["find", "4", "--", "-x", "n.c", "a.c"], b"n.c <unknown> 1 int a = -x;\n"),
-    Row(["find", "7", ".c", "n.c", "a.c"], b"a.c <unknown> 1 <unknown>\nn.c <unknown> 1 <unknown>\n"),
+    Row(
+        ["find", "7", ".c", "n.c", "a.c"], b"a.c <unknown> 1 <unknown>\nn.c <unknown> 1 <unknown>\n"
+    ),
     Row(["find", "8", "a.h", "a.c"], b'a.c <global> 1 #include "a.h"\n'),
     Row(["find", "1", "none", "a.c"]),
     # the number is judged first, then the pattern, then the files
-    *(refused(["find", num, pattern, "none.c"], NO_FIELD, 2)
-      for num in ("5", "6", "9", "", "01", "1 ", "x") for pattern in ("f", "")),
+    *(
+        refused(["find", num, pattern, "none.c"], NO_FIELD, 2)
+        for num in ("5", "6", "9", "", "01", "1 ", "x")
+        for pattern in ("f", "")
+    ),
     refused(["find", "1", "", "none.c"], NO_PATTERN, 2),
     refused(["find", "1", "f", "none.c"], b"none.c: cannot be read"),
     refused(["find", "1", "f", "a.c", "a.c"], b"a.c: file exists"),
@@ -217,6 +241,7 @@ ROWS = [
     refused(["tags", "-x", "d.c"], b"d.c: cannot be read"),
     refused(["tags", "-f", "d.c", "a.c"], b"d.c: cannot be written"),
     refused(["tags", "-f", "", "a.c"], b": cannot be written"),
+    refused(["tags", "-f", "-", "none.c"], b"none.c: cannot be read"),
     refused(["line", "a.c", "none2.h"], b"none2.h: cannot be read"),
     refused(["tags", "--", "-x"], b"-x: cannot be read"),
     # a message is one line whatever bytes a name has
@@ -231,17 +256,27 @@ ROWS = [
     wrong(["find", "4", "-x", "a.c"], b"unexpected argument '-x' found"),
     wrong(["line", "-x"], b"unexpected argument '-x' found"),
     wrong(["tags"], LACKS + b"  <FILE>...\n"),
-    wrong(["tags", "--format", "3", "a.c"], b"invalid value '3' for '--format <FORMAT>'\n  [possible values: 1, 2]\n"),
+    wrong(
+        ["tags", "--format", "3", "a.c"],
+        b"invalid value '3' for '--format <FORMAT>'\n  [possible values: 1, 2]\n",
+    ),
     wrong(["tags", "-q", "a.c"], b"unexpected argument '-q' found"),
-    wrong(["tags", "a.c", "-f"], b"a value is required for '-f <TAGSFILE>' but none was supplied\n"),
-    Row(["find", "0", b"\xff", "a.c"], b"", b"error: a word is not UTF-8\n\nFor more information, try '--help'.\n", 2),
+    wrong(
+        ["tags", "a.c", "-f"], b"a value is required for '-f <TAGSFILE>' but none was supplied\n"
+    ),
+    Row(
+        ["find", "0", b"\xff", "a.c"],
+        b"",
+        b"error: a word is not UTF-8\n\nFor more information, try '--help'.\n",
+        2,
+    ),
     help_of(["--help"], HELP),
     help_of(["line", "--help"], HELP_LINE),
     help_of(["find", "--help"], HELP_FIND),
     help_of(["tags", "--help"], HELP_TAGS),
     help_of(["help", "tags"], HELP_TAGS),
-    help_of(["--version"], b"cbrowse 0.1.0\n"),
-    help_of(["-V"], b"cbrowse 0.1.0\n"),
+    help_of(["--version"], VERSION),
+    help_of(["-V"], VERSION),
 ]
 
 # a session over a.c: a question, tags, a listing, marks, a change and an undo
@@ -250,7 +285,9 @@ REPLIES = [
     b"cscope: 1 lines\na.c add 4 static int add(int a, int b) {\n",
     b"cscope: 4 lines\n" + PLAIN,
     b"cscope: 4 lines\n" + LISTING,
-    b"cscope: 3 lines\n" + ROWS_OF_ADD.replace(b" TWICE 2", b" <unknown> 2").replace(b" add 4", b" <unknown> 4")
+    b"cscope: 3 lines\n"
+    + ROWS_OF_ADD.replace(b" TWICE 2", b" <unknown> 2")
+    .replace(b" add 4", b" <unknown> 4")
     .replace(b" main 8", b" <unknown> 8"),
     b"cscope: done\n",
     b"cscope: done\n",
@@ -259,12 +296,16 @@ REPLIES = [
 ]
 REPLIES.append(REPLIES[3])
 OUTPUT = b"".join(b">> " + reply for reply in REPLIES) + b">> "
-WRITERS = [(["tags", "-x", "a.c"], b"", LISTING), (["find", "0", "add", "a.c"], b"", ROWS_OF_ADD),
-           (["line", "a.c"], INPUT, OUTPUT)]
+WRITERS = [
+    (["tags", "-x", "a.c"], b"", LISTING),
+    (["find", "0", "add", "a.c"], b"", ROWS_OF_ADD),
+    (["tags", "-f", "-", "--format", "2", "a.c"], b"", EXTENDED),
+    (["line", "a.c"], INPUT, OUTPUT),
+]
 
 
 def bounded(size: int):
-    """Files may have so many bytes; a write beyond fails, and sends no signal."""
+    """Files may have at most this size; a write beyond it fails, and sends no signal."""
 
     def before():
         signal.signal(signal.SIGXFSZ, signal.SIG_IGN)
@@ -288,7 +329,9 @@ class Checks:
         how = {"stdout": subprocess.PIPE, "stderr": subprocess.PIPE, **how}
         if "stdin" not in how:
             how["input"] = given
-        ran = subprocess.run([self.program, *words], preexec_fn=before, cwd=self.folder, timeout=PATIENCE, **how)
+        ran = subprocess.run(
+            [self.program, *words], preexec_fn=before, cwd=self.folder, timeout=PATIENCE, **how
+        )
         return ran.returncode, ran.stdout, ran.stderr
 
     def expect(self, what, found, meant):
@@ -310,7 +353,7 @@ class Checks:
         self.expect([*row.words, "the folder"], set(os.listdir(self.folder)) | {name}, before)
 
     def at_each_byte(self):
-        """A file that takes so many bytes, as standard output and as the tags file."""
+        """A file that takes each number of bytes, as standard output and as the tags file."""
         out = self.folder / "out"
         for words, given, whole in WRITERS:
             for size in range(len(whole) + 1):
@@ -318,12 +361,16 @@ class Checks:
                     status, _, said = self.run(words, given, bounded(size), stdout=file)
                 is_whole = size == len(whole)
                 meant = (0, b"") if is_whole else (1, b"cbrowse: write fault\n")
-                self.expect([*words, size], (status, said, out.read_bytes()), (*meant, whole[:size]))
+                self.expect(
+                    [*words, size], (status, said, out.read_bytes()), (*meant, whole[:size])
+                )
         for size in range(len(EXTENDED) + 1):
             found = self.run(["tags", "--format", "2", "-f", "out", "a.c"], b"", bounded(size))
             is_whole = size == len(EXTENDED)
             meant = (0, b"", b"") if is_whole else (1, b"", b"cbrowse: out: cannot be written\n")
-            self.expect(["tags -f out", size], (*found, out.read_bytes()), (*meant, EXTENDED[:size]))
+            self.expect(
+                ["tags -f out", size], (*found, out.read_bytes()), (*meant, EXTENDED[:size])
+            )
         message = b"cbrowse: none.c: cannot be read\n"
         for size in range(len(message) + 1):
             with open(out, "wb") as file:
@@ -335,8 +382,14 @@ class Checks:
         for size in range(len(INPUT) + 1):
             near, far = os.openpty()
             tty.setraw(far)
-            started = subprocess.Popen([self.program, "line", "a.c"], cwd=self.folder, stdin=near,
-                                       stdout=subprocess.PIPE, stderr=subprocess.PIPE, pass_fds=())
+            started = subprocess.Popen(
+                [self.program, "line", "a.c"],
+                cwd=self.folder,
+                stdin=near,
+                stdout=subprocess.PIPE,
+                stderr=subprocess.PIPE,
+                pass_fds=(),
+            )
             os.close(near)
             os.write(far, INPUT[:size])
             os.close(far)
@@ -344,41 +397,108 @@ class Checks:
             self.runs += 1
             whole = INPUT[:size].count(b"\n")
             meant = b"".join(b">> " + reply for reply in REPLIES[:whole]) + b">> "
-            self.expect(["a reader that fails after", size], (started.returncode, out, said),
-                        (1, meant, b"cbrowse: read fault\n"))
+            self.expect(
+                ["a reader that fails after", size],
+                (started.returncode, out, said),
+                (1, meant, b"cbrowse: read fault\n"),
+            )
 
     def full(self):
         """/dev/full as standard output and as the tags file."""
         with open("/dev/full", "wb") as device:
             for words, given, _ in WRITERS:
-                self.expect([*words, "/dev/full"], self.run(words, given, stdout=device)[::2], (1, b"cbrowse: write fault\n"))
+                self.expect(
+                    [*words, "/dev/full"],
+                    self.run(words, given, stdout=device)[::2],
+                    (1, b"cbrowse: write fault\n"),
+                )
         found = self.run(["tags", "-f", "/dev/full", "a.c"])
-        self.expect("tags -f /dev/full", found, (1, b"", b"cbrowse: /dev/full: cannot be written\n"))
+        self.expect(
+            "tags -f /dev/full", found, (1, b"", b"cbrowse: /dev/full: cannot be written\n")
+        )
+
+    def sources(self):
+        """A C source that holds something is no tags file, whatever way leads to it. One that is
+        empty or not there is written."""
+        source = self.folder / "source.h"
+        (self.folder / "link").symlink_to("source.h")
+        (self.folder / "link.c").symlink_to("source.h")
+        for name in ("source.h", "./source.h", "link.c", str(source)):
+            source.write_bytes(A_C)
+            message = b"cbrowse: " + name.encode() + b": cannot be written\n"
+            self.expect(
+                ["tags -f", name], self.run(["tags", "-f", name, "m.c", "n.c"]), (1, b"", message)
+            )
+            self.expect(["tags -f", name, "the source"], source.read_bytes(), A_C)
+        found = self.run(["tags", "-f", "a.c", "m.c", "a.c"])
+        self.expect(
+            "tags -f a.c over itself", found, (1, b"", b"cbrowse: a.c: cannot be written\n")
+        )
+        found = self.run(["tags", "-f", "a.c", "none.c"])
+        self.expect("tags -f a.c none.c", found, (1, b"", b"cbrowse: none.c: cannot be read\n"))
+        self.expect(
+            "tags -x -f a.c", self.run(["tags", "-x", "-f", "a.c", "a.c"]), (0, LISTING, b"")
+        )
+        self.expect("a.c after these runs", (self.folder / "a.c").read_bytes(), A_C)
+        for given in (b"", None):
+            source.unlink()
+            if given is not None:
+                source.write_bytes(given)
+            self.expect(
+                ["tags -f source.h", given],
+                self.run(["tags", "-f", "source.h", "a.c"]),
+                (0, b"", b""),
+            )
+            self.expect(["source.h", given], source.read_bytes(), PLAIN)
+        self.expect("tags -f link", self.run(["tags", "-f", "link", "m.c"]), (0, b"", b""))
+        self.expect("link", source.read_bytes(), b"Mb\tm.c\t/^int Mb(void) {$/\n")
 
     def pipes_and_many(self):
         """A pipe as a file, which has no size; and 4,096 files and one more."""
         pipe = self.folder / "p.c"
         os.mkfifo(pipe)
         feeder = subprocess.Popen(["sh", "-c", "cat a.c > p.c"], cwd=self.folder)
-        self.expect("a pipe", self.run(["find", "1", "add", "p.c"]), (0, b"p.c add 4 static int add(int a, int b) {\n", b""))
+        self.expect(
+            "a pipe",
+            self.run(["find", "1", "add", "p.c"]),
+            (0, b"p.c add 4 static int add(int a, int b) {\n", b""),
+        )
         feeder.wait(PATIENCE)
         pipe.unlink()
         for number in range(1, 4098):
             (self.folder / f"f{number}.c").write_bytes(b"g();\n" if number == 4096 else b"")
         names = [f"f{number}.c" for number in range(1, 4098)]
-        self.expect("4,096 files", self.run(["find", "0", "g", *names[:4096]]), (0, b"f4096.c <global> 1 g();\n", b""))
-        self.expect("4,097 files", self.run(["find", "0", "g", *names]), (1, b"", b"cbrowse: f4097.c: too many files\n"))
+        self.expect(
+            "4,096 files",
+            self.run(["find", "0", "g", *names[:4096]]),
+            (0, b"f4096.c <global> 1 g();\n", b""),
+        )
+        self.expect(
+            "4,097 files",
+            self.run(["find", "0", "g", *names]),
+            (1, b"", b"cbrowse: f4097.c: too many files\n"),
+        )
 
 
 def main():
-    parser = argparse.ArgumentParser(description=__doc__, formatter_class=argparse.RawDescriptionHelpFormatter)
-    parser.add_argument("program", nargs="?", default=str(TOP / "bin" / "cbrowse"), metavar="PROGRAM")
+    parser = argparse.ArgumentParser(
+        description=__doc__, formatter_class=argparse.RawDescriptionHelpFormatter
+    )
+    parser.add_argument(
+        "program", nargs="?", default=str(TOP / "bin" / "cbrowse"), metavar="PROGRAM"
+    )
     program = str(pathlib.Path(parser.parse_args().program).resolve())
     with tempfile.TemporaryDirectory() as room:
         checks = Checks(program, pathlib.Path(room))
         for row in ROWS:
             checks.row(row)
-        for check in (checks.at_each_byte, checks.reader_fails, checks.full, checks.pipes_and_many):
+        for check in (
+            checks.at_each_byte,
+            checks.reader_fails,
+            checks.full,
+            checks.sources,
+            checks.pipes_and_many,
+        ):
             check()
     print(f"whole program: {checks.runs - checks.failed} passed, {checks.failed} failed")
     return 1 if checks.failed else 0

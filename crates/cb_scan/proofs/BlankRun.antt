@@ -1,5 +1,7 @@
 -- The spaces and tabs that a text begins with are its blank, and hold no line feed.
-use Rattle.std.proofs.Common.{◌≡◌, ◌∙◌, ◌<◌, ◌≤◌, ◌+◌, ℕ, zero, suc, Bool, true, false, List, [], ◌∷◌, length, take, get_or, cond, count_by, refl, sym, ap, subst, arith, ⊎_elim}
+use Rattle.std.proofs.Common.{◌≡◌, ◌∙◌, ◌<◌, ◌≤◌, ◌+◌, ℕ, zero, suc, Bool, true, false, List, []}
+use Rattle.std.proofs.Common.{◌∷◌, length, take, get_or, cond, count_by, refl, sym, ap, subst}
+use Rattle.std.proofs.Common.{arith, ⊎_elim}
 use Rattle.std.proofs.lemmas.Bool.{cases_Bool, eqb-true, false_from_ne_true, false≢true, ltb-true}
 use Rattle.std.proofs.lemmas.List.Sums.{sum_by-cons}
 use Rattle.std.proofs.lemmas.Simd.{length-chunk}
@@ -37,7 +39,8 @@ unfolding Known blank_len
 run_is [] no_more other = refl
 run_is (b ∷ xs) no_more other = ⊎_elim (more (run_is xs)) none (cases_Bool (is_space b))
   where
-    more : (is_blank (get_or xs (prefix_len is_space xs) 0) ≡ false → (get_or xs (prefix_len is_space xs) 0 == 92) ≡ false
+    more : (is_blank (get_or xs (prefix_len is_space xs) 0) ≡ false → (get_or xs
+        (prefix_len is_space xs) 0 == 92) ≡ false
         → blank_len false xs ≡ prefix_len is_space xs)
         → is_space b ≡ true → blank_len false (b ∷ xs) ≡ prefix_len is_space (b ∷ xs)
     more rest is =

@@ -1,6 +1,8 @@
 -- The one pass knows whose body it is in: it finds the ranges of the functions and the calls in
 -- their bodies.
-use Rattle.std.proofs.Common.{◌≡◌, ◌∙◌, ℕ, zero, suc, ◌+◌, ◌-◌, ◌<◌, ◌≤◌, Bool, true, false, List, [], ◌∷◌, ◌++◌, Option, Some, None, refl, sym, ap, subst, length, drop, map, arith, lt-ltb, length-drop, add-one, ⊎_elim, append_assoc}
+use Rattle.std.proofs.Common.{◌≡◌, ◌∙◌, ℕ, zero, suc, ◌+◌, ◌-◌, ◌<◌, ◌≤◌, Bool, true, false, List}
+use Rattle.std.proofs.Common.{[], ◌∷◌, ◌++◌, Option, Some, None, refl, sym, ap, subst, length, drop}
+use Rattle.std.proofs.Common.{map, arith, lt-ltb, length-drop, add-one, ⊎_elim, append_assoc}
 use Rattle.std.proofs.lemmas.Bool.{true≢false, cases_Bool, eqb-true, false_from_ne_true, ltb-true}
 use Rattle.std.proofs.lemmas.List.{drop_more, append-nil, get_or_past, map-append}
 use Rattle.std.proofs.Math.Bool.{and-false}
@@ -13,16 +15,22 @@ use Rattle.cb_scan.specs.declared.rules.functions.Machine.{Machine}
 use Rattle.cb_scan.specs.declared.lex.piece.Span.{Span}
 use Rattle.cb_scan.specs.declared.rules.scope.Range.{Range}
 use Rattle.cb_scan.specs.declared.lex.token.Token.{Token}
-use Rattle.cb_scan.specs.rules.Depth.{depth, depth_after, head_start, follows_linkage, is_counted, closes, is_stop, token_at, no_token}
+use Rattle.cb_scan.specs.rules.Depth.{depth, depth_after, head_start, follows_linkage, is_counted}
+use Rattle.cb_scan.specs.rules.Depth.{closes, is_stop, token_at, no_token}
 use Rattle.cb_scan.specs.Definitions.{function_def}
 use Rattle.cb_scan.specs.rules.Functions.{close_from, function_at, functions}
 use Rattle.cb_scan.specs.rules.Scope.{function_range}
 use Rattle.cb_scan.specs.lex.Tokens.{is_mark, is_name_token}
 use Rattle.cb_scan.specs.rules.Uses.{call_at, call_of, calls_of_function, function_calls, is_call}
-use Rattle.cb_scan.specs.steps.Functions.{counts, start, found, is_after_linkage, next, next_body, next_depth, ends_all, closed, called, call_before, range_to, ranges_from, calls_from, function_here, grown}
+use Rattle.cb_scan.specs.steps.Functions.{counts, start, found, is_after_linkage, next, next_body}
+use Rattle.cb_scan.specs.steps.Functions.{next_depth, ends_all, closed, called, call_before}
+use Rattle.cb_scan.specs.steps.Functions.{range_to, ranges_from, calls_from, function_here, grown}
 use Rattle.cb_scan.specs.steps.Heads.{empty_head}
 use Rattle.cb_scan.proofs.FunctionLemmas.{last_grown, step, depth_next, stops_is, found_is}
-use Rattle.cb_scan.proofs.Bodies.{last_at, InBody, close_step, close_end, close_bound, only_mark, no_name, and_left, and_right, stays_deep, place_of, open_calls, pending, def_name, ranges_here, calls_here, none_here, found_names, either}
+use Rattle.cb_scan.proofs.Bodies.{last_at, InBody, close_step, close_end, close_bound, only_mark}
+use Rattle.cb_scan.proofs.Bodies.{no_name, and_left, and_right, stays_deep, place_of, open_calls}
+use Rattle.cb_scan.proofs.Bodies.{pending, def_name, ranges_here, calls_here, none_here}
+use Rattle.cb_scan.proofs.Bodies.{found_names, either}
 
 -- ---- one token
 module _ (text : List ℕ) (ts : List Token) (k : ℕ) (m : Machine) (within : k < length ts) (here : InBody ts k m) where
@@ -431,7 +439,14 @@ module _ (text : List ℕ) (ts : List Token) where
   start_in_body : InBody ts 0 start
   unfolding depth head_start
   start_in_body = record {
-    at = record { depth_is = refl; linkage_is = refl; extern_is = refl; head_is = λ _. refl; empty_is = refl; opened_is = refl };
+    at = record {
+      depth_is = refl;
+      linkage_is = refl;
+      extern_is = refl;
+      head_is = λ _. refl;
+      empty_is = refl;
+      opened_is = refl;
+    };
     last_is = refl;
     deep = tt;
   }

@@ -19,7 +19,9 @@ use Rattle.cb_scan.specs.declared.lex.token.Token.{Token}
 use Rattle.cb_scan.specs.rules.Code.{code, is_directive, logical_lines}
 use Rattle.cb_scan.specs.lex.Tokens.{has_kind, is_any_word, is_mark, is_name_token, kind_is_define, kind_is_include}
 use Rattle.cb_scan.specs.rules.Uses.{after_own_word, is_include, used}
-use Rattle.cb_scan.specs.steps.Directives.{code_out, directive_of, is_code, next_defining, next_directive, next_including, next_stage, names_count, nothing, run, use_out, walk}
+use Rattle.cb_scan.specs.steps.Directives.{code_out, directive_of, is_code, next_defining}
+use Rattle.cb_scan.specs.steps.Directives.{next_directive, next_including, next_stage, names_count}
+use Rattle.cb_scan.specs.steps.Directives.{nothing, run, use_out, walk}
 use Rattle.cb_scan.specs.steps.Lined.{lined}
 use Rattle.cb_scan.proofs.LineLemmas.{walk_lines}
 use Rattle.cb_scan.proofs.Stages.{filtered_not, in_code, in_define, in_include, in_other, none, quiet}
@@ -144,5 +146,6 @@ use_run (t ∷ ts) =
     ∙ ap usable (sym isnt))
     (cases_Bool (is_mark 35 t.role))
 
-pub uses_are : (text : List ℕ) (ps : List Piece) → walk use_out nothing text Start (map (lined text) ps) ≡ flat_map used (logical_lines text ps)
+pub uses_are : (text : List ℕ) (ps : List Piece)
+    → walk use_out nothing text Start (map (lined text) ps) ≡ flat_map used (logical_lines text ps)
 uses_are text ps = walk_lines use_out none text ps ∙ (λ i. flat_map (λ l. use_run l i) (logical_lines text ps))

@@ -1,16 +1,32 @@
 -- The piece at a place: its class, how far it reaches, and that it alone is the longest lexeme
 -- there.
-use Rattle.std.proofs.Common.{◌≡◌, ◌⊎◌, ◌-◌, ◌<◌, ◌≤◌, ℕ, zero, suc, Bool, true, false, ◌==◌, ◌&&◌, ◌||◌, List, [], ◌∷◌, length, length-drop, take, drop, refl, sym, ap, subst, ◌∙◌, arith, inl, inr, ⊎_elim}
+use Rattle.std.proofs.Common.{◌≡◌, ◌⊎◌, ◌-◌, ◌<◌, ◌≤◌, ℕ, zero, suc, Bool, true, false, ◌==◌, ◌&&◌}
+use Rattle.std.proofs.Common.{◌||◌, List, [], ◌∷◌, length, length-drop, take, drop, refl, sym, ap}
+use Rattle.std.proofs.Common.{subst, ◌∙◌, arith, inl, inr, ⊎_elim}
 use Rattle.std.proofs.lemmas.Bool.{eqb-true, and_from, and_parts, or_cases, or_left, or_right, true≢false}
 use Rattle.std.specs.List.{list_all, prefix_len}
 use Rattle.cb_scan.specs.declared.lex.lexeme.Escape.TheVariants.{Plain}
 use Rattle.cb_scan.specs.declared.lex.piece.Class.{Class}
-use Rattle.cb_scan.specs.declared.lex.piece.Class.TheVariants.{Name, Number, Str, Chr, LineNote, BlockNote, Blank, Newline, Byte}
-use Rattle.cb_scan.specs.lex.Lexeme.{is_letter, is_digit, is_word, is_blank, is_identifier, is_number, first_is, goes_on, all_go_on, comment_end, Blanks, no_blank, a_blank, a_join, a_cr_join, Commented, Quoted, Spells, IsLexeme}
-use Rattle.cb_scan.specs.steps.Cut.{begins, ends_join, class_at, number_len, goes_on_blank, blank_len, comment_len, literal_len, block_len, length_in, piece_len}
+use Rattle.cb_scan.specs.declared.lex.piece.Class.TheVariants.{Name, Number, Str, Chr, LineNote}
+use Rattle.cb_scan.specs.declared.lex.piece.Class.TheVariants.{BlockNote, Blank, Newline, Byte}
+use Rattle.cb_scan.specs.lex.Lexeme.{is_letter, is_digit, is_word, is_blank, is_identifier}
+use Rattle.cb_scan.specs.lex.Lexeme.{is_number, first_is, goes_on, all_go_on, comment_end, Blanks}
+use Rattle.cb_scan.specs.lex.Lexeme.{no_blank, a_blank, a_join, a_cr_join, Commented, Quoted}
+use Rattle.cb_scan.specs.lex.Lexeme.{Spells, IsLexeme}
+use Rattle.cb_scan.specs.steps.Cut.{begins, ends_join, class_at, number_len, goes_on_blank}
+use Rattle.cb_scan.specs.steps.Cut.{blank_len, comment_len, literal_len, block_len, length_in}
+use Rattle.cb_scan.specs.steps.Cut.{piece_len}
 use Rattle.cb_scan.proofs.Blocks.{block_len-within, block_len-found, finds_close}
-use Rattle.cb_scan.proofs.Prefixes.{Prefix, prefix_of, at_name, at_number, at_str, at_chr, at_line_comment, at_block_comment, at_blank, at_newline, at_byte, class-letter, class-number, class-quote, class-apostrophe, class-line_comment, class-block_comment, class-blank, class-join, class-cr_join, class-feed}
-use Rattle.cb_scan.proofs.Lengths.{list_all-prefix, prefix-step, prefix_within, prefix_longest, all_go_on-counted, number-step, number_longest, number_len-within, blank-step, blank_counted, blank_longest, blank_len-within, comment_longest, comment_spelled, comment_len-within}
+use Rattle.cb_scan.proofs.Prefixes.{Prefix, prefix_of, at_name, at_number, at_str, at_chr}
+use Rattle.cb_scan.proofs.Prefixes.{at_line_comment, at_block_comment, at_blank, at_newline}
+use Rattle.cb_scan.proofs.Prefixes.{at_byte, class-letter, class-number, class-quote}
+use Rattle.cb_scan.proofs.Prefixes.{class-apostrophe, class-line_comment, class-block_comment}
+use Rattle.cb_scan.proofs.Prefixes.{class-blank, class-join, class-cr_join, class-feed}
+use Rattle.cb_scan.proofs.Lengths.{list_all-prefix, prefix-step, prefix_within, prefix_longest}
+use Rattle.cb_scan.proofs.Lengths.{all_go_on-counted, number-step, number_longest}
+use Rattle.cb_scan.proofs.Lengths.{number_len-within, blank-step, blank_counted, blank_longest}
+use Rattle.cb_scan.proofs.Lengths.{blank_len-within, comment_longest, comment_spelled}
+use Rattle.cb_scan.proofs.Lengths.{comment_len-within}
 use Rattle.cb_scan.proofs.Literals.{IsQuote, literal_longest, literal_spelled, literal_len-within}
 
 pub quote : IsQuote 34

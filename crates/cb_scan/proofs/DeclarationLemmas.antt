@@ -1,5 +1,6 @@
 -- The state of a part, a token at a time, gives the names of the parts of a typedef.
-use Rattle.std.proofs.Common.{◌≡◌, ◌∙◌, ℕ, ◌+◌, ◌-◌, Bool, true, false, List, [], ◌∷◌, ◌++◌, Option, Some, None, refl, sym, ap, subst}
+use Rattle.std.proofs.Common.{◌≡◌, ◌∙◌, ℕ, ◌+◌, ◌-◌, Bool, true, false, List, [], ◌∷◌, ◌++◌, Option}
+use Rattle.std.proofs.Common.{Some, None, refl, sym, ap, subst}
 use Rattle.std.proofs.lemmas.Bool.{false≢true, eqb-true}
 use Rattle.std.proofs.lemmas.List.{append-nil}
 use Rattle.std.specs.Prelude.{◌||◌, ◌&&◌, ◌==◌, if◌then◌else◌, cond}
@@ -8,13 +9,18 @@ use Rattle.std.specs.Option.{option_to_list, option_map_or}
 use Rattle.cb_scan.specs.declared.lex.token.Token.{Token}
 use Rattle.cb_scan.specs.declared.lex.token.Role.{Role}
 use Rattle.cb_scan.specs.declared.lex.token.Role.TheVariants.{Word, Mark, Str, Other}
-use Rattle.cb_scan.specs.declared.lex.token.WordKind.TheVariants.{Name, Define, Include, Typedef, Extern, Static, Struct, Union, Enum, Reserved}
+use Rattle.cb_scan.specs.declared.lex.token.WordKind.TheVariants.{Name, Define, Include, Typedef}
+use Rattle.cb_scan.specs.declared.lex.token.WordKind.TheVariants.{Extern, Static, Struct, Union}
+use Rattle.cb_scan.specs.declared.lex.token.WordKind.TheVariants.{Enum, Reserved}
 use Rattle.cb_scan.specs.declared.rules.typedefs.Declaration.{Declaration}
 use Rattle.cb_scan.specs.declared.rules.typedefs.Reach.{Reach}
 use Rattle.cb_scan.specs.declared.rules.typedefs.Reach.TheVariants.{Nothing, Paren, Stars}
 use Rattle.cb_scan.specs.lex.Tokens.{is_mark, is_name_token, is_typedef, kind_is_name}
-use Rattle.cb_scan.specs.rules.Typedefs.{Nested, begins_with_star, last_name, name_after_stars, nested, nesting_after, part_name, parts, parts_here, pointer_name, typedef_names}
-use Rattle.cb_scan.specs.steps.Typedefs.{after, declaration_start, goes_on, is_reached, is_starred, name_of, or_else, parts_at, pointer_after, reach_after}
+use Rattle.cb_scan.specs.rules.Typedefs.{Nested, begins_with_star, last_name, name_after_stars}
+use Rattle.cb_scan.specs.rules.Typedefs.{nested, nesting_after, part_name, parts, parts_here}
+use Rattle.cb_scan.specs.rules.Typedefs.{pointer_name, typedef_names}
+use Rattle.cb_scan.specs.steps.Typedefs.{after, declaration_start, goes_on, is_reached, is_starred}
+use Rattle.cb_scan.specs.steps.Typedefs.{name_of, or_else, parts_at, pointer_after, reach_after}
 
 -- the names that the parts give from a state on
 abbrev pub names_from : Declaration → List Token → List Token

@@ -1,5 +1,6 @@
 -- What is found in a text lies in it, and its definitions are on lines of it.
-use Rattle.std.proofs.Common.{ltb-true, ◌≡◌, ◌≤◌, ◌<◌, ◌+◌, ◌-◌, ℕ, zero, suc, true, false, List, [], ◌∷◌, Some, None, refl, sym, subst, map, length, arith}
+use Rattle.std.proofs.Common.{ltb-true, ◌≡◌, ◌≤◌, ◌<◌, ◌+◌, ◌-◌, ℕ, zero, suc, true, false, List}
+use Rattle.std.proofs.Common.{[], ◌∷◌, Some, None, refl, sym, subst, map, length, arith}
 use Rattle.std.specs.Prelude.{◌&&◌, cond, find, nat_lt, not}
 use Rattle.std.specs.List.{AllByRecursion, flat_map, range_with_len}
 use Rattle.std.specs.Option.{MatchOption, option_map, option_map_or}
@@ -13,26 +14,36 @@ use Rattle.cb_scan.specs.declared.lex.piece.Span.{Span}
 use Rattle.cb_scan.specs.declared.lex.token.Token.{Token}
 use Rattle.cb_scan.specs.declared.rules.scope.Range.{Range}
 use Rattle.cb_scan.specs.rules.Code.{code, directives, is_newline, logical_lines}
-use Rattle.cb_scan.specs.Definitions.{AreWithin, IsScopeWithin, IsWithin, calls, facts_of, definitions, definitions_from, macro_def, structure_def, typedef_def}
+use Rattle.cb_scan.specs.Definitions.{AreWithin, IsScopeWithin, IsWithin, calls, facts_of}
+use Rattle.cb_scan.specs.Definitions.{definitions, definitions_from, macro_def, structure_def}
+use Rattle.cb_scan.specs.Definitions.{typedef_def}
 use Rattle.cb_scan.specs.rules.Depth.{no_token, token_at}
 use Rattle.cb_scan.specs.rules.Functions.{Function, function_at, functions}
 use Rattle.cb_scan.specs.Lines.{IsLineOf}
-use Rattle.cb_scan.specs.rules.Macros.{Macro, after_arguments, begin_arguments, defines_macro, macro_names as defined_macros, macro_names_of, macro_of, macros, plain_macro_of}
+use Rattle.cb_scan.specs.rules.Macros.{Macro, after_arguments, begin_arguments, defines_macro}
+use Rattle.cb_scan.specs.rules.Macros.{macro_names as defined_macros, macro_names_of, macro_of}
+use Rattle.cb_scan.specs.rules.Macros.{macros, plain_macro_of}
 use Rattle.cb_scan.specs.Order.{call_key, def_key, goes_first, in_order, put}
 use Rattle.cb_scan.specs.lex.Pieces.{LiesIn}
 use Rattle.cb_scan.specs.rules.Scope.{function_range, function_ranges, holds, macro_ranges, name_around, scope}
-use Rattle.cb_scan.specs.lex.Tokens.{bytes_of, has_kind, is_mark, is_name_token, is_str, kind_is_define, kind_is_include}
+use Rattle.cb_scan.specs.lex.Tokens.{bytes_of, has_kind, is_mark, is_name_token, is_str}
+use Rattle.cb_scan.specs.lex.Tokens.{kind_is_define, kind_is_include}
 use Rattle.cb_scan.specs.steps.Quote.{is_closed}
 use Rattle.cb_scan.specs.steps.Cut.{pieces}
 use Rattle.cb_scan.specs.rules.Structures.{Structure, structures}
 use Rattle.cb_scan.specs.rules.Typedefs.{typedefs}
-use Rattle.cb_scan.specs.rules.Uses.{call_at, call_of, calls_among, calls_of_function, header_between, header_of, include_of, includes, is_call, used, uses}
+use Rattle.cb_scan.specs.rules.Uses.{call_at, call_of, calls_among, calls_of_function}
+use Rattle.cb_scan.specs.rules.Uses.{header_between, header_of, include_of, includes, is_call, used}
+use Rattle.cb_scan.specs.rules.Uses.{uses}
 use Rattle.cb_scan.proofs.MacroLines.{range_names}
 use Rattle.cb_scan.specs.rules.OldStyle.{semicolons_before}
 use Rattle.cb_scan.proofs.FunctionsRise.{all_implied, named_before}
-use Rattle.cb_scan.proofs.Rising.{all-prefix, all-picked, macro_picks, macro_names, names_flat, only_directives, used_picks}
+use Rattle.cb_scan.proofs.Rising.{all-prefix, all-picked, macro_picks, macro_names, names_flat}
+use Rattle.cb_scan.proofs.Rising.{only_directives, used_picks}
 use Rattle.cb_scan.proofs.PieceLists.{pieces-lie}
-use Rattle.cb_scan.proofs.WithinLemmas.{DefWithin, TokenWithin, all-append, all-joined, all-split, code-within, found_among, functions-lie, head_of_all, heads_of_all, lines-within}
+use Rattle.cb_scan.proofs.WithinLemmas.{DefWithin, TokenWithin, all-append, all-joined, all-split}
+use Rattle.cb_scan.proofs.WithinLemmas.{code-within, found_among, functions-lie, head_of_all}
+use Rattle.cb_scan.proofs.WithinLemmas.{heads_of_all, lines-within}
 use Rattle.cb_scan.proofs.StructureLemmas.{all_structures, structure_name}
 use Rattle.cb_scan.proofs.TypedefsWithin.{SpanWithin, at_any, all_typedefs}
 

@@ -9,7 +9,8 @@ split : (n : ℕ) (xs : List ℕ) → count_by is_feed (take n xs) + count_by is
 split n xs = sum_by-take-drop (λ x. cond (is_feed x) 1 0) xs n
 
 -- what was counted before, the first bytes, and the others are all
-pub one_turn : (count here all : ℕ) (xs : List ℕ) → count + count_by is_feed xs ≡ all → here ≡ count_by is_feed (take 16 xs)
+pub one_turn : (count here all : ℕ) (xs : List ℕ) → count + count_by is_feed xs ≡ all
+    → here ≡ count_by is_feed (take 16 xs)
     → (count + here) + count_by is_feed (take (length xs - 16) (drop 16 xs)) ≡ all
 one_turn count here all xs was is =
     let parts : count_by is_feed (take 16 xs) + count_by is_feed (drop 16 xs) ≡ count_by is_feed xs = split 16 xs in

@@ -1,5 +1,7 @@
 -- The one pass finds the functions that depth, stops and heads define.
-use Rattle.std.proofs.Common.{◌≡◌, ◌∙◌, ℕ, zero, suc, ◌+◌, ◌<◌, ◌≤◌, Bool, true, false, List, [], ◌∷◌, ◌++◌, Option, Some, None, refl, sym, ap, subst, fold, length, take, drop, map, ◌-◌, arith, length-drop, add-one, length-take-le}
+use Rattle.std.proofs.Common.{◌≡◌, ◌∙◌, ℕ, zero, suc, ◌+◌, ◌<◌, ◌≤◌, Bool, true, false, List, []}
+use Rattle.std.proofs.Common.{◌∷◌, ◌++◌, Option, Some, None, refl, sym, ap, subst, fold, length}
+use Rattle.std.proofs.Common.{take, drop, map, ◌-◌, arith, length-drop, add-one, length-take-le}
 use Rattle.std.proofs.Math.Seq.{take-suc}
 use Rattle.std.proofs.lemmas.List.{drop-append-le, drop_all, drop_more, map-append}
 use Rattle.std.proofs.lemmas.List.Sums.{fold-append}
@@ -12,17 +14,21 @@ use Rattle.cb_scan.specs.declared.rules.functions.Before.{Before}
 use Rattle.cb_scan.specs.declared.rules.functions.Before.TheVariants.{Anything, Extern, Linkage}
 use Rattle.cb_scan.specs.declared.lex.token.Role.{Role}
 use Rattle.cb_scan.specs.declared.lex.token.Role.TheVariants.{Word, Mark, Str, Other}
-use Rattle.cb_scan.specs.declared.lex.token.WordKind.TheVariants.{Name, Define, Include, Typedef, Static, Struct, Union, Enum, Reserved}
+use Rattle.cb_scan.specs.declared.lex.token.WordKind.TheVariants.{Name, Define, Include, Typedef}
+use Rattle.cb_scan.specs.declared.lex.token.WordKind.TheVariants.{Static, Struct, Union, Enum}
+use Rattle.cb_scan.specs.declared.lex.token.WordKind.TheVariants.{Reserved}
 use Rattle.cb_scan.specs.declared.lex.token.WordKind.TheVariants as kind
 use Rattle.std.proofs.Math.Bool.{and-false}
 use Rattle.std.proofs.lemmas.Bool.{eq-eqb, eqb-true, false_from_ne_true, false≢true, true≢false}
 use Rattle.cb_scan.specs.lex.Tokens.{is_mark, is_extern, is_str}
-use Rattle.cb_scan.specs.rules.Depth.{depth, head_start, is_counted, is_stop, token_at, no_token, follows_linkage, depth_after}
+use Rattle.cb_scan.specs.rules.Depth.{depth, head_start, is_counted, is_stop, token_at, no_token}
+use Rattle.cb_scan.specs.rules.Depth.{follows_linkage, depth_after}
 use Rattle.cb_scan.specs.rules.Functions.{function_at, function_from, functions, signature}
 use Rattle.cb_scan.specs.rules.Heads.{Signature, defined_name, head, signed}
 use Rattle.cb_scan.specs.rules.OldStyle.{old_signature}
 use Rattle.cb_scan.specs.Definitions.{function_def}
-use Rattle.cb_scan.specs.steps.Functions.{start, next, next_depth, stops, found, function_here, grown, defs_from, is_after_linkage, is_after_extern}
+use Rattle.cb_scan.specs.steps.Functions.{start, next, next_depth, stops, found, function_here}
+use Rattle.cb_scan.specs.steps.Functions.{grown, defs_from, is_after_linkage, is_after_extern}
 use Rattle.cb_scan.specs.steps.Heads.{add, defined, empty_head, next_opened}
 use Rattle.cb_scan.proofs.HeadLemmas.{defined_of, signature_def}
 use Rattle.cb_scan.proofs.OldStyleLemmas.{opened_next}
@@ -131,7 +137,8 @@ flat_at_semicolon (Mark x) false b c stop semi =
 
 -- whatever the depth, the last token is kept
 pub last_grown : (m : Machine) (t : Token) → (grown m t).last ≡ Some t
-last_grown m t = elim (m.depth == 0) as (λ b. (if b then add m.head t else record m.head { last = Some t }).last ≡ Some t)
+last_grown m t = elim (m.depth == 0) as
+    (λ b. (if b then add m.head t else record m.head { last = Some t }).last ≡ Some t)
     [ true ↦ refl | false ↦ refl ]
 
 module _ (ts : List Token) (k : ℕ) (m : Machine) (at : IsAt ts k m) where
@@ -243,4 +250,11 @@ from ts k m (t ∷ rest) left at =
 pub defs_from_start : (ts : List Token) → defs_from start ts ≡ map function_def (functions ts)
 unfolding depth head_start
 defs_from_start ts = from ts 0 start ts refl
-    (record { depth_is = refl; linkage_is = refl; extern_is = refl; head_is = λ _. refl; empty_is = refl; opened_is = refl })
+    (record {
+      depth_is = refl;
+      linkage_is = refl;
+      extern_is = refl;
+      head_is = λ _. refl;
+      empty_is = refl;
+      opened_is = refl;
+    })

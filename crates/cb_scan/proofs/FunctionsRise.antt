@@ -1,5 +1,8 @@
 -- Functions come in the order of their names.
-use Rattle.std.proofs.Common.{◌≡◌, ◌∙◌, ◌≤◌, ◌<◌, ◌+◌, ◌-◌, ℕ, zero, suc, Bool, true, false, List, [], ◌∷◌, ◌++◌, Option, Some, None, refl, sym, ap, subst, map, take, drop, length, add-one, inl, inr, ⊎_elim, add-zero, arith, take-append-drop}
+use Rattle.std.proofs.Common.{◌≡◌, ◌∙◌, ◌≤◌, ◌<◌, ◌+◌, ◌-◌, ℕ, zero, suc, Bool, true, false, List}
+use Rattle.std.proofs.Common.{[], ◌∷◌, ◌++◌, Option, Some, None, refl, sym, ap, subst, map, take}
+use Rattle.std.proofs.Common.{drop, length, add-one, inl, inr, ⊎_elim, add-zero, arith}
+use Rattle.std.proofs.Common.{take-append-drop}
 use Rattle.std.proofs.lemmas.List.{drop-drop, map-append}
 use Rattle.std.specs.Prelude.{◌⊎◌, ◌&&◌, ◌||◌, ◌==◌, cond}
 use Rattle.std.specs.List.{AllByRecursion, flat_map, range_with_len}
@@ -8,7 +11,8 @@ use Rattle.std.proofs.lemmas.Bool.{cases_Bool, eqb-true, false_from_ne_true}
 use Rattle.std.proofs.Math.Bool.{and-false}
 use Rattle.cb_scan.specs.declared.lex.token.Token.{Token}
 use Rattle.cb_scan.specs.rules.Code.{code}
-use Rattle.cb_scan.specs.rules.Depth.{closes, depth, depth_after, head_start, is_counted, is_stop, is_uncounted, token_at}
+use Rattle.cb_scan.specs.rules.Depth.{closes, depth, depth_after, head_start, is_counted, is_stop}
+use Rattle.cb_scan.specs.rules.Depth.{is_uncounted, token_at}
 use Rattle.cb_scan.specs.rules.Functions.{Function, function_at, function_from, functions, signature}
 use Rattle.cb_scan.specs.rules.Heads.{Signature, head}
 use Rattle.cb_scan.specs.rules.OldStyle.{segments, semicolons_before}
@@ -17,7 +21,8 @@ use Rattle.cb_scan.specs.steps.Cut.{pieces}
 use Rattle.cb_scan.proofs.Bodies.{and_left, none_here, only_mark, stays_deep}
 use Rattle.cb_scan.proofs.FunctionLemmas.{head_start_le}
 use Rattle.cb_scan.proofs.OldStyleLemmas.{all_semicolons, semicolons_next}
-use Rattle.cb_scan.proofs.WithinLemmas.{AllOfAll, all-append, all-take, all-drop, head_of_all, heads_of_all, signature_among}
+use Rattle.cb_scan.proofs.WithinLemmas.{AllOfAll, all-append, all-take, all-drop, head_of_all}
+use Rattle.cb_scan.proofs.WithinLemmas.{heads_of_all, signature_among}
 use Rattle.cb_scan.proofs.Rising.{From, Rising, Before, rising-split, rising-join, code_rises}
 
 -- ---- the names of functions
@@ -239,7 +244,8 @@ names_rise_from ts k (suc n) r =
         rising-join _ _
         (one_rises ts k (all_some ts r))
         later
-        (named_before (Behind ts k n) ts k (all-drop (Behind ts k n) (head_start ts k) (take k ts) (each_before ts k n is parts.2))
+        (named_before (Behind ts k n) ts k (all-drop (Behind ts k n) (head_start ts k) (take k ts)
+        (each_before ts k n is parts.2))
         (earlier (Behind ts k n) (each_before ts k n is parts.2)))
       where
         earlier : (P : Token → Type 0) → AllByRecursion P (take k ts) → AllOfAll P (segments ts k)

@@ -1,12 +1,14 @@
 -- From the first piece on the pass gathers what the definitions say, list by list.
-use Rattle.std.proofs.Common.{◌≡◌, ◌∙◌, ℕ, true, false, List, [], ◌∷◌, ◌++◌, None, length, map, ap, sym, refl, append_assoc}
+use Rattle.std.proofs.Common.{◌≡◌, ◌∙◌, ℕ, true, false, List, [], ◌∷◌, ◌++◌, None, length, map, ap}
+use Rattle.std.proofs.Common.{sym, refl, append_assoc}
 use Rattle.std.proofs.lemmas.Bool.{false≢true}
 use Rattle.std.specs.Prelude.{cond}
 use Rattle.cb_scan.specs.declared.rules.directives.Stage.{Stage}
 use Rattle.cb_scan.specs.declared.rules.directives.Stage.TheVariants.{Start}
 use Rattle.cb_scan.specs.declared.lex.lined.Lined.{Lined}
 use Rattle.cb_scan.specs.declared.lex.piece.Class.{Class}
-use Rattle.cb_scan.specs.declared.lex.piece.Class.TheVariants.{Name, Number, Str, Chr, LineNote, BlockNote, Blank, Newline, Byte}
+use Rattle.cb_scan.specs.declared.lex.piece.Class.TheVariants.{Name, Number, Str, Chr, LineNote}
+use Rattle.cb_scan.specs.declared.lex.piece.Class.TheVariants.{BlockNote, Blank, Newline, Byte}
 use Rattle.cb_scan.specs.declared.lex.token.Token.{Token}
 use Rattle.cb_scan.specs.rules.Code.{code, is_newline}
 use Rattle.cb_scan.specs.Definitions.{function_def, structure_def, typedef_def}

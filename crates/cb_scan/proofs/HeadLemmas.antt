@@ -10,9 +10,11 @@ use Rattle.cb_scan.specs.declared.lex.token.Token.{Token}
 use Rattle.cb_scan.specs.declared.facts.Def.{Def}
 use Rattle.cb_scan.specs.declared.rules.heads.Listing.TheVariants.{Nothing, Open, Name, Closed, Whole, Other}
 use Rattle.cb_scan.specs.lex.Tokens.{is_any_word, is_mark, is_name_token, is_typedef, is_static}
-use Rattle.cb_scan.specs.rules.Heads.{Signature, begins_with_typedef, called_name, defined_name, ends_in_declarator, may_define, signed}
+use Rattle.cb_scan.specs.rules.Heads.{Signature, begins_with_typedef, called_name, defined_name}
+use Rattle.cb_scan.specs.rules.Heads.{ends_in_declarator, may_define, signed}
 use Rattle.cb_scan.specs.rules.OldStyle.{after_called, begins_with_word, is_declaration, is_opening, lists_names}
-use Rattle.cb_scan.specs.steps.Heads.{add, called_after, declares, def_of, defined, empty_head, is_whole, listing_after, may_end, opened, opens}
+use Rattle.cb_scan.specs.steps.Heads.{add, called_after, declares, def_of, defined, empty_head}
+use Rattle.cb_scan.specs.steps.Heads.{is_whole, listing_after, may_end, opened, opens}
 
 or_assoc : (a b c : Bool) → ((a || b) || c) ≡ (a || (b || c))
 or_assoc true b c = refl

@@ -1,5 +1,6 @@
 -- The facts of a text are in order.
-use Rattle.std.proofs.Common.{◌≡◌, ◌∙◌, ◌⊎◌, ◌≤◌, ◌<◌, ℕ, true, List, [], ◌∷◌, drop, map, refl, sym, ap, inl, inr, arith, ⊎_elim}
+use Rattle.std.proofs.Common.{◌≡◌, ◌∙◌, ◌⊎◌, ◌≤◌, ◌<◌, ℕ, true, List, [], ◌∷◌, drop, map, refl, sym}
+use Rattle.std.proofs.Common.{ap, inl, inr, arith, ⊎_elim}
 use Rattle.std.proofs.lemmas.Bool.{cases_Bool, cond-false, cond-true, eqb-true, false≢true, ltb-true}
 use Rattle.std.specs.Prelude.{◌==◌, cond, nat_lt, not}
 use Rattle.std.specs.Cmp.Lexicographic.{slice_cmp}

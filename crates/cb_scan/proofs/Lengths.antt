@@ -1,12 +1,18 @@
 -- How far a lexeme of each class reaches: what is counted is a lexeme, and none is longer.
-use Rattle.std.proofs.Common.{◌≡◌, ◌≢◌, ◌⊎◌, ◌≤◌, ℕ, zero, suc, Bool, true, false, not, ◌==◌, ◌&&◌, ◌||◌, List, [], ◌∷◌, length, take, refl, sym, ap, subst, ◌∙◌, arith, inl, inr, ⊎_elim}
-use Rattle.std.proofs.lemmas.Bool.{cases_Bool, cases_eq, false≢true, cond-true, cond-false, cond_both, eqb-true, ne_eqb, and_from, and_parts, or_cases}
+use Rattle.std.proofs.Common.{◌≡◌, ◌≢◌, ◌⊎◌, ◌≤◌, ℕ, zero, suc, Bool, true, false, not, ◌==◌, ◌&&◌}
+use Rattle.std.proofs.Common.{◌||◌, List, [], ◌∷◌, length, take, refl, sym, ap, subst, ◌∙◌, arith}
+use Rattle.std.proofs.Common.{inl, inr, ⊎_elim}
+use Rattle.std.proofs.lemmas.Bool.{cases_Bool, cases_eq, false≢true, cond-true, cond-false}
+use Rattle.std.proofs.lemmas.Bool.{cond_both, eqb-true, ne_eqb, and_from, and_parts, or_cases}
 use Rattle.std.proofs.lemmas.Bool.Decides.{nat_tests}
 use Rattle.std.specs.List.{list_all, prefix_len}
 use Rattle.cb_scan.specs.declared.lex.lexeme.Escape.{Escape}
 use Rattle.cb_scan.specs.declared.lex.lexeme.Escape.TheVariants.{Plain, Backslash, Return}
-use Rattle.cb_scan.specs.lex.Lexeme.{is_blank, goes_on, first_is, all_go_on, Blanks, no_blank, a_blank, a_join, a_cr_join, Commented, comment_ends, commented_byte, commented_join, commented_cr_join}
-use Rattle.cb_scan.specs.steps.Cut.{ends_join, number_len, goes_on_blank, blank_len, comment_escape, ends_comment, comment_len}
+use Rattle.cb_scan.specs.lex.Lexeme.{is_blank, goes_on, first_is, all_go_on, Blanks, no_blank}
+use Rattle.cb_scan.specs.lex.Lexeme.{a_blank, a_join, a_cr_join, Commented, comment_ends}
+use Rattle.cb_scan.specs.lex.Lexeme.{commented_byte, commented_join, commented_cr_join}
+use Rattle.cb_scan.specs.steps.Cut.{ends_join, number_len, goes_on_blank, blank_len, comment_escape}
+use Rattle.cb_scan.specs.steps.Cut.{ends_comment, comment_len}
 
 -- words
 pub list_all-prefix : (p : ℕ → Bool) (xs : List ℕ) → list_all p (take (prefix_len p xs) xs) ≡ true
@@ -82,13 +88,15 @@ unfolding blank_len ends_join
 blank-join true rest = refl
 blank-join false rest = refl
 
-pub blank-cr_join : (j : Bool) (rest : List ℕ) → blank_len j (92 ∷ 13 ∷ 10 ∷ rest) ≡ suc (suc (suc (blank_len false rest)))
+pub blank-cr_join : (j : Bool) (rest : List ℕ)
+    → blank_len j (92 ∷ 13 ∷ 10 ∷ rest) ≡ suc (suc (suc (blank_len false rest)))
 unfolding blank_len ends_join first_is
 blank-cr_join true rest = refl
 blank-cr_join false rest = refl
 
 -- a blank byte leaves it open whether a join has begun
-pub blank-blank : (j : Bool) (b : ℕ) (rest : List ℕ) → is_blank b ≡ true → blank_len j (b ∷ rest) ≡ suc (blank_len j rest)
+pub blank-blank : (j : Bool) (b : ℕ) (rest : List ℕ) → is_blank b ≡ true
+    → blank_len j (b ∷ rest) ≡ suc (blank_len j rest)
 blank-blank j b rest t =
     let other : (b == 92) ≡ false = grind (arith, nat_tests) in
     let feed : (b == 10) ≡ false = grind (arith, nat_tests) in

@@ -1,5 +1,7 @@
 -- Pieces with their lines: a step of the list, its line, and that the pieces lie in the text.
-use Rattle.std.proofs.Common.{◌≡◌, ◌+◌, ◌-◌, ◌<◌, ◌≤◌, ℕ, true, false, List, [], ◌∷◌, ◌++◌, length, length-drop, length-take-le, take, drop, map, refl, sym, ap, subst, ◌∙◌, arith}
+use Rattle.std.proofs.Common.{◌≡◌, ◌+◌, ◌-◌, ◌<◌, ◌≤◌, ℕ, true, false, List, [], ◌∷◌, ◌++◌, length}
+use Rattle.std.proofs.Common.{length-drop, length-take-le, take, drop, map, refl, sym, ap, subst}
+use Rattle.std.proofs.Common.{◌∙◌, arith}
 use Rattle.std.proofs.Math.Seq.{take-add}
 use Rattle.std.proofs.lemmas.Bool.{and_parts}
 use Rattle.std.proofs.lemmas.Bool.Decides.{nat_tests}
@@ -9,14 +11,17 @@ use Rattle.std.proofs.lemmas.List.Sums.{count_by-le-length, sum_by-append}
 use Rattle.std.specs.List.{AllByRecursion, count_by, list_all, prefix_len}
 use Rattle.cb_scan.specs.declared.lex.lined.Lined.{Lined}
 use Rattle.cb_scan.specs.declared.lex.piece.Class.{Class}
-use Rattle.cb_scan.specs.declared.lex.piece.Class.TheVariants.{Name, Number, Str, Chr, LineNote, BlockNote, Blank, Newline, Byte}
+use Rattle.cb_scan.specs.declared.lex.piece.Class.TheVariants.{Name, Number, Str, Chr, LineNote}
+use Rattle.cb_scan.specs.declared.lex.piece.Class.TheVariants.{BlockNote, Blank, Newline, Byte}
 use Rattle.cb_scan.specs.declared.lex.piece.Piece.{Piece}
 use Rattle.cb_scan.specs.lex.Lexeme.{is_word, goes_on, all_go_on}
 use Rattle.cb_scan.specs.Lines.{line_of}
 use Rattle.cb_scan.specs.lex.Pieces.{LiesIn}
 use Rattle.cb_scan.specs.steps.Cut.{class_at, length_in, number_len, piece_len, piece_at, pieces_at, pieces}
 use Rattle.cb_scan.specs.steps.Lined.{is_feed, lined, Within, holds_feeds}
-use Rattle.cb_scan.proofs.Prefixes.{Prefix, prefix_of, at_name, at_number, at_str, at_chr, at_line_comment, at_block_comment, at_blank, at_newline, at_byte}
+use Rattle.cb_scan.proofs.Prefixes.{Prefix, prefix_of, at_name, at_number, at_str, at_chr}
+use Rattle.cb_scan.proofs.Prefixes.{at_line_comment, at_block_comment, at_blank, at_newline}
+use Rattle.cb_scan.proofs.Prefixes.{at_byte}
 use Rattle.cb_scan.proofs.Lengths.{list_all-prefix, all_go_on-counted}
 use Rattle.cb_scan.proofs.PieceLists.{pieces-empty, pieces-step, pieces-lie, length-pieces}
 

@@ -1,6 +1,8 @@
 -- How far a literal reaches: what is counted is a literal, and none has another length.
-use Rattle.std.proofs.Common.{◌≡◌, ◌≢◌, ◌≤◌, ℕ, suc, true, false, cond, ◌==◌, ◌||◌, List, [], ◌∷◌, length, take, refl, sym, ap, subst, ◌∙◌, arith, inl, inr, ⊎_elim}
-use Rattle.std.proofs.lemmas.Bool.{cases_eq, or_from, or_left, or_right, cond-true, cond-false, cond_both, eq-eqb, ne_eqb}
+use Rattle.std.proofs.Common.{◌≡◌, ◌≢◌, ◌≤◌, ℕ, suc, true, false, cond, ◌==◌, ◌||◌, List, [], ◌∷◌}
+use Rattle.std.proofs.Common.{length, take, refl, sym, ap, subst, ◌∙◌, arith, inl, inr, ⊎_elim}
+use Rattle.std.proofs.lemmas.Bool.{cases_eq, or_from, or_left, or_right, cond-true, cond-false}
+use Rattle.std.proofs.lemmas.Bool.{cond_both, eq-eqb, ne_eqb}
 use Rattle.cb_scan.specs.declared.lex.lexeme.Escape.{Escape}
 use Rattle.cb_scan.specs.declared.lex.lexeme.Escape.TheVariants.{Plain, Backslash, Return}
 use Rattle.cb_scan.specs.lex.Lexeme.{IsLineEnd, Quoted, closed, not_closed, joined, escaped, last_escape, quoted_byte}

@@ -1,6 +1,7 @@
 -- The macros that a line gives, a token at a time, with their ranges and calls, are those of the
 -- whole line.
-use Rattle.std.proofs.Common.{◌≡◌, ◌∙◌, ⊎_elim, ℕ, Bool, true, false, List, [], ◌∷◌, ◌++◌, Option, Some, None, refl, sym, ap, map}
+use Rattle.std.proofs.Common.{◌≡◌, ◌∙◌, ⊎_elim, ℕ, Bool, true, false, List, [], ◌∷◌, ◌++◌, Option}
+use Rattle.std.proofs.Common.{Some, None, refl, sym, ap, map}
 use Rattle.std.proofs.lemmas.Bool.{cases_Bool}
 use Rattle.std.proofs.lemmas.List.{append-nil, map-append}
 use Rattle.std.proofs.lemmas.List.Concat.{flat_map-append}
@@ -23,7 +24,8 @@ use Rattle.cb_scan.specs.rules.Macros.{Macro, after_arguments, macro_names, macr
 use Rattle.cb_scan.specs.rules.Scope.{macro_range, macro_ranges, range_of_line}
 use Rattle.cb_scan.specs.lex.Tokens.{has_kind, is_mark, is_name_token, kind_is_define, kind_is_include}
 use Rattle.cb_scan.specs.rules.Uses.{call_of, calls_among, is_call, macro_calls}
-use Rattle.cb_scan.specs.steps.Directives.{directive_of, macro_call_out, macro_out, next_including, no_range, nothing, range_finish, run, walk}
+use Rattle.cb_scan.specs.steps.Directives.{directive_of, macro_call_out, macro_out, next_including}
+use Rattle.cb_scan.specs.steps.Directives.{no_range, nothing, range_finish, run, walk}
 use Rattle.cb_scan.specs.steps.Lined.{lined}
 use Rattle.cb_scan.proofs.LineLemmas.{firsts, lines_as_many, walk_ended, walk_lines}
 use Rattle.cb_scan.proofs.Stages.{filtered, in_code, in_define, in_include, in_other, none, quiet}

@@ -1,5 +1,6 @@
 -- The segments before a token, a token at a time.
-use Rattle.std.proofs.Common.{◌≡◌, ◌∙◌, ◌+◌, ℕ, zero, suc, Bool, true, false, List, [], ◌∷◌, ◌++◌, Some, None, refl, sym, ap, subst, fold, map, take, zero-add, arith}
+use Rattle.std.proofs.Common.{◌≡◌, ◌∙◌, ◌+◌, ℕ, zero, suc, Bool, true, false, List, [], ◌∷◌, ◌++◌}
+use Rattle.std.proofs.Common.{Some, None, refl, sym, ap, subst, fold, map, take, zero-add, arith}
 use Rattle.std.proofs.lemmas.List.{reverse-append}
 use Rattle.std.proofs.lemmas.List.Elements.{filter-append}
 use Rattle.std.specs.Prelude.{◌||◌, cond, filter, find, if◌then◌else◌, not, reverse}
@@ -8,7 +9,8 @@ use Rattle.std.specs.Option.{option_map, option_map_or}
 use Rattle.cb_scan.specs.declared.lex.token.Token.{Token}
 use Rattle.cb_scan.specs.rules.Depth.{is_stop, token_at}
 use Rattle.cb_scan.specs.rules.Heads.{called_name, head, signed}
-use Rattle.cb_scan.specs.rules.OldStyle.{is_declaration, is_opening, nearest_opening, old_signature, segments, semicolons_before, signature_of, stops_before}
+use Rattle.cb_scan.specs.rules.OldStyle.{is_declaration, is_opening, nearest_opening, old_signature}
+use Rattle.cb_scan.specs.rules.OldStyle.{segments, semicolons_before, signature_of, stops_before}
 use Rattle.cb_scan.specs.lex.Tokens.{is_mark}
 use Rattle.cb_scan.specs.steps.Heads.{add, empty_head, next_opened}
 use Rattle.cb_scan.proofs.HeadLemmas.{declares_of, opened_of, opens_of, signature_def}
@@ -50,7 +52,8 @@ semicolons_next ts k =
     ]
 
 -- what holds of the stops up to a place holds of these
-module _ (P : ℕ → ℕ → Type 0) (ts : List Token) (on : (j k : ℕ) → P j k → P j (suc k)) (here : (k : ℕ) → P k (suc k)) where
+module _ (P : ℕ → ℕ → Type 0) (ts : List Token) (on : (j k : ℕ) → P j k → P j (suc k))
+    (here : (k : ℕ) → P k (suc k)) where
   onward : (k : ℕ) (js : List ℕ) → AllByRecursion (λ j. P j k) js → AllByRecursion (λ j. P j (suc k)) js
   onward k [] a = tt
   onward k (j ∷ js) a = (on j k a.0, onward k js a.1)

@@ -1,5 +1,6 @@
 -- A list that is sorted is the list in order.
-use Rattle.std.proofs.Common.{◌≡◌, ◌∙◌, ◌≤◌, ◌<◌, ◌+◌, ℕ, zero, suc, Bool, true, false, List, [], ◌∷◌, refl, sym, ap, subst, length, get_or, arith, zero-add, ⊎_elim}
+use Rattle.std.proofs.Common.{◌≡◌, ◌∙◌, ◌≤◌, ◌<◌, ◌+◌, ℕ, zero, suc, Bool, true, false, List, []}
+use Rattle.std.proofs.Common.{◌∷◌, refl, sym, ap, subst, length, get_or, arith, zero-add, ⊎_elim}
 use Rattle.std.proofs.lemmas.Bool.{cases_Bool, true≢false, false≢true}
 use Rattle.std.proofs.lemmas.Cmp.{nat_list_cmp_total}
 use Rattle.std.proofs.lemmas.List.Sorted.{sum_by-IsPermutation}
@@ -91,7 +92,8 @@ Sorted key [] = Unit {0}
 Sorted key (x ∷ xs) = AllByRecursion (λ y. goes_first key x y ≡ true) xs × Sorted key xs
 
 module _ {X : Type 0} (key : X → List ℕ) where
-  pub all_first : (x y : X) (ys : List X) → goes_first key x y ≡ true → AllByRecursion (λ z. goes_first key y z ≡ true) ys
+  pub all_first : (x y : X) (ys : List X) → goes_first key x y ≡ true
+      → AllByRecursion (λ z. goes_first key y z ≡ true) ys
       → AllByRecursion (λ z. goes_first key x z ≡ true) ys
   all_first x y [] le a = tt
   all_first x y (z ∷ zs) le a = (first_trans (key x) (key y) (key z) le a.0, all_first x y zs le a.1)
@@ -137,7 +139,8 @@ module _ {X : Type 0} (key : X → List ℕ) where
   unfolding put
   put_sum f x [] = sum_by-cons f x []
   put_sum f x (y ∷ ys) =
-      elim (goes_first key x y) as (λ b. sum_by f (cond b (x ∷ y ∷ ys) (y ∷ put key x ys)) ≡ f x + (f y + sum_by f ys)) [
+      elim (goes_first key x y) as
+      (λ b. sum_by f (cond b (x ∷ y ∷ ys) (y ∷ put key x ys)) ≡ f x + (f y + sum_by f ys)) [
         | true ↦ sum_by-cons f x (y ∷ ys) ∙ ap (λ n. f x + n) (sum_by-cons f y ys)
         | false ↦ omega (arith, put_sum f x ys, sum_by-cons f y (put key x ys))
       ]

@@ -1,5 +1,6 @@
 -- Tokens come in the order of their places, and so does what is picked from them.
-use Rattle.std.proofs.Common.{◌≡◌, ◌∙◌, ◌≤◌, ◌<◌, ℕ, Bool, true, false, List, [], ◌∷◌, ◌++◌, refl, sym, ap, subst, map, length, arith}
+use Rattle.std.proofs.Common.{◌≡◌, ◌∙◌, ◌≤◌, ◌<◌, ℕ, Bool, true, false, List, [], ◌∷◌, ◌++◌, refl}
+use Rattle.std.proofs.Common.{sym, ap, subst, map, length, arith}
 use Rattle.std.proofs.lemmas.List.{map-append}
 use Rattle.std.specs.Prelude.{cond, not, filter}
 use Rattle.std.specs.List.{AllByRecursion, flat_map}
@@ -146,7 +147,8 @@ code_picks = record {
   rises = λ l r. elim (is_directive l) as (λ b. Rising (cond b [] l)) [ true ↦ tt | false ↦ r ];
 }
 
-pub code_flat : (ls : List (List Token)) → flat_map (λ l. l) (filter (λ l. not (is_directive l)) ls) ≡ flat_map code_pick ls
+pub code_flat : (ls : List (List Token))
+    → flat_map (λ l. l) (filter (λ l. not (is_directive l)) ls) ≡ flat_map code_pick ls
 unfolding code_pick
 code_flat [] = refl
 code_flat (l ∷ ls) =

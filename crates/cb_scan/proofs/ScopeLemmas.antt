@@ -1,5 +1,7 @@
 -- The scopes that are found range by range are those of all ranges.
-use Rattle.std.proofs.Common.{◌≡◌, ◌∙◌, ◌≤◌, ◌<◌, ◌+◌, ◌-◌, ℕ, true, false, List, [], ◌∷◌, ◌++◌, Option, Some, None, refl, sym, ap, subst, map, arith, lt-ltb, le-leb, ⊎_elim}
+use Rattle.std.proofs.Common.{◌≡◌, ◌∙◌, ◌≤◌, ◌<◌, ◌+◌, ◌-◌, ℕ, true, false, List, [], ◌∷◌, ◌++◌}
+use Rattle.std.proofs.Common.{Option, Some, None, refl, sym, ap, subst, map, arith, lt-ltb, le-leb}
+use Rattle.std.proofs.Common.{⊎_elim}
 use Rattle.std.proofs.lemmas.Bool.{cases_Bool, cases_lt, false_from_ne_true, ltb-true, leb-true, true≢false}
 use Rattle.std.proofs.Math.Bool.{and-false}
 use Rattle.std.specs.Prelude.{◌&&◌, cond, find, nat_le, nat_lt}
@@ -195,7 +197,10 @@ pub names_in_order : (text : List ℕ) → Ordered token_place 0 (flat_map used 
 names_in_order text = tokens_ordered 0 (flat_map used (logical_lines text (pieces text)))
     (from_zero (flat_map used (logical_lines text (pieces text)))) (used_rise text)
 
-pub uses_scoped : (text : List ℕ) → scoped token_place use_of (function_ranges text (pieces text)) (macro_ranges text (pieces text)) (flat_map used (logical_lines text (pieces text))) ≡ uses text (pieces text)
+pub uses_scoped : (text : List ℕ)
+    → scoped token_place use_of (function_ranges text (pieces text))
+    (macro_ranges text (pieces text)) (flat_map used (logical_lines text (pieces text)))
+    ≡ uses text (pieces text)
 unfolding uses
 uses_scoped text =
     scoped_all token_place use_of (function_ranges text (pieces text)) (macro_ranges text (pieces text))

@@ -1,5 +1,7 @@
 -- The pass finds the names that the typedefs of the code define.
-use Rattle.std.proofs.Common.{◌≡◌, ◌∙◌, ℕ, zero, suc, ◌+◌, ◌-◌, ◌<◌, ◌≤◌, Bool, true, false, List, [], ◌∷◌, ◌++◌, Option, Some, None, refl, sym, ap, subst, length, drop, map, arith, length-drop, add-one, append_assoc}
+use Rattle.std.proofs.Common.{◌≡◌, ◌∙◌, ℕ, zero, suc, ◌+◌, ◌-◌, ◌<◌, ◌≤◌, Bool, true, false, List}
+use Rattle.std.proofs.Common.{[], ◌∷◌, ◌++◌, Option, Some, None, refl, sym, ap, subst, length, drop}
+use Rattle.std.proofs.Common.{map, arith, length-drop, add-one, append_assoc}
 use Rattle.std.proofs.lemmas.Bool.{false≢true, eq-eqb, eqb-true, false_from_ne_true}
 use Rattle.std.proofs.lemmas.List.{drop_more, append-nil, map-append}
 use Rattle.std.specs.Prelude.{◌||◌, ◌&&◌, ◌==◌, not, if◌then◌else◌, cond, find}
@@ -13,10 +15,13 @@ use Rattle.cb_scan.specs.declared.rules.typedefs.Declaration.{Declaration}
 use Rattle.cb_scan.specs.Definitions.{typedef_def}
 use Rattle.cb_scan.specs.rules.Depth.{depth, head_start, is_stop, token_at, no_token}
 use Rattle.cb_scan.specs.lex.Tokens.{is_mark, is_typedef}
-use Rattle.cb_scan.specs.rules.Typedefs.{begins_typedef, ends_declaration, taken, taken_at, typedef_at, typedef_names, typedef_stop, typedefs}
+use Rattle.cb_scan.specs.rules.Typedefs.{begins_typedef, ends_declaration, taken, taken_at}
+use Rattle.cb_scan.specs.rules.Typedefs.{typedef_at, typedef_names, typedef_stop, typedefs}
 use Rattle.cb_scan.specs.steps.Functions.{grown, next, start}
 use Rattle.cb_scan.specs.steps.Heads.{empty_head}
-use Rattle.cb_scan.specs.steps.Typedefs.{after, all_names, begins, declaration_start, ends, name_of, names_out, next_declaration, next_pending, parts_at, takes, typedef_defs_from, typedefs_from}
+use Rattle.cb_scan.specs.steps.Typedefs.{after, all_names, begins, declaration_start, ends, name_of}
+use Rattle.cb_scan.specs.steps.Typedefs.{names_out, next_declaration, next_pending, parts_at, takes}
+use Rattle.cb_scan.specs.steps.Typedefs.{typedef_defs_from, typedefs_from}
 use Rattle.cb_scan.proofs.DeclarationLemmas.{names_after, names_from, names_of_typedef}
 use Rattle.cb_scan.proofs.FunctionLemmas.{IsAt, last_grown, step, stops_is}
 
@@ -268,7 +273,17 @@ pub typedefs_from_start : (ts : List Token) → typedefs_from start None [] ts �
 unfolding depth head_start
 typedefs_from_start ts =
     typedefs_are ts 0 start None [] ts refl
-    (record { at = record { depth_is = refl; linkage_is = refl; extern_is = refl; head_is = λ _. refl; empty_is = refl; opened_is = refl }; empty_is = refl })
+    (record {
+      at = record {
+        depth_is = refl;
+        linkage_is = refl;
+        extern_is = refl;
+        head_is = λ _. refl;
+        empty_is = refl;
+        opened_is = refl;
+      };
+      empty_is = refl;
+    })
 
 -- the same as definitions
 defs_are : (m : Machine) (s : Option Declaration) (pending ts : List Token)

@@ -1,5 +1,6 @@
 -- The names of typedefs are tokens of the code.
-use Rattle.std.proofs.Common.{◌≤◌, ◌<◌, ◌+◌, ◌-◌, ℕ, zero, suc, true, false, List, [], ◌∷◌, Option, Some, None, length, arith}
+use Rattle.std.proofs.Common.{◌≤◌, ◌<◌, ◌+◌, ◌-◌, ℕ, zero, suc, true, false, List, [], ◌∷◌, Option}
+use Rattle.std.proofs.Common.{Some, None, length, arith}
 use Rattle.std.specs.Prelude.{◌&&◌, ◌||◌, ◌==◌, cond, not}
 use Rattle.std.specs.List.{AllByRecursion, flat_map, range_with_len}
 use Rattle.std.specs.Option.{MatchOption, option_map_or, option_to_list}
@@ -7,7 +8,10 @@ use Rattle.cb_scan.specs.declared.lex.token.Token.{Token}
 use Rattle.cb_scan.specs.Definitions.{IsWithin}
 use Rattle.cb_scan.specs.rules.Depth.{depth, no_token, token_at}
 use Rattle.cb_scan.specs.lex.Tokens.{is_mark, is_name_token}
-use Rattle.cb_scan.specs.rules.Typedefs.{Nested, begins_with_star, last_name, name_after_stars, nested, nesting_after, part_name, parts, parts_here, pointer_name, taken, taken_at, typedef_at, typedef_names, typedef_stop, begins_typedef, ends_declaration, typedefs}
+use Rattle.cb_scan.specs.rules.Typedefs.{Nested, begins_with_star, last_name, name_after_stars}
+use Rattle.cb_scan.specs.rules.Typedefs.{nested, nesting_after, part_name, parts, parts_here}
+use Rattle.cb_scan.specs.rules.Typedefs.{pointer_name, taken, taken_at, typedef_at, typedef_names}
+use Rattle.cb_scan.specs.rules.Typedefs.{typedef_stop, begins_typedef, ends_declaration, typedefs}
 use Rattle.cb_scan.proofs.WithinLemmas.{all-append, all-split, found_among}
 
 -- the span of a token lies in the text
@@ -83,7 +87,8 @@ module _ (P : Token → Type 0) where
         | false ↦ all_pointer xs a.1
       ]
 
-  pub all_part : (part : List Nested) → AllByRecursion (λ (x : Nested). P x.token) part → AllByRecursion P (part_name part)
+  pub all_part : (part : List Nested) → AllByRecursion (λ (x : Nested). P x.token) part
+      → AllByRecursion P (part_name part)
   all_part part a =
       elim (pointer_name part) as (λ o. MatchOption o (Unit {0}) P
       → AllByRecursion P (option_map_or (λ name. name ∷ []) o (option_to_list (last_name None part)))) [
@@ -101,7 +106,8 @@ module _ (P : Token → Type 0) where
   all_typedef_names ts a =
       all_parts (parts ts) (all-split (λ (x : Nested). P x.token) parts_here (nested 0 ts) (all_nested 0 ts a))
 
-  pub all_typedef_at : (ts : List Token) (k : ℕ) → k < length ts → AllByRecursion P ts → AllByRecursion P (typedef_at ts k)
+  pub all_typedef_at : (ts : List Token) (k : ℕ) → k < length ts → AllByRecursion P ts
+      → AllByRecursion P (typedef_at ts k)
   all_typedef_at ts k within a =
       elim (begins_typedef ts k) as (λ b. AllByRecursion P
       (cond b (option_map_or (λ j. cond (ends_declaration ts j) (typedef_names (taken ts k j)) [])

@@ -1,5 +1,6 @@
 -- What is found in a text lies in it.
-use Rattle.std.proofs.Common.{◌≤◌, ◌<◌, ℕ, zero, suc, Bool, true, false, List, [], ◌∷◌, ◌++◌, Option, Some, None, map, ◌+◌, sym, subst, arith, take, drop, length}
+use Rattle.std.proofs.Common.{◌≤◌, ◌<◌, ℕ, zero, suc, Bool, true, false, List, [], ◌∷◌, ◌++◌}
+use Rattle.std.proofs.Common.{Option, Some, None, map, ◌+◌, sym, subst, arith, take, drop, length}
 use Rattle.std.specs.Prelude.{◌&&◌, ◌||◌, ◌==◌, cond, not, filter, find}
 use Rattle.std.specs.List.{AllByRecursion, flat_map, slice_split, onto_first, range_with_len}
 use Rattle.std.specs.Option.{option_map_or, MatchOption}
@@ -10,7 +11,8 @@ use Rattle.cb_scan.specs.rules.Code.{is_newline, is_directive, code, logical_lin
 use Rattle.cb_scan.specs.Definitions.{IsWithin, function_def}
 use Rattle.cb_scan.specs.rules.Functions.{function_at, function_from, functions, signature}
 use Rattle.cb_scan.specs.rules.Heads.{Signature, called_name, defined_name, head, may_define, signed}
-use Rattle.cb_scan.specs.rules.OldStyle.{is_declaration, is_opening, nearest_opening, old_signature, segments, semicolons_before}
+use Rattle.cb_scan.specs.rules.OldStyle.{is_declaration, is_opening, nearest_opening, old_signature}
+use Rattle.cb_scan.specs.rules.OldStyle.{segments, semicolons_before}
 use Rattle.cb_scan.specs.rules.Depth.{depth, head_start, is_counted}
 use Rattle.cb_scan.specs.declared.facts.Def.{Def}
 use Rattle.cb_scan.specs.Lines.{IsLineOf}

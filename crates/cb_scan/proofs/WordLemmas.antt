@@ -1,6 +1,7 @@
 -- Words: what an identifier is by its first byte and the others, and that a word can only equal
 -- words of its own length.
-use Rattle.std.proofs.Common.{◌≡◌, ◌≤◌, ◌<◌, get_or, drop, arith, ℕ, Bool, true, false, List, [], ◌∷◌, length, refl, sym, ap, ◌∙◌}
+use Rattle.std.proofs.Common.{◌≡◌, ◌≤◌, ◌<◌, get_or, drop, arith, ℕ, Bool, true, false, List, []}
+use Rattle.std.proofs.Common.{◌∷◌, length, refl, sym, ap, ◌∙◌}
 use Rattle.std.specs.Prelude.{codes, filter, ◌||◌, ◌&&◌, cond}
 use Rattle.std.specs.List.{list_all, list_any}
 use Rattle.cb_scan.specs.declared.lex.token.WordKind.TheVariants.{Name}

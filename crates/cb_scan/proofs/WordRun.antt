@@ -1,5 +1,7 @@
 -- From the mask of one load to the bytes of a name.
-use Rattle.std.proofs.Common.{◌≡◌, ◌≢◌, ◌∙◌, ◌+◌, ◌<◌, ◌%◌, ◌^◌, ℕ, zero, suc, Bool, true, not, eqb, List, [], ◌∷◌, length, map, take, drop, get_or, Fits, w8, refl, sym, ap, arith}
+use Rattle.std.proofs.Common.{◌≡◌, ◌≢◌, ◌∙◌, ◌+◌, ◌<◌, ◌%◌, ◌^◌, ℕ, zero, suc, Bool, true, not, eqb}
+use Rattle.std.proofs.Common.{List, [], ◌∷◌, length, map, take, drop, get_or, Fits, w8, refl, sym}
+use Rattle.std.proofs.Common.{ap, arith}
 use Rattle.std.specs.Prelude.{cond}
 use Rattle.std.specs.List.{prefix_len}
 use Rattle.std.proofs.lemmas.Bool.{agree_below, agree_below_at, cond-true, cond-false, eq-eqb, ne_eqb}

@@ -1,7 +1,7 @@
 -- The first bytes of a key as a number.
 use Rattle.std.specs.Prelude.{ℕ, zero, suc, ◌+◌, ◌*◌, ◌^◌, List, [], ◌∷◌}
 
--- the first bytes of a key, so many, as a big-endian number; where the key has fewer, zeros follow
+-- the first `n` bytes of a key as a big-endian number; where the key has fewer, zeros follow
 abbrev pub leading : ℕ → List ℕ → ℕ
 leading zero key = 0
 leading (suc n) [] = 0

@@ -142,7 +142,7 @@ fn facts_in(alloc: Global, text: &[u8]) -> Result<Facts, AllocError>
         code.structures.as_slice(),
     )?;
     let calls = ordered_calls(alloc, code.calls.as_slice(), lines.calls.as_slice())?;
-    // No text of a source has so many facts.
+    // No source is large enough to have more facts than that.
     let most = u32::MAX as usize;
     if defs.len() > most || uses.len() > most || calls.len() > most || includes.len() > most {
         return Err(AllocError);

@@ -1,5 +1,6 @@
 -- What stands between the first two and the last two bytes of an address.
-use Rattle.std.proofs.Common.{◌≡◌, ◌≢◌, ◌∙◌, ℕ, false, List, [], ◌∷◌, ◌++◌, drop, Option, None, Some, refl, sym, ap, subst}
+use Rattle.std.proofs.Common.{◌≡◌, ◌≢◌, ◌∙◌, ℕ, false, List, [], ◌∷◌, ◌++◌, drop, Option, None}
+use Rattle.std.proofs.Common.{Some, refl, sym, ap, subst}
 use Rattle.std.specs.Prelude.{MatchOption}
 use Rattle.std.specs.Borrow.{Bor}
 use Rattle.std.proofs.lemmas.Bool.{false≢true}
@@ -11,7 +12,8 @@ use Rattle.cb_tags.proofs.ItemLemmas.{Items-reads, Items-only, Items-written, wr
 -- the front is taken off, and then the back
 pub between : (bytes inner : List ℕ) (r : Option (Bor (List ℕ))) → bytes ≡ 47 ∷ 94 ∷ inner
     → MatchOption r ((items : List ℕ) → inner ≢ items ++ 36 ∷ 47 ∷ []) (λ items. inner ≡ items.now ++ 36 ∷ 47 ∷ [])
-    → MatchOption r ((items : List ℕ) → bytes ≢ 47 ∷ 94 ∷ (items ++ 36 ∷ 47 ∷ [])) (λ items. bytes ≡ 47 ∷ 94 ∷ (items.now ++ 36 ∷ 47 ∷ []))
+    → MatchOption r ((items : List ℕ) → bytes ≢ 47 ∷ 94 ∷ (items ++ 36 ∷ 47 ∷ []))
+    (λ items. bytes ≡ 47 ∷ 94 ∷ (items.now ++ 36 ∷ 47 ∷ []))
 between bytes inner None e none = λ items f. none items (ap (drop 2) (sym e ∙ f))
 between bytes inner (Some items) e is = e ∙ ap (λ t. 47 ∷ 94 ∷ t) is
 

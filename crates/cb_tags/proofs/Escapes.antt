@@ -1,5 +1,7 @@
 -- What the writer of a text with its escapes has written, and what it still owes.
-use Rattle.std.proofs.Common.{◌≡◌, ℕ, suc, ◌+◌, ◌-◌, ◌<◌, ◌≤◌, true, false, cond, List, [], ◌∷◌, ◌++◌, length, take, drop, get_or, Result, sym, ap, ◌∙◌, subst, append_assoc, append-nil, length-drop, arith}
+use Rattle.std.proofs.Common.{◌≡◌, ℕ, suc, ◌+◌, ◌-◌, ◌<◌, ◌≤◌, true, false, cond, List, [], ◌∷◌}
+use Rattle.std.proofs.Common.{◌++◌, length, take, drop, get_or, Result, sym, ap, ◌∙◌, subst}
+use Rattle.std.proofs.Common.{append_assoc, append-nil, length-drop, arith}
 use Rattle.std.specs.List.{flat_map}
 use Rattle.std.proofs.lemmas.Grind.{flat_map-append}
 use Rattle.std.proofs.lemmas.List.{take_more, take_all, get_or-drop}
@@ -17,7 +19,8 @@ piece start end text = take (end - start) (drop start text)
 abbrev pub Owes : Writer → Writer → List ℕ → ℕ → ℕ → Type 0
 Owes a b text start i = (w : List ℕ) × PutsAll a b w × (w ++ piece start i text ≡ escape (take i text))
 
-piece-next : (text : List ℕ) (start i d : ℕ) → start ≤ i → i < length text → piece start (i + 1) text ≡ piece start i text ++ get_or text i d ∷ []
+piece-next : (text : List ℕ) (start i d : ℕ) → start ≤ i → i < length text
+    → piece start (i + 1) text ≡ piece start i text ++ get_or text i d ∷ []
 piece-next text start i d s h =
     let e : i + 1 - start ≡ i - start + 1 = omega arith in
     let at : start + (i - start) ≡ i = omega arith in
@@ -25,14 +28,16 @@ piece-next text start i d s h =
     ∙ take_more (drop start text) (i - start) d (omega (arith, length-drop start text))
     ∙ ap (λ x. piece start i text ++ x ∷ []) (get_or-drop start text (i - start) d ∙ ap (λ n. get_or text n d) at)
 
-escape-next : (text : List ℕ) (i d : ℕ) → i < length text → escape (take (i + 1) text) ≡ escape (take i text) ++ escaped (get_or text i d)
+escape-next : (text : List ℕ) (i d : ℕ) → i < length text
+    → escape (take (i + 1) text) ≡ escape (take i text) ++ escaped (get_or text i d)
 unfolding escape
 escape-next text i d h =
     ap (flat_map escaped) (take_more text i d h) ∙ flat_map-append escaped (take i text) (get_or text i d ∷ [])
     ∙ ap (λ t. flat_map escaped (take i text) ++ t) (append-nil (escaped (get_or text i d)))
 
 -- a byte that is not escaped
-pub Owes-own : (a b : Writer) (text : List ℕ) (start i d : ℕ) → start ≤ i → i < length text → is_escaped (get_or text i d) ≡ false
+pub Owes-own : (a b : Writer) (text : List ℕ) (start i d : ℕ) → start ≤ i → i < length text
+    → is_escaped (get_or text i d) ≡ false
     → Owes a b text start i → Owes a b text start (i + 1)
 Owes-own a b text start i d s h own p =
     let x = get_or text i d in (
@@ -45,7 +50,8 @@ Owes-own a b text start i d s h own p =
     )
 
 -- a byte that is escaped: the bytes before it and a `\` are written
-pub Owes-escaped : (a b c : Writer) (text : List ℕ) (start i d : ℕ) → start ≤ i → i < length text → is_escaped (get_or text i d) ≡ true
+pub Owes-escaped : (a b c : Writer) (text : List ℕ) (start i d : ℕ) → start ≤ i → i < length text
+    → is_escaped (get_or text i d) ≡ true
     → Owes a b text start i → PutsAll b c (piece start i text ++ 92 ∷ []) → Owes a c text i (i + 1)
 Owes-escaped a b c text start i d s h esc p q =
     let x = get_or text i d in
@@ -62,7 +68,8 @@ Owes-escaped a b c text start i d s h esc p q =
     )
 
 -- the fault of a writer that was given the bytes before an escaped byte and a `\`
-pub Owes-stopped : (a b c : Writer) (text : List ℕ) (start i d : ℕ) → i < length text → is_escaped (get_or text i d) ≡ true
+pub Owes-stopped : (a b c : Writer) (text : List ℕ) (start i d : ℕ) → i < length text
+    → is_escaped (get_or text i d) ≡ true
     → Owes a b text start i → PutsPrefix b c (piece start i text ++ 92 ∷ []) → PutsPrefix a c (escape text)
 unfolding escape
 Owes-stopped a b c text start i d h esc p q =
@@ -80,7 +87,8 @@ Owes-stopped a b c text start i d h esc p q =
 
 -- the rest is written
 pub Owes-done : (old mid new : Writer) (r : Result (Unit {0}) WriteFault) (text : List ℕ) (start : ℕ)
-    → Owes old mid text start (length text) → Puts mid new r (piece start (length text) text) → Puts old new r (escape text)
+    → Owes old mid text start (length text) → Puts mid new r (piece start (length text) text)
+    → Puts old new r (escape text)
 Owes-done old mid new r text start p q =
     subst (λ t. Puts old new r t) (p.2 ∙ ap escape (take_all (length text) text (omega arith)))
     (Puts-after old mid new r p.0 (piece start (length text) text) p.1 q)

@@ -1,7 +1,10 @@
 -- The items of an address: those that are read a byte a step, and those that are written.
-use Rattle.std.proofs.Common.{◌≡◌, ◌≢◌, ◌⊎◌, ◌∙◌, ℕ, Bool, true, false, cond, not, ◌==◌, ◌&&◌, List, [], ◌∷◌, ◌++◌, refl, sym, ap, subst, inl, inr, ⊎_elim, arith}
+use Rattle.std.proofs.Common.{◌≡◌, ◌≢◌, ◌⊎◌, ◌∙◌, ℕ, Bool, true, false, cond, not, ◌==◌, ◌&&◌, List}
+use Rattle.std.proofs.Common.{[], ◌∷◌, ◌++◌, refl, sym, ap, subst, inl, inr, ⊎_elim, arith}
 use Rattle.std.specs.List.{flat_map}
-use Rattle.std.proofs.lemmas.Bool.{cases_Bool, false≢true, cond-true, cond-false, eqb-true, eq-eqb, ne_eqb, and_from, and_parts, or_left, or_right, or_from, or_cases}
+use Rattle.std.proofs.lemmas.Bool.{cases_Bool, false≢true, cond-true, cond-false, eqb-true, eq-eqb}
+use Rattle.std.proofs.lemmas.Bool.{ne_eqb, and_from, and_parts, or_left, or_right, or_from}
+use Rattle.std.proofs.lemmas.Bool.{or_cases}
 use Rattle.cb_tags.specs.Addresses.{is_escaped, escaped, escape, Items, no_item, escaped_item, own_item, IsOneLine}
 use Rattle.cb_tags.specs.steps.Items.{are_items, unescaped}
 
@@ -40,11 +43,13 @@ read-Items (b ∷ c ∷ bs) t = ⊎_elim
     let parts = and_parts (not (b == 47) && not (b == 10)) (are_items false (c ∷ bs)) (sym (cond-false _ _ _ f) ∙ t) in
     let tests = and_parts (not (b == 47)) (not (b == 10)) parts.0 in
     subst (λ t. Items (b ∷ c ∷ bs) t) (sym (cond-false _ _ _ f))
-    (own_item (eqb-false b 47 (not_true _ tests.0)) (eqb-false b 92 f) (eqb-false b 10 (not_true _ tests.1)) (read-Items (c ∷ bs) parts.1)))
+    (own_item (eqb-false b 47 (not_true _ tests.0)) (eqb-false b 92 f)
+    (eqb-false b 10 (not_true _ tests.1)) (read-Items (c ∷ bs) parts.1)))
     (cases_Bool (b == 92))
 
 -- items are read, as what they stand for
-pub Items-reads : (items text : List ℕ) → Items items text → (are_items false items ≡ true) × (unescaped false items ≡ text)
+pub Items-reads : (items text : List ℕ) → Items items text
+    → (are_items false items ≡ true) × (unescaped false items ≡ text)
 unfolding are_items unescaped
 Items-reads _ _ no_item = (refl, refl)
 Items-reads _ _ (escaped_item {a} {b} {items} {text} e w r) =
@@ -53,8 +58,11 @@ Items-reads _ _ (escaped_item {a} {b} {items} {text} e w r) =
     (cond-true _ _ _ t ∙ and_from _ _ (is_one b w) k.0, cond-true _ _ _ t ∙ ap (λ s. b ∷ s) k.1)
 Items-reads _ _ (own_item {b} {items} {text} x y z r) =
     let k = Items-reads items text r in
-    let f = ne_eqb b 92 y in
-    (cond-false _ _ _ f ∙ and_from _ _ (and_from _ _ (ap not (ne_eqb b 47 x)) (ap not (ne_eqb b 10 z))) k.0, cond-false _ _ _ f ∙ ap (λ s. b ∷ s) k.1)
+    let f = ne_eqb b 92 y in (
+      cond-false _ _ _ f ∙ and_from _ _ (and_from _ _ (ap not (ne_eqb b 47 x))
+          (ap not (ne_eqb b 10 z))) k.0,
+      cond-false _ _ _ f ∙ ap (λ s. b ∷ s) k.1,
+    )
 
 -- items stand for one text alone
 pub Items-only : (items s t : List ℕ) → Items items s → Items items t → s ≡ t
@@ -65,9 +73,11 @@ pub written-Items : (text : List ℕ) → IsOneLine text → Items (escape text)
 unfolding escape
 written-Items [] one = no_item
 written-Items (b ∷ bs) one = ⊎_elim
-    (λ t. subst (λ e. Items (cond e (92 ∷ b ∷ []) (b ∷ []) ++ flat_map escaped bs) (b ∷ bs)) (sym t) (escaped_item refl (which b t) (written-Items bs one.1)))
+    (λ t. subst (λ e. Items (cond e (92 ∷ b ∷ []) (b ∷ []) ++ flat_map escaped bs) (b ∷ bs)) (sym t)
+    (escaped_item refl (which b t) (written-Items bs one.1)))
     (λ f. subst (λ e. Items (cond e (92 ∷ b ∷ []) (b ∷ []) ++ flat_map escaped bs) (b ∷ bs)) (sym f)
-    (own_item (λ e. false≢true (sym f ∙ is_one b (inl e))) (λ e. false≢true (sym f ∙ is_one b (inr e))) one.0 (written-Items bs one.1)))
+    (own_item (λ e. false≢true (sym f ∙ is_one b (inl e)))
+    (λ e. false≢true (sym f ∙ is_one b (inr e))) one.0 (written-Items bs one.1)))
     (cases_Bool (is_escaped b))
 
 -- items are what is written for the text that they stand for, and that is one line
@@ -76,7 +86,8 @@ unfolding escape
 Items-written _ _ no_item = (refl, tt)
 Items-written _ _ (escaped_item {a} {b} {items} {text} e w r) =
     let k = Items-written items text r in (
-      ap (λ x. x ∷ b ∷ items) e ∙ ap (λ t. 92 ∷ b ∷ t) k.0 ∙ ap (λ e. cond e (92 ∷ b ∷ []) (b ∷ []) ++ flat_map escaped text) (sym (is_one b w)),
+      ap (λ x. x ∷ b ∷ items) e ∙ ap (λ t. 92 ∷ b ∷ t) k.0
+          ∙ ap (λ e. cond e (92 ∷ b ∷ []) (b ∷ []) ++ flat_map escaped text) (sym (is_one b w)),
       (⊎_elim (λ is f. absurd (omega (arith, is, f))) (λ is f. absurd (omega (arith, is, f))) w, k.1),
     )
 Items-written _ _ (own_item {b} {items} {text} x y z r) =

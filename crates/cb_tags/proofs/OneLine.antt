@@ -1,5 +1,6 @@
 -- A shown line has no line feed.
-use Rattle.std.proofs.Common.{◌≡◌, ◌≢◌, ◌∙◌, ℕ, zero, suc, ◌-◌, ◌<◌, ◌==◌, ◌&&◌, List, [], ◌∷◌, length, take, map, sym, ap, subst, ⊎_elim, arith}
+use Rattle.std.proofs.Common.{◌≡◌, ◌≢◌, ◌∙◌, ℕ, zero, suc, ◌-◌, ◌<◌, ◌==◌, ◌&&◌, List, [], ◌∷◌}
+use Rattle.std.proofs.Common.{length, take, map, sym, ap, subst, ⊎_elim, arith}
 use Rattle.std.specs.Prelude.{nat_lt, slice_index}
 use Rattle.std.specs.List.{AllByRecursion, slice_index_or}
 use Rattle.std.proofs.lemmas.Bool.{cases_Bool, false≢true, cond-true, cond-false, eq-eqb, and_from}
@@ -67,10 +68,13 @@ shown-one (b ∷ bs) f =
     let last = length line - 1 in
     ⊎_elim
     (λ t. subst IsOneLine (sym (cond-true _ _ _ t)) (no_cr-one (take last line) (front-one line last f (omega arith))))
-    (λ n. subst IsOneLine (sym (cond-false _ _ _ n)) (whole-one line f (λ some e. false≢true (sym n ∙ and_from _ _ (grind (arith, nat_tests)) (eq-eqb (slice_index line last) 10 e)))))
+    (λ n. subst IsOneLine (sym (cond-false _ _ _ n))
+    (whole-one line f (λ some e. false≢true (sym n ∙ and_from _ _ (grind (arith, nat_tests))
+    (eq-eqb (slice_index line last) 10 e)))))
     (cases_Bool (nat_lt 0 (length line) && slice_index line last == 10))
 
-at-one : (ls : List (List ℕ)) (k : ℕ) → AllByRecursion FeedsLast ls → IsOneLine (slice_index_or (map without_terminator ls) k [])
+at-one : (ls : List (List ℕ)) (k : ℕ) → AllByRecursion FeedsLast ls
+    → IsOneLine (slice_index_or (map without_terminator ls) k [])
 at-one [] k f = tt
 at-one (l ∷ ls) zero f = shown-one l f.0
 at-one (l ∷ ls) (suc k) f = at-one ls k f.1

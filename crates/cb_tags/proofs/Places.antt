@@ -1,5 +1,6 @@
 -- The first line that reads so.
-use Rattle.std.proofs.Common.{◌≡◌, ◌≢◌, ◌∙◌, ℕ, zero, suc, ◌+◌, ◌-◌, ◌<◌, ◌≤◌, Bool, true, false, List, length, get_or, None, Some, find, refl, sym, ap, arith, ⊎_elim}
+use Rattle.std.proofs.Common.{◌≡◌, ◌≢◌, ◌∙◌, ℕ, zero, suc, ◌+◌, ◌-◌, ◌<◌, ◌≤◌, Bool, true, false}
+use Rattle.std.proofs.Common.{List, length, get_or, None, Some, find, refl, sym, ap, arith, ⊎_elim}
 use Rattle.std.specs.Prelude.{slice_get}
 use Rattle.std.specs.List.{range_with_len}
 use Rattle.std.specs.Str.{bytes_eq}
@@ -10,7 +11,8 @@ use Rattle.cb_scan.specs.Lines.{lines, line_text}
 use Rattle.cb_tags.specs.Addresses.{finds}
 
 -- a number that does not pass is left out
-pub find-next : (p : ℕ → Bool) (a n : ℕ) → 0 < n → p a ≡ false → find p (range_with_len a n) ≡ find p (range_with_len (a + 1) (n - 1))
+pub find-next : (p : ℕ → Bool) (a n : ℕ) → 0 < n → p a ≡ false
+    → find p (range_with_len a n) ≡ find p (range_with_len (a + 1) (n - 1))
 find-next p a zero some fails = absurd (omega arith)
 find-next p a (suc n) some fails =
     let less : suc n - 1 ≡ n = omega arith in
@@ -36,14 +38,22 @@ first_is p a (suc n) k low high passes_k = ⊎_elim
     let other : a ≢ k = λ is. false≢true (sym f ∙ ap p is ∙ passes_k) in
     let above : a + 1 ≤ k = omega (arith, other, low) in
     let r = first_is p (a + 1) n k above (omega arith) passes_k in
-    record { first = r.first; found = cond-false _ _ _ f ∙ r.found; from = omega (arith, r.from); least = r.least; passes = r.passes })
+    record {
+      first = r.first;
+      found = cond-false _ _ _ f ∙ r.found;
+      from = omega (arith, r.from);
+      least = r.least;
+      passes = r.passes;
+    })
     (cases_Bool (p a))
 
 -- a line is found at its own place or before
 pub finds-line : (source : List ℕ) (n : ℕ) → 1 ≤ n → n ≤ length (lines source)
-    → (m : ℕ) × (finds source (line_text source n) ≡ Some m) × (1 ≤ m) × (m ≤ n) × (line_text source m ≡ line_text source n)
+    → (m : ℕ) × (finds source (line_text source n) ≡ Some m) × (1 ≤ m) × (m ≤ n)
+    × (line_text source m ≡ line_text source n)
 unfolding finds
 finds-line source n low high =
     let text = line_text source n in
-    let r = first_is (λ m. bytes_eq text (line_text source m)) 1 (length (lines source)) n low (omega arith) ((bytes_eq-Decides text text).1 refl) in
+    let r = first_is (λ m. bytes_eq text (line_text source m)) 1 (length (lines source)) n low
+    (omega arith) ((bytes_eq-Decides text text).1 refl) in
     (r.first, r.found, r.from, r.least, sym ((bytes_eq-Decides text (line_text source r.first)).0 r.passes))

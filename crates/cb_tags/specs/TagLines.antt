@@ -29,7 +29,7 @@ tag_of r = record {
   local = r.local;
 }
 
--- the plain line (POSIX ctags): tag name, file and address, parted by tabs
+-- the plain line (POSIX ctags): tag name, file and address, separated by tabs
 abbrev pub plain_line : Tag → List ℕ
 plain_line t =
     tag_name t.name t.file ++ codes "\t" ++ t.file ++ codes "\t" ++ address t.text ++ codes "\n"
@@ -64,7 +64,7 @@ extended_line t =
     ++ codes ";\"\t" ++ kind_letter t.kind ++ codes "\tline:" ++ decimal t.line ++ file_field t
     ++ codes "\n"
 
--- the line of a listing (POSIX ctags -x): name, line, file and the whole shown line, parted by
+-- the line of a listing (POSIX ctags -x): name, line, file and the whole shown line, separated by
 -- single spaces
 abbrev pub listing_line : Tag → List ℕ
 listing_line t =

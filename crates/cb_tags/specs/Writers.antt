@@ -11,7 +11,7 @@ pub record Writer : Type 0 where
   pub failed : Bool
   pub pending : Bool
 
--- so many of the bytes were taken, at least one; or the writer failed, and took none
+-- the first `n` bytes were taken, at least one; or the writer failed, and took none
 abbrev pub TakesBytes : Writer → Writer → Result ℕ WriteFault → List ℕ → Type 0
 TakesBytes old new (Ok n) text =
     (old.failed ≡ false) × (new.failed ≡ false) × (1 ≤ n) × (n ≤ length text)

@@ -34,8 +34,8 @@ fn without_c(name: &[u8]) -> &[u8]
     }
 }
 
-/// The name that a plain tags file has for a definition: its own, but for `main`, of which a
-/// program has one a file, `M` and the file's name (POSIX ctags).
+/// The name that a plain tags file has for a definition: its own, except for `main`, which is `M`
+/// and the file's name (POSIX ctags).
 #[tactic(auto, unfolding(crate::specs::TagNames::tag_name))]
 pub(crate) fn tag_name<'a>(name: &'a [u8], file: &'a [u8]) -> NameParts<'a>
     ensures { result.first.now ++ result.rest.now ≡ tag_name name.now file.now }

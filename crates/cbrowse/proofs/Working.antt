@@ -17,7 +17,7 @@ use Rattle.cbrowse.specs.declared.execute.finish.Finish.TheVariants.{Ran, Unread
 use Rattle.cb_words.specs.declared.job.Job.{Job}
 use Rattle.cb_words.specs.declared.job.Job.TheVariants.{Line, Find, Tags}
 use Rattle.cbrowse.specs.Messages.{files_of}
-use Rattle.cbrowse.specs.Program.{DoesFrom, DoesJob, DoesLoaded, MakesFile, Reaches, Works, WritesFile, WritesText, file_text, most_line_bytes, most_lines, writes_file}
+use Rattle.cbrowse.specs.Program.{DoesFrom, DoesInto, DoesJob, DoesLoaded, MakesFile, Reaches, Works, WritesFile, WritesText, file_text, most_line_bytes, most_lines, writes_file}
 
 -- operands under the names of a job's files are contents of those files
 pub reaches : (job : Job) (ops : List Operand) (end : Result State RefusedOperand) → map (λ o. o.name.items) ops ≡ files_of job
@@ -55,21 +55,17 @@ failed_file job lines limit t feed feed' old new why writes does is =
 -- a job that writes a tags file
 pub into_file : (job : Job) (t : State) (feed feed' : Reader) (out : Writer) (f : Finish) (file : Option Writer) → writes_file job ≡ true → Reaches job (Ok t)
     → MakesFile (file_text job t.timeline.present) file f → feed' ≡ feed → Works job feed feed' out out f file
-into_file (Line files) t feed feed' out f file writes reached makes same = cc
-into_file (Find field pattern files) t feed feed' out f file writes reached makes same = cc
-into_file (Tags true tagsfile format files) t feed feed' out f file writes reached makes same = cc
-into_file (Tags false tagsfile format files) t feed feed' out (Ran ended) file writes reached makes same = inr (Ok t, reached, (makes, (same, refl)))
-into_file (Tags false tagsfile format files) t feed feed' out Unwritable file writes reached makes same = (writes, (t, reached, makes), (same, refl))
-into_file (Tags false tagsfile format files) t feed feed' out (Unreadable place) (Some file) writes reached makes same = absurd makes.1
-into_file (Tags false tagsfile format files) t feed feed' out (Unreadable place) None writes reached makes same = absurd makes
+into_file job t feed feed' out (Ran ended) file writes reached makes same =
+    inr (Ok t, reached, subst (λ b. DoesInto b t job feed feed' out out ended file) (sym writes) (makes, (same, refl)))
+into_file job t feed feed' out Unwritable file writes reached makes same = (writes, (t, reached, makes), (same, refl))
+into_file job t feed feed' out (Unreadable place) (Some file) writes reached makes same = absurd makes.1
+into_file job t feed feed' out (Unreadable place) None writes reached makes same = absurd makes
 
 -- a job over the input and the output
 pub over_both : (job : Job) (t : State) (feed feed' : Reader) (out out' : Writer) (ended : Ended) → writes_file job ≡ false
     → DoesJob job most_lines most_line_bytes t feed feed' out out' ended → DoesFrom t job feed feed' out out' ended None
-over_both (Line files) t feed feed' out out' ended writes does = (does, refl)
-over_both (Find field pattern files) t feed feed' out out' ended writes does = (does, refl)
-over_both (Tags true tagsfile format files) t feed feed' out out' ended writes does = (does, refl)
-over_both (Tags false tagsfile format files) t feed feed' out out' ended writes does = cc
+over_both job t feed feed' out out' ended writes does =
+    subst (λ b. DoesInto b t job feed feed' out out' ended None) (sym writes) (does, refl)
 
 -- a file that can't be read, behind those that were
 pub stops_at : (names : List (List ℕ)) (files : List (String Global)) (idx place : ℕ) → place ≡ idx → idx < length files

@@ -1,7 +1,12 @@
 -- What the program does: the files of a job are read and loaded, and then the job is done.
-use Rattle.std.specs.Prelude.{◌≡◌, ◌≢◌, ◌⊎◌, ℕ, ◌<◌, Bool, true, false, not, List, [], IsTrue}
-use Rattle.std.specs.Prelude.{length, take, Option, None, Some, Result, Ok, Err, map, string_bytes}
-use Rattle.std.specs.List.{flat_map}
+use Rattle.std.specs.Prelude.{◌≡◌, ◌≢◌, ◌⊎◌, ◌||◌, ℕ, ◌<◌, Bool, true, false, not, nat_eq, List}
+use Rattle.std.specs.Prelude.{[], IsTrue, length, take, Option, None, Some, Result, Ok, Err, codes}
+use Rattle.std.specs.Prelude.{map, string_bytes}
+use Rattle.std.specs.Fs.{metadata_len, new_options, with_create, with_truncate, with_write}
+use Rattle.std.specs.List.{ends_with, flat_map}
+use Rattle.std.specs.Str.{bytes_eq}
+use Rattle.std.specs.declared.fs.attrs.Metadata.{Metadata}
+use Rattle.std.specs.declared.fs.options.OpenOptions.{OpenOptions}
 use Rattle.std.specs.Io.KnownBytes.{Appends}
 use Rattle.cb_desk.specs.Answer.{answer}
 use Rattle.cb_desk.specs.declared.tags.Format.{Format}
@@ -84,11 +89,30 @@ DoesJob (Tags listing tagsfile format files) lines limit s feed feed' old new en
 
 -- ---- a job over files
 
+-- the name of a tags file that stands for standard output
+abbrev pub is_standard_output : List ℕ → Bool
+is_standard_output name = bytes_eq name (codes "-")
+
 -- the job writes a tags file
 abbrev pub writes_file : Job → Bool
 writes_file (Line files) = false
 writes_file (Find field pattern files) = false
-writes_file (Tags listing tagsfile format files) = not listing
+writes_file (Tags listing tagsfile format files) =
+    not (listing || is_standard_output (string_bytes tagsfile))
+
+-- a file of this name may be a C source
+abbrev pub is_source_name : List ℕ → Bool
+is_source_name name = ends_with nat_eq name (codes ".c") || ends_with nat_eq name (codes ".h")
+
+-- how a tags file is opened: it is made where it is not there, and emptied, unless its name is that
+-- of a C source
+abbrev pub opening : List ℕ → OpenOptions
+opening name =
+    with_truncate (with_create (with_write new_options true) true) (not (is_source_name name))
+
+-- a file that was opened under this name may be written: it is no C source that holds something
+abbrev pub MayWrite : List ℕ → Metadata → Type 0
+MayWrite name found = is_source_name name ≡ true → metadata_len found ≡ 0
 
 -- input and output are left alone
 abbrev pub LeavesAlone : Reader → Reader → Writer → Writer → Type 0
@@ -148,19 +172,18 @@ Reaches job end =
 
 -- the job is done from a state: into a tags file, which leaves standard output alone, or over the
 -- input and output, and then no file is made
+abbrev pub DoesInto : (file : Bool) → State → Job → Reader → Reader → Writer → Writer → Ended
+    → Option Writer → Type 0
+DoesInto true s job feed feed' out out' ended made =
+    MakesFile (file_text job s.timeline.present) made (Ran ended) × LeavesAlone feed feed' out out'
+DoesInto false s job feed feed' out out' ended made =
+    DoesJob job most_lines most_line_bytes s feed feed' out out' ended × (made ≡ None)
+
+-- the same, as the words of the job ask for
 abbrev pub DoesFrom : State → Job → Reader → Reader → Writer → Writer → Ended
     → Option Writer → Type 0
-DoesFrom s (Line files) feed feed' out out' ended file =
-    DoesJob (Line files) most_lines most_line_bytes s feed feed' out out' ended × (file ≡ None)
-DoesFrom s (Find field pattern files) feed feed' out out' ended file =
-    DoesJob (Find field pattern files) most_lines most_line_bytes s feed feed' out out' ended
-    × (file ≡ None)
-DoesFrom s (Tags true tagsfile format files) feed feed' out out' ended file =
-    DoesJob (Tags true tagsfile format files) most_lines most_line_bytes s feed feed' out out' ended
-    × (file ≡ None)
-DoesFrom s (Tags false tagsfile format files) feed feed' out out' ended file =
-    MakesFile (tags_output false format s.timeline.present) file (Ran ended)
-    × LeavesAlone feed feed' out out'
+DoesFrom s job feed feed' out out' ended made =
+    DoesInto (writes_file job) s job feed feed' out out' ended made
 
 -- the job is done from where the loads lead; where one is refused nothing is done
 abbrev pub DoesLoaded : Job → Result State RefusedOperand → Reader → Reader → Writer

@@ -155,7 +155,7 @@ pub fn run_job<R: BufRead, W: Write>(
     }
 }
 
-/// The name of the tags file that a job writes, if it writes one.
+/// The name of the tags file that a job writes, if it writes one. The name `-` is standard output.
 fn output_file(job: &Job) -> Option<&str>
     ensures { MatchOption result (writes_file job.now ≡ false)
         (λ name. (writes_file job.now ≡ true) × (name.now ≡ tagsfile_of job.now)) }
@@ -167,7 +167,7 @@ fn output_file(job: &Job) -> Option<&str>
             listing,
             tagsfile,
             ..
-        } => if *listing {
+        } => if *listing || tagsfile.as_str() == "-" {
             None
         } else {
             Some(tagsfile.as_str())

@@ -102,7 +102,7 @@ IsClosedLiteral q bytes = (more : List ℕ) → IsLiteral q (bytes ++ more) (len
 abbrev pub IsLineComment : List ℕ → ℕ → Type 0
 IsLineComment rest n = (take 2 rest ≡ codes "//") × (2 ≤ n) × Commented (drop 2 rest) (n - 2)
 
--- where a comment ends whose `*/` is found so many bytes after its `/*`, or nowhere
+-- where a comment ends whose `*/` stands `k` bytes after its `/*`, or nowhere
 abbrev pub comment_end : ℕ → Option ℕ → ℕ
 comment_end len None = len
 comment_end len (Some k) = k + 4

@@ -35,7 +35,7 @@ lists_names (t ∷ u ∷ ts) =
     else is_mark close_paren u.role && begins_with_word ts)
 
 -- an opening: it does not begin with `typedef`, has no `=`, and its first called name has a list of
--- names behind it and then a word
+-- names after it and then a word
 abbrev pub is_opening : List Token → Bool
 is_opening s = not (begins_with_typedef s) && not (has_equals s) && lists_names (after_called s)
 

@@ -29,7 +29,7 @@ called_after None (Some name) t =
     if is_name_token name.role && is_mark open_paren t.role then Some name else None
 called_after None None t = None
 
--- the token is the `(` behind a called name
+-- the token is the `(` after a called name
 abbrev pub calls_last : Option Token → Token → Bool
 calls_last None t = false
 calls_last (Some name) t = is_name_token name.role && is_mark open_paren t.role

@@ -48,7 +48,7 @@ pub(crate) struct Head {
     listing: Listing,
 }
 
-/// Whether the token is the `(` behind a called name.
+/// Whether the token is the `(` after a called name.
 fn calls_last(last: &Option<Token>, token: &Token) -> bool
     ensures { result ≡ calls_last last.now token.now }
 {

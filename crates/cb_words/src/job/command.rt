@@ -110,7 +110,7 @@ fn with_tagsfile<'a>(alloc: Global, command: Command<'a>) -> Result<Command<'a>,
         .short('f')
         .value_name("TAGSFILE")
         .default_value("tags")
-        .help("Tags file to write");
+        .help("Tags file to write, - for standard output");
     command.arg(tagsfile)
 }
 

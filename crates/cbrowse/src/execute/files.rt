@@ -1,11 +1,30 @@
 //! The files of the program: operands that are read, and a tags file that is written.
-ghost use Rattle.std.specs.Prelude.{◌≡◌, [], IfOk, IfErr, IfSome, MatchResult, map, string_bytes, take};
-ghost use Rattle.cbrowse.specs.Program.{MakesNone, StopsReading, most_read, names_of};
+ghost use Rattle.std.specs.Prelude.{
+  ◌≡◌,
+  [],
+  IfOk,
+  IfErr,
+  IfSome,
+  IsTrue,
+  MatchResult,
+  map,
+  string_bytes,
+  take,
+};
+ghost use Rattle.cbrowse.specs.Program.{
+  MakesNone,
+  MayWrite,
+  StopsReading,
+  is_source_name,
+  most_read,
+  names_of,
+  opening,
+};
 
 use crate::execute::finish::Finish;
 use cb_session::{Ended, Fault, Operand, Operands};
 use std::alloc::{AllocError, Global};
-use std::fs::{self, OpenFile};
+use std::fs::{self, Metadata, OpenFile, OpenOptions};
 use std::io::{self, BufWriter, ErrorKind, Read, Write};
 use std::rt::Files;
 
@@ -107,7 +126,47 @@ impl<F: Write + Drop> Write for LateFile<F> {
 /// A tags file that was made.
 pub(crate) type TagsFile<F> = BufWriter<LateFile<F>>;
 
-/// Makes or empties a tags file. Where memory is refused, the old one stays as it was.
+/// Whether a file of this name may be a C source.
+fn is_source_name(name: &str) -> bool
+    ensures { result ≡ is_source_name name.now }
+{
+    name.as_bytes().ends_with(b".c") || name.as_bytes().ends_with(b".h")
+}
+
+/// How a tags file of this name is opened.
+fn opening(name: &str) -> OpenOptions
+    ensures { result ≡ opening name.now }
+{
+    let mut options = OpenOptions::new();
+    options
+        .write(true)
+        .create(true)
+        .truncate(!is_source_name(name));
+    options
+}
+
+/// Whether a file that was opened under this name may be written: it is no C source that holds
+/// something.
+fn may_write(name: &str, found: &Metadata) -> bool
+    ensures { IsTrue result → MayWrite name.now found.now }
+{
+    !is_source_name(name) || found.len() == 0
+}
+
+/// An open file that may be written under this name, and what it was when it was opened.
+fn checked<F: OpenFile + Drop>(name: &str, file: F) -> io::Result<(F, Metadata)>
+    ensures { IfOk result (λ opened. MayWrite name.now opened.1) }
+{
+    let found = file.metadata()?;
+    if may_write(name, &found) {
+        Ok((file, found))
+    } else {
+        Err(io::Error::from(ErrorKind::AlreadyExists))
+    }
+}
+
+/// Makes or empties a tags file. Where memory is refused, the old one stays as it was, and so does a
+/// C source.
 pub(crate) fn make_file<R: Files + AllocGlobal>(
     rt: &R,
     folder: &str,
@@ -129,6 +188,7 @@ fn open_new<R: Files + AllocGlobal>(
 ) -> io::Result<TagsFile<R::File>> {
     let path = path_of(rt.alloc(), folder, name)?;
     let mut writer = BufWriter::new(rt.alloc(), LateFile { file: None })?;
-    writer.get_mut().file = Some(fs::create(rt, path.as_str())?);
+    let file = opening(name).open(rt, path.as_str())?;
+    writer.get_mut().file = Some(checked(name, file)?.0);
     Ok(writer)
 }

@@ -4,7 +4,9 @@ use Rattle.std.specs.Option.{option_to_list}
 use Rattle.cb_scan.specs.declared.rules.directives.Stage.TheVariants.{Start}
 use Rattle.cb_scan.specs.lex.Tokens.{is_significant}
 use Rattle.cb_scan.specs.steps.Cut.{pieces}
-use Rattle.cb_scan.specs.steps.Directives.{code_out, include_out, is_code, macro_call_out, macro_out, no_range, nothing, range_finish, use_out, walk}
+use Rattle.cb_scan.specs.steps.Directives.{code_out, include_out, is_code, macro_call_out}
+use Rattle.cb_scan.specs.steps.Directives.{macro_out, no_range, nothing, range_finish, use_out}
+use Rattle.cb_scan.specs.steps.Directives.{walk}
 use Rattle.cb_scan.specs.steps.Lined.{Within}
 use Rattle.cb_scan.specs.steps.Functions.{called, calls_from, closed, defs_from, found, ranges_from}
 use Rattle.cb_scan.specs.declared.rules.structures.Naming.TheVariants.{Nothing}
@@ -13,7 +15,8 @@ use Rattle.cb_scan.specs.steps.Typedefs.{typedef_defs_from, typedefs_out}
 use Rattle.cb_scan.proofs.CodeLines.{uses_are}
 use Rattle.cb_scan.proofs.IncludeLines.{includes_are}
 use Rattle.cb_scan.proofs.MacroLines.{macro_calls_are, macro_ranges_are, macros_are}
-use Rattle.cb_scan.proofs.GatherLemmas.{appended, calls_found, code_on, walk_on, functions_found, ranges_found, structures_found, typedefs_found}
+use Rattle.cb_scan.proofs.GatherLemmas.{appended, calls_found, code_on, walk_on, functions_found}
+use Rattle.cb_scan.proofs.GatherLemmas.{ranges_found, structures_found, typedefs_found}
 use Rattle.cb_scan.proofs.scanner.gather.Goals as goal
 
 -- nothing is gathered yet, and all is still to come

@@ -11,7 +11,8 @@ use Rattle.cb_scan.specs.rules.Scope.{function_ranges, macro_ranges}
 use Rattle.cb_scan.specs.rules.Structures.{structures}
 use Rattle.cb_scan.specs.rules.Typedefs.{typedefs}
 use Rattle.cb_scan.specs.rules.Uses.{function_calls, include_of, macro_calls, used}
-use Rattle.cb_scan.specs.steps.Directives.{code_out, include_out, macro_call_out, macro_out, no_range, nothing, range_finish, use_out, walk}
+use Rattle.cb_scan.specs.steps.Directives.{code_out, include_out, macro_call_out, macro_out}
+use Rattle.cb_scan.specs.steps.Directives.{no_range, nothing, range_finish, use_out, walk}
 use Rattle.cb_scan.specs.steps.Lined.{Within}
 use Rattle.cb_scan.specs.steps.Functions.{calls_from, defs_from, ranges_from}
 use Rattle.cb_scan.specs.steps.Structures.{structures_from}

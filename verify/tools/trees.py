@@ -1,0 +1,419 @@
+#!/usr/bin/env python3
+"""Runs editors/cbrowse-tree on trees of odd names, in full folders and with programs that fail.
+
+    make && verify/tools/trees.py
+    verify/tools/trees.py --cbrowse PATH      or: CBROWSE=PATH verify/tools/trees.py
+
+Whole      the tags file, plain and extended, and the listing of a tree are those of one
+           `cbrowse tags` over its files, byte for byte, by one process and by four.
+Questions  the rows of `find` are those of one `cbrowse find`, byte for byte, for each field, by one
+           process and by four; so are those of many questions; a question that is none is refused.
+Names      names from lists and from standard input, folders and files in any mix, what is left out
+           by --exclude, and which of them decide the status.
+Odd names  what cbrowse does not take is told once for each reason, with how many and three names,
+           and left out, and all else is there; folders named `!`, `(` and `-x`, and a tags file
+           named `-t`, are taken as they are.
+Ends       numbers that begin with 0; a tags file that is a link, a pipe or the name of another's
+           folder; no standard error; a program in a folder of PATH that does not begin with /;
+           folders that cannot be read (as root, who runs as nobody).
+Sources    a file that is no tags file is left alone, unless --force is given.
+Failures   an old tags file stays as it was, and the status is 1, where a folder is not there, where
+           the program or `sort` fails, and where the temporary folder is full: each size of a small
+           one is tried (as root alone, with `mount`).
+"""
+
+from __future__ import annotations
+
+import os
+import pathlib
+import subprocess
+import sys
+import tempfile
+
+sys.path.insert(0, str(pathlib.Path(__file__).resolve().parents[1]))
+from shared import Place, Report, words_given, options  # noqa: E402
+
+OLD = "old\told.c\t/^old$/\n"
+TEXT = "int g(void) {\n}\n"
+CALLS = "#include <stdio.h>\nint f{number}(void) {{\n\treturn f{other}('*') + f7();\n}}\n"
+BODY = "#define M{number} 1\nstruct s {{\nint x;\n}};\nint main(void) {{\n}}\n"
+report = Report()
+check = report.check
+
+
+def one(place: Place, names: list[str], *words: str) -> bytes:
+    """What one run of cbrowse makes of these files."""
+    command = [place.cbrowse, "tags", "-f", "whole", *(words or ["--format", "2"]), "--", *names]
+    subprocess.run(command, cwd=place.folder, check=True)
+    return (place.folder / "whole").read_bytes()
+
+
+def whole(place: Place) -> None:
+    names = []
+    for number in range(1500):
+        names.append(f"many/d{number % 7}/f{number}.{'ch'[number % 2]}")
+        place.put(
+            names[-1],
+            f"int f{number % 100}(void) {{\n}}\n" + BODY.format(number=number),
+        )
+    for words in ([], ["--format", "1"]):
+        for jobs in "1", "4":
+            status, _, said = place.run("-j", jobs, "-f", "parts", *words, "many")
+            same = (place.folder / "parts").read_bytes() == one(place, sorted(names), *words)
+            check(f"one tags file {' '.join(words)} by {jobs}", status == 0 and same, said)
+    listing = subprocess.run(
+        [place.cbrowse, "tags", "-x", "--", *sorted(names)],
+        cwd=place.folder,
+        stdout=subprocess.PIPE,
+    ).stdout
+    status, out, said = place.run("-x", "many")
+    check("one listing", status == 0 and out == listing, said)
+    status, out, said = place.run("-f", "-", "many")
+    check("standard output", status == 0 and out == one(place, sorted(names)), said)
+    check("no progress where nobody looks", said == "", said)
+
+
+def questions(place: Place) -> None:
+    """The rows of one question, and of many."""
+    names = []
+    for number in range(1200):
+        names.append(f"asked/d{number % 5}/f{number}.c")
+        place.put(names[-1], CALLS.format(number=number, other=number * 7 % 1200))
+    place.put("asked/!.c", CALLS.format(number=9999, other=7))
+    names = sorted([*names, "asked/!.c"])
+    asked = ["0f7", "1f7", "2f9", "3f7", "4return", "4'", "7f1", "8stdio.h", "1none", "4*", "4 "]
+    rows = {}
+    for question in asked:
+        words = ["find", question[0], "--", question[1:], *names]
+        done = subprocess.run([place.cbrowse, *words], cwd=place.folder, capture_output=True)
+        rows[question] = done.stdout
+        for jobs in "1", "4":
+            words = ["find", "-j", jobs, "--", question[0], question[1:], "asked"]
+            status, out, said = place.run(*words)
+            check(f"find {question} by {jobs}", (status, out) == (0, done.stdout), said)
+    place.put("questions", "".join(f"{question}\n" for question in asked))
+    expected = b"".join(
+        question.encode() + b"\t" + row
+        for question in asked
+        for row in rows[question].splitlines(keepends=True)
+    )
+    for jobs in "1", "4":
+        status, out, said = place.run("find", "-j", jobs, "--questions", "questions", "asked")
+        check(f"many questions by {jobs}", (status, out) == (0, expected), said)
+    place.put("questions", "1f7\n6f7\n")
+    check("a question that is none", place.run("find", "--questions", "questions", "asked")[0] == 2)
+    for words, said in (("6", "x"), "field not in this profile"), (("1", ""), "no pattern"):
+        found = place.run("find", *words, "asked")
+        check(f"find {words}", found == (2, b"", f"cbrowse: {said}\n"), found)
+    check("find without a pattern", place.run("find", "1")[0] == 2)
+
+
+def names_given(place: Place) -> None:
+    """Lists, folders and files in any mix."""
+    for name in "x/a.c", "x/b.h", "x/build/c.c", "y/d.c", "y/test_e.c", "-z.c":
+        place.put(f"given/{name}", TEXT)
+    place.put("given/list", "y/d.c\n\ny/test_e.c\n")
+
+    def files(*words: str, stdin: str = "") -> tuple[int, list[str], str]:
+        status, out, said = place.run(
+            "--format", "1", "-f", "-", *words, below="given", stdin=stdin
+        )
+        return status, [line.split("\t")[1] for line in out.decode().splitlines()], said
+
+    def takes(what: str, found: object, *expected: str, status: int = 0, said: str = "") -> None:
+        check(what, found == (status, list(expected), said), found)
+
+    whole = ["x/a.c", "x/b.h", "x/build/c.c"]
+    takes("a list", files("-L", "list"), "y/d.c", "y/test_e.c")
+    takes("two lists", files("-Llist", "-L", "list"), "y/d.c", "y/test_e.c")
+    takes("standard input", files("-L", "-", stdin="x/b.h\nx/a.c"), "x/a.c", "x/b.h")
+    takes("a mix", files("y/d.c", "-L", "list", "x", "x/a.c"), *whole, "y/d.c", "y/test_e.c")
+    takes("a name with a dash", files("--", "-z.c"), "./-z.c")
+    takes("excluded by a name", files("x", "--exclude", "build"), "x/a.c", "x/b.h")
+    takes(
+        "excluded by a glob",
+        files("x", "y", "--exclude=test_*", "--exclude", "*.h"),
+        "x/a.c",
+        "x/build/c.c",
+        "y/d.c",
+    )
+    takes(
+        "excluded by a path",
+        files("x", "y", "--exclude", "x/build/"),
+        "x/a.c",
+        "x/b.h",
+        "y/d.c",
+        "y/test_e.c",
+    )
+    takes(
+        "excluded by the end of a path",
+        files(".", "--exclude", "y/*.c", "--exclude", "-z.c"),
+        *(f"./{name}" for name in whole),
+    )
+    takes(
+        "excluded from a list",
+        files("-L", "list", "x/build/c.c", "--exclude", "build", "--exclude", "test_*"),
+        "y/d.c",
+    )
+    left = "cbrowse-tree: 1 left out, {}\n"
+    takes(
+        "a file that is not there",
+        files("x/a.c", "no.c"),
+        "x/a.c",
+        status=1,
+        said=left.format("no such file: no.c"),
+    )
+    takes(
+        "a name of a list that is not there",
+        files("-L", "-", stdin="x/a.c\nno/no.h\n"),
+        "x/a.c",
+        status=1,
+        said=left.format("no such file: no/no.h"),
+    )
+    takes(
+        "a file that is not C",
+        files("list", "x/a.c"),
+        "x/a.c",
+        status=1,
+        said=left.format("not named .c or .h: list"),
+    )
+    takes(
+        "a folder in a list",
+        files("-L", "-", stdin="x\ny/d.c\n"),
+        "y/d.c",
+        status=1,
+        said=left.format("not named .c or .h: x"),
+    )
+    place.put("given/large.c", " " * 1_000_001)
+    takes(
+        "a large file that is named",
+        files("large.c", "y/d.c"),
+        "y/d.c",
+        status=1,
+        said=left.format("too large: large.c"),
+    )
+    takes(
+        "a large file that is found",
+        files(".", "--exclude", "[xy]", "--exclude", "-*"),
+        said=left.format("too large: ./large.c"),
+    )
+    status, _, said = place.run("-L", "nowhere", below="given")
+    check(
+        "a list that is not there",
+        status == 1 and said == "cbrowse-tree: nowhere: cannot be read\n",
+        said,
+    )
+    check("nothing to take", place.run(below="given")[0] == 2)
+    for word in "--help", "-h", "--version":
+        status, out, said = place.run(word)
+        check(word, status == 0 and out.startswith(b"cbrowse-tree") and said == "", (out, said))
+
+
+def odd_names(place: Place) -> None:
+    text = TEXT
+    for name in (
+        "odd/a b.c",
+        "odd/a c.c",
+        "odd/a d.c",
+        "odd/\u00e9.c",
+        "odd/'$(x)*.c",
+        "odd/good.c",
+        "!/a.c",
+        "(/a.c",
+        "-x/a.c",
+    ):
+        place.put(name, text)
+    place.put("odd/large.c", " " * 1_000_001)
+    status, _, said = place.run("-f", "odd.tags", "odd")
+    lines = (place.folder / "odd.tags").read_text().splitlines()
+    told = [
+        "cbrowse-tree: 1 left out, too large: odd/large.c",
+        "cbrowse-tree: 4 left out, bad name: odd/??.c, odd/a?b.c, odd/a?c.c ..",
+    ]
+    check(
+        "odd names",
+        status == 0
+        and said.splitlines() == told
+        and [line.split("\t")[1] for line in lines[2:]] == ["odd/'$(x)*.c", "odd/good.c"],
+        said,
+    )
+    status, _, said = place.run("--verbose", "-f", "odd.tags", "odd")
+    check("odd names, one by one", status == 0 and len(said.splitlines()) == 5, said)
+    for folder in "!", "(", "./-x":
+        status, _, said = place.run("-f", "-t", folder)
+        check(
+            f"a folder named {folder}",
+            status == 0 and "\ng\t" in (place.folder / "-t").read_text(),
+            said,
+        )
+
+
+def ends(place: Place) -> None:
+    """What stands where it writes, and what it is started with."""
+    place.put("few/a.c", TEXT)
+    expected = one(place, ["few/a.c"])
+    for number in "08", "09", "010":
+        status, _, said = place.run("-j", number, "-f", "few.tags", "few")
+        check(
+            f"-j {number}",
+            status == 0 and (place.folder / "few.tags").read_bytes() == expected,
+            said,
+        )
+    check("-j 000", place.run("-j", "000", "few")[0] == 2)
+    place.put("real", OLD)
+    (place.folder / "link").symlink_to("real")
+    status, _, said = place.run("-f", "link", "few")
+    check(
+        "a link",
+        status == 0
+        and (place.folder / "link").is_symlink()
+        and (place.folder / "real").read_bytes() == expected,
+        said,
+    )
+    pipe = place.folder / "pipe"
+    os.mkfifo(pipe)
+    reader = subprocess.Popen(["cat", pipe], stdout=subprocess.PIPE)
+    status, _, said = place.run("-f", "pipe", "few")
+    check(
+        "a pipe",
+        status == 0 and reader.communicate(timeout=60)[0] == expected and pipe.is_fifo(),
+        said,
+    )
+    mine = 'mkdir tags.$$; echo x >tags.$$/file; exec sh "$0" few'
+    status, _, _ = place.run_by(["sh", "-c", mine, place.script])
+    check(
+        "a folder that has the name of the new file",
+        status == 1 and len(list(place.folder.glob("tags.*/file"))) == 1,
+    )
+    status, _, _ = place.run_by(["sh", "-c", 'exec sh "$0" -f few.tags few 2>&-', place.script])
+    check(
+        "no standard error",
+        status == 0 and (place.folder / "few.tags").read_bytes() == expected,
+    )
+    (place.folder / "near").mkdir()
+    (place.folder / "near" / "cbrowse").symlink_to(place.cbrowse)
+    status, _, said = place.run(
+        "-f", "few.tags", "few", CBROWSE="cbrowse", PATH=f"near:{os.environ['PATH']}"
+    )
+    check(
+        "a program in a near folder of PATH",
+        status == 0 and (place.folder / "few.tags").read_bytes() == expected,
+        said,
+    )
+    if os.geteuid() != 0:
+        return
+    place.put("closed/a.c", TEXT)
+    (place.folder / "closed").chmod(0o700)
+    place.folder.chmod(0o777)
+    place.put("old", OLD)
+    (place.folder / "old").chmod(0o666)
+    nobody = ["setpriv", "--reuid=65534", "--regid=65534", "--clear-groups", "sh", place.script]
+    status, _, said = place.run_by(nobody, "-f", "old", "closed")
+    check(
+        "a folder that cannot be read",
+        status == 1 and (place.folder / "old").read_text() == OLD,
+        said,
+    )
+    (place.folder / "old").chmod(0o444)
+    status, _, said = place.run_by(nobody, "-f", "old", "few")
+    check(
+        "a tags file that may not be written",
+        status == 1 and (place.folder / "old").read_text() == OLD,
+        said,
+    )
+
+
+def sources(place: Place) -> None:
+    """A file that is no tags file is left alone, unless one says otherwise."""
+    source = "int f(void) {\n}\n"
+    place.put("victim/a.c", source)
+    status, _, said = place.run("-f", "victim/a.c", "victim")
+    check(
+        "a source as a tags file",
+        status == 1 and (place.folder / "victim/a.c").read_text() == source and "--force" in said,
+        said,
+    )
+    status, _, said = place.run("--force", "-f", "victim/a.c", "victim")
+    check(
+        "a source that is replaced",
+        status == 0 and "\nf\tvictim/a.c\t" in (place.folder / "victim/a.c").read_text(),
+        said,
+    )
+    place.put("victim/b.c", source)
+    place.put("victim.tags", "!_TAG_FILE_SORTED\t1\t//\n")
+    status, _, said = place.run("-f", "victim.tags", "victim")
+    check(
+        "a tags file of another program",
+        status == 0 and "victim/b.c" in (place.folder / "victim.tags").read_text(),
+        said,
+    )
+
+
+def stays(place: Place, what: str, *words: str, **more: object) -> None:
+    """The old tags file stays, nothing else is left, and the status is 1."""
+    place.put("old", OLD)
+    before = sorted(os.listdir(place.folder))
+    status, _, said = place.run("-f", "old", *words, **more)
+    rest = sorted(os.listdir(place.folder))
+    check(
+        what,
+        status == 1 and (place.folder / "old").read_text() == OLD and rest == before and said != "",
+        (status, said),
+    )
+
+
+def failures(place: Place) -> None:
+    stays(place, "a folder that is not there", "many", "nowhere")
+    stays(place, "a program that says nothing", "many", CBROWSE="/bin/false")
+    place.put(
+        "bin/sort",
+        '#!/bin/sh\ncase "$*" in *-m*) echo no >&2; exit 2;; esac\n'
+        'PATH=${PATH#*:}; exec sort "$@"\n',
+    )
+    (place.folder / "bin" / "sort").chmod(0o755)
+    stays(place, "a sort that fails", "many", PATH=f"{place.folder}/bin:{os.environ['PATH']}")
+    small, many = place.folder / "small", place.folder / "many/d0"
+    small.mkdir()
+    if os.geteuid() != 0:
+        print("       a full folder is not tried: that takes root")
+        return
+    for blocks in (*range(1, 40), *range(40, 240, 8)):
+        mounted = subprocess.run(
+            ["mount", "-t", "tmpfs", "-o", f"size={blocks * 4}k", "tmpfs", small],
+            stderr=subprocess.DEVNULL,
+        )
+        if mounted.returncode:
+            print("       a full folder is not tried: nothing can be mounted here")
+            return
+        try:
+            place.put("old", OLD)
+            status, _, said = place.run("-j", "1", "-f", "old", "many/d0", TMPDIR=small)
+            held = (place.folder / "old").read_text()
+            if status == 0:
+                names = sorted(f"many/d0/{path.name}" for path in many.iterdir())
+                is_whole = held == one(place, names).decode()
+                check(f"a temporary folder of {blocks * 4} kB is enough", is_whole, said)
+                return
+            if held != OLD or said == "":
+                check(f"a temporary folder of {blocks * 4} kB", False, (status, said, held[:80]))
+        finally:
+            subprocess.run(["umount", small], check=True)
+    check("a temporary folder is never enough", False)
+
+
+def main() -> int:
+    cbrowse = words_given(options(__doc__)).cbrowse
+    with tempfile.TemporaryDirectory() as folder:
+        place = Place(folder, cbrowse, "cbrowse-tree")
+        whole(place)
+        questions(place)
+        names_given(place)
+        odd_names(place)
+        ends(place)
+        sources(place)
+        failures(place)
+    return report.status()
+
+
+if __name__ == "__main__":
+    sys.exit(main())
