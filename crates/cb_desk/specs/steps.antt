@@ -7,6 +7,7 @@ pub mod LookBack
 pub mod MarkedLines
 pub mod Plans
 pub mod Records
+pub mod Renamings
 pub mod Replaced
 pub mod Room
 pub mod Search

@@ -6,12 +6,14 @@ ghost use Rattle.std.specs.Prelude.{
   ◌++◌,
   ◌∷◌,
   [],
+  false,
   length,
   take,
   vec_capacity,
   IfOk,
 };
 ghost use Rattle.cb_desk.specs.steps.Edits.{IsDifference, each, edited, more, turned_edits};
+ghost use Rattle.cb_desk.specs.steps.Renamings.{LeadsBetween, is_renaming, renaming_between};
 
 use crate::edits::{
     Edit, each_difference, edit_into, pop_edits, push_edits, put_places, turn_edits,
@@ -131,7 +133,9 @@ pub(crate) fn renaming_difference(
     old: &[NumberedPlace],
     new: &[NumberedPlace],
 ) -> Result<PlaceEdits, AllocError>
-    ensures { IfOk result (λ edits. IsDifference edits old.now new.now) }
+    ensures difference { IfOk result (λ edits. IsDifference edits old.now new.now) }
+    ensures short { IfOk result (λ edits. is_renaming edits ≡ false
+        → LeadsBetween (renaming_between from to old.now new.now) old.now new.now → ⊥) }
 {
     match Renaming::found(alloc, from, to, old, new)? {
         Some(renaming) => Ok(PlaceEdits {

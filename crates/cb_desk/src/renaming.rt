@@ -4,17 +4,23 @@ ghost use Rattle.std.specs.Prelude.{
   ◌≤◌,
   ◌+◌,
   ◌++◌,
-  ⊤,
+  ◌↔◌,
   length,
   drop,
   map,
   take,
-  true,
   vec_capacity,
   IfOk,
+  IsTrue,
   MatchOption,
 };
 ghost use Rattle.cb_desk.specs.steps.Edits.{renamed, rotated, turned_renaming, with_number};
+ghost use Rattle.cb_desk.specs.steps.Renamings.{
+  LeadsBetween,
+  count_before,
+  count_of,
+  renaming_between,
+};
 
 use crate::edits::put_places;
 use crate::spot::NumberedPlace;
@@ -34,8 +40,17 @@ pub(crate) struct Renaming {
 }
 
 /// How many places stand before the first one of a file.
-fn count_before(places: &[NumberedPlace], name: u32) -> usize {
+fn count_before(places: &[NumberedPlace], name: u32) -> usize
+    ensures { result ≡ count_before places.now name }
+{
     places.iter().take_while(|place| place.name != name).count()
+}
+
+/// How many places of a file there are.
+fn count_of(places: &[NumberedPlace], name: u32) -> usize
+    ensures { result ≡ count_of places.now name }
+{
+    places.iter().filter(|place| place.name == name).count()
 }
 
 /// A list with its first so many places behind the others is written behind what is there.
@@ -53,19 +68,28 @@ fn put_rotated(places: &[NumberedPlace], split: usize, into: &mut Vec<NumberedPl
 impl Renaming {
     /// The renaming that leads from one list to another, where the places of a file are together
     /// in each of them or are where they were.
-    fn between(from: u32, to: u32, old: &[NumberedPlace], new: &[NumberedPlace]) -> Renaming {
-        let count = old.iter().filter(|place| place.name == from).count();
+    fn between(from: u32, to: u32, old: &[NumberedPlace], new: &[NumberedPlace]) -> Renaming
+        ensures { result ≡ renaming_between from to old.now new.now }
+    {
+        let count = count_of(old, from);
         let before = count_before(old, from);
         let after = count_before(new, to);
-        let moved = before.abs_diff(after);
         let is_later = before <= after;
         Renaming {
             from,
             to,
             start: before.min(after),
             end: before.max(after).saturating_add(count),
-            split: if is_later { count } else { moved },
-            back: if is_later { moved } else { count },
+            split: if is_later {
+                count
+            } else {
+                before.saturating_sub(after)
+            },
+            back: if is_later {
+                after.saturating_sub(before)
+            } else {
+                count
+            },
         }
     }
 
@@ -139,7 +163,7 @@ impl Renaming {
         old: &[NumberedPlace],
         new: &[NumberedPlace],
     ) -> Result<bool, AllocError>
-        ensures { IfOk result (λ leads. leads ≡ true → renamed self old.now ≡ new.now) }
+        ensures { IfOk result (λ leads. IsTrue leads ↔ (renamed self old.now ≡ new.now)) }
     {
         let mut places = Vec::from_slice(alloc, old)?;
         let mut made = Vec::with_capacity(alloc, old.len())?;
@@ -147,7 +171,7 @@ impl Renaming {
         Ok(made.as_slice() == new)
     }
 
-    /// The renaming that makes one list from another and back, if one does.
+    /// The renaming between two lists, if it makes one from the other and back.
     pub(crate) fn found(
         alloc: Global,
         from: u32,
@@ -155,8 +179,9 @@ impl Renaming {
         old: &[NumberedPlace],
         new: &[NumberedPlace],
     ) -> Result<Option<Renaming>, AllocError>
-        ensures { IfOk result (λ found. MatchOption found ⊤ (λ r.
-            (renamed r old.now ≡ new.now) × (renamed (turned_renaming r) new.now ≡ old.now))) }
+        ensures { IfOk result (λ found. MatchOption found
+            (LeadsBetween (renaming_between from to old.now new.now) old.now new.now → ⊥)
+            (λ r. LeadsBetween r old.now new.now)) }
     {
         let way = Renaming::between(from, to, old, new);
         if way.leads(alloc, old, new)? && way.turned().leads(alloc, new, old)? {

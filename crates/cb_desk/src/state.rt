@@ -1,8 +1,16 @@
 //! The state of a session.
-ghost use Rattle.std.specs.Prelude.{◌≡◌, ◌≢◌, [], IfErr, IfOk};
+ghost use Rattle.std.specs.Prelude.{◌≡◌, ◌≢◌, [], IfErr, IfOk, length};
 ghost use Rattle.std.specs.Option.{option_copied};
+ghost use Rattle.cb_scan.specs.Definitions.{facts_of};
 ghost use Rattle.cb_desk.specs.Answer.{answer};
-ghost use Rattle.cb_desk.specs.Desk.{Counts, CountsUpTo, bytes_in, counted, definitions_in, scanned};
+ghost use Rattle.cb_desk.specs.Desk.{
+  Counts,
+  CountsUpTo,
+  bytes_in,
+  counted,
+  definitions_in,
+  scanned,
+};
 ghost use Rattle.cb_desk.specs.Models.{step_of};
 ghost use Rattle.cb_desk.specs.Tags.{tags};
 ghost use Rattle.cb_desk.specs.Timeline.{
@@ -48,6 +56,17 @@ impl Model for Desk {
     ghost invariant = { λ d. IsValidTimeline (timeline_in d.history) };
 }
 
+/// Scans a file, and drops what is found: how many definitions that is.
+fn scan_file(alloc: Global, meter: &mut Meter, source: &Source) -> Result<u64, AllocError>
+    ensures counted { meter.new ≡ counted meter.old (length source.now) }
+    ensures found { IfOk result (λ found. found ≡ length (facts_of source.now).defs) }
+{
+    match scan(alloc, meter, source) {
+        Ok(facts) => Ok(facts.defs().len() as u64),
+        Err(_) => Err(AllocError),
+    }
+}
+
 /// Scans files, and drops what is found: how many definitions that is, up to the greatest number.
 fn scan_files(alloc: Global, meter: &mut Meter, files: Files<'_>) -> Result<u64, AllocError>
     ensures meter { CountsUpTo (bytes_in files.entry) meter.old meter.new result }
@@ -56,10 +75,8 @@ fn scan_files(alloc: Global, meter: &mut Meter, files: Files<'_>) -> Result<u64,
     let _counted = meter.read();
     let mut found = 0u64;
     for (_, source) in files {
-        match scan(alloc, meter, source) {
-            Ok(facts) => found = found.saturating_add(facts.defs().len() as u64),
-            Err(_) => return Err(AllocError),
-        }
+        let more = scan_file(alloc, meter, source)?;
+        found = found.saturating_add(more);
     }
     Ok(found)
 }

@@ -1,5 +1,5 @@
 //! Files that get new versions under the names that they have.
-ghost use Rattle.std.specs.Prelude.{◌≡◌, map, IfOk};
+ghost use Rattle.std.specs.Prelude.{◌≡◌, ◌<◌, ◌+◌, ◌^◌, length, map, IfOk};
 ghost use Rattle.std.specs.List.Sorted.{IsNonDecreasingBy, IsPermutation};
 ghost use Rattle.std.specs.Ordering.{nat_cmp};
 ghost use Rattle.cb_desk.specs.declared.present.renewal.Renewal.{Renewal};
@@ -19,6 +19,7 @@ pub(crate) struct Renewal {
 
 /// The renewals of files. The new versions are numbered in their order, from a first number on.
 fn renewals(alloc: Global, files: &[Shown], first: u32) -> Result<Vec<Renewal>, AllocError>
+    requires { first + length files.now < 2 ^ 32 }
     ensures { IfOk result (λ made. made.items ≡ renewals first files.now) }
 {
     let mut made = Vec::with_capacity(alloc, files.len())?;
@@ -29,7 +30,7 @@ fn renewals(alloc: Global, files: &[Shown], first: u32) -> Result<Vec<Renewal>, 
             old: file.version,
             new,
         })?;
-        new = new.checked_add(1).ok_or(AllocError)?;
+        new += 1;
     }
     Ok(made)
 }
@@ -52,6 +53,7 @@ pub(crate) fn sorted_renewals(
     files: &[Shown],
     first: u32,
 ) -> Result<Vec<Renewal>, AllocError>
+    requires { first + length files.now < 2 ^ 32 }
     ensures same { IfOk result (λ made. IsPermutation (renewals first files.now) made.items) }
     ensures rising { IfOk result (λ made. IsNonDecreasingBy (λ (r : Renewal). r.name) made.items) }
 {

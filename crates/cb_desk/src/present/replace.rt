@@ -91,11 +91,11 @@ impl Present {
             (replaced_files replacing.entry.old.now replacing.entry.new.now
             (world_in self.now.archive self.now.now)))) }
     {
+        let versions = sum(self.versions, made.len()).ok_or(AllocError)?;
         let renewals = sorted_renewals(alloc, marked, self.versions)?;
         let places = self.frames.as_slice();
         let frames = replacing.edits_staying(alloc, marked, made.as_slice(), places)?;
         let marks = difference(alloc, None, self.marks.as_slice(), &[])?;
-        let versions = sum(self.versions, made.len()).ok_or(AllocError)?;
         Ok(Plan {
             names: Vec::new(alloc),
             versions: made,

@@ -1,4 +1,5 @@
-use Rattle.std.proofs.Common.{rules, ◌≡◌, ◌∙◌, sym, subst}
+use Rattle.std.proofs.Common.{rules, ◌≡◌, ◌∙◌, ap, length, sym, subst}
+use Rattle.std.proofs.lemmas.List.{length-map}
 use Rattle.cb_index.specs.Files.{AreAscending}
 use Rattle.cb_desk.specs.steps.Edits.{IsDifference}
 use Rattle.cb_desk.specs.steps.Replaced.{files_then, has_mark, remaining, staying}
@@ -13,6 +14,12 @@ edits_staying-requires-clause-ascending c =
     subst (λ a. AreAscending a c.args.marked.now) (sym c.requires.archive)
     (subst (AreAscending k.archive) (sym c.requires.marked)
     (some_ascend k.archive (has_mark k.archive k.now.marks) k.now.shown c.requires.ascending))
+
+-- as many versions are made as there are files with a mark
+pub sorted_renewals-requires : goal.sorted_renewals-requires
+sorted_renewals-requires c =
+    let many = ap length c.requires.versions ∙ length-map _ _ ∙ length-map _ _ ∙ ap length (sym c.requires.marked) in
+    search (rules, many)
 
 pub returns : goal.returns
 returns c =
