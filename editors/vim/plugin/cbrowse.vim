@@ -1,7 +1,7 @@
 " cbrowse in vim and nvim: one session for as long as the editor runs, which gets each C file as it
 " is saved. `:help cbrowse` tells what it does.
 
-if exists('g:loaded_cbrowse') || &compatible
+if exists('g:loaded_cbrowse')
   finish
 endif
 let g:loaded_cbrowse = 1
@@ -11,6 +11,9 @@ if !has('nvim') && (!has('job') || !has('channel') || !has('patch-8.2.2343'))
   echohl None
   finish
 endif
+
+let s:options = &cpoptions
+set cpoptions&vim
 
 const s:patience = 20000 " milliseconds until a reply is given up
 const s:most_bytes = 1000000
@@ -418,3 +421,6 @@ augroup cbrowse
   autocmd BufWritePost,FileChangedShellPost *.c,*.h call s:guarded(function('s:written'), [expand('<afile>')])
   autocmd FocusGained * call s:guarded(function('s:focused'), [])
 augroup END
+
+let &cpoptions = s:options
+unlet s:options
