@@ -51,7 +51,7 @@ import time
 from measure import MOST_BYTES, MOST_FILES, c_files, copy, installed, keep_to_one_core
 from measure import options, use_another_core, words_given
 
-FEW = 10  # the small session has one file in so many
+FEW = 10  # the small session has every tenth file
 TIMES = 9  # each change is made so often
 QUESTIONS = 1000
 USED_NAMES = 50

@@ -52,7 +52,7 @@ LISTING = ["-x"], ["-x"]
 
 
 def drawn(folder, number):
-    """The names of so many C files of the folder, at random."""
+    """The names of this many C files of the folder, at random."""
     names = [*c_files(folder)]
     if len(names) < number:
         told = f"{len(names)} files that cbrowse takes, and {number} are asked for (see --files)"

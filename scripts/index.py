@@ -25,7 +25,7 @@ from edits import TOP, Edit, Function, all_functions, edits, snake
 PAGE = TOP / "docs" / "INDEX.md"
 CRATES = ["cb_scan", "cb_tags", "cb_index", "cb_desk", "cb_session", "cb_words", "cbrowse"]
 TESTS = ["text_tests", "index_tests", "desk_tests"]
-MOST = 3  # so many of a kind are named; the rest is counted
+MOST = 3  # of a kind are named, and the rest is counted
 
 # The input lines of a session that ask for a function.
 QUESTION, CHANGE = "[0-478].", ":(load|reload|drop|rename|mark|markall|to|tag|pop)( |$)|5."

@@ -305,7 +305,7 @@ WRITERS = [
 
 
 def bounded(size: int):
-    """Files may have so many bytes; a write beyond fails, and sends no signal."""
+    """Files may have at most this size; a write beyond it fails, and sends no signal."""
 
     def before():
         signal.signal(signal.SIGXFSZ, signal.SIG_IGN)
@@ -353,7 +353,7 @@ class Checks:
         self.expect([*row.words, "the folder"], set(os.listdir(self.folder)) | {name}, before)
 
     def at_each_byte(self):
-        """A file that takes so many bytes, as standard output and as the tags file."""
+        """A file that takes each number of bytes, as standard output and as the tags file."""
         out = self.folder / "out"
         for words, given, whole in WRITERS:
             for size in range(len(whole) + 1):

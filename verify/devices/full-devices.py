@@ -136,7 +136,7 @@ def closed(checks):
 
 
 def reader_goes(checks):
-    """A reader that takes so many bytes of a pipe, and goes away."""
+    """A reader that takes some bytes of a pipe, and goes away."""
     for words, given in WRITERS:
         whole = checks.whole(words, given)
         for count in [
@@ -175,7 +175,7 @@ def reader_goes(checks):
 
 
 def bounded(checks):
-    """A bound on the size of a file, as of a disk quota: so many bytes are taken."""
+    """A bound on the size of a file, as of a disk quota: only these bytes are taken."""
 
     def with_bound(count):
         def before():
@@ -209,7 +209,7 @@ def bounded(checks):
 
 
 def full_disk(checks):
-    """A file system with so many pages left."""
+    """A file system with few pages left."""
     disk = pathlib.Path(checks.folder, "disk")
     disk.mkdir()
     size = 64 * PIPE

@@ -213,7 +213,7 @@ def replayed(program, past):
 
 
 def soak(program, seed, commands):
-    """A session with so many commands."""
+    """A session of this many commands, compared with fresh ones."""
     draw, past, session = Draw(seed), Past(), Session(program)
     replies, longest, runs, begin = collections.Counter(), 0, 0, time.monotonic()
     for count in range(1, commands + 1):

@@ -1,7 +1,7 @@
 #!/usr/bin/env python3
 """Compares what cbrowse answers about real C sources with what cscope answers.
 
-    make && verify/tools/beside-cscope.py --without deps --without contrib FOLDER
+    make && verify/tools/beside-cscope.py --known --without deps --without contrib FOLDER
     verify/tools/beside-cscope.py --cbrowse PATH --questions 100 --shown 0 FOLDER
 
 Sources come from Debian's packages, for instance: `apt-get source --download-only zlib lua5.4 redis
@@ -19,8 +19,8 @@ Two rows are the same if the file and the line are, and for field 2 the called n
 a table says how many rows each program finds, what part of those of cscope cbrowse finds and the
 other way round, and for what part of the common rows the function column is the same. Then each
 difference is counted under its reason: what stands on the line, and what both answer to another
-question about it. A row without a reason is a failure, and so is a part below the least that is
-known of the sources named above (`LEAST`); the exit status is then 1.
+question about it. A row without a reason is a failure, and with --known so is a part below the
+least that is known of the sources named above (`LEAST`); the exit status is then 1.
 """
 
 from __future__ import annotations
@@ -192,6 +192,8 @@ class Reasons:
 
     def of(self, field, word, row, by_cscope):
         """The reason, or None."""
+        if by_cscope and row.line > len(self.lines.get(row.file, [])):
+            return "cscope names a line past the end of the file"
         if field in "23":
             return self.of_call(field, word, row, by_cscope)
         if field == "0" and not by_cscope:
@@ -300,6 +302,7 @@ def main():
     parser.add_argument(
         "--shown", type=int, default=3, help="how many of each difference to show, 3 by default"
     )
+    parser.add_argument("--known", action="store_true", help="fail below what is known, see LEAST")
     wanted = words_given(parser)
     folder, cbrowse = wanted.folder.resolve(), wanted.cbrowse
     names = [*c_files(folder, wanted.without)]
@@ -343,7 +346,7 @@ def main():
                     for question in reasons.follow_up(field, word, row)
                 ]
             )
-        failures = [failure for _, some in found.values() for failure in some]
+        failures = [it for _, some in found.values() for it in some if wanted.known]
         for field, (differences, _) in found.items():
             without = tell(field, differences, reasons, wanted.shown)
             if without:
