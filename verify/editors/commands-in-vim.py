@@ -44,13 +44,16 @@ for step in json_decode(join(readfile($STEPS), ''))
   catch
     let said = 'THROWN ' .. v:exception
   endtry
-  let rows = map(getqflist(), {_, one -> [fnamemodify(bufname(one.bufnr), ':.'), one.lnum, one.text]})
+  let rows = getqflist()
+  call map(rows, {_, one -> [fnamemodify(bufname(one.bufnr), ':.'), one.lnum, one.text]})
   call add(found, [said, rows, fnamemodify(bufname('%'), ':.'), line('.'), winnr('$')])
 endfor
 call writefile([json_encode(found)], $FOUND)
 qall!
 """
-KILL = "call system('kill ' .. join(split(system('pgrep -P ' .. getpid() .. ' -f line')))) | sleep 300m"
+# ends the process of the session
+PIDS = "split(system('pgrep -P ' .. getpid() .. ' -f line'))"
+KILL = f"call system('kill ' .. join({PIDS})) | sleep 300m"
 
 
 class Step(NamedTuple):
@@ -178,7 +181,10 @@ def failures(plan: Plan) -> None:
     word = "cbrowse: there is no word under the cursor; name one after the command"
     plan.add("CbrowseDefine", word)
     plan.add("CbrowseLeftOut", "cbrowse: no file is left out")
-    odd = "call mkdir('odd') | for i in range(500) | call writefile([''], printf('odd/a %d.c', i)) | endfor"
+    files = (
+        "call mkdir('{}') | for i in range({}) | call writefile(['{}'], printf('{}', i)) | endfor"
+    )
+    odd = files.format("odd", 500, "", "odd/a %d.c")
     plan.add(odd)
     plan.add("call writefile([repeat(' ', 1000001)], 'odd/large.h')")
     said = "cbrowse: left out: 500 bad name, 1 too large; :CbrowseLeftOut lists them"
@@ -193,7 +199,7 @@ def failures(plan: Plan) -> None:
         "cbrowse: no C files are here; :cd to their folder," " or name them after :CbrowseStart",
     )
     plan.add("cd ..")
-    many = "call mkdir('many') | for i in range(4200) | call writefile(['x;'], printf('many/%d.c', i)) | endfor"
+    many = files.format("many", 4200, "x;", "many/%d.c")
     plan.add(many)
     plan.add(
         "CbrowseStart many",

@@ -153,8 +153,8 @@ function! s:drop(name) abort
   endif
 endfunction
 
-" Whether the tags of a file would be very large. A line of n bytes has fewer than n / 2 definitions,
-" so few files are counted.
+" Whether the tags of a file would be very large. A line of n bytes has fewer than n / 2
+" definitions, so few files are counted.
 function! s:is_very_large(path, size) abort
   if get(g:, 'cbrowse_all', 0) || a:size <= 20000
     return 0
