@@ -29,7 +29,9 @@ from edits import TOP, edits
 WIDTH = 100
 # What is made, and what stands for any name.
 NOT_KEPT = re.compile(r"(^|/)(bin|out|NAME|CRATE|FOLDER|MODULE|FUNCTION)(/|$)|[A-Z]{3,}_|\.\.")
-FILE = re.compile(r"[\w./+-]*[\w+-]\.(?:rt|antt|py|sh|md|edit)\b(?!\.)|[\w./-]+/[\w-]+\.vim\b")
+FILE = re.compile(
+    r"(?<![\w$}/.-])[\w./+-]*[\w+-]\.(?:rt|antt|py|sh|md|edit)\b(?!\.)|[\w./-]+/[\w-]+\.vim\b"
+)
 FOLDER = re.compile(r"`([\w-]+(?:/[\w-]+)*/)`")
 
 

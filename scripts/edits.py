@@ -89,9 +89,11 @@ class Edit(NamedTuple):
     def function(self) -> Function | None:
         """The function whose body it breaks: of several changes the last in a body."""
         for file, old, _ in reversed(self.changes):
-            place = file.read_text().find(old)
-            around = [it for it in functions(file) if it.start <= place < it.end]
-            if place >= 0 and around:
+            place = file.read_text().find(old) if file.exists() else -1
+            around = (
+                [it for it in functions(file) if it.start <= place < it.end] if place >= 0 else []
+            )
+            if around:
                 return around[-1]
         return None
 
@@ -106,7 +108,7 @@ class Edit(NamedTuple):
             with_type = snake(f"{function.owner}_{function.name}").strip("_")
             return [function.name, with_type] if len(alike) == 1 else [with_type]
         file, old, _ = self.changes[-1]
-        text = file.read_text()
+        text = file.read_text() if file.exists() else ""
         form = CONSTANT if file.suffix == ".rt" else DEFINITION
         before = [it[1] for it in form.finditer(text, 0, text.find(old) + len(old))]
         return [snake(before[-1])] if before else []

@@ -51,9 +51,8 @@ endfor
 call writefile([json_encode(found)], $FOUND)
 qall!
 """
-# ends the process of the session
-PIDS = "split(system('pgrep -P ' .. getpid() .. ' -f line'))"
-KILL = f"call system('kill ' .. join({PIDS})) | sleep 300m"
+CHILDREN = "split(system('pgrep -P ' .. getpid() .. ' -f line'))"
+KILL = f"call system('kill ' .. join({CHILDREN})) | sleep 300m"
 
 
 class Step(NamedTuple):
@@ -181,10 +180,10 @@ def failures(plan: Plan) -> None:
     word = "cbrowse: there is no word under the cursor; name one after the command"
     plan.add("CbrowseDefine", word)
     plan.add("CbrowseLeftOut", "cbrowse: no file is left out")
-    files = (
-        "call mkdir('{}') | for i in range({}) | call writefile(['{}'], printf('{}', i)) | endfor"
+    odd = (
+        "call mkdir('odd') | for i in range(500)"
+        " | call writefile([''], printf('odd/a %d.c', i)) | endfor"
     )
-    odd = files.format("odd", 500, "", "odd/a %d.c")
     plan.add(odd)
     plan.add("call writefile([repeat(' ', 1000001)], 'odd/large.h')")
     said = "cbrowse: left out: 500 bad name, 1 too large; :CbrowseLeftOut lists them"
@@ -196,10 +195,13 @@ def failures(plan: Plan) -> None:
     plan.add("silent edit odd/large.h | silent write | messages clear")
     plan.add(
         "edit c.h | cd odd | CbrowseStart *.x",
-        "cbrowse: no C files are here; :cd to their folder," " or name them after :CbrowseStart",
+        "cbrowse: no C files are here; :cd to their folder, or name them after :CbrowseStart",
     )
     plan.add("cd ..")
-    many = files.format("many", 4200, "x;", "many/%d.c")
+    many = (
+        "call mkdir('many') | for i in range(4200)"
+        " | call writefile(['x;'], printf('many/%d.c', i)) | endfor"
+    )
     plan.add(many)
     plan.add(
         "CbrowseStart many",

@@ -285,7 +285,7 @@ class Session:
         try:
             self.change(load, name, text)
         except Refused as refused:
-            self.ended = b"cbrowse: %s: %s\n" % (name, str(refused).encode())
+            self.ended = b"cbrowse: %s: %s\n" % (told(name), str(refused).encode())
 
     def feed(self, data):
         """Reads commands, the last of them whole or at the end of the input."""
@@ -394,6 +394,14 @@ WRONG_WORDS, HELP = Outcome(b"", None, 2), Outcome(b"", None)
 FIELDS = (b"0", b"1", b"2", b"3", b"4", b"7", b"8")
 
 
+def told(name):
+    """A name as a message tells it: printable ASCII but the backslash, and \\xHH for the rest."""
+    return b"".join(
+        bytes([byte]) if 0x20 <= byte < 0x7F and byte != 0x5C else b"\\x%02x" % byte
+        for byte in name
+    )
+
+
 def is_text(word):
     return word.decode("utf-8", "ignore").encode() == word
 
@@ -413,7 +421,7 @@ def loaded(operands, files):
     """A session with the files of the command line, or the outcome where one is refused."""
     for name in operands:
         if name not in files:
-            return None, Outcome(b"", b"cbrowse: %s: cannot be read\n" % name, 1)
+            return None, Outcome(b"", b"cbrowse: %s: cannot be read\n" % told(name), 1)
     session = Session()
     for name in operands:
         session.operand(name, files[name])

@@ -8,7 +8,8 @@ The shells are asked as a user asks them: bash by its function, fish by `complet
 the tabulator in a terminal. After each program, and after each of its subcommands, exactly the
 options of its help are offered; after `cbrowse` its subcommands, after `find` the numbers of the
 fields, after `--format` its two values, and for a source folders and C files alone. A shell that is
-not here is passed over. The files have to be those that scripts/completions.py writes. """
+not here is passed over. The files have to be those that scripts/completions.py writes.
+"""
 
 from __future__ import annotations
 

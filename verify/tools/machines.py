@@ -1,15 +1,14 @@
 #!/usr/bin/env python3
-"""Runs editors/cbrowse-tree on more than one machine, by GNU parallel.
+"""Runs editors/cbrowse-tree on two machines, by GNU parallel: two logins over ssh to this one.
 
     make && verify/tools/machines.py
     verify/tools/machines.py --cbrowse PATH      or: CBROWSE=PATH verify/tools/machines.py
 
-The machines are two logins over ssh to this one. Their ssh servers have keys of their own, listen
-on this machine alone, and end with the script. What is made must be byte for byte what one
-`cbrowse` makes, or nothing:
+Two ssh servers of its own, with keys of their own, listen on this machine alone, and end with the
+script. What is made must be byte for byte what one `cbrowse` makes, or nothing:
 
-Logins     -S 2/:, a file of two logins, both with a shared tree and with --transfer, which sends
-           it; tags files, questions, and many questions.
+Logins     -S 2/:, a file of two logins, with a shared tree and with --transfer, which sends it;
+           tags files, questions, and many questions.
 Away       a server that ends, with its sessions, while it works: the other one does its parts.
 Gone       no server is left: the old tags file stays, and the status is 1.
 Traces     nothing is left in the temporary folders, here and there.

@@ -41,8 +41,8 @@ man -w cbrowse cbrowse-tree cbrowse-cscope cbrowse-graph | wc -l
 bash -c '. /usr/share/bash-completion/completions/cbrowse && complete -p cbrowse-tree'
 : >vimrc
 vim -u vimrc -i NONE -n -es -c CbrowseStart -c 'CbrowseDefine add' \\
-    -c 'call writefile([line(".")], "line")' -c 'help cbrowse-files' \\
-    -c 'call writefile([expand("%:t")], "help")' -c 'qall!' || true
+    -c 'call writefile([line(".")], "line")' \\
+    -c 'help cbrowse-files' -c 'call writefile([expand("%:t")], "help")' -c 'qall!' || true
 cat line help
 cd / && rm -r /tmp/used
 """

@@ -6,7 +6,8 @@ use Rattle.std.proofs.lemmas.Bool.Decides.{nat_tests}
 use Rattle.std.specs.Prelude.{min, nat_le, IsErr, Result}
 use Rattle.cb_desk.specs.declared.refusal.Refusal.{Refusal}
 use Rattle.cb_desk.specs.declared.refusal.Refusal.TheVariants.{UnknownCommand, LineTooLong, BadCount, InputEnded, BadName, NoSuchFile, FileExists, BadText, TooLarge, TooManyFiles, NoPattern, NoSuchDefinition, NoSuchLine, NothingWanted, NothingMarked, StackEmpty, NothingToUndo, NothingToRedo, HistoryFull, OutOfMemory, NoSuchField}
-use Rattle.cb_desk.specs.Desk.{Counts, CountsUpTo, IsBetween, bytes_in, counted}
+use Rattle.cb_scan.specs.Definitions.{facts_of}
+use Rattle.cb_desk.specs.Desk.{Counts, CountsUpTo, IsBetween, bytes_in, counted, definitions_in}
 use Rattle.cb_desk.specs.World.{File}
 
 module _ (limit : ℕ) where
@@ -85,6 +86,16 @@ module _ (old m all new : ℕ) (f : File) (rest : List File) (counts : counted m
   pub counts_bound : new ≤ 2 ^ 64 - 1
   counts_bound = subst (λ n. n ≤ 2 ^ 64 - 1) (sym is) (counted_bound m (length f.bytes))
 
+-- the definitions of one were counted, and those of the rest are to come
+pub finds_next : (n then all : ℕ) (f : File) (rest : List File) (some : ℕ) → counted n (definitions_in (f ∷ rest)) ≡ counted 0 all
+    → some ≡ length (facts_of f.bytes).defs → then ≡ counted n some → counted then (definitions_in rest) ≡ counted 0 all
+finds_next n then all f rest some finds is now =
+    ap (λ k. counted k (definitions_in rest)) (now ∙ ap (counted n) is)
+    ∙ counted_twice n (length (facts_of f.bytes).defs) (definitions_in rest) ∙ finds
+
+pub finds_bound : (n then some : ℕ) → then ≡ counted n some → then ≤ 2 ^ 64 - 1
+finds_bound n then some is = subst (λ k. k ≤ 2 ^ 64 - 1) (sym is) (counted_bound n some)
+
 -- ---- calls
 
 -- memory is refused to a call that has counted so many bytes, or no more than these
@@ -97,7 +108,7 @@ refused_after more old new r is fits counted =
 
 -- a refused call counts nothing
 module _ (m : ℕ) (fits : m ≤ 2 ^ 64 - 1) where
-  pub refused_counts : (more : ℕ) (r : Refusal) → Counts more m m (Err r)
+  pub refused_counts : (more : ℕ) (r : Refusal) → Counts {A = Unit {0}} more m m (Err r)
   refused_counts more UnknownCommand = refl
   refused_counts more LineTooLong = refl
   refused_counts more BadCount = refl

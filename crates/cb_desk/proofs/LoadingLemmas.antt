@@ -1,5 +1,5 @@
 -- Files that are loaded before they are shown.
-use Rattle.std.proofs.Common.{◌≡◌, ◌∙◌, ◌≤◌, ◌<◌, ◌+◌, ℕ, Bool, true, false, List, [], ◌∷◌, ◌++◌}
+use Rattle.std.proofs.Common.{◌≡◌, ◌≢◌, ◌∙◌, ◌≤◌, ◌<◌, ◌+◌, ℕ, Bool, true, false, List, [], ◌∷◌, ◌++◌}
 use Rattle.std.proofs.Common.{None, Ok, refl, sym, ap, subst, length, take, get_or, slice_set}
 use Rattle.std.proofs.Common.{arith, length-append, Option}
 use Rattle.std.proofs.Math.Seq.{take-length, get_or-append_seam, set-append_seam}
@@ -24,8 +24,9 @@ use Rattle.cb_tags.specs.Names.{is_file_name}
 use Rattle.cb_desk.specs.declared.limits.TheConstants.{MOST_CHANGES}
 use Rattle.cb_desk.specs.declared.refusal.Refusal.{Refusal}
 use Rattle.cb_desk.specs.declared.refusal.Refusal.TheVariants.{BadName, FileExists}
+use Rattle.cb_desk.specs.Desk.{counted}
 use Rattle.cb_desk.specs.Files.{load_refusal, loaded}
-use Rattle.cb_desk.specs.Timeline.{moved_on, new_timeline, redone}
+use Rattle.cb_desk.specs.Timeline.{moved_on, redone}
 use Rattle.cb_desk.specs.World.{IsValidWorld, World, has_file}
 use Rattle.cb_desk.specs.steps.Edits.{each}
 use Rattle.cb_desk.specs.steps.Loading.{AreLoaded, HasRoomToShow, just_room, loaded_numbers, loads_recorded}
@@ -66,23 +67,26 @@ none_loaded a hidden shown records names texts none is_shown is_records =
     subst (λ ss. AreLoaded a hidden ss records) (sym is_shown)
     (subst (λ rs. AreLoaded a hidden [] rs) (sym is_records) base)
 
-pub empty_list : {X : Type 0} (xs : List X) → length xs ≡ 0 → xs ≡ []
+empty_list : {X : Type 0} (xs : List X) → length xs ≡ 0 → xs ≡ []
 empty_list [] none = refl
 empty_list (x ∷ xs) none = absurd (omega (arith, none))
 
-pub nothing_loaded : (a : Archived) (hidden shown : List Shown) (records : List Turn)
-    → AreLoaded a hidden shown records → records ≡ []
-    → timeline_in (loads_recorded a shown records) ≡ new_timeline
-nothing_loaded a hidden shown records is none =
-    let s : shown ≡ [] = empty_list shown (is.files ∙ ap length none) in
-    λ i. timeline_in (loads_recorded a (s i) (none i))
+-- as many are loaded as there are changes
+loaded_length : (a : Archived) (hidden shown : List Shown) (records : List Turn) → AreLoaded a hidden shown records
+    → length shown ≡ length (timeline_in (loads_recorded a shown records)).past
+loaded_length a hidden shown records is = is.files ∙ sym (past_length (loads_recorded a shown records) (omega arith))
 
 pub some_past : (a : Archived) (hidden shown : List Shown) (records : List Turn)
-    → AreLoaded a hidden shown records → 1 ≤ length records
+    → AreLoaded a hidden shown records → shown ≢ []
     → (timeline_in (loads_recorded a shown records)).past ≡ [] → ⊥
 some_past a hidden shown records is some none =
-    let long = sym (past_length (loads_recorded a shown records) (omega arith)) ∙ ap length none in
-    absurd (omega (arith, some, long))
+    some (empty_list shown (loaded_length a hidden shown records is ∙ ap length none))
+
+-- each of them is shown once
+pub shown_turns : (a : Archived) (hidden shown : List Shown) (records : List Turn) → AreLoaded a hidden shown records
+    → (old new : ℕ) → new ≡ counted old (length shown)
+    → new ≡ counted old (length (timeline_in (loads_recorded a shown records)).past)
+shown_turns a hidden shown records is old new turned = turned ∙ ap (counted old) (loaded_length a hidden shown records is)
 
 pub below_most : (n : ℕ) → nat_le MOST_CHANGES n ≡ false → n < MOST_CHANGES
 below_most n few = grind (arith, few)

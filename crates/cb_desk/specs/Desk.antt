@@ -3,6 +3,7 @@
 use Rattle.std.specs.Prelude.{◌≡◌, ◌≤◌, ◌+◌, ◌-◌, ◌^◌, ℕ, Bool, min, List, [], ◌∷◌, length, filter}
 use Rattle.std.specs.Prelude.{map, Option, None, Some, Result, Ok, Err}
 use Rattle.std.specs.List.{list_any}
+use Rattle.cb_scan.specs.Definitions.{facts_of}
 use Rattle.cb_index.specs.Shelved.{Waiting}
 use Rattle.cb_desk.specs.declared.refusal.Refusal.{Refusal}
 use Rattle.cb_desk.specs.declared.refusal.Refusal.TheVariants.{OutOfMemory}
@@ -31,6 +32,11 @@ counted count more = min (count + more) (2 ^ 64 - 1)
 abbrev pub bytes_in : List File → ℕ
 bytes_in [] = 0
 bytes_in (f ∷ files) = length f.bytes + bytes_in files
+
+-- how many definitions files have
+abbrev pub definitions_in : List File → ℕ
+definitions_in [] = 0
+definitions_in (f ∷ files) = length (facts_of f.bytes).defs + definitions_in files
 
 -- a file has a mark
 abbrev pub is_marked : List Place → File → Bool
@@ -71,9 +77,13 @@ abbrev pub CountsUpTo : {A E : Type 0} → ℕ → ℕ → ℕ → Result A E �
 CountsUpTo more old new (Ok _) = new ≡ counted old more
 CountsUpTo more old new (Err _) = IsBetween old more new
 
--- a call that is done counts so many bytes, one that memory refuses no more than these, and one
--- that is refused for another reason none
-abbrev pub Counts : ℕ → ℕ → ℕ → Result (Unit {0}) Refusal → Type 0
+-- a call that memory refuses counts no more than so many bytes, and one that is refused for another
+-- reason none
+abbrev pub CountsRefused : ℕ → ℕ → ℕ → Refusal → Type 0
+CountsRefused more old new OutOfMemory = IsBetween old more new
+CountsRefused more old new _ = new ≡ old
+
+-- a call that is done counts so many bytes
+abbrev pub Counts : {A : Type 0} → ℕ → ℕ → ℕ → Result A Refusal → Type 0
 Counts more old new (Ok _) = new ≡ counted old more
-Counts more old new (Err OutOfMemory) = IsBetween old more new
-Counts more old new (Err _) = new ≡ old
+Counts more old new (Err r) = CountsRefused more old new r

@@ -39,6 +39,6 @@ pub record AreTurnsOf (v w : World) (old new : ℕ) : Type 0 where
   pub few : new ≤ counted old (2 + 2 * length (touched v w))
 
 -- a call that goes from one world to another; a refused one shows and hides nothing
-abbrev pub Turns : {E : Type 0} → (v w : World) → (old new : ℕ) → Result (Unit {0}) E → Type 0
+abbrev pub Turns : {A E : Type 0} → (v w : World) → (old new : ℕ) → Result A E → Type 0
 Turns v w old new (Ok _) = AreTurnsOf v w old new
 Turns v w old new (Err _) = new ≡ old

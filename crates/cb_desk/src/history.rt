@@ -70,8 +70,9 @@ impl History {
     pub(crate) fn loaded(present: Present, records: Vec<Record>) -> History
         requires { IsRecorded
             (record { kept = present; records = records.items; done = length records.items }) }
-        ensures { timeline_in result ≡ timeline_in
+        ensures timeline { timeline_in result ≡ timeline_in
             (record { kept = present; records = records.items; done = length records.items }) }
+        ensures turns { result.kept.turns ≡ present.turns }
     {
         let done = records.len();
         History {

@@ -9,6 +9,7 @@ ghost use Rattle.std.specs.Prelude.{
   false,
   length,
   nat_le,
+  IfErr,
   MatchResult,
   OnOk,
   vec_capacity,
@@ -16,7 +17,7 @@ ghost use Rattle.std.specs.Prelude.{
 ghost use Rattle.std.specs.List.{AllByRecursion};
 ghost use Rattle.cb_index.specs.Files.{AreAscending, IsThere};
 ghost use Rattle.cb_desk.specs.declared.limits.TheConstants.{MOST_CHANGES};
-ghost use Rattle.cb_desk.specs.Desk.{Counts};
+ghost use Rattle.cb_desk.specs.Desk.{Counts, counted};
 ghost use Rattle.cb_desk.specs.Files.{loaded};
 ghost use Rattle.cb_desk.specs.Step.{load};
 ghost use Rattle.cb_desk.specs.Timeline.{Changes, moved_on, new_timeline};
@@ -56,6 +57,7 @@ impl Model for Loading {
     ghost view = { λ l. record {
       timeline = timeline_in (loads_recorded l.shelf.archive l.shown.items l.records.items);
       meter = l.meter;
+      turns = l.shelf.turns;
     } };
 
     ghost invariant = { λ l. AreLoaded l.shelf.archive l.shelf.shown
@@ -80,6 +82,7 @@ fn make_room(
     ensures same_names { shelf.new.archive.names ≡ shelf.old.archive.names }
     ensures same_texts { shelf.new.archive.texts ≡ shelf.old.archive.texts }
     ensures same_shown { shelf.new.shown ≡ shelf.old.shown }
+    ensures same_turns { shelf.new.turns ≡ shelf.old.turns }
     ensures same_list { shown.new.items ≡ shown.old.items }
     ensures same_records { records.new.items ≡ records.old.items }
 {
@@ -99,7 +102,7 @@ fn make_room(
     }
 }
 
-/// Shows all files.
+/// Shows all files. Where there is none, it takes no memory.
 fn show(shelf: &mut Shelf, shown: &[Shown]) -> Result<(), AllocError>
     requires hidden { shelf.old.shown ≡ [] }
     requires there { AllByRecursion (IsThere shelf.old.archive) shown.now }
@@ -108,7 +111,14 @@ fn show(shelf: &mut Shelf, shown: &[Shown]) -> Result<(), AllocError>
     ensures names { shelf.new.archive.names ≡ shelf.old.archive.names }
     ensures texts { shelf.new.archive.texts ≡ shelf.old.archive.texts }
     ensures room { OnOk result (HasRoomToShow shelf.new shown.now) }
+    ensures turns { OnOk result
+        (shelf.new.turns ≡ counted shelf.old.turns (length shown.now)) }
+    ensures some { IfErr result (λ _. shown.now ≢ []) }
 {
+    let _counted = shelf.turns();
+    if shown.is_empty() {
+        return Ok(());
+    }
     let totals = totals_of(shelf.archive(), shown).ok_or(AllocError)?;
     let entries = u32::try_from(shown.len()).ok().ok_or(AllocError)?;
     let room = Room {
@@ -131,6 +141,7 @@ impl Loading {
     pub fn new(alloc: Global) -> Loading
         ensures timeline { result.timeline ≡ new_timeline }
         ensures meter { result.meter ≡ 0 }
+        ensures turns { result.turns ≡ 0 }
     {
         Loading {
             shelf: Shelf::new(alloc),
@@ -156,6 +167,7 @@ impl Loading {
             (loaded self.old.timeline.present name.items version))
             (λ _. self.new.timeline ≡ self.old.timeline) }
         ensures meter { self.new.meter ≡ self.old.meter }
+        ensures turns { self.new.turns ≡ self.old.turns }
     {
         let count = self.records.len() as u32;
         let one = Shown {
@@ -184,6 +196,7 @@ impl Loading {
         ensures timeline { Changes (load name.now bytes.items) self.old.timeline
             self.new.timeline result }
         ensures meter { Counts (length bytes.items) self.old.meter self.new.meter result }
+        ensures turns { self.new.turns ≡ self.old.turns }
     {
         let _counted = self.meter.read();
         let archive = self.shelf.archive();
@@ -200,10 +213,11 @@ impl Loading {
         Ok(())
     }
 
-    /// The desk of what is loaded.
+    /// The desk of what is loaded, each file of which is shown once.
     pub fn desk(self, alloc: Global) -> Result<Desk, AllocError>
         ensures { MatchResult result
-            (λ d. (d.timeline ≡ self.timeline) × (d.meter ≡ self.meter))
+            (λ d. (d.timeline ≡ self.timeline) × (d.meter ≡ self.meter)
+            × (d.turns ≡ counted self.turns (length self.timeline.past)))
             (λ _. self.timeline.past ≢ []) }
     {
         let Loading {
@@ -213,9 +227,6 @@ impl Loading {
             meter,
         } = self;
         let count = records.len() as u32;
-        if count == 0 {
-            return Ok(Desk::over(History::new(alloc), meter));
-        }
         show(&mut shelf, shown.as_slice())?;
         let present = Present::loaded(alloc, shelf, count);
         Ok(Desk::over(History::loaded(present, records), meter))

@@ -208,6 +208,7 @@ impl Present {
         ensures now { result.now
             ≡ record no_numbers { shown = shelf.shown; names = count; versions = count } }
         ensures archive { result.archive ≡ shelf.archive }
+        ensures turns { result.turns ≡ shelf.turns }
         ensures files { result.rooms.files ≡ shelf.entry_room }
         ensures defs { result.rooms.defs ≡ shelf.def_room }
         ensures uses { result.rooms.uses ≡ shelf.use_room }

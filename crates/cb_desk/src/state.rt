@@ -1,8 +1,8 @@
 //! The state of a session.
-ghost use Rattle.std.specs.Prelude.{◌≡◌, ◌≢◌, [], IfErr};
+ghost use Rattle.std.specs.Prelude.{◌≡◌, ◌≢◌, [], IfErr, IfOk};
 ghost use Rattle.std.specs.Option.{option_copied};
 ghost use Rattle.cb_desk.specs.Answer.{answer};
-ghost use Rattle.cb_desk.specs.Desk.{Counts, CountsUpTo, bytes_in, scanned};
+ghost use Rattle.cb_desk.specs.Desk.{Counts, CountsUpTo, bytes_in, counted, definitions_in, scanned};
 ghost use Rattle.cb_desk.specs.Models.{step_of};
 ghost use Rattle.cb_desk.specs.Settled.{AreTagsSettled, IsSettled};
 ghost use Rattle.cb_desk.specs.Tags.{tags};
@@ -50,17 +50,20 @@ impl Model for Desk {
     ghost invariant = { λ d. IsValidTimeline (timeline_in d.history) };
 }
 
-/// Scans files, and drops what is found.
-fn scan_files(alloc: Global, meter: &mut Meter, files: Files<'_>) -> Result<(), AllocError>
-    ensures { CountsUpTo (bytes_in files.entry) meter.old meter.new result }
+/// Scans files, and drops what is found: how many definitions that is, up to the greatest number.
+fn scan_files(alloc: Global, meter: &mut Meter, files: Files<'_>) -> Result<u64, AllocError>
+    ensures meter { CountsUpTo (bytes_in files.entry) meter.old meter.new result }
+    ensures found { IfOk result (λ found. found ≡ counted 0 (definitions_in files.entry)) }
 {
     let _counted = meter.read();
+    let mut found = 0u64;
     for (_, source) in files {
-        if scan(alloc, meter, source).is_err() {
-            return Err(AllocError);
+        match scan(alloc, meter, source) {
+            Ok(facts) => found = found.saturating_add(facts.defs().len() as u64),
+            Err(_) => return Err(AllocError),
         }
     }
-    Ok(())
+    Ok(found)
 }
 
 impl Desk {
@@ -81,6 +84,7 @@ impl Desk {
         requires { IsValidTimeline (timeline_in history) }
         ensures timeline { result.timeline ≡ timeline_in history }
         ensures meter { result.meter ≡ meter }
+        ensures turns { result.turns ≡ history.kept.turns }
     {
         Desk { history, meter }
     }

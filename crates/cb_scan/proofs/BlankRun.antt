@@ -39,7 +39,8 @@ unfolding Known blank_len
 run_is [] no_more other = refl
 run_is (b ∷ xs) no_more other = ⊎_elim (more (run_is xs)) none (cases_Bool (is_space b))
   where
-    more : (is_blank (get_or xs (prefix_len is_space xs) 0) ≡ false → (get_or xs (prefix_len is_space xs) 0 == 92) ≡ false
+    more : (is_blank (get_or xs (prefix_len is_space xs) 0) ≡ false → (get_or xs
+        (prefix_len is_space xs) 0 == 92) ≡ false
         → blank_len false xs ≡ prefix_len is_space xs)
         → is_space b ≡ true → blank_len false (b ∷ xs) ≡ prefix_len is_space (b ∷ xs)
     more rest is =

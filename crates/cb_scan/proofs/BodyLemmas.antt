@@ -439,8 +439,14 @@ module _ (text : List ℕ) (ts : List Token) where
   start_in_body : InBody ts 0 start
   unfolding depth head_start
   start_in_body = record {
-    at = record { depth_is = refl; linkage_is = refl; extern_is = refl; head_is = λ _. refl;
-                  empty_is = refl; opened_is = refl };
+    at = record {
+      depth_is = refl;
+      linkage_is = refl;
+      extern_is = refl;
+      head_is = λ _. refl;
+      empty_is = refl;
+      opened_is = refl;
+    };
     last_is = refl;
     deep = tt;
   }

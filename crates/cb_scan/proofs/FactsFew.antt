@@ -112,7 +112,13 @@ module _ (text : List ℕ) where
 
   lines-few : length (joined lines) ≤ length text
   lines-few =
-      omega (arith, tokens-few text (slice_split (λ (p : Piece). is_newline p.class) ps), split-few (λ (p : Piece). is_newline p.class) ps, length-pieces 0 text)
+      omega (
+        arith,
+        tokens-few text (slice_split (λ (p : Piece). is_newline p.class) ps),
+        split-few
+            (λ (p : Piece). is_newline p.class) ps,
+        length-pieces 0 text,
+      )
 
 -- ---- uses
 own-word-few : (l : List Token) → length (after_own_word l) ≤ length l
@@ -120,7 +126,7 @@ own-word-few [] = omega arith
 own-word-few (h ∷ []) = omega arith
 own-word-few (h ∷ o ∷ l) =
     elim (is_any_word o.role) as (λ b. length (cond b l (o ∷ l)) ≤ length (h ∷ o ∷ l))
-        [ true ↦ omega arith | false ↦ omega arith ]
+    [ true ↦ omega arith | false ↦ omega arith ]
 
 usable-few : (l : List Token) → length (usable l) ≤ length l
 usable-few l =
@@ -140,7 +146,13 @@ use_at text t = record { name = t.span; line = t.line; scope = scope text (piece
 pub uses-few : (text : List ℕ) → length (facts_of text).uses ≤ length text
 unfolding uses
 uses-few text =
-    omega (arith, length-map (flat_map used (lines text)) (use_at text), flat-below used used-few (lines text), lines-few text)
+    omega (
+      arith,
+      length-map (flat_map used (lines text)) (use_at text),
+      flat-below used used-few
+          (lines text),
+      lines-few text,
+    )
 
 -- ---- includes
 between-few : (start end line : ℕ) → length (header_between start end line) ≤ 1
@@ -152,8 +164,8 @@ string-few : (text : List ℕ) (t : Token) → length (string_header text t) ≤
 string-few text t =
     let few = between-few (t.span.start + 1) (t.span.end - 1) t.line in
     elim (is_closed (bytes_of text t.span)) as
-        (λ b. length (cond b (header_between (t.span.start + 1) (t.span.end - 1) t.line) []) ≤ 1)
-        [ true ↦ few | false ↦ omega arith ]
+    (λ b. length (cond b (header_between (t.span.start + 1) (t.span.end - 1) t.line) []) ≤ 1)
+    [ true ↦ few | false ↦ omega arith ]
 
 angle-few : (t : Token) (rest : List Token) → length (angle_header t rest) ≤ 1
 angle-few t rest = by_cases (find (λ (u : Token). is_mark greater u.role) rest)
@@ -165,7 +177,8 @@ angle-few t rest = by_cases (find (λ (u : Token). is_mark greater u.role) rest)
 
 header-few : (text : List ℕ) (t : Token) (rest : List Token) → length (header_of text t rest) ≤ 1
 header-few text t rest =
-    elim (is_str t.role) as (λ b. length (cond b (string_header text t) (cond (is_mark less t.role) (angle_header t rest) [])) ≤ 1) [
+    elim (is_str t.role) as (λ b. length
+    (cond b (string_header text t) (cond (is_mark less t.role) (angle_header t rest) [])) ≤ 1) [
       | true ↦ string-few text t
       | false ↦ elim (is_mark less t.role) as (λ b. length (cond b (angle_header t rest) []) ≤ 1)
           [ true ↦ angle-few t rest | false ↦ omega arith ]
@@ -178,8 +191,8 @@ include-few text (h ∷ o ∷ []) = omega arith
 include-few text (h ∷ o ∷ t ∷ rest) =
     let few = header-few text t rest in
     elim (has_kind kind_is_include o.role) as
-        (λ b. length (cond b (header_of text t rest) []) ≤ length (h ∷ o ∷ t ∷ rest))
-        [ true ↦ omega (arith, few) | false ↦ omega arith ]
+    (λ b. length (cond b (header_of text t rest) []) ≤ length (h ∷ o ∷ t ∷ rest))
+    [ true ↦ omega (arith, few) | false ↦ omega arith ]
 
 abbrev scoped : List ℕ → Include → Include
 scoped text i = record i { scope = scope text (pieces text) i.header.start }
@@ -220,7 +233,8 @@ module _ (ts : List Token) where
 
   ends-below : (k : ℕ) → k < length ts → AllByRecursion (λ (f : Function). f.end ≤ length ts) (function_at ts k)
   ends-below k within =
-      elim (is_counted ts k && depth ts k == 0) as (λ b. AllByRecursion (λ (f : Function). f.end ≤ length ts) (cond b (function_from ts k (signature ts k)) [])) [
+      elim (is_counted ts k && depth ts k == 0) as (λ b. AllByRecursion
+      (λ (f : Function). f.end ≤ length ts) (cond b (function_from ts k (signature ts k)) [])) [
         | true ↦ from-ends k within (signature ts k)
         | false ↦ tt
       ]
@@ -231,7 +245,7 @@ module _ (ts : List Token) where
   all-ends k zero within = tt
   all-ends k (suc n) within =
       all-append (λ (f : Function). f.end ≤ length ts) (function_at ts k)
-          (flat_map (function_at ts) (range_with_len (k + 1) n))
+      (flat_map (function_at ts) (range_with_len (k + 1) n))
       (ends-below k (omega (arith, within))) (all-ends (k + 1) n (omega (arith, within)))
 
   from-one : (k : ℕ) (s : Option Signature) → length (function_from ts k s) ≤ 1
@@ -242,17 +256,22 @@ module _ (ts : List Token) where
   function-one k =
       let few = from-one k (signature ts k) in
       elim (is_counted ts k && depth ts k == 0) as
-          (λ b. length (cond b (function_from ts k (signature ts k)) []) ≤ 1)
-          [ true ↦ few | false ↦ omega arith ]
+      (λ b. length (cond b (function_from ts k (signature ts k)) []) ≤ 1)
+      [ true ↦ few | false ↦ omega arith ]
 
   call-one : (caller : Span) (k : ℕ) → length (call_at ts caller k) ≤ 1
   call-one caller k =
       elim (is_call (token_at ts k) (token_at ts (suc k))) as
-          (λ b. length (cond b (call_of caller (token_at ts k) ∷ []) []) ≤ 1)
-          [ true ↦ omega arith | false ↦ omega arith ]
+      (λ b. length (cond b (call_of caller (token_at ts k) ∷ []) []) ≤ 1)
+      [ true ↦ omega arith | false ↦ omega arith ]
 
   body-few : (f : Function) → f.end ≤ length ts → length (calls_of_function ts f) ≤ length ts
-  body-few f within = omega (arith, one-each (call_at ts f.name.span) (call-one f.name.span) f.body (f.end - f.body), within)
+  body-few f within = omega (
+    arith,
+    one-each (call_at ts f.name.span) (call-one f.name.span) f.body
+        (f.end - f.body),
+    within,
+  )
 
   bodies-few : (fs : List Function) → AllByRecursion (λ (f : Function). f.end ≤ length ts) fs
       → AllByRecursion (λ (f : Function). length (calls_of_function ts f) ≤ length ts) fs
@@ -265,7 +284,7 @@ module _ (ts : List Token) where
   function-calls-few : length (function_calls ts) ≤ length (functions ts) * length ts
   function-calls-few =
       flat-few (calls_of_function ts) (length ts) (functions ts)
-          (bodies-few (functions ts) (all-ends 0 (length ts) (omega arith)))
+      (bodies-few (functions ts) (all-ends 0 (length ts) (omega arith)))
 
 arguments-few : (l : List Token) → length (after_arguments l) ≤ length l
 unfolding after_arguments
@@ -273,8 +292,8 @@ arguments-few [] = omega arith
 arguments-few (t ∷ l) =
     let later = arguments-few l in
     elim (is_mark close_paren t.role) as
-        (λ b. length (cond b l (after_arguments l)) ≤ length (t ∷ l))
-        [ true ↦ omega arith | false ↦ omega (arith, later) ]
+    (λ b. length (cond b l (after_arguments l)) ≤ length (t ∷ l))
+    [ true ↦ omega arith | false ↦ omega (arith, later) ]
 
 among-few : (caller : Span) (l : List Token) → length (calls_among caller l) ≤ length l
 unfolding calls_among
@@ -282,7 +301,9 @@ among-few caller [] = omega arith
 among-few caller (t ∷ []) = omega arith
 among-few caller (t ∷ u ∷ l) =
     let later = among-few caller (u ∷ l) in
-    elim (is_call t u) as (λ b. length (cond b (call_of caller t ∷ calls_among caller (u ∷ l)) (calls_among caller (u ∷ l))) ≤ length (t ∷ u ∷ l)) [
+    elim (is_call t u) as (λ b. length
+    (cond b (call_of caller t ∷ calls_among caller (u ∷ l))
+    (calls_among caller (u ∷ l))) ≤ length (t ∷ u ∷ l)) [
       | true ↦ omega (arith, later)
       | false ↦ omega (arith, later)
     ]
@@ -298,8 +319,10 @@ macro-few (h ∷ o ∷ n ∷ []) = omega arith
 macro-few (h ∷ o ∷ n ∷ p ∷ l) =
     let body = among-few n.span (after_arguments l) in
     let rest = arguments-few l in
-    elim (defines_macro o n p) as (λ b. length (flat_map calls_in_macro (cond b ((record { name = n;
-        body = after_arguments l }) ∷ []) [])) ≤ length (h ∷ o ∷ n ∷ p ∷ l)) [
+    elim (defines_macro o n p) as (λ b. length (flat_map calls_in_macro (cond b ((record {
+      name = n;
+      body = after_arguments l;
+    }) ∷ []) [])) ≤ length (h ∷ o ∷ n ∷ p ∷ l)) [
       | true ↦ omega (arith, length-append (calls_among n.span (after_arguments l)) [], body, rest)
       | false ↦ omega arith
     ]
@@ -308,7 +331,15 @@ macros-few : (ls : List (List Token)) → length (flat_map calls_in_macro (flat_
 macros-few [] = omega arith
 macros-few (l ∷ ls) =
     let e = ap length (flat_map-append calls_in_macro (macro_of l) (flat_map macro_of ls)) in
-    omega (arith, e, length-append (flat_map calls_in_macro (macro_of l)) (flat_map calls_in_macro (flat_map macro_of ls)), length-append l (joined ls), macro-few l, macros-few ls)
+    omega (
+      arith,
+      e,
+      length-append (flat_map calls_in_macro (macro_of l))
+          (flat_map calls_in_macro (flat_map macro_of ls)),
+      length-append l (joined ls),
+      macro-few l,
+      macros-few ls,
+    )
 
 square : (a b n : ℕ) → a ≤ n → b ≤ n → a * b ≤ n * n
 square a b n = grind arith
@@ -319,7 +350,7 @@ unfolding calls
 calls-few text =
     let ts = code text (ps text) in
     let few = square (length (functions ts)) (length ts) (length text)
-        (omega (arith, functions-few ts, code-few text)) (code-few text) in
+    (omega (arith, functions-few ts, code-few text)) (code-few text) in
     omega (
       arith,
       length_in_order call_key (function_calls ts ++ macro_calls (macros text (ps text))),

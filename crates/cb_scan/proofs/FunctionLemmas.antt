@@ -250,5 +250,11 @@ from ts k m (t ∷ rest) left at =
 pub defs_from_start : (ts : List Token) → defs_from start ts ≡ map function_def (functions ts)
 unfolding depth head_start
 defs_from_start ts = from ts 0 start ts refl
-    (record { depth_is = refl; linkage_is = refl; extern_is = refl; head_is = λ _. refl;
-        empty_is = refl; opened_is = refl })
+    (record {
+      depth_is = refl;
+      linkage_is = refl;
+      extern_is = refl;
+      head_is = λ _. refl;
+      empty_is = refl;
+      opened_is = refl;
+    })

@@ -244,7 +244,8 @@ names_rise_from ts k (suc n) r =
         rising-join _ _
         (one_rises ts k (all_some ts r))
         later
-        (named_before (Behind ts k n) ts k (all-drop (Behind ts k n) (head_start ts k) (take k ts) (each_before ts k n is parts.2))
+        (named_before (Behind ts k n) ts k (all-drop (Behind ts k n) (head_start ts k) (take k ts)
+        (each_before ts k n is parts.2))
         (earlier (Behind ts k n) (each_before ts k n is parts.2)))
       where
         earlier : (P : Token → Type 0) → AllByRecursion P (take k ts) → AllOfAll P (segments ts k)

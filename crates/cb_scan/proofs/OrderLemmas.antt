@@ -140,7 +140,7 @@ module _ {X : Type 0} (key : X → List ℕ) where
   put_sum f x [] = sum_by-cons f x []
   put_sum f x (y ∷ ys) =
       elim (goes_first key x y) as
-          (λ b. sum_by f (cond b (x ∷ y ∷ ys) (y ∷ put key x ys)) ≡ f x + (f y + sum_by f ys)) [
+      (λ b. sum_by f (cond b (x ∷ y ∷ ys) (y ∷ put key x ys)) ≡ f x + (f y + sum_by f ys)) [
         | true ↦ sum_by-cons f x (y ∷ ys) ∙ ap (λ n. f x + n) (sum_by-cons f y ys)
         | false ↦ omega (arith, put_sum f x ys, sum_by-cons f y (put key x ys))
       ]

@@ -273,8 +273,17 @@ pub typedefs_from_start : (ts : List Token) → typedefs_from start None [] ts �
 unfolding depth head_start
 typedefs_from_start ts =
     typedefs_are ts 0 start None [] ts refl
-    (record { at = record { depth_is = refl; linkage_is = refl; extern_is = refl;
-        head_is = λ _. refl; empty_is = refl; opened_is = refl }; empty_is = refl })
+    (record {
+      at = record {
+        depth_is = refl;
+        linkage_is = refl;
+        extern_is = refl;
+        head_is = λ _. refl;
+        empty_is = refl;
+        opened_is = refl;
+      };
+      empty_is = refl;
+    })
 
 -- the same as definitions
 defs_are : (m : Machine) (s : Option Declaration) (pending ts : List Token)

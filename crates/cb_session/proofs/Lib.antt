@@ -1,4 +1,5 @@
 pub mod Blocks
+pub mod CutShort
 pub mod FirstInputs
 pub mod Follows
 pub mod Loading
@@ -12,4 +13,5 @@ pub mod Running
 pub mod Shown
 pub mod Streams
 pub mod Told
+pub mod Unread
 pub mod Words

@@ -1,11 +1,18 @@
 -- Loads one after another.
-use Rattle.std.proofs.Common.{◌≡◌, ◌≤◌, ◌+◌, ℕ, Bool, true, false, List, [], ◌∷◌, length, Result, Ok, Err, IsOk, refl, ap, ◌∙◌, arith, sym, subst}
+use Rattle.std.proofs.Common.{◌≡◌, ◌≤◌, ◌+◌, ◌-◌, ◌^◌, ℕ, Bool, true, false, List, [], ◌∷◌, length, Result, Ok, Err, IsOk, refl, ap, ◌∙◌, arith, sym, subst}
 use Rattle.cb_desk.specs.declared.refusal.Refusal.{Refusal}
 use Rattle.cb_desk.specs.declared.refusal.Refusal.TheVariants.{OutOfMemory}
 use Rattle.cb_desk.specs.World.{File, World}
 use Rattle.cb_desk.specs.Step.{load, step}
 use Rattle.cb_desk.specs.Timeline.{Timeline, Changes, judged, changed, new_timeline}
-use Rattle.cb_session.specs.Operands.{RefusedOperand, Loads, all_loaded, first_loaded, first_refused, memory_refused}
+use Rattle.cb_desk.specs.Desk.{Counts, bytes_in, counted}
+use Rattle.cb_desk.specs.steps.Loading.{Loaded}
+use Rattle.cb_desk.proofs.Counted.{counted_bound, counted_none, counted_twice}
+use Rattle.cb_session.specs.declared.input.Ended.{Ended}
+use Rattle.cb_session.specs.declared.input.Ended.TheVariants.{Done, Cut, Fault, Operand as StoppedAt}
+use Rattle.cb_session.specs.Operands.{RefusedOperand, Loads, Prepares, all_loaded, first_loaded, first_refused, memory_refused}
+use Rattle.cb_session.specs.States.{State}
+use Rattle.cb_session.specs.steps.Starts.{Starts}
 use Rattle.cb_desk.proofs.Moves.{advanced-Ok}
 
 -- a load that was made is as it was meant
@@ -61,7 +68,7 @@ module _ (place : ℕ) (start t u : Timeline) (all left rest : List File) (f : F
       let changes : Changes (load f.name f.bytes) t u (Err r) = subst (λ n. Changes (load n f.bytes) t u (Err r)) named done in
       goes (Err (record { place = place; why = r })) (subst (λ fs. Loads place t fs (Err (record { place = place; why = r }))) (sym first) (refused place t u f rest r changes))
 
-pub ends : (place : ℕ) (start t u : Timeline) (all left : List File) → Goes place start t all left → length left ≡ 0 → u ≡ t → Loads 0 start all (Ok u)
+ends : (place : ℕ) (start t u : Timeline) (all left : List File) → Goes place start t all left → length left ≡ 0 → u ≡ t → Loads 0 start all (Ok u)
 ends place start t u all [] goes none same = subst (λ v. Loads 0 start all (Ok v)) (sym same) (goes (Ok t) all_loaded)
 ends place start t u all (f ∷ fs) goes none same = absurd (omega (arith, none))
 
@@ -91,7 +98,7 @@ last_of_all place t u f (g ∷ fs) end is (first_loaded {u = v} made rest) n e =
 last_of_all place t u f fs end is (first_refused why) n e = cc
 last_of_all place t u f fs end is (memory_refused would) n e = cc
 
-pub last_refused : (u : Timeline) (all : List File) (n : ℕ) → Loads 0 new_timeline all (Ok u) → n + 1 ≡ length u.past
+last_refused : (u : Timeline) (all : List File) (n : ℕ) → Loads 0 new_timeline all (Ok u) → n + 1 ≡ length u.past
     → Loads 0 new_timeline all (Err (record { place = n; why = OutOfMemory }))
 last_refused u [] n loads long =
     let none = past_of_all 0 new_timeline u [] (Ok u) refl loads in
@@ -100,6 +107,46 @@ last_refused u (f ∷ fs) n loads long =
     let count = past_of_all 0 new_timeline u (f ∷ fs) (Ok u) refl loads in
     last_of_all 0 new_timeline u f fs (Ok u) refl loads n (omega (arith, count, long))
 
-pub long_past : (ws : List World) → (ws ≡ [] → ⊥) → 1 ≤ length ws
+long_past : (ws : List World) → (ws ≡ [] → ⊥) → 1 ≤ length ws
 long_past [] some = absurd (some refl)
 long_past (w ∷ ws) some = omega arith
+
+-- ---- what the loads scan
+
+-- a load that was made has scanned its text
+pub scans_next : (m n : ℕ) (all left : List File) (f : File) (rest : List File) (x : Unit {0}) → left ≡ f ∷ rest
+    → counted m (bytes_in left) ≡ counted 0 (bytes_in all) → Counts {A = Unit {0}} (length f.bytes) m n (Ok x)
+    → counted n (bytes_in rest) ≡ counted 0 (bytes_in all)
+scans_next m n all left f rest x first so_far is =
+    ap (λ k. counted k (bytes_in rest)) is ∙ counted_twice m (length f.bytes) (bytes_in rest)
+    ∙ ap (λ fs. counted m (bytes_in fs)) (sym first) ∙ so_far
+
+pub scans_bound : (m n : ℕ) (f : File) (x : Unit {0}) → Counts {A = Unit {0}} (length f.bytes) m n (Ok x) → n ≤ 2 ^ 64 - 1
+scans_bound m n f x is = subst (λ k. k ≤ 2 ^ 64 - 1) (sym is) (counted_bound m (length f.bytes))
+
+-- all loads are made, and then they are shown
+no_files : (fs : List File) → length fs ≡ 0 → fs ≡ []
+no_files [] none = refl
+no_files (f ∷ fs) none = absurd (omega (arith, none))
+
+pub starts_all : (l : Loaded) (place : ℕ) (all left : List File) (r : Result State Ended)
+    → Goes place new_timeline l.timeline all left → length left ≡ 0 → place ≡ length l.timeline.past
+    → counted l.meter (bytes_in left) ≡ counted 0 (bytes_in all) → l.meter ≤ 2 ^ 64 - 1 → l.turns ≡ 0
+    → Starts l place r → Prepares all r
+starts_all l place all left (Ok s) goes none placed scanned fits hidden is =
+    let loads : Loads 0 new_timeline all (Ok s.timeline) = ends place new_timeline l.timeline s.timeline all left goes none is.0 in
+    let many : length s.timeline.past ≡ 0 + length all = past_of_all 0 new_timeline s.timeline all (Ok s.timeline) refl loads in
+    let same : length s.timeline.past ≡ length l.timeline.past = ap (λ (t : Timeline). length t.past) is.0 in
+    let count : place ≡ length all = omega (arith, many, same, placed) in (
+      loads,
+      is.1 ∙ sym (counted_none l.meter fits) ∙ ap (λ fs. counted l.meter (bytes_in fs)) (sym (no_files left none)) ∙ scanned,
+      is.2 ∙ (λ i. counted (hidden i) (count i)),
+    )
+starts_all l place all left (Err (StoppedAt at why)) goes none placed scanned fits hidden is =
+    let last = is.0 in
+    let loads : Loads 0 new_timeline all (Err (record { place = at; why = OutOfMemory })) =
+    last_refused l.timeline all at (ends place new_timeline l.timeline l.timeline all left goes none refl) (omega (arith, last, placed)) in
+    subst (λ w. Loads 0 new_timeline all (Err (record { place = at; why = w }))) (sym is.1) loads
+starts_all l place all left (Err Done) goes none placed scanned fits hidden is = absurd is
+starts_all l place all left (Err Cut) goes none placed scanned fits hidden is = absurd is
+starts_all l place all left (Err (Fault fault)) goes none placed scanned fits hidden is = absurd is

@@ -6,7 +6,9 @@ use Rattle.cb_desk.specs.declared.refusal.Refusal.TheVariants.{OutOfMemory}
 use Rattle.cb_desk.specs.declared.rows.Field.{Field}
 use Rattle.cb_desk.specs.declared.rows.Field.TheVariants.{Text}
 use Rattle.cb_session.specs.declared.input.Fault.{Fault}
+use Rattle.cb_desk.specs.Desk.{Counts, CountsRefused, bytes_in, scanned}
 use Rattle.cb_desk.specs.Timeline.{Timeline, Moves, Changes, judged, changed, undone, redone}
+use Rattle.cb_desk.specs.Turns.{Turns}
 use Rattle.cb_desk.specs.Step.{Step, step, load, reload, unload, rename, want, mark, mark_all, replace, tag, pop}
 use Rattle.cb_desk.specs.World.{World}
 use Rattle.std.specs.Borrow.{Bor}
@@ -15,8 +17,7 @@ use Rattle.cb_desk.specs.declared.change.Change.TheVariants.{Load, Reload, Unloa
 use Rattle.cb_desk.specs.declared.change.Change.TheVariants.{Mark, MarkAll, Replace, Tag as TagOf}
 use Rattle.cb_desk.specs.declared.change.Change.TheVariants.{Pop}
 use Rattle.cb_desk.specs.Models.{step_of}
-use Rattle.cb_desk.specs.Answer.{AnswerRow, answer}
-use Rattle.cb_tags.specs.TagLines.{Tag}
+use Rattle.cb_desk.specs.Answer.{answer}
 use Rattle.std.specs.Prelude.{IfErr}
 use Rattle.cb_tags.specs.Writers.{Writer}
 use Rattle.cb_desk.specs.declared.tags.Format.{Format}
@@ -24,6 +25,7 @@ use Rattle.cb_desk.specs.declared.tags.Format.TheVariants.{Extended}
 use Rattle.cb_session.specs.Requests.{Request, query, change, undo, redo, rebuild, tags_file}
 use Rattle.cb_session.specs.Requests.{listing, marks, stack, refused, nothing, quit}
 use Rattle.cb_session.specs.Serving.{Does}
+use Rattle.cb_session.specs.States.{State}
 use Rattle.cb_session.specs.steps.Rounds.{move_line}
 use Rattle.cb_session.specs.Output.{moved, done_line, change_reply, outcome, refused_line}
 use Rattle.cb_session.specs.Output.{answer_lines, tags_reply, listing_reply}
@@ -42,102 +44,201 @@ moves reply meant old new (Err r) p = (
   ap (λ m. (moved old reply m).reply) (sym p.0),
 )
 
-Does-moved : {A : Type 0} (reply : World → List ℕ) (meant : Result Timeline Refusal)
-    (old new : Timeline) (r : Result (Unit {0}) Refusal) (out out' : Writer)
-    (result : Result A Fault)
-    → Moves meant old new r → Puts out out' result (move_line (reply new.present) r)
-    → Does (moved old reply meant) new out out' result
-Does-moved reply meant old new r out out' result p q =
-    let m = moves reply meant old new r p in
-    (m.0, subst (λ l. Puts out out' result l) m.1 q)
+-- a move that is done or refused counts as it was meant
+counts_meant : (more m n : ℕ) (meant : Result Timeline Refusal) (old new : Timeline) (r : Result (Unit {0}) Refusal)
+    → Moves meant old new r → Counts more m n r → Counts more m n meant
+counts_meant more m n meant old new (Ok x) p c = subst (Counts more m n) (sym p) c
+counts_meant more m n meant old new (Err q) p c = subst (Counts more m n) (sym p.0) c
+
+turns_meant : (v w : World) (m n : ℕ) (meant : Result Timeline Refusal) (old new : Timeline) (r : Result (Unit {0}) Refusal)
+    → Moves meant old new r → Turns v w m n r → Turns v w m n meant
+turns_meant v w m n meant old new (Ok x) p c = subst (Turns v w m n) (sym p) c
+turns_meant v w m n meant old new (Err q) p c = subst (Turns v w m n) (sym p.0) c
+
+-- what is done from the state of the desk is done from that of the session
+abbrev IsDone : {A : Type 0} → State → Request → State → Writer → Writer → Result A Fault → Type 0
+IsDone start e new out out' result = (out_of_memory : Bool) × Does out_of_memory start e new out out' result
+
+done_from : {A : Type 0} (start old new : State) (e asked : Request) (out out' : Writer) (result : Result A Fault)
+    → old ≡ start → e ≡ asked → IsDone old asked new out out' result → IsDone start e new out out' result
+done_from start old new e asked out out' result same h p =
+    subst (λ v. IsDone v e new out out' result) same (subst (λ x. IsDone old x new out out' result) (sym h) p)
 
 -- each kind of request is done
-pub Does-change : {A : Type 0} (start old new : Timeline) (e : Request) (s : Step)
+pub Does-change : {A : Type 0} (start old new : State) (e : Request) (s : Step)
     (r : Result (Unit {0}) Refusal) (out out' : Writer) (result : Result A Fault)
-    → old ≡ start → e ≡ change s → Changes s old new r
-    → Puts out out' result (move_line (change_reply s new.present) r)
-    → (out_of_memory : Bool) × Does (outcome out_of_memory start e) new out out' result
+    → old ≡ start → e ≡ change s → Changes s old.timeline new.timeline r
+    → Counts (scanned old.timeline.present s) old.meter new.meter r
+    → Turns old.timeline.present new.timeline.present old.turns new.turns r
+    → Puts out out' result (move_line (change_reply s new.timeline.present) r)
+    → (out_of_memory : Bool) × Does out_of_memory start e new out out' result
 unfolding outcome
-Does-change start old new e s r out out' result same h p q =
-    subst (λ v. (out_of_memory : Bool) × Does (outcome out_of_memory v e) new out out' result) same
-    (subst (λ x. (out_of_memory : Bool) × Does (outcome out_of_memory old x) new out out' result) (sym h)
-    (p.0, Does-moved (change_reply s) (judged p.0 s (changed old s)) old new r out out' result p.1 q))
-
-pub Does-undo : {A : Type 0} (start old new : Timeline) (e : Request)
-    (r : Result (Unit {0}) Refusal) (out out' : Writer) (result : Result A Fault)
-    → old ≡ start → e ≡ undo → Moves (undone old) old new r
-    → Puts out out' result (move_line done_line r)
-    → (out_of_memory : Bool) × Does (outcome out_of_memory start e) new out out' result
-unfolding outcome
-Does-undo start old new e r out out' result same h p q =
-    subst (λ v. (out_of_memory : Bool) × Does (outcome out_of_memory v e) new out out' result) same
-    (subst (λ x. (out_of_memory : Bool) × Does (outcome out_of_memory old x) new out out' result) (sym h)
-    (false, Does-moved (λ _. done_line) (undone old) old new r out out' result p q))
-
-pub Does-redo : {A : Type 0} (start old new : Timeline) (e : Request)
-    (r : Result (Unit {0}) Refusal) (out out' : Writer) (result : Result A Fault)
-    → old ≡ start → e ≡ redo → Moves (redone old) old new r
-    → Puts out out' result (move_line done_line r)
-    → (out_of_memory : Bool) × Does (outcome out_of_memory start e) new out out' result
-unfolding outcome
-Does-redo start old new e r out out' result same h p q =
-    subst (λ v. (out_of_memory : Bool) × Does (outcome out_of_memory v e) new out out' result) same
-    (subst (λ x. (out_of_memory : Bool) × Does (outcome out_of_memory old x) new out out' result) (sym h)
-    (false, Does-moved (λ _. done_line) (redone old) old new r out out' result p q))
-
-pub Does-rebuild : {A : Type 0} (start old new : Timeline) (e : Request)
-    (r : Result (Unit {0}) Refusal) (out out' : Writer) (result : Result A Fault)
-    → old ≡ start → e ≡ rebuild → new ≡ old → IfErr r (λ x. x ≡ OutOfMemory)
-    → Puts out out' result (move_line done_line r)
-    → (out_of_memory : Bool) × Does (outcome out_of_memory start e) new out out' result
-unfolding outcome
-Does-rebuild start old new e (Ok x) out out' result same h stays memory p =
-    subst (λ x. (out_of_memory : Bool) × Does (outcome out_of_memory start x) new out out' result)
-    (sym h) (false, (stays ∙ same, p))
-Does-rebuild start old new e (Err x) out out' result same h stays memory p =
-    subst (λ y. (out_of_memory : Bool) × Does (outcome out_of_memory start y) new out out' result) (sym h)
-    (true, (stays ∙ same, subst (λ l. Puts out out' result l) (ap refused_line memory) p))
-
-pub Does-stack : {A : Type 0} (t desk : Timeline) (e : Request) (out out' : Writer) (result : Result A Fault)
-    → desk ≡ t → e ≡ stack → Puts out out' result (answer_lines (stack_rows desk.present))
-    → (out_of_memory : Bool) × Does (outcome out_of_memory t e) t out out' result
-unfolding outcome
-Does-stack t desk e out out' result same h p =
-    subst (λ x. (out_of_memory : Bool) × Does (outcome out_of_memory t x) t out out' result) (sym h)
-    (false, (refl, subst (λ v. Puts out out' result (answer_lines (stack_rows v.present))) same p))
-
-pub Does-query : {A : Type 0} (t desk : Timeline) (e : Request) (field : Field) (pattern : List ℕ)
-    (rows : List AnswerRow) (out out' : Writer) (result : Result A Fault)
-    → desk ≡ t → e ≡ query field pattern → rows ≡ answer desk.present field pattern
-    → Puts out out' result (answer_lines rows)
-    → (out_of_memory : Bool) × Does (outcome out_of_memory t e) t out out' result
-unfolding outcome
-Does-query t desk e field pattern rows out out' result same h is p =
-    subst (λ x. (out_of_memory : Bool) × Does (outcome out_of_memory t x) t out out' result)
-    (sym h) (
-      false,
+Does-change start old new e s r out out' result same h p scans shows q =
+    let meant = judged p.0 s (changed old.timeline s) in
+    let m = moves (change_reply s) meant old.timeline new.timeline r p.1 in
+    done_from start old new e (change s) out out' result same h (
+      p.0,
       (
-        refl,
-        subst (λ l. Puts out out' result l)
-            (ap answer_lines is ∙ ap (λ v. answer_lines (answer v.present field pattern)) same) p,
+        record {
+          moves = m.0;
+          scans = counts_meant (scanned old.timeline.present s) old.meter new.meter meant old.timeline new.timeline r p.1 scans;
+          shows = turns_meant old.timeline.present new.timeline.present old.turns new.turns meant old.timeline new.timeline r p.1 shows;
+        },
+        subst (λ l. Puts out out' result l) m.1 q,
       ),
     )
 
--- what is put in order on the way leaves all as it is
-pub Does-still : {A : Type 0} (t new : Timeline) (e : Request) (out out' : Writer)
-    (result : Result A Fault) (start : Timeline)
-    → new ≡ t → (out_of_memory : Bool) × Does (outcome out_of_memory start e) t out out' result
-    → (out_of_memory : Bool) × Does (outcome out_of_memory start e) new out out' result
-Does-still t new e out out' result start same is =
-    subst (λ n. (out_of_memory : Bool) × Does (outcome out_of_memory start e) n out out' result) (sym same) is
-
-pub Does-marks : {A : Type 0} (t desk : Timeline) (e : Request) (out out' : Writer) (result : Result A Fault)
-    → desk ≡ t → e ≡ marks → Puts out out' result (answer_lines (mark_rows desk.present))
-    → (out_of_memory : Bool) × Does (outcome out_of_memory t e) t out out' result
+pub Does-undo : {A : Type 0} (start old new : State) (e : Request)
+    (r : Result (Unit {0}) Refusal) (out out' : Writer) (result : Result A Fault)
+    → old ≡ start → e ≡ undo → Moves (undone old.timeline) old.timeline new.timeline r → new.meter ≡ old.meter
+    → Turns old.timeline.present new.timeline.present old.turns new.turns r
+    → Puts out out' result (move_line done_line r)
+    → (out_of_memory : Bool) × Does out_of_memory start e new out out' result
 unfolding outcome
-Does-marks t desk e out out' result same h p =
-    subst (λ x. (out_of_memory : Bool) × Does (outcome out_of_memory t x) t out out' result) (sym h)
-    (false, (refl, subst (λ v. Puts out out' result (answer_lines (mark_rows v.present))) same p))
+Does-undo start old new e r out out' result same h p scans shows q =
+    let m = moves (λ _. done_line) (undone old.timeline) old.timeline new.timeline r p in
+    done_from start old new e undo out out' result same h (
+      false,
+      (
+        record {
+          moves = m.0;
+          scans = scans;
+          shows = turns_meant old.timeline.present new.timeline.present old.turns new.turns (undone old.timeline) old.timeline new.timeline r p shows;
+        },
+        subst (λ l. Puts out out' result l) m.1 q,
+      ),
+    )
+
+pub Does-redo : {A : Type 0} (start old new : State) (e : Request)
+    (r : Result (Unit {0}) Refusal) (out out' : Writer) (result : Result A Fault)
+    → old ≡ start → e ≡ redo → Moves (redone old.timeline) old.timeline new.timeline r → new.meter ≡ old.meter
+    → Turns old.timeline.present new.timeline.present old.turns new.turns r
+    → Puts out out' result (move_line done_line r)
+    → (out_of_memory : Bool) × Does out_of_memory start e new out out' result
+unfolding outcome
+Does-redo start old new e r out out' result same h p scans shows q =
+    let m = moves (λ _. done_line) (redone old.timeline) old.timeline new.timeline r p in
+    done_from start old new e redo out out' result same h (
+      false,
+      (
+        record {
+          moves = m.0;
+          scans = scans;
+          shows = turns_meant old.timeline.present new.timeline.present old.turns new.turns (redone old.timeline) old.timeline new.timeline r p shows;
+        },
+        subst (λ l. Puts out out' result l) m.1 q,
+      ),
+    )
+
+pub Does-rebuild : {A : Type 0} (start old new : State) (e : Request)
+    (r : Result (Unit {0}) Refusal) (out out' : Writer) (result : Result A Fault)
+    → old ≡ start → e ≡ rebuild → new.timeline ≡ old.timeline
+    → Counts (bytes_in old.timeline.present.files) old.meter new.meter r → new.turns ≡ old.turns
+    → IfErr r (λ x. x ≡ OutOfMemory) → Puts out out' result (move_line done_line r)
+    → (out_of_memory : Bool) × Does out_of_memory start e new out out' result
+unfolding outcome
+Does-rebuild start old new e (Ok x) out out' result same h stays scans shows memory p =
+    done_from start old new e rebuild out out' result same h
+    (false, (record { moves = stays; scans = scans; shows = shows }, p))
+Does-rebuild start old new e (Err x) out out' result same h stays scans shows memory p =
+    done_from start old new e rebuild out out' result same h (
+      true,
+      (
+        record {
+          moves = stays;
+          scans = subst (CountsRefused (bytes_in old.timeline.present.files) old.meter new.meter) memory scans;
+          shows = shows;
+        },
+        subst (λ l. Puts out out' result l) (ap refused_line memory) p,
+      ),
+    )
+
+-- a question leaves all as it is, whatever is put in order on the way
+pub Does-query : {A : Type 0} (start old new : State) (e : Request) (field : Field) (pattern : List ℕ)
+    (out out' : Writer) (result : Result A Fault)
+    → old ≡ start → e ≡ query field pattern → new.timeline ≡ old.timeline → new.meter ≡ old.meter → new.turns ≡ old.turns
+    → Puts out out' result (answer_lines (answer old.timeline.present field pattern))
+    → (out_of_memory : Bool) × Does out_of_memory start e new out out' result
+unfolding outcome
+Does-query start old new e field pattern out out' result same h stays scans shows p =
+    done_from start old new e (query field pattern) out out' result same h
+    (false, (record { moves = stays; scans = scans; shows = shows }, p))
+
+pub Does-tags : {A : Type 0} (start old new : State) (e : Request) (format : Format)
+    (out out' : Writer) (result : Result A Fault)
+    → old ≡ start → e ≡ tags_file format → new.timeline ≡ old.timeline → new.meter ≡ old.meter → new.turns ≡ old.turns
+    → Puts out out' result (tags_reply format (tags format old.timeline.present))
+    → (out_of_memory : Bool) × Does out_of_memory start e new out out' result
+unfolding outcome
+Does-tags start old new e format out out' result same h stays scans shows p =
+    done_from start old new e (tags_file format) out out' result same h
+    (false, (record { moves = stays; scans = scans; shows = shows }, p))
+
+pub Does-listing : {A : Type 0} (start old new : State) (e : Request)
+    (out out' : Writer) (result : Result A Fault)
+    → old ≡ start → e ≡ listing → new.timeline ≡ old.timeline → new.meter ≡ old.meter → new.turns ≡ old.turns
+    → Puts out out' result (listing_reply (tags Extended old.timeline.present))
+    → (out_of_memory : Bool) × Does out_of_memory start e new out out' result
+unfolding outcome
+Does-listing start old new e out out' result same h stays scans shows p =
+    done_from start old new e listing out out' result same h
+    (false, (record { moves = stays; scans = scans; shows = shows }, p))
+
+pub Does-marks : {A : Type 0} (s old : State) (e : Request) (out out' : Writer) (result : Result A Fault)
+    → old ≡ s → e ≡ marks → Puts out out' result (answer_lines (mark_rows old.timeline.present))
+    → (out_of_memory : Bool) × Does out_of_memory s e s out out' result
+unfolding outcome
+Does-marks s old e out out' result same h p =
+    subst (λ x. IsDone s x s out out' result) (sym h) (
+      false,
+      (
+        record { moves = refl; scans = refl; shows = refl },
+        subst (λ (v : State). Puts out out' result (answer_lines (mark_rows v.timeline.present))) same p,
+      ),
+    )
+
+pub Does-stack : {A : Type 0} (s old : State) (e : Request) (out out' : Writer) (result : Result A Fault)
+    → old ≡ s → e ≡ stack → Puts out out' result (answer_lines (stack_rows old.timeline.present))
+    → (out_of_memory : Bool) × Does out_of_memory s e s out out' result
+unfolding outcome
+Does-stack s old e out out' result same h p =
+    subst (λ x. IsDone s x s out out' result) (sym h) (
+      false,
+      (
+        record { moves = refl; scans = refl; shows = refl },
+        subst (λ (v : State). Puts out out' result (answer_lines (stack_rows v.timeline.present))) same p,
+      ),
+    )
+
+pub Does-refused : {A : Type 0} (s : State) (e : Request) (r : Refusal) (out out' : Writer) (result : Result A Fault)
+    → e ≡ refused r → Puts out out' result (refused_line r)
+    → (out_of_memory : Bool) × Does out_of_memory s e s out out' result
+unfolding outcome
+Does-refused s e r out out' result h p =
+    subst (λ x. IsDone s x s out out' result) (sym h) (false, (record { moves = refl; scans = refl; shows = refl }, p))
+
+pub Does-nothing : {A : Type 0} (s : State) (e : Request) (out : Writer) (x : A) → e ≡ nothing
+    → (out_of_memory : Bool) × Does out_of_memory s e s out out (Ok x)
+unfolding outcome
+Does-nothing s e out x h =
+    subst (λ y. IsDone s y s out out (Ok x)) (sym h)
+    (false, (record { moves = refl; scans = refl; shows = refl }, (PutsAll-none out, tt)))
+
+pub Does-quit : {A : Type 0} (s : State) (e : Request) (out : Writer) (x : A) → e ≡ quit
+    → (out_of_memory : Bool) × Does out_of_memory s e s out out (Ok x)
+unfolding outcome
+Does-quit s e out x h =
+    subst (λ y. IsDone s y s out out (Ok x)) (sym h)
+    (false, (record { moves = refl; scans = refl; shows = refl }, (PutsAll-none out, tt)))
+
+-- a request that was asked for under another name
+pub Does-asked : {A : Type 0} (start new : State) (e asked : Request) (out out' : Writer) (result : Result A Fault)
+    → e ≡ asked
+    → (out_of_memory : Bool) × Does out_of_memory start asked new out out' result
+    → (out_of_memory : Bool) × Does out_of_memory start e new out out' result
+Does-asked start new e asked out out' result same p = subst (λ x. IsDone start x new out out' result) (sym same) p
+
+-- ---- changes
 
 -- a change that replies by its line alone
 plain-change : (s : Step) (w : World) → ((text : List ℕ) → s ≡ want text → ⊥) → change_reply s w ≡ done_line
@@ -166,33 +267,30 @@ other-step (Replace t) other text e = cc
 other-step (TagOf name n) other text e = cc
 other-step Pop other text e = cc
 
-pub Does-other : {A : Type 0} (start old new : Timeline) (c : Change)
+pub Does-other : {A : Type 0} (start old new : State) (c : Change)
     (r : Result (Unit {0}) Refusal) (out out' : Writer) (result : Result A Fault)
-    → old ≡ start → ((text : Bor (List ℕ)) → c ≡ Want text → ⊥) → Changes (step_of c) old new r
+    → old ≡ start → ((text : Bor (List ℕ)) → c ≡ Want text → ⊥) → Changes (step_of c) old.timeline new.timeline r
+    → Counts (scanned old.timeline.present (step_of c)) old.meter new.meter r
+    → Turns old.timeline.present new.timeline.present old.turns new.turns r
     → Puts out out' result (move_line done_line r)
-    → (out_of_memory : Bool) × Does (outcome out_of_memory start (change (step_of c))) new out out' result
-Does-other start old new c r out out' result same other p q =
-    Does-change start old new (change (step_of c)) (step_of c) r out out' result same refl p
+    → (out_of_memory : Bool) × Does out_of_memory start (change (step_of c)) new out out' result
+Does-other start old new c r out out' result same other p scans shows q =
+    Does-change start old new (change (step_of c)) (step_of c) r out out' result same refl p scans shows
     (subst (λ l. Puts out out' result (move_line l r))
-    (sym (plain-change (step_of c) new.present (other-step c other))) q)
+    (sym (plain-change (step_of c) new.timeline.present (other-step c other))) q)
 
--- a request that was asked for under another name
-pub Does-asked : {A : Type 0} (start new : Timeline) (e asked : Request) (out out' : Writer) (result : Result A Fault)
-    → e ≡ asked
-    → (out_of_memory : Bool) × Does (outcome out_of_memory start asked) new out out' result
-    → (out_of_memory : Bool) × Does (outcome out_of_memory start e) new out out' result
-Does-asked start new e asked out out' result same p =
-    subst (λ x. (out_of_memory : Bool) × Does (outcome out_of_memory start x) new out out' result)
-    (sym same) p
-
--- a want, with the rows of its text or its refusal
-pub Does-want : {A : Type 0} (start old new : Timeline) (text : List ℕ)
+-- a want that is refused, or that is done and has the rows of its text, which are put in order then
+pub Does-want : {A : Type 0} (start old : State) (t u : Timeline) (m m' n n' : ℕ) (text : List ℕ)
     (r : Result (Unit {0}) Refusal) (out out' : Writer) (result : Result A Fault)
-    → old ≡ start → Changes (want text) old new r
-    → Puts out out' result (move_line (answer_lines (answer new.present Text text)) r)
-    → (out_of_memory : Bool) × Does (outcome out_of_memory start (change (want text))) new out out' result
-Does-want start old new text r out out' result same p q =
-    Does-change start old new (change (want text)) (want text) r out out' result same refl p q
+    → old ≡ start → Changes (want text) old.timeline t r → Counts 0 old.meter m r
+    → Turns old.timeline.present t.present old.turns n r → u ≡ t → m' ≡ m → n' ≡ n
+    → Puts out out' result (move_line (answer_lines (answer t.present Text text)) r)
+    → (out_of_memory : Bool) × Does out_of_memory start (change (want text)) (record { timeline = u; meter = m'; turns = n' }) out out' result
+Does-want start old t u m m' n n' text r out out' result same p scans shows stays scanned_none shown_none q =
+    let then : ◌≡◌ {A = State} (record { timeline = t; meter = m; turns = n }) (record { timeline = u; meter = m'; turns = n' }) =
+    (λ i. record { timeline = sym stays i; meter = sym scanned_none i; turns = sym shown_none i }) in
+    subst (λ v. IsDone start (change (want text)) v out out' result) then
+    (Does-change start old (record { timeline = t; meter = m; turns = n }) (change (want text)) (want text) r out out' result same refl p scans shows q)
 
 -- a want that is accepted has a text
 pub wanted-some : (text : List ℕ) (b : Bool) (t u : Timeline)
@@ -201,57 +299,3 @@ unfolding changed step
 wanted-some [] true t u e is = cc
 wanted-some [] false t u e is = cc
 wanted-some (x ∷ text) b t u e is = cc
-
-pub Does-tags : {A : Type 0} (t desk : Timeline) (e : Request) (format : Format) (ts : List Tag)
-    (out out' : Writer) (result : Result A Fault)
-    → desk ≡ t → e ≡ tags_file format → ts ≡ tags format desk.present → Puts out out' result (tags_reply format ts)
-    → (out_of_memory : Bool) × Does (outcome out_of_memory t e) t out out' result
-unfolding outcome
-Does-tags t desk e format ts out out' result same h is p =
-    subst (λ x. (out_of_memory : Bool) × Does (outcome out_of_memory t x) t out out' result)
-    (sym h) (
-      false,
-      (
-        refl,
-        subst (λ l. Puts out out' result l)
-            (ap (tags_reply format) is
-            ∙ ap (λ v. tags_reply format (tags format v.present)) same) p,
-      ),
-    )
-
-pub Does-listing : {A : Type 0} (t desk : Timeline) (e : Request) (ts : List Tag)
-    (out out' : Writer) (result : Result A Fault)
-    → desk ≡ t → e ≡ listing → ts ≡ tags Extended desk.present → Puts out out' result (listing_reply ts)
-    → (out_of_memory : Bool) × Does (outcome out_of_memory t e) t out out' result
-unfolding outcome
-Does-listing t desk e ts out out' result same h is p =
-    subst (λ x. (out_of_memory : Bool) × Does (outcome out_of_memory t x) t out out' result)
-    (sym h) (
-      false,
-      (
-        refl,
-        subst (λ l. Puts out out' result l)
-            (ap listing_reply is ∙ ap (λ v. listing_reply (tags Extended v.present)) same) p,
-      ),
-    )
-
-pub Does-refused : {A : Type 0} (t : Timeline) (e : Request) (r : Refusal) (out out' : Writer) (result : Result A Fault)
-    → e ≡ refused r → Puts out out' result (refused_line r)
-    → (out_of_memory : Bool) × Does (outcome out_of_memory t e) t out out' result
-unfolding outcome
-Does-refused t e r out out' result h p =
-    subst (λ x. (out_of_memory : Bool) × Does (outcome out_of_memory t x) t out out' result) (sym h) (false, (refl, p))
-
-pub Does-nothing : {A : Type 0} (t : Timeline) (e : Request) (out : Writer) (x : A) → e ≡ nothing
-    → (out_of_memory : Bool) × Does (outcome out_of_memory t e) t out out (Ok x)
-unfolding outcome
-Does-nothing t e out x h =
-    subst (λ y. (out_of_memory : Bool) × Does (outcome out_of_memory t y) t out out (Ok x)) (sym h)
-    (false, (refl, (PutsAll-none out, tt)))
-
-pub Does-quit : {A : Type 0} (t : Timeline) (e : Request) (out : Writer) (x : A) → e ≡ quit
-    → (out_of_memory : Bool) × Does (outcome out_of_memory t e) t out out (Ok x)
-unfolding outcome
-Does-quit t e out x h =
-    subst (λ y. (out_of_memory : Bool) × Does (outcome out_of_memory t y) t out out (Ok x)) (sym h)
-    (false, (refl, (PutsAll-none out, tt)))

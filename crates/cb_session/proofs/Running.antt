@@ -1,19 +1,19 @@
 -- Runs with operands, whatever follows what was read.
-use Rattle.std.proofs.Common.{ℕ, List, Ok, Err, refl}
-use Rattle.cb_desk.specs.Timeline.{Timeline, new_timeline}
+use Rattle.std.proofs.Common.{◌≡◌, ℕ, List, Some, Ok, Err, refl}
 use Rattle.cb_desk.specs.World.{File}
 use Rattle.cb_session.specs.declared.input.Ended.{Ended}
 use Rattle.cb_session.specs.declared.input.Ended.TheVariants.{Done, Cut, Fault, Operand}
 use Rattle.cb_session.specs.Devices.{Reader, WhateverFollows}
 use Rattle.cb_session.specs.Inputs.{inputs}
-use Rattle.cb_session.specs.Operands.{Loads, Prepares, Runs}
+use Rattle.cb_session.specs.Operands.{LoadsAll, Prepares, Runs}
 use Rattle.cb_session.specs.Serving.{LeavesSession}
+use Rattle.cb_session.specs.States.{State}
 use Rattle.cb_session.proofs.Follows.{Follows-nothing, Follows-so}
 use Rattle.cb_session.proofs.Rounds.{session_run}
 use Rattle.cb_tags.specs.Writers.{Writer}
 
 -- the operands were loaded
-pub Follows-loaded : (files : List File) (lines limit : ℕ) (t : Timeline) (feed after : Reader) (old new : Writer) (ended : Ended) (next : Timeline) → Loads 0 new_timeline files (Ok t)
+pub Follows-loaded : (files : List File) (lines limit : ℕ) (t : State) (feed after : Reader) (old new : Writer) (ended : Ended) (next : State) → LoadsAll files (Ok t)
     → WhateverFollows feed after (λ bytes at. LeavesSession (inputs lines limit bytes) t next at old new ended)
     → WhateverFollows feed after (λ bytes at. Runs files lines limit bytes at old new ended)
 Follows-loaded files lines limit t feed after old new ended next loads s =
@@ -22,11 +22,15 @@ Follows-loaded files lines limit t feed after old new ended next loads s =
     (λ bytes at run. (Ok t, loads, session_run (inputs lines limit bytes) t next at old new ended run))
 
 -- an operand was refused
+pub Runs-refused : (files : List File) (lines limit : ℕ) (bytes : List ℕ) (at : Reader) (out : Writer) (ended : Ended) → Prepares files (Err ended)
+    → at.bytes ≡ Some bytes → Runs files lines limit bytes at out out ended
+Runs-refused files lines limit bytes at out (Operand place why) p known = (Err (record { place = place; why = why }), p, (refl, known, refl))
+Runs-refused files lines limit bytes at out Done p known = absurd p
+Runs-refused files lines limit bytes at out Cut p known = absurd p
+Runs-refused files lines limit bytes at out (Fault fault) p known = absurd p
+
 pub Follows-refused : (files : List File) (lines limit : ℕ) (feed : Reader) (out : Writer) (ended : Ended) → Prepares files (Err ended)
     → WhateverFollows feed feed (λ bytes at. Runs files lines limit bytes at out out ended)
-Follows-refused files lines limit feed out (Operand place why) p =
-    Follows-nothing feed (λ bytes at. Runs files lines limit bytes at out out (Operand place why))
-    (λ bytes at known. (Err (record { place = place; why = why }), p, (refl, known, refl)))
-Follows-refused files lines limit feed out Done p = absurd p
-Follows-refused files lines limit feed out Cut p = absurd p
-Follows-refused files lines limit feed out (Fault fault) p = absurd p
+Follows-refused files lines limit feed out ended p =
+    Follows-nothing feed (λ bytes at. Runs files lines limit bytes at out out ended)
+    (λ bytes at. Runs-refused files lines limit bytes at out ended p)

@@ -29,7 +29,7 @@ abbrev pub IsPlain : List ℕ → Type 0
 IsPlain [] = Unit {0}
 IsPlain (b ∷ bs) = (is_line_feed b ≡ false) × IsPlain bs
 
-IsPlain-push : (xs : List ℕ) (b : ℕ) → IsPlain xs → is_line_feed b ≡ false → IsPlain (xs ++ b ∷ [])
+pub IsPlain-push : (xs : List ℕ) (b : ℕ) → IsPlain xs → is_line_feed b ≡ false → IsPlain (xs ++ b ∷ [])
 IsPlain-push [] b p q = (q, tt)
 IsPlain-push (x ∷ xs) b p q = (p.0, IsPlain-push xs b p.1 q)
 

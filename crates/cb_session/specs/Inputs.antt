@@ -1,5 +1,5 @@
 -- The inputs of a byte stream: the whole input cut into lines and blocks.
-use Rattle.std.specs.Prelude.{ℕ, zero, suc, ◌==◌, Bool, true, false, nat_lt, List, [], ◌∷◌}
+use Rattle.std.specs.Prelude.{◌≡◌, ℕ, zero, suc, ◌==◌, Bool, true, false, nat_lt, List, [], ◌∷◌, ◌++◌}
 use Rattle.std.specs.Prelude.{length, take, drop, Option, None, Some, if◌then◌else◌}
 use Rattle.std.specs.List.{before_first, after_first}
 use Rattle.cb_scan.specs.Bytes.{line_feed}
@@ -50,6 +50,22 @@ first limit [] = record { request = quit; rest = [] }
 first limit (b ∷ bs) =
     with_block (line_asks limit (before_first is_line_feed (b ∷ bs)))
     (after_first is_line_feed (b ∷ bs))
+
+-- the bytes of one request, whatever follows them
+abbrev pub IsWhole : ℕ → Request → List ℕ → Type 0
+IsWhole limit e bytes =
+    (rest : List ℕ) → first limit (bytes ++ rest) ≡ record { request = e; rest = rest }
+
+-- bytes that begin with no whole request
+abbrev pub HoldNone : ℕ → List ℕ → Type 0
+HoldNone limit bytes = (n : ℕ) (e : Request) → IsWhole limit e (take n bytes) → ⊥
+
+-- bytes that hold these requests whole, one behind the other, and then no whole one
+abbrev pub HoldWhole : ℕ → List Request → List ℕ → Type 0
+HoldWhole limit [] bytes = HoldNone limit bytes
+HoldWhole limit (e ∷ es) bytes =
+    (text rest : List ℕ) × (bytes ≡ text ++ rest) × IsWhole limit e text
+    × HoldWhole limit es rest
 
 -- the refusal of a block that the input does not fill
 abbrev pub is_cut : Refusal → Bool

@@ -10,5 +10,6 @@ pub mod Replay
 pub mod Requests
 pub mod RunExamples
 pub mod Serving
+pub mod States
 pub mod Writing
 pub mod steps

@@ -1,16 +1,18 @@
 -- Operands: the files that are loaded before a run.
-use Rattle.std.specs.Prelude.{◌≡◌, ℕ, ◌+◌, List, [], ◌∷◌, Some, Result, Ok, Err, IsOk}
+use Rattle.std.specs.Prelude.{◌≡◌, ℕ, ◌+◌, List, [], ◌∷◌, length, Some, Result, Ok, Err, IsOk}
 use Rattle.cb_desk.specs.declared.refusal.Refusal.{Refusal}
 use Rattle.cb_desk.specs.declared.refusal.Refusal.TheVariants.{OutOfMemory}
 use Rattle.cb_session.specs.declared.input.Ended.{Ended}
 use Rattle.cb_session.specs.declared.input.Ended.TheVariants.{Operand as StoppedAt}
 use Rattle.cb_session.specs.declared.operands.Operand.{Operand}
+use Rattle.cb_desk.specs.Desk.{bytes_in, counted}
 use Rattle.cb_desk.specs.World.{File}
 use Rattle.cb_desk.specs.Step.{load}
 use Rattle.cb_desk.specs.Timeline.{Timeline, new_timeline, changed}
 use Rattle.cb_session.specs.Devices.{Reader}
 use Rattle.cb_session.specs.Inputs.{inputs}
 use Rattle.cb_session.specs.Serving.{LeavesRun}
+use Rattle.cb_session.specs.States.{State}
 use Rattle.cb_tags.specs.Writers.{Writer}
 
 -- the file that an operand is
@@ -37,19 +39,26 @@ pub data Loads : ℕ → Timeline → List File → Result Timeline RefusedOpera
       → IsOk (changed t (load f.name f.bytes))
       → Loads place t (f ∷ fs) (Err (record { place = place; why = OutOfMemory }))
 
--- the operands are loads of a new timeline; or the first that is refused ends the run
-abbrev pub Prepares : List File → Result Timeline Ended → Type 0
-Prepares files (Ok t) = Loads 0 new_timeline files (Ok t)
+-- the operands are loads of a new timeline: each text is scanned once, and each file is shown once
+abbrev pub LoadsAll : List File → Result State RefusedOperand → Type 0
+LoadsAll files (Ok s) =
+    Loads 0 new_timeline files (Ok s.timeline)
+    × (s.meter ≡ counted 0 (bytes_in files)) × (s.turns ≡ counted 0 (length files))
+LoadsAll files (Err stop) = Loads 0 new_timeline files (Err stop)
+
+-- all operands are loaded; or the first that is refused ends the run
+abbrev pub Prepares : List File → Result State Ended → Type 0
+Prepares files (Ok s) = LoadsAll files (Ok s)
 Prepares files (Err (StoppedAt place why)) =
-    Loads 0 new_timeline files (Err (record { place = place; why = why }))
+    LoadsAll files (Err (record { place = place; why = why }))
 Prepares files (Err _) = ⊥
 
 -- a run over these bytes, which allows so many lines and at most `limit` bytes in each, that begins
 -- where the loads lead; where one is refused nothing is read and nothing is written
-abbrev pub RunsFrom : Result Timeline RefusedOperand → (lines limit : ℕ) → List ℕ → Reader
+abbrev pub RunsFrom : Result State RefusedOperand → (lines limit : ℕ) → List ℕ → Reader
     → Writer → Writer → Ended → Type 0
-RunsFrom (Ok t) lines limit bytes feed old new ended =
-    LeavesRun (inputs lines limit bytes) t feed old new ended
+RunsFrom (Ok s) lines limit bytes feed old new ended =
+    LeavesRun (inputs lines limit bytes) s feed old new ended
 RunsFrom (Err stop) lines limit bytes feed old new ended =
     (ended ≡ StoppedAt stop.place stop.why) × (feed.bytes ≡ Some bytes) × (new ≡ old)
 
@@ -57,5 +66,5 @@ RunsFrom (Err stop) lines limit bytes feed old new ended =
 abbrev pub Runs : List File → (lines limit : ℕ) → List ℕ → Reader
     → Writer → Writer → Ended → Type 0
 Runs files lines limit bytes feed old new ended =
-    (end : Result Timeline RefusedOperand) × Loads 0 new_timeline files end
+    (end : Result State RefusedOperand) × LoadsAll files end
     × RunsFrom end lines limit bytes feed old new ended

@@ -114,9 +114,3 @@ output refusals t [] = []
 output refusals t (e ∷ es) =
     exchange (first_refusal refusals) t e
     ++ output (later_refusals refusals) (outcome (first_refusal refusals) t e).timeline es
-
--- the timeline behind these inputs
-unfoldable pub led_to : List Bool → Timeline → List Request → Timeline
-led_to refusals t [] = t
-led_to refusals t (e ∷ es) =
-    led_to (later_refusals refusals) (outcome (first_refusal refusals) t e).timeline es

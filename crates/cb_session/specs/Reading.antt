@@ -1,13 +1,13 @@
 -- What reading an input does to a reader.
-use Rattle.std.specs.Prelude.{◌≡◌, Bool, true, false, Some, Result, Ok, Err, IsTrue}
+use Rattle.std.specs.Prelude.{◌≡◌, List, ℕ, Bool, true, false, Some, Result, Ok, Err, IsTrue}
 use Rattle.cb_desk.specs.Step.{load, reload}
 use Rattle.cb_session.specs.declared.feed.Stage.TheVariants.{Failed}
 use Rattle.cb_session.specs.declared.input.Fault.{Fault}
 use Rattle.cb_session.specs.declared.input.Fault.TheVariants.{Read, Write, Memory, LongLine}
 use Rattle.cb_session.specs.declared.input.Fault.TheVariants.{ManyLines}
 use Rattle.cb_session.specs.declared.input.Input.{Input}
-use Rattle.cb_session.specs.Devices.{Reader, HoldsOut}
-use Rattle.cb_session.specs.Inputs.{First, is_cut}
+use Rattle.cb_session.specs.Devices.{Reader, HasRead, HoldsOut}
+use Rattle.cb_session.specs.Inputs.{First, HoldNone, is_cut}
 use Rattle.cb_session.specs.Models.{request_of}
 use Rattle.cb_session.specs.Requests.{Request, change, refused, overlong}
 
@@ -27,6 +27,10 @@ Reads f new (Err Memory) = IsTrue (has_block f.request)
 Reads f new (Err Read) = new.stage ≡ Failed
 Reads f new (Err Write) = ⊥
 Reads f new (Err ManyLines) = ⊥
+
+-- the reader failed before an input was whole
+abbrev pub IsUnread : ℕ → Reader → Reader → Type 0
+IsUnread limit old new = (read : List ℕ) × HasRead old new read × HoldNone limit read
 
 -- reading has three faults: the reader has failed, memory for a block was refused, or a line is too
 -- long; only by the first has the reader failed

@@ -6,18 +6,20 @@ use Rattle.cb_session.specs.declared.input.Ended.{Ended}
 use Rattle.cb_session.specs.declared.input.Ended.TheVariants.{Fault, Operand}
 use Rattle.cb_session.specs.declared.input.Fault.TheVariants.{Read, Write, Memory, LongLine}
 use Rattle.cb_session.specs.declared.input.Fault.{Fault as Reason}
-use Rattle.cb_desk.specs.Timeline.{Timeline}
 use Rattle.cb_tags.specs.Writers.{Writer}
-use Rattle.cb_session.specs.Devices.{Reader, HoldsOut, WhateverFollows}
-use Rattle.cb_session.specs.Inputs.{Inputs, inputs}
-use Rattle.cb_session.specs.Output.{Outcome, output, led_to, prompt}
+use Rattle.cb_session.specs.Devices.{Reader, HasRead, HoldsOut, WhateverFollows}
+use Rattle.cb_session.specs.Inputs.{HoldWhole, Inputs, inputs}
+use Rattle.cb_session.specs.Output.{outcome, output, prompt}
 use Rattle.cb_session.specs.Requests.{Request}
+use Rattle.cb_session.specs.States.{LeadTo, Leads, State}
 use Rattle.cb_tags.specs.Writing.{AppendsPrefix}
 use Rattle.cb_session.specs.Writing.{Puts}
 
--- an input is done: the timeline has moved, and its reply is written
-abbrev pub Does : {A : Type 0} → Outcome → Timeline → Writer → Writer → Result A Reason → Type 0
-Does o next old new result = (next ≡ o.timeline) × Puts old new result o.reply
+-- an input is done: the session is led on, and the reply is written
+abbrev pub Does : {A : Type 0} → Bool → State → Request → State → Writer → Writer
+    → Result A Reason → Type 0
+Does out_of_memory s e next old new result =
+    Leads out_of_memory s e next × Puts old new result (outcome out_of_memory s.timeline e).reply
 
 -- after a fault of a device or of memory a prefix of the text is written; else the whole text is,
 -- the ending is the one meant, and the bytes that are left are still to be read; of a line that is
@@ -31,37 +33,46 @@ Leaves text meant rest feed old new (Fault LongLine) =
 Leaves text meant rest feed old new ended =
     (meant ≡ Some ended) × (feed.bytes ≡ Some rest) × Appends old.bytes new.bytes text
 
--- a timeline is that behind the first of these inputs
-abbrev pub IsBehindFirst : List Bool → Timeline → List Request → Timeline → Type 0
-IsBehindFirst refusals t es next =
-    (done later : List Request) × (es ≡ done ++ later) × (next ≡ led_to refusals t done)
+-- the first of these inputs lead to a state
+abbrev pub FirstLeadTo : List Bool → State → List Request → State → Type 0
+FirstLeadTo refusals s es next =
+    (done later : List Request) × (es ≡ done ++ later) × LeadTo refusals s done next
 
--- a run that a read fault ends has answered the first of these inputs, and after their replies has
--- written one prompt and handed it on
-abbrev pub IsCutShort : List Bool → Timeline → List Request → Writer → Writer → Timeline → Type 0
-IsCutShort refusals t es old new next =
-    (done later : List Request) × (es ≡ done ++ later) × (next ≡ led_to refusals t done)
-    × Appends old.bytes new.bytes (output refusals t done ++ prompt) × (new.pending ≡ false)
-
--- where a run that ends so leaves the timeline: behind all inputs; after a fault of a device or of
+-- where a run that ends so leaves the session: behind all inputs; after a fault of a device or of
 -- memory behind the first ones
-abbrev pub IsLeft : List Bool → Timeline → List Request → Writer → Writer → Ended → Timeline → Type 0
-IsLeft refusals t es old new (Fault Read) next = IsCutShort refusals t es old new next
-IsLeft refusals t es old new (Fault Write) next = IsBehindFirst refusals t es next
-IsLeft refusals t es old new (Fault Memory) next = IsBehindFirst refusals t es next
-IsLeft refusals t es old new ended next = next ≡ led_to refusals t es
+abbrev pub IsLeft : List Bool → State → List Request → Ended → State → Type 0
+IsLeft refusals s es (Fault Read) next = FirstLeadTo refusals s es next
+IsLeft refusals s es (Fault Write) next = FirstLeadTo refusals s es next
+IsLeft refusals s es (Fault Memory) next = FirstLeadTo refusals s es next
+IsLeft refusals s es ended next = LeadTo refusals s es next
 
 -- a run over these inputs, for some list that says which of them memory refused: its output, its
--- ending, no byte read behind its last request, and where it leaves the timeline
-abbrev pub LeavesSession : Inputs → (t next : Timeline) → Reader → Writer → Writer → Ended → Type 0
-LeavesSession i t next feed old new ended =
+-- ending, no byte read behind its last request, and where it leaves the session
+abbrev pub LeavesSession : Inputs → (s next : State) → Reader → Writer → Writer → Ended → Type 0
+LeavesSession i s next feed old new ended =
     (refusals : List Bool)
-    × Leaves (output refusals t i.requests) (Some i.ending) i.rest feed old new ended
-    × IsLeft refusals t i.requests old new ended next
+    × Leaves (output refusals s.timeline i.requests) (Some i.ending) i.rest feed old new ended
+    × IsLeft refusals s i.requests ended next
 
--- the same, wherever it leaves the timeline
-abbrev pub LeavesRun : Inputs → Timeline → Reader → Writer → Writer → Ended → Type 0
-LeavesRun i t feed old new ended = (next : Timeline) × LeavesSession i t next feed old new ended
+-- the same, wherever it leaves the session
+abbrev pub LeavesRun : Inputs → State → Reader → Writer → Writer → Ended → Type 0
+LeavesRun i s feed old new ended = (next : State) × LeavesSession i s next feed old new ended
+
+-- a run that a read fault ends: what was read holds the inputs whole that are answered, and no more;
+-- they are the first ones, whatever follows; and after their replies one prompt is written and
+-- handed on
+pub record IsCutShort (lines limit : ℕ) (s next : State) (feed feed' : Reader)
+    (out out' : Writer) : Type 0 where
+  pub refusals : List Bool
+  pub done : List Request
+  pub read : List ℕ
+  pub reads : HasRead feed feed' read
+  pub whole : HoldWhole limit done read
+  pub are_first : (rest : List ℕ)
+      → (later : List Request) × ((inputs lines limit (read ++ rest)).requests ≡ done ++ later)
+  pub led : LeadTo refusals s done next
+  pub wrote : Appends out.bytes out'.bytes (output refusals s.timeline done ++ prompt)
+  pub handed_on : out'.pending ≡ false
 
 -- a run that ends has handed on all that was written, unless the writer failed; one that stops at an
 -- operand has not begun
@@ -93,21 +104,22 @@ abbrev pub IfFault : Ended → (Reason → Type 0) → Type 0
 IfFault (Fault fault) P = P fault
 IfFault _ P = Unit {0}
 
--- the inputs of a run that leads from a timeline to the next, within so many lines and so many bytes
+-- the inputs of a run that leads from one state to the next, within so many lines and so many bytes
 -- of each: it is a run over the bytes of the reader, where these are known, and over whatever follows
--- those that it has read; a fault of a device is answered only where that has failed, and a device
--- that fails is told
-pub record ServesInputs (lines limit : ℕ) (t next : Timeline) (feed feed' : Reader)
+-- those that it has read; a read fault cuts it short between two inputs; a fault of a device is
+-- answered only where that has failed, and a device that fails is told
+pub record ServesInputs (lines limit : ℕ) (s next : State) (feed feed' : Reader)
     (out out' : Writer) (ended : Ended) : Type 0 where
   pub output : (bytes : List ℕ) → feed.bytes ≡ Some bytes
-      → LeavesSession (inputs lines limit bytes) t next feed' out out' ended
+      → LeavesSession (inputs lines limit bytes) s next feed' out out' ended
   pub every_input : WhateverFollows feed feed'
-      (λ bytes left. LeavesSession (inputs lines limit bytes) t next left out out' ended)
+      (λ bytes left. LeavesSession (inputs lines limit bytes) s next left out out' ended)
+  pub cut_short : ended ≡ Fault Read → IsCutShort lines limit s next feed feed' out out'
   pub failed : IfFault ended (HasFailed feed' out')
   pub told : Tells feed feed' out out' (fault_of ended)
 
 -- such a run, and its last flush
-abbrev pub Serves : (lines limit : ℕ) (t next : Timeline) (feed feed' : Reader)
+abbrev pub Serves : (lines limit : ℕ) (s next : State) (feed feed' : Reader)
     (out out' : Writer) → Ended → Type 0
-Serves lines limit t next feed feed' out out' ended =
-    ServesInputs lines limit t next feed feed' out out' ended × HandsOn out' ended
+Serves lines limit s next feed feed' out out' ended =
+    ServesInputs lines limit s next feed feed' out out' ended × HandsOn out' ended

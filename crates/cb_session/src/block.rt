@@ -6,7 +6,7 @@ ghost use Rattle.cb_session.specs.Inputs.{change_with, with_block};
 ghost use Rattle.cb_session.specs.Models.{request_of, HasPattern};
 ghost use Rattle.cb_session.specs.Reading.{Reads, IsReadFault};
 ghost use Rattle.cb_session.specs.Requests.{block};
-ghost use Rattle.cb_session.specs.steps.Lines.{ReadsBlock};
+ghost use Rattle.cb_session.specs.steps.Lines.{ReadsBlock, StopsBefore};
 
 use crate::line::Purpose;
 use crate::{Command, Fault, Feed, Input};
@@ -26,6 +26,8 @@ fn read_block<R: BufRead>(
         (λ bytes left. ReadsBlock count bytes left result) }
     ensures failed { IfErr result (IsReadFault feed.old feed.new) }
     ensures fine { IfOk result (λ _. HoldsOut feed.old feed.new) }
+    ensures unread { IfErr result
+        (λ fault. fault ≡ Fault.Read → StopsBefore count feed.old feed.new) }
 {
     let mut block = match Vec::with_capacity(alloc, count as usize) {
         Ok(block) => block,
@@ -63,6 +65,8 @@ pub fn read_change<'a, R: BufRead>(
         (λ bytes left. Reads (with_block (block purpose name.now count) bytes) left result) }
     ensures failed { IfErr result (IsReadFault feed.old feed.new) }
     ensures fine { IfOk result (λ _. HoldsOut feed.old feed.new) }
+    ensures unread { IfErr result
+        (λ fault. fault ≡ Fault.Read → StopsBefore count feed.old feed.new) }
     ensures pattern { IfOk result (λ input. HasPattern (request_of input)) }
 {
     match read_block(alloc, count, feed)? {

@@ -58,7 +58,7 @@ pub struct Intake {
 impl Intake {
     ghost use Rattle.cb_session.specs.Inputs.{first};
     ghost use Rattle.cb_session.specs.Models.{request_of, HasPattern};
-    ghost use Rattle.cb_session.specs.Reading.{Reads, IsReadFault};
+    ghost use Rattle.cb_session.specs.Reading.{Reads, IsReadFault, IsUnread};
     ghost use Rattle.cb_session.specs.steps.Lines.{ReadsLine};
     ghost use Rattle.cb_session.specs.Devices.{HoldsOut, WhateverFollows};
 
@@ -84,6 +84,8 @@ impl Intake {
             (λ bytes left. Reads (first limits.now.line bytes) left result) }
         ensures failed { IfErr result (IsReadFault feed.old feed.new) }
         ensures fine { IfOk result (λ _. HoldsOut feed.old feed.new) }
+        ensures unread { IfErr result
+            (λ fault. fault ≡ Fault.Read → IsUnread limits.now.line feed.old feed.new) }
         ensures pattern { IfOk result (λ input. HasPattern (request_of input)) }
     {
         match self.read_line(limits, feed)? {
@@ -110,6 +112,8 @@ impl Intake {
             (λ bytes left. ReadsLine limits.now.line bytes left self.new.line.items result) }
         ensures failed { IfErr result (IsReadFault feed.old feed.new) }
         ensures fine { IfOk result (λ _. HoldsOut feed.old feed.new) }
+        ensures unread { IfErr result
+            (λ fault. fault ≡ Fault.Read → IsUnread limits.now.line feed.old feed.new) }
     {
         self.line.clear();
         'bytes: for read in 0..limits.line {

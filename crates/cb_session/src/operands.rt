@@ -1,8 +1,9 @@
 //! Files that are loaded before a run.
-ghost use Rattle.std.specs.Prelude.{◌≡◌, List, ℕ, Some, map};
+ghost use Rattle.std.specs.Prelude.{◌≡◌, List, ℕ, Some, length, map};
 ghost use Rattle.cb_session.specs.Devices.{WhateverFollows};
 ghost use Rattle.cb_session.specs.Serving.{HandsOn, HasFailed, IfFault, Tells, fault_of};
 ghost use Rattle.cb_session.specs.Operands.{file_of_operand, Prepares, Runs};
+ghost use Rattle.cb_session.specs.steps.Starts.{Starts};
 
 use crate::{Ended, Feed, Limits, Session};
 use cb_desk::{Loading, Refusal};
@@ -35,9 +36,17 @@ pub fn prepare(alloc: Global, operands: Operands) -> Result<Session, Ended>
         }
         place += 1;
     }
+    session_of(alloc, loading, place)
+}
+
+/// The session of so many loads. Memory that is refused here is refused to the last of them.
+fn session_of(alloc: Global, loading: Loading, count: u32) -> Result<Session, Ended>
+    requires { count ≡ length loading.timeline.past }
+    ensures { Starts loading count result }
+{
     match loading.desk(alloc) {
         Ok(desk) => Ok(Session::over(desk)),
-        Err(_) => Err(Ended::Operand(place - 1, Refusal::OutOfMemory)),
+        Err(_) => Err(Ended::Operand(count - 1, Refusal::OutOfMemory)),
     }
 }
 

@@ -22,6 +22,8 @@ pub(crate) fn put_query<W: Write>(
 ) -> Result<(), Fault>
     requires { pattern.now ≢ [] }
     ensures timeline { desk.new.timeline ≡ desk.old.timeline }
+    ensures meter { desk.new.meter ≡ desk.old.meter }
+    ensures turns { desk.new.turns ≡ desk.old.turns }
     ensures written { Puts out.old out.new result
         (answer_lines (answer desk.old.timeline.present field pattern.now)) }
 {
@@ -36,6 +38,8 @@ pub(crate) fn put_tags<W: Write>(
     format: Format,
 ) -> Result<(), Fault>
     ensures timeline { desk.new.timeline ≡ desk.old.timeline }
+    ensures meter { desk.new.meter ≡ desk.old.meter }
+    ensures turns { desk.new.turns ≡ desk.old.turns }
     ensures written { Puts out.old out.new result
         (tags_reply format (tags format desk.old.timeline.present)) }
 {
@@ -46,6 +50,8 @@ pub(crate) fn put_tags<W: Write>(
 /// Writes the listing. It takes no memory.
 pub(crate) fn put_listing<W: Write>(out: &mut Sink<W>, desk: &mut Desk) -> Result<(), Fault>
     ensures timeline { desk.new.timeline ≡ desk.old.timeline }
+    ensures meter { desk.new.meter ≡ desk.old.meter }
+    ensures turns { desk.new.turns ≡ desk.old.turns }
     ensures written { Puts out.old out.new result
         (listing_reply (tags Extended desk.old.timeline.present)) }
 {

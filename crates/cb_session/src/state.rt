@@ -2,13 +2,12 @@
 ghost use Rattle.std.specs.Prelude.{◌≡◌, Bool, List, ℕ, Some, IfOk, IfSome, MatchResult};
 ghost use Rattle.cb_desk.specs.Models.{step_of};
 ghost use Rattle.cb_desk.specs.Step.{want};
-ghost use Rattle.cb_desk.specs.Timeline.{new_timeline};
 ghost use Rattle.cb_session.specs.Devices.{WhateverFollows};
 ghost use Rattle.cb_session.specs.Inputs.{first, ending_of};
 ghost use Rattle.cb_session.specs.Models.{request_of, going_of, HasPattern};
 ghost use Rattle.cb_session.specs.Serving.{Does, HasFailed, IfFault, Serves, ServesInputs, Tells};
-ghost use Rattle.cb_session.specs.steps.Rounds.{LeavesRound, fault_in};
-ghost use Rattle.cb_session.specs.Output.{outcome};
+ghost use Rattle.cb_session.specs.States.{new_state, state_of};
+ghost use Rattle.cb_session.specs.steps.Rounds.{LeavesRound, ReadsRound, fault_in};
 ghost use Rattle.cb_session.specs.Requests.{change as change_asked};
 ghost use Rattle.cb_session.specs.Writing.{Puts};
 
@@ -29,17 +28,17 @@ pub struct Session {
 }
 
 impl Model for Session {
-    ghost use Rattle.cb_desk.specs.Timeline.{Timeline};
+    ghost use Rattle.cb_session.specs.States.{State, state_of};
 
-    ghost Value = { Timeline };
+    ghost Value = { State };
 
-    ghost view = { λ s. s.desk.timeline };
+    ghost view = { λ s. state_of s.desk };
 }
 
 impl Session {
     /// A session with no file and no past. It takes no memory.
     pub fn new(alloc: Global) -> Session
-        ensures { result ≡ new_timeline }
+        ensures { result ≡ new_state }
     {
         Session {
             desk: Desk::new(alloc),
@@ -48,21 +47,21 @@ impl Session {
 
     /// A session on a desk.
     pub(crate) fn over(desk: Desk) -> Session
-        ensures { result ≡ desk.timeline }
+        ensures { result ≡ state_of desk }
     {
         Session { desk }
     }
 
     /// The session's desk.
     pub fn desk(&self) -> &Desk
-        ensures { result.now.timeline ≡ self.now }
+        ensures { state_of result.now ≡ self.now }
     {
         &self.desk
     }
 
     /// The session's desk, with nothing of the session left.
     pub fn into_desk(self) -> Desk
-        ensures { result.timeline ≡ self }
+        ensures { state_of result ≡ self }
     {
         self.desk
     }
@@ -77,7 +76,7 @@ impl Session {
     ) -> Result<Going, Fault>
         requires { HasPattern (request_of input) }
         ensures does { (out_of_memory : Bool)
-            × Does (outcome out_of_memory self.old (request_of input.entry))
+            × Does out_of_memory self.old (request_of input.entry)
             self.new out.old out.new result }
         ensures going { IfOk result (λ going. going ≡ going_of (ending_of (request_of input.entry))) }
     {
@@ -95,7 +94,7 @@ impl Session {
     ) -> Result<(), Fault>
         requires { HasPattern (request_of input) }
         ensures { (out_of_memory : Bool)
-            × Does (outcome out_of_memory self.old (request_of input.entry))
+            × Does out_of_memory self.old (request_of input.entry)
             self.new out.old out.new result }
     {
         let command = match input {
@@ -125,7 +124,7 @@ impl Session {
         out: &mut Sink<W>,
     ) -> Result<(), Fault>
         ensures { (out_of_memory : Bool)
-            × Does (outcome out_of_memory self.old (change_asked (step_of change.entry)))
+            × Does out_of_memory self.old (change_asked (step_of change.entry))
             self.new out.old out.new result }
     {
         match change {
@@ -137,7 +136,7 @@ impl Session {
     /// Wants a text, and writes the rows of the lines that hold it.
     fn want<W: Write>(&mut self, alloc: Global, text: &[u8], out: &mut Sink<W>) -> Result<(), Fault>
         ensures { (out_of_memory : Bool)
-            × Does (outcome out_of_memory self.old (change_asked (want text.now)))
+            × Does out_of_memory self.old (change_asked (want text.now))
             self.new out.old out.new result }
     {
         match self.desk.change(alloc, Change::Want(text)) {
@@ -208,6 +207,8 @@ impl Session {
         ensures every_input { WhateverFollows feed.old feed.new (λ bytes left.
             (out_of_memory : Bool) × LeavesRound out_of_memory (first limits.now.line bytes)
             self.old self.new left out.old out.new result) }
+        ensures read { ReadsRound limits.now.line self.old self.new feed.old feed.new
+            out.old out.new result }
         ensures failed { MatchResult result
             (λ ending. IfSome ending (λ ended. IfFault ended (HasFailed feed.new out.new)))
             (HasFailed feed.new out.new) }

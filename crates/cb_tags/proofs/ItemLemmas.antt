@@ -43,7 +43,8 @@ read-Items (b ∷ c ∷ bs) t = ⊎_elim
     let parts = and_parts (not (b == 47) && not (b == 10)) (are_items false (c ∷ bs)) (sym (cond-false _ _ _ f) ∙ t) in
     let tests = and_parts (not (b == 47)) (not (b == 10)) parts.0 in
     subst (λ t. Items (b ∷ c ∷ bs) t) (sym (cond-false _ _ _ f))
-    (own_item (eqb-false b 47 (not_true _ tests.0)) (eqb-false b 92 f) (eqb-false b 10 (not_true _ tests.1)) (read-Items (c ∷ bs) parts.1)))
+    (own_item (eqb-false b 47 (not_true _ tests.0)) (eqb-false b 92 f)
+    (eqb-false b 10 (not_true _ tests.1)) (read-Items (c ∷ bs) parts.1)))
     (cases_Bool (b == 92))
 
 -- items are read, as what they stand for
@@ -57,8 +58,11 @@ Items-reads _ _ (escaped_item {a} {b} {items} {text} e w r) =
     (cond-true _ _ _ t ∙ and_from _ _ (is_one b w) k.0, cond-true _ _ _ t ∙ ap (λ s. b ∷ s) k.1)
 Items-reads _ _ (own_item {b} {items} {text} x y z r) =
     let k = Items-reads items text r in
-    let f = ne_eqb b 92 y in
-    (cond-false _ _ _ f ∙ and_from _ _ (and_from _ _ (ap not (ne_eqb b 47 x)) (ap not (ne_eqb b 10 z))) k.0, cond-false _ _ _ f ∙ ap (λ s. b ∷ s) k.1)
+    let f = ne_eqb b 92 y in (
+      cond-false _ _ _ f ∙ and_from _ _ (and_from _ _ (ap not (ne_eqb b 47 x))
+          (ap not (ne_eqb b 10 z))) k.0,
+      cond-false _ _ _ f ∙ ap (λ s. b ∷ s) k.1,
+    )
 
 -- items stand for one text alone
 pub Items-only : (items s t : List ℕ) → Items items s → Items items t → s ≡ t
@@ -69,9 +73,11 @@ pub written-Items : (text : List ℕ) → IsOneLine text → Items (escape text)
 unfolding escape
 written-Items [] one = no_item
 written-Items (b ∷ bs) one = ⊎_elim
-    (λ t. subst (λ e. Items (cond e (92 ∷ b ∷ []) (b ∷ []) ++ flat_map escaped bs) (b ∷ bs)) (sym t) (escaped_item refl (which b t) (written-Items bs one.1)))
+    (λ t. subst (λ e. Items (cond e (92 ∷ b ∷ []) (b ∷ []) ++ flat_map escaped bs) (b ∷ bs)) (sym t)
+    (escaped_item refl (which b t) (written-Items bs one.1)))
     (λ f. subst (λ e. Items (cond e (92 ∷ b ∷ []) (b ∷ []) ++ flat_map escaped bs) (b ∷ bs)) (sym f)
-    (own_item (λ e. false≢true (sym f ∙ is_one b (inl e))) (λ e. false≢true (sym f ∙ is_one b (inr e))) one.0 (written-Items bs one.1)))
+    (own_item (λ e. false≢true (sym f ∙ is_one b (inl e)))
+    (λ e. false≢true (sym f ∙ is_one b (inr e))) one.0 (written-Items bs one.1)))
     (cases_Bool (is_escaped b))
 
 -- items are what is written for the text that they stand for, and that is one line

@@ -68,7 +68,9 @@ shown-one (b ∷ bs) f =
     let last = length line - 1 in
     ⊎_elim
     (λ t. subst IsOneLine (sym (cond-true _ _ _ t)) (no_cr-one (take last line) (front-one line last f (omega arith))))
-    (λ n. subst IsOneLine (sym (cond-false _ _ _ n)) (whole-one line f (λ some e. false≢true (sym n ∙ and_from _ _ (grind (arith, nat_tests)) (eq-eqb (slice_index line last) 10 e)))))
+    (λ n. subst IsOneLine (sym (cond-false _ _ _ n))
+    (whole-one line f (λ some e. false≢true (sym n ∙ and_from _ _ (grind (arith, nat_tests))
+    (eq-eqb (slice_index line last) 10 e)))))
     (cases_Bool (nat_lt 0 (length line) && slice_index line last == 10))
 
 at-one : (ls : List (List ℕ)) (k : ℕ) → AllByRecursion FeedsLast ls

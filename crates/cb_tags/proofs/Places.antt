@@ -38,8 +38,13 @@ first_is p a (suc n) k low high passes_k = ⊎_elim
     let other : a ≢ k = λ is. false≢true (sym f ∙ ap p is ∙ passes_k) in
     let above : a + 1 ≤ k = omega (arith, other, low) in
     let r = first_is p (a + 1) n k above (omega arith) passes_k in
-    record { first = r.first; found = cond-false _ _ _ f ∙ r.found; from = omega (arith, r.from);
-             least = r.least; passes = r.passes })
+    record {
+      first = r.first;
+      found = cond-false _ _ _ f ∙ r.found;
+      from = omega (arith, r.from);
+      least = r.least;
+      passes = r.passes;
+    })
     (cases_Bool (p a))
 
 -- a line is found at its own place or before
@@ -50,5 +55,5 @@ unfolding finds
 finds-line source n low high =
     let text = line_text source n in
     let r = first_is (λ m. bytes_eq text (line_text source m)) 1 (length (lines source)) n low
-        (omega arith) ((bytes_eq-Decides text text).1 refl) in
+    (omega arith) ((bytes_eq-Decides text text).1 refl) in
     (r.first, r.found, r.from, r.least, sym ((bytes_eq-Decides text (line_text source r.first)).0 r.passes))

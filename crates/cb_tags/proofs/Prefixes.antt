@@ -46,9 +46,19 @@ PutsAll-none w = (refl, λ h. absurd (h refl), Appends-nil w.bytes, λ e. refl)
 -- one text, and then another
 pub PutsAll-after : (old mid new : Writer) (text more : List ℕ) → PutsAll old mid text
     → PutsAll mid new more → PutsAll old new (text ++ more)
-PutsAll-after old mid new [] more p q = (q.0 ∙ p.0, λ h. sym p.0 ∙ q.1 h, Appends-trans old.bytes mid.bytes new.bytes [] more p.2 q.2, λ e. q.3 e ∙ p.3 refl)
-PutsAll-after old mid new (x ∷ xs) more p q =
-    (q.0 ∙ p.0, λ h. p.1 (cons≢nil x xs), Appends-trans old.bytes mid.bytes new.bytes (x ∷ xs) more p.2 q.2, λ e. absurd (cons≢nil x (xs ++ more) e))
+PutsAll-after old mid new [] more p q = (
+  q.0 ∙ p.0,
+  λ h. sym p.0 ∙ q.1 h,
+  Appends-trans old.bytes mid.bytes new.bytes [] more p.2 q.2,
+  λ e. q.3 e ∙ p.3 refl,
+)
+PutsAll-after old mid new (x ∷ xs) more p q = (
+  q.0 ∙ p.0,
+  λ h. p.1 (cons≢nil x xs),
+  Appends-trans old.bytes mid.bytes new.bytes
+      (x ∷ xs) more p.2 q.2,
+  λ e. absurd (cons≢nil x (xs ++ more) e),
+)
 
 -- a prefix of a text is one of each longer text
 pub PutsPrefix-more : (old new : Writer) (text more : List ℕ) → PutsPrefix old new text
@@ -60,16 +70,27 @@ pub PutsPrefix-after : (old mid new : Writer) (text more : List ℕ) → PutsAll
     → PutsPrefix mid new more → PutsPrefix old new (text ++ more)
 PutsPrefix-after old mid new [] more p q = (
   q.0,
-  λ h. let k = q.1 (p.0 ∙ h) in (Keeps-trans old.bytes mid.bytes new.bytes (Keeps-none old.bytes mid.bytes p.2) k.0, k.1 ∙ p.3 refl),
+  λ h. let k = q.1 (p.0 ∙ h) in (
+    Keeps-trans old.bytes mid.bytes new.bytes
+        (Keeps-none old.bytes mid.bytes p.2) k.0,
+    k.1 ∙ p.3 refl,
+  ),
   AppendsPrefix-after old.bytes mid.bytes new.bytes [] more p.2 q.2,
 )
-PutsPrefix-after old mid new (x ∷ xs) more p q =
-    (q.0, λ h. absurd (false≢true (sym (p.1 (cons≢nil x xs)) ∙ h)), AppendsPrefix-after old.bytes mid.bytes new.bytes (x ∷ xs) more p.2 q.2)
+PutsPrefix-after old mid new (x ∷ xs) more p q = (
+  q.0,
+  λ h. absurd (false≢true (sym (p.1 (cons≢nil x xs)) ∙ h)),
+  AppendsPrefix-after old.bytes mid.bytes new.bytes (x ∷ xs) more p.2 q.2,
+)
 
 -- the writer failed at once
 pub PutsPrefix-none : (old new : Writer) (text : List ℕ) → new.failed ≡ true
     → Keeps old.bytes new.bytes → new.pending ≡ old.pending → PutsPrefix old new text
-PutsPrefix-none old new text f k same = (f, λ h. (k, same), ([], text, refl, Appends-kept old.bytes old.bytes new.bytes [] (Appends-nil old.bytes) k))
+PutsPrefix-none old new text f k same = (
+  f,
+  λ h. (k, same),
+  ([], text, refl, Appends-kept old.bytes old.bytes new.bytes [] (Appends-nil old.bytes) k),
+)
 
 -- the fault of a writer that was passed on
 pub Puts-fault : {A E : Type 0} (old new : Writer) (r : Result A E) (fault : E → Type 0)
@@ -95,7 +116,8 @@ pub PutsAll-next : (old mid new : Writer) (text : List ℕ) (at n : ℕ)
     → PutsAll old new (take (at + n) text)
 PutsAll-next old mid new text at n p q =
     subst (λ t. PutsAll old new t) (sym (take-add at n text))
-    (PutsAll-after old mid new (take at text) (take n (drop at text)) p (q.1 ∙ sym q.0, λ h. q.0, q.4, λ e. absurd (take-some n (drop at text) q.2 q.3 e)))
+    (PutsAll-after old mid new (take at text) (take n (drop at text)) p
+    (q.1 ∙ sym q.0, λ h. q.0, q.4, λ e. absurd (take-some n (drop at text) q.2 q.3 e)))
 
 -- a text of which the first bytes were written, and nothing after them
 pub PutsPrefix-stopped : (old mid new : Writer) (text : List ℕ) (at : ℕ) → PutsAll old mid (take at text)
@@ -118,7 +140,7 @@ pub PutsAll-element : {X : Type 0} (f : X → List ℕ) (old mid new : Writer) (
 PutsAll-element f old mid new xs i d h p q =
     let e : flat_map f (take (i + 1) xs) ≡ flat_map f (take i xs) ++ f (get_or xs i d) =
     ap (flat_map f) (take_more xs i d h) ∙ flat_map-append f (take i xs) (get_or xs i d ∷ [])
-        ∙ ap (λ t. flat_map f (take i xs) ++ t) (append-nil (f (get_or xs i d))) in
+    ∙ ap (λ t. flat_map f (take i xs) ++ t) (append-nil (f (get_or xs i d))) in
     subst (λ t. PutsAll old new t) (sym e) (PutsAll-after old mid new (flat_map f (take i xs)) (f (get_or xs i d)) p q)
 
 -- a prefix of the text of the next element

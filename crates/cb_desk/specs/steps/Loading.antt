@@ -8,10 +8,11 @@ use Rattle.cb_desk.specs.Timeline.{Timeline}
 use Rattle.cb_desk.specs.steps.Records.{Numbered, Rooms, Turn}
 use Rattle.cb_desk.specs.steps.Walks.{IsRecorded, Recorded}
 
--- the timeline of the loads, and how many bytes were scanned
+-- the timeline of the loads, how many bytes were scanned, and how often a file was shown or hidden
 pub record Loaded : Type 0 where
   pub timeline : Timeline
   pub meter : ℕ
+  pub turns : ℕ
 
 -- the world of what is loaded, which uses all of the archive
 abbrev pub loaded_numbers : Archived → List Shown → Numbered

@@ -11,7 +11,7 @@ use Rattle.cb_session.specs.declared.limits.TheConstants.{MOST_LINE}
 use Rattle.cb_session.specs.Commands.{short_line}
 use Rattle.cb_session.specs.Inputs.{first, with_block}
 use Rattle.cb_session.specs.Requests.{refused, quit, overlong}
-use Rattle.cb_session.specs.Devices.{Reader}
+use Rattle.cb_session.specs.Devices.{Reader, HasRead}
 
 -- a line of so many bytes, which a command may have or not
 abbrev pub line_of_length : ℕ → LineRead
@@ -30,6 +30,10 @@ ReadsLine limit bytes new line (Ok Long) =
 ReadsLine limit bytes new line (Err LongLine) = (first limit bytes).request ≡ overlong
 ReadsLine limit bytes new line (Err Read) = new.stage ≡ Failed
 ReadsLine limit bytes new line (Err _) = ⊥
+
+-- the reader failed before so many bytes were read
+abbrev pub StopsBefore : ℕ → Reader → Reader → Type 0
+StopsBefore count old new = (read : List ℕ) × HasRead old new read × (length read < count)
 
 -- a block was read; or the input ended before; or memory for it was refused; or the reader failed
 abbrev pub ReadsBlock : {A : Type 0} → ℕ → List ℕ → Reader

@@ -1,7 +1,8 @@
-use Rattle.std.proofs.Common.{◌≡◌, ◌∙◌, ap, subst, sym}
-use Rattle.cb_desk.specs.Desk.{bytes_in, counted}
+use Rattle.std.proofs.Common.{◌≡◌, ◌∙◌, ap, length, subst, sym}
+use Rattle.cb_scan.specs.TextFacts.{TextFacts}
+use Rattle.cb_desk.specs.Desk.{bytes_in, counted, definitions_in}
 use Rattle.cb_desk.specs.Models.{file_of}
-use Rattle.cb_desk.proofs.Counted.{counted_none, counts_bound, counts_least, counts_next, counts_stop}
+use Rattle.cb_desk.proofs.Counted.{counted_none, counts_bound, counts_least, counts_next, counts_stop, finds_bound, finds_next}
 use Rattle.cb_desk.proofs.state.scan_files.Goals as goal
 
 pub loop-source-preserved : goal.loop-source-preserved
@@ -13,14 +14,18 @@ loop-source-preserved c =
     let counts = subst (λ fs. counted m (bytes_in fs) ≡ counted old all) c.in-Some.ensures.steps c.loop-source.invariant.counts in
     let least = c.loop-source.invariant.least in
     let fits = c.loop-source.invariant.fits in
+    let finds = subst (λ fs. counted c.loop-source.found (definitions_in fs) ≡ counted 0 (definitions_in c.args.files)) c.in-Some.ensures.steps c.loop-source.invariant.finds in
+    let count = ap length (c.defs.ensures.value ∙ ap (λ (t : TextFacts). t.defs) c.in-Ok.ensures.facts) in
     record {
       counts = counts_next old m all _ f _ counts c.scan.ensures.counted;
       least = counts_least old m all _ f _ counts c.scan.ensures.counted least fits;
       fits = counts_bound old m all _ f _ counts c.scan.ensures.counted;
+      finds = finds_next c.loop-source.found _ (definitions_in c.args.files) f _ _ finds count c.saturating_add-found.ensures;
+      few = finds_bound c.loop-source.found _ _ c.saturating_add-found.ensures;
     }
 
-pub returns-then-is_err : goal.returns-then-is_err
-returns-then-is_err c =
+pub returns-in-Err-clause-meter : goal.returns-in-Err-clause-meter
+returns-in-Err-clause-meter c =
     let old = c.args.meter.now in
     let m = c.loop-source.meter in
     let all = bytes_in c.args.files in
@@ -28,9 +33,16 @@ returns-then-is_err c =
     let counts = subst (λ fs. counted m (bytes_in fs) ≡ counted old all) c.in-Some.ensures.steps c.loop-source.invariant.counts in
     counts_stop old m all _ f _ counts c.scan.ensures.counted c.loop-source.invariant.least c.loop-source.invariant.fits
 
-pub returns : goal.returns
-returns c =
+pub returns-clause-meter : goal.returns-clause-meter
+returns-clause-meter c =
     let m = c.loop-source.meter in
     sym (counted_none m c.loop-source.invariant.fits)
     ∙ ap (λ fs. counted m (bytes_in fs)) (sym c.in-None.ensures.steps.0)
     ∙ c.loop-source.invariant.counts
+
+pub returns-clause-found : goal.returns-clause-found
+returns-clause-found c =
+    let n = c.loop-source.found in
+    sym (counted_none n c.loop-source.invariant.few)
+    ∙ ap (λ fs. counted n (definitions_in fs)) (sym c.in-None.ensures.steps.0)
+    ∙ c.loop-source.invariant.finds

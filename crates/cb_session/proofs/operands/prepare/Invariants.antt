@@ -1,6 +1,7 @@
-use Rattle.std.proofs.Common.{◌≡◌, length, map, Result}
+use Rattle.std.proofs.Common.{◌≡◌, ◌≤◌, ◌-◌, ◌^◌, length, map, Result}
 use Rattle.std.specs.Vec.Iter.{into_iter_items, into_iter_len}
 use Rattle.cb_session.specs.Operands.{RefusedOperand, Loads, file_of_operand}
+use Rattle.cb_desk.specs.Desk.{bytes_in, counted}
 use Rattle.cb_desk.specs.Timeline.{Timeline, new_timeline}
 use Rattle.cb_session.proofs.operands.prepare.Given as goal
 
@@ -8,5 +9,8 @@ abbrev pub invariant-loop-operand : goal.invariant-loop-operand
 invariant-loop-operand l = record {
   goes : (end : Result Timeline RefusedOperand) → Loads l.place l.loading.timeline (map file_of_operand (into_iter_items l.operand-iterator)) end → Loads 0 new_timeline (map file_of_operand l.fn.operands.items) end;
   placed : l.place ≡ length l.loading.timeline.past;
+  scanned : counted l.loading.meter (bytes_in (map file_of_operand (into_iter_items l.operand-iterator))) ≡ counted 0 (bytes_in (map file_of_operand l.fn.operands.items));
+  fits : l.loading.meter ≤ 2 ^ 64 - 1;
+  hidden : l.loading.turns ≡ 0;
   counted : into_iter_len l.operand-iterator ≡ length (into_iter_items l.operand-iterator);
 }

@@ -1,7 +1,7 @@
 use Rattle.std.proofs.Common.{Ok}
 use Rattle.cb_session.specs.Inputs.{inputs}
 use Rattle.cb_session.proofs.Rounds.{session_run}
-use Rattle.cb_session.proofs.Running.{Follows-loaded, Follows-refused}
+use Rattle.cb_session.proofs.Running.{Follows-loaded, Follows-refused, Runs-refused}
 use Rattle.cb_session.proofs.operands.run.Goals as goal
 
 -- what is left beside the session
@@ -20,3 +20,7 @@ returns-in-Ok-clause-every_input g c =
 
 pub returns-in-Err-clause-every_input : goal.returns-in-Err-clause-every_input
 returns-in-Err-clause-every_input g c = Follows-refused _ c.args.limits.now.lines c.args.limits.now.line c.args.feed.now c.args.out.now c.in-Err.ended c.in-Err.ensures
+
+pub returns-in-Err-clause-output : goal.returns-in-Err-clause-output
+returns-in-Err-clause-output g c = λ bytes e.
+    Runs-refused _ c.args.limits.now.lines c.args.limits.now.line bytes c.args.feed.now c.args.out.now c.in-Err.ended c.in-Err.ensures e

@@ -17,4 +17,4 @@ pub returns : goal.returns
 unfolding address
 returns g c =
     Puts-after _ _ _ _ _ _ c.in_ok-put_text.ensures
-        (Puts-after _ _ _ _ _ _ c.in_ok-put_escaped.ensures c.put_text-2.ensures)
+    (Puts-after _ _ _ _ _ _ c.in_ok-put_escaped.ensures c.put_text-2.ensures)

@@ -5,7 +5,12 @@ use Rattle.cb_tags.proofs.address.read_address.Goals as goal
 use Rattle.cb_tags.proofs.address.read_address.Goals.{in_default-via-in-Some+else-are_items, in_default-via-in_default}
 
 pub returns-in-Some : goal.returns-in-Some
-returns-in-Some c = (c.in-Some.items.now, c.in-Some.ensures, read-Items c.in-Some.items.now (sym c.are_items.ensures ∙ c.if-are_items.true))
+returns-in-Some c = (
+  c.in-Some.items.now,
+  c.in-Some.ensures,
+  read-Items c.in-Some.items.now
+      (sym c.are_items.ensures ∙ c.if-are_items.true),
+)
 
 pub returns-in_default : goal.returns-in_default
 returns-in_default c = elim c.in_default.branch [

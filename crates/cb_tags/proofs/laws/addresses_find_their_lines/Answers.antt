@@ -5,4 +5,8 @@ use Rattle.cb_tags.proofs.Places.{finds-line}
 use Rattle.cb_tags.proofs.laws.addresses_find_their_lines.Goals as goal
 
 pub returns : goal.returns
-returns c = record { read_back = λ source n. address-read (line_text source n) (line_text-one source n); found = finds-line }
+returns c = record {
+  read_back = λ source n. address-read (line_text source n)
+      (line_text-one source n);
+  found = finds-line;
+}

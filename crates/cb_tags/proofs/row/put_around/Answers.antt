@@ -13,4 +13,4 @@ returns-in_err-put_address g c =
 pub returns : goal.returns
 returns g c =
     Puts-after _ _ _ _ _ _ c.in_ok-put_texts.ensures
-        (Puts-after _ _ _ _ _ _ c.in_ok-put_address.ensures c.put_texts-2.ensures)
+    (Puts-after _ _ _ _ _ _ c.in_ok-put_address.ensures c.put_texts-2.ensures)

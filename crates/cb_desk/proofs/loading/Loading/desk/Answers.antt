@@ -1,22 +1,11 @@
-use Rattle.std.proofs.Common.{rules, ◌≡◌, ◌≤◌, ◌∙◌, sym, ap, subst, length, arith}
+use Rattle.std.proofs.Common.{rules, ◌≡◌, ◌≢◌, ◌∙◌, [], sym, ap, subst, length}
 use Rattle.cb_index.specs.Archived.{Archived}
 use Rattle.cb_desk.specs.Timeline.{IsValidTimeline}
 use Rattle.cb_desk.specs.steps.Loading.{HasRoomToShow, Loaded, loaded_numbers}
 use Rattle.cb_desk.specs.steps.Records.{no_numbers}
-use Rattle.cb_desk.proofs.LoadingLemmas.{all_there, empty_list, nothing_loaded, refused_with, rooms_kept, shown_recorded, shown_timeline, some_past}
+use Rattle.cb_desk.specs.Desk.{counted}
+use Rattle.cb_desk.proofs.LoadingLemmas.{all_there, refused_with, rooms_kept, shown_recorded, shown_timeline, shown_turns, some_past}
 use Rattle.cb_desk.proofs.loading.Loading.desk.Goals as goal
-
-pub returns-then-count-eq0 : goal.returns-then-count-eq0
-returns-then-count-eq0 c =
-    let a = c.self.inside.shelf.archive in
-    let shown = c.self.inside.shown.items in
-    let records = c.self.inside.records.items in
-    let none : length records ≡ 0 = search rules in (
-      c.over.ensures.timeline ∙ c.new.ensures.timeline
-          ∙ sym (nothing_loaded a c.self.inside.shelf.shown shown records c.self.invariant (empty_list records none))
-          ∙ ap (λ (l : Loaded). l.timeline) c.self.view_is,
-      c.over.ensures.meter ∙ ap (λ (l : Loaded). l.meter) c.self.view_is,
-    )
 
 pub show-requires-clause-there : goal.show-requires-clause-there
 show-requires-clause-there c =
@@ -29,8 +18,7 @@ returns-in_err-show c =
     let a = c.self.inside.shelf.archive in
     let shown = c.self.inside.shown.items in
     let records = c.self.inside.records.items in
-    let count : c.len-count.result ≡ length records = search rules in
-    let some : 1 ≤ length records = omega (arith, count, c.if-count-eq0.false) in
+    let some : shown ≢ [] = rw (sym c.as_slice.ensures.value) c.in_err-show.ensures.some in
     refused_with _ _ c.from_residual.result c.from_residual.ensures.0
     (λ none. some_past a c.self.inside.shelf.shown shown records c.self.invariant some
     (ap (λ (l : Loaded). l.timeline.past) c.self.view_is ∙ none))
@@ -53,8 +41,8 @@ loaded-requires c =
     c.loaded-present.ensures.files c.loaded-present.ensures.defs c.loaded-present.ensures.uses c.loaded-present.ensures.calls in
     shown_recorded a c.self.inside.shelf.shown shown records c.loaded-present.result c.self.invariant now names texts rooms
 
-pub over-requires-2 : goal.over-requires-2
-over-requires-2 c =
+pub over-requires : goal.over-requires
+over-requires c =
     let a = c.self.inside.shelf.archive in
     let shown = c.self.inside.shown.items in
     let records = c.self.inside.records.items in
@@ -69,7 +57,7 @@ over-requires-2 c =
     let rooms =
     rooms_kept a c.show.new.shelf shown c.loaded-present.result.rooms c.show.ensures.texts has
     c.loaded-present.ensures.files c.loaded-present.ensures.defs c.loaded-present.ensures.uses c.loaded-present.ensures.calls in
-    subst IsValidTimeline (sym c.loaded.ensures)
+    subst IsValidTimeline (sym c.loaded.ensures.timeline)
     (shown_recorded a c.self.inside.shelf.shown shown records c.loaded-present.result c.self.invariant now names texts rooms).valid
 
 pub returns : goal.returns
@@ -77,6 +65,7 @@ returns c =
     let a = c.self.inside.shelf.archive in
     let shown = c.self.inside.shown.items in
     let records = c.self.inside.records.items in
+    let turned : c.show.new.shelf.turns ≡ counted c.self.inside.shelf.turns (length shown) = search rules in
     let count : c.len-count.result ≡ length records = search rules in
     let is_shown : c.show.new.shelf.shown ≡ shown = search rules in
     let has : HasRoomToShow c.show.new.shelf shown = search rules in
@@ -88,8 +77,11 @@ returns c =
     let rooms =
     rooms_kept a c.show.new.shelf shown c.loaded-present.result.rooms c.show.ensures.texts has
     c.loaded-present.ensures.files c.loaded-present.ensures.defs c.loaded-present.ensures.uses c.loaded-present.ensures.calls in (
-      c.over-2.ensures.timeline ∙ c.loaded.ensures
+      c.over.ensures.timeline ∙ c.loaded.ensures.timeline
           ∙ shown_timeline a c.self.inside.shelf.shown shown records c.loaded-present.result c.self.invariant now names texts rooms
           ∙ ap (λ (l : Loaded). l.timeline) c.self.view_is,
-      c.over-2.ensures.meter ∙ ap (λ (l : Loaded). l.meter) c.self.view_is,
+      c.over.ensures.meter ∙ ap (λ (l : Loaded). l.meter) c.self.view_is,
+      c.over.ensures.turns ∙ c.loaded.ensures.turns ∙ c.loaded-present.ensures.turns
+          ∙ shown_turns a c.self.inside.shelf.shown shown records c.self.invariant c.self.inside.shelf.turns c.show.new.shelf.turns turned
+          ∙ ap (λ (l : Loaded). counted l.turns (length l.timeline.past)) c.self.view_is,
     )

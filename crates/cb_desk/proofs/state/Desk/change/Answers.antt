@@ -27,7 +27,7 @@ pub returns-in-Some-clause-meter : goal.returns-in-Some-clause-meter
 returns-in-Some-clause-meter c =
     let fits : c.self.inside.meter ≤ 2 ^ 64 - 1 = search rules in
     let same : c.self.inside.meter ≡ c.args.self.now.meter = ap (λ (d : DeskState). d.meter) c.self.view_is in
-    subst (λ n. Counts (scanned c.args.self.now.timeline.present (step_of c.args.change)) c.args.self.now.meter n (Err c.in-Some.refusal)) (sym same)
+    subst (λ n. Counts {A = Unit {0}} (scanned c.args.self.now.timeline.present (step_of c.args.change)) c.args.self.now.meter n (Err c.in-Some.refusal)) (sym same)
     (refused_counts c.args.self.now.meter (subst (λ n. n ≤ 2 ^ 64 - 1) same fits)
     (scanned c.args.self.now.timeline.present (step_of c.args.change)) c.in-Some.refusal)
 

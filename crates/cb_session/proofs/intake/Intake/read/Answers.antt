@@ -3,6 +3,7 @@ use Rattle.cb_session.specs.Commands.{short_line}
 use Rattle.cb_session.proofs.FirstInputs.{Reads-end, Reads-long, Reads-no_line, Reads-whole, Follows-with_block}
 use Rattle.cb_session.proofs.Follows.{Follows-so}
 use Rattle.cb_session.proofs.Patterns.{HasPattern-whole}
+use Rattle.cb_session.proofs.Unread.{Unread-change}
 use Rattle.cb_session.proofs.intake.Intake.read.Goals as goal
 
 pub returns-in-Whole-clause-pattern : goal.returns-in-Whole-clause-pattern
@@ -36,3 +37,9 @@ returns-in-Block-clause-every_input g c = let line = rw c.in-Line.is at c.in_ok-
     let asked = ap short_line (sym c.as_slice.ensures.value) ∙ sym c.in-Block.ensures in
     Follows-with_block c.args.limits.now.line c.read_line.new.self.line.items c.args.feed.now c.read_line.new.feed c.read_change.new.feed _ c.read_change.result asked
     line.every_input c.read_change.ensures.every_input
+
+pub returns-in-Block-clause-unread : goal.returns-in-Block-clause-unread
+returns-in-Block-clause-unread g c = let line = rw c.in-Line.is at c.in_ok-read_line.ensures in
+    let asked = ap short_line (sym c.as_slice.ensures.value) ∙ sym c.in-Block.ensures in
+    Unread-change c.args.limits.now.line c.read_line.new.self.line.items c.args.feed.now c.read_line.new.feed c.read_change.new.feed _ _ _ c.read_change.result asked
+    line.every_input c.read_change.ensures.unread c.read_change.ensures.failed

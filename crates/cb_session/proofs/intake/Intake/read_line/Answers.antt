@@ -2,6 +2,7 @@ use Rattle.std.proofs.Common.{◌≡◌, ◌∷◌, [], arith, subst}
 use Rattle.cb_session.specs.Devices.{HasRead}
 use Rattle.cb_session.proofs.Follows.{HasRead-byte}
 use Rattle.cb_session.proofs.Streams.{Seen, Seen-more, ReadsLine-line_feed, ReadsLine-end, ReadsLine-none, first_overlong, Follows-line_feed, Follows-line_end, Follows-line_failed, Follows-no_line, Follows-overlong}
+use Rattle.cb_session.proofs.Unread.{Unread-line}
 use Rattle.cb_session.proofs.intake.Intake.read_line.Goals as goal
 
 pub returns-in-None-clause-line : goal.returns-in-None-clause-line
@@ -84,3 +85,13 @@ pub returns-in_err-byte-2-clause-every_input : goal.returns-in_err-byte-2-clause
 returns-in_err-byte-2-clause-every_input g c =
     Follows-line_failed c.args.limits.now.line c.bytes.self.line.items c.args.feed.now c.bytes.feed c.byte-2.new.self c.bytes.read c.in_err-byte-2.field-0.0 c.from_residual-in_err-byte-2.result c.bytes.invariant
     c.in_err-byte-2.ensures c.from_residual-in_err-byte-2.ensures.1
+
+pub returns-in_err-byte-clause-unread : goal.returns-in_err-byte-clause-unread
+returns-in_err-byte-clause-unread g c =
+    Unread-line c.args.limits.now.line c.bytes.self.line.items c.args.feed.now c.bytes.feed c.byte.new.self c.bytes.read c.in_err-byte.field-0.0 c.from_residual.result c.bytes.invariant
+    c.in_err-byte.ensures
+
+pub returns-in_err-byte-2-clause-unread : goal.returns-in_err-byte-2-clause-unread
+returns-in_err-byte-2-clause-unread g c =
+    Unread-line c.args.limits.now.line c.bytes.self.line.items c.args.feed.now c.bytes.feed c.byte-2.new.self c.bytes.read c.in_err-byte-2.field-0.0 c.from_residual-in_err-byte-2.result c.bytes.invariant
+    c.in_err-byte-2.ensures

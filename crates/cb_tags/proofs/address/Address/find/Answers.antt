@@ -13,5 +13,6 @@ loop-index-preserved c =
     let count = c.line_count-index-end.ensures in
     let less : length (lines c.args.source.now) - (i + 1) ≡ left - 1 = omega arith in
     ap (λ n. find reads (range_with_len (i + 1 + 1) n)) less
-    ∙ sym (find-next reads (i + 1) left (omega (arith, count, c.loop-index-test.true)) (sym c.is_at.ensures ∙ c.if-is_at.false))
+    ∙ sym (find-next reads (i + 1) left (omega (arith, count, c.loop-index-test.true))
+    (sym c.is_at.ensures ∙ c.if-is_at.false))
     ∙ c.loop-index.invariant

@@ -8,4 +8,4 @@ use Rattle.cb_tags.proofs.address.Address.find.Given as goal
 abbrev pub invariant-loop-index : goal.invariant-loop-index
 invariant-loop-index l =
     find (λ n. bytes_eq l.self (line_text l.source n))
-        (range_with_len (l.index + 1) (length (lines l.source) - l.index)) ≡ finds l.source l.self
+    (range_with_len (l.index + 1) (length (lines l.source) - l.index)) ≡ finds l.source l.self

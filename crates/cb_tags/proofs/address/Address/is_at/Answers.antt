@@ -11,7 +11,10 @@ returns-in-Some c =
     let source = c.args.source.now in
     c.stand_for.ensures
     ∙ ap (λ t. bytes_eq t c.in-Some.line.now) c.self.view_is
-    ∙ ap (bytes_eq c.args.self.now) (sym (line_text-at source c.args.n c.requires.above ∙ get_or_from_slice_get (lines source) (c.args.n - 1) _ [] (sym (c.in-Some.ensures.line c.requires.above))))
+    ∙ ap (bytes_eq c.args.self.now) (sym
+    (line_text-at source c.args.n c.requires.above ∙ get_or_from_slice_get (lines source)
+    (c.args.n - 1) _ [] (sym (c.in-Some.ensures.line c.requires.above))))
 
 pub returns-in-None : goal.returns-in-None
-returns-in-None c = absurd (not_past (lines c.args.source.now) (c.args.n - 1) [] (omega (arith, c.requires.above, c.requires.within)) (c.in-None.ensures.line c.requires.above))
+returns-in-None c = absurd (not_past (lines c.args.source.now) (c.args.n - 1) []
+    (omega (arith, c.requires.above, c.requires.within)) (c.in-None.ensures.line c.requires.above))
