@@ -1,5 +1,5 @@
 -- What a run of the program leaves: the promise of `execute`.
-use Rattle.std.specs.Prelude.{◌≡◌, ◌⊎◌, ℕ, List, Result, Ok, Err, String, map, string_bytes}
+use Rattle.std.specs.Prelude.{◌≡◌, ◌⊎◌, ℕ, List, Option, Result, Ok, Err, String, map, string_bytes}
 use Rattle.std.specs.Global.{Global}
 use Rattle.std.specs.Vec.Iter.{into_iter_items}
 use Rattle.std.specs.declared.io.Error.{Error}
@@ -21,8 +21,9 @@ use Rattle.cb_words.specs.Usages.{IsUsageOf, IsWordFault}
 abbrev pub EndsJob : List (List ℕ) → ℕ → Reader → Reader → Writer → Writer
     → Writer → Writer → Type 0
 EndsJob words status feed feed' out out' errors errors' =
-    (job : Job) × (end : Finish) × IsJobOf (subcommand_of browse_app words) job
-    × Works job feed feed' out out' end
+    (job : Job) × (end : Finish) × (file : Option Writer)
+    × IsJobOf (subcommand_of browse_app words) job
+    × Works job feed feed' out out' end file
     × (status ≡ status_of end) × Says errors errors' (said_of job end)
 
 -- the words give no job, input and output are left alone, and the exit status and standard error

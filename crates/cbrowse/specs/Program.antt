@@ -12,7 +12,6 @@ use Rattle.cb_desk.specs.Answer.{answer}
 use Rattle.cb_desk.specs.declared.tags.Format.{Format}
 use Rattle.cb_desk.specs.declared.tags.Format.TheVariants.{Extended}
 use Rattle.cb_desk.specs.Tags.{tags, tags_text, listing_text}
-use Rattle.cb_desk.specs.Timeline.{Timeline, new_timeline}
 use Rattle.cb_desk.specs.World.{World, File}
 use Rattle.cb_session.specs.declared.input.Ended.{Ended}
 use Rattle.cb_session.specs.declared.input.Ended.TheVariants.{Done, Fault, Operand as StoppedAt}
@@ -20,8 +19,9 @@ use Rattle.cb_session.specs.declared.input.Fault.TheVariants.{Write, Memory}
 use Rattle.cb_session.specs.declared.operands.Operand.{Operand}
 use Rattle.cb_session.specs.Devices.{Reader}
 use Rattle.cb_session.specs.Output.{row_line}
-use Rattle.cb_session.specs.Operands.{Loads, RefusedOperand}
+use Rattle.cb_session.specs.Operands.{LoadsAll, RefusedOperand}
 use Rattle.cb_session.specs.Serving.{Serves}
+use Rattle.cb_session.specs.States.{State}
 use Rattle.cb_tags.specs.TagLines.{Tag}
 use Rattle.cb_tags.specs.Writers.{Writer}
 use Rattle.cb_tags.specs.Writing.{AppendsPrefix}
@@ -76,15 +76,16 @@ HasPattern _ = Unit {0}
 
 -- a job is done from a timeline: a session is served; the rows of a search and tags are written, and
 -- the reader is left alone
-abbrev pub DoesJob : Job → (lines limit : ℕ) → Timeline → Reader → Reader → Writer → Writer
+abbrev pub DoesJob : Job → (lines limit : ℕ) → State → Reader → Reader → Writer → Writer
     → Ended → Type 0
-DoesJob (Line files) lines limit t feed feed' old new ended =
-    (next : Timeline) × Serves lines limit t next feed feed' old new ended
-DoesJob (Find field pattern files) lines limit t feed feed' old new ended =
+DoesJob (Line files) lines limit s feed feed' old new ended =
+    (next : State) × Serves lines limit s next feed feed' old new ended
+DoesJob (Find field pattern files) lines limit s feed feed' old new ended =
     (feed' ≡ feed)
-    × WritesText (flat_map row_line (answer t.present field (string_bytes pattern))) old new ended
-DoesJob (Tags listing tagsfile format files) lines limit t feed feed' old new ended =
-    (feed' ≡ feed) × WritesText (tags_output listing format t.present) old new ended
+    × WritesText (flat_map row_line (answer s.timeline.present field (string_bytes pattern)))
+    old new ended
+DoesJob (Tags listing tagsfile format files) lines limit s feed feed' old new ended =
+    (feed' ≡ feed) × WritesText (tags_output listing format s.timeline.present) old new ended
 
 -- ---- a job over files
 
@@ -117,13 +118,6 @@ MayWrite name found = is_source_name name ≡ true → metadata_len found ≡ 0
 abbrev pub LeavesAlone : Reader → Reader → Writer → Writer → Type 0
 LeavesAlone feed feed' out out' = (feed' ≡ feed) × (out' ≡ out)
 
--- the writing of a tags file ends when it is done or where memory is refused; a writer that fails
--- is told by the file's name
-abbrev pub EndsFile : Ended → Type 0
-EndsFile Done = Unit {0}
-EndsFile (Fault Memory) = Unit {0}
-EndsFile _ = ⊥
-
 -- the text of the tags file that a job writes
 abbrev pub file_text : Job → World → List ℕ
 file_text (Line files) w = []
@@ -141,11 +135,18 @@ WritesFile text old new (Ran ended) = (ended ≡ Done) × WritesText text old ne
 WritesFile text old new Unwritable = WritesText text old new (Fault Write)
 WritesFile text old new (Unreadable place) = ⊥
 
--- a tags file was written, or can't be
-abbrev pub EndsIntoFile : Finish → Type 0
-EndsIntoFile (Ran ended) = EndsFile ended
-EndsIntoFile Unwritable = Unit {0}
-EndsIntoFile (Unreadable place) = ⊥
+-- no tags file was made: memory was refused, or the file can't be made
+abbrev pub MakesNone : Finish → Type 0
+MakesNone (Ran ended) = ended ≡ Fault Memory
+MakesNone Unwritable = Unit {0}
+MakesNone (Unreadable place) = ⊥
+
+-- a tags file was made and the text was written into it, or the file can't be written; or none was
+-- made
+abbrev pub MakesFile : List ℕ → Option Writer → Finish → Type 0
+MakesFile text (Some file) end =
+    (held : Option (List ℕ)) × WritesFile text (fresh held) file end
+MakesFile text None end = MakesNone end
 
 -- the names of operands
 abbrev pub names_of : List Operand → List (List ℕ)
@@ -165,39 +166,44 @@ StopsReading files read (Unreadable place) =
 StopsReading files read Unwritable = ⊥
 
 -- the files of a job under their names, in order, with some contents, and where their loads lead
-abbrev pub Reaches : Job → Result Timeline RefusedOperand → Type 0
+abbrev pub Reaches : Job → Result State RefusedOperand → Type 0
 Reaches job end =
-    (files : List File) × (map (λ f. f.name) files ≡ files_of job) × Loads 0 new_timeline files end
+    (files : List File) × (map (λ f. f.name) files ≡ files_of job) × LoadsAll files end
 
--- the job is done from a timeline: into a tags file, which leaves standard output alone, or over
--- the input and output
-abbrev pub DoesInto : (file : Bool) → Timeline → Job → Reader → Reader → Writer → Writer → Ended
-    → Type 0
-DoesInto true t job feed feed' out out' ended = EndsFile ended × LeavesAlone feed feed' out out'
-DoesInto false t job feed feed' out out' ended =
-    DoesJob job most_lines most_line_bytes t feed feed' out out' ended
+-- the job is done from a state: into a tags file, which leaves standard output alone, or over the
+-- input and output, and then no file is made
+abbrev pub DoesInto : (file : Bool) → State → Job → Reader → Reader → Writer → Writer → Ended
+    → Option Writer → Type 0
+DoesInto true s job feed feed' out out' ended made =
+    MakesFile (file_text job s.timeline.present) made (Ran ended) × LeavesAlone feed feed' out out'
+DoesInto false s job feed feed' out out' ended made =
+    DoesJob job most_lines most_line_bytes s feed feed' out out' ended × (made ≡ None)
 
 -- the same, as the words of the job ask for
-abbrev pub DoesFrom : Timeline → Job → Reader → Reader → Writer → Writer → Ended → Type 0
-DoesFrom t job feed feed' out out' ended =
-    DoesInto (writes_file job) t job feed feed' out out' ended
+abbrev pub DoesFrom : State → Job → Reader → Reader → Writer → Writer → Ended
+    → Option Writer → Type 0
+DoesFrom s job feed feed' out out' ended made =
+    DoesInto (writes_file job) s job feed feed' out out' ended made
 
 -- the job is done from where the loads lead; where one is refused nothing is done
-abbrev pub DoesLoaded : Job → Result Timeline RefusedOperand → Reader → Reader → Writer
-    → Writer → Ended → Type 0
-DoesLoaded job (Err stop) feed feed' out out' ended =
-    (ended ≡ StoppedAt stop.place stop.why) × LeavesAlone feed feed' out out'
-DoesLoaded job (Ok t) feed feed' out out' ended = DoesFrom t job feed feed' out out' ended
+abbrev pub DoesLoaded : Job → Result State RefusedOperand → Reader → Reader → Writer
+    → Writer → Ended → Option Writer → Type 0
+DoesLoaded job (Err stop) feed feed' out out' ended file =
+    (ended ≡ StoppedAt stop.place stop.why) × LeavesAlone feed feed' out out' × (file ≡ None)
+DoesLoaded job (Ok s) feed feed' out out' ended file = DoesFrom s job feed feed' out out' ended file
 
 -- a job is done, for some contents of its files; or memory was refused before their loads; or one
--- of them can't be read, or its tags file can't be written
-abbrev pub Works : Job → Reader → Reader → Writer → Writer → Finish → Type 0
-Works job feed feed' out out' (Ran ended) =
-    ((ended ≡ Fault Memory) × LeavesAlone feed feed' out out')
-    ⊎ ((end : Result Timeline RefusedOperand) × Reaches job end
-    × DoesLoaded job end feed feed' out out' ended)
-Works job feed feed' out out' (Unreadable place) =
-    (place < length (files_of job)) × LeavesAlone feed feed' out out'
-Works job feed feed' out out' Unwritable =
-    IsTrue (writes_file job) × ((t : Timeline) × Reaches job (Ok t))
+-- of them can't be read, or its tags file can't be written; a tags file is made only from where the
+-- loads lead
+abbrev pub Works : Job → Reader → Reader → Writer → Writer → Finish → Option Writer → Type 0
+Works job feed feed' out out' (Ran ended) file =
+    ((ended ≡ Fault Memory) × LeavesAlone feed feed' out out' × (file ≡ None))
+    ⊎ ((end : Result State RefusedOperand) × Reaches job end
+    × DoesLoaded job end feed feed' out out' ended file)
+Works job feed feed' out out' (Unreadable place) file =
+    (place < length (files_of job)) × LeavesAlone feed feed' out out' × (file ≡ None)
+Works job feed feed' out out' Unwritable file =
+    IsTrue (writes_file job)
+    × ((s : State) × Reaches job (Ok s)
+    × MakesFile (file_text job s.timeline.present) file Unwritable)
     × LeavesAlone feed feed' out out'

@@ -17,7 +17,6 @@ ghost use Rattle.cbrowse.specs.Program.{
   WritesFile,
   WritesText,
   DoesJob,
-  EndsIntoFile,
   fresh,
   Works,
 };
@@ -26,7 +25,7 @@ ghost use Rattle.cb_session.specs.Writing.{Puts};
 mod files;
 mod finish;
 
-use crate::execute::files::{make_file, read_operands};
+use crate::execute::files::{TagsFile, make_file, read_operands};
 use crate::execute::finish::{Finish, conclude, files_of};
 use cb_desk::{Desk, Field, Format, TagRows};
 use cb_session::{
@@ -107,7 +106,7 @@ fn write_rows<W: Write>(field: Field, pattern: &[u8], desk: &mut Desk, out: &mut
 /// Answers a question of a session, and leaves its memory to the end of the process.
 fn find_in<W: Write>(session: Session, field: Field, pattern: &[u8], out: &mut Sink<W>) -> Ended
     requires { pattern.now ≢ [] }
-    ensures { WritesText (flat_map row_line (answer session.present field pattern.now))
+    ensures { WritesText (flat_map row_line (answer session.timeline.present field pattern.now))
         out.old out.new result }
 {
     let mut desk = session.into_desk();
@@ -118,7 +117,8 @@ fn find_in<W: Write>(session: Session, field: Field, pattern: &[u8], out: &mut S
 
 /// Writes the tags of a session, and leaves its memory to the end of the process.
 fn tags_of<W: Write>(session: Session, listing: bool, format: Format, out: &mut Sink<W>) -> Ended
-    ensures { WritesText (tags_output listing format session.present) out.old out.new result }
+    ensures { WritesText (tags_output listing format session.timeline.present)
+        out.old out.new result }
 {
     let mut desk = session.into_desk();
     let ended = write_tags(listing, format, &mut desk, out);
@@ -186,7 +186,8 @@ fn run_job_over<I: BufRead, W: Write>(
 ) -> Finish
     requires file { writes_file job.now ≡ true }
     requires pattern { HasPattern job.now }
-    ensures written { WritesFile (file_text job.now session.present) out.old out.new result }
+    ensures written { WritesFile (file_text job.now session.timeline.present)
+        out.old out.new result }
     ensures feed { feed.new ≡ feed.old }
 {
     match run_job(alloc, job, &LIMITS, session, feed, out) {
@@ -205,9 +206,8 @@ fn run_job_into<I: BufRead, W: Write>(
 ) -> (Finish, Sink<W>)
     requires file { writes_file job.now ≡ true }
     requires pattern { HasPattern job.now }
-    ensures written { WritesFile (file_text job.now session.present) (fresh (W.contents writer))
-        result.1 result.0 }
-    ensures end { EndsIntoFile result.0 }
+    ensures written { WritesFile (file_text job.now session.timeline.present)
+        (fresh (W.contents writer)) result.1 result.0 }
     ensures feed { feed.new ≡ feed.old }
 {
     let mut out = Sink::new(writer);
@@ -216,32 +216,38 @@ fn run_job_into<I: BufRead, W: Write>(
 }
 
 /// Does a job: every file is read, then all are loaded, and only then a tags file is made or
-/// emptied.
+/// emptied, which is handed back.
 fn work<R: Files + AllocGlobal, I: BufRead, O: Write>(
     rt: &R,
     folder: &str,
     job: &Job,
     feed: &mut Feed<I>,
     out: &mut Sink<O>,
-) -> Finish
+) -> (Finish, Option<Sink<TagsFile<R::File>>>)
     requires { HasPattern job.now }
-    ensures { Works job.now feed.old feed.new out.old out.new result }
+    ensures { Works job.now feed.old feed.new out.old out.new result.0 result.1 }
 {
     let mut operands = Vec::new(rt.alloc());
     match read_operands(rt, folder, files_of(job), &mut operands) {
         Ok(()) => {}
-        Err(end) => return end,
+        Err(end) => return (end, None),
     }
     let session = match prepare(rt.alloc(), operands) {
         Ok(session) => session,
-        Err(ended) => return Finish::Ran(ended),
+        Err(ended) => return (Finish::Ran(ended), None),
     };
     match output_file(job) {
         Some(name) => match make_file(rt, folder, name) {
-            Ok(writer) => run_job_into(rt.alloc(), job, session, feed, writer).0,
-            Err(end) => end,
+            Ok(writer) => {
+                let (end, file) = run_job_into(rt.alloc(), job, session, feed, writer);
+                (end, Some(file))
+            }
+            Err(end) => (end, None),
         },
-        None => Finish::Ran(run_job(rt.alloc(), job, &LIMITS, session, feed, out)),
+        None => {
+            let ended = run_job(rt.alloc(), job, &LIMITS, session, feed, out);
+            (Finish::Ran(ended), None)
+        }
     }
 }
 
@@ -261,7 +267,10 @@ pub fn execute<R: Files + AllocGlobal, I: BufRead, O: Write, E: Write>(
         errors.old errors.new }
 {
     match job_of(rt.alloc(), words) {
-        Ok(job) => conclude(errors, &job, work(rt, folder, &job, feed, out)),
+        Ok(job) => {
+            let (end, _file) = work(rt, folder, &job, feed, out);
+            conclude(errors, &job, end)
+        }
         Err(usage) => refuse(errors, &usage),
     }
 }

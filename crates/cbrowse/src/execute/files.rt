@@ -12,7 +12,7 @@ ghost use Rattle.std.specs.Prelude.{
   take,
 };
 ghost use Rattle.cbrowse.specs.Program.{
-  EndsIntoFile,
+  MakesNone,
   MayWrite,
   StopsReading,
   is_source_name,
@@ -123,6 +123,9 @@ impl<F: Write + Drop> Write for LateFile<F> {
     }
 }
 
+/// A tags file that was made.
+pub(crate) type TagsFile<F> = BufWriter<LateFile<F>>;
+
 /// Whether a file of this name may be a C source.
 fn is_source_name(name: &str) -> bool
     ensures { result ≡ is_source_name name.now }
@@ -168,8 +171,8 @@ pub(crate) fn make_file<R: Files + AllocGlobal>(
     rt: &R,
     folder: &str,
     name: &str,
-) -> Result<BufWriter<LateFile<R::File>>, Finish>
-    ensures { IfErr result EndsIntoFile }
+) -> Result<TagsFile<R::File>, Finish>
+    ensures { IfErr result MakesNone }
 {
     match open_new(rt, folder, name) {
         Ok(writer) => Ok(writer),
@@ -182,7 +185,7 @@ fn open_new<R: Files + AllocGlobal>(
     rt: &R,
     folder: &str,
     name: &str,
-) -> io::Result<BufWriter<LateFile<R::File>>> {
+) -> io::Result<TagsFile<R::File>> {
     let path = path_of(rt.alloc(), folder, name)?;
     let mut writer = BufWriter::new(rt.alloc(), LateFile { file: None })?;
     let file = opening(name).open(rt, path.as_str())?;

@@ -1,4 +1,4 @@
-use Rattle.std.proofs.Common.{◌∙◌, inr, refl, Ok}
+use Rattle.std.proofs.Common.{◌∙◌, inr, refl, Ok, Some, None}
 use Rattle.cbrowse.proofs.Working.{into_file, over_both, reaches, stopped}
 use Rattle.cbrowse.proofs.execute.work.Goals as goal
 
@@ -8,12 +8,12 @@ returns-in-Err-prepare g c =
 
 pub returns-in-Ok-make_file : goal.returns-in-Ok-make_file
 returns-in-Ok-make_file g c =
-    into_file _ _ _ _ _ _ c.in-Some.ensures.0 (reaches _ _ (Ok _) (c.in-Ok.ensures ∙ c.files_of.ensures) c.in-Ok-prepare.ensures)
-    c.run_job_into.ensures.end c.run_job_into.ensures.feed
+    into_file _ _ _ _ _ _ (Some _) c.in-Some.ensures.0 (reaches _ _ (Ok _) (c.in-Ok.ensures ∙ c.files_of.ensures) c.in-Ok-prepare.ensures)
+    (_, c.run_job_into-end.ensures.written) c.run_job_into-end.ensures.feed
 
 pub returns-in-Err-make_file : goal.returns-in-Err-make_file
 returns-in-Err-make_file g c =
-    into_file _ _ _ _ _ _ c.in-Some.ensures.0 (reaches _ _ (Ok _) (c.in-Ok.ensures ∙ c.files_of.ensures) c.in-Ok-prepare.ensures)
+    into_file _ _ _ _ _ _ None c.in-Some.ensures.0 (reaches _ _ (Ok _) (c.in-Ok.ensures ∙ c.files_of.ensures) c.in-Ok-prepare.ensures)
     c.in-Err-make_file.ensures refl
 
 pub returns-in-None : goal.returns-in-None
@@ -21,5 +21,5 @@ returns-in-None g c =
     inr (
       Ok _,
       reaches _ _ (Ok _) (c.in-Ok.ensures ∙ c.files_of.ensures) c.in-Ok-prepare.ensures,
-      over_both _ _ _ _ _ _ _ c.in-None.ensures c.run_job.ensures,
+      over_both _ _ _ _ _ _ _ c.in-None.ensures c.run_job-ended.ensures,
     )
