@@ -290,4 +290,3 @@ module _ (a : Archived) where
       both true true is-p is-q later = later
       both true false is-p is-q later = absurd (false≢true is-q)
       both false q is-p is-q later = absurd (false≢true is-p)
-

@@ -6,8 +6,8 @@ ghost use Rattle.cb_index.specs.Items.{is_first};
 
 use crate::archive::Version;
 use crate::items::{Chain, item_count};
-use crate::repeats::is_repeat;
 use crate::kind::FactKind;
+use crate::repeats::is_repeat;
 
 /// How many rows the first item of a key and those behind it that have its key have together: as
 /// many as are no repeats.

@@ -28,8 +28,8 @@ use crate::archive::{Archive, Version};
 use crate::counts::row_count;
 use crate::entry::{Entry, Shown};
 use crate::items::{Chain, item_count, item_key};
-use crate::repeats::take_given;
 use crate::kind::FactKind;
+use crate::repeats::take_given;
 use crate::rows::{FactRow, FactSpot, fact_at};
 use crate::run::Run;
 

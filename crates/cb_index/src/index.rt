@@ -132,8 +132,7 @@ impl Index {
                 }
             }
             IndexKind::DefsByName => {
-                self.postings
-                    .put_each(IndexKind::DefsByName, archive, news)
+                self.postings.put_each(IndexKind::DefsByName, archive, news)
             }
             IndexKind::DefsByTagName => {
                 self.postings
@@ -196,9 +195,11 @@ impl Index {
         ensures itself { StaysItself self.old self.new }
     {
         if let IndexKind::Facts(kind) = self.kind {
-            self.postings.lay_each(kind, archive, self.pending.as_slice());
+            self.postings
+                .lay_each(kind, archive, self.pending.as_slice());
         }
-        self.postings.put_each(self.kind, archive, self.pending.as_slice());
+        self.postings
+            .put_each(self.kind, archive, self.pending.as_slice());
         self.pending.clear();
     }
 

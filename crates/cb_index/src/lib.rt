@@ -46,16 +46,14 @@ pub use entries::Entries;
 pub use entry::{Entry, Shown};
 pub use facts::{FactRows, FactSpots};
 pub use includes::IncludeRows;
-pub use links::Links;
 pub use kind::{FactKind, IndexKind};
+pub use links::Links;
 pub use listed::put_all_shown;
 pub use memory::OutOfMemory;
 pub use names::are_rising;
 pub use range::Rows;
 pub use room::Room;
-pub use row::{
-    CallsByCallee, CallsByCaller, DefsByName, DefsByTagName, Row, RowOrder, UsesByName,
-};
+pub use row::{CallsByCallee, CallsByCaller, DefsByName, DefsByTagName, Row, RowOrder, UsesByName};
 pub use rows::{FactRow, FactSpot};
 pub use shelf::Shelf;
 pub use sorted::Sorted;

@@ -13,10 +13,10 @@ ghost use Rattle.cb_index.specs.Repeats.{repeats_of};
 ghost use Rattle.cb_index.specs.steps.Laying.{AreSorted, item_entries};
 
 use crate::entry::Entry;
+use crate::kind::FactKind;
 use crate::laid::lay_in;
 use crate::memory::OutOfMemory;
 use crate::repeats::find_repeats;
-use crate::kind::FactKind;
 use crate::table::lay_in_table;
 use cb_scan::{Facts, Source};
 use std::alloc::Global;

@@ -88,8 +88,9 @@ pub(crate) fn compare_keys(kind: IndexKind, archive: &Archive, a: Entry, b: Entr
             name_in(archive, b.version, b.number),
             archive.name(b.name),
         ),
-        IndexKind::Facts(kind) => key_in(kind, archive, a.version, a.number)
-            .cmp(key_in(kind, archive, b.version, b.number)),
+        IndexKind::Facts(kind) => key_in(kind, archive, a.version, a.number).cmp(key_in(
+            kind, archive, b.version, b.number,
+        )),
     }
 }
 
@@ -207,13 +208,7 @@ fn tag_prefix(text: &[u8], def: &Def) -> u64
 
 /// Puts the entries of definitions behind others, with the prefixes of their names or, if so, of
 /// their tag names.
-fn append_defs(
-    by_tag_name: bool,
-    text: &[u8],
-    defs: &[Def],
-    shown: Shown,
-    entries: &mut Vec<Entry>,
-)
+fn append_defs(by_tag_name: bool, text: &[u8], defs: &[Def], shown: Shown, entries: &mut Vec<Entry>)
     requires room { vec_len entries.old + length defs.now ≤ vec_capacity entries.old }
     requires few { length defs.now < 2 ^ 32 }
     ensures entries { entries.new.items ≡ entries.old.items

@@ -35,7 +35,13 @@ pub(crate) struct Place {
 }
 
 /// A key with its prefix against an entry.
-fn compare_key(kind: IndexKind, archive: &Archive, prefix: u64, key: &[u8], entry: Entry) -> Ordering
+fn compare_key(
+    kind: IndexKind,
+    archive: &Archive,
+    prefix: u64,
+    key: &[u8],
+    entry: Entry,
+) -> Ordering
     ensures { result ≡ key_cmp (keyer_of kind) archive.now prefix key.now entry }
 {
     match prefix.cmp(&entry.prefix) {
@@ -103,7 +109,9 @@ fn count_begun(kind: IndexKind, archive: &Archive, bound: Bound<'_>, blocks: &[B
 }
 
 /// The place of a bound in blocks: in the last one that begins ahead of it, else at the start.
-pub(crate) fn place_of(kind: IndexKind, archive: &Archive,
+pub(crate) fn place_of(
+    kind: IndexKind,
+    archive: &Archive,
     bound: Bound<'_>,
     blocks: &[Block],
 ) -> Place

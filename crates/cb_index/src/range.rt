@@ -13,8 +13,8 @@ ghost use Rattle.cb_index.specs.steps.Runs.{run_entries};
 use crate::archive::Archive;
 use crate::entry::Entry;
 use crate::items::Chain;
-use crate::row::Row;
 use crate::kind::FactKind;
+use crate::row::Row;
 use crate::run::Run;
 
 /// The items of one entry that are still to come.

@@ -92,7 +92,11 @@ fn start(kind: IndexKind, archive: &Archive, row: Row) -> u32
             IndexKind::Facts(FactKind::Uses) => {
                 start_of(item_span(FactKind::Uses, version.facts(), row.item))
             }
-            IndexKind::Facts(_) => start_of(item_span(FactKind::Callees, version.facts(), row.item)),
+            IndexKind::Facts(_) => start_of(item_span(
+                FactKind::Callees,
+                version.facts(),
+                row.item,
+            )),
         },
         None => 0,
     }

@@ -60,9 +60,7 @@ use crate::archive::{Archive, Version};
 use crate::entries::Entries;
 use crate::entry::Shown;
 use crate::facts::FactRows;
-use crate::index::{
-    Index, put_in_each, reserve_each, take_from_each, take_names_from_each,
-};
+use crate::index::{Index, put_in_each, reserve_each, take_from_each, take_names_from_each};
 use crate::kind::{FactKind, IndexKind};
 use crate::listed::{are_there, ascend, has_any_name, put_all_shown, take_under};
 use crate::memory::OutOfMemory;
@@ -424,7 +422,9 @@ impl Shelf {
     {
         TagRows {
             archive: &self.archive,
-            entries: self.index(IndexKind::DefsByName).with_key(&self.archive, name),
+            entries: self
+                .index(IndexKind::DefsByName)
+                .with_key(&self.archive, name),
         }
     }
 

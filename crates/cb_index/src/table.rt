@@ -34,9 +34,9 @@ ghost use Rattle.cb_index.specs.steps.Table.{
 use crate::bytes::bytes_at;
 use crate::entry::Entry;
 use crate::items::item_span;
+use crate::kind::FactKind;
 use crate::laid::{entries_match, fill};
 use crate::links::Link;
-use crate::kind::FactKind;
 use cb_scan::{Facts, Source, key_prefix};
 
 /// An odd number whose bits look like chance: 2^64 over the golden ratio.

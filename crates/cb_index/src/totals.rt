@@ -81,7 +81,12 @@ impl Totals {
         Totals {
             defs: total_with(IndexKind::DefsByName, archive, shown, self.defs),
             uses: total_with(IndexKind::Facts(FactKind::Uses), archive, shown, self.uses),
-            calls: total_with(IndexKind::Facts(FactKind::Callees), archive, shown, self.calls),
+            calls: total_with(
+                IndexKind::Facts(FactKind::Callees),
+                archive,
+                shown,
+                self.calls,
+            ),
         }
     }
 
@@ -114,7 +119,8 @@ impl Totals {
         Totals {
             defs: self.defs - count_of(IndexKind::DefsByName, archive, version) as u64,
             uses: self.uses - count_of(IndexKind::Facts(FactKind::Uses), archive, version) as u64,
-            calls: self.calls - count_of(IndexKind::Facts(FactKind::Callees), archive, version) as u64,
+            calls: self.calls
+                - count_of(IndexKind::Facts(FactKind::Callees), archive, version) as u64,
         }
     }
 }

@@ -53,8 +53,7 @@ enum Question {
 }
 
 /// Whether a question has a first row.
-fn has_first(shelf: &Shelf, question: Question, name: &[u8]) -> bool
-{
+fn has_first(shelf: &Shelf, question: Question, name: &[u8]) -> bool {
     match question {
         Question::Defs => shelf.defs(name).next().is_some(),
         Question::Uses => shelf.uses(name).next().is_some(),
@@ -70,8 +69,7 @@ fn ask_name<R: CpuClock>(
     question: Question,
     name: &[u8],
     times: &mut Times,
-) -> Result<(), Failed>
-{
+) -> Result<(), Failed> {
     let start = clock(rt)?;
     let found = has_first(shelf, question, name);
     let end = clock(rt)?;
@@ -85,8 +83,7 @@ fn ask_names<R: Print + CpuClock>(
     shelf: &Shelf,
     question: Question,
     label: &str,
-) -> Result<(), Failed>
-{
+) -> Result<(), Failed> {
     let mut times = Times::new();
     let mut skipped = 0;
     for row in shelf.all_defs() {
