@@ -292,15 +292,17 @@ def main() -> int:
     for program in ("cbrowse", *COMPANIONS):
         files[f"{program}.fish"] = fish(program, listed)
     PLACE.mkdir(exist_ok=True)
-    other = 0
+    others = 0
     for name, text in files.items():
         path = PLACE / name
         if words.check and (not path.exists() or path.read_text() != text):
             print(f"{path.relative_to(TOP)} is not up to date: scripts/completions.py writes it")
-            other = 1
+            others += 1
         elif not words.check:
             path.write_text(text)
-    return other
+    if words.check:
+        print(f"completions: {len(files) - others} passed, {others} failed")
+    return 1 if others else 0
 
 
 if __name__ == "__main__":

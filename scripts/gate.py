@@ -7,6 +7,7 @@
    large crate takes 10 GB, where it takes 3, and lets the wrong bodies wait for it.
 3. The program that it built is run on words, files and failing devices (whole-program.py).
 4. Each growth of memory is refused to it in turn (each-growth-refused.py).
+5. The completions for shells are those of its words (completions.py).
 
 At the end it says how long each step took, and how many checks passed and failed; the exit status
 is 1 where one failed.
@@ -29,6 +30,7 @@ STEPS = (
     ("rt ci", BUILD),
     ("the whole program", ["scripts/whole-program.py", str(PROGRAM)]),
     ("each growth refused", ["scripts/each-growth-refused.py", str(PROGRAM)]),
+    ("the completions", ["scripts/completions.py", "--check", str(PROGRAM)]),
 )
 BYTES_OF_A_TASK = 4_500_000_000
 COUNTS = re.compile(r"(\d+) passed, (\d+) failed")

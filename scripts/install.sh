@@ -4,9 +4,9 @@
 #     scripts/install.sh DESTDIR PREFIX ZSH           as `make install`
 #     scripts/install.sh --undo DESTDIR PREFIX ZSH    as `make uninstall`
 #
-# DESTDIR goes before the others. ZSH is the folder of completions for zsh. The folders that had to be
-# made are kept in a list beside the documents. To take all away, each file that this puts in place
-# goes, and then each of these folders that is empty.
+# DESTDIR goes before the others. ZSH is the folder of completions for zsh. The folders that had to
+# be made are kept in a list beside the documents. To take all away, each file that this puts in
+# place goes, and then each of these folders that is empty.
 
 set -eu
 umask 022

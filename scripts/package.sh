@@ -2,12 +2,12 @@
 # Packs what `make install` puts in place.
 #
 #     scripts/package.sh deb    dist/cbrowse_VERSION_ARCH.deb, a Debian package
-#     scripts/package.sh tar    dist/cbrowse-VERSION-SYSTEM.tar.gz, to be unpacked below a prefix, and
-#                               dist/cbrowse-VERSION.tar.gz, the sources of the last commit
+#     scripts/package.sh tar    dist/cbrowse-VERSION-SYSTEM.tar.gz, to be unpacked below a prefix,
+#                               and dist/cbrowse-VERSION.tar.gz, the sources of the last commit
 #
 # The version is the one that the program tells. The same files give the same bytes: times are those
-# of the last commit. The maintainer of the Debian package is DEBFULLNAME with DEBEMAIL, or the author
-# of that commit.
+# of the last commit. The maintainer of the Debian package is DEBFULLNAME with DEBEMAIL, or the
+# author of that commit.
 
 set -eu
 umask 022
@@ -53,8 +53,7 @@ rm "$doc"/LICENSE-* "$doc/folders-made"
     printf '%s\n' '' 'License: Apache-2.0' ' On Debian systems the text of this licence is in' \
         ' /usr/share/common-licenses/Apache-2.0.'
 } | cat -s >"$doc/copyright"
-gzip -9n <"$doc/CHANGELOG.md" >"$doc/changelog.gz"
-rm "$doc/CHANGELOG.md"
+(cd "$doc" && gzip -9n <CHANGELOG.md >changelog.gz && rm CHANGELOG.md)
 printf 'cbrowse (%s-1) unstable; urgency=medium\n\n  * This version; changelog.gz says what is new.\n\n -- %s  %s\n' \
     "$version" "$maintainer" "$(LC_ALL=C date -u -R -d "@$SOURCE_DATE_EPOCH")" | gzip -9n >"$doc/changelog.Debian.gz"
 

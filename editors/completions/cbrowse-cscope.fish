@@ -1,6 +1,6 @@
 # Completions of cbrowse-cscope for fish.
 # Made by scripts/completions.py from what the programs say of their words.
-complete -c cbrowse-cscope -s b -d 'writes the names of the files to browse to LIST'
+complete -c cbrowse-cscope -s b -d 'writes the names of files to LIST'
 complete -c cbrowse-cscope -s l -d 'answers line by line, as vim asks'
 complete -c cbrowse-cscope -s L -d 'answers one question, as emacs asks'
 complete -c cbrowse-cscope -s f -r -d 'the list of names, by default cscope.out'

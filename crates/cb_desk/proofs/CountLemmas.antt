@@ -12,8 +12,8 @@ use Rattle.std.proofs.lemmas.Slice.Eq.{bytes_eq-Decides}
 use Rattle.cb_scan.specs.Lines.{line_text}
 use Rattle.cb_index.specs.Counts.{rows_in_files, same_row, unlike, unlike_in_files}
 use Rattle.cb_index.specs.Rows.{Fact, call_in, calls_in, calls_of, file_calls_in, file_calls_of, file_uses_of, use_in, uses_of}
-use Rattle.cb_index.specs.declared.rows.FactSort.{FactSort}
-use Rattle.cb_index.specs.declared.rows.FactSort.TheVariants.{Uses, Callees, Callers}
+use Rattle.cb_index.specs.declared.kind.FactKind.{FactKind}
+use Rattle.cb_index.specs.declared.kind.FactKind.TheVariants.{Uses, Callees, Callers}
 use Rattle.cb_desk.specs.Answer.{AnswerRow, distinct, row_eq, unindented}
 use Rattle.cb_desk.specs.World.{File, IsAscending}
 use Rattle.cb_desk.specs.steps.Lent.{row_around, row_named}
@@ -69,7 +69,7 @@ files-same : (file : File) (f g : Fact) → IsIn file f → IsIn file g → byte
 files-same file f g one other = (bytes_eq-Decides f.file g.file).1 (one.0 ∙ sym other.0)
 
 -- a sort of facts, and their rows
-module _ (sort : FactSort) (row : Fact → AnswerRow) (files-kept : (f : Fact) → (row f).file ≡ f.file)
+module _ (sort : FactKind) (row : Fact → AnswerRow) (files-kept : (f : Fact) → (row f).file ≡ f.file)
     (agree : (file : File) (f g : Fact) → IsIn file f → IsIn file g → row_eq (row f) (row g) ≡ same_row sort f g) where
   module _ (file : File) where
     unlike-in : (fs : List Fact) → AllByRecursion (IsIn file) fs → AllByRecursion (IsIn file) (unlike sort fs)
@@ -158,7 +158,7 @@ module _ (p : List ℕ) (files : List File) (up : IsAscending files) where
   callers-distinct = files-distinct Callers row_named (λ f. refl) agree-callers (file_calls_in p) (λ file. all-in file (call_in file) (λ c. (refl, refl)) _) files up
 
 -- ---- as many rows as an index counts, and few
-pub index-counts : (sort : FactSort) (facts : File → List Fact) (files : List File)
+pub index-counts : (sort : FactKind) (facts : File → List Fact) (files : List File)
     → rows_in_files sort facts files ≡ length (unlike_in_files sort facts files)
 index-counts sort facts [] = refl
 index-counts sort facts (file ∷ files) =

@@ -12,7 +12,7 @@ use Rattle.cb_scan.proofs.FunctionsRise.{all_implied}
 use Rattle.cb_index.specs.Archived.{Archived}
 use Rattle.cb_index.specs.Files.{AreApart, AreAscending, IsThere, call_count, def_count, files_of}
 use Rattle.cb_index.specs.Files.{is_shown, shown_name, total, use_count}
-use Rattle.cb_index.specs.Shelved.{AreTotals, CanShowAll, Shelved}
+use Rattle.cb_index.specs.Shelved.{AreTotals, CanShow, Shelved}
 use Rattle.cb_index.specs.declared.entry.Shown.{Shown}
 use Rattle.cb_index.specs.declared.room.Room.{Room}
 use Rattle.cb_index.specs.declared.totals.Totals.{Totals}
@@ -121,7 +121,7 @@ pub can_show_loaded : (old s : Shelved) (shown : List Shown) (n : Totals) (entri
     → s.archive.names ≡ old.archive.names → s.archive.texts ≡ old.archive.texts
     → AllByRecursion (IsThere old.archive) shown → AreAscending old.archive shown
     → AreTotals old.archive shown n → entries ≡ length shown
-    → entries ≤ s.entry_room → n.defs ≤ s.def_room → n.uses ≤ s.use_room → n.calls ≤ s.call_room → CanShowAll s shown
+    → entries ≤ s.entry_room → n.defs ≤ s.def_room → n.uses ≤ s.use_room → n.calls ≤ s.call_room → CanShow s shown
 can_show_loaded old s shown n entries none same names texts there up are count files defs uses calls =
     let empty : s.shown ≡ [] = same ∙ none in
     let now : (f : Option (List ℕ) → ℕ) → total f s.archive s.shown ≡ 0 = λ f. ap (total f s.archive) empty in

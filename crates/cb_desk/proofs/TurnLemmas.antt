@@ -7,7 +7,7 @@ use Rattle.cb_scan.specs.Order.{AreOrdered, goes_first, in_order, put}
 use Rattle.cb_scan.proofs.FunctionsRise.{all_implied}
 use Rattle.cb_index.specs.Archived.{Archived, name_of}
 use Rattle.cb_index.specs.Files.{AreApart, IsThere, call_count, def_count, is_shown, shown_name, use_count}
-use Rattle.cb_index.specs.Shelved.{CanShowAll, Shelved}
+use Rattle.cb_index.specs.Shelved.{CanShow, Shelved}
 use Rattle.cb_index.specs.declared.entry.Shown.{Shown}
 use Rattle.cb_index.proofs.InOrderLemmas.{length_in_order}
 use Rattle.cb_index.proofs.ListedLemmas.{other_turned}
@@ -85,7 +85,7 @@ module _ (s : Shelved) (t : Turn) (w : Numbered) (rooms : Rooms) (same : w.shown
 
   pub can_turn : rooms.files ≡ s.entry_room → rooms.defs ≡ s.def_room → rooms.uses ≡ s.use_room → rooms.calls ≡ s.call_room
       → IsTurn s.archive t w → AreThere s.archive (other s.archive t w) → Fits rooms s.archive (other s.archive t w)
-      → CanShowAll (hidden s t.hides) t.shows
+      → CanShow (hidden s t.hides) t.shows
   can_turn files defs uses calls turn is fits =
       let apart : AreApart s.archive (kept ++ t.shows) = rw same at turn.apart_then in
       let fits_files : length (in_order (shown_name s.archive) (kept ++ t.shows)) ≤ s.entry_room = rw (same, files) at fits.files in

@@ -4,7 +4,6 @@ use Rattle.std.specs.Prelude.{◌≡◌, ◌≤◌, ◌+◌, ◌-◌, ◌^◌, �
 use Rattle.std.specs.Prelude.{map, Option, None, Some, Result, Ok, Err}
 use Rattle.std.specs.List.{list_any}
 use Rattle.cb_scan.specs.Definitions.{facts_of}
-use Rattle.cb_index.specs.Shelved.{Waiting}
 use Rattle.cb_desk.specs.declared.refusal.Refusal.{Refusal}
 use Rattle.cb_desk.specs.declared.refusal.Refusal.TheVariants.{OutOfMemory}
 use Rattle.cb_desk.specs.Marks.{replaced_file}
@@ -14,13 +13,11 @@ use Rattle.cb_desk.specs.Step.{replace, tag, pop}
 use Rattle.cb_desk.specs.Timeline.{Timeline}
 use Rattle.cb_desk.specs.World.{File, Place, World}
 
--- the worlds of a desk; how many bytes it has scanned; how often a file was shown or hidden; and
--- what waits to be put in order
+-- the worlds of a desk; how many bytes it has scanned; how often a file was shown or hidden
 pub record DeskState : Type 0 where
   pub timeline : Timeline
   pub meter : ℕ
   pub turns : ℕ
-  pub waiting : Waiting
 
 -- a count with more added, up to the greatest number
 abbrev pub counted : ℕ → ℕ → ℕ

@@ -9,7 +9,6 @@ pub mod Refusals
 pub mod Replacement
 pub mod ReplacementExamples
 pub mod Search
-pub mod Settled
 pub mod Stack
 pub mod Step
 pub mod StepExamples

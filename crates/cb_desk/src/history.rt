@@ -1,7 +1,6 @@
 //! The present world, and the records that lead back and on from it.
 ghost use Rattle.std.specs.Prelude.{◌≡◌, ◌<◌, [], ◌∷◌, ⊤, length, nat_le, MatchOption, MatchResult};
 ghost use Rattle.std.specs.Option.{option_map};
-ghost use Rattle.cb_index.specs.Shelved.{settled};
 ghost use Rattle.cb_desk.specs.Models.{step_of};
 ghost use Rattle.cb_desk.specs.Step.{place_of};
 ghost use Rattle.cb_desk.specs.declared.spot.NumberedPlace.{NumberedPlace};
@@ -27,7 +26,7 @@ use crate::present::Present;
 use crate::record::Record;
 use crate::spot::NumberedPlace;
 use crate::{Change, Refusal};
-use cb_index::Asked;
+use cb_index::FactKind;
 use std::alloc::{AllocError, Global};
 use std::marker::Model;
 
@@ -91,12 +90,12 @@ impl History {
         &self.present
     }
 
-    /// Puts what waits in order where a question is answered from. It takes no memory.
-    pub(crate) fn settle(&mut self, asked: Asked)
-        ensures waiting { self.new.kept.waiting ≡ settled asked self.old.kept.waiting }
-        ensures still { AreStill self.old self.new }
+    /// Puts in order what questions about uses or calls of a kind read. It changes no answer, and
+    /// takes no memory.
+    pub(crate) fn settle(&mut self, kind: FactKind)
+        ensures { self.new ≡ self.old }
     {
-        self.present.settle(asked);
+        self.present.settle(kind);
     }
 
     /// The place that a change asks for, if it asks for one and that is there.

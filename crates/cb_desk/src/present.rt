@@ -15,7 +15,7 @@ ghost use Rattle.std.specs.Prelude.{
 ghost use Rattle.cb_scan.specs.Order.{in_order};
 ghost use Rattle.cb_index.specs.Files.{shown_name};
 ghost use Rattle.cb_index.specs.Names.{names_of};
-ghost use Rattle.cb_index.specs.Shelved.{CanShowAll, KeepsRoom, settled};
+ghost use Rattle.cb_index.specs.Shelved.{CanShow, KeepsRoom};
 ghost use Rattle.std.specs.List.Sorted.{IsStrictlyIncreasing};
 ghost use Rattle.cb_desk.specs.Desk.{counted};
 ghost use Rattle.cb_desk.specs.steps.Edits.{turned_edits, edited};
@@ -56,7 +56,7 @@ use crate::place_edits::PlaceEdits;
 use crate::place_list::PlaceList;
 use crate::plan::Plan;
 use crate::record::Record;
-use cb_index::{Asked, Room, Shelf, Shown, Version};
+use cb_index::{FactKind, IndexKind, Room, Shelf, Shown, Version};
 use counts::with_versions;
 use std::alloc::{AllocError, Global};
 use std::marker::Model;
@@ -99,14 +99,13 @@ impl Model for Present {
         marks = p.marks.room;
         frames = p.frames.room;
       };
-      waiting = p.shelf.waiting;
     } };
 }
 
 /// Hides some files and shows others, and swaps the two lists.
 fn turn_shown(shelf: &mut Shelf, hides: &mut Vec<Shown>, shows: &mut Vec<Shown>)
     requires hides { IsStrictlyIncreasing (names_of hides.old.items) }
-    requires shows { CanShowAll (hidden shelf.old hides.old.items) shows.old.items }
+    requires shows { CanShow (hidden shelf.old hides.old.items) shows.old.items }
     ensures shown { shelf.new.shown ≡ in_order (shown_name shelf.old.archive)
         (without hides.old.items shelf.old.shown ++ shows.old.items) }
     ensures archive { shelf.new.archive ≡ shelf.old.archive }
@@ -246,12 +245,12 @@ impl Present {
         mem::swap(&mut self.versions, &mut way.versions);
     }
 
-    /// Puts what waits in order where a question is answered from. It takes no memory.
-    pub(crate) fn settle(&mut self, asked: Asked)
-        ensures waiting { self.new.waiting ≡ settled asked self.old.waiting }
-        ensures still { IsStill self.old self.new }
+    /// Puts in order what questions about uses or calls of a kind read. It changes no answer, and
+    /// takes no memory.
+    pub(crate) fn settle(&mut self, kind: FactKind)
+        ensures { self.new ≡ self.old }
     {
-        self.shelf.settle(asked);
+        self.shelf.flush(IndexKind::Facts(kind));
     }
 
     /// The room for what a plan brings, for all that is shown and for all that it shows, if its

@@ -12,7 +12,6 @@ ghost use Rattle.cb_desk.specs.Desk.{
   scanned,
 };
 ghost use Rattle.cb_desk.specs.Models.{step_of};
-ghost use Rattle.cb_desk.specs.Settled.{AreTagsSettled, IsSettled};
 ghost use Rattle.cb_desk.specs.Tags.{tags};
 ghost use Rattle.cb_desk.specs.Timeline.{
   Changes,
@@ -28,7 +27,7 @@ ghost use Rattle.cb_desk.specs.steps.Walks.{timeline_in};
 
 use crate::history::History;
 use crate::{Change, Field, Files, Format, Places, Refusal, Rows, TagRows};
-use cb_index::Asked;
+use cb_index::FactKind;
 use cb_scan::{Meter, Source, scan};
 use std::alloc::{AllocError, Global};
 use std::marker::Model;
@@ -52,7 +51,6 @@ impl Model for Desk {
       timeline = timeline_in d.history;
       meter = d.meter;
       turns = d.history.kept.turns;
-      waiting = d.history.kept.waiting;
     } };
 
     ghost invariant = { λ d. IsValidTimeline (timeline_in d.history) };
@@ -217,50 +215,29 @@ impl Desk {
         self.history.present().frames()
     }
 
-    /// Puts in order what questions of a field read, where files came in since the last one. It
-    /// takes no memory.
+    /// Puts in order what questions of a field read, where files came in since the last one, so
+    /// that they are answered at once. It changes no answer, and takes no memory.
     pub fn settle(&mut self, field: Field)
-        ensures settled { IsSettled field self.new.waiting }
-        ensures timeline { self.new.timeline ≡ self.old.timeline }
-        ensures meter { self.new.meter ≡ self.old.meter }
-        ensures turns { self.new.turns ≡ self.old.turns }
+        ensures { self.new ≡ self.old }
     {
         match field {
-            Field::Symbol => self.history.settle(Asked::Uses),
-            Field::Definition => self.history.settle(Asked::Defs),
-            Field::Called => self.history.settle(Asked::Callers),
-            Field::Calling => self.history.settle(Asked::Callees),
-            Field::Text | Field::File | Field::Including => {}
+            Field::Symbol => self.history.settle(FactKind::Uses),
+            Field::Called => self.history.settle(FactKind::Callers),
+            Field::Calling => self.history.settle(FactKind::Callees),
+            _ => {}
         }
     }
 
-    /// Puts in order what a tags file of a format reads, where files came in since the last one. It
-    /// takes no memory.
-    pub fn settle_tags(&mut self, format: Format)
-        ensures settled { AreTagsSettled format self.new.waiting }
-        ensures timeline { self.new.timeline ≡ self.old.timeline }
-        ensures meter { self.new.meter ≡ self.old.meter }
-        ensures turns { self.new.turns ≡ self.old.turns }
-    {
-        match format {
-            Format::Plain => self.history.settle(Asked::Tags),
-            Format::Extended => self.history.settle(Asked::Defs),
-        }
-    }
-
-    /// The rows that answer a question, by file and place; equal ones once. `settle` comes before.
+    /// The rows that answer a question, by file and place; equal ones once.
     pub fn rows<'a, 'p>(&'a self, field: Field, pattern: &'p [u8]) -> Rows<'a, 'p>
-        requires some { pattern.now ≢ [] }
-        requires settled { IsSettled field self.now.waiting }
+        requires { pattern.now ≢ [] }
         ensures { result ≡ answer self.now.timeline.present field pattern.now }
     {
         self.history.present().rows(field, pattern)
     }
 
-    /// All definitions of the present world as tags, in the order of a format. `settle_tags` comes
-    /// before.
+    /// All definitions of the present world as tags, in the order of a format.
     pub fn tag_rows(&self, format: Format) -> TagRows<'_>
-        requires { AreTagsSettled format self.now.waiting }
         ensures { result ≡ tags format self.now.timeline.present }
     {
         self.history.present().tag_rows(format)

@@ -7,8 +7,8 @@ use Rattle.cb_scan.specs.declared.facts.Use.{Use}
 use Rattle.cb_scan.specs.Definitions.{facts_of}
 use Rattle.cb_index.specs.Counts.{column, function_of, same_row}
 use Rattle.cb_index.specs.steps.Found.{fact_at, fact_of_call, fact_of_use}
-use Rattle.cb_index.specs.declared.rows.FactSort.{FactSort}
-use Rattle.cb_index.specs.declared.rows.FactSort.TheVariants.{Uses, Callees, Callers}
+use Rattle.cb_index.specs.declared.kind.FactKind.{FactKind}
+use Rattle.cb_index.specs.declared.kind.FactKind.TheVariants.{Uses, Callees, Callers}
 
 module _ (file other text : List ℕ) where
   use_line : (u : Option Use) → (fact_of_use file text u).line ≡ (fact_of_use other text u).line
@@ -19,7 +19,7 @@ module _ (file other text : List ℕ) where
   call_line None = refl
   call_line (Some c) = refl
 
-  pub line_is : (sort : FactSort) (item : ℕ) → (fact_at sort file text item).line ≡ (fact_at sort other text item).line
+  pub line_is : (sort : FactKind) (item : ℕ) → (fact_at sort file text item).line ≡ (fact_at sort other text item).line
   line_is Uses item = use_line (slice_get (facts_of text).uses item)
   line_is Callees item = call_line (slice_get (facts_of text).calls item)
   line_is Callers item = call_line (slice_get (facts_of text).calls item)
@@ -36,12 +36,12 @@ module _ (file other text : List ℕ) where
   caller_function None = refl
   caller_function (Some c) = refl
 
-  pub function_is : (sort : FactSort) (item : ℕ) → function_of sort (fact_at sort file text item) ≡ function_of sort (fact_at sort other text item)
+  pub function_is : (sort : FactKind) (item : ℕ) → function_of sort (fact_at sort file text item) ≡ function_of sort (fact_at sort other text item)
   function_is Uses item = use_function (slice_get (facts_of text).uses item)
   function_is Callees item = callee_function (slice_get (facts_of text).calls item)
   function_is Callers item = caller_function (slice_get (facts_of text).calls item)
 
-  pub same_anywhere : (sort : FactSort) (x y : ℕ)
+  pub same_anywhere : (sort : FactKind) (x y : ℕ)
       → same_row sort (fact_at sort file text x) (fact_at sort file text y)
       ≡ same_row sort (fact_at sort other text x) (fact_at sort other text y)
   same_anywhere sort x y i =

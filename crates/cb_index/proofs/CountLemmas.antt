@@ -16,18 +16,17 @@ use Rattle.cb_index.specs.Files.{AreAscending, File, IsThere, files_of}
 use Rattle.cb_index.specs.Firsts.{firsts, listed}
 use Rattle.cb_index.specs.Held.{all_entries, entries_of, entry_of}
 use Rattle.cb_index.specs.Items.{is_first, item_count, item_key}
-use Rattle.cb_index.specs.Orders.{callee_key, callees_listed, caller_key, callers_listed, firsts_in, use_key, uses_listed}
-use Rattle.cb_index.specs.Rows.{Fact, file_calls_in, file_calls_of, file_uses_of}
+use Rattle.cb_index.specs.Orders.{firsts_in, item_keyer, key_in}
+use Rattle.cb_index.specs.Rows.{Fact, file_facts}
 use Rattle.cb_index.specs.Shelved.{IsIndexOf}
 use Rattle.cb_index.specs.steps.Found.{fact_at, facts_at, facts_in, facts_in_text}
 use Rattle.cb_index.specs.steps.Given.{given_at, given_in, given_in_text}
 use Rattle.cb_index.specs.steps.Spread.{items_from}
 use Rattle.cb_index.specs.declared.entry.Entry.{Entry}
 use Rattle.cb_index.specs.declared.entry.Shown.{Shown}
-use Rattle.cb_index.specs.declared.rows.FactSort.{FactSort}
-use Rattle.cb_index.specs.declared.rows.FactSort.TheVariants.{Uses, Callees, Callers}
+use Rattle.cb_index.specs.declared.kind.FactKind.{FactKind}
 use Rattle.cb_index.proofs.AnyFileLemmas.{same_anywhere}
-use Rattle.cb_index.proofs.FactLemmas.{one_callees, one_callers, one_uses}
+use Rattle.cb_index.proofs.FactLemmas.{one_facts}
 use Rattle.cb_index.proofs.FirstLemmas.{at_most_one, prefix_and_key}
 use Rattle.cb_index.proofs.NewRowLemmas.{rows_new}
 use Rattle.cb_index.proofs.RiseLemmas.{firsts_rise}
@@ -49,7 +48,7 @@ module _ {X : Type 0} where
   apart same [] = []
   apart same (x ∷ xs) = x ∷ filter (λ y. not (same x y)) (apart same xs)
 
-  module _ (sort : FactSort) where
+  module _ (sort : FactKind) where
     unlike_mapped : (fact : X → Fact) (xs : List X) → unlike sort (map fact xs) ≡ map fact (apart (λ x y. same_row sort (fact x) (fact y)) xs)
     unfolding unlike
     unlike_mapped fact [] = refl
@@ -67,14 +66,17 @@ module _ {X : Type 0} where
 
 -- ---- the file name plays no part
 module _ (file other text : List ℕ) where
-  pub in_any_file : (sort : FactSort) (items : List ℕ)
+  pub in_any_file : (sort : FactKind) (items : List ℕ)
       → length (unlike sort (map (fact_at sort file text) items)) ≡ length (unlike sort (map (fact_at sort other text) items))
   in_any_file sort =
       same_count sort (fact_at sort file text) (fact_at sort other text) (same_anywhere file other text sort)
 
 -- ---- one version
-module _ (sort : FactSort) (a : Archived) (s : Shown) (text : List ℕ) (there : slice_get a.texts s.version ≡ Some text)
-    (key : List ℕ) (keyer : Keyer) (keys_are : (item : ℕ) → keyer (Some text) (name_of a s.name) item ≡ item_key sort text item) where
+module _ (sort : FactKind) (a : Archived) (s : Shown) (text : List ℕ) (there : slice_get a.texts s.version ≡ Some text)
+    (key : List ℕ) where
+  abbrev keyer : Keyer
+  keyer = item_keyer sort
+
   abbrev IsCounted : List Entry → Type 0
   IsCounted es = sum_by (λ (e : Entry). e.rows) es ≡ length (unlike sort (facts_in sort a es))
 
@@ -97,7 +99,7 @@ module _ (sort : FactSort) (a : Archived) (s : Shown) (text : List ℕ) (there :
   version_counted =
       at_most_one sort text key (has_key keyer a (key_prefix key) key) s
       (λ item. ap (λ k. nat_eq (key_prefix key) (key_prefix (item_key sort text item)) && bytes_eq key k)
-      (ap (λ t. keyer t (name_of a s.name) item) there ∙ keys_are item)
+      (ap (λ t. key_in sort t item) there)
       ∙ prefix_and_key key (item_key sort text item))
       IsCounted none_counted (λ item first. one_counted item) 0 (item_count sort text)
 
@@ -121,18 +123,17 @@ module _ (sort : FactSort) (a : Archived) (s : Shown) (text : List ℕ) (there :
   version_new =
       at_most_one sort text key (has_key keyer a (key_prefix key) key) s
       (λ item. ap (λ k. nat_eq (key_prefix key) (key_prefix (item_key sort text item)) && bytes_eq key k)
-      (ap (λ t. keyer t (name_of a s.name) item) there ∙ keys_are item)
+      (ap (λ t. key_in sort t item) there)
       ∙ prefix_and_key key (item_key sort text item))
       AreNew none_new one_new 0 (item_count sort text)
 
 -- ---- all versions
-module _ (sort : FactSort) (keyer : Keyer) (a : Archived) (key : List ℕ) (rows : File → List Fact)
-    (keys_are : (text file : List ℕ) (item : ℕ) → keyer (Some text) file item ≡ item_key sort text item)
-    (one : (s : Shown) (text : List ℕ) → slice_get a.texts s.version ≡ Some text
-    → facts_in sort a (filter (has_key keyer a (key_prefix key) key) (entries_of (firsts_in sort) a s))
-    ≡ rows (record { name = name_of a s.name; bytes = text })) where
+module _ (sort : FactKind) (a : Archived) (key : List ℕ) where
   abbrev has_it : Entry → Bool
-  has_it = has_key keyer a (key_prefix key) key
+  has_it = has_key (item_keyer sort) a (key_prefix key) key
+
+  abbrev rows : File → List Fact
+  rows = file_facts sort key
 
   known : (s : Shown) (text : List ℕ) → slice_get a.texts s.version ≡ Some text
       → sum_by (λ (e : Entry). e.rows) (filter has_it (entries_of (firsts_in sort) a s))
@@ -140,9 +141,9 @@ module _ (sort : FactSort) (keyer : Keyer) (a : Archived) (key : List ℕ) (rows
   known s text there =
       let same : entries_of (firsts_in sort) a s ≡ map (entry_of s) (firsts sort text) = ap (λ o. map (entry_of s) (firsts_in sort o)) there in
       ap (λ es. sum_by (λ (e : Entry). e.rows) (filter has_it es)) same
-      ∙ version_counted sort a s text there key keyer (keys_are text (name_of a s.name))
+      ∙ version_counted sort a s text there key
       ∙ sym (ap (λ es. length (unlike sort (facts_in sort a (filter has_it es)))) same)
-      ∙ ap (λ fs. length (unlike sort fs)) (one s text there)
+      ∙ ap (λ fs. length (unlike sort fs)) (one_facts a s text there key sort)
 
   all_counted : (shown : List Shown) → AllByRecursion (IsThere a) shown
       → sum_by (λ (e : Entry). e.rows) (filter has_it (all_entries (firsts_in sort) a shown)) ≡ rows_in_files sort rows (files_of a shown)
@@ -156,11 +157,12 @@ module _ (sort : FactSort) (keyer : Keyer) (a : Archived) (key : List ℕ) (rows
       ∙ (λ i. here i + all_counted shown all.1 i)
       ∙ sym (sum_by-cons (λ (f : File). length (unlike sort (rows f))) file (files_of a shown))
 
-  index_counted : (shown : List Shown) → AllByRecursion (IsThere a) shown → AreAscending a shown → (es : List Entry)
-      → IsIndexOf keyer (firsts_in sort) a shown es
-      → sum_by (λ (e : Entry). e.rows) (filter has_it es) ≡ rows_in_files sort rows (files_of a shown)
-  index_counted shown all up es is =
-      ap (sum_by (λ (e : Entry). e.rows)) (kept_key keyer a (firsts_in sort) (firsts_rise sort) shown up (key_prefix key) key es is)
+  pub facts_counted : (shown : List Shown) → AllByRecursion (IsThere a) shown → AreAscending a shown → (es : List Entry)
+      → IsIndexOf (item_keyer sort) (firsts_in sort) a shown es
+      → sum_by (λ (e : Entry). e.rows) (filter (has_key (item_keyer sort) a (key_prefix key) key) es)
+      ≡ rows_in_files sort (file_facts sort key) (files_of a shown)
+  facts_counted shown all up es is =
+      ap (sum_by (λ (e : Entry). e.rows)) (kept_key (item_keyer sort) a (firsts_in sort) (firsts_rise sort) shown up (key_prefix key) key es is)
       ∙ all_counted shown all
 
   -- ---- those that are no repeats
@@ -170,9 +172,9 @@ module _ (sort : FactSort) (keyer : Keyer) (a : Archived) (key : List ℕ) (rows
   known_new s text there =
       let same : entries_of (firsts_in sort) a s ≡ map (entry_of s) (firsts sort text) = ap (λ o. map (entry_of s) (firsts_in sort o)) there in
       ap (λ es. given_in false sort a (filter has_it es)) same
-      ∙ version_new sort a s text there key keyer (keys_are text (name_of a s.name))
+      ∙ version_new sort a s text there key
       ∙ sym (ap (λ es. unlike sort (facts_in sort a (filter has_it es))) same)
-      ∙ ap (unlike sort) (one s text there)
+      ∙ ap (unlike sort) (one_facts a s text there key sort)
 
   all_new : (shown : List Shown) → AllByRecursion (IsThere a) shown
       → given_in false sort a (filter has_it (all_entries (firsts_in sort) a shown)) ≡ unlike_in_files sort rows (files_of a shown)
@@ -184,41 +186,10 @@ module _ (sort : FactSort) (keyer : Keyer) (a : Archived) (key : List ℕ) (rows
       ∙ flat_map-append (given_at false sort a) (filter has_it (entries_of (firsts_in sort) a s)) (filter has_it (all_entries (firsts_in sort) a shown))
       ∙ (λ i. here i ++ all_new shown all.1 i)
 
-  index_new : (shown : List Shown) → AllByRecursion (IsThere a) shown → AreAscending a shown → (es : List Entry)
-      → IsIndexOf keyer (firsts_in sort) a shown es
-      → given_in false sort a (filter has_it es) ≡ unlike_in_files sort rows (files_of a shown)
-  index_new shown all up es is =
-      ap (given_in false sort a) (kept_key keyer a (firsts_in sort) (firsts_rise sort) shown up (key_prefix key) key es is)
+  pub facts_new : (shown : List Shown) → AllByRecursion (IsThere a) shown → AreAscending a shown → (es : List Entry)
+      → IsIndexOf (item_keyer sort) (firsts_in sort) a shown es
+      → given_in false sort a (filter (has_key (item_keyer sort) a (key_prefix key) key) es)
+      ≡ unlike_in_files sort (file_facts sort key) (files_of a shown)
+  facts_new shown all up es is =
+      ap (given_in false sort a) (kept_key (item_keyer sort) a (firsts_in sort) (firsts_rise sort) shown up (key_prefix key) key es is)
       ∙ all_new shown all
-
-module _ (a : Archived) (shown : List Shown) (all : AllByRecursion (IsThere a) shown)
-    (up : AreAscending a shown) (es : List Entry) (key : List ℕ) where
-  pub uses_counted : IsIndexOf use_key uses_listed a shown es
-      → sum_by (λ (e : Entry). e.rows) (filter (has_key use_key a (key_prefix key) key) es) ≡ rows_in_files Uses (file_uses_of key) (files_of a shown)
-  uses_counted =
-      index_counted Uses use_key a key (file_uses_of key) (λ text file item. refl) (λ s text there. one_uses a s text there key) shown all up es
-
-  pub calls_counted : IsIndexOf callee_key callees_listed a shown es
-      → sum_by (λ (e : Entry). e.rows) (filter (has_key callee_key a (key_prefix key) key) es) ≡ rows_in_files Callees (file_calls_of key) (files_of a shown)
-  calls_counted =
-      index_counted Callees callee_key a key (file_calls_of key) (λ text file item. refl) (λ s text there. one_callees a s text there key) shown all up es
-
-  pub callers_counted : IsIndexOf caller_key callers_listed a shown es
-      → sum_by (λ (e : Entry). e.rows) (filter (has_key caller_key a (key_prefix key) key) es) ≡ rows_in_files Callers (file_calls_in key) (files_of a shown)
-  callers_counted =
-      index_counted Callers caller_key a key (file_calls_in key) (λ text file item. refl) (λ s text there. one_callers a s text there key) shown all up es
-
-  pub uses_new : IsIndexOf use_key uses_listed a shown es
-      → given_in false Uses a (filter (has_key use_key a (key_prefix key) key) es) ≡ unlike_in_files Uses (file_uses_of key) (files_of a shown)
-  uses_new =
-      index_new Uses use_key a key (file_uses_of key) (λ text file item. refl) (λ s text there. one_uses a s text there key) shown all up es
-
-  pub calls_new : IsIndexOf callee_key callees_listed a shown es
-      → given_in false Callees a (filter (has_key callee_key a (key_prefix key) key) es) ≡ unlike_in_files Callees (file_calls_of key) (files_of a shown)
-  calls_new =
-      index_new Callees callee_key a key (file_calls_of key) (λ text file item. refl) (λ s text there. one_callees a s text there key) shown all up es
-
-  pub callers_new : IsIndexOf caller_key callers_listed a shown es
-      → given_in false Callers a (filter (has_key caller_key a (key_prefix key) key) es) ≡ unlike_in_files Callers (file_calls_in key) (files_of a shown)
-  callers_new =
-      index_new Callers caller_key a key (file_calls_in key) (λ text file item. refl) (λ s text there. one_callers a s text there key) shown all up es

@@ -273,7 +273,7 @@ module _ (a : Archived) (name : ℕ) where
 
 -- ---- what is there, what waits and what is held
 module _ (keyer : Keyer) (lister : Lister) (a : Archived) where
-  pub covers_none : (shown : List Shown) (x : Indexed) → shown ≡ [] → x.held ≡ [] → x.waiting ≡ [] → Covers keyer lister a shown x
+  pub covers_none : (shown : List Shown) (x : Indexed) → shown ≡ [] → x.held ≡ [] → x.pending ≡ [] → Covers keyer lister a shown x
   unfolding in_order AreOrdered
   covers_none shown x none held waiting = record {
     sorted = [];
@@ -283,7 +283,7 @@ module _ (keyer : Keyer) (lister : Lister) (a : Archived) where
   }
 
   -- the same is held and waits
-  pub covers_as : (shown then : List Shown) (x y : Indexed) → then ≡ shown → y.held ≡ x.held → y.waiting ≡ x.waiting
+  pub covers_as : (shown then : List Shown) (x y : Indexed) → then ≡ shown → y.held ≡ x.held → y.pending ≡ x.pending
       → Covers keyer lister a shown x → Covers keyer lister a then y
   covers_as shown then x y same held waiting is = record {
     sorted = is.sorted;
@@ -294,11 +294,11 @@ module _ (keyer : Keyer) (lister : Lister) (a : Archived) where
 
   -- those that are new wait
   pub covers_more : (shown news : List Shown) (x y : Indexed) → AreAscending a shown → AreApart a news
-      → list_any (is_shown a shown) news ≡ false → y.held ≡ x.held → y.waiting ≡ x.waiting ++ news
+      → list_any (is_shown a shown) news ≡ false → y.held ≡ x.held → y.pending ≡ x.pending ++ news
       → Covers keyer lister a shown x → Covers keyer lister a (in_order (shown_name a) (shown ++ news)) y
   covers_more shown news x y up apart none held waiting is =
-      let old : List Shown = is.sorted ++ x.waiting in
-      let assoc : old ++ news ≡ is.sorted ++ (x.waiting ++ news) = append_assoc is.sorted x.waiting news in
+      let old : List Shown = is.sorted ++ x.pending in
+      let assoc : old ++ news ≡ is.sorted ++ (x.pending ++ news) = append_assoc is.sorted x.pending news in
       let across : AllByRecursion (λ n. AllByRecursion (IsApart a n) old) news =
       all_implied (λ n. AllByRecursion (IsApart a n) shown) (λ n. AllByRecursion (IsApart a n) old)
       (λ n all. all_unordered (shown_name a) (IsApart a n) old (subst (AllByRecursion (IsApart a n)) is.all all)) news
@@ -319,20 +319,20 @@ module _ (keyer : Keyer) (lister : Lister) (a : Archived) where
   -- some go, of those that are held and of those that wait
   pub covers_fewer : (stays : Shown → Bool) (shown : List Shown) (x y : Indexed) (is : Covers keyer lister a shown x)
       → y.held ≡ in_order (sort_key keyer a) (all_entries lister a (filter stays is.sorted))
-      → y.waiting ≡ filter stays x.waiting → Covers keyer lister a (filter stays shown) y
+      → y.pending ≡ filter stays x.pending → Covers keyer lister a (filter stays shown) y
   covers_fewer stays shown x y is held waiting =
-      let parts : filter stays (is.sorted ++ x.waiting) ≡ filter stays is.sorted ++ y.waiting =
-      filter-append stays is.sorted x.waiting ∙ ap (λ l. filter stays is.sorted ++ l) (sym waiting) in
+      let parts : filter stays (is.sorted ++ x.pending) ≡ filter stays is.sorted ++ y.pending =
+      filter-append stays is.sorted x.pending ∙ ap (λ l. filter stays is.sorted ++ l) (sym waiting) in
       record {
         sorted = filter stays is.sorted;
         held = held;
-        all = ap (filter stays) is.all ∙ filter_by_name a stays (is.sorted ++ x.waiting) is.apart ∙ ap (in_order (shown_name a)) parts;
-        apart = subst (AreApart a) parts (apart_filter a stays (is.sorted ++ x.waiting) is.apart);
+        all = ap (filter stays) is.all ∙ filter_by_name a stays (is.sorted ++ x.pending) is.apart ∙ ap (in_order (shown_name a)) parts;
+        apart = subst (AreApart a) parts (apart_filter a stays (is.sorted ++ x.pending) is.apart);
       }
 
   -- those of many names go
   pub covers_hidden : (stays : ℕ → Bool) (shown then : List Shown) (x y : Indexed) → then ≡ filter (λ (s : Shown). stays s.name) shown
-      → y.held ≡ filter (λ (e : Entry). stays e.name) x.held → y.waiting ≡ filter (λ (s : Shown). stays s.name) x.waiting
+      → y.held ≡ filter (λ (e : Entry). stays e.name) x.held → y.pending ≡ filter (λ (s : Shown). stays s.name) x.pending
       → Covers keyer lister a shown x → Covers keyer lister a then y
   covers_hidden stays shown then x y left held waiting is =
       subst (λ l. Covers keyer lister a l y) (sym left)
@@ -340,88 +340,88 @@ module _ (keyer : Keyer) (lister : Lister) (a : Archived) where
       (held ∙ indexed_take lister a stays keyer is.sorted x.held is.held) waiting)
 
   -- one that waits goes
-  pub covers_unwaited : (name : ℕ) (shown : List Shown) (x y : Indexed) → others_before a name x.waiting < length x.waiting
-      → y.held ≡ x.held → y.waiting ≡ take (others_before a name x.waiting) x.waiting ++ drop (suc (others_before a name x.waiting)) x.waiting
+  pub covers_unwaited : (name : ℕ) (shown : List Shown) (x y : Indexed) → others_before a name x.pending < length x.pending
+      → y.held ≡ x.held → y.pending ≡ take (others_before a name x.pending) x.pending ++ drop (suc (others_before a name x.pending)) x.pending
       → Covers keyer lister a shown x
       → Covers keyer lister a (filter (λ (s : Shown). not (nat_eq s.name name)) shown) y
   covers_unwaited name shown x y less held waiting is =
       covers_fewer (λ (s : Shown). not (nat_eq s.name name)) shown x y is
       (held ∙ is.held ∙ ap (λ l. in_order (sort_key keyer a) (all_entries lister a l))
-      (sym (first_stay a name is.sorted x.waiting is.apart (one_waits a name x.waiting less))))
-      (waiting ∙ others_left a name x.waiting (apart_back a is.sorted x.waiting is.apart) less)
+      (sym (first_stay a name is.sorted x.pending is.apart (one_waits a name x.pending less))))
+      (waiting ∙ others_left a name x.pending (apart_back a is.sorted x.pending is.apart) less)
 
   -- one that is held goes
-  pub covers_held : (one : Shown) (shown : List Shown) (x : Indexed) → list_any (λ (s : Shown). nat_eq s.name one.name) x.waiting ≡ false
+  pub covers_held : (one : Shown) (shown : List Shown) (x : Indexed) → list_any (λ (s : Shown). nat_eq s.name one.name) x.pending ≡ false
       → shown_under one.name shown ≡ Some one → (is : Covers keyer lister a shown x)
       → x.held ≡ in_order (sort_key keyer a) (entries_of lister a one
       ++ all_entries lister a (filter (λ (s : Shown). not (nat_eq s.name one.name)) is.sorted))
   covers_held one shown x none under is =
       indexed_out a one.name keyer lister is.sorted one x.held
-      (sym (under_front a one.name is.sorted x.waiting none)
-      ∙ sym (under_in_order a one.name (is.sorted ++ x.waiting) is.apart)
+      (sym (under_front a one.name is.sorted x.pending none)
+      ∙ sym (under_in_order a one.name (is.sorted ++ x.pending) is.apart)
       ∙ ap (shown_under one.name) (sym is.all) ∙ under)
-      (apart_front a is.sorted x.waiting is.apart) is.held
+      (apart_front a is.sorted x.pending is.apart) is.held
 
   pub covers_unheld : (one : Shown) (shown : List Shown) (x y : Indexed)
-      → list_any (λ (s : Shown). nat_eq s.name one.name) x.waiting ≡ false → (is : Covers keyer lister a shown x)
+      → list_any (λ (s : Shown). nat_eq s.name one.name) x.pending ≡ false → (is : Covers keyer lister a shown x)
       → y.held ≡ in_order (sort_key keyer a) (all_entries lister a (filter (λ (s : Shown). not (nat_eq s.name one.name)) is.sorted))
-      → y.waiting ≡ x.waiting
+      → y.pending ≡ x.pending
       → Covers keyer lister a (filter (λ (s : Shown). not (nat_eq s.name one.name)) shown) y
   covers_unheld one shown x y none is held waiting =
       covers_fewer (λ (s : Shown). not (nat_eq s.name one.name)) shown x y is held
-      (waiting ∙ sym (last_stay a one.name x.waiting none))
+      (waiting ∙ sym (last_stay a one.name x.pending none))
 
   -- ---- what waits is put in order
   pub covers_settled : (shown : List Shown) (x y : Indexed)
-      → y.held ≡ in_order (sort_key keyer a) (x.held ++ all_entries lister a x.waiting) → y.waiting ≡ []
+      → y.held ≡ in_order (sort_key keyer a) (x.held ++ all_entries lister a x.pending) → y.pending ≡ []
       → Covers keyer lister a shown x → Covers keyer lister a shown y
   covers_settled shown x y held waiting is =
-      let all : List Shown = is.sorted ++ x.waiting in
-      let none : all ++ y.waiting ≡ all = ap (λ l. all ++ l) waiting ∙ append-nil all in
+      let all : List Shown = is.sorted ++ x.pending in
+      let none : all ++ y.pending ≡ all = ap (λ l. all ++ l) waiting ∙ append-nil all in
       record {
         sorted = all;
-        held = held ∙ same_order (sort_key keyer a) (sort_exact keyer a) (x.held ++ all_entries lister a x.waiting) (all_entries lister a all) (λ f.
+        held = held ∙ same_order (sort_key keyer a) (sort_exact keyer a) (x.held ++ all_entries lister a x.pending) (all_entries lister a all) (λ f.
             let size : Shown → ℕ = λ s. sum_by f (entries_of lister a s) in
-            let both = sum_by-append f x.held (all_entries lister a x.waiting) in
+            let both = sum_by-append f x.held (all_entries lister a x.pending) in
             let old = ap (sum_by f) is.held ∙ in_order_sum (sort_key keyer a) f (all_entries lister a is.sorted) in
             let first = sum_flat (entries_of lister a) f is.sorted in
-            let last = sum_flat (entries_of lister a) f x.waiting in
+            let last = sum_flat (entries_of lister a) f x.pending in
             let whole = sum_flat (entries_of lister a) f all in
-            let parts = sum_by-append size is.sorted x.waiting in
+            let parts = sum_by-append size is.sorted x.pending in
             omega (arith, both, old, first, last, whole, parts));
         all = is.all ∙ ap (in_order (shown_name a)) (sym none);
         apart = subst (AreApart a) (sym none) is.apart;
       }
 
   -- where nothing waits all is held
-  pub covers_read : (shown : List Shown) (x : Indexed) → x.waiting ≡ [] → Covers keyer lister a shown x → IsIndexOf keyer lister a shown x.held
+  pub covers_read : (shown : List Shown) (x : Indexed) → x.pending ≡ [] → Covers keyer lister a shown x → IsIndexOf keyer lister a shown x.held
   covers_read shown x none is =
       is.held ∙ same_order (sort_key keyer a) (sort_exact keyer a) (all_entries lister a is.sorted) (all_entries lister a shown) (λ f.
       let size : Shown → ℕ = λ s. sum_by f (entries_of lister a s) in
       let old = sum_flat (entries_of lister a) f is.sorted in
       let all = sum_flat (entries_of lister a) f shown in
       let moved : sum_by size shown ≡ sum_by size is.sorted =
-      ap (sum_by size) is.all ∙ in_order_sum (shown_name a) size (is.sorted ++ x.waiting)
+      ap (sum_by size) is.all ∙ in_order_sum (shown_name a) size (is.sorted ++ x.pending)
       ∙ ap (λ l. sum_by size (is.sorted ++ l)) none ∙ ap (sum_by size) (append-nil is.sorted) in
       omega (arith, old, all, moved))
 
   -- no more versions wait than are shown
-  pub covers_length : (shown : List Shown) (x : Indexed) → Covers keyer lister a shown x → length x.waiting ≤ length shown
+  pub covers_length : (shown : List Shown) (x : Indexed) → Covers keyer lister a shown x → length x.pending ≤ length shown
   covers_length shown x is =
-      let all = ap length is.all ∙ length_in_order (shown_name a) (is.sorted ++ x.waiting) in
-      let both = length-append is.sorted x.waiting in
+      let all = ap length is.all ∙ length_in_order (shown_name a) (is.sorted ++ x.pending) in
+      let both = length-append is.sorted x.pending in
       omega (arith, all, both)
 
   -- what is held and what waits have no more entries than there are facts
   pub covers_fits : (count : Option (List ℕ) → ℕ) → ((t : Option (List ℕ)) → length (lister t) ≤ count t)
       → (shown : List Shown) (x : Indexed) (n room : ℕ) → n ≡ total count a shown → n ≤ room → Covers keyer lister a shown x
-      → length x.held + length (all_entries lister a x.waiting) ≤ room
+      → length x.held + length (all_entries lister a x.pending) ≤ room
   covers_fits count fewer shown x n room all fits is =
       let held = ap length is.held ∙ length_in_order (sort_key keyer a) (all_entries lister a is.sorted) in
       let first = length_all lister count fewer a is.sorted in
-      let last = length_all lister count fewer a x.waiting in
-      let whole = ap (total count a) is.all ∙ total_in_order count a (shown_name a) (is.sorted ++ x.waiting)
-      ∙ total_append count a is.sorted x.waiting in
+      let last = length_all lister count fewer a x.pending in
+      let whole = ap (total count a) is.all ∙ total_in_order count a (shown_name a) (is.sorted ++ x.pending)
+      ∙ total_append count a is.sorted x.pending in
       omega (arith, held, first, last, whole, all, fits)
 
 -- ---- the archive changes elsewhere
@@ -440,12 +440,12 @@ module _ (keyer : Keyer) (lister : Lister) (a b : Archived) where
   pub covers_same : (shown : List Shown) (x : Indexed) → AllByRecursion (IsSame a b) shown → Covers keyer lister a shown x
       → Covers keyer lister b shown x
   covers_same shown x same is =
-      let both : List Shown = is.sorted ++ x.waiting in
+      let both : List Shown = is.sorted ++ x.pending in
       let all : AllByRecursion (IsSame a b) both =
       all_unordered (shown_name a) (IsSame a b) both (subst (AllByRecursion (IsSame a b)) is.all same) in
       record {
         sorted = is.sorted;
-        held = indexed_same keyer lister a b is.sorted x.held (all_front (shown_name a) (IsSame a b) is.sorted x.waiting all) is.held;
+        held = indexed_same keyer lister a b is.sorted x.held (all_front (shown_name a) (IsSame a b) is.sorted x.pending all) is.held;
         all = is.all ∙ in_order_cong (shown_name a) (shown_name b) both
             (all_implied (IsSame a b) (λ s. shown_name a s ≡ shown_name b s) (λ s one. sym one.1) both all);
         apart = same_apart both all is.apart;

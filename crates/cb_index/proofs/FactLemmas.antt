@@ -23,17 +23,18 @@ use Rattle.cb_index.specs.Files.{AreAscending, File, IsThere, files_of}
 use Rattle.cb_index.specs.Firsts.{firsts}
 use Rattle.cb_index.specs.Held.{AreRising, Lister, all_entries, entries_of, entry_of}
 use Rattle.cb_index.specs.Items.{item_count, item_key}
-use Rattle.cb_index.specs.Orders.{callee_key, callees_listed, caller_key, callers_listed, use_key, uses_listed}
-use Rattle.cb_index.specs.Rows.{Fact, call_in, calls_in, calls_of, file_calls_in, file_calls_of}
+use Rattle.cb_index.specs.Orders.{firsts_in, item_keyer, key_in}
+use Rattle.cb_index.specs.Rows.{Fact, call_in, calls_in, calls_of, facts_named, file_calls_in, file_calls_of, file_facts}
 use Rattle.cb_index.specs.Rows.{file_uses_of, use_in, uses_of}
 use Rattle.cb_index.specs.Shelved.{IsIndexOf}
 use Rattle.cb_index.specs.steps.Found.{fact_at, fact_of_call, fact_of_use, facts_at, facts_in, facts_in_text}
 use Rattle.cb_index.specs.steps.Given.{given_in, given_in_text}
+use Rattle.cb_index.specs.steps.Searched.{items_with}
 use Rattle.cb_index.specs.steps.Spread.{items_from}
 use Rattle.cb_index.specs.declared.entry.Entry.{Entry}
 use Rattle.cb_index.specs.declared.entry.Shown.{Shown}
-use Rattle.cb_index.specs.declared.rows.FactSort.{FactSort}
-use Rattle.cb_index.specs.declared.rows.FactSort.TheVariants.{Uses, Callees, Callers}
+use Rattle.cb_index.specs.declared.kind.FactKind.{FactKind}
+use Rattle.cb_index.specs.declared.kind.FactKind.TheVariants.{Uses, Callees, Callers}
 use Rattle.cb_index.proofs.FirstLemmas.{firsts_give, has, prefix_and_key}
 use Rattle.cb_index.proofs.RangeItems.{range_next}
 use Rattle.cb_index.proofs.RestLemmas.{at_front, drop_next}
@@ -67,25 +68,17 @@ module _ {X : Type 0} (fact : ℕ → Fact) (row : X → Fact) (key_of_x : X →
       (filter (λ y. bytes_eq key (key_of_x y)) xs) rows.0 (numbers_rows has (suc n) xs rows.1 tests.1)
 
 -- ---- one version
-module _ {X : Type 0} (sort : FactSort) (a : Archived) (s : Shown) (text : List ℕ)
+module _ {X : Type 0} (sort : FactKind) (a : Archived) (s : Shown) (text : List ℕ)
     (there : slice_get a.texts s.version ≡ Some text) (row : X → Fact)
     (key_of_x : X → List ℕ) (key : List ℕ) (xs : List X)
     (count_is : item_count sort text ≡ length xs)
     (rows : Rows (fact_at sort (name_of a s.name) text) row key_of_x key 0 xs)
     (tests : Tests (fact_at sort (name_of a s.name) text) row key_of_x key (has sort text key) 0 xs) where
-  pub version_facts : (keyer : Keyer)
-      → ((item : ℕ) → keyer (Some text) (name_of a s.name) item ≡ item_key sort text item)
-      → facts_in sort a (filter (has_key keyer a (key_prefix key) key) (map (entry_of s) (firsts sort text)))
+  pub version_searched : map (fact_at sort (name_of a s.name) text) (items_with sort text key)
       ≡ map row (filter (λ x. bytes_eq key (key_of_x x)) xs)
-  version_facts keyer keys_are =
+  version_searched =
       let fact = fact_at sort (name_of a s.name) text in
-      firsts_give sort text key fact (facts_at sort a) (has_key keyer a (key_prefix key) key) s
-      (λ item. ap (facts_in_text sort (name_of a s.name) item) there)
-      (λ item. ap (λ k. nat_eq (key_prefix key) (key_prefix (item_key sort text item)) && bytes_eq key k)
-      (ap (λ t. keyer t (name_of a s.name) item) there ∙ keys_are item)
-      ∙ prefix_and_key key (item_key sort text item))
-      0 (item_count sort text) (omega arith) (λ before below. absurd (omega (arith, below)))
-      ∙ ap (λ n. map fact (filter (has sort text key) (range_with_len 0 n))) count_is
+      ap (λ n. map fact (filter (has sort text key) (range_with_len 0 n))) count_is
       ∙ numbers_rows fact row key_of_x key (has sort text key) 0 xs rows tests
 
 -- ---- uses
@@ -123,13 +116,11 @@ module _ (a : Archived) (s : Shown) (text : List ℕ)
     use_rows (suc n) us (drop_next n (facts_of text).uses ∙ ap (drop 1) is) within.1,
   )
 
-  pub one_uses : facts_in Uses a (filter (has_key use_key a (key_prefix key) key)
-      (entries_of uses_listed a s)) ≡ file_uses_of key file
-  one_uses =
-      ap (λ o. facts_in Uses a (filter (has_key use_key a (key_prefix key) key) (map (entry_of s) (uses_listed o)))) there
-      ∙ version_facts Uses a s text there (use_in file) (λ (u : Use). bytes_of text u.name) key (facts_of text).uses refl
+  uses_searched : map (fact_at Uses (name_of a s.name) text) (items_with Uses text key) ≡ file_uses_of key file
+  uses_searched =
+      version_searched Uses a s text there (use_in file) (λ (u : Use). bytes_of text u.name) key (facts_of text).uses refl
       (use_rows 0 (facts_of text).uses refl (facts_lie text).uses)
-      (use_tests 0 (facts_of text).uses refl (facts_lie text).uses) use_key (λ item. refl)
+      (use_tests 0 (facts_of text).uses refl (facts_lie text).uses)
 
   -- ---- calls
   module _ (n : ℕ) (c : Call) (cs : List Call) (is : drop n (facts_of text).calls ≡ c ∷ cs) where
@@ -181,71 +172,64 @@ module _ (a : Archived) (s : Shown) (text : List ℕ)
   caller_rows n (c ∷ cs) is within =
       (call_is n c cs is within.0, caller_rows (suc n) cs (next_call n c cs is) within.1)
 
-  pub one_callees : facts_in Callees a (filter (has_key callee_key a (key_prefix key) key)
-      (entries_of callees_listed a s)) ≡ file_calls_of key file
-  one_callees =
-      ap (λ o. facts_in Callees a (filter (has_key callee_key a (key_prefix key) key) (map (entry_of s) (callees_listed o)))) there
-      ∙ version_facts Callees a s text there (call_in file) (λ (c : Call). bytes_of text c.callee) key (facts_of text).calls refl
+  callees_searched : map (fact_at Callees (name_of a s.name) text) (items_with Callees text key) ≡ file_calls_of key file
+  callees_searched =
+      version_searched Callees a s text there (call_in file) (λ (c : Call). bytes_of text c.callee) key (facts_of text).calls refl
       (callee_rows 0 (facts_of text).calls refl (facts_lie text).calls)
-      (callee_tests 0 (facts_of text).calls refl (facts_lie text).calls) callee_key (λ item. refl)
+      (callee_tests 0 (facts_of text).calls refl (facts_lie text).calls)
 
-  pub one_callers : facts_in Callers a (filter (has_key caller_key a (key_prefix key) key)
-      (entries_of callers_listed a s)) ≡ file_calls_in key file
-  one_callers =
-      ap (λ o. facts_in Callers a (filter (has_key caller_key a (key_prefix key) key) (map (entry_of s) (callers_listed o)))) there
-      ∙ version_facts Callers a s text there (call_in file) (λ (c : Call). bytes_of text c.caller) key (facts_of text).calls refl
+  callers_searched : map (fact_at Callers (name_of a s.name) text) (items_with Callers text key) ≡ file_calls_in key file
+  callers_searched =
+      version_searched Callers a s text there (call_in file) (λ (c : Call). bytes_of text c.caller) key (facts_of text).calls refl
       (caller_rows 0 (facts_of text).calls refl (facts_lie text).calls)
-      (caller_tests 0 (facts_of text).calls refl (facts_lie text).calls) caller_key (λ item. refl)
+      (caller_tests 0 (facts_of text).calls refl (facts_lie text).calls)
+
+  -- ---- by kind
+  pub one_searched : (kind : FactKind) → map (fact_at kind (name_of a s.name) text) (items_with kind text key) ≡ file_facts kind key file
+  one_searched Uses = uses_searched
+  one_searched Callees = callees_searched
+  one_searched Callers = callers_searched
+
+  pub one_facts : (kind : FactKind) → facts_in kind a (filter (has_key (item_keyer kind) a (key_prefix key) key)
+      (entries_of (firsts_in kind) a s)) ≡ file_facts kind key file
+  one_facts kind =
+      ap (λ o. facts_in kind a (filter (has_key (item_keyer kind) a (key_prefix key) key) (map (entry_of s) (firsts_in kind o)))) there
+      ∙ firsts_give kind text key (fact_at kind (name_of a s.name) text) (facts_at kind a) (has_key (item_keyer kind) a (key_prefix key) key) s
+      (λ item. ap (facts_in_text kind (name_of a s.name) item) there)
+      (λ item. ap (λ k. nat_eq (key_prefix key) (key_prefix (item_key kind text item)) && bytes_eq key k)
+      (ap (λ t. key_in kind t item) there) ∙ prefix_and_key key (item_key kind text item))
+      0 (item_count kind text) (omega arith) (λ before below. absurd (omega (arith, below)))
+      ∙ one_searched kind
 
 -- ---- all versions
-module _ (sort : FactSort) (keyer : Keyer) (lister : Lister) (rising : (t : Option (List ℕ)) → AreRising (lister t))
-    (a : Archived) (key : List ℕ) (rows : File → List Fact)
-    (one : (s : Shown) (text : List ℕ) → slice_get a.texts s.version ≡ Some text
-    → facts_in sort a (filter (has_key keyer a (key_prefix key) key) (entries_of lister a s))
-    ≡ rows (record { name = name_of a s.name; bytes = text })) where
+pub named_apart : (kind : FactKind) (key : List ℕ) (fs : List File) → flat_map (file_facts kind key) fs ≡ facts_named kind key fs
+unfolding uses_of calls_of calls_in
+named_apart Uses key fs = refl
+named_apart Callees key fs = refl
+named_apart Callers key fs = refl
+
+module _ (kind : FactKind) (a : Archived) (key : List ℕ) where
   all_facts : (shown : List Shown) → AllByRecursion (IsThere a) shown
-      → facts_in sort a (filter (has_key keyer a (key_prefix key) key)
-      (all_entries lister a shown)) ≡ flat_map rows (files_of a shown)
+      → facts_in kind a (filter (has_key (item_keyer kind) a (key_prefix key) key)
+      (all_entries (firsts_in kind) a shown)) ≡ flat_map (file_facts kind key) (files_of a shown)
   all_facts [] all = refl
   all_facts (s ∷ shown) all =
-      let has = has_key keyer a (key_prefix key) key in
-      ap (facts_in sort a) (filter-append has (entries_of lister a s) (all_entries lister a shown))
-      ∙ flat_map-append (facts_at sort a) (filter has (entries_of lister a s))
-      (filter has (all_entries lister a shown))
-      ∙ (λ i. one s (get_or a.texts s.version []) (slice_get-get_or a.texts s.version [] all.0.1) i
+      let has = has_key (item_keyer kind) a (key_prefix key) key in
+      ap (facts_in kind a) (filter-append has (entries_of (firsts_in kind) a s) (all_entries (firsts_in kind) a shown))
+      ∙ flat_map-append (facts_at kind a) (filter has (entries_of (firsts_in kind) a s))
+      (filter has (all_entries (firsts_in kind) a shown))
+      ∙ (λ i. one_facts a s (get_or a.texts s.version []) (slice_get-get_or a.texts s.version [] all.0.1) key kind i
       ++ all_facts shown all.1 i)
 
-  index_facts : (shown : List Shown) → AllByRecursion (IsThere a) shown → AreAscending a shown → (es : List Entry)
-      → IsIndexOf keyer lister a shown es
-      → facts_in sort a (filter (has_key keyer a (key_prefix key) key) es) ≡ flat_map rows (files_of a shown)
-  index_facts shown all up es is =
-      ap (facts_in sort a) (kept_key keyer a lister rising shown up (key_prefix key) key es is) ∙ all_facts shown all
-
-module _ (a : Archived) (shown : List Shown) (all : AllByRecursion (IsThere a) shown)
-    (up : AreAscending a shown) (es : List Entry) (key : List ℕ) where
-  pub rows_of_uses : IsIndexOf use_key uses_listed a shown es
-      → facts_in Uses a (filter (has_key use_key a (key_prefix key) key) es) ≡ uses_of key (files_of a shown)
-  unfolding uses_of
-  rows_of_uses is =
-      index_facts Uses use_key uses_listed (firsts_rise Uses) a key (file_uses_of key)
-      (λ s text there. one_uses a s text there key) shown all up es is
-
-  pub rows_of_calls : IsIndexOf callee_key callees_listed a shown es
-      → facts_in Callees a (filter (has_key callee_key a (key_prefix key) key) es) ≡ calls_of key (files_of a shown)
-  unfolding calls_of
-  rows_of_calls is =
-      index_facts Callees callee_key callees_listed (firsts_rise Callees) a key (file_calls_of key)
-      (λ s text there. one_callees a s text there key) shown all up es is
-
-  pub rows_of_callers : IsIndexOf caller_key callers_listed a shown es
-      → facts_in Callers a (filter (has_key caller_key a (key_prefix key) key) es) ≡ calls_in key (files_of a shown)
-  unfolding calls_in
-  rows_of_callers is =
-      index_facts Callers caller_key callers_listed (firsts_rise Callers) a key (file_calls_in key)
-      (λ s text there. one_callers a s text there key) shown all up es is
+  pub rows_of_facts : (shown : List Shown) → AllByRecursion (IsThere a) shown → AreAscending a shown → (es : List Entry)
+      → IsIndexOf (item_keyer kind) (firsts_in kind) a shown es
+      → facts_in kind a (filter (has_key (item_keyer kind) a (key_prefix key) key) es) ≡ facts_named kind key (files_of a shown)
+  rows_of_facts shown all up es is =
+      ap (facts_in kind a) (kept_key (item_keyer kind) a (firsts_in kind) (firsts_rise kind) shown up (key_prefix key) key es is)
+      ∙ all_facts shown all ∙ named_apart kind key (files_of a shown)
 
 -- ---- where all are given
-given_all : (sort : FactSort) (file : List ℕ) (item : ℕ) (text : Option (List ℕ))
+given_all : (sort : FactKind) (file : List ℕ) (item : ℕ) (text : Option (List ℕ))
     → given_in_text true sort file item text ≡ facts_in_text sort file item text
 given_all sort _ item None = refl
 given_all sort file item (Some text) =
@@ -255,7 +239,7 @@ given_all sort file item (Some text) =
     kept_all [] = refl
     kept_all (i ∷ items) = ap (λ l. i ∷ l) (kept_all items)
 
-pub all_given : (sort : FactSort) (a : Archived) (es : List Entry)
+pub all_given : (sort : FactKind) (a : Archived) (es : List Entry)
     → given_in true sort a es ≡ facts_in sort a es
 all_given sort a es =
     λ i. flat_map

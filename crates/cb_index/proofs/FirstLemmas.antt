@@ -15,7 +15,7 @@ use Rattle.cb_index.specs.Held.{entry_of}
 use Rattle.cb_index.specs.Items.{have_one_key, is_first, item_count, item_key, later}
 use Rattle.cb_index.specs.declared.entry.Entry.{Entry}
 use Rattle.cb_index.specs.declared.entry.Shown.{Shown}
-use Rattle.cb_index.specs.declared.rows.FactSort.{FactSort}
+use Rattle.cb_index.specs.declared.kind.FactKind.{FactKind}
 use Rattle.cb_index.proofs.RangeItems.{range_next}
 
 -- ---- a prefix and a key
@@ -34,7 +34,7 @@ pub at_number : (len i : ℕ) → i < len → get_or (range_with_len 0 len) i 0 
 at_number len i below = omega (arith, get_or-range_with_len 0 len i 0 below)
 
 -- ---- items of one key
-module _ (sort : FactSort) (text key : List ℕ) where
+module _ (sort : FactKind) (text key : List ℕ) where
   abbrev pub has : ℕ → Bool
   has item = bytes_eq key (item_key sort text item)
 

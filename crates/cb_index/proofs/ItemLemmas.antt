@@ -15,8 +15,8 @@ use Rattle.cb_index.specs.Links.{AreLaid, AreLinks, Linked, first_or_none}
 use Rattle.cb_index.specs.Links.{link_of, links_for, links_of}
 use Rattle.cb_index.specs.Orders.{numbered}
 use Rattle.cb_index.specs.declared.links.Link.{Link}
-use Rattle.cb_index.specs.declared.rows.FactSort.{FactSort}
-use Rattle.cb_index.specs.declared.rows.FactSort.TheVariants.{Uses, Callees, Callers}
+use Rattle.cb_index.specs.declared.kind.FactKind.{FactKind}
+use Rattle.cb_index.specs.declared.kind.FactKind.TheVariants.{Uses, Callees, Callers}
 
 -- ---- definitions: each has a number
 pub length_numbered : (prefixed : Def → ℕ) (n : ℕ) (ds : List Def)
@@ -88,7 +88,7 @@ stands_first p k (suc n) j rest is =
           }
     ]) refl is
 
-module _ (sort : FactSort) (text : List ℕ) where
+module _ (sort : FactKind) (text : List ℕ) where
   abbrev count : ℕ
   count = item_count sort text
 
@@ -196,13 +196,13 @@ module _ (sort : FactSort) (text : List ℕ) where
       ap (map (listed sort text)) (kept_passed (is_first sort text) k count below is)
 
 -- ---- links
-pub laid_for : (sort : FactSort) (text : List ℕ) (l : Linked) → AreLaid text l
+pub laid_for : (sort : FactKind) (text : List ℕ) (l : Linked) → AreLaid text l
     → AreLinks sort text (links_for sort l)
 laid_for Uses text l laid = laid.uses
 laid_for Callees text l laid = laid.callees
 laid_for Callers text l laid = laid.callers
 
-laid_at : (sort : FactSort) (text : List ℕ) (links : List Link) (item : ℕ) (link : Link)
+laid_at : (sort : FactKind) (text : List ℕ) (links : List Link) (item : ℕ) (link : Link)
     → links ≡ links_of sort text → item < length links
     → get_or links item link ≡ link_of sort text item
 unfolding links_of
@@ -215,7 +215,7 @@ laid_at sort text links item link all there =
     ∙ get_or-map-range_with_len (link_of sort text) 0 count item item link below (omega arith)
 
 -- a link that is laid is the one of its item
-pub link_is : (sort : FactSort) (text : List ℕ) (links : List Link) (item : ℕ) (link : Link)
+pub link_is : (sort : FactKind) (text : List ℕ) (links : List Link) (item : ℕ) (link : Link)
     → AreLinks sort text links → item < length links → link ≡ get_or links item link
     → link ≡ link_of sort text item
 link_is sort text links item link laid there is =

@@ -1,8 +1,8 @@
 -- What a shelf keeps while versions come and go.
-use Rattle.std.proofs.Common.{◌≡◌, ◌∙◌, ◌≤◌, ◌<◌, ◌+◌, ℕ, suc, Bool, true, false, List, [], ◌∷◌, ◌++◌, refl, sym, ap, subst, length, take, drop, drop-cons, drop_of_length-le, filter, get_or, arith}
+use Rattle.std.proofs.Common.{◌≡◌, ◌∙◌, ◌≤◌, ◌<◌, ◌+◌, ℕ, suc, Bool, true, false, List, [], ◌∷◌, ◌++◌, Some, refl, sym, ap, subst, length, take, drop, drop-cons, drop_of_length-le, filter, get_or, arith}
 use Rattle.std.proofs.lemmas.List.{length-append}
-use Rattle.std.proofs.Math.Nat.{le_trans, min-le_left, min-le_right}
-use Rattle.std.specs.Prelude.{cond, min, nat_eq, not, slice_get, ◌||◌}
+use Rattle.std.proofs.Math.Nat.{le_trans, le-max_left}
+use Rattle.std.specs.Prelude.{cond, nat_eq, not, slice_get, slice_index_or, slice_set, ◌||◌}
 use Rattle.std.specs.Cmp.Lexicographic.{slice_cmp}
 use Rattle.std.specs.List.{AllByRecursion, list_any}
 use Rattle.std.specs.Ordering.{nat_cmp}
@@ -12,35 +12,81 @@ use Rattle.cb_scan.proofs.FactsWithin.{all_in_order}
 use Rattle.cb_scan.proofs.FunctionsRise.{all_implied}
 use Rattle.cb_scan.proofs.WithinLemmas.{all-append}
 use Rattle.cb_index.specs.Archived.{Archived, name_of}
-use Rattle.cb_index.specs.Files.{AreApart, AreAscending, IsThere, is_shown, shown_name}
+use Rattle.cb_index.specs.Files.{AreApart, AreAscending, IsThere, call_count, count_for, def_count, is_shown, shown_name, shown_under, total, use_count}
+use Rattle.cb_index.specs.Kinds.{all_kinds, keyer_of, lister_of}
 use Rattle.cb_index.specs.Entries.{Keyer, sort_key}
 use Rattle.cb_index.specs.Held.{Indexed, Lister, all_entries}
 use Rattle.cb_index.specs.Names.{is_among, names_of}
-use Rattle.cb_index.specs.Orders.{callee_key, callees_listed, caller_key, callers_listed, def_key, defs_listed, tag_key, tags_listed, use_key, uses_listed}
-use Rattle.cb_index.specs.Shelved.{AreKept, AreWithin, Covers, KeepsRoom, Shelved}
+use Rattle.cb_index.specs.Orders.{def_key, defs_listed, tag_key, tags_listed}
+use Rattle.cb_index.specs.Shelved.{AreKept, AreTotals, AreWithin, CanShow, Covers, HasRoom, IsIndex, IsIndexOf, IsPrompt, KeepsRoom, Shelved, larger_room, room_for, total_for}
+use Rattle.cb_index.specs.steps.Moves.{Become, CanTakeIn, IsTaken, LetsGo, LetsGoAll, StaysItself, StaysSame, TakesIn}
 use Rattle.cb_index.specs.declared.entry.Entry.{Entry}
 use Rattle.cb_index.specs.declared.entry.Shown.{Shown}
+use Rattle.cb_index.specs.declared.kind.FactKind.TheVariants.{Uses, Callees, Callers}
+use Rattle.cb_index.specs.declared.kind.IndexKind.{IndexKind}
+use Rattle.cb_index.specs.declared.kind.IndexKind.TheVariants.{DefsByName, DefsByTagName, Facts}
+use Rattle.cb_index.specs.declared.room.Room.{Room}
 use Rattle.cb_index.specs.declared.totals.Totals.{Totals}
 use Rattle.cb_index.proofs.AscendLemmas.{ascending_filter}
-use Rattle.cb_index.proofs.CoverLemmas.{covers_as, covers_hidden, covers_more, covers_none, covers_same, covers_settled}
+use Rattle.cb_index.proofs.CoverLemmas.{covers_as, covers_fits, covers_hidden, covers_length, covers_more, covers_none, covers_read, covers_same, covers_settled}
+use Rattle.cb_index.proofs.EachLemmas.{all_at, all_set, become_all, become_kinds, kinds_of, kinds_set}
+use Rattle.cb_index.proofs.FewerLemmas.{fewer_of}
 use Rattle.cb_index.proofs.FrontLemmas.{get_or_front, get_or_left, length_front, slice_get_front, slice_get_left}
 use Rattle.cb_index.proofs.InOrderLemmas.{all_filter}
-use Rattle.cb_index.proofs.IndexLemmas.{IsSame}
+use Rattle.cb_index.proofs.IndexLemmas.{IsSame, length_all}
 use Rattle.cb_index.proofs.ListedLemmas.{apart_both, ascending_in_order}
+use Rattle.cb_index.proofs.RowLemmas.{again}
+
+-- ---- indexes by kind
+prompt_none : (kind : IndexKind) (pending : List Shown) → pending ≡ [] → IsPrompt kind pending
+prompt_none DefsByName pending none = none
+prompt_none DefsByTagName pending none = none
+prompt_none (Facts kind) pending none = tt
+
+prompt_filter : (kind : IndexKind) (p : Shown → Bool) (old new : List Shown) → new ≡ filter p old → IsPrompt kind old → IsPrompt kind new
+prompt_filter DefsByName p old new left none = left ∙ ap (filter p) none
+prompt_filter DefsByTagName p old new left none = left ∙ ap (filter p) none
+prompt_filter (Facts kind) p old new left none = tt
+
+-- none goes where none is pending
+pub prompt_without : (kind : IndexKind) (old new : List Shown) (n : ℕ) → n < length old → IsPrompt kind old → IsPrompt kind new
+prompt_without DefsByName old new n below none = absurd (let empty = ap length none in omega (arith, below, empty))
+prompt_without DefsByTagName old new n below none = absurd (let empty = ap length none in omega (arith, below, empty))
+prompt_without (Facts kind) old new n below none = tt
+
+-- an index of a kind is one of its own kind
+pub of_its_kind : (a : Archived) (shown : List Shown) (x y : Indexed) → y.kind ≡ x.kind
+    → Covers (keyer_of x.kind) (lister_of x.kind) a shown y × IsPrompt x.kind y.pending → IsIndex a shown y
+of_its_kind a shown x y kind is =
+    subst (λ k. Covers (keyer_of k) (lister_of k) a shown y × IsPrompt k y.pending) (sym kind) is
+
+-- an index of definitions holds all
+pub all_held : (kind : IndexKind) (a : Archived) (shown : List Shown) (x : Indexed) → x.kind ≡ kind → x.pending ≡ []
+    → IsIndex a shown x → IsIndexOf (keyer_of kind) (lister_of kind) a shown x.held
+all_held kind a shown x same none is =
+    subst (λ k. IsIndexOf (keyer_of k) (lister_of k) a shown x.held) same
+    (covers_read (keyer_of x.kind) (lister_of x.kind) a shown x none is.0)
+
+-- it is in order
+pub in_its_order : (kind : IndexKind) (a : Archived) (shown : List Shown) (x : Indexed) → x.kind ≡ kind → IsIndex a shown x
+    → x.held ≡ in_order (sort_key (keyer_of kind) a) x.held
+in_its_order kind a shown x same is =
+    subst (λ k. x.held ≡ in_order (sort_key (keyer_of k) a) x.held) same
+    (again (keyer_of x.kind) (lister_of x.kind) a is.0.sorted x.held is.0.held)
 
 -- ---- nothing is kept
-pub kept_none : (a : Archived) (shown : List Shown) (d t u c e : Indexed) → shown ≡ []
-    → d.held ≡ [] → d.waiting ≡ [] → t.held ≡ [] → t.waiting ≡ [] → u.held ≡ [] → u.waiting ≡ []
-    → c.held ≡ [] → c.waiting ≡ [] → e.held ≡ [] → e.waiting ≡ [] → AreKept a shown d t u c e
+abbrev pub IsEmpty : Indexed → Type 0
+IsEmpty x = (x.held ≡ []) × (x.pending ≡ [])
+
+pub kept_none : (a : Archived) (shown : List Shown) (xs : List Indexed) → shown ≡ [] → kinds_of xs ≡ all_kinds
+    → AllByRecursion IsEmpty xs → AreKept a shown xs
 unfolding AreOrdered
-kept_none a shown d t u c e none dh dw th tw uh uw ch cw eh ew = record {
+kept_none a shown xs none kinds empty = record {
   there = subst (AllByRecursion (IsThere a)) (sym none) tt;
   ascending = subst (AreAscending a) (sym none) tt;
-  defs = covers_none def_key defs_listed a shown d none dh dw;
-  tags = covers_none tag_key tags_listed a shown t none th tw;
-  uses = covers_none use_key uses_listed a shown u none uh uw;
-  callees = covers_none callee_key callees_listed a shown c none ch cw;
-  callers = covers_none caller_key callers_listed a shown e none eh ew;
+  kinds = kinds;
+  each = all_implied IsEmpty (IsIndex a shown)
+      (λ x is. (covers_none (keyer_of x.kind) (lister_of x.kind) a shown x none is.0 is.1, prompt_none x.kind x.pending is.1)) xs empty;
 }
 
 -- ---- the archive changes elsewhere
@@ -57,52 +103,35 @@ module _ (a b : Archived) where
   same_ascending [] all up = tt
   same_ascending (s ∷ shown) all up = (later_names s all.0 shown all.1 up.0, same_ascending shown all.1 up.1)
 
-  pub kept_same : (shown : List Shown) (d t u c e : Indexed) → AllByRecursion (IsSame a b) shown
-      → AllByRecursion (IsThere b) shown → AreKept a shown d t u c e → AreKept b shown d t u c e
-  kept_same shown d t u c e all there kept = record {
+  pub kept_same : (shown : List Shown) (xs : List Indexed) → AllByRecursion (IsSame a b) shown
+      → AllByRecursion (IsThere b) shown → AreKept a shown xs → AreKept b shown xs
+  kept_same shown xs all there kept = record {
     there = there;
     ascending = same_ascending shown all kept.ascending;
-    defs = covers_same def_key defs_listed a b shown d all kept.defs;
-    tags = covers_same tag_key tags_listed a b shown t all kept.tags;
-    uses = covers_same use_key uses_listed a b shown u all kept.uses;
-    callees = covers_same callee_key callees_listed a b shown c all kept.callees;
-    callers = covers_same caller_key callers_listed a b shown e all kept.callers;
+    kinds = kept.kinds;
+    each = all_implied (IsIndex a shown) (IsIndex b shown)
+        (λ x is. (covers_same (keyer_of x.kind) (lister_of x.kind) a b shown x all is.0, is.1)) xs kept.each;
   }
 
   -- the same names and texts
-  pub kept_moved : (shown : List Shown) (d t u c e : Indexed) → b.names ≡ a.names → b.texts ≡ a.texts
-      → AreKept a shown d t u c e → AreKept b shown d t u c e
-  kept_moved shown d t u c e names texts kept =
+  pub kept_moved : (shown : List Shown) (xs : List Indexed) → b.names ≡ a.names → b.texts ≡ a.texts
+      → AreKept a shown xs → AreKept b shown xs
+  kept_moved shown xs names texts kept =
       let there : AllByRecursion (IsThere b) shown =
       all_implied (IsThere a) (IsThere b)
       (λ s is. (subst (λ l. s.name < length l) (sym names) is.0, subst (λ l. s.version < length l) (sym texts) is.1)) shown kept.there in
       let same : AllByRecursion (IsSame a b) shown =
       all_implied (IsThere a) (IsSame a b)
       (λ s is. (ap (λ l. slice_get l s.version) texts, ap (λ l. get_or l s.name []) names)) shown kept.there in
-      kept_same shown d t u c e same there kept
-
--- the same is held and waits
-pub kept_as : (a : Archived) (shown then : List Shown) (d t u c e dd td ud cd ed : Indexed) → then ≡ shown
-    → (dd.held ≡ d.held) × (dd.waiting ≡ d.waiting) → (td.held ≡ t.held) × (td.waiting ≡ t.waiting)
-    → (ud.held ≡ u.held) × (ud.waiting ≡ u.waiting) → (cd.held ≡ c.held) × (cd.waiting ≡ c.waiting)
-    → (ed.held ≡ e.held) × (ed.waiting ≡ e.waiting) → AreKept a shown d t u c e → AreKept a then dd td ud cd ed
-kept_as a shown then d t u c e dd td ud cd ed same ds ts us cs es kept = record {
-  there = subst (AllByRecursion (IsThere a)) (sym same) kept.there;
-  ascending = subst (AreAscending a) (sym same) kept.ascending;
-  defs = covers_as def_key defs_listed a shown then d dd same ds.0 ds.1 kept.defs;
-  tags = covers_as tag_key tags_listed a shown then t td same ts.0 ts.1 kept.tags;
-  uses = covers_as use_key uses_listed a shown then u ud same us.0 us.1 kept.uses;
-  callees = covers_as callee_key callees_listed a shown then c cd same cs.0 cs.1 kept.callees;
-  callers = covers_as caller_key callers_listed a shown then e ed same es.0 es.1 kept.callers;
-}
+      kept_same shown xs same there kept
 
 -- ---- more is kept
-module _ (a b : Archived) (shown : List Shown) (d t u c e : Indexed) (names texts : List (List ℕ)) where
-  pub kept_more : b.names ≡ a.names ++ names → b.texts ≡ a.texts ++ texts → AreKept a shown d t u c e → AreKept b shown d t u c e
+module _ (a b : Archived) (shown : List Shown) (xs : List Indexed) (names texts : List (List ℕ)) where
+  pub kept_more : b.names ≡ a.names ++ names → b.texts ≡ a.texts ++ texts → AreKept a shown xs → AreKept b shown xs
   kept_more named kept_texts kept =
       let name_count = length-append a.names names in
       let text_count = length-append a.texts texts in
-      kept_same a b shown d t u c e
+      kept_same a b shown xs
       (all_implied (IsThere a) (IsSame a b)
       (λ s is. (
         ap (λ l. slice_get l s.version) kept_texts ∙ slice_get_left a.texts texts s.version is.1,
@@ -115,16 +144,16 @@ module _ (a b : Archived) (shown : List Shown) (d t u c e : Indexed) (names text
       )) shown kept.there) kept
 
 -- ---- the last are let go
-module _ (a b : Archived) (shown : List Shown) (d t u c e : Indexed) (versions names : ℕ) where
+module _ (a b : Archived) (shown : List Shown) (xs : List Indexed) (versions names : ℕ) where
   both : (ss : List Shown) → AllByRecursion (IsThere a) ss → AllByRecursion (λ (s : Shown). (s.version < versions) × (s.name < names)) ss
       → AllByRecursion (λ (s : Shown). IsThere a s × ((s.version < versions) × (s.name < names))) ss
   both [] p q = tt
   both (s ∷ ss) p q = ((p.0, q.0), both ss p.1 q.1)
 
   pub kept_front : AllByRecursion (λ (s : Shown). (s.version < versions) × (s.name < names)) shown
-      → b.names ≡ take names a.names → b.texts ≡ take versions a.texts → AreKept a shown d t u c e → AreKept b shown d t u c e
+      → b.names ≡ take names a.names → b.texts ≡ take versions a.texts → AreKept a shown xs → AreKept b shown xs
   kept_front below named kept_texts kept =
-      kept_same a b shown d t u c e
+      kept_same a b shown xs
       (all_implied (λ (s : Shown). (s.version < versions) × (s.name < names)) (IsSame a b)
       (λ s is. (
         ap (λ l. slice_get l s.version) kept_texts ∙ slice_get_front versions a.texts s.version is.0,
@@ -137,190 +166,225 @@ module _ (a b : Archived) (shown : List Shown) (d t u c e : Indexed) (versions n
       ))
       shown (both shown kept.there below)) kept
 
+-- ---- the indexes become others
+module _ (a : Archived) (shown then : List Shown) (xs ys : List Indexed) where
+  becomes : (way : Indexed → Indexed → Type 0) → ((x y : Indexed) → way x y → y.kind ≡ x.kind)
+      → ((x y : Indexed) → way x y → IsIndex a shown x → IsIndex a then y) → Become way xs ys
+      → AllByRecursion (IsThere a) then → AreAscending a then → AreKept a shown xs → AreKept a then ys
+  becomes way kind step become there up kept = record {
+    there = there;
+    ascending = up;
+    kinds = become_kinds way kind xs ys become ∙ kept.kinds;
+    each = become_all way (IsIndex a shown) (IsIndex a then) step xs ys become kept.each;
+  }
+
+  -- the same is held and pending
+  pub kept_as : then ≡ shown → Become StaysSame xs ys → AreKept a shown xs → AreKept a then ys
+  kept_as same become kept =
+      becomes StaysSame (λ x y way. way.itself.kind)
+      (λ x y way is. of_its_kind a then x y way.itself.kind (
+        covers_as (keyer_of x.kind) (lister_of x.kind) a shown then x y same way.held way.pending is.0,
+        subst (IsPrompt x.kind) (sym way.pending) is.1,
+      )) become (subst (AllByRecursion (IsThere a)) (sym same) kept.there) (subst (AreAscending a) (sym same) kept.ascending) kept
+
+  -- what is shown under some names is hidden
+  pub kept_hidden : (names : List ℕ) → then ≡ filter (λ (s : Shown). not (is_among names s.name)) shown
+      → Become (LetsGoAll names) xs ys → AreKept a shown xs → AreKept a then ys
+  kept_hidden names left become kept =
+      let stays : ℕ → Bool = λ n. not (is_among names n) in
+      let shown_stays : Shown → Bool = λ s. stays s.name in
+      becomes (LetsGoAll names) (λ x y way. way.itself.kind)
+      (λ x y way is. of_its_kind a then x y way.itself.kind (
+        covers_hidden (keyer_of x.kind) (lister_of x.kind) a stays shown then x y left way.held way.pending is.0,
+        prompt_filter x.kind shown_stays x.pending y.pending way.pending is.1,
+      )) become
+      (subst (AllByRecursion (IsThere a)) (sym left) (all_filter shown_stays (IsThere a) shown kept.there))
+      (subst (AreAscending a) (sym left) (ascending_filter a shown_stays shown kept.ascending)) kept
+
+  -- one version goes
+  pub kept_taken : (name : ℕ) (one : Shown) → then ≡ filter (λ (s : Shown). not (nat_eq s.name name)) shown → one.name ≡ name
+      → shown_under one.name shown ≡ Some one → Become (LetsGo a one) xs ys → AreKept a shown xs → AreKept a then ys
+  kept_taken name one left named under become kept =
+      let other : Shown → Bool = λ s. not (nat_eq s.name name) in
+      becomes (LetsGo a one) (λ x y way. way.itself.kind)
+      (λ x y way is. subst (λ l. IsIndex a l y) (sym left)
+      (subst (λ n. IsIndex a (filter (λ (s : Shown). not (nat_eq s.name n)) shown) y) named (way.others shown is under)))
+      become
+      (subst (AllByRecursion (IsThere a)) (sym left) (all_filter other (IsThere a) shown kept.there))
+      (subst (AreAscending a) (sym left) (ascending_filter a other shown kept.ascending)) kept
+
+-- the same list
+pub kept_list : (a : Archived) (shown then : List Shown) (xs : List Indexed) → then ≡ shown → AreKept a shown xs → AreKept a then xs
+kept_list a shown then xs same kept = subst (λ l. AreKept a l xs) (sym same) kept
+
 -- ---- versions are shown
-module _ (a : Archived) (shown news : List Shown) (d t u c e dd td ud cd ed : Indexed) where
-  pub kept_each : AllByRecursion (IsThere a) news → AreApart a news → list_any (is_shown a shown) news ≡ false
-      → (dd.held ≡ d.held) × (dd.waiting ≡ d.waiting ++ news) → (td.held ≡ t.held) × (td.waiting ≡ t.waiting ++ news)
-      → (ud.held ≡ u.held) × (ud.waiting ≡ u.waiting ++ news) → (cd.held ≡ c.held) × (cd.waiting ≡ c.waiting ++ news)
-      → (ed.held ≡ e.held) × (ed.waiting ≡ e.waiting ++ news) → AreKept a shown d t u c e
-      → AreKept a (in_order (shown_name a) (shown ++ news)) dd td ud cd ed
-  kept_each there apart none ds ts us cs es kept =
-      let up = kept.ascending in
+module _ (a : Archived) (shown news : List Shown) (apart : AreApart a news) (none : list_any (is_shown a shown) news ≡ false)
+    (up : AreAscending a shown) where
+  -- those of definitions at once
+  at_once : (keyer : Keyer) (lister : Lister) (x y : Indexed)
+      → y.held ≡ in_order (sort_key keyer a) (x.held ++ all_entries lister a news) → y.pending ≡ x.pending → x.pending ≡ []
+      → Covers keyer lister a shown x → Covers keyer lister a (in_order (shown_name a) (shown ++ news)) y
+  at_once keyer lister x y held same prompt is =
+      let between : Indexed = record {
+        kind = x.kind;
+        held = x.held;
+        pending = x.pending ++ news;
+        room = x.room;
+        version_room = x.version_room;
+      } in
+      covers_settled keyer lister a (in_order (shown_name a) (shown ++ news)) between y
+      (held ∙ ap (λ p. in_order (sort_key keyer a) (x.held ++ all_entries lister a (p ++ news))) (sym prompt)) (same ∙ prompt)
+      (covers_more keyer lister a shown news x between up apart none refl refl is)
+
+  taken : (kind : IndexKind) (x y : Indexed) → IsTaken kind a news x y
+      → Covers (keyer_of kind) (lister_of kind) a shown x × IsPrompt kind x.pending
+      → Covers (keyer_of kind) (lister_of kind) a (in_order (shown_name a) (shown ++ news)) y × IsPrompt kind y.pending
+  taken DefsByName x y way is = (at_once def_key defs_listed x y way.0 way.1 is.1 is.0, way.1 ∙ is.1)
+  taken DefsByTagName x y way is = (at_once tag_key tags_listed x y way.0 way.1 is.1 is.0, way.1 ∙ is.1)
+  taken (Facts kind) x y way is =
+      (covers_more (keyer_of (Facts kind)) (lister_of (Facts kind)) a shown news x y up apart none way.0 way.1 is.0, tt)
+
+  pub kept_each : (xs ys : List Indexed) → AllByRecursion (IsThere a) news → Become (TakesIn a news) xs ys
+      → AreKept a shown xs → AreKept a (in_order (shown_name a) (shown ++ news)) ys
+  kept_each xs ys there become kept =
+      let then = in_order (shown_name a) (shown ++ news) in
+      becomes a shown then xs ys (TakesIn a news) (λ x y way. way.itself.kind)
+      (λ x y way is. of_its_kind a then x y way.itself.kind (taken x.kind x y way.taken is)) become
+      (all_in_order (shown_name a) (IsThere a) (shown ++ news) (all-append (IsThere a) shown news kept.there there))
+      (ascending_in_order a (shown ++ news) (apart_both a shown news up apart none)) kept
+
+-- ---- room
+-- by kind
+total_is : (kind : IndexKind) (a : Archived) (shown : List Shown) (n : Totals) → AreTotals a shown n
+    → total_for kind n ≡ total (count_for kind) a shown
+total_is DefsByName a shown n are = are.defs
+total_is DefsByTagName a shown n are = are.defs
+total_is (Facts Uses) a shown n are = are.uses
+total_is (Facts Callees) a shown n are = are.calls
+total_is (Facts Callers) a shown n are = are.calls
+
+total_fits : (kind : IndexKind) (shown : List Shown) (capacity : ℕ) (n : Totals) (room : Room) (xs : List Indexed)
+    → AreWithin shown capacity n room xs → total_for kind n ≤ room_for kind room
+total_fits DefsByName shown capacity n room xs is = is.defs
+total_fits DefsByTagName shown capacity n room xs is = is.defs
+total_fits (Facts Uses) shown capacity n room xs is = is.uses
+total_fits (Facts Callees) shown capacity n room xs is = is.calls
+total_fits (Facts Callers) shown capacity n room xs is = is.calls
+
+-- what is held and pending fits
+pub flush_fits : (a : Archived) (shown : List Shown) (capacity : ℕ) (n : Totals) (room : Room) (xs : List Indexed) (x : Indexed)
+    → AreTotals a shown n → AreWithin shown capacity n room xs → HasRoom room x → IsIndex a shown x
+    → length x.held + length (all_entries (lister_of x.kind) a x.pending) ≤ x.room
+flush_fits a shown capacity n room xs x are within has is =
+    covers_fits (keyer_of x.kind) (lister_of x.kind) a (count_for x.kind) (fewer_of x.kind) shown x (total_for x.kind n) x.room
+    (total_is x.kind a shown n are) (le_trans (total_fits x.kind shown capacity n room xs within) has.0) is.0
+
+-- so do those that come in
+module _ (s : Shelved) (news : List Shown) (asked : CanShow s news) (room : Room)
+    (entries : s.entry_room ≡ room.entries) (defs : s.def_room ≡ room.defs) (uses : s.use_room ≡ room.uses) (calls : s.call_room ≡ room.calls) where
+  abbrev BothFit : IndexKind → Type 0
+  BothFit kind = total (count_for kind) s.archive s.shown + total (count_for kind) s.archive news ≤ room_for kind room
+
+  both_fit : (kind : IndexKind) → BothFit kind
+  both_fit DefsByName = subst (λ n. total def_count s.archive s.shown + total def_count s.archive news ≤ n) defs asked.defs
+  both_fit DefsByTagName = subst (λ n. total def_count s.archive s.shown + total def_count s.archive news ≤ n) defs asked.defs
+  both_fit (Facts Uses) = subst (λ n. total use_count s.archive s.shown + total use_count s.archive news ≤ n) uses asked.uses
+  both_fit (Facts Callees) = subst (λ n. total call_count s.archive s.shown + total call_count s.archive news ≤ n) calls asked.calls
+  both_fit (Facts Callers) = subst (λ n. total call_count s.archive s.shown + total call_count s.archive news ≤ n) calls asked.calls
+
+  pub can_take : (x : Indexed) → HasRoom room x → IsIndex s.archive s.shown x → CanTakeIn s.archive news x
+  can_take x has is =
+      let held = covers_fits (keyer_of x.kind) (lister_of x.kind) s.archive (count_for x.kind) (fewer_of x.kind) s.shown x
+      (total (count_for x.kind) s.archive s.shown) (total (count_for x.kind) s.archive s.shown) refl (omega arith) is.0 in
+      let more = length_all (lister_of x.kind) (count_for x.kind) (fewer_of x.kind) s.archive news in
+      let fit = both_fit x.kind in
+      let pending = covers_length (keyer_of x.kind) (lister_of x.kind) s.archive s.shown x is.0 in
       record {
-        there = all_in_order (shown_name a) (IsThere a) (shown ++ news) (all-append (IsThere a) shown news kept.there there);
-        ascending = ascending_in_order a (shown ++ news) (apart_both a shown news up apart none);
-        defs = covers_more def_key defs_listed a shown news d dd up apart none ds.0 ds.1 kept.defs;
-        tags = covers_more tag_key tags_listed a shown news t td up apart none ts.0 ts.1 kept.tags;
-        uses = covers_more use_key uses_listed a shown news u ud up apart none us.0 us.1 kept.uses;
-        callees = covers_more callee_key callees_listed a shown news c cd up apart none cs.0 cs.1 kept.callees;
-        callers = covers_more caller_key callers_listed a shown news e ed up apart none es.0 es.1 kept.callers;
+        order = in_its_order x.kind s.archive s.shown x refl is;
+        room = omega (arith, held, more, fit, has.0);
+        version_room = omega (arith, pending, asked.entries, entries, has.1);
       }
 
--- ---- what is shown under some names is hidden
-module _ (a : Archived) (stays : ℕ → Bool) where
-  abbrev shown_stays : Shown → Bool
-  shown_stays s = stays s.name
+  pub all_can_take : (xs : List Indexed) → AllByRecursion (HasRoom room) xs → AllByRecursion (IsIndex s.archive s.shown) xs
+      → AllByRecursion (CanTakeIn s.archive news) xs
+  all_can_take [] has is = tt
+  all_can_take (x ∷ xs) has is = (can_take x has.0 is.0, all_can_take xs has.1 is.1)
 
-  -- y has what stays of x
-  abbrev pub HasLeft : Indexed → Indexed → Type 0
-  HasLeft x y = (y.held ≡ filter (λ (e : Entry). stays e.name) x.held) × (y.waiting ≡ filter (λ (s : Shown). stays s.name) x.waiting)
+pub stays_same : (x : Indexed) → StaysSame x x
+stays_same x = record {
+  itself = record { kind = refl; room = omega arith; version_room = omega arith };
+  held = refl;
+  pending = refl;
+}
 
-  pub kept_hidden : (shown then : List Shown) (d t u c e dd td ud cd ed : Indexed) → then ≡ filter (λ (s : Shown). stays s.name) shown
-      → HasLeft d dd → HasLeft t td → HasLeft u ud → HasLeft c cd → HasLeft e ed
-      → AreKept a shown d t u c e → AreKept a then dd td ud cd ed
-  kept_hidden shown then d t u c e dd td ud cd ed left ds ts us cs es kept = record {
-    there = subst (AllByRecursion (IsThere a)) (sym left) (all_filter shown_stays (IsThere a) shown kept.there);
-    ascending = subst (AreAscending a) (sym left) (ascending_filter a shown_stays shown kept.ascending);
-    defs = covers_hidden def_key defs_listed a stays shown then d dd left ds.0 ds.1 kept.defs;
-    tags = covers_hidden tag_key tags_listed a stays shown then t td left ts.0 ts.1 kept.tags;
-    uses = covers_hidden use_key uses_listed a stays shown then u ud left us.0 us.1 kept.uses;
-    callees = covers_hidden callee_key callees_listed a stays shown then c cd left cs.0 cs.1 kept.callees;
-    callers = covers_hidden caller_key callers_listed a stays shown then e ed left es.0 es.1 kept.callers;
-  }
+-- a greater room
+pub record IsLarger (r s : Room) : Type 0 where
+  pub entries : s.entries ≤ r.entries
+  pub defs : s.defs ≤ r.defs
+  pub uses : s.uses ≤ r.uses
+  pub calls : s.calls ≤ r.calls
 
--- ---- one version goes
-module _ (a : Archived) (name : ℕ) (shown then : List Shown) (one : Shown) (dd td ud cd ed : Indexed) where
-  abbrev IsLeft : Keyer → Lister → ℕ → Indexed → Type 0
-  IsLeft keyer lister n x = Covers keyer lister a (filter (λ (s : Shown). not (nat_eq s.name n)) shown) x
+pub larger_fits : (r s t : Room) → r ≡ larger_room s t → IsLarger r s
+larger_fits r s t is = subst (λ q. IsLarger q s) (sym is) (record {
+  entries = le-max_left s.entries t.entries;
+  defs = le-max_left s.defs t.defs;
+  uses = le-max_left s.uses t.uses;
+  calls = le-max_left s.calls t.calls;
+})
 
-  pub kept_taken : (d t u c e : Indexed) → then ≡ filter (λ (s : Shown). not (nat_eq s.name name)) shown → one.name ≡ name
-      → IsLeft def_key defs_listed one.name dd → IsLeft tag_key tags_listed one.name td → IsLeft use_key uses_listed one.name ud
-      → IsLeft callee_key callees_listed one.name cd → IsLeft caller_key callers_listed one.name ed
-      → AreKept a shown d t u c e → AreKept a then dd td ud cd ed
-  kept_taken d t u c e left named ds ts us cs es kept =
-      let other : Shown → Bool = λ s. not (nat_eq s.name name) in
-      subst (λ l. AreKept a l dd td ud cd ed) (sym left) (record {
-        there = all_filter other (IsThere a) shown kept.there;
-        ascending = ascending_filter a other shown kept.ascending;
-        defs = subst (λ n. IsLeft def_key defs_listed n dd) named ds;
-        tags = subst (λ n. IsLeft tag_key tags_listed n td) named ts;
-        uses = subst (λ n. IsLeft use_key uses_listed n ud) named us;
-        callees = subst (λ n. IsLeft callee_key callees_listed n cd) named cs;
-        callers = subst (λ n. IsLeft caller_key callers_listed n ed) named es;
-      })
+abbrev pub no_room : Room
+no_room = record { versions = 0; names = 0; entries = 0; defs = 0; uses = 0; calls = 0 }
 
--- ---- room for versions
--- what fits in the least of six rooms fits in each
-pub each_room : (s d t u c e n : ℕ) → n ≤ min s (min (min d t) (min u (min c e)))
-    → (n ≤ s) × (n ≤ d) × (n ≤ t) × (n ≤ u) × (n ≤ c) × (n ≤ e)
-each_room s d t u c e n fits =
-    let five = le_trans fits (min-le_right s (min (min d t) (min u (min c e)))) in
-    let two = le_trans five (min-le_left (min d t) (min u (min c e))) in
-    let three = le_trans five (min-le_right (min d t) (min u (min c e))) in
-    let last = le_trans three (min-le_right u (min c e)) in (
-      le_trans fits (min-le_left s (min (min d t) (min u (min c e)))),
-      le_trans two (min-le_left d t),
-      le_trans two (min-le_right d t),
-      le_trans three (min-le_left u (min c e)),
-      le_trans last (min-le_left c e),
-      le_trans last (min-le_right c e),
-    )
+none_wanted : (kind : IndexKind) → room_for kind no_room ≡ 0
+none_wanted DefsByName = refl
+none_wanted DefsByTagName = refl
+none_wanted (Facts Uses) = refl
+none_wanted (Facts Callees) = refl
+none_wanted (Facts Callers) = refl
 
--- ---- what waits in one index is put in order
-module _ (a : Archived) (shown : List Shown) (d t u c e x : Indexed) (n : Totals) where
-  pub settled_defs : x.held ≡ in_order (sort_key def_key a) (d.held ++ all_entries defs_listed a d.waiting) → x.waiting ≡ []
-      → AreKept a shown d t u c e → AreKept a shown x t u c e
-  settled_defs held waiting kept = record {
-    there = kept.there;
-    ascending = kept.ascending;
-    defs = covers_settled def_key defs_listed a shown d x held waiting kept.defs;
-    tags = kept.tags;
-    uses = kept.uses;
-    callees = kept.callees;
-    callers = kept.callers;
-  }
+pub has_none : (xs : List Indexed) → AllByRecursion (HasRoom no_room) xs
+has_none [] = tt
+has_none (x ∷ xs) = ((omega (arith, none_wanted x.kind), omega arith), has_none xs)
 
-  pub within_defs : d.room ≤ x.room → AreWithin n d t u c e → AreWithin n x t u c e
-  within_defs room is = record {
-    defs = le_trans is.defs room;
-    tags = is.tags;
-    uses = is.uses;
-    callees = is.callees;
-    callers = is.callers;
-  }
+-- the room stays
+room_stays : (room : Room) (x y : Indexed) → StaysItself x y → HasRoom room x → HasRoom room y
+room_stays room x y way has = (
+  le_trans (subst (λ k. room_for k room ≤ x.room) (sym way.kind) has.0) way.room,
+  le_trans has.1 way.version_room,
+)
 
-  pub settled_tags : x.held ≡ in_order (sort_key tag_key a) (t.held ++ all_entries tags_listed a t.waiting) → x.waiting ≡ []
-      → AreKept a shown d t u c e → AreKept a shown d x u c e
-  settled_tags held waiting kept = record {
-    there = kept.there;
-    ascending = kept.ascending;
-    defs = kept.defs;
-    tags = covers_settled tag_key tags_listed a shown t x held waiting kept.tags;
-    uses = kept.uses;
-    callees = kept.callees;
-    callers = kept.callers;
-  }
+pub rooms_stay : (way : Indexed → Indexed → Type 0) → ((x y : Indexed) → way x y → StaysItself x y) → (room : Room)
+    → (xs ys : List Indexed) → Become way xs ys → AllByRecursion (HasRoom room) xs → AllByRecursion (HasRoom room) ys
+rooms_stay way itself room =
+    become_all way (HasRoom room) (HasRoom room) (λ x y w has. room_stays room x y (itself x y w) has)
 
-  pub within_tags : t.room ≤ x.room → AreWithin n d t u c e → AreWithin n d x u c e
-  within_tags room is = record {
+-- ---- what is pending in one index is put in order
+module _ (a : Archived) (shown : List Shown) (xs : List Indexed) (n : ℕ) (y d : Indexed) (below : n < length xs)
+    (itself : StaysItself (slice_index_or xs n d) y) where
+  abbrev x : Indexed
+  x = slice_index_or xs n d
+
+  pub kept_flushed : y.held ≡ in_order (sort_key (keyer_of x.kind) a) (x.held ++ all_entries (lister_of x.kind) a x.pending) → y.pending ≡ []
+      → AreKept a shown xs → AreKept a shown (slice_set xs n y)
+  kept_flushed held none kept =
+      let is : IsIndex a shown x = all_at (IsIndex a shown) xs n d below kept.each in
+      record {
+        there = kept.there;
+        ascending = kept.ascending;
+        kinds = kinds_set xs n y d below itself.kind ∙ kept.kinds;
+        each = all_set (IsIndex a shown) xs n y
+            (of_its_kind a shown x y itself.kind (covers_settled (keyer_of x.kind) (lister_of x.kind) a shown x y held none is.0, prompt_none x.kind y.pending none))
+            kept.each;
+      }
+
+  pub within_flushed : (capacity : ℕ) (t : Totals) (room : Room) → AreWithin shown capacity t room xs → AreWithin shown capacity t room (slice_set xs n y)
+  within_flushed capacity t room is = record {
+    entries = is.entries;
     defs = is.defs;
-    tags = le_trans is.tags room;
     uses = is.uses;
-    callees = is.callees;
-    callers = is.callers;
-  }
-
-  pub settled_uses : x.held ≡ in_order (sort_key use_key a) (u.held ++ all_entries uses_listed a u.waiting) → x.waiting ≡ []
-      → AreKept a shown d t u c e → AreKept a shown d t x c e
-  settled_uses held waiting kept = record {
-    there = kept.there;
-    ascending = kept.ascending;
-    defs = kept.defs;
-    tags = kept.tags;
-    uses = covers_settled use_key uses_listed a shown u x held waiting kept.uses;
-    callees = kept.callees;
-    callers = kept.callers;
-  }
-
-  pub within_uses : u.room ≤ x.room → AreWithin n d t u c e → AreWithin n d t x c e
-  within_uses room is = record {
-    defs = is.defs;
-    tags = is.tags;
-    uses = le_trans is.uses room;
-    callees = is.callees;
-    callers = is.callers;
-  }
-
-  pub settled_callees : x.held ≡ in_order (sort_key callee_key a) (c.held ++ all_entries callees_listed a c.waiting) → x.waiting ≡ []
-      → AreKept a shown d t u c e → AreKept a shown d t u x e
-  settled_callees held waiting kept = record {
-    there = kept.there;
-    ascending = kept.ascending;
-    defs = kept.defs;
-    tags = kept.tags;
-    uses = kept.uses;
-    callees = covers_settled callee_key callees_listed a shown c x held waiting kept.callees;
-    callers = kept.callers;
-  }
-
-  pub within_callees : c.room ≤ x.room → AreWithin n d t u c e → AreWithin n d t u x e
-  within_callees room is = record {
-    defs = is.defs;
-    tags = is.tags;
-    uses = is.uses;
-    callees = le_trans is.callees room;
-    callers = is.callers;
-  }
-
-  pub settled_callers : x.held ≡ in_order (sort_key caller_key a) (e.held ++ all_entries callers_listed a e.waiting) → x.waiting ≡ []
-      → AreKept a shown d t u c e → AreKept a shown d t u c x
-  settled_callers held waiting kept = record {
-    there = kept.there;
-    ascending = kept.ascending;
-    defs = kept.defs;
-    tags = kept.tags;
-    uses = kept.uses;
-    callees = kept.callees;
-    callers = covers_settled caller_key callers_listed a shown e x held waiting kept.callers;
-  }
-
-  pub within_callers : e.room ≤ x.room → AreWithin n d t u c e → AreWithin n d t u c x
-  within_callers room is = record {
-    defs = is.defs;
-    tags = is.tags;
-    uses = is.uses;
-    callees = is.callees;
-    callers = le_trans is.callers room;
+    calls = is.calls;
+    listed = is.listed;
+    each = all_set (HasRoom room) xs n y (room_stays room x y itself (all_at (HasRoom room) xs n d below is.each)) is.each;
   }
 
 -- ---- filters by one number after another

@@ -26,7 +26,7 @@ use Rattle.cb_index.specs.Orders.{item_keyer, key_in}
 use Rattle.cb_index.specs.steps.Laying.{entries_match, item_entries, item_entry, link_to, next_item, starts, with_each}
 use Rattle.cb_index.specs.declared.entry.Entry.{Entry}
 use Rattle.cb_index.specs.declared.links.Link.{Link}
-use Rattle.cb_index.specs.declared.rows.FactSort.{FactSort}
+use Rattle.cb_index.specs.declared.kind.FactKind.{FactKind}
 use Rattle.cb_index.proofs.FirstLemmas.{at_number, prefix_and_key}
 use Rattle.cb_index.proofs.InOrderLemmas.{filter_kept, length_in_order, map_in_order}
 use Rattle.cb_index.proofs.IndexLemmas.{by_number}
@@ -177,7 +177,7 @@ or_true : (b c : Bool) → c ≡ true → (b || (c || false)) ≡ true
 or_true true c is = refl
 or_true false c is = ap (λ d. d || false) is
 
-module _ (sort : FactSort) (text : List ℕ) where
+module _ (sort : FactKind) (text : List ℕ) where
   abbrev have : ℕ → ℕ → Bool
   have = have_one_key sort text
 

@@ -3,6 +3,7 @@ pub mod AscendLemmas
 pub mod BlockLemmas
 pub mod CountLemmas
 pub mod CoverLemmas
+pub mod EachLemmas
 pub mod EntryLemmas
 pub mod FactLemmas
 pub mod FewerLemmas
@@ -27,6 +28,7 @@ pub mod RiseLemmas
 pub mod RowLemmas
 pub mod RowOrderLemmas
 pub mod RunLemmas
+pub mod SearchLemmas
 pub mod SortLemmas
 pub mod SortedLemmas
 pub mod SpreadLemmas

@@ -8,7 +8,7 @@ use Rattle.std.proofs.lemmas.Map.Text.{is_eq-slice_cmp}
 use Rattle.std.proofs.lemmas.Slice.Eq.{bytes_eq-Decides}
 use Rattle.std.specs.Prelude.{nat_lt, not, sum_by, ◌||◌, ◌&&◌}
 use Rattle.std.specs.Cmp.Lexicographic.{slice_cmp}
-use Rattle.std.specs.List.{AllAdjacentBelow, AllByRecursion, AllWithin, list_all, list_any}
+use Rattle.std.specs.List.{AllAdjacentBelow, IsAllAdjacentAnswer, AllByRecursion, AllWithin, list_all, list_any}
 use Rattle.std.specs.Ordering.{is_eq, is_gt, is_lt, nat_cmp, ordering_then}
 use Rattle.std.specs.Str.{bytes_eq}
 use Rattle.std.specs.declared.cmp.Ordering.{Ordering}
@@ -256,3 +256,38 @@ module _ (a : Archived) where
       less_if Less is = refl
       less_if Equal is = absurd (false≢true is)
       less_if Greater is = absurd (false≢true is)
+
+  -- and the other way round
+  pub ascending_at : (shown : List Shown) → AreAscending a shown → (k : ℕ) (d : Shown) → k + 1 < length shown
+      → is_lt (Names (name_of a (get_or shown k d).name) (name_of a (get_or shown (k + 1) d).name)) ≡ true
+  unfolding AreOrdered
+  ascending_at [] up k d below = absurd (omega (arith, below))
+  ascending_at (s ∷ []) up k d below = absurd (omega (arith, below))
+  ascending_at (s ∷ t ∷ shown) up zero d below = ap is_lt up.0.0
+  ascending_at (s ∷ t ∷ shown) up (suc k) d below =
+      let step : suc k + 1 ≡ suc (k + 1) = omega arith in
+      subst (λ m. is_lt (Names (name_of a (get_or (t ∷ shown) k d).name) (name_of a (get_or (s ∷ t ∷ shown) m d).name)) ≡ true) (sym step)
+      (ascending_at (t ∷ shown) up.1 k d (omega (arith, below)))
+
+  pub ascending_answer : (news : List Shown) (b : Bool) → AreAscending a news
+      → IsAllAdjacentAnswer (λ (s t : Shown) r. r ≡ is_lt (Names (name_of a s.name) (name_of a t.name))) news b → b ≡ true
+  ascending_answer news true up answer = refl
+  ascending_answer news false up answer =
+      let none : Shown = record { name = 0; version = 0 } in
+      absurd (false≢true (answer.2 none ∙ ascending_at news up answer.0 none answer.1))
+
+  pub there_is : (news : List Shown) → AllByRecursion (IsThere a) news
+      → list_all (λ (s : Shown). nat_lt s.name (length a.names) && nat_lt s.version (length a.texts)) news ≡ true
+  there_is [] all = refl
+  there_is (s ∷ news) all =
+      both (nat_lt s.name (length a.names)) (nat_lt s.version (length a.texts)) (less s.name (length a.names) all.0.0) (less s.version (length a.texts) all.0.1) (there_is news all.1)
+    where
+      less : (x y : ℕ) → x < y → nat_lt x y ≡ true
+      less x y is = grind (arith, nat_tests, is)
+
+      both : (p q : Bool) → p ≡ true → q ≡ true → list_all (λ (s : Shown). nat_lt s.name (length a.names) && nat_lt s.version (length a.texts)) news ≡ true
+          → ((p && q) && list_all (λ (s : Shown). nat_lt s.name (length a.names) && nat_lt s.version (length a.texts)) news) ≡ true
+      both true true is-p is-q later = later
+      both true false is-p is-q later = absurd (false≢true is-q)
+      both false q is-p is-q later = absurd (false≢true is-p)
+

@@ -16,7 +16,7 @@ use Rattle.cb_index.specs.Rows.{Fact}
 use Rattle.cb_index.specs.steps.Counting.{fresh, has_row}
 use Rattle.cb_index.specs.steps.Found.{fact_at}
 use Rattle.cb_index.specs.steps.Spread.{items_from}
-use Rattle.cb_index.specs.declared.rows.FactSort.{FactSort}
+use Rattle.cb_index.specs.declared.kind.FactKind.{FactKind}
 use Rattle.cb_index.proofs.AnyFileLemmas.{same_anywhere}
 use Rattle.cb_index.proofs.FirstLemmas.{no_first}
 use Rattle.cb_index.proofs.RangeItems.{range_next}
@@ -42,7 +42,7 @@ module _ {X : Type 0} (p : X → Bool) where
       ])
 
 -- ---- the rows that are those of none before
-module _ (sort : FactSort) where
+module _ (sort : FactKind) where
   abbrev unseen : List Fact → Fact → Bool
   unseen seen f = not (has_row sort seen f)
 
@@ -85,7 +85,7 @@ none_below p (suc n) none =
     none_below p n (λ k low. none k (omega (arith, low)))
     ∙ sym (ap (λ b. b || any_below p n) (none n (omega arith)))
 
-module _ (file : List ℕ) (sort : FactSort) (text : List ℕ) where
+module _ (file : List ℕ) (sort : FactKind) (text : List ℕ) where
   -- all items of one key are few
   pub key_few : (item : ℕ) → length (key_facts sort text item) ≤ suc (item_count sort text - suc item)
   unfolding later
@@ -208,7 +208,7 @@ module _ (file : List ℕ) (sort : FactSort) (text : List ℕ) where
         let same = length-map (items_from sort text first) own in
         omega (arith, most, same, few)
 
-pub rows_counted : (sort : FactSort) (text : List ℕ) (first : ℕ) → is_first sort text first ≡ true
+pub rows_counted : (sort : FactKind) (text : List ℕ) (first : ℕ) → is_first sort text first ≡ true
     → length (filter (λ i. not (is_repeat sort text i)) (items_from sort text first))
     ≡ row_count sort text first
 unfolding row_count

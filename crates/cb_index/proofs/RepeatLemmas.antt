@@ -21,8 +21,8 @@ use Rattle.cb_index.specs.Items.{have_one_key, item_count, item_key}
 use Rattle.cb_index.specs.Links.{AreLaid, Linked, repeats_for}
 use Rattle.cb_index.specs.Repeats.{AreRepeats, any_below, have_one_row, is_repeat, repeats_of}
 use Rattle.cb_index.specs.declared.entry.Entry.{Entry}
-use Rattle.cb_index.specs.declared.rows.FactSort.{FactSort}
-use Rattle.cb_index.specs.declared.rows.FactSort.TheVariants.{Uses, Callees, Callers}
+use Rattle.cb_index.specs.declared.kind.FactKind.{FactKind}
+use Rattle.cb_index.specs.declared.kind.FactKind.TheVariants.{Uses, Callees, Callers}
 use Rattle.cb_index.specs.steps.Found.{fact_at, fact_of_call, fact_of_use}
 use Rattle.cb_index.specs.steps.Laying.{item_entries, item_entry}
 use Rattle.cb_index.specs.steps.Repeating.{AreSeen, IsSeen, any_at, last_at, place_among, row_place}
@@ -64,7 +64,7 @@ pub any_none : (p : ℕ → Bool) (n : ℕ) → n ≡ 0 → false ≡ any_below 
 unfolding any_below
 any_none p n is = ap (any_below p) (sym is)
 
-module _ (sort : FactSort) (text : List ℕ) where
+module _ (sort : FactKind) (text : List ℕ) where
   abbrev n : ℕ
   n = item_count sort text
 
@@ -350,7 +350,7 @@ module _ (sort : FactSort) (text : List ℕ) where
 
 -- ---- a name at one place of the text
 module _ (text : List ℕ) where
-  abbrev shown_in : FactSort → Option Span → List ℕ
+  abbrev shown_in : FactKind → Option Span → List ℕ
   shown_in Uses span = column (option_map (cut text) span)
   shown_in Callees span = column (option_map (cut text) span)
   shown_in Callers span = bytes_at text span
@@ -369,13 +369,13 @@ module _ (text : List ℕ) where
   of_caller None = refl
   of_caller (Some c) = refl
 
-  shown_is : (sort : FactSort) (i : ℕ) → function_of sort (fact_at sort [] text i)
+  shown_is : (sort : FactKind) (i : ℕ) → function_of sort (fact_at sort [] text i)
       ≡ shown_in sort (function_span sort (facts_of text) i)
   shown_is Uses i = of_use (slice_get (facts_of text).uses i)
   shown_is Callees i = of_callee (slice_get (facts_of text).calls i)
   shown_is Callers i = of_caller (slice_get (facts_of text).calls i)
 
-  pub one_function : (sort : FactSort) (i j : ℕ)
+  pub one_function : (sort : FactKind) (i j : ℕ)
       → function_span sort (facts_of text) i ≡ function_span sort (facts_of text) j
       → true ≡ bytes_eq (function_of sort (fact_at sort [] text j))
       (function_of sort (fact_at sort [] text i))
@@ -385,21 +385,21 @@ module _ (text : List ℕ) where
       (shown_is sort j ∙ ap (shown_in sort) (sym is) ∙ sym (shown_is sort i)))
 
 -- ---- what is laid
-pub all_found : (sort : FactSort) (text : List ℕ) (repeats : List Bool) (count : ℕ)
+pub all_found : (sort : FactKind) (text : List ℕ) (repeats : List Bool) (count : ℕ)
     → repeats ≡ map (is_repeat sort text) (range_with_len 0 count) → count ≡ item_count sort text
     → repeats ≡ repeats_of sort text
 unfolding repeats_of
 all_found sort text repeats count found all =
     found ∙ ap (λ n. map (is_repeat sort text) (range_with_len 0 n)) all
 
-pub repeats_laid : (sort : FactSort) (text : List ℕ) (l : Linked) → AreLaid text l
+pub repeats_laid : (sort : FactKind) (text : List ℕ) (l : Linked) → AreLaid text l
     → AreRepeats sort text (repeats_for sort l)
 repeats_laid Uses text l laid = laid.use_repeats
 repeats_laid Callees text l laid = laid.callee_repeats
 repeats_laid Callers text l laid = laid.caller_repeats
 
 -- what is laid of an item is whether it is a repeat
-pub repeat_is : (sort : FactSort) (text : List ℕ) (repeats : List Bool) (item : ℕ) (repeat : Bool)
+pub repeat_is : (sort : FactKind) (text : List ℕ) (repeats : List Bool) (item : ℕ) (repeat : Bool)
     → AreRepeats sort text repeats → item < length repeats → repeat ≡ get_or repeats item repeat
     → repeat ≡ is_repeat sort text item
 unfolding repeats_of

@@ -8,7 +8,7 @@ use Rattle.cb_index.specs.Firsts.{listed}
 use Rattle.cb_index.specs.Held.{AreRising, Listed}
 use Rattle.cb_index.specs.Items.{is_first, item_count}
 use Rattle.cb_index.specs.Orders.{def_prefix, defs_listed, firsts_in, numbered, tag_prefix, tags_listed}
-use Rattle.cb_index.specs.declared.rows.FactSort.{FactSort}
+use Rattle.cb_index.specs.declared.kind.FactKind.{FactKind}
 use Rattle.cb_index.proofs.RangeItems.{range_next}
 
 -- ---- definitions: each has an entry
@@ -32,7 +32,7 @@ tags_rise None = tt
 tags_rise (Some text) = numbered_rise 0 (map (tag_prefix text) (facts_of text).defs)
 
 -- ---- uses and calls: the first of each key has one
-module _ (sort : FactSort) (text : List ℕ) (keeps : ℕ → Bool) where
+module _ (sort : FactKind) (text : List ℕ) (keeps : ℕ → Bool) where
   kept_above : (least n len : ℕ) → least < n
       → AllByRecursion (λ (j : Listed). least < j.number) (map (listed sort text) (filter keeps (range_with_len n len)))
   kept_above least n zero low = tt
@@ -58,7 +58,7 @@ module _ (sort : FactSort) (text : List ℕ) (keeps : ℕ → Bool) where
       step true rest = (kept_above n (suc n) len (omega arith), rest)
       step false rest = rest
 
-pub firsts_rise : (sort : FactSort) (t : Option (List ℕ)) → AreRising (firsts_in sort t)
+pub firsts_rise : (sort : FactKind) (t : Option (List ℕ)) → AreRising (firsts_in sort t)
 unfolding AreOrdered
 firsts_rise sort None = tt
 firsts_rise sort (Some text) = kept_rise sort text (is_first sort text) 0 (item_count sort text)

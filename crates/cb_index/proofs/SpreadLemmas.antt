@@ -11,18 +11,20 @@ use Rattle.cb_scan.specs.Definitions.{facts_of}
 use Rattle.cb_scan.specs.Keys.{key_prefix}
 use Rattle.cb_index.specs.Archived.{Archived, name_of}
 use Rattle.cb_index.specs.Entries.{Keyer, has_key}
-use Rattle.cb_index.specs.Files.{IsThere, call_count, def_count, use_count}
+use Rattle.cb_index.specs.Files.{IsThere, count_for, def_count}
 use Rattle.cb_index.specs.Firsts.{firsts}
 use Rattle.cb_index.specs.Held.{AreRising, Lister, all_entries, entries_of, entry_of}
 use Rattle.cb_index.specs.Items.{item_count, item_key}
-use Rattle.cb_index.specs.Orders.{callee_key, callees_listed, caller_key, callers_listed, def_key, def_prefix, defs_listed, numbered, tag_front, tag_key, tag_key_prefix, tag_prefix, tags_listed, use_key, uses_listed}
+use Rattle.cb_index.specs.Orders.{def_key, def_prefix, defs_listed, firsts_in, item_keyer, numbered, tag_front, tag_key, tag_key_prefix, tag_prefix, tags_listed}
 use Rattle.cb_index.specs.RowOrders.{Counter, row_under, rows_with}
-use Rattle.cb_index.specs.Spreads.{SpreadsInto}
+use Rattle.cb_index.specs.Spreads.{SpreadsBy, SpreadsInto}
 use Rattle.cb_index.specs.steps.Spread.{items_in_text, rows_at, rows_in}
 use Rattle.cb_index.specs.declared.entry.Entry.{Entry}
 use Rattle.cb_index.specs.declared.entry.Shown.{Shown}
-use Rattle.cb_index.specs.declared.rows.FactSort.{FactSort}
-use Rattle.cb_index.specs.declared.rows.FactSort.TheVariants.{Uses, Callees, Callers}
+use Rattle.cb_index.specs.declared.kind.FactKind.{FactKind}
+use Rattle.cb_index.specs.declared.kind.FactKind.TheVariants.{Uses, Callees, Callers}
+use Rattle.cb_index.specs.declared.kind.IndexKind.{IndexKind}
+use Rattle.cb_index.specs.declared.kind.IndexKind.TheVariants.{DefsByName, DefsByTagName, Facts}
 use Rattle.cb_index.proofs.FirstLemmas.{firsts_give, has, prefix_and_key}
 use Rattle.cb_index.proofs.PrefixLemmas.{IsTold, entry_told, key_decides, names_told, tags_told}
 use Rattle.cb_index.proofs.RangeItems.{range_next}
@@ -33,7 +35,7 @@ use Rattle.cb_index.proofs.RowLemmas.{kept_key}
 -- ---- one version
 module _ (a : Archived) (s : Shown) (text : List ℕ) (there : slice_get a.texts s.version ≡ Some text) (key : List ℕ) where
   -- where an entry is the first item of a key
-  first_rows : (sort : FactSort) (keyer : Keyer) → ((item : ℕ) → keyer (Some text) (name_of a s.name) item ≡ item_key sort text item)
+  first_rows : (sort : FactKind) (keyer : Keyer) → ((item : ℕ) → keyer (Some text) (name_of a s.name) item ≡ item_key sort text item)
       → rows_in (Some sort) a (filter (has_key keyer a (key_prefix key) key) (map (entry_of s) (firsts sort text)))
       ≡ map (row_under s) (filter (has sort text key) (range_with_len 0 (item_count sort text)))
   first_rows sort keyer keys_are =
@@ -70,7 +72,7 @@ module _ (a : Archived) (s : Shown) (text : List ℕ) (there : slice_get a.texts
         step false e es n items here later = later
 
   -- the rows of a version whose text is known
-  known : (sort : FactSort) (keyer : Keyer) (count : Counter)
+  known : (sort : FactKind) (keyer : Keyer) (count : Counter)
       → ((item : ℕ) → keyer (Some text) (name_of a s.name) item ≡ item_key sort text item) → count (Some text) ≡ item_count sort text
       → map (row_under s) (filter (has sort text key) (range_with_len 0 (item_count sort text))) ≡ rows_with keyer count a key s
   known sort keyer count keys_are count_is =
@@ -79,23 +81,17 @@ module _ (a : Archived) (s : Shown) (text : List ℕ) (there : slice_get a.texts
       (λ item. ap (bytes_eq key) (sym (keys_are item))) (range_with_len 0 (count (Some text))))
       ∙ ap (λ t. map (row_under s) (filter (λ item. bytes_eq key (keyer t (name_of a s.name) item)) (range_with_len 0 (count t)))) (sym there)
 
-  use_version : rows_in (Some Uses) a (filter (has_key use_key a (key_prefix key) key) (entries_of uses_listed a s))
-      ≡ rows_with use_key use_count a key s
-  use_version =
-      ap (λ o. rows_in (Some Uses) a (filter (has_key use_key a (key_prefix key) key) (map (entry_of s) (uses_listed o)))) there
-      ∙ first_rows Uses use_key (λ item. refl) ∙ known Uses use_key use_count (λ item. refl) refl
-
-  callee_version : rows_in (Some Callees) a (filter (has_key callee_key a (key_prefix key) key) (entries_of callees_listed a s))
-      ≡ rows_with callee_key call_count a key s
-  callee_version =
-      ap (λ o. rows_in (Some Callees) a (filter (has_key callee_key a (key_prefix key) key) (map (entry_of s) (callees_listed o)))) there
-      ∙ first_rows Callees callee_key (λ item. refl) ∙ known Callees callee_key call_count (λ item. refl) refl
-
-  caller_version : rows_in (Some Callers) a (filter (has_key caller_key a (key_prefix key) key) (entries_of callers_listed a s))
-      ≡ rows_with caller_key call_count a key s
-  caller_version =
-      ap (λ o. rows_in (Some Callers) a (filter (has_key caller_key a (key_prefix key) key) (map (entry_of s) (callers_listed o)))) there
-      ∙ first_rows Callers caller_key (λ item. refl) ∙ known Callers caller_key call_count (λ item. refl) refl
+  fact_version : (kind : FactKind)
+      → rows_in (Some kind) a (filter (has_key (item_keyer kind) a (key_prefix key) key) (entries_of (firsts_in kind) a s))
+      ≡ rows_with (item_keyer kind) (count_for (Facts kind)) a key s
+  fact_version kind =
+      ap (λ o. rows_in (Some kind) a (filter (has_key (item_keyer kind) a (key_prefix key) key) (map (entry_of s) (firsts_in kind o)))) there
+      ∙ first_rows kind (item_keyer kind) (λ item. refl) ∙ known kind (item_keyer kind) (count_for (Facts kind)) (λ item. refl) (counts kind)
+    where
+      counts : (kind : FactKind) → count_for (Facts kind) (Some text) ≡ item_count kind text
+      counts Uses = refl
+      counts Callees = refl
+      counts Callers = refl
 
   def_version : (front : List ℕ → List ℕ) (keyer : Keyer) (prefixed : List ℕ → Def → ℕ) → IsTold front keyer prefixed
       → (lister : Lister) → lister (Some text) ≡ numbered 0 (map (prefixed text) (facts_of text).defs)
@@ -108,7 +104,7 @@ module _ (a : Archived) (s : Shown) (text : List ℕ) (there : slice_get a.texts
       ∙ ap (λ t. map (row_under s) (filter ((λ item. bytes_eq key (keyer (slice_get a.texts s.version) (name_of a s.name) item))) (range_with_len 0 (def_count t)))) (sym there)
 
 -- ---- all versions
-module _ (sort : Option FactSort) (keyer : Keyer) (lister : Lister) (rising : (t : Option (List ℕ)) → AreRising (lister t)) (prefix : List ℕ → ℕ) (count : Counter)
+module _ (sort : Option FactKind) (keyer : Keyer) (lister : Lister) (rising : (t : Option (List ℕ)) → AreRising (lister t)) (prefix : List ℕ → ℕ) (count : Counter)
     (one : (a : Archived) (s : Shown) (text : List ℕ) → slice_get a.texts s.version ≡ Some text → (key : List ℕ)
     → rows_in sort a (filter (has_key keyer a (prefix key) key) (entries_of lister a s)) ≡ rows_with keyer count a key s) where
   all_rows : (a : Archived) (key : List ℕ) (shown : List Shown) → AllByRecursion (IsThere a) shown
@@ -121,25 +117,17 @@ module _ (sort : Option FactSort) (keyer : Keyer) (lister : Lister) (rising : (t
       ∙ flat_map-append (rows_at sort a) (filter has (entries_of lister a s)) (filter has (all_entries lister a shown))
       ∙ (λ i. one a s (get_or a.texts s.version []) (slice_get-get_or a.texts s.version [] all.0.1) key i ++ all_rows a key shown all.1 i)
 
-  pub index_rows : SpreadsInto keyer lister prefix sort count
+  pub index_rows : SpreadsBy keyer lister prefix sort count
   index_rows a shown key es all up is =
       ap (rows_in sort a) (kept_key keyer a lister rising shown up (prefix key) key es is) ∙ all_rows a key shown all
 
-pub uses_spread : SpreadsInto use_key uses_listed key_prefix (Some Uses) use_count
-uses_spread = index_rows (Some Uses) use_key uses_listed (firsts_rise Uses) key_prefix use_count use_version
-
-pub callees_spread : SpreadsInto callee_key callees_listed key_prefix (Some Callees) call_count
-callees_spread = index_rows (Some Callees) callee_key callees_listed (firsts_rise Callees) key_prefix call_count callee_version
-
-pub callers_spread : SpreadsInto caller_key callers_listed key_prefix (Some Callers) call_count
-callers_spread = index_rows (Some Callers) caller_key callers_listed (firsts_rise Callers) key_prefix call_count caller_version
-
-pub defs_spread : SpreadsInto def_key defs_listed key_prefix None def_count
-defs_spread =
+pub spread : (kind : IndexKind) → SpreadsInto kind
+spread DefsByName =
     index_rows None def_key defs_listed defs_rise key_prefix def_count
     (λ a s text there key. def_version a s text there key (λ k. k) def_key def_prefix names_told defs_listed refl)
-
-pub tags_spread : SpreadsInto tag_key tags_listed tag_key_prefix None def_count
-tags_spread =
+spread DefsByTagName =
     index_rows None tag_key tags_listed tags_rise tag_key_prefix def_count
     (λ a s text there key. def_version a s text there key tag_front tag_key tag_prefix tags_told tags_listed refl)
+spread (Facts kind) =
+    index_rows (Some kind) (item_keyer kind) (firsts_in kind) (firsts_rise kind) key_prefix (count_for (Facts kind))
+    (λ a s text there key. fact_version a s text there key kind)

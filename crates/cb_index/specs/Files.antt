@@ -9,9 +9,10 @@ use Rattle.std.specs.declared.cmp.Ordering.TheVariants.{Less}
 use Rattle.cb_scan.specs.Definitions.{facts_of}
 use Rattle.cb_scan.specs.Order.{AreOrdered}
 use Rattle.cb_index.specs.Archived.{Archived, name_of}
-use Rattle.cb_index.specs.declared.counted.Counted.{Counted}
-use Rattle.cb_index.specs.declared.counted.Counted.TheVariants.{Defs, Uses, Calls}
 use Rattle.cb_index.specs.declared.entry.Shown.{Shown}
+use Rattle.cb_index.specs.declared.kind.FactKind.TheVariants.{Uses, Callees, Callers}
+use Rattle.cb_index.specs.declared.kind.IndexKind.{IndexKind}
+use Rattle.cb_index.specs.declared.kind.IndexKind.TheVariants.{DefsByName, DefsByTagName, Facts}
 
 -- a file: its name and its bytes
 pub record File : Type 0 where
@@ -73,11 +74,13 @@ abbrev pub call_count : Option (List ℕ) → ℕ
 call_count None = 0
 call_count (Some text) = length (facts_of text).calls
 
--- what is counted
-abbrev pub count_for : Counted → Option (List ℕ) → ℕ
-count_for Defs = def_count
-count_for Uses = use_count
-count_for Calls = call_count
+-- the facts of a text to which an index leads
+abbrev pub count_for : IndexKind → Option (List ℕ) → ℕ
+count_for DefsByName = def_count
+count_for DefsByTagName = def_count
+count_for (Facts Uses) = use_count
+count_for (Facts Callees) = call_count
+count_for (Facts Callers) = call_count
 
 -- the number of facts that are shown
 abbrev pub total : (Option (List ℕ) → ℕ) → Archived → List Shown → ℕ

@@ -5,17 +5,19 @@ use Rattle.cb_scan.specs.Order.{AreOrdered}
 use Rattle.cb_index.specs.Archived.{Archived}
 use Rattle.cb_index.specs.declared.entry.Entry.{Entry}
 use Rattle.cb_index.specs.declared.entry.Shown.{Shown}
+use Rattle.cb_index.specs.declared.kind.IndexKind.{IndexKind}
 
 -- the entries in order, and for how many there is room
 pub record Held : Type 0 where
   pub entries : List Entry
   pub room : ℕ
 
--- an index: the entries that it holds in order, the versions whose entries wait to be put among
--- them, and for how many entries and versions there is room
+-- an index of a kind: the entries that it holds in order, the versions whose entries are pending,
+-- and for how many entries and versions there is room
 pub record Indexed : Type 0 where
+  pub kind : IndexKind
   pub held : List Entry
-  pub waiting : List Shown
+  pub pending : List Shown
   pub room : ℕ
   pub version_room : ℕ
 

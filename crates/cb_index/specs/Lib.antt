@@ -8,6 +8,7 @@ pub mod Firsts
 pub mod Held
 pub mod Includes
 pub mod Items
+pub mod Kinds
 pub mod Links
 pub mod Names
 pub mod Orders

@@ -4,8 +4,8 @@ use Rattle.std.specs.List.{range_with_len}
 use Rattle.cb_index.specs.Items.{is_first, item_count, later}
 use Rattle.cb_index.specs.Repeats.{AreRepeats}
 use Rattle.cb_index.specs.declared.links.Link.{Link}
-use Rattle.cb_index.specs.declared.rows.FactSort.{FactSort}
-use Rattle.cb_index.specs.declared.rows.FactSort.TheVariants.{Uses, Callees, Callers}
+use Rattle.cb_index.specs.declared.kind.FactKind.{FactKind}
+use Rattle.cb_index.specs.declared.kind.FactKind.TheVariants.{Uses, Callees, Callers}
 
 -- the first of these items; 0 where there is none, which is behind no item
 abbrev pub first_or_none : List ℕ → ℕ
@@ -13,16 +13,16 @@ first_or_none [] = 0
 first_or_none (item ∷ items) = item
 
 -- the link of an item: the next item of its key, and whether none before it has that key
-abbrev pub link_of : FactSort → List ℕ → ℕ → Link
+abbrev pub link_of : FactKind → List ℕ → ℕ → Link
 link_of sort text item =
     record { next = first_or_none (later sort text item); first = is_first sort text item }
 
 -- the links of all items
-unfoldable pub links_of : FactSort → List ℕ → List Link
+unfoldable pub links_of : FactKind → List ℕ → List Link
 links_of sort text = map (link_of sort text) (range_with_len 0 (item_count sort text))
 
 -- these are the links of all items, or none are laid
-abbrev pub AreLinks : FactSort → List ℕ → List Link → Type 0
+abbrev pub AreLinks : FactKind → List ℕ → List Link → Type 0
 AreLinks sort text links = (links ≡ []) ⊎ (links ≡ links_of sort text)
 
 -- the links of uses, of calls by the called name, and of calls by the name that calls, and which of
@@ -36,12 +36,12 @@ pub record Linked : Type 0 where
   pub caller_repeats : List Bool
 
 -- those of a sort
-abbrev pub links_for : FactSort → Linked → List Link
+abbrev pub links_for : FactKind → Linked → List Link
 links_for Uses l = l.uses
 links_for Callees l = l.callees
 links_for Callers l = l.callers
 
-abbrev pub repeats_for : FactSort → Linked → List Bool
+abbrev pub repeats_for : FactKind → Linked → List Bool
 repeats_for Uses l = l.use_repeats
 repeats_for Callees l = l.callee_repeats
 repeats_for Callers l = l.caller_repeats
@@ -58,13 +58,13 @@ nothing_laid = record {
 }
 
 -- other links of a sort
-abbrev pub with_links : FactSort → List Link → Linked → Linked
+abbrev pub with_links : FactKind → List Link → Linked → Linked
 with_links Uses links l = record l { uses = links }
 with_links Callees links l = record l { callees = links }
 with_links Callers links l = record l { callers = links }
 
 -- other repeats of a sort
-abbrev pub with_repeats : FactSort → List Bool → Linked → Linked
+abbrev pub with_repeats : FactKind → List Bool → Linked → Linked
 with_repeats Uses repeats l = record l { use_repeats = repeats }
 with_repeats Callees repeats l = record l { callee_repeats = repeats }
 with_repeats Callers repeats l = record l { caller_repeats = repeats }

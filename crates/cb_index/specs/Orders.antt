@@ -1,5 +1,5 @@
 -- The five orders.
-use Rattle.std.specs.Prelude.{ℕ, suc, List, [], ◌∷◌, map, codes, nat_eq, Option, Some, None}
+use Rattle.std.specs.Prelude.{ℕ, suc, Bool, true, false, List, [], ◌∷◌, map, codes, nat_eq, Option, Some, None}
 use Rattle.std.specs.Prelude.{slice_get, if◌then◌else◌}
 use Rattle.std.specs.Option.{option_map}
 use Rattle.cb_scan.specs.declared.facts.Def.{Def}
@@ -13,8 +13,7 @@ use Rattle.cb_index.specs.Entries.{Keyer}
 use Rattle.cb_index.specs.Firsts.{firsts}
 use Rattle.cb_index.specs.Held.{Listed, Lister}
 use Rattle.cb_index.specs.Items.{item_key}
-use Rattle.cb_index.specs.declared.rows.FactSort.{FactSort}
-use Rattle.cb_index.specs.declared.rows.FactSort.TheVariants.{Uses, Callees, Callers}
+use Rattle.cb_index.specs.declared.kind.FactKind.{FactKind}
 
 -- the name of a definition, if it is there
 abbrev pub def_span : TextFacts → ℕ → Option Span
@@ -23,42 +22,24 @@ def_span f item = option_map (λ (d : Def). d.name) (slice_get f.defs item)
 -- ---- uses and calls: an entry is the first item of a key
 
 -- the key of an item of a text, if that is there
-abbrev pub key_in : FactSort → Option (List ℕ) → ℕ → List ℕ
+abbrev pub key_in : FactKind → Option (List ℕ) → ℕ → List ℕ
 key_in sort None item = []
 key_in sort (Some text) item = item_key sort text item
 
-abbrev pub item_keyer : FactSort → Keyer
+abbrev pub item_keyer : FactKind → Keyer
 item_keyer sort text file item = key_in sort text item
 
-abbrev pub firsts_in : FactSort → Lister
+abbrev pub firsts_in : FactKind → Lister
 firsts_in sort None = []
 firsts_in sort (Some text) = firsts sort text
 
--- uses by name
-abbrev pub use_key : Keyer
-use_key text file item = key_in Uses text item
-
-abbrev pub uses_listed : Lister
-uses_listed text = firsts_in Uses text
-
--- calls by the called name
-abbrev pub callee_key : Keyer
-callee_key text file item = key_in Callees text item
-
-abbrev pub callees_listed : Lister
-callees_listed text = firsts_in Callees text
-
--- calls by the name that calls
-abbrev pub caller_key : Keyer
-caller_key text file item = key_in Callers text item
-
-abbrev pub callers_listed : Lister
-callers_listed text = firsts_in Callers text
-
 -- ---- definitions by name: an entry is a definition
+abbrev pub name_in : Option (List ℕ) → ℕ → List ℕ
+name_in None number = []
+name_in (Some text) number = bytes_at text (def_span (facts_of text) number)
+
 abbrev pub def_key : Keyer
-def_key None file number = []
-def_key (Some text) file number = bytes_at text (def_span (facts_of text) number)
+def_key text file number = name_in text number
 
 unfoldable pub def_prefix : List ℕ → Def → ℕ
 def_prefix text d = key_prefix (cut text d.name)
@@ -88,6 +69,11 @@ tag_key_prefix key = key_prefix (tag_front key)
 
 unfoldable pub tag_prefix : List ℕ → Def → ℕ
 tag_prefix text d = tag_key_prefix (tag_name (cut text d.name) [])
+
+-- the prefixes of names, or of tag names
+abbrev pub prefixed : Bool → List ℕ → Def → ℕ
+prefixed false = def_prefix
+prefixed true = tag_prefix
 
 abbrev pub tags_listed : Lister
 tags_listed None = []

@@ -14,6 +14,10 @@ use Rattle.cb_index.specs.Entries.{Keyer}
 use Rattle.cb_index.specs.Items.{callee_span, use_span}
 use Rattle.cb_index.specs.Orders.{def_span}
 use Rattle.cb_index.specs.declared.entry.Shown.{Shown}
+use Rattle.cb_index.specs.Kinds.{keyer_of}
+use Rattle.cb_index.specs.declared.kind.FactKind.TheVariants.{Uses, Callees, Callers}
+use Rattle.cb_index.specs.declared.kind.IndexKind.{IndexKind}
+use Rattle.cb_index.specs.declared.kind.IndexKind.TheVariants.{DefsByName, DefsByTagName, Facts}
 use Rattle.cb_index.specs.declared.row.Row.{Row}
 
 -- what an order reads of a fact beside its key: from the text of its version (if it is there) and
@@ -83,3 +87,20 @@ rank_of (Some d) = kind_rank d.kind
 abbrev pub def_rank : Placer
 def_rank None item = 0
 def_rank (Some text) item = rank_of (slice_get (facts_of text).defs item)
+
+-- ---- by kind of index
+abbrev pub start_for : IndexKind → Placer
+start_for DefsByName = def_start
+start_for DefsByTagName = def_start
+start_for (Facts Uses) = use_start
+start_for (Facts Callees) = call_start
+start_for (Facts Callers) = call_start
+
+abbrev pub rank_for : IndexKind → Placer
+rank_for DefsByName = def_rank
+rank_for DefsByTagName = def_rank
+rank_for (Facts kind) = no_rank
+
+-- two rows in the order of a kind
+abbrev pub row_order : IndexKind → Archived → Row → Row → Ordering
+row_order kind a r s = row_cmp (keyer_of kind) (start_for kind) (rank_for kind) a r s

@@ -13,6 +13,8 @@ use Rattle.cb_scan.specs.Order.{in_order}
 use Rattle.cb_tags.specs.TagLines.{Tag}
 use Rattle.cb_tags.specs.TagNames.{tag_name}
 use Rattle.cb_index.specs.Files.{File}
+use Rattle.cb_index.specs.declared.kind.FactKind.{FactKind}
+use Rattle.cb_index.specs.declared.kind.FactKind.TheVariants.{Uses, Callees, Callers}
 
 -- a use or a call: the name of its file, its own name, the name around it, its line, from 1, and
 -- the text of that line
@@ -108,3 +110,14 @@ calls_of name fs = flat_map (file_calls_of name) fs
 
 unfoldable pub calls_in : List ℕ → List File → List Fact
 calls_in name fs = flat_map (file_calls_in name) fs
+
+-- ---- by kind
+abbrev pub file_facts : FactKind → List ℕ → File → List Fact
+file_facts Uses = file_uses_of
+file_facts Callees = file_calls_of
+file_facts Callers = file_calls_in
+
+abbrev pub facts_named : FactKind → List ℕ → List File → List Fact
+facts_named Uses = uses_of
+facts_named Callees = calls_of
+facts_named Callers = calls_in

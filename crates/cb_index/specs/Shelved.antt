@@ -1,5 +1,6 @@
 -- What a shelf keeps and shows.
-use Rattle.std.specs.Prelude.{ℕ, ◌≡◌, ◌≤◌, ◌<◌, ◌+◌, ◌++◌, false, List, [], length, slice_get}
+use Rattle.std.specs.Prelude.{ℕ, ◌≡◌, ◌≤◌, ◌<◌, ◌+◌, ◌^◌, ◌⊎◌, ◌++◌, false, List, [], length, map}
+use Rattle.std.specs.Prelude.{max, slice_get}
 use Rattle.std.specs.List.{AllByRecursion, list_any}
 use Rattle.std.specs.Str.{bytes_eq}
 use Rattle.cb_scan.specs.Definitions.{facts_of}
@@ -10,40 +11,20 @@ use Rattle.cb_index.specs.Entries.{Keyer, sort_key}
 use Rattle.cb_index.specs.Files.{AreApart, AreAscending, File, IsThere, call_count, def_count}
 use Rattle.cb_index.specs.Files.{files_of, is_shown, shown_name, total, use_count}
 use Rattle.cb_index.specs.Held.{Indexed, Lister, all_entries}
-use Rattle.cb_index.specs.Orders.{callee_key, callees_listed, caller_key, callers_listed, def_key}
-use Rattle.cb_index.specs.Orders.{defs_listed, tag_key, tags_listed, use_key, uses_listed}
-use Rattle.cb_index.specs.declared.asked.Asked.{Asked}
-use Rattle.cb_index.specs.declared.asked.Asked.TheVariants.{Defs, Tags, Uses, Callees, Callers}
+use Rattle.cb_index.specs.Kinds.{all_kinds, keyer_of, lister_of}
 use Rattle.cb_index.specs.declared.entry.Entry.{Entry}
 use Rattle.cb_index.specs.declared.entry.Shown.{Shown}
+use Rattle.cb_index.specs.declared.kind.FactKind.TheVariants.{Uses, Callees, Callers}
+use Rattle.cb_index.specs.declared.kind.IndexKind.{IndexKind}
+use Rattle.cb_index.specs.declared.kind.IndexKind.TheVariants.{DefsByName, DefsByTagName, Facts}
+use Rattle.cb_index.specs.declared.room.Room.{Room}
 use Rattle.cb_index.specs.declared.totals.Totals.{Totals}
 
--- the versions that wait, of each index
-pub record Waiting : Type 0 where
-  pub defs : List Shown
-  pub tags : List Shown
-  pub uses : List Shown
-  pub callees : List Shown
-  pub callers : List Shown
-
--- nothing waits
-abbrev pub nothing : Waiting
-nothing = record { defs = []; tags = []; uses = []; callees = []; callers = [] }
-
--- nothing waits in the index that answers
-abbrev pub settled : Asked → Waiting → Waiting
-settled Defs w = record w { defs = [] }
-settled Tags w = record w { tags = [] }
-settled Uses w = record w { uses = [] }
-settled Callees w = record w { callees = [] }
-settled Callers w = record w { callers = [] }
-
--- the archive, what is shown of it, by file name, what waits of it, how often it changed, and for
--- how many entries, definitions, uses and calls there is room
+-- the archive, what is shown of it, by file name, how often it changed, and for how many entries,
+-- definitions, uses and calls there is room
 pub record Shelved : Type 0 where
   pub archive : Archived
   pub shown : List Shown
-  pub waiting : Waiting
   pub turns : ℕ
   pub entry_room : ℕ
   pub def_room : ℕ
@@ -63,24 +44,9 @@ pub record ShownFile : Type 0 where
 abbrev pub with_facts : File → ShownFile
 with_facts f = record { name = f.name; bytes = f.bytes; facts = facts_of f.bytes }
 
--- a version can be shown under a name: both are there, no file of that name is shown, and there is
--- room
-pub record CanShow (s : Shelved) (name version : ℕ) : Type 0 where
-  pub name_there : name < length s.archive.names
-  pub version_there : version < length s.archive.texts
-  pub other : list_any (λ (t : Shown). bytes_eq (name_of s.archive name)
-      (name_of s.archive t.name)) s.shown ≡ false
-  pub entries : length s.shown < s.entry_room
-  pub defs : total def_count s.archive s.shown
-      + def_count (slice_get s.archive.texts version) ≤ s.def_room
-  pub uses : total use_count s.archive s.shown
-      + use_count (slice_get s.archive.texts version) ≤ s.use_room
-  pub calls : total call_count s.archive s.shown
-      + call_count (slice_get s.archive.texts version) ≤ s.call_room
-
 -- versions can be shown together: their numbers are there, no two of them have one file name, no
 -- file of such a name is shown, and there is room for all
-pub record CanShowAll (s : Shelved) (news : List Shown) : Type 0 where
+pub record CanShow (s : Shelved) (news : List Shown) : Type 0 where
   pub there : AllByRecursion (IsThere s.archive) news
   pub apart : AreApart s.archive news
   pub other : list_any (is_shown s.archive s.shown) news ≡ false
@@ -103,37 +69,90 @@ abbrev pub IsIndexOf : Keyer → Lister → Archived → List Shown → List Ent
 IsIndexOf keyer lister a shown es =
     es ≡ in_order (sort_key keyer a) (all_entries lister a shown)
 
--- an index is one of what is shown: it holds the entries of some versions in order, the others
--- wait, and no two of all these have one file name
+-- an index is one of what is shown: it holds the entries of some versions in order, the others are
+-- pending, and no two of all these have one file name
 pub record Covers (keyer : Keyer) (lister : Lister) (a : Archived) (shown : List Shown)
     (x : Indexed) : Type 0 where
   pub sorted : List Shown
   pub held : IsIndexOf keyer lister a sorted x.held
-  pub all : shown ≡ in_order (shown_name a) (sorted ++ x.waiting)
-  pub apart : AreApart a (sorted ++ x.waiting)
+  pub all : shown ≡ in_order (shown_name a) (sorted ++ x.pending)
+  pub apart : AreApart a (sorted ++ x.pending)
+
+-- definitions are never pending
+abbrev pub IsPrompt : IndexKind → List Shown → Type 0
+IsPrompt DefsByName pending = pending ≡ []
+IsPrompt DefsByTagName pending = pending ≡ []
+IsPrompt (Facts kind) pending = Unit {0}
+
+-- an index of its kind of what is shown
+abbrev pub IsIndex : Archived → List Shown → Indexed → Type 0
+IsIndex a shown x =
+    Covers (keyer_of x.kind) (lister_of x.kind) a shown x × IsPrompt x.kind x.pending
 
 -- the five indexes are those of what is shown, whose numbers are there, by file name
-pub record AreKept (a : Archived) (shown : List Shown)
-    (defs_in tags_in uses_in callees_in callers_in : Indexed) : Type 0 where
+pub record AreKept (a : Archived) (shown : List Shown) (xs : List Indexed) : Type 0 where
   pub there : AllByRecursion (IsThere a) shown
   pub ascending : AreAscending a shown
-  pub defs : Covers def_key defs_listed a shown defs_in
-  pub tags : Covers tag_key tags_listed a shown tags_in
-  pub uses : Covers use_key uses_listed a shown uses_in
-  pub callees : Covers callee_key callees_listed a shown callees_in
-  pub callers : Covers caller_key callers_listed a shown callers_in
+  pub kinds : map (λ (x : Indexed). x.kind) xs ≡ all_kinds
+  pub each : AllByRecursion (IsIndex a shown) xs
 
--- the five indexes have room for so many facts of each kind
-pub record AreWithin (n : Totals)
-    (defs_in tags_in uses_in callees_in callers_in : Indexed) : Type 0 where
-  pub defs : n.defs ≤ defs_in.room
-  pub tags : n.defs ≤ tags_in.room
-  pub uses : n.uses ≤ uses_in.room
-  pub callees : n.calls ≤ callees_in.room
-  pub callers : n.calls ≤ callers_in.room
+-- how many entries of a kind there is room for
+abbrev pub room_for : IndexKind → Room → ℕ
+room_for DefsByName room = room.defs
+room_for DefsByTagName room = room.defs
+room_for (Facts Uses) room = room.uses
+room_for (Facts Callees) room = room.calls
+room_for (Facts Callers) room = room.calls
+
+-- the place of an index among the five
+abbrev pub kind_place : IndexKind → ℕ
+kind_place DefsByName = 0
+kind_place DefsByTagName = 1
+kind_place (Facts Uses) = 2
+kind_place (Facts Callees) = 3
+kind_place (Facts Callers) = 4
+
+-- the greater room of each
+abbrev pub larger_room : Room → Room → Room
+larger_room r s = record {
+  versions = max r.versions s.versions;
+  names = max r.names s.names;
+  entries = max r.entries s.entries;
+  defs = max r.defs s.defs;
+  uses = max r.uses s.uses;
+  calls = max r.calls s.calls;
+}
+
+-- how many facts of a kind there are
+abbrev pub total_for : IndexKind → Totals → ℕ
+total_for DefsByName n = n.defs
+total_for DefsByTagName n = n.defs
+total_for (Facts Uses) n = n.uses
+total_for (Facts Callees) n = n.calls
+total_for (Facts Callers) n = n.calls
+
+-- an index has the room that is promised
+abbrev pub HasRoom : Room → Indexed → Type 0
+HasRoom room x = (room_for x.kind room ≤ x.room) × (room.entries ≤ x.version_room)
+
+-- what is shown is within the room, and the list of it and each index have that room
+pub record AreWithin (shown : List Shown) (capacity : ℕ) (n : Totals) (room : Room)
+    (xs : List Indexed) : Type 0 where
+  pub entries : length shown ≤ room.entries
+  pub defs : n.defs ≤ room.defs
+  pub uses : n.uses ≤ room.uses
+  pub calls : n.calls ≤ room.calls
+  pub listed : room.entries ≤ capacity
+  pub each : AllByRecursion (HasRoom room) xs
 
 -- all that is shown has so many facts of each kind
 pub record AreTotals (a : Archived) (shown : List Shown) (n : Totals) : Type 0 where
   pub defs : n.defs ≡ total def_count a shown
   pub uses : n.uses ≡ total use_count a shown
   pub calls : n.calls ≡ total call_count a shown
+
+-- facts of one kind are too many to be counted
+abbrev pub AreTooMany : Archived → List Shown → Type 0
+AreTooMany a shown =
+    (2 ^ 64 ≤ total def_count a shown)
+    ⊎ ((2 ^ 64 ≤ total use_count a shown) ⊎ (2 ^ 64 ≤ total call_count a shown))

@@ -6,9 +6,11 @@ pub mod Given
 pub mod Includes
 pub mod Laying
 pub mod Left
+pub mod Moves
 pub mod Quick
 pub mod Repeating
 pub mod RowsLeft
 pub mod Runs
+pub mod Searched
 pub mod Spread
 pub mod Table

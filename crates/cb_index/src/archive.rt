@@ -32,7 +32,7 @@ use crate::entry::Entry;
 use crate::items::item_count;
 use crate::links::{Link, Links};
 use crate::memory::OutOfMemory;
-use crate::rows::FactSort;
+use crate::kind::FactKind;
 use cb_scan::{Facts, Source};
 use std::alloc::Global;
 use std::marker::Model;
@@ -86,7 +86,7 @@ impl Version {
     }
 
     /// The link of an item, if links are laid.
-    pub(crate) fn link(&self, sort: FactSort, item: u32) -> Option<Link>
+    pub(crate) fn link(&self, sort: FactKind, item: u32) -> Option<Link>
         ensures { IfSome result (λ link. link ≡ link_of sort self.now item) }
     {
         match self.links.of(sort).get(item as usize) {
@@ -96,7 +96,7 @@ impl Version {
     }
 
     /// Whether an item is a repeat, if that is laid.
-    pub(crate) fn repeat(&self, sort: FactSort, item: u32) -> Option<bool>
+    pub(crate) fn repeat(&self, sort: FactKind, item: u32) -> Option<bool>
         ensures { IfSome result (λ repeat. repeat ≡ is_repeat sort self.now item) }
     {
         match self.links.repeats(sort).get(item as usize) {
@@ -106,7 +106,7 @@ impl Version {
     }
 
     /// Finds the repeats of a sort by a table of the entries of all items, if there is room.
-    pub(crate) fn find_repeats(&mut self, sort: FactSort, entries: &mut [Entry])
+    pub(crate) fn find_repeats(&mut self, sort: FactKind, entries: &mut [Entry])
         requires entries { entries.old ≡ item_entries sort self.old 0 }
         ensures { self.new ≡ self.old }
     {
@@ -115,19 +115,19 @@ impl Version {
     }
 
     /// Whether its links of a sort are not laid, and there is room for them.
-    pub(crate) fn wants_links(&self, sort: FactSort) -> bool {
+    pub(crate) fn wants_links(&self, sort: FactKind) -> bool {
         let count = item_count(sort, self);
         count > 0 && self.links.wants(sort, count)
     }
 
     /// Whether the repeats of a sort are not found yet.
-    pub(crate) fn wants_repeats(&self, sort: FactSort) -> bool {
+    pub(crate) fn wants_repeats(&self, sort: FactKind) -> bool {
         self.links.repeats(sort).is_empty()
     }
 
     /// Lays the links of a sort by a table of the entries of all items; false, and none are laid,
     /// where the table is too crowded or where there is too little room.
-    pub(crate) fn lay_by_table(&mut self, sort: FactSort, entries: &mut [Entry]) -> bool
+    pub(crate) fn lay_by_table(&mut self, sort: FactKind, entries: &mut [Entry]) -> bool
         requires { entries.old ≡ item_entries sort self.old 0 }
         ensures { self.new ≡ self.old }
     {
@@ -136,7 +136,7 @@ impl Version {
     }
 
     /// Lays the links of a sort by the entries of all items, in order, if there is room.
-    pub(crate) fn lay_links(&mut self, sort: FactSort, entries: &[Entry])
+    pub(crate) fn lay_links(&mut self, sort: FactKind, entries: &[Entry])
         requires { AreSorted sort self.old entries.now }
         ensures { self.new ≡ self.old }
     {
@@ -298,7 +298,7 @@ impl Archive {
     pub(crate) fn lay_by_table(
         &mut self,
         version: u32,
-        sort: FactSort,
+        sort: FactKind,
         entries: &mut [Entry],
     ) -> bool
         requires there { version < length self.old.texts }
@@ -310,7 +310,7 @@ impl Archive {
     }
 
     /// Lays links of a version by the entries of all items, in order, if there is room.
-    pub(crate) fn lay_links(&mut self, version: u32, sort: FactSort, entries: &[Entry])
+    pub(crate) fn lay_links(&mut self, version: u32, sort: FactKind, entries: &[Entry])
         requires there { version < length self.old.texts }
         requires entries { AreSorted sort (slice_index_or self.old.texts version []) entries.now }
         ensures { self.new ≡ self.old }
@@ -319,7 +319,7 @@ impl Archive {
     }
 
     /// Finds the repeats of a version by a table of the entries of all items, if there is room.
-    pub(crate) fn find_repeats(&mut self, version: u32, sort: FactSort, entries: &mut [Entry])
+    pub(crate) fn find_repeats(&mut self, version: u32, sort: FactKind, entries: &mut [Entry])
         requires there { version < length self.old.texts }
         requires entries { entries.old
             ≡ item_entries sort (slice_index_or self.old.texts version []) 0 }

@@ -7,11 +7,11 @@ ghost use Rattle.cb_index.specs.Items.{is_first};
 use crate::archive::Version;
 use crate::items::{Chain, item_count};
 use crate::repeats::is_repeat;
-use crate::rows::FactSort;
+use crate::kind::FactKind;
 
 /// How many rows the first item of a key and those behind it that have its key have together: as
 /// many as are no repeats.
-pub(crate) fn row_count(sort: FactSort, version: &Version, item: u32) -> u32
+pub(crate) fn row_count(sort: FactKind, version: &Version, item: u32) -> u32
     requires { is_first sort version.now item ≡ true }
     ensures { result ≡ row_count sort version.now item }
 {

@@ -1,8 +1,12 @@
 //! Uses and calls, one after another.
-ghost use Rattle.std.specs.Prelude.{◌≡◌, ◌++◌, ◌∷◌, [], Bool, false, MatchOption, sum_by};
+ghost use Rattle.std.specs.Prelude.{◌≡◌, ◌+◌, ◌++◌, ◌∷◌, [], Bool, true, false, ⊤, IfSome, MatchOption, sum_by};
+ghost use Rattle.cb_index.specs.Items.{is_first};
+ghost use Rattle.std.specs.List.{flat_map};
 ghost use Rattle.std.specs.Iterator.{YieldsFirstBy, item_count};
 ghost use Rattle.cb_index.specs.steps.Found.{facts_in};
 ghost use Rattle.cb_index.specs.steps.Given.{given_at, given_in};
+ghost use Rattle.cb_index.specs.steps.Spread.{items_from};
+ghost use Rattle.cb_index.specs.steps.Searched.{items_with, searched_at, searched_count};
 ghost use Rattle.cb_index.specs.steps.Left.{
   fact_of,
   fact_of_spot,
@@ -10,7 +14,9 @@ ghost use Rattle.cb_index.specs.steps.Left.{
   facts_left,
   facts_new,
   group_left,
+  group_count,
   group_left_if,
+  groups_left,
   rows_counted,
   spots_left,
   walk_left,
@@ -19,10 +25,12 @@ ghost use Rattle.cb_index.specs.steps.Runs.{run_entries};
 ghost use Rattle.cb_index.specs.declared.entry.Entry.{Entry};
 
 use crate::archive::{Archive, Version};
-use crate::entry::Entry;
-use crate::items::Chain;
+use crate::counts::row_count;
+use crate::entry::{Entry, Shown};
+use crate::items::{Chain, item_count, item_key};
 use crate::repeats::take_given;
-use crate::rows::{FactRow, FactSort, FactSpot, fact_at};
+use crate::kind::FactKind;
+use crate::rows::{FactRow, FactSpot, fact_at};
 use crate::run::Run;
 
 /// The facts of one key in one version that are still to come.
@@ -32,30 +40,39 @@ pub(crate) struct Group<'a> {
     items: Chain<'a>,
 }
 
-/// The facts of entries that are still to come: those of the group, and then those of the entries.
+/// Where the groups of a key are found.
 #[derive(Clone, Copy)]
-pub(crate) struct Walk<'a> {
-    sort: FactSort,
+pub(crate) enum Groups<'a, 'p> {
+    /// In the entries of an index.
+    Held(Run<'a>),
+    /// By a search for the key in each of these files.
+    Searched(&'p [u8], &'a [Shown]),
+}
+
+/// The facts of a key that are still to come: those of the group, and then those of the others.
+#[derive(Clone, Copy)]
+pub(crate) struct Walk<'a, 'p> {
+    sort: FactKind,
     archive: &'a Archive,
-    entries: Run<'a>,
+    groups: Groups<'a, 'p>,
     group: Option<Group<'a>>,
 }
 
 /// Uses or calls that are no repeats, without their lines: of those of one key with equal rows the
 /// first. They take no memory.
 #[derive(Clone, Copy)]
-pub struct FactSpots<'a> {
-    walk: Walk<'a>,
+pub struct FactSpots<'a, 'p> {
+    walk: Walk<'a, 'p>,
 }
 
 /// Uses or calls, each with its line. They take no memory.
 #[derive(Clone, Copy)]
-pub struct FactRows<'a> {
-    walk: Walk<'a>,
+pub struct FactRows<'a, 'p> {
+    walk: Walk<'a, 'p>,
 }
 
 /// The facts of an entry, if its version is there.
-fn group_of<'a>(sort: FactSort, archive: &'a Archive, entry: Entry) -> Option<Group<'a>>
+fn group_of<'a>(sort: FactKind, archive: &'a Archive, entry: Entry) -> Option<Group<'a>>
     ensures { (all : Bool) → group_left_if all result ≡ given_at all sort archive.now entry }
 {
     let version = archive.version(entry.version)?;
@@ -74,35 +91,103 @@ fn take_spot<'a>(group: &mut Group<'a>, all: bool) -> Option<FactSpot<'a>>
     Some(fact_at(group.items.sort(), group.file, group.items.version(), item))
 }
 
-/// A fact, what is left of its group, and the entries after that.
-#[derive(Clone, Copy)]
-struct Step<'a> {
-    spot: FactSpot<'a>,
-    group: Group<'a>,
-    entries: Run<'a>,
+/// The first item of a version that has a key.
+fn first_with_key(sort: FactKind, version: &Version, key: &[u8]) -> Option<u32>
+    ensures first { IfSome result (λ item. is_first sort version.now item ≡ true) }
+    ensures items { MatchOption result (items_with sort version.now key.now ≡ [])
+        (λ item. items_with sort version.now key.now ≡ items_from sort version.now item) }
+{
+    for item in 0..item_count(sort, version) {
+        if key == item_key(sort, version, item as u32) {
+            return Some(item as u32);
+        }
+    }
+    None
 }
 
-/// The first fact of some entries that is given.
-fn first_spot<'a>(
-    sort: FactSort,
+/// The facts of a key in a file, if there are any.
+fn search_group<'a>(
+    sort: FactKind,
     archive: &'a Archive,
-    entries: Run<'a>,
-    all: bool,
-) -> Option<Step<'a>>
-    ensures { MatchOption result (given_in all sort archive.now (run_entries entries.entry) ≡ [])
-        (λ r. given_in all sort archive.now (run_entries entries.entry)
-        ≡ fact_of_spot r.spot
-        ∷ (group_left all r.group ++ given_in all sort archive.now (run_entries r.entries))) }
+    key: &[u8],
+    shown: Shown,
+) -> Option<Group<'a>>
+    ensures { (all : Bool) → group_left_if all result ≡ searched_at all sort archive.now key.now
+        shown }
 {
-    let mut left = entries;
-    while let Some((entry, rest)) = left.split_first() {
-        left = rest;
-        if let Some(mut group) = group_of(sort, archive, *entry) {
+    let version = archive.version(shown.version)?;
+    let item = first_with_key(sort, version, key)?;
+    Some(Group {
+        file: archive.name(shown.name),
+        items: Chain::from(sort, version, item),
+    })
+}
+
+/// A group, which may be none, and those after it.
+#[derive(Clone, Copy)]
+pub(crate) struct GroupStep<'a, 'p> {
+    group: Option<Group<'a>>,
+    rest: Groups<'a, 'p>,
+}
+
+/// The first of some groups.
+fn next_group<'a, 'p>(
+    sort: FactKind,
+    archive: &'a Archive,
+    groups: Groups<'a, 'p>,
+) -> Option<GroupStep<'a, 'p>>
+    ensures given { (all : Bool) → MatchOption result (groups_left all sort archive.now groups.entry ≡ [])
+        (λ r. groups_left all sort archive.now groups.entry
+        ≡ group_left_if all r.group ++ groups_left all sort archive.now r.rest) }
+    ensures fewer { MatchOption result ⊤ (λ r. group_count groups.entry ≡ 1 + group_count r.rest) }
+{
+    match groups {
+        Groups::Held(entries) => {
+            let (entry, rest) = entries.split_first()?;
+            Some(GroupStep {
+                group: group_of(sort, archive, *entry),
+                rest: Groups::Held(rest),
+            })
+        }
+        Groups::Searched(key, shown) => {
+            let (one, rest) = shown.split_first()?;
+            Some(GroupStep {
+                group: search_group(sort, archive, key, *one),
+                rest: Groups::Searched(key, rest),
+            })
+        }
+    }
+}
+
+/// A fact, what is left of its group, and the groups after that.
+#[derive(Clone, Copy)]
+struct Step<'a, 'p> {
+    spot: FactSpot<'a>,
+    group: Group<'a>,
+    groups: Groups<'a, 'p>,
+}
+
+/// The first fact of some groups that is given.
+fn first_spot<'a, 'p>(
+    sort: FactKind,
+    archive: &'a Archive,
+    groups: Groups<'a, 'p>,
+    all: bool,
+) -> Option<Step<'a, 'p>>
+    ensures { MatchOption result (groups_left all sort archive.now groups.entry ≡ [])
+        (λ r. groups_left all sort archive.now groups.entry
+        ≡ fact_of_spot r.spot
+        ∷ (group_left all r.group ++ groups_left all sort archive.now r.groups)) }
+{
+    let mut left = groups;
+    while let Some(step) = next_group(sort, archive, left) {
+        left = step.rest;
+        if let Some(mut group) = step.group {
             if let Some(spot) = take_spot(&mut group, all) {
                 return Some(Step {
                     spot,
                     group,
-                    entries: left,
+                    groups: left,
                 });
             }
         }
@@ -111,7 +196,7 @@ fn first_spot<'a>(
 }
 
 /// The next fact that is given.
-fn next_spot<'a>(walk: &mut Walk<'a>, all: bool) -> Option<FactSpot<'a>>
+fn next_spot<'a, 'p>(walk: &mut Walk<'a, 'p>, all: bool) -> Option<FactSpot<'a>>
     ensures { YieldsFirstBy fact_of_spot (walk_left all) walk.old result walk.new }
 {
     if let Some(group) = &mut walk.group {
@@ -120,14 +205,15 @@ fn next_spot<'a>(walk: &mut Walk<'a>, all: bool) -> Option<FactSpot<'a>>
         }
     }
     walk.group = None;
-    let found = first_spot(walk.sort, walk.archive, walk.entries, all)?;
+    let found = first_spot(walk.sort, walk.archive, walk.groups, all)?;
     walk.group = Some(found.group);
-    walk.entries = found.entries;
+    walk.groups = found.groups;
     Some(found.spot)
 }
 
-impl<'a> FactRows<'a> {
-    pub(crate) fn new(sort: FactSort, archive: &'a Archive, entries: Run<'a>) -> FactRows<'a>
+impl<'a, 'p> FactRows<'a, 'p> {
+    /// The facts of entries.
+    pub(crate) fn held(sort: FactKind, archive: &'a Archive, entries: Run<'a>) -> FactRows<'a, 'p>
         ensures rows { facts_left result ≡ facts_in sort archive.now (run_entries entries.entry) }
         ensures new { facts_new result
             ≡ given_in false sort archive.now (run_entries entries.entry) }
@@ -138,14 +224,38 @@ impl<'a> FactRows<'a> {
             walk: Walk {
                 sort,
                 archive,
-                entries,
+                groups: Groups::Held(entries),
+                group: None,
+            },
+        }
+    }
+
+    /// The facts of a key in files.
+    pub(crate) fn searched(
+        sort: FactKind,
+        archive: &'a Archive,
+        key: &'p [u8],
+        shown: &'a [Shown],
+    ) -> FactRows<'a, 'p>
+        ensures rows { facts_left result
+            ≡ flat_map (searched_at true sort archive.now key.now) shown.now }
+        ensures new { facts_new result
+            ≡ flat_map (searched_at false sort archive.now key.now) shown.now }
+        ensures counted { facts_counted result
+            ≡ sum_by (searched_count sort archive.now key.now) shown.now }
+    {
+        FactRows {
+            walk: Walk {
+                sort,
+                archive,
+                groups: Groups::Searched(key, shown),
                 group: None,
             },
         }
     }
 
     /// Those that are no repeats, without their lines.
-    pub fn spots(self) -> FactSpots<'a>
+    pub fn spots(self) -> FactSpots<'a, 'p>
         ensures rows { spots_left result ≡ facts_new self.entry }
         ensures counted { rows_counted result ≡ facts_counted self.entry }
     {
@@ -153,23 +263,59 @@ impl<'a> FactRows<'a> {
     }
 }
 
-impl<'a> FactSpots<'a> {
-    /// How many they are. It asks the entries alone, so it is for an iterator that has given nothing
+/// How many rows entries stand for.
+fn count_held(entries: Run<'_>) -> u128
+    ensures { result ≡ sum_by (λ (e : Entry). e.rows) (run_entries entries.entry) }
+{
+    let mut count = 0;
+    let mut left = entries;
+    while let Some((entry, rest)) = left.split_first() {
+        left = rest;
+        count += entry.rows as u128;
+    }
+    count
+}
+
+/// How many rows the facts of a key in a file have.
+fn count_in(sort: FactKind, archive: &Archive, key: &[u8], shown: Shown) -> u32
+    ensures { result ≡ searched_count sort archive.now key.now shown }
+{
+    let Some(version) = archive.version(shown.version) else {
+        return 0;
+    };
+    match first_with_key(sort, version, key) {
+        Some(item) => row_count(sort, version, item),
+        None => 0,
+    }
+}
+
+/// How many rows the facts of a key in files have.
+fn count_searched(sort: FactKind, archive: &Archive, key: &[u8], shown: &[Shown]) -> u128
+    ensures { result ≡ sum_by (searched_count sort archive.now key.now) shown.now }
+{
+    let mut count = 0;
+    for one in shown {
+        count += count_in(sort, archive, key, *one) as u128;
+    }
+    count
+}
+
+impl<'a, 'p> FactSpots<'a, 'p> {
+    /// How many they are. It asks the groups alone, so it is for an iterator that has given nothing
     /// yet.
     pub fn row_count(&self) -> u128
         ensures { result ≡ rows_counted self.now }
     {
-        let mut count = 0;
-        let mut left = self.walk.entries;
-        while let Some((entry, rest)) = left.split_first() {
-            left = rest;
-            count += entry.rows as u128;
+        match self.walk.groups {
+            Groups::Held(entries) => count_held(entries),
+            Groups::Searched(key, shown) => {
+                count_searched(self.walk.sort, self.walk.archive, key, shown)
+            }
         }
-        count
     }
 }
 
-impl<'a> Iterator for FactSpots<'a> {
+impl<'a, 'p> Iterator for FactSpots<'a, 'p> {
     type Item = FactSpot<'a>;
 
     ghost next_gives = { YieldsFirstBy fact_of_spot spots_left };
@@ -181,7 +327,7 @@ impl<'a> Iterator for FactSpots<'a> {
     }
 }
 
-impl<'a> Iterator for FactRows<'a> {
+impl<'a, 'p> Iterator for FactRows<'a, 'p> {
     type Item = FactRow<'a>;
 
     ghost next_gives = { YieldsFirstBy fact_of facts_left };

@@ -1,203 +1,266 @@
-//! An index, whose newest versions wait until something is asked of it.
+//! The five indexes, of which those of uses and calls put new versions off until they are asked.
 ghost use Rattle.std.specs.Prelude.{
   ◌≡◌,
   ◌+◌,
   ◌≤◌,
   ◌++◌,
   [],
+  true,
+  Some,
   List,
   length,
   filter,
-  nat_eq,
   not,
   OnOk,
 };
+ghost use Rattle.std.specs.List.{AllByRecursion};
 ghost use Rattle.std.specs.List.Sorted.{IsStrictlyIncreasing};
 ghost use Rattle.cb_scan.specs.Order.{in_order};
 ghost use Rattle.cb_index.specs.Entries.{has_key, sort_key};
 ghost use Rattle.cb_index.specs.Files.{shown_under};
-ghost use Rattle.cb_index.specs.Held.{all_entries};
+ghost use Rattle.cb_index.specs.Held.{Indexed, all_entries};
+ghost use Rattle.cb_index.specs.Kinds.{keyer_of, lister_of, prefix_of};
 ghost use Rattle.cb_index.specs.Names.{is_among, names_of};
-ghost use Rattle.cb_index.specs.Shelved.{Covers};
-ghost use Rattle.cb_index.specs.declared.entry.Entry.{Entry};
+ghost use Rattle.cb_index.specs.Shelved.{HasRoom, IsIndex, room_for};
 ghost use Rattle.cb_index.specs.declared.entry.Shown.{Shown};
+ghost use Rattle.cb_index.specs.steps.Moves.{
+  Become,
+  CanTakeIn,
+  LetsGo,
+  LetsGoAll,
+  StaysItself,
+  StaysSame,
+  TakesIn,
+};
 ghost use Rattle.cb_index.specs.steps.Runs.{run_entries};
 
 use crate::archive::Archive;
 use crate::entry::Shown;
+use crate::kind::{FactKind, IndexKind};
 use crate::listed::place_of;
 use crate::memory::OutOfMemory;
 use crate::names::Names;
-use crate::order::EntryOrder;
+use crate::postings::Postings;
+use crate::room::Room;
 use crate::run::Run;
-use crate::sorted::Sorted;
 use std::alloc::Global;
 use std::marker::Model;
 
-/// The entries of versions in the order `O`. The versions that came in since something was last
-/// asked wait, so that many that come one after another are put in order together.
+/// An index of versions. The definitions of a version are put in order when it comes. Its uses and
+/// calls are pending until `flush`, so that those of many versions are put in order together.
 #[derive(Drop)]
-pub(crate) struct Index<O> {
-    sorted: Sorted<O>,
-    waiting: Vec<Shown>,
+pub(crate) struct Index {
+    kind: IndexKind,
+    postings: Postings,
+    pending: Vec<Shown>,
 }
 
-impl<O> Model for Index<O> {
+impl Model for Index {
     ghost use Rattle.std.specs.Prelude.{vec_capacity};
     ghost use Rattle.cb_index.specs.Held.{Indexed};
 
     ghost Value = { Indexed };
 
     ghost view = { λ x. record {
-      held = x.sorted.entries;
-      waiting = x.waiting.items;
-      room = x.sorted.room;
-      version_room = vec_capacity x.waiting;
+      kind = x.kind;
+      held = x.postings.entries;
+      pending = x.pending.items;
+      room = x.postings.room;
+      version_room = vec_capacity x.pending;
     } };
 }
 
-/// Where the version under the number of a name is likely to wait: at the end, where the newest
-/// one stands, or where it is found by halves, since most numbers rise.
-fn likely_place(name: u32, waiting: &[Shown]) -> usize {
-    if let Some(newest) = waiting.last()
+/// Where the version under the number of a name is likely to be pending: at the end, where the
+/// newest one stands, or where it is found by halves, since most numbers rise.
+fn likely_place(name: u32, pending: &[Shown]) -> usize {
+    if let Some(newest) = pending.last()
         && newest.name == name
     {
-        return waiting.len() - 1;
+        return pending.len() - 1;
     }
-    waiting.partition_point(|s: &Shown| -> bool { s.name < name })
+    pending.partition_point(|s: &Shown| -> bool { s.name < name })
 }
 
-impl<O: EntryOrder> Index<O> {
+/// For how many entries of a kind there is to be room.
+fn room_for(kind: IndexKind, room: &Room) -> u64
+    ensures { result ≡ room_for kind room.now }
+{
+    match kind {
+        IndexKind::DefsByName => room.defs,
+        IndexKind::DefsByTagName => room.defs,
+        IndexKind::Facts(FactKind::Uses) => room.uses,
+        IndexKind::Facts(_) => room.calls,
+    }
+}
+
+impl Index {
     /// An index that holds nothing. It takes no memory.
-    pub(crate) fn new(alloc: Global) -> Index<O>
+    pub(crate) fn new(alloc: Global, kind: IndexKind) -> Index
+        ensures kind { result.kind ≡ kind }
         ensures held { result.held ≡ [] }
-        ensures waiting { result.waiting ≡ [] }
+        ensures pending { result.pending ≡ [] }
     {
         Index {
-            sorted: Sorted::new(alloc),
-            waiting: Vec::new(alloc),
+            kind,
+            postings: Postings::new(alloc),
+            pending: Vec::new(alloc),
         }
     }
 
-    /// Makes room for so many entries and versions in all. What is held and waits stays, also where
-    /// memory is refused.
-    pub(crate) fn reserve(&mut self, entries: u64, versions: u32) -> Result<(), OutOfMemory>
-        ensures entries { OnOk result (entries ≤ self.new.room) }
-        ensures versions { OnOk result (versions ≤ self.new.version_room) }
-        ensures held { self.new.held ≡ self.old.held }
-        ensures waiting { self.new.waiting ≡ self.old.waiting }
-        ensures room { self.old.room ≤ self.new.room }
-        ensures version_room { self.old.version_room ≤ self.new.version_room }
+    /// Makes the room of its kind. What is held and pending stays, also where memory is refused.
+    pub(crate) fn reserve(&mut self, room: &Room) -> Result<(), OutOfMemory>
+        ensures room { OnOk result (HasRoom room.now self.new) }
+        ensures same { StaysSame self.old self.new }
     {
-        let more = (versions as usize).saturating_sub(self.waiting.len());
-        match self.waiting.reserve(more) {
+        let more = (room.entries as usize).saturating_sub(self.pending.len());
+        match self.pending.reserve(more) {
             Ok(()) => {}
             Err(_) => return Err(OutOfMemory),
         }
-        self.sorted.reserve(entries)
+        self.postings.reserve(room_for(self.kind, room))
     }
 
-    /// For how many entries there is room.
-    pub(crate) fn room(&self) -> usize
-        ensures { result ≡ self.now.room }
+    /// Takes versions in, in the room that is there. It takes no memory.
+    pub(crate) fn put(&mut self, archive: &Archive, news: &[Shown])
+        requires { CanTakeIn archive.now news.now self.old }
+        ensures { TakesIn archive.now news.now self.old self.new }
     {
-        self.sorted.room()
-    }
-
-    /// For how many versions there is room while they wait.
-    pub(crate) fn version_room(&self) -> usize
-        ensures { result ≡ self.now.version_room }
-    {
-        self.waiting.capacity()
-    }
-
-    /// Lets versions wait, in the room that is there. It takes no memory.
-    pub(crate) fn put(&mut self, news: &[Shown])
-        requires { length self.old.waiting + length news.now ≤ self.old.version_room }
-        ensures held { self.new.held ≡ self.old.held }
-        ensures waiting { self.new.waiting ≡ self.old.waiting ++ news.now }
-        ensures room { self.old.room ≤ self.new.room }
-        ensures version_room { self.old.version_room ≤ self.new.version_room }
-    {
-        if self.waiting.extend_from_slice(news).is_err() {
-            unreachable!()
+        match self.kind {
+            IndexKind::Facts(_) => {
+                if self.pending.extend_from_slice(news).is_err() {
+                    unreachable!()
+                }
+            }
+            IndexKind::DefsByName => {
+                self.postings
+                    .put_each(IndexKind::DefsByName, archive, news)
+            }
+            IndexKind::DefsByTagName => {
+                self.postings
+                    .put_each(IndexKind::DefsByTagName, archive, news)
+            }
         }
     }
 
-    /// Takes a version away, which waits or whose entries are held. It takes no memory, and the
-    /// room stays.
+    /// Takes a version away, which is pending or whose entries are held. It takes no memory, and
+    /// the room stays.
     pub(crate) fn take(&mut self, archive: &Archive, one: Shown)
         requires { (shown : List Shown)
-            × Covers O.keyer O.lister archive.now shown self.old
+            × IsIndex archive.now shown self.old
             × (shown_under one.name shown ≡ Some one) }
-        ensures others { (shown : List Shown)
-            → Covers O.keyer O.lister archive.now shown self.old
-            → shown_under one.name shown ≡ Some one
-            → Covers O.keyer O.lister archive.now
-            (filter (λ (s : Shown). not (nat_eq s.name one.name)) shown) self.new }
-        ensures room { self.old.room ≤ self.new.room }
-        ensures version_room { self.old.version_room ≤ self.new.version_room }
+        ensures { LetsGo archive.now one self.old self.new }
     {
-        let waiting = self.waiting.as_slice();
-        let at = place_of(one.name, likely_place(one.name, waiting), waiting);
-        if at == self.waiting.len() {
-            self.sorted.take_all(archive, one);
+        let pending = self.pending.as_slice();
+        let at = place_of(one.name, likely_place(one.name, pending), pending);
+        if at == self.pending.len() {
+            self.postings.take_all(self.kind, archive, one);
             return;
         }
-        let _one = self.waiting.remove(at);
+        let _one = self.pending.remove(at);
     }
 
     /// Takes the versions under the names of many files away, in one pass. It takes no memory, and
     /// the room stays.
     pub(crate) fn take_names(&mut self, files: &[Shown])
         requires { IsStrictlyIncreasing (names_of files.now) }
-        ensures held { self.new.held
-            ≡ filter (λ (e : Entry). not (is_among (names_of files.now) e.name)) self.old.held }
-        ensures waiting { self.new.waiting
-            ≡ filter (λ (s : Shown). not (is_among (names_of files.now) s.name)) self.old.waiting }
-        ensures room { self.old.room ≤ self.new.room }
-        ensures version_room { self.old.version_room ≤ self.new.version_room }
+        ensures { LetsGoAll (names_of files.now) self.old self.new }
     {
         let names = Names { files };
-        self.waiting.retain(
+        self.pending.retain(
             |s: &Shown| -> bool
                 ensures { result ≡ not (is_among (names_of names.entry.files.now) s.now.name) }
             { !names.has(s.name) },
         );
-        self.sorted.take_names(files);
+        self.postings.take_names(files);
     }
 
-    /// Puts what waits in order among the entries that are held, in the room that is there. It
-    /// takes no memory.
-    pub(crate) fn settle(&mut self, archive: &mut Archive)
-        requires order { self.old.held ≡ in_order (sort_key O.keyer archive.old) self.old.held }
-        requires room { length self.old.held
-            + length (all_entries O.lister archive.old self.old.waiting) ≤ self.old.room }
-        ensures held { self.new.held ≡ in_order (sort_key O.keyer archive.old)
-            (self.old.held ++ all_entries O.lister archive.old self.old.waiting) }
-        ensures archive { archive.new ≡ archive.old }
-        ensures waiting { self.new.waiting ≡ [] }
-        ensures room { self.old.room ≤ self.new.room }
-        ensures version_room { self.old.version_room ≤ self.new.version_room }
+    /// Whether nothing is pending.
+    pub(crate) fn is_flushed(&self) -> bool
+        ensures { result ≡ true → self.now.pending ≡ [] }
     {
-        self.sorted.lay_each(archive, self.waiting.as_slice());
-        self.sorted.put_each(archive, self.waiting.as_slice());
-        self.waiting.clear();
+        self.pending.is_empty()
+    }
+
+    /// Puts what is pending in order among the entries that are held, in the room that is there.
+    /// It takes no memory.
+    pub(crate) fn flush(&mut self, archive: &mut Archive)
+        requires order { self.old.held
+            ≡ in_order (sort_key (keyer_of self.old.kind) archive.old) self.old.held }
+        requires room { length self.old.held
+            + length (all_entries (lister_of self.old.kind) archive.old self.old.pending)
+            ≤ self.old.room }
+        ensures held { self.new.held ≡ in_order (sort_key (keyer_of self.old.kind) archive.old)
+            (self.old.held ++ all_entries (lister_of self.old.kind) archive.old self.old.pending) }
+        ensures archive { archive.new ≡ archive.old }
+        ensures pending { self.new.pending ≡ [] }
+        ensures itself { StaysItself self.old self.new }
+    {
+        if let IndexKind::Facts(kind) = self.kind {
+            self.postings.lay_each(kind, archive, self.pending.as_slice());
+        }
+        self.postings.put_each(self.kind, archive, self.pending.as_slice());
+        self.pending.clear();
     }
 
     /// The entries that are held, in order.
     pub(crate) fn entries(&self) -> Run<'_>
         ensures { run_entries result ≡ self.now.held }
     {
-        self.sorted.entries()
+        self.postings.entries()
     }
 
     /// The entries that are held and have the key, in order.
     pub(crate) fn with_key(&self, archive: &Archive, key: &[u8]) -> Run<'_>
-        requires { self.now.held ≡ in_order (sort_key O.keyer archive.now) self.now.held }
+        requires { self.now.held
+            ≡ in_order (sort_key (keyer_of self.now.kind) archive.now) self.now.held }
         ensures { run_entries result ≡ filter
-            (has_key O.keyer archive.now (O.prefix_of key.now) key.now) self.now.held }
+            (has_key (keyer_of self.now.kind) archive.now
+            (prefix_of self.now.kind key.now) key.now) self.now.held }
     {
-        self.sorted.with_key(archive, key)
+        self.postings.with_key(self.kind, archive, key)
+    }
+}
+
+/// Makes the room of its kind in each index. What is held and pending stays, also where memory is
+/// refused.
+pub(crate) fn reserve_each(indexes: &mut [Index], room: &Room) -> Result<(), OutOfMemory>
+    ensures room { OnOk result (AllByRecursion (HasRoom room.now) indexes.new) }
+    ensures same { Become StaysSame indexes.old indexes.new }
+{
+    for index in indexes.iter_mut() {
+        index.reserve(room)?;
+    }
+    Ok(())
+}
+
+/// Each index takes versions in.
+pub(crate) fn put_in_each(indexes: &mut [Index], archive: &Archive, news: &[Shown])
+    requires { AllByRecursion (CanTakeIn archive.now news.now) indexes.old }
+    ensures { Become (TakesIn archive.now news.now) indexes.old indexes.new }
+{
+    for index in indexes.iter_mut() {
+        index.put(archive, news);
+    }
+}
+
+/// A version is taken away from each index.
+pub(crate) fn take_from_each(indexes: &mut [Index], archive: &Archive, one: Shown)
+    requires { (shown : List Shown)
+        × AllByRecursion (IsIndex archive.now shown) indexes.old
+        × (shown_under one.name shown ≡ Some one) }
+    ensures { Become (LetsGo archive.now one) indexes.old indexes.new }
+{
+    for index in indexes.iter_mut() {
+        index.take(archive, one);
+    }
+}
+
+/// The versions under the names of many files are taken away from each index.
+pub(crate) fn take_names_from_each(indexes: &mut [Index], files: &[Shown])
+    requires { IsStrictlyIncreasing (names_of files.now) }
+    ensures { Become (LetsGoAll (names_of files.now)) indexes.old indexes.new }
+{
+    for index in indexes.iter_mut() {
+        index.take_names(files);
     }
 }

@@ -14,35 +14,35 @@ ghost use Rattle.cb_index.specs.steps.Spread.{items_from};
 
 use crate::archive::Version;
 use crate::bytes::bytes_at;
-use crate::rows::FactSort;
+use crate::kind::FactKind;
 use cb_scan::{Facts, Span};
 
 /// How many items a version has.
-pub(crate) fn item_count(sort: FactSort, version: &Version) -> usize
+pub(crate) fn item_count(sort: FactKind, version: &Version) -> usize
     ensures value { result ≡ item_count sort version.now }
     ensures few { result < 2 ^ 32 }
 {
     match sort {
-        FactSort::Uses => version.facts().uses().len(),
-        FactSort::Callees => version.facts().calls().len(),
-        FactSort::Callers => version.facts().calls().len(),
+        FactKind::Uses => version.facts().uses().len(),
+        FactKind::Callees => version.facts().calls().len(),
+        FactKind::Callers => version.facts().calls().len(),
     }
 }
 
 /// The name of a use, the called name of a call or the name that calls, if it is there.
-pub(crate) fn item_span(sort: FactSort, facts: &Facts, item: u32) -> Option<Span>
+pub(crate) fn item_span(sort: FactKind, facts: &Facts, item: u32) -> Option<Span>
     ensures { result ≡ item_span sort facts.now item }
 {
     match sort {
-        FactSort::Uses => match facts.uses().get(item as usize) {
+        FactKind::Uses => match facts.uses().get(item as usize) {
             Some(found) => Some(found.name),
             None => None,
         },
-        FactSort::Callees => match facts.calls().get(item as usize) {
+        FactKind::Callees => match facts.calls().get(item as usize) {
             Some(found) => Some(found.callee),
             None => None,
         },
-        FactSort::Callers => match facts.calls().get(item as usize) {
+        FactKind::Callers => match facts.calls().get(item as usize) {
             Some(found) => Some(found.caller),
             None => None,
         },
@@ -50,7 +50,7 @@ pub(crate) fn item_span(sort: FactSort, facts: &Facts, item: u32) -> Option<Span
 }
 
 /// The key of an item; empty where it is not there.
-pub(crate) fn item_key(sort: FactSort, version: &Version, item: u32) -> &[u8]
+pub(crate) fn item_key(sort: FactKind, version: &Version, item: u32) -> &[u8]
     ensures { result.now ≡ item_key sort version.now item }
 {
     bytes_at(
@@ -60,14 +60,14 @@ pub(crate) fn item_key(sort: FactSort, version: &Version, item: u32) -> &[u8]
 }
 
 /// Whether two items have one key.
-fn have_one_key(sort: FactSort, version: &Version, a: u32, b: u32) -> bool
+fn have_one_key(sort: FactKind, version: &Version, a: u32, b: u32) -> bool
     ensures { result ≡ have_one_key sort version.now a b }
 {
     item_key(sort, version, a) == item_key(sort, version, b)
 }
 
 /// Whether no item before an item has its key, by a search.
-fn search_first(sort: FactSort, version: &Version, item: u32) -> bool
+fn search_first(sort: FactKind, version: &Version, item: u32) -> bool
     ensures { result ≡ is_first sort version.now item }
 {
     for before in 0..item {
@@ -79,7 +79,7 @@ fn search_first(sort: FactSort, version: &Version, item: u32) -> bool
 }
 
 /// The next item that has the key of an item, by a search.
-fn search_next(sort: FactSort, version: &Version, item: u32) -> Option<u32>
+fn search_next(sort: FactKind, version: &Version, item: u32) -> Option<u32>
     ensures { MatchOption result (later sort version.now item ≡ [])
         (λ next. later sort version.now item ≡ next ∷ later sort version.now next) }
 {
@@ -92,7 +92,7 @@ fn search_next(sort: FactSort, version: &Version, item: u32) -> Option<u32>
 }
 
 /// Whether no item before an item has its key.
-pub(crate) fn is_first(sort: FactSort, version: &Version, item: u32) -> bool
+pub(crate) fn is_first(sort: FactKind, version: &Version, item: u32) -> bool
     ensures { result ≡ is_first sort version.now item }
 {
     match version.link(sort, item) {
@@ -102,7 +102,7 @@ pub(crate) fn is_first(sort: FactSort, version: &Version, item: u32) -> bool
 }
 
 /// The next item that has the key of an item.
-pub(crate) fn next_of_key(sort: FactSort, version: &Version, item: u32) -> Option<u32>
+pub(crate) fn next_of_key(sort: FactKind, version: &Version, item: u32) -> Option<u32>
     ensures { MatchOption result (later sort version.now item ≡ [])
         (λ next. later sort version.now item ≡ next ∷ later sort version.now next) }
 {
@@ -121,14 +121,14 @@ pub(crate) fn next_of_key(sort: FactSort, version: &Version, item: u32) -> Optio
 /// The items of one key that are still to come.
 #[derive(Clone, Copy)]
 pub(crate) struct Chain<'a> {
-    sort: FactSort,
+    sort: FactKind,
     version: &'a Version,
     next: Option<u32>,
 }
 
 impl<'a> Chain<'a> {
     /// An item and those behind it that have its key.
-    pub(crate) fn from(sort: FactSort, version: &'a Version, item: u32) -> Chain<'a>
+    pub(crate) fn from(sort: FactKind, version: &'a Version, item: u32) -> Chain<'a>
         ensures sort { result.sort ≡ sort }
         ensures version { result.version.now ≡ version.now }
         ensures left { chain_left result ≡ items_from sort version.now item }
@@ -153,7 +153,7 @@ impl<'a> Chain<'a> {
     }
 
     /// The sort of the items.
-    pub(crate) fn sort(&self) -> FactSort
+    pub(crate) fn sort(&self) -> FactKind
         ensures { result ≡ self.now.sort }
     {
         self.sort

@@ -16,7 +16,6 @@ ghost use Rattle.std.specs.List.{AllByRecursion};
 ghost use Rattle.cb_scan.specs.Definitions.{facts_of};
 ghost use Rattle.cb_index.specs.Items.{item_count};
 ghost use Rattle.cb_index.specs.Links.{links_of};
-ghost use Rattle.cb_index.specs.Orders.{item_keyer};
 ghost use Rattle.cb_index.specs.steps.Laying.{
   AreListed,
   AreSorted,
@@ -32,15 +31,14 @@ use crate::archive::{Archive, Version};
 use crate::bytes::bytes_at;
 use crate::entry::Entry;
 use crate::items::{item_count, item_key, item_span};
+use crate::kind::{FactKind, IndexKind};
 use crate::links::Link;
-use crate::order::EntryOrder;
-use crate::rows::FactSort;
 use crate::sort::sort;
 use cb_scan::{Facts, Source, key_prefix};
 
 /// Whether two entries of items have one key. Their prefixes are compared first.
 pub(crate) fn entries_match(
-    sort: FactSort,
+    sort: FactKind,
     source: &Source,
     facts: &Facts,
     a: Entry,
@@ -56,7 +54,7 @@ pub(crate) fn entries_match(
 
 /// The item of the entry that follows an entry, if it has its key.
 fn next_item(
-    sort: FactSort,
+    sort: FactKind,
     source: &Source,
     facts: &Facts,
     entry: Entry,
@@ -84,7 +82,7 @@ fn link_to(next: Option<u32>, first: bool) -> Link
 /// Sets the link of each entry by the entry that follows it.
 #[tactic(auto, unfolding(crate::specs::steps::Laying::with_each))]
 pub(crate) fn set_each(
-    sort: FactSort,
+    sort: FactKind,
     source: &Source,
     facts: &Facts,
     entries: &[Entry],
@@ -119,7 +117,7 @@ pub(crate) fn fill(links: &mut Vec<Link>, count: usize)
 
 /// Lays links by the entries of all items, in order; none where there is too little room.
 pub(crate) fn lay_in(
-    sort: FactSort,
+    sort: FactKind,
     source: &Source,
     facts: &Facts,
     entries: &[Entry],
@@ -137,7 +135,7 @@ pub(crate) fn lay_in(
 }
 
 /// Puts the entries of all items of a version behind others.
-fn append_items(sort: FactSort, version: &Version, number: u32, entries: &mut Vec<Entry>)
+fn append_items(sort: FactKind, version: &Version, number: u32, entries: &mut Vec<Entry>)
     requires { vec_len entries.old + item_count sort version.now ≤ vec_capacity entries.old }
     ensures entries { entries.new.items
         ≡ entries.old.items ++ item_entries sort version.now number }
@@ -158,7 +156,7 @@ fn append_items(sort: FactSort, version: &Version, number: u32, entries: &mut Ve
 /// Puts the entries of all items of a version, under a number, into a list in place of what it had.
 /// It answers whether it did: the version is there, and the list has room.
 fn list_all(
-    sort_of: FactSort,
+    sort_of: FactKind,
     archive: &Archive,
     version: u32,
     number: u32,
@@ -182,7 +180,7 @@ fn list_all(
 }
 
 /// Whether the links of a version are wanted.
-fn wants_links(sort_of: FactSort, archive: &Archive, version: u32) -> bool {
+fn wants_links(sort_of: FactKind, archive: &Archive, version: u32) -> bool {
     match archive.version(version) {
         Some(kept) => kept.wants_links(sort_of),
         None => false,
@@ -190,7 +188,7 @@ fn wants_links(sort_of: FactSort, archive: &Archive, version: u32) -> bool {
 }
 
 /// Whether the repeats of a version are wanted.
-fn wants_repeats(sort_of: FactSort, archive: &Archive, version: u32) -> bool {
+fn wants_repeats(sort_of: FactKind, archive: &Archive, version: u32) -> bool {
     match archive.version(version) {
         Some(kept) => kept.wants_repeats(sort_of),
         None => false,
@@ -200,7 +198,7 @@ fn wants_repeats(sort_of: FactSort, archive: &Archive, version: u32) -> bool {
 /// Puts the entries of all items of a version, under a number, into a list in place of what it had.
 /// It answers whether it did: the links of the version are wanted, and the list has room.
 pub(crate) fn list_items(
-    sort_of: FactSort,
+    sort_of: FactKind,
     archive: &Archive,
     version: u32,
     number: u32,
@@ -215,13 +213,7 @@ pub(crate) fn list_items(
 
 /// Lays links of a version, with a list as scratch: by a table, or by a sort where the places of
 /// the table are too crowded.
-fn lay_sort<O: EntryOrder>(
-    sort_of: FactSort,
-    archive: &mut Archive,
-    version: u32,
-    scratch: &mut Vec<Entry>,
-)
-    requires { O.keyer ≡ item_keyer sort_of }
+fn lay_links(sort_of: FactKind, archive: &mut Archive, version: u32, scratch: &mut Vec<Entry>)
     ensures archive { archive.new ≡ archive.old }
     ensures room { vec_capacity scratch.old ≤ vec_capacity scratch.new }
 {
@@ -234,12 +226,12 @@ fn lay_sort<O: EntryOrder>(
     if !list_items(sort_of, archive, version, version, scratch) {
         return;
     }
-    sort::<O>(archive, scratch);
+    sort(IndexKind::Facts(sort_of), archive, scratch);
     archive.lay_links(version, sort_of, scratch.as_slice());
 }
 
 /// Finds the repeats of a version, with a list as scratch.
-fn lay_repeats(sort_of: FactSort, archive: &mut Archive, version: u32, scratch: &mut Vec<Entry>)
+fn lay_repeats(sort_of: FactKind, archive: &mut Archive, version: u32, scratch: &mut Vec<Entry>)
     ensures archive { archive.new ≡ archive.old }
     ensures room { vec_capacity scratch.old ≤ vec_capacity scratch.new }
 {
@@ -254,12 +246,10 @@ fn lay_repeats(sort_of: FactSort, archive: &mut Archive, version: u32, scratch: 
 
 /// Lays what helps to find the items of one key of a version and their repeats, with a list as
 /// scratch. It takes no memory: where there is too little room, nothing is laid.
-pub(crate) fn lay<O: EntryOrder>(archive: &mut Archive, version: u32, scratch: &mut Vec<Entry>)
+pub(crate) fn lay(sort_of: FactKind, archive: &mut Archive, version: u32, scratch: &mut Vec<Entry>)
     ensures archive { archive.new ≡ archive.old }
     ensures room { vec_capacity scratch.old ≤ vec_capacity scratch.new }
 {
-    if let Some(sort_of) = O::sort() {
-        lay_sort::<O>(sort_of, archive, version, scratch);
-        lay_repeats(sort_of, archive, version, scratch);
-    }
+    lay_links(sort_of, archive, version, scratch);
+    lay_repeats(sort_of, archive, version, scratch);
 }

@@ -7,11 +7,9 @@
 #![tactic(auto)]
 
 mod archive;
-mod asked;
 mod block;
 mod blocks;
 mod bytes;
-mod counted;
 mod counts;
 mod entries;
 mod entry;
@@ -19,6 +17,7 @@ mod facts;
 mod includes;
 mod index;
 mod items;
+mod kind;
 mod laid;
 pub mod laws;
 mod links;
@@ -28,11 +27,11 @@ mod names;
 mod order;
 mod orders;
 mod place;
+mod postings;
 mod range;
 mod repeats;
 mod room;
 mod row;
-mod row_orders;
 mod rows;
 mod run;
 mod shelf;
@@ -43,21 +42,21 @@ mod tags;
 mod totals;
 
 pub use archive::{Archive, Version};
-pub use asked::Asked;
 pub use entries::Entries;
 pub use entry::{Entry, Shown};
 pub use facts::{FactRows, FactSpots};
 pub use includes::IncludeRows;
 pub use links::Links;
+pub use kind::{FactKind, IndexKind};
 pub use listed::put_all_shown;
 pub use memory::OutOfMemory;
 pub use names::are_rising;
-pub use order::EntryOrder;
-pub use orders::{CallsByCallee, CallsByCaller, DefsByName, DefsByTagName, UsesByName};
 pub use range::Rows;
 pub use room::Room;
-pub use row::{Row, RowOrder};
-pub use rows::{FactRow, FactSort, FactSpot};
+pub use row::{
+    CallsByCallee, CallsByCaller, DefsByName, DefsByTagName, Row, RowOrder, UsesByName,
+};
+pub use rows::{FactRow, FactSpot};
 pub use shelf::Shelf;
 pub use sorted::Sorted;
 pub use tags::TagRows;

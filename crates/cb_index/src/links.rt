@@ -16,7 +16,7 @@ use crate::entry::Entry;
 use crate::laid::lay_in;
 use crate::memory::OutOfMemory;
 use crate::repeats::find_repeats;
-use crate::rows::FactSort;
+use crate::kind::FactKind;
 use crate::table::lay_in_table;
 use cb_scan::{Facts, Source};
 use std::alloc::Global;
@@ -92,31 +92,31 @@ impl Links {
     }
 
     /// The links of a sort.
-    pub(crate) fn of(&self, sort: FactSort) -> &[Link]
+    pub(crate) fn of(&self, sort: FactKind) -> &[Link]
         ensures { result.now ≡ links_for sort self.now }
     {
         match sort {
-            FactSort::Uses => self.uses.as_slice(),
-            FactSort::Callees => self.callees.as_slice(),
-            FactSort::Callers => self.callers.as_slice(),
+            FactKind::Uses => self.uses.as_slice(),
+            FactKind::Callees => self.callees.as_slice(),
+            FactKind::Callers => self.callers.as_slice(),
         }
     }
 
     /// Which items of a sort are repeats.
-    pub(crate) fn repeats(&self, sort: FactSort) -> &[bool]
+    pub(crate) fn repeats(&self, sort: FactKind) -> &[bool]
         ensures { result.now ≡ repeats_for sort self.now }
     {
         match sort {
-            FactSort::Uses => self.use_repeats.as_slice(),
-            FactSort::Callees => self.callee_repeats.as_slice(),
-            FactSort::Callers => self.caller_repeats.as_slice(),
+            FactKind::Uses => self.use_repeats.as_slice(),
+            FactKind::Callees => self.callee_repeats.as_slice(),
+            FactKind::Callers => self.caller_repeats.as_slice(),
         }
     }
 
     /// Finds the repeats of a sort by a table of the entries of all items, if there is room.
     pub(crate) fn find_repeats(
         &mut self,
-        sort: FactSort,
+        sort: FactKind,
         source: &Source,
         facts: &Facts,
         entries: &mut [Entry],
@@ -127,40 +127,40 @@ impl Links {
             ⊎ (self.new ≡ with_repeats sort (repeats_of sort source.now) self.old) }
     {
         match sort {
-            FactSort::Uses => find_repeats(sort, source, facts, entries, &mut self.use_repeats),
-            FactSort::Callees => {
+            FactKind::Uses => find_repeats(sort, source, facts, entries, &mut self.use_repeats),
+            FactKind::Callees => {
                 find_repeats(sort, source, facts, entries, &mut self.callee_repeats)
             }
-            FactSort::Callers => {
+            FactKind::Callers => {
                 find_repeats(sort, source, facts, entries, &mut self.caller_repeats)
             }
         }
     }
 
     /// Whether no links of a sort are laid, and there is room for so many.
-    pub(crate) fn wants(&self, sort: FactSort, count: usize) -> bool
+    pub(crate) fn wants(&self, sort: FactKind, count: usize) -> bool
         ensures { result ≡ true → links_for sort self.now ≡ [] }
     {
         let links = match sort {
-            FactSort::Uses => &self.uses,
-            FactSort::Callees => &self.callees,
-            FactSort::Callers => &self.callers,
+            FactKind::Uses => &self.uses,
+            FactKind::Callees => &self.callees,
+            FactKind::Callers => &self.callers,
         };
         links.is_empty() && count <= links.capacity()
     }
 
     /// Lays the links of a sort by the entries of all items, in order; none where there is too
     /// little room.
-    pub(crate) fn lay(&mut self, sort: FactSort, source: &Source, facts: &Facts, entries: &[Entry])
+    pub(crate) fn lay(&mut self, sort: FactKind, source: &Source, facts: &Facts, entries: &[Entry])
         requires facts { facts.now ≡ facts_of source.now }
         requires entries { AreSorted sort source.now entries.now }
         ensures { (self.new ≡ self.old)
             ⊎ (self.new ≡ with_links sort (links_of sort source.now) self.old) }
     {
         match sort {
-            FactSort::Uses => lay_in(sort, source, facts, entries, &mut self.uses),
-            FactSort::Callees => lay_in(sort, source, facts, entries, &mut self.callees),
-            FactSort::Callers => lay_in(sort, source, facts, entries, &mut self.callers),
+            FactKind::Uses => lay_in(sort, source, facts, entries, &mut self.uses),
+            FactKind::Callees => lay_in(sort, source, facts, entries, &mut self.callees),
+            FactKind::Callers => lay_in(sort, source, facts, entries, &mut self.callers),
         }
     }
 
@@ -168,7 +168,7 @@ impl Links {
     /// where the table is too crowded or where there is too little room.
     pub(crate) fn lay_by_table(
         &mut self,
-        sort: FactSort,
+        sort: FactKind,
         source: &Source,
         facts: &Facts,
         entries: &mut [Entry],
@@ -180,11 +180,11 @@ impl Links {
     {
         let looks = entries.len().saturating_mul(LOOKS_PER_ITEM);
         match sort {
-            FactSort::Uses => { lay_in_table(sort, source, facts, entries, &mut self.uses, looks) }
-            FactSort::Callees => {
+            FactKind::Uses => { lay_in_table(sort, source, facts, entries, &mut self.uses, looks) }
+            FactKind::Callees => {
                 lay_in_table(sort, source, facts, entries, &mut self.callees, looks)
             }
-            FactSort::Callers => {
+            FactKind::Callers => {
                 lay_in_table(sort, source, facts, entries, &mut self.callers, looks)
             }
         }

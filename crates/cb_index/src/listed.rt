@@ -201,14 +201,16 @@ fn are_below(archive: &Archive, news: &[Shown]) -> bool
 
 /// Whether the names and versions of these are there.
 pub(crate) fn are_there(archive: &Archive, news: &[Shown]) -> bool
-    ensures { result ≡ true → AllByRecursion (IsThere archive.now) news.now }
+    ensures there { result ≡ true → AllByRecursion (IsThere archive.now) news.now }
+    ensures missing { AllByRecursion (IsThere archive.now) news.now → result ≡ true }
 {
     are_below(archive, news)
 }
 
 /// Whether the file names of these ascend, so that no two of them have one.
 pub(crate) fn ascend(archive: &Archive, news: &[Shown]) -> bool
-    ensures { result ≡ true → AreApart archive.now news.now }
+    ensures apart { result ≡ true → AreApart archive.now news.now }
+    ensures ascending { AreAscending archive.now news.now → result ≡ true }
 {
     news.is_sorted_by(
         |s: &Shown, t: &Shown| -> bool

@@ -14,7 +14,7 @@ use crate::archive::Archive;
 use crate::entry::Entry;
 use crate::items::Chain;
 use crate::row::Row;
-use crate::rows::FactSort;
+use crate::kind::FactKind;
 use crate::run::Run;
 
 /// The items of one entry that are still to come.
@@ -38,14 +38,14 @@ pub(crate) struct EntryRows<'a> {
 /// Rows. They take no memory.
 #[derive(Clone, Copy)]
 pub struct Rows<'a> {
-    sort: Option<FactSort>,
+    sort: Option<FactKind>,
     archive: &'a Archive,
     entries: Run<'a>,
     first: Option<EntryRows<'a>>,
 }
 
 /// The items of an entry: a definition, or a use or a call and those behind it that have its key.
-fn items_of<'a>(sort: Option<FactSort>, archive: &'a Archive, entry: Entry) -> Items<'a>
+fn items_of<'a>(sort: Option<FactKind>, archive: &'a Archive, entry: Entry) -> Items<'a>
     ensures { items_left result ≡ items_at sort archive.now entry }
 {
     match sort {
@@ -103,7 +103,7 @@ struct Step<'a> {
 }
 
 /// The first row of some entries.
-fn first_row<'a>(sort: Option<FactSort>, archive: &'a Archive, entries: Run<'a>) -> Option<Step<'a>>
+fn first_row<'a>(sort: Option<FactKind>, archive: &'a Archive, entries: Run<'a>) -> Option<Step<'a>>
     ensures { MatchOption result (rows_in sort archive.now (run_entries entries.entry) ≡ [])
         (λ r. rows_in sort archive.now (run_entries entries.entry)
         ≡ r.row ∷ (entry_rows r.first ++ rows_in sort archive.now (run_entries r.entries))) }
@@ -127,7 +127,7 @@ fn first_row<'a>(sort: Option<FactSort>, archive: &'a Archive, entries: Run<'a>)
 }
 
 impl<'a> Rows<'a> {
-    pub(crate) fn new(sort: Option<FactSort>, archive: &'a Archive, entries: Run<'a>) -> Rows<'a>
+    pub(crate) fn new(sort: Option<FactKind>, archive: &'a Archive, entries: Run<'a>) -> Rows<'a>
         ensures { rows_left result ≡ rows_in sort archive.now (run_entries entries.entry) }
     {
         Rows {

@@ -25,7 +25,7 @@ ghost use Rattle.cb_scan.specs.Definitions.{facts_of};
 ghost use Rattle.cb_index.specs.Counts.{function_of};
 ghost use Rattle.cb_index.specs.Items.{item_count};
 ghost use Rattle.cb_index.specs.Repeats.{have_one_row, is_repeat, repeats_of};
-ghost use Rattle.cb_index.specs.declared.rows.FactSort.{FactSort};
+ghost use Rattle.cb_index.specs.declared.kind.FactKind.{FactKind};
 ghost use Rattle.cb_index.specs.steps.Found.{fact_at};
 ghost use Rattle.cb_index.specs.steps.Given.{given_left};
 ghost use Rattle.cb_index.specs.steps.Laying.{item_entries};
@@ -43,16 +43,17 @@ use crate::archive::Version;
 use crate::bytes::bytes_at;
 use crate::entry::Entry;
 use crate::items::{Chain, item_span};
-use crate::rows::{FactSort, FactSpot, fact_in};
+use crate::kind::FactKind;
+use crate::rows::{FactSpot, fact_in};
 use crate::table::{key_end, mixed};
 use cb_scan::{Facts, Source, Span, key_prefix};
 
 /// The name in the function column.
-fn function_of<'a>(sort: FactSort, spot: FactSpot<'a>) -> &'a [u8]
+fn function_of<'a>(sort: FactKind, spot: FactSpot<'a>) -> &'a [u8]
     ensures { result.now ≡ function_of sort (fact_of_spot spot.entry) }
 {
     match sort {
-        FactSort::Callers => spot.name,
+        FactKind::Callers => spot.name,
         _ => match spot.scope {
             Some(name) => name,
             None => b"<global>",
@@ -61,21 +62,21 @@ fn function_of<'a>(sort: FactSort, spot: FactSpot<'a>) -> &'a [u8]
 }
 
 /// Where the name in the function column stands in the text, if it is there.
-fn function_span(sort: FactSort, facts: &Facts, item: u32) -> Option<Span>
+fn function_span(sort: FactKind, facts: &Facts, item: u32) -> Option<Span>
     ensures { result ≡ function_span sort facts.now item }
 {
     match sort {
-        FactSort::Uses => match facts.uses().get(item as usize) {
+        FactKind::Uses => match facts.uses().get(item as usize) {
             Some(found) => found.scope,
             None => None,
         },
-        FactSort::Callees => item_span(FactSort::Callers, facts, item),
-        FactSort::Callers => item_span(FactSort::Callees, facts, item),
+        FactKind::Callees => item_span(FactKind::Callers, facts, item),
+        FactKind::Callers => item_span(FactKind::Callees, facts, item),
     }
 }
 
 /// Whether two items show a name at one place of the text.
-fn have_one_span(sort: FactSort, facts: &Facts, a: u32, b: u32) -> bool
+fn have_one_span(sort: FactKind, facts: &Facts, a: u32, b: u32) -> bool
     ensures { result ≡ true → function_span sort facts.now a ≡ function_span sort facts.now b }
 {
     match (function_span(sort, facts, a), function_span(sort, facts, b)) {
@@ -86,7 +87,7 @@ fn have_one_span(sort: FactSort, facts: &Facts, a: u32, b: u32) -> bool
 
 /// Whether two items show one name. Its bytes are looked at only where it stands at two places: a
 /// name may be long, and around many items.
-fn have_one_function(sort: FactSort, source: &Source, facts: &Facts, a: u32, b: u32) -> bool
+fn have_one_function(sort: FactKind, source: &Source, facts: &Facts, a: u32, b: u32) -> bool
     requires { facts.now ≡ facts_of source.now }
     ensures { result ≡ bytes_eq (function_of sort (fact_at sort [] source.now b))
         (function_of sort (fact_at sort [] source.now a)) }
@@ -100,7 +101,7 @@ fn have_one_function(sort: FactSort, source: &Source, facts: &Facts, a: u32, b: 
 }
 
 /// Whether two items have one key, and equal rows under it.
-fn have_one_row(sort: FactSort, source: &Source, facts: &Facts, a: u32, b: u32) -> bool
+fn have_one_row(sort: FactKind, source: &Source, facts: &Facts, a: u32, b: u32) -> bool
     requires { facts.now ≡ facts_of source.now }
     ensures { result ≡ have_one_row sort source.now a b }
 {
@@ -130,7 +131,7 @@ fn place_among(key: &[u8], function: &[u8], line: u32, count: usize) -> usize
 }
 
 /// The place of the row of an item.
-fn row_place(sort: FactSort, source: &Source, facts: &Facts, item: u32, count: usize) -> usize
+fn row_place(sort: FactKind, source: &Source, facts: &Facts, item: u32, count: usize) -> usize
     requires facts { facts.now ≡ facts_of source.now }
     requires count { count ≡ item_count sort source.now }
     requires some { 0 < count }
@@ -144,7 +145,7 @@ fn row_place(sort: FactSort, source: &Source, facts: &Facts, item: u32, count: u
 
 /// Whether an item is a repeat, by the items of its place from the last one on.
 fn find_row(
-    sort: FactSort,
+    sort: FactKind,
     source: &Source,
     facts: &Facts,
     entries: &[Entry],
@@ -174,7 +175,7 @@ fn stand(entries: &mut [Entry], item: usize, place: usize)
     requires item { item < length entries.old }
     requires place { place < length entries.old }
     requires few { length entries.old < 2 ^ 32 }
-    ensures { (sort : FactSort) (text : List ℕ) → item < item_count sort text
+    ensures { (sort : FactKind) (text : List ℕ) → item < item_count sort text
         → place ≡ row_place sort text item → is_repeat sort text item ≡ false
         → AreSeen sort text item entries.old → AreSeen sort text (suc item) entries.new }
 {
@@ -197,7 +198,7 @@ fn stand(entries: &mut [Entry], item: usize, place: usize)
 }
 
 /// Whether an item is a repeat; if not, it is put into its place.
-fn see(sort: FactSort, source: &Source, facts: &Facts, entries: &mut [Entry], item: usize) -> bool
+fn see(sort: FactKind, source: &Source, facts: &Facts, entries: &mut [Entry], item: usize) -> bool
     requires facts { facts.now ≡ facts_of source.now }
     requires item { item < item_count sort source.now }
     requires few { length entries.old < 2 ^ 32 }
@@ -217,7 +218,7 @@ fn see(sort: FactSort, source: &Source, facts: &Facts, entries: &mut [Entry], it
 /// Finds the repeats by a table of the entries of all items, where there is room for what is told
 /// of them.
 pub(crate) fn find_repeats(
-    sort: FactSort,
+    sort: FactKind,
     source: &Source,
     facts: &Facts,
     entries: &mut [Entry],
@@ -238,14 +239,14 @@ pub(crate) fn find_repeats(
 }
 
 /// The same of two items of a version.
-fn have_row(sort: FactSort, version: &Version, a: u32, b: u32) -> bool
+fn have_row(sort: FactKind, version: &Version, a: u32, b: u32) -> bool
     ensures { result ≡ have_one_row sort version.now a b }
 {
     have_one_row(sort, version.source(), version.facts(), a, b)
 }
 
 /// Whether an item is a repeat, by a search.
-fn search_repeat(sort: FactSort, version: &Version, item: u32) -> bool
+fn search_repeat(sort: FactKind, version: &Version, item: u32) -> bool
     ensures { result ≡ is_repeat sort version.now item }
 {
     let mut before = item;
@@ -259,7 +260,7 @@ fn search_repeat(sort: FactSort, version: &Version, item: u32) -> bool
 }
 
 /// Whether an item before an item has its key and its row.
-pub(crate) fn is_repeat(sort: FactSort, version: &Version, item: u32) -> bool
+pub(crate) fn is_repeat(sort: FactKind, version: &Version, item: u32) -> bool
     ensures { result ≡ is_repeat sort version.now item }
 {
     match version.repeat(sort, item) {

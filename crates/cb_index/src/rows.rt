@@ -18,6 +18,7 @@ ghost use Rattle.cb_index.specs.steps.Left.{fact_of, fact_of_spot};
 use crate::archive::{Archive, Version};
 use crate::bytes::bytes_at;
 use crate::entry::Entry;
+use crate::kind::FactKind;
 use cb_scan::{Call, Def, Facts, Kind, Source, Use};
 use cb_tags::TagRow;
 
@@ -45,17 +46,6 @@ pub struct FactSpot<'a> {
     pub line: u32,
     /// The text of the file.
     pub source: &'a Source,
-}
-
-/// The sorts of facts of which the first of each key in a version is an entry of an index.
-#[derive(Clone, Copy, Debug, PartialEq, Eq)]
-pub enum FactSort {
-    /// Uses by name.
-    Uses,
-    /// Calls by the called name.
-    Callees,
-    /// Calls by the name that calls.
-    Callers,
 }
 
 /// A line of a text, without its end; no bytes where there is none. Lines count from 1.
@@ -176,7 +166,7 @@ impl<'a> FactSpot<'a> {
 
 /// The fact of an item of a text.
 pub(crate) fn fact_in<'a>(
-    sort: FactSort,
+    sort: FactKind,
     file: &'a [u8],
     source: &'a Source,
     facts: &Facts,
@@ -186,15 +176,15 @@ pub(crate) fn fact_in<'a>(
     ensures { fact_of_spot result ≡ fact_at sort file.now source.now item }
 {
     match sort {
-        FactSort::Uses => fact_of_use(file, source, facts.uses().get(item as usize)),
-        FactSort::Callees => fact_of_call(file, source, facts.calls().get(item as usize)),
-        FactSort::Callers => fact_of_call(file, source, facts.calls().get(item as usize)),
+        FactKind::Uses => fact_of_use(file, source, facts.uses().get(item as usize)),
+        FactKind::Callees => fact_of_call(file, source, facts.calls().get(item as usize)),
+        FactKind::Callers => fact_of_call(file, source, facts.calls().get(item as usize)),
     }
 }
 
 /// The fact of an item.
 pub(crate) fn fact_at<'a>(
-    sort: FactSort,
+    sort: FactKind,
     file: &'a [u8],
     version: &'a Version,
     item: u32,

@@ -36,9 +36,8 @@ ghost use Rattle.cb_index.specs.Names.{is_among, names_of};
 ghost use Rattle.cb_index.specs.Rows.{
   calls_in,
   calls_of,
-  file_calls_in,
-  file_calls_of,
-  file_uses_of,
+  facts_named,
+  file_facts,
   tags_by_name,
   tags_by_tag_name,
   tags_named,
@@ -47,34 +46,31 @@ ghost use Rattle.cb_index.specs.Rows.{
 ghost use Rattle.cb_index.specs.Shelved.{
   AreTotals,
   CanShow,
-  CanShowAll,
+  IsIndex,
   KeepsRoom,
   files,
-  nothing,
-  settled,
+  kind_place,
+  larger_room,
   with_facts,
 };
 ghost use Rattle.cb_index.specs.declared.entry.Shown.{Shown};
-ghost use Rattle.cb_index.specs.declared.rows.FactSort.TheVariants.{Callees, Callers, Uses};
 ghost use Rattle.cb_index.specs.steps.Left.{entries_left, facts_counted, facts_left, facts_new, tags_left};
 
 use crate::archive::{Archive, Version};
-use crate::asked::Asked;
-use crate::counted::{Counted, has_room, has_room_for};
 use crate::entries::Entries;
 use crate::entry::Shown;
 use crate::facts::FactRows;
-use crate::index::Index;
-use crate::listed::{are_there, ascend, has_any_name, has_name, put_all_shown, take_under};
+use crate::index::{
+    Index, put_in_each, reserve_each, take_from_each, take_names_from_each,
+};
+use crate::kind::{FactKind, IndexKind};
+use crate::listed::{are_there, ascend, has_any_name, put_all_shown, take_under};
 use crate::memory::OutOfMemory;
 use crate::names::Names;
-use crate::orders::{CallsByCallee, CallsByCaller, DefsByName, DefsByTagName, UsesByName};
 use crate::room::Room;
-use crate::rows::FactSort;
 use crate::tags::TagRows;
-use crate::totals::Totals;
+use crate::totals::{Totals, totals_of};
 use std::alloc::Global;
-use std::cmp::Ordering;
 use std::marker::Model;
 
 /// Files are hidden one after another where they are at most this part of what is shown.
@@ -83,24 +79,21 @@ const FEW: usize = 8;
 /// An archive, the versions that are shown of it, each under a file name, and five indexes of what
 /// is found in these. No two versions are shown under one file name. Only `reserve` takes memory.
 ///
-/// A version that is shown costs hardly anything at first: its entries wait. Before a question,
-/// `settle` puts what waits in order in the one index that answers it, so that many versions are
-/// sorted together.
+/// The uses and calls of a version that is shown are pending at first, so that those of many are put
+/// in order together by `flush`. Before that a question about them walks over the files: it answers
+/// the same, in more time.
 #[derive(Drop)]
 pub struct Shelf {
     archive: Archive,
     shown: Vec<Shown>,
-    defs: Index<DefsByName>,
-    tags: Index<DefsByTagName>,
-    uses: Index<UsesByName>,
-    callees: Index<CallsByCallee>,
-    callers: Index<CallsByCaller>,
+    indexes: [Index; 5],
     totals: Totals,
+    room: Room,
     turns: u64,
 }
 
 impl Model for Shelf {
-    ghost use Rattle.std.specs.Prelude.{min, vec_capacity};
+    ghost use Rattle.std.specs.Prelude.{vec_capacity};
     ghost use Rattle.cb_index.specs.Shelved.{AreKept, AreTotals, AreWithin, Shelved};
 
     ghost Value = { Shelved };
@@ -108,25 +101,52 @@ impl Model for Shelf {
     ghost view = { λ s. record {
       archive = s.archive;
       shown = s.shown.items;
-      waiting = record {
-        defs = s.defs.waiting;
-        tags = s.tags.waiting;
-        uses = s.uses.waiting;
-        callees = s.callees.waiting;
-        callers = s.callers.waiting;
-      };
       turns = s.turns;
-      entry_room = min (vec_capacity s.shown) (min (min s.defs.version_room s.tags.version_room)
-          (min s.uses.version_room (min s.callees.version_room s.callers.version_room)));
-      def_room = min s.defs.room s.tags.room;
-      use_room = s.uses.room;
-      call_room = min s.callees.room s.callers.room;
+      entry_room = s.room.entries;
+      def_room = s.room.defs;
+      use_room = s.room.uses;
+      call_room = s.room.calls;
     } };
 
-    ghost invariant = { λ s. AreKept s.archive s.shown.items s.defs s.tags s.uses s.callees
-        s.callers
+    ghost invariant = { λ s. AreKept s.archive s.shown.items s.indexes
         × AreTotals s.archive s.shown.items s.totals
-        × AreWithin s.totals s.defs s.tags s.uses s.callees s.callers };
+        × AreWithin s.shown.items (vec_capacity s.shown) s.totals s.room s.indexes };
+}
+
+/// The place of an index among the five.
+fn place_of(kind: IndexKind) -> usize
+    ensures { result ≡ kind_place kind }
+{
+    match kind {
+        IndexKind::DefsByName => 0,
+        IndexKind::DefsByTagName => 1,
+        IndexKind::Facts(FactKind::Uses) => 2,
+        IndexKind::Facts(FactKind::Callees) => 3,
+        IndexKind::Facts(FactKind::Callers) => 4,
+    }
+}
+
+/// The greater room of each.
+fn larger(a: &Room, b: &Room) -> Room
+    ensures { result ≡ larger_room a.now b.now }
+{
+    Room {
+        versions: a.versions.max(b.versions),
+        names: a.names.max(b.names),
+        entries: a.entries.max(b.entries),
+        defs: a.defs.max(b.defs),
+        uses: a.uses.max(b.uses),
+        calls: a.calls.max(b.calls),
+    }
+}
+
+/// Says that what there is room for can be counted. It does nothing.
+fn read_room(room: Room)
+    ensures defs { room.defs < 2 ^ 64 }
+    ensures uses { room.uses < 2 ^ 64 }
+    ensures calls { room.calls < 2 ^ 64 }
+{
+    let _facts = (room.defs, room.uses, room.calls);
 }
 
 impl Shelf {
@@ -135,18 +155,27 @@ impl Shelf {
         ensures names { result.archive.names ≡ [] }
         ensures texts { result.archive.texts ≡ [] }
         ensures shown { result.shown ≡ [] }
-        ensures waiting { result.waiting ≡ nothing }
         ensures turns { result.turns ≡ 0 }
     {
         Shelf {
             archive: Archive::new(alloc),
             shown: Vec::new(alloc),
-            defs: Index::new(alloc),
-            tags: Index::new(alloc),
-            uses: Index::new(alloc),
-            callees: Index::new(alloc),
-            callers: Index::new(alloc),
+            indexes: [
+                Index::new(alloc, IndexKind::DefsByName),
+                Index::new(alloc, IndexKind::DefsByTagName),
+                Index::new(alloc, IndexKind::Facts(FactKind::Uses)),
+                Index::new(alloc, IndexKind::Facts(FactKind::Callees)),
+                Index::new(alloc, IndexKind::Facts(FactKind::Callers)),
+            ],
             totals: Totals {
+                defs: 0,
+                uses: 0,
+                calls: 0,
+            },
+            room: Room {
+                versions: 0,
+                names: 0,
+                entries: 0,
                 defs: 0,
                 uses: 0,
                 calls: 0,
@@ -200,6 +229,7 @@ impl Shelf {
         ensures same_turns { self.new.turns ≡ self.old.turns }
         ensures room { KeepsRoom self.old self.new }
     {
+        let room = larger(&self.room, room);
         match self.archive.reserve(room.names, room.versions) {
             Ok(()) => {}
             Err(_) => return Err(OutOfMemory),
@@ -209,23 +239,9 @@ impl Shelf {
             Ok(()) => {}
             Err(_) => return Err(OutOfMemory),
         }
-        match self.defs.reserve(room.defs, room.entries) {
-            Ok(()) => {}
-            Err(_) => return Err(OutOfMemory),
-        }
-        match self.tags.reserve(room.defs, room.entries) {
-            Ok(()) => {}
-            Err(_) => return Err(OutOfMemory),
-        }
-        match self.uses.reserve(room.uses, room.entries) {
-            Ok(()) => {}
-            Err(_) => return Err(OutOfMemory),
-        }
-        match self.callees.reserve(room.calls, room.entries) {
-            Ok(()) => {}
-            Err(_) => return Err(OutOfMemory),
-        }
-        self.callers.reserve(room.calls, room.entries)
+        reserve_each(&mut self.indexes, &room)?;
+        self.room = room;
+        Ok(())
     }
 
     /// Keeps a name under the number that is answered: the count of names before.
@@ -267,70 +283,32 @@ impl Shelf {
         self.archive.truncate(versions, names);
     }
 
-    /// For how many versions there is room.
-    fn entry_room(&self) -> usize
-        ensures { result ≡ self.now.entry_room }
+    /// Whether versions, whose file names ascend, can be shown together: they are there, no file of
+    /// one of their names is shown, and there is room for all.
+    pub fn can_show(&self, news: &[Shown]) -> bool
+        ensures can { result ≡ true → CanShow self.now news.now }
+        ensures cannot { AreAscending self.now.archive news.now → CanShow self.now news.now
+            → result ≡ true }
     {
-        let defs = self.defs.version_room().min(self.tags.version_room());
-        let calls = self.callees.version_room().min(self.callers.version_room());
-        self.shown
-            .capacity()
-            .min(defs.min(self.uses.version_room().min(calls)))
-    }
-
-    /// Whether a version can be shown under a name: both are there, no file of that name is shown,
-    /// and there is room.
-    pub fn can_show(&self, name: u32, version: u32) -> bool
-        ensures { result ≡ true → CanShow self.now name version }
-    {
-        if (name as usize) >= self.archive.name_count() {
-            return false;
-        }
-        if (version as usize) >= self.archive.version_count() {
-            return false;
-        }
-        let shown = self.shown.as_slice();
-        if has_name(&self.archive, name, shown) || shown.len() >= self.entry_room() {
-            return false;
-        }
-        let def_room = self.defs.room().min(self.tags.room());
-        let call_room = self.callees.room().min(self.callers.room());
-        has_room(Counted::Defs, &self.archive, shown, version, def_room)
-            && has_room(
-                Counted::Uses,
-                &self.archive,
-                shown,
-                version,
-                self.uses.room(),
-            )
-            && has_room(Counted::Calls, &self.archive, shown, version, call_room)
-    }
-
-    /// Whether versions can be shown together: their numbers are there, no file of one of their
-    /// names is shown, and there is room for all. It asks for file names that ascend.
-    pub fn can_show_all(&self, news: &[Shown]) -> bool
-        ensures { result ≡ true → CanShowAll self.now news.now }
-    {
-        let shown = self.shown.as_slice();
         if !are_there(&self.archive, news) || !ascend(&self.archive, news) {
             return false;
         }
-        if has_any_name(&self.archive, news, shown) {
+        if has_any_name(&self.archive, news, self.shown.as_slice()) {
             return false;
         }
-        if shown.len() + news.len() > self.entry_room() {
+        read_room(self.room);
+        let Some(more) = totals_of(&self.archive, news) else {
             return false;
-        }
-        let def_room = self.defs.room().min(self.tags.room());
-        let call_room = self.callees.room().min(self.callers.room());
-        has_room_for(Counted::Defs, &self.archive, shown, news, def_room)
-            && has_room_for(Counted::Uses, &self.archive, shown, news, self.uses.room())
-            && has_room_for(Counted::Calls, &self.archive, shown, news, call_room)
+        };
+        news.len() <= self.room.entries as usize - self.shown.len()
+            && more.defs <= self.room.defs - self.totals.defs
+            && more.uses <= self.room.uses - self.totals.uses
+            && more.calls <= self.room.calls - self.totals.calls
     }
 
     /// Shows a version under a name, in the room that is there. It takes no memory.
     pub fn show(&mut self, name: u32, version: u32)
-        requires { CanShow self.old name version }
+        requires { CanShow self.old (record { name = name; version = version } ∷ []) }
         ensures shown { self.new.shown ≡ put (shown_name self.old.archive)
             (record { name = name; version = version }) self.old.shown }
         ensures archive { self.new.archive ≡ self.old.archive }
@@ -344,21 +322,16 @@ impl Shelf {
 
     /// Shows versions together, each under its name, in the room that is there. It takes no memory.
     pub fn show_all(&mut self, news: &[Shown])
-        requires { CanShowAll self.old news.now }
+        requires { CanShow self.old news.now }
         ensures shown { self.new.shown
             ≡ in_order (shown_name self.old.archive) (self.old.shown ++ news.now) }
         ensures archive { self.new.archive ≡ self.old.archive }
         ensures turns { self.new.turns ≡ min (self.old.turns + length news.now) (2 ^ 64 - 1) }
         ensures room { KeepsRoom self.old self.new }
     {
-        let _rooms = (self.defs.room(), self.uses.room(), self.callees.room());
         self.totals = self.totals.with(&self.archive, news);
         put_all_shown(&self.archive, news, &mut self.shown);
-        self.defs.put(news);
-        self.tags.put(news);
-        self.uses.put(news);
-        self.callees.put(news);
-        self.callers.put(news);
+        put_in_each(&mut self.indexes, &self.archive, news);
         self.turns = self.turns.saturating_add(news.len() as u64);
     }
 
@@ -376,11 +349,7 @@ impl Shelf {
             None => return,
         };
         self.totals = self.totals.without(&self.archive, one.version);
-        self.defs.take(&self.archive, one);
-        self.tags.take(&self.archive, one);
-        self.uses.take(&self.archive, one);
-        self.callees.take(&self.archive, one);
-        self.callers.take(&self.archive, one);
+        take_from_each(&mut self.indexes, &self.archive, one);
     }
 
     /// Hides what is shown under the names of many files, the number of each name below that of the
@@ -419,11 +388,7 @@ impl Shelf {
             { !hidden.has(s.name) },
         );
         self.totals = self.totals.of_fewer(&self.archive, self.shown.as_slice());
-        self.defs.take_names(files);
-        self.tags.take_names(files);
-        self.uses.take_names(files);
-        self.callees.take_names(files);
-        self.callers.take_names(files);
+        take_names_from_each(&mut self.indexes, files);
         self.turns = self.turns.saturating_add(files.len() as u64);
     }
 
@@ -437,95 +402,88 @@ impl Shelf {
         }
     }
 
-    /// Puts what waits in order in the index that answers a question, in the room that is there. It
-    /// takes no memory.
-    pub fn settle(&mut self, asked: Asked)
-        ensures waiting { self.new.waiting ≡ settled asked self.old.waiting }
-        ensures archive { self.new.archive ≡ self.old.archive }
-        ensures shown { self.new.shown ≡ self.old.shown }
-        ensures turns { self.new.turns ≡ self.old.turns }
-        ensures room { KeepsRoom self.old self.new }
+    /// Puts what is pending in order in an index, in the room that is there, so that it answers at
+    /// once. It changes no answer, and takes no memory.
+    pub fn flush(&mut self, kind: IndexKind)
+        ensures { self.new ≡ self.old }
     {
-        match asked {
-            Asked::Defs => self.defs.settle(&mut self.archive),
-            Asked::Tags => self.tags.settle(&mut self.archive),
-            Asked::Uses => self.uses.settle(&mut self.archive),
-            Asked::Callees => self.callees.settle(&mut self.archive),
-            Asked::Callers => self.callers.settle(&mut self.archive),
-        }
+        self.indexes[place_of(kind)].flush(&mut self.archive);
     }
 
-    /// The definitions of a name, by file and place. None of them waits.
+    /// The index of a kind.
+    fn index(&self, kind: IndexKind) -> &Index
+        ensures kind { result.now.kind ≡ kind }
+        ensures index { IsIndex self.now.archive self.now.shown result.now }
+    {
+        &self.indexes[place_of(kind)]
+    }
+
+    /// The definitions of a name, by file and place.
     pub fn defs(&self, name: &[u8]) -> TagRows<'_>
-        requires { self.now.waiting.defs ≡ [] }
         ensures { tags_left result ≡ tags_named name.now (files self.now) }
     {
         TagRows {
             archive: &self.archive,
-            entries: self.defs.with_key(&self.archive, name),
+            entries: self.index(IndexKind::DefsByName).with_key(&self.archive, name),
         }
     }
 
-    /// All definitions, by name. None of them waits.
+    /// All definitions, by name.
     pub fn all_defs(&self) -> TagRows<'_>
-        requires { self.now.waiting.defs ≡ [] }
         ensures { tags_left result ≡ tags_by_name (files self.now) }
     {
         self.archive.read_texts();
         TagRows {
             archive: &self.archive,
-            entries: self.defs.entries(),
+            entries: self.index(IndexKind::DefsByName).entries(),
         }
     }
 
-    /// All definitions, by the names that a plain tags file has for them. None of them waits.
+    /// All definitions, by the names that a plain tags file has for them.
     pub fn tags(&self) -> TagRows<'_>
-        requires { self.now.waiting.tags ≡ [] }
         ensures { tags_left result ≡ tags_by_tag_name (files self.now) }
     {
         self.archive.read_texts();
         TagRows {
             archive: &self.archive,
-            entries: self.tags.entries(),
+            entries: self.index(IndexKind::DefsByTagName).entries(),
         }
     }
 
-    /// The uses of a name, by file and place. None of them waits.
-    pub fn uses(&self, name: &[u8]) -> FactRows<'_>
-        requires { self.now.waiting.uses ≡ [] }
-        ensures rows { facts_left result ≡ uses_of name.now (files self.now) }
-        ensures new { facts_new result
-            ≡ unlike_in_files Uses (file_uses_of name.now) (files self.now) }
-        ensures counted { facts_counted result
-            ≡ rows_in_files Uses (file_uses_of name.now) (files self.now) }
+    /// The uses or calls of a kind that have a key, by file and place. They are looked up in the
+    /// index, or searched in the files where some are pending.
+    pub fn facts<'a, 'p>(&'a self, kind: FactKind, key: &'p [u8]) -> FactRows<'a, 'p>
+        ensures rows { facts_left result ≡ facts_named kind key.now (files self.now) }
+        ensures new { facts_new result ≡ unlike_in_files kind (file_facts kind key.now)
+            (files self.now) }
+        ensures counted { facts_counted result ≡ rows_in_files kind (file_facts kind key.now)
+            (files self.now) }
     {
-        let found = self.uses.with_key(&self.archive, name);
-        FactRows::new(FactSort::Uses, &self.archive, found)
+        let index = self.index(IndexKind::Facts(kind));
+        if index.is_flushed() {
+            return FactRows::held(kind, &self.archive, index.with_key(&self.archive, key));
+        }
+        FactRows::searched(kind, &self.archive, key, self.shown.as_slice())
     }
 
-    /// The calls of a name, by file and place. None of them waits.
-    pub fn calling(&self, name: &[u8]) -> FactRows<'_>
-        requires { self.now.waiting.callees ≡ [] }
-        ensures rows { facts_left result ≡ calls_of name.now (files self.now) }
-        ensures new { facts_new result
-            ≡ unlike_in_files Callees (file_calls_of name.now) (files self.now) }
-        ensures counted { facts_counted result
-            ≡ rows_in_files Callees (file_calls_of name.now) (files self.now) }
+    /// The uses of a name, by file and place.
+    pub fn uses<'a, 'p>(&'a self, name: &'p [u8]) -> FactRows<'a, 'p>
+        ensures { facts_left result ≡ uses_of name.now (files self.now) }
     {
-        let found = self.callees.with_key(&self.archive, name);
-        FactRows::new(FactSort::Callees, &self.archive, found)
+        self.facts(FactKind::Uses, name)
     }
 
-    /// The calls that stand in what has that name, by file and place. None of them waits.
-    pub fn called_by(&self, name: &[u8]) -> FactRows<'_>
-        requires { self.now.waiting.callers ≡ [] }
-        ensures rows { facts_left result ≡ calls_in name.now (files self.now) }
-        ensures new { facts_new result
-            ≡ unlike_in_files Callers (file_calls_in name.now) (files self.now) }
-        ensures counted { facts_counted result
-            ≡ rows_in_files Callers (file_calls_in name.now) (files self.now) }
+    /// The calls of a name, by file and place.
+    pub fn calling<'a, 'p>(&'a self, name: &'p [u8]) -> FactRows<'a, 'p>
+        ensures { facts_left result ≡ calls_of name.now (files self.now) }
     {
-        let found = self.callers.with_key(&self.archive, name);
-        FactRows::new(FactSort::Callers, &self.archive, found)
+        self.facts(FactKind::Callees, name)
+    }
+
+    /// The calls that stand in what has that name, by file and place.
+    pub fn called_by<'a, 'p>(&'a self, name: &'p [u8]) -> FactRows<'a, 'p>
+        ensures { facts_left result ≡ calls_in name.now (files self.now) }
+    {
+        self.facts(FactKind::Callers, name)
     }
 }

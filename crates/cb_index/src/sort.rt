@@ -6,11 +6,13 @@ ghost use Rattle.std.specs.List.Sorted.{IsNonDecreasingBy, IsPartitionPoint, IsP
 ghost use Rattle.std.specs.Ordering.{nat_cmp};
 ghost use Rattle.cb_scan.specs.Order.{in_order};
 ghost use Rattle.cb_index.specs.Entries.{sort_key};
+ghost use Rattle.cb_index.specs.Kinds.{keyer_of};
 ghost use Rattle.cb_index.specs.steps.Quick.{IsBoundary, prefix_of, quick_key};
 
 use crate::archive::Archive;
 use crate::entry::Entry;
-use crate::order::{EntryOrder, compare};
+use crate::kind::IndexKind;
+use crate::order::compare;
 use std::cmp::Ordering;
 
 /// The order of two entries by prefix, name and number.
@@ -77,46 +79,46 @@ fn boundary(entries: &[Entry]) -> usize
 }
 
 /// Puts entries in order.
-fn sort_whole<O: EntryOrder>(archive: &Archive, entries: &mut [Entry])
-    ensures { entries.new ≡ in_order (sort_key O.keyer archive.now) entries.old }
+fn sort_whole(kind: IndexKind, archive: &Archive, entries: &mut [Entry])
+    ensures { entries.new ≡ in_order (sort_key (keyer_of kind) archive.now) entries.old }
 {
     entries.sort_unstable_by(
         |a: &Entry, b: &Entry| -> Ordering
-            ensures { result ≡ slice_cmp nat_cmp (sort_key O.keyer archive.entry.now a.now)
-                (sort_key O.keyer archive.entry.now b.now) }
-        { compare::<O>(archive, *a, *b) },
+            ensures { result ≡ slice_cmp nat_cmp (sort_key (keyer_of kind) archive.entry.now a.now)
+                (sort_key (keyer_of kind) archive.entry.now b.now) }
+        { compare(kind, archive, *a, *b) },
     );
 }
 
 /// Puts entries in order whose prefixes are.
-fn sort_parts<O: EntryOrder>(archive: &Archive, entries: &mut [Entry])
+fn sort_parts(kind: IndexKind, archive: &Archive, entries: &mut [Entry])
     requires { IsNonDecreasingBy prefix_of entries.old }
-    ensures { entries.new ≡ in_order (sort_key O.keyer archive.now) entries.old }
+    ensures { entries.new ≡ in_order (sort_key (keyer_of kind) archive.now) entries.old }
 {
     let at = boundary(entries);
     if at == 0 || at == entries.len() {
-        sort_whole::<O>(archive, entries);
+        sort_whole(kind, archive, entries);
         return;
     }
     let (front, back) = entries.split_at_mut(at);
-    sort_parts::<O>(archive, front);
-    sort_parts::<O>(archive, back);
+    sort_parts(kind, archive, front);
+    sort_parts(kind, archive, back);
 }
 
 /// Puts entries in order.
-fn sort_slice<O: EntryOrder>(archive: &Archive, entries: &mut [Entry])
-    ensures items { entries.new ≡ in_order (sort_key O.keyer archive.now) entries.old }
+fn sort_slice(kind: IndexKind, archive: &Archive, entries: &mut [Entry])
+    ensures items { entries.new ≡ in_order (sort_key (keyer_of kind) archive.now) entries.old }
     ensures len { length entries.new ≡ length entries.old }
 {
     sort_quickly(entries);
-    sort_parts::<O>(archive, entries);
+    sort_parts(kind, archive, entries);
 }
 
 /// Puts entries in order.
-pub(crate) fn sort<O: EntryOrder>(archive: &Archive, entries: &mut Vec<Entry>)
+pub(crate) fn sort(kind: IndexKind, archive: &Archive, entries: &mut Vec<Entry>)
     ensures items { entries.new.items
-        ≡ in_order (sort_key O.keyer archive.now) entries.old.items }
+        ≡ in_order (sort_key (keyer_of kind) archive.now) entries.old.items }
     ensures room { vec_capacity entries.new ≡ vec_capacity entries.old }
 {
-    sort_slice::<O>(archive, entries.as_mut_slice());
+    sort_slice(kind, archive, entries.as_mut_slice());
 }

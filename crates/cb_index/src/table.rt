@@ -20,7 +20,7 @@ ghost use Rattle.cb_scan.specs.Definitions.{facts_of};
 ghost use Rattle.cb_index.specs.Items.{item_count, later};
 ghost use Rattle.cb_index.specs.Links.{first_or_none, links_of};
 ghost use Rattle.cb_index.specs.steps.Laying.{item_entries};
-ghost use Rattle.cb_index.specs.declared.rows.FactSort.{FactSort};
+ghost use Rattle.cb_index.specs.declared.kind.FactKind.{FactKind};
 ghost use Rattle.cb_index.specs.steps.Table.{
   AreLinked,
   AreNoted,
@@ -36,7 +36,7 @@ use crate::entry::Entry;
 use crate::items::item_span;
 use crate::laid::{entries_match, fill};
 use crate::links::Link;
-use crate::rows::FactSort;
+use crate::kind::FactKind;
 use cb_scan::{Facts, Source, key_prefix};
 
 /// An odd number whose bits look like chance: 2^64 over the golden ratio.
@@ -79,7 +79,7 @@ fn place_of(key: &[u8], count: usize) -> usize
 /// The next item of the key of an item, or 0 where there is none. It looks at the items of its
 /// place from the first one on, at as many in all as are left; none where it gives up.
 fn find_next(
-    sort: FactSort,
+    sort: FactKind,
     source: &Source,
     facts: &Facts,
     entries: &[Entry],
@@ -112,7 +112,7 @@ fn find_next(
 fn note(entries: &mut [Entry], item: usize, place: usize)
     requires item { item < length entries.old }
     requires place { place < length entries.old }
-    ensures { (sort : FactSort) (text : List ℕ) → item < item_count sort text
+    ensures { (sort : FactKind) (text : List ℕ) → item < item_count sort text
         → place ≡ item_place sort text item → AreNoted sort text (suc item) entries.old
         → AreNoted sort text item entries.new }
 {
@@ -138,7 +138,7 @@ fn note(entries: &mut [Entry], item: usize, place: usize)
 fn link(links: &mut [Link], item: usize, next: u32)
     requires item { item < length links.old }
     requires next { next < length links.old }
-    ensures { (sort : FactSort) (text : List ℕ) → item < item_count sort text
+    ensures { (sort : FactKind) (text : List ℕ) → item < item_count sort text
         → next ≡ first_or_none (later sort text item) → AreLinked sort text (suc item) links.old
         → AreLinked sort text item links.new }
 {
@@ -154,7 +154,7 @@ fn link(links: &mut [Link], item: usize, next: u32)
 
 /// Sets the link of an item and notes it, if the search for the next one of its key ends in time.
 fn link_item(
-    sort: FactSort,
+    sort: FactKind,
     source: &Source,
     facts: &Facts,
     entries: &mut [Entry],
@@ -192,7 +192,7 @@ fn link_item(
 /// Sets the links of all items, from the last to the first; false where it gives up, after looking
 /// at so many.
 fn link_each(
-    sort: FactSort,
+    sort: FactKind,
     source: &Source,
     facts: &Facts,
     entries: &mut [Entry],
@@ -218,7 +218,7 @@ fn link_each(
 /// Lays links by a table of the entries of all items, with so many looks at other items of a place;
 /// false, and none are laid, where these are too few or where there is too little room.
 pub(crate) fn lay_in_table(
-    sort: FactSort,
+    sort: FactKind,
     source: &Source,
     facts: &Facts,
     entries: &mut [Entry],

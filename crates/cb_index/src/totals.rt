@@ -1,11 +1,11 @@
 //! How many facts versions have together.
-ghost use Rattle.std.specs.Prelude.{◌≡◌, ◌+◌, ◌-◌, ◌^◌, ◌≤◌, ⊤, slice_get, MatchOption};
+ghost use Rattle.std.specs.Prelude.{◌≡◌, ◌+◌, ◌-◌, ◌^◌, ◌≤◌, ◌<◌, slice_get, MatchOption};
 ghost use Rattle.cb_index.specs.Files.{call_count, count_for, def_count, total, use_count};
-ghost use Rattle.cb_index.specs.Shelved.{AreTotals};
+ghost use Rattle.cb_index.specs.Shelved.{AreTotals, AreTooMany};
 
 use crate::archive::Archive;
-use crate::counted::{Counted, count_of};
 use crate::entry::Shown;
+use crate::kind::{FactKind, IndexKind};
 
 /// So many definitions, uses and calls.
 #[derive(Clone, Copy, Debug, PartialEq, Eq)]
@@ -15,37 +15,56 @@ pub struct Totals {
     pub calls: u64,
 }
 
+/// How many facts of its kind a version has.
+pub(crate) fn count_of(kind: IndexKind, archive: &Archive, version: u32) -> usize
+    ensures value { result ≡ count_for kind (slice_get archive.now.texts version) }
+    ensures few { result < 2 ^ 32 }
+{
+    match archive.version(version) {
+        Some(version) => match kind {
+            IndexKind::DefsByName => version.facts().defs().len(),
+            IndexKind::DefsByTagName => version.facts().defs().len(),
+            IndexKind::Facts(FactKind::Uses) => version.facts().uses().len(),
+            IndexKind::Facts(FactKind::Callees) => version.facts().calls().len(),
+            IndexKind::Facts(FactKind::Callers) => version.facts().calls().len(),
+        },
+        None => 0,
+    }
+}
+
 /// A count with the facts of versions more.
-fn total_with(counted: Counted, archive: &Archive, shown: &[Shown], before: u64) -> u64
-    requires { before + total (count_for counted) archive.now shown.now ≤ 2 ^ 64 - 1 }
-    ensures { result ≡ before + total (count_for counted) archive.now shown.now }
+fn total_with(kind: IndexKind, archive: &Archive, shown: &[Shown], before: u64) -> u64
+    requires { before + total (count_for kind) archive.now shown.now ≤ 2 ^ 64 - 1 }
+    ensures { result ≡ before + total (count_for kind) archive.now shown.now }
 {
     let mut count = before;
     for s in shown {
-        count += count_of(counted, archive, s.version) as u64;
+        count += count_of(kind, archive, s.version) as u64;
     }
     count
 }
 
 /// How many facts versions have, if that is a number.
-fn total_of(counted: Counted, archive: &Archive, shown: &[Shown]) -> Option<u64>
-    ensures { MatchOption result ⊤ (λ n. n ≡ total (count_for counted) archive.now shown.now) }
+fn total_of(kind: IndexKind, archive: &Archive, shown: &[Shown]) -> Option<u64>
+    ensures { MatchOption result (2 ^ 64 ≤ total (count_for kind) archive.now shown.now)
+        (λ n. n ≡ total (count_for kind) archive.now shown.now) }
 {
     let mut count = 0u64;
     for s in shown {
-        count = count.checked_add(count_of(counted, archive, s.version) as u64)?;
+        count = count.checked_add(count_of(kind, archive, s.version) as u64)?;
     }
     Some(count)
 }
 
 /// How many facts of each kind versions have together, if these are numbers.
 pub fn totals_of(archive: &Archive, shown: &[Shown]) -> Option<Totals>
-    ensures { MatchOption result ⊤ (AreTotals archive.now shown.now) }
+    ensures { MatchOption result (AreTooMany archive.now shown.now)
+        (AreTotals archive.now shown.now) }
 {
     Some(Totals {
-        defs: total_of(Counted::Defs, archive, shown)?,
-        uses: total_of(Counted::Uses, archive, shown)?,
-        calls: total_of(Counted::Calls, archive, shown)?,
+        defs: total_of(IndexKind::DefsByName, archive, shown)?,
+        uses: total_of(IndexKind::Facts(FactKind::Uses), archive, shown)?,
+        calls: total_of(IndexKind::Facts(FactKind::Callees), archive, shown)?,
     })
 }
 
@@ -60,9 +79,9 @@ impl Totals {
         ensures calls { result.calls ≡ self.calls + total call_count archive.now shown.now }
     {
         Totals {
-            defs: total_with(Counted::Defs, archive, shown, self.defs),
-            uses: total_with(Counted::Uses, archive, shown, self.uses),
-            calls: total_with(Counted::Calls, archive, shown, self.calls),
+            defs: total_with(IndexKind::DefsByName, archive, shown, self.defs),
+            uses: total_with(IndexKind::Facts(FactKind::Uses), archive, shown, self.uses),
+            calls: total_with(IndexKind::Facts(FactKind::Callees), archive, shown, self.calls),
         }
     }
 
@@ -76,9 +95,9 @@ impl Totals {
         ensures calls { result.calls ≡ total call_count archive.now shown.now }
     {
         Totals {
-            defs: total_with(Counted::Defs, archive, shown, 0),
-            uses: total_with(Counted::Uses, archive, shown, 0),
-            calls: total_with(Counted::Calls, archive, shown, 0),
+            defs: total_with(IndexKind::DefsByName, archive, shown, 0),
+            uses: total_with(IndexKind::Facts(FactKind::Uses), archive, shown, 0),
+            calls: total_with(IndexKind::Facts(FactKind::Callees), archive, shown, 0),
         }
     }
 
@@ -93,9 +112,9 @@ impl Totals {
             ≡ self.calls }
     {
         Totals {
-            defs: self.defs - count_of(Counted::Defs, archive, version) as u64,
-            uses: self.uses - count_of(Counted::Uses, archive, version) as u64,
-            calls: self.calls - count_of(Counted::Calls, archive, version) as u64,
+            defs: self.defs - count_of(IndexKind::DefsByName, archive, version) as u64,
+            uses: self.uses - count_of(IndexKind::Facts(FactKind::Uses), archive, version) as u64,
+            calls: self.calls - count_of(IndexKind::Facts(FactKind::Callees), archive, version) as u64,
         }
     }
 }

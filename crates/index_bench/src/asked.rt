@@ -1,9 +1,6 @@
 //! Names that are asked for.
-ghost use Rattle.std.specs.Prelude.{◌≡◌};
-ghost use Rattle.cb_index.specs.Shelved.{nothing};
-
 use crate::failed::Failed;
-use crate::timed::{clock, put, settle_all};
+use crate::timed::{clock, flush_all, put};
 use cb_index::Shelf;
 use std::time::CpuClock;
 
@@ -57,7 +54,6 @@ enum Question {
 
 /// Whether a question has a first row.
 fn has_first(shelf: &Shelf, question: Question, name: &[u8]) -> bool
-    requires { shelf.now.waiting ≡ nothing }
 {
     match question {
         Question::Defs => shelf.defs(name).next().is_some(),
@@ -75,7 +71,6 @@ fn ask_name<R: CpuClock>(
     name: &[u8],
     times: &mut Times,
 ) -> Result<(), Failed>
-    requires { shelf.now.waiting ≡ nothing }
 {
     let start = clock(rt)?;
     let found = has_first(shelf, question, name);
@@ -91,7 +86,6 @@ fn ask_names<R: Print + CpuClock>(
     question: Question,
     label: &str,
 ) -> Result<(), Failed>
-    requires { shelf.now.waiting ≡ nothing }
 {
     let mut times = Times::new();
     let mut skipped = 0;
@@ -106,9 +100,9 @@ fn ask_names<R: Print + CpuClock>(
     times.put(rt, label)
 }
 
-/// Asks all questions, once nothing waits.
+/// Asks all questions, once nothing is pending.
 pub(crate) fn ask<R: Print + CpuClock>(rt: &R, shelf: &mut Shelf) -> Result<(), Failed> {
-    settle_all(shelf);
+    flush_all(shelf);
     ask_names(rt, shelf, Question::Defs, "first_defs")?;
     ask_names(rt, shelf, Question::Uses, "first_uses")?;
     ask_names(rt, shelf, Question::Calling, "first_calling")?;

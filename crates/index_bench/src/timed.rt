@@ -1,9 +1,6 @@
 //! Files that are shown and hidden by the clock. What is shown is put in order by the clock too.
-ghost use Rattle.std.specs.Prelude.{◌≡◌};
-ghost use Rattle.cb_index.specs.Shelved.{nothing};
-
 use crate::failed::Failed;
-use cb_index::{Asked, Shelf, Shown, are_rising};
+use cb_index::{FactKind, IndexKind, Shelf, Shown, are_rising};
 use std::time::{CpuClock, Duration};
 
 /// The nanoseconds of a time; the greatest number where they are more.
@@ -18,24 +15,20 @@ pub(crate) fn clock<R: CpuClock>(rt: &R) -> Result<u64, Failed> {
     Ok(nanos(rt.thread_cpu_time()?))
 }
 
-/// Puts what waits in order in all five indexes.
-pub(crate) fn settle_all(shelf: &mut Shelf)
-    ensures { shelf.new.waiting ≡ nothing }
-{
-    shelf.settle(Asked::Defs);
-    shelf.settle(Asked::Tags);
-    shelf.settle(Asked::Uses);
-    shelf.settle(Asked::Callees);
-    shelf.settle(Asked::Callers);
+/// Puts the uses and calls that are pending in order.
+pub(crate) fn flush_all(shelf: &mut Shelf) {
+    shelf.flush(IndexKind::Facts(FactKind::Uses));
+    shelf.flush(IndexKind::Facts(FactKind::Callees));
+    shelf.flush(IndexKind::Facts(FactKind::Callers));
 }
 
 fn show_all<R: CpuClock>(rt: &R, files: &[Shown], shelf: &mut Shelf) -> Result<u64, Failed> {
-    if !shelf.can_show_all(files) {
+    if !shelf.can_show(files) {
         return Err(Failed);
     }
     let start = clock(rt)?;
     shelf.show_all(files);
-    settle_all(shelf);
+    flush_all(shelf);
     let end = clock(rt)?;
     Ok(end.saturating_sub(start))
 }
@@ -51,12 +44,12 @@ fn hide_all<R: CpuClock>(rt: &R, files: &[Shown], shelf: &mut Shelf) -> Result<u
 }
 
 fn show<R: CpuClock>(rt: &R, one: Shown, shelf: &mut Shelf) -> Result<u64, Failed> {
-    if !shelf.can_show(one.name, one.version) {
+    if !shelf.can_show(&[one]) {
         return Err(Failed);
     }
     let start = clock(rt)?;
     shelf.show(one.name, one.version);
-    settle_all(shelf);
+    flush_all(shelf);
     let end = clock(rt)?;
     Ok(end.saturating_sub(start))
 }

@@ -1,7 +1,7 @@
 " cbrowse in vim and nvim: one session for as long as the editor runs, which gets each C file as it
 " is saved. `:help cbrowse` tells what it does.
 
-if exists('g:loaded_cbrowse') || &compatible
+if exists('g:loaded_cbrowse')
   finish
 endif
 let g:loaded_cbrowse = 1
@@ -11,6 +11,9 @@ if !has('nvim') && (!has('job') || !has('channel') || !has('patch-8.2.2343'))
   echohl None
   finish
 endif
+
+let s:options = &cpoptions
+set cpoptions&vim
 
 const s:patience = 20000 " milliseconds until a reply is given up
 const s:most_bytes = 1000000
@@ -150,8 +153,8 @@ function! s:drop(name) abort
   endif
 endfunction
 
-" Whether the tags of a file would be very large. A line of n bytes has fewer than n / 2 definitions,
-" so few files are counted.
+" Whether the tags of a file would be very large. A line of n bytes has fewer than n / 2
+" definitions, so few files are counted.
 function! s:is_very_large(path, size) abort
   if get(g:, 'cbrowse_all', 0) || a:size <= 20000
     return 0
@@ -418,3 +421,6 @@ augroup cbrowse
   autocmd BufWritePost,FileChangedShellPost *.c,*.h call s:guarded(function('s:written'), [expand('<afile>')])
   autocmd FocusGained * call s:guarded(function('s:focused'), [])
 augroup END
+
+let &cpoptions = s:options
+unlet s:options

@@ -2,7 +2,7 @@
 use Rattle.std.specs.Prelude.{◌≡◌, ◌≤◌, ℕ, List, [], None, length}
 use Rattle.cb_index.specs.Archived.{Archived}
 use Rattle.cb_index.specs.Files.{AreAscending, call_count, def_count, total, use_count}
-use Rattle.cb_index.specs.Shelved.{nothing, Shelved}
+use Rattle.cb_index.specs.Shelved.{Shelved}
 use Rattle.cb_index.specs.declared.entry.Shown.{Shown}
 use Rattle.cb_desk.specs.Timeline.{Timeline}
 use Rattle.cb_desk.specs.steps.Records.{Numbered, Rooms, Turn}
@@ -39,7 +39,7 @@ just_room a shown = record {
 -- that world, and the records that take the loads back
 abbrev pub loads_recorded : Archived → List Shown → List Turn → Recorded
 loads_recorded a shown records = record {
-  kept = record { archive = a; turns = length shown; now = loaded_numbers a shown; rooms = just_room a shown; waiting = nothing };
+  kept = record { archive = a; turns = length shown; now = loaded_numbers a shown; rooms = just_room a shown };
   records = records;
   done = length records;
 }

@@ -9,7 +9,7 @@ use Rattle.cb_index.specs.Archived.{Archived, name_of}
 use Rattle.cb_index.specs.Files.{AreApart, call_count, def_count, files_of}
 use Rattle.cb_index.specs.Files.{shown_name, total, use_count}
 use Rattle.cb_index.specs.Names.{is_among, names_of}
-use Rattle.cb_index.specs.Shelved.{Shelved, Waiting}
+use Rattle.cb_index.specs.Shelved.{Shelved}
 use Rattle.cb_index.specs.declared.entry.Shown.{Shown}
 use Rattle.cb_desk.specs.declared.spot.NumberedPlace.{NumberedPlace}
 use Rattle.cb_desk.specs.steps.Edits.{Edits, edited, turned_edits}
@@ -156,14 +156,12 @@ pub record PlacesHeld : Type 0 where
   pub places : List NumberedPlace
   pub room : ℕ
 
--- a world in the numbers of an archive; how often something was shown or hidden; the room; and what
--- waits to be put in order
+-- a world in the numbers of an archive; how often something was shown or hidden; and the room
 pub record Kept : Type 0 where
   pub archive : Archived
   pub turns : ℕ
   pub now : Numbered
   pub rooms : Rooms
-  pub waiting : Waiting
 
 -- the world without a file, in numbers
 abbrev pub no_numbers : Numbered

@@ -12,15 +12,15 @@ use std::marker::Model;
 /// The rows of facts that are left, no two of which are equal, without their texts. They take no
 /// memory.
 #[derive(Drop)]
-pub(crate) struct FactRows<'a> {
-    spots: FactSpots<'a>,
+pub(crate) struct FactRows<'a, 'p> {
+    spots: FactSpots<'a, 'p>,
     /// Each shows its own name, and not the one around it.
     named: bool,
     /// None was taken yet.
     whole: bool,
 }
 
-impl<'a> Model for FactRows<'a> {
+impl<'a, 'p> Model for FactRows<'a, 'p> {
     ghost use Rattle.std.specs.Prelude.{List, ◌≡◌, ◌<◌, ◌^◌, true, length, map};
     ghost use Rattle.cb_index.specs.steps.Left.{rows_counted, spots_left};
     ghost use Rattle.cb_desk.specs.Answer.{AnswerRow};
@@ -45,9 +45,9 @@ fn spot_shown(fact: FactSpot<'_>, named: bool) -> RowSpot<'_>
     }
 }
 
-impl<'a> FactRows<'a> {
+impl<'a, 'p> FactRows<'a, 'p> {
     /// The rows of facts, of which none was taken.
-    pub(crate) fn new(spots: FactSpots<'a>, named: bool) -> FactRows<'a>
+    pub(crate) fn new(spots: FactSpots<'a, 'p>, named: bool) -> FactRows<'a, 'p>
         requires counted { rows_counted spots ≡ length (spots_left spots) }
         requires few { length (spots_left spots) < 2 ^ 64 }
         ensures { result ≡ map (row_shown named) (spots_left spots.entry) }
@@ -76,7 +76,7 @@ impl<'a> FactRows<'a> {
     }
 }
 
-impl<'a> Iterator for FactRows<'a> {
+impl<'a, 'p> Iterator for FactRows<'a, 'p> {
     type Item = RowSpot<'a>;
 
     ghost next_gives = { YieldsFirstBy spot_row (λ rows. rows) };

@@ -6,7 +6,6 @@ ghost use Rattle.std.specs.List.{flat_map};
 ghost use Rattle.cb_index.specs.Shelved.{files};
 ghost use Rattle.cb_desk.specs.Answer.{distinct, field_rows};
 ghost use Rattle.cb_desk.specs.Models.{row_of};
-ghost use Rattle.cb_desk.specs.Settled.{IsSettled};
 ghost use Rattle.cb_desk.specs.World.{AreValidFiles};
 ghost use Rattle.cb_desk.specs.steps.Lent.{found_left};
 
@@ -18,14 +17,14 @@ use crate::answers::headers::HeaderRows;
 use crate::answers::names::NameRows;
 use crate::answers::texts::TextRows;
 use crate::rows::{Field, RefRow};
-use cb_index::Shelf;
+use cb_index::{FactKind, Shelf};
 use std::marker::Model;
 
 /// Lines that hold a text or rows of facts, no two of which are equal, or other rows.
 #[derive(Drop)]
 enum RowSource<'a, 'p> {
     Lines(TextRows<'a, 'p>),
-    Facts(FactRows<'a>),
+    Facts(FactRows<'a, 'p>),
     Others(DistinctSpots<'a, 'p>),
 }
 
@@ -50,7 +49,6 @@ impl<'a, 'p> Rows<'a, 'p> {
     pub(crate) fn new(shelf: &'a Shelf, field: Field, pattern: &'p [u8]) -> Rows<'a, 'p>
         requires some { pattern.now ≢ [] }
         requires valid { AreValidFiles (files shelf.now) }
-        requires settled { IsSettled field shelf.now.waiting }
         ensures { result ≡ distinct (flat_map (field_rows field pattern.now) (files shelf.now)) }
     {
         let files = Files::new(shelf);
@@ -109,33 +107,30 @@ impl<'a, 'p> Iterator for Rows<'a, 'p> {
 }
 
 /// The rows of the uses of a name.
-fn use_rows<'a>(shelf: &'a Shelf, pattern: &[u8]) -> FactRows<'a>
+fn use_rows<'a, 'p>(shelf: &'a Shelf, pattern: &'p [u8]) -> FactRows<'a, 'p>
     requires valid { AreValidFiles (files shelf.now) }
-    requires settled { IsSettled Field.Symbol shelf.now.waiting }
     ensures { result
         ≡ distinct (flat_map (field_rows Field.Symbol pattern.now) (files shelf.now)) }
 {
-    FactRows::new(shelf.uses(pattern).spots(), false)
+    FactRows::new(shelf.facts(FactKind::Uses, pattern).spots(), false)
 }
 
 /// The rows of the calls that stand in what has that name.
-fn called_rows<'a>(shelf: &'a Shelf, pattern: &[u8]) -> FactRows<'a>
+fn called_rows<'a, 'p>(shelf: &'a Shelf, pattern: &'p [u8]) -> FactRows<'a, 'p>
     requires valid { AreValidFiles (files shelf.now) }
-    requires settled { IsSettled Field.Called shelf.now.waiting }
     ensures { result
         ≡ distinct (flat_map (field_rows Field.Called pattern.now) (files shelf.now)) }
 {
-    FactRows::new(shelf.called_by(pattern).spots(), true)
+    FactRows::new(shelf.facts(FactKind::Callers, pattern).spots(), true)
 }
 
 /// The rows of the calls of a name.
-fn calling_rows<'a>(shelf: &'a Shelf, pattern: &[u8]) -> FactRows<'a>
+fn calling_rows<'a, 'p>(shelf: &'a Shelf, pattern: &'p [u8]) -> FactRows<'a, 'p>
     requires valid { AreValidFiles (files shelf.now) }
-    requires settled { IsSettled Field.Calling shelf.now.waiting }
     ensures { result
         ≡ distinct (flat_map (field_rows Field.Calling pattern.now) (files shelf.now)) }
 {
-    FactRows::new(shelf.calling(pattern).spots(), false)
+    FactRows::new(shelf.facts(FactKind::Callees, pattern).spots(), false)
 }
 
 /// The rows of definitions, includes and names of files, by file and place, equal ones included.
@@ -145,7 +140,6 @@ fn found_rows<'a, 'p>(shelf: &'a Shelf, field: Field, pattern: &'p [u8]) -> Foun
     requires no_called { field ≢ Field.Called }
     requires no_calling { field ≢ Field.Calling }
     requires valid { AreValidFiles (files shelf.now) }
-    requires settled { IsSettled field shelf.now.waiting }
     ensures rows { found_left result ≡ flat_map (field_rows field pattern.now) (files shelf.now) }
     ensures few { length (found_left result) < 2 ^ 64 }
 {

@@ -5,7 +5,6 @@ ghost use Rattle.std.specs.List.{flat_map};
 ghost use Rattle.cb_scan.specs.Order.{in_order};
 ghost use Rattle.cb_index.specs.Shelved.{files};
 ghost use Rattle.cb_tags.specs.TagLines.{tag_of};
-ghost use Rattle.cb_desk.specs.Settled.{AreTagsSettled};
 ghost use Rattle.cb_desk.specs.Tags.{file_tags, tag_key};
 
 use crate::tags::Format;
@@ -52,7 +51,6 @@ impl<'a> Iterator for TagRows<'a> {
 
 /// All definitions as tags, in the order of a format.
 pub(crate) fn tag_rows(shelf: &Shelf, format: Format) -> TagRows<'_>
-    requires { AreTagsSettled format shelf.now.waiting }
     ensures { result ≡ in_order (tag_key format) (flat_map file_tags (files shelf.now)) }
 {
     match format {

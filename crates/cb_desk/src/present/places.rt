@@ -18,7 +18,6 @@ use crate::plan::Plan;
 use crate::present::Present;
 use crate::record::Record;
 use crate::spot::NumberedPlace;
-use cb_index::Asked;
 use std::alloc::{AllocError, Global};
 
 impl Present {
@@ -62,7 +61,6 @@ impl Present {
         ensures there { MatchOption result ⊤ (λ (p : NumberedPlace). p.name < self.old.now.names) }
         ensures still { IsStill self.old self.new }
     {
-        self.shelf.settle(Asked::Defs);
         let (file, line) = nth_definition(&self.shelf, name, n)?;
         let found = shown_as(&self.shelf, file)?;
         Some(NumberedPlace {

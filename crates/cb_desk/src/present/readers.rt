@@ -3,7 +3,6 @@ ghost use Rattle.std.specs.Prelude.{◌≡◌, ◌≢◌, [], map};
 ghost use Rattle.std.specs.Option.{option_copied};
 ghost use Rattle.cb_index.specs.Files.{files_of};
 ghost use Rattle.cb_desk.specs.Answer.{answer};
-ghost use Rattle.cb_desk.specs.Settled.{AreTagsSettled, IsSettled};
 ghost use Rattle.cb_desk.specs.Tags.{tags};
 ghost use Rattle.cb_desk.specs.World.{AreValidFiles, text_named};
 ghost use Rattle.cb_desk.specs.steps.Records.{place_in, world_in};
@@ -66,7 +65,6 @@ impl Present {
     pub(crate) fn rows<'a, 'p>(&'a self, field: Field, pattern: &'p [u8]) -> Rows<'a, 'p>
         requires some { pattern.now ≢ [] }
         requires valid { AreValidFiles (files_of self.now.archive self.now.now.shown) }
-        requires settled { IsSettled field self.now.waiting }
         ensures { result ≡ answer (world_in self.now.archive self.now.now) field pattern.now }
     {
         Rows::new(&self.shelf, field, pattern)
@@ -75,7 +73,6 @@ impl Present {
     /// All definitions as tags, in the order of a format.
     #[tactic(auto, unfolding(crate::specs::Tags::tags))]
     pub(crate) fn tag_rows(&self, format: Format) -> TagRows<'_>
-        requires { AreTagsSettled format self.now.waiting }
         ensures { result ≡ tags format (world_in self.now.archive self.now.now) }
     {
         tag_rows(&self.shelf, format)

@@ -2,9 +2,9 @@
 use Rattle.std.specs.Prelude.{ℕ, List, [], Option, Some, None}
 use Rattle.cb_index.specs.steps.Spread.{items_from}
 use Rattle.cb_index.specs.declared.items.Chain.{Chain}
-use Rattle.cb_index.specs.declared.rows.FactSort.{FactSort}
+use Rattle.cb_index.specs.declared.kind.FactKind.{FactKind}
 
-abbrev pub chained : FactSort → List ℕ → Option ℕ → List ℕ
+abbrev pub chained : FactKind → List ℕ → Option ℕ → List ℕ
 chained sort text None = []
 chained sort text (Some item) = items_from sort text item
 

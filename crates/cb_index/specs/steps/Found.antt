@@ -14,8 +14,8 @@ use Rattle.cb_index.specs.Bytes.{cut}
 use Rattle.cb_index.specs.Rows.{Fact}
 use Rattle.cb_index.specs.steps.Spread.{items_from}
 use Rattle.cb_index.specs.declared.entry.Entry.{Entry}
-use Rattle.cb_index.specs.declared.rows.FactSort.{FactSort}
-use Rattle.cb_index.specs.declared.rows.FactSort.TheVariants.{Uses, Callees, Callers}
+use Rattle.cb_index.specs.declared.kind.FactKind.{FactKind}
+use Rattle.cb_index.specs.declared.kind.FactKind.TheVariants.{Uses, Callees, Callers}
 
 -- ---- definitions
 abbrev pub no_tag : List ℕ → Tag
@@ -72,19 +72,19 @@ fact_of_call file text (Some c) = record {
 }
 
 -- the fact of an item
-abbrev pub fact_at : FactSort → List ℕ → List ℕ → ℕ → Fact
+abbrev pub fact_at : FactKind → List ℕ → List ℕ → ℕ → Fact
 fact_at Uses file text item = fact_of_use file text (slice_get (facts_of text).uses item)
 fact_at Callees file text item = fact_of_call file text (slice_get (facts_of text).calls item)
 fact_at Callers file text item = fact_of_call file text (slice_get (facts_of text).calls item)
 
-abbrev pub facts_in_text : FactSort → List ℕ → ℕ → Option (List ℕ) → List Fact
+abbrev pub facts_in_text : FactKind → List ℕ → ℕ → Option (List ℕ) → List Fact
 facts_in_text sort file number None = []
 facts_in_text sort file number (Some text) =
     map (fact_at sort file text) (items_from sort text number)
 
 -- the facts of an entry
-abbrev pub facts_at : FactSort → Archived → Entry → List Fact
+abbrev pub facts_at : FactKind → Archived → Entry → List Fact
 facts_at sort a e = facts_in_text sort (name_of a e.name) e.number (slice_get a.texts e.version)
 
-abbrev pub facts_in : FactSort → Archived → List Entry → List Fact
+abbrev pub facts_in : FactKind → Archived → List Entry → List Fact
 facts_in sort a es = flat_map (facts_at sort a) es

@@ -10,25 +10,25 @@ use Rattle.cb_index.specs.steps.Found.{fact_at}
 use Rattle.cb_index.specs.steps.Spread.{items_from}
 use Rattle.cb_index.specs.declared.entry.Entry.{Entry}
 use Rattle.cb_index.specs.declared.items.Chain.{Chain}
-use Rattle.cb_index.specs.declared.rows.FactSort.{FactSort}
+use Rattle.cb_index.specs.declared.kind.FactKind.{FactKind}
 
 -- whether an item is given
-abbrev pub gives : Bool → FactSort → List ℕ → ℕ → Bool
+abbrev pub gives : Bool → FactKind → List ℕ → ℕ → Bool
 gives all sort text item = all || not (is_repeat sort text item)
 
 -- the items that are still to come and are given
 abbrev pub given_left : Bool → Chain → List ℕ
 given_left all c = filter (gives all c.sort c.version.now) (chain_left c)
 
-abbrev pub given_in_text : Bool → FactSort → List ℕ → ℕ → Option (List ℕ) → List Fact
+abbrev pub given_in_text : Bool → FactKind → List ℕ → ℕ → Option (List ℕ) → List Fact
 given_in_text all sort file number None = []
 given_in_text all sort file number (Some text) =
     map (fact_at sort file text) (filter (gives all sort text) (items_from sort text number))
 
 -- the facts of an entry
-abbrev pub given_at : Bool → FactSort → Archived → Entry → List Fact
+abbrev pub given_at : Bool → FactKind → Archived → Entry → List Fact
 given_at all sort a e =
     given_in_text all sort (name_of a e.name) e.number (slice_get a.texts e.version)
 
-abbrev pub given_in : Bool → FactSort → Archived → List Entry → List Fact
+abbrev pub given_in : Bool → FactKind → Archived → List Entry → List Fact
 given_in all sort a es = flat_map (given_at all sort a) es

@@ -1,6 +1,8 @@
 -- What iterators still give.
-use Rattle.std.specs.Prelude.{ℕ, Bool, true, false, List, [], ◌∷◌, ◌++◌, Option, Some, None, map, slice_get, sum_by}
+use Rattle.std.specs.Prelude.{ℕ, Bool, true, false, List, [], ◌∷◌, ◌++◌, Option, Some, None, length}
+use Rattle.std.specs.Prelude.{map, slice_get, sum_by}
 use Rattle.std.specs.Borrow.{Bor}
+use Rattle.std.specs.List.{flat_map}
 use Rattle.std.specs.Option.{option_map}
 use Rattle.cb_scan.specs.Definitions.{facts_of}
 use Rattle.cb_scan.specs.Lines.{line_text}
@@ -12,6 +14,7 @@ use Rattle.cb_index.specs.Shelved.{ShownFile}
 use Rattle.cb_index.specs.steps.Found.{fact_at, tag_at}
 use Rattle.cb_index.specs.steps.Given.{given_in, given_left}
 use Rattle.cb_index.specs.steps.Runs.{run_entries}
+use Rattle.cb_index.specs.steps.Searched.{searched_at, searched_count}
 use Rattle.cb_index.specs.declared.entries.Entries.{Entries}
 use Rattle.cb_index.specs.declared.entry.Entry.{Entry}
 use Rattle.cb_index.specs.declared.entry.Shown.{Shown}
@@ -20,7 +23,10 @@ use Rattle.cb_index.specs.declared.rows.FactSpot.{FactSpot}
 use Rattle.cb_index.specs.declared.facts.FactRows.{FactRows}
 use Rattle.cb_index.specs.declared.facts.FactSpots.{FactSpots}
 use Rattle.cb_index.specs.declared.facts.Group.{Group}
+use Rattle.cb_index.specs.declared.facts.Groups.{Groups}
+use Rattle.cb_index.specs.declared.facts.Groups.TheVariants.{Held, Searched}
 use Rattle.cb_index.specs.declared.facts.Walk.{Walk}
+use Rattle.cb_index.specs.declared.kind.FactKind.{FactKind}
 use Rattle.cb_index.specs.declared.tags.TagRows.{TagRows}
 
 -- what a row says
@@ -53,9 +59,18 @@ abbrev pub group_left_if : Bool → Option Group → List Fact
 group_left_if all None = []
 group_left_if all (Some g) = group_left all g
 
+-- the facts of groups that are still to come
+abbrev pub groups_left : Bool → FactKind → Archived → Groups → List Fact
+groups_left all sort a (Held entries) = given_in all sort a (run_entries entries)
+groups_left all sort a (Searched key shown) = flat_map (searched_at all sort a key.now) shown.now
+
+-- how many groups are still to come
+abbrev pub group_count : Groups → ℕ
+group_count (Held entries) = length (run_entries entries)
+group_count (Searched key shown) = length shown.now
+
 abbrev pub walk_left : Bool → Walk → List Fact
-walk_left all w =
-    group_left_if all w.group ++ given_in all w.sort w.archive.now (run_entries w.entries)
+walk_left all w = group_left_if all w.group ++ groups_left all w.sort w.archive.now w.groups
 
 abbrev pub facts_left : FactRows → List Fact
 facts_left r = walk_left true r.walk
@@ -67,12 +82,16 @@ facts_new r = walk_left false r.walk
 abbrev pub spots_left : FactSpots → List Fact
 spots_left r = walk_left false r.walk
 
--- how many rows the entries that are still to come stand for; what has begun is not counted
+-- how many rows the groups that are still to come have; what has begun is not counted
+abbrev pub groups_counted : FactKind → Archived → Groups → ℕ
+groups_counted sort a (Held entries) = sum_by (λ (e : Entry). e.rows) (run_entries entries)
+groups_counted sort a (Searched key shown) = sum_by (searched_count sort a key.now) shown.now
+
 abbrev pub rows_counted : FactSpots → ℕ
-rows_counted r = sum_by (λ (e : Entry). e.rows) (run_entries r.walk.entries)
+rows_counted r = groups_counted r.walk.sort r.walk.archive.now r.walk.groups
 
 abbrev pub facts_counted : FactRows → ℕ
-facts_counted r = sum_by (λ (e : Entry). e.rows) (run_entries r.walk.entries)
+facts_counted r = groups_counted r.walk.sort r.walk.archive.now r.walk.groups
 
 -- a file that is lent
 abbrev pub shown_file : Bor (List ℕ) × Bor (List ℕ) × Bor TextFacts → ShownFile

@@ -5,20 +5,20 @@ use Rattle.cb_index.specs.Archived.{Archived}
 use Rattle.cb_index.specs.Items.{later}
 use Rattle.cb_index.specs.declared.entry.Entry.{Entry}
 use Rattle.cb_index.specs.declared.row.Row.{Row}
-use Rattle.cb_index.specs.declared.rows.FactSort.{FactSort}
+use Rattle.cb_index.specs.declared.kind.FactKind.{FactKind}
 
 -- an item and those behind it that have its key
-abbrev pub items_from : FactSort → List ℕ → ℕ → List ℕ
+abbrev pub items_from : FactKind → List ℕ → ℕ → List ℕ
 items_from sort text item = item ∷ later sort text item
 
 -- the same in a text, if it is there
-abbrev pub items_in_text : FactSort → ℕ → Option (List ℕ) → List ℕ
+abbrev pub items_in_text : FactKind → ℕ → Option (List ℕ) → List ℕ
 items_in_text sort item None = []
 items_in_text sort item (Some text) = items_from sort text item
 
 -- the items of an entry: of a definition its number, of a use or a call also those behind it that
 -- have its key
-abbrev pub items_at : Option FactSort → Archived → Entry → List ℕ
+abbrev pub items_at : Option FactKind → Archived → Entry → List ℕ
 items_at None a e = e.number ∷ []
 items_at (Some sort) a e = items_in_text sort e.number (slice_get a.texts e.version)
 
@@ -26,8 +26,8 @@ items_at (Some sort) a e = items_in_text sort e.number (slice_get a.texts e.vers
 abbrev pub row_of : Entry → ℕ → Row
 row_of e item = record { name = e.name; version = e.version; item = item }
 
-abbrev pub rows_at : Option FactSort → Archived → Entry → List Row
+abbrev pub rows_at : Option FactKind → Archived → Entry → List Row
 rows_at sort a e = map (row_of e) (items_at sort a e)
 
-abbrev pub rows_in : Option FactSort → Archived → List Entry → List Row
+abbrev pub rows_in : Option FactKind → Archived → List Entry → List Row
 rows_in sort a es = flat_map (rows_at sort a) es

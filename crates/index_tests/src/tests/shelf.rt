@@ -1,13 +1,13 @@
 //! What a shelf shows, on files whose facts are worked out by hand.
 use super::kept::{FIRST, OTHER, keep};
-use cb_index::{Asked, FactRows, Shelf, Shown, TagRows, Totals, are_rising};
+use cb_index::{FactKind, FactRows, IndexKind, Shelf, Shown, TagRows, Totals, are_rising};
 use std::alloc::Global;
 use std::process::Abort;
 use std::test::Fail;
 
 /// Shows a version where it can be shown.
 fn show(shelf: &mut Shelf, one: Shown) -> Result<(), Fail> {
-    if !shelf.can_show(one.name, one.version) {
+    if !shelf.can_show(&[one]) {
         return Err(Fail::from("cannot be shown"));
     }
     shelf.show(one.name, one.version);
@@ -28,7 +28,7 @@ fn has_tags(rt: &impl Abort, rows: TagRows<'_>, names: &[&[u8]]) -> Result<(), F
 }
 
 /// The facts have these names and lines.
-fn has_facts(rt: &impl Abort, rows: FactRows<'_>, facts: &[(&[u8], u32)]) -> Result<(), Fail> {
+fn has_facts(rt: &impl Abort, rows: FactRows<'_, '_>, facts: &[(&[u8], u32)]) -> Result<(), Fail> {
     let mut rows = rows;
     for (name, line) in facts {
         match rows.next() {
@@ -44,33 +44,35 @@ fn has_facts(rt: &impl Abort, rows: FactRows<'_>, facts: &[(&[u8], u32)]) -> Res
 }
 
 /// The definitions of both files, in each order.
-fn shows_definitions(rt: &impl Abort, shelf: &mut Shelf) -> Result<(), Fail> {
+fn shows_definitions(rt: &impl Abort, shelf: &Shelf) -> Result<(), Fail> {
     let tags: [&[u8]; 5] = [b"Mb", b"main", b"TWICE", b"add", b"word"];
-    shelf.settle(Asked::Tags);
     has_tags(rt, shelf.tags(), &tags)?;
     let names: [&[u8]; 5] = [b"Mb", b"TWICE", b"add", b"main", b"word"];
-    shelf.settle(Asked::Defs);
     has_tags(rt, shelf.all_defs(), &names)?;
     has_tags(rt, shelf.defs(b"add"), &[b"add".as_slice()])
 }
 
 /// The uses and calls of both files.
-fn shows_facts(rt: &impl Abort, shelf: &mut Shelf) -> Result<(), Fail> {
-    shelf.settle(Asked::Callees);
+fn shows_facts(rt: &impl Abort, shelf: &Shelf) -> Result<(), Fail> {
     has_facts(
         rt,
         shelf.calling(b"add"),
         &[(b"add".as_slice(), 2), (b"add", 8)],
     )?;
-    shelf.settle(Asked::Callers);
     has_facts(
         rt,
         shelf.called_by(b"main"),
         &[(b"add".as_slice(), 8), (b"TWICE", 8)],
     )?;
-    shelf.settle(Asked::Uses);
     let uses = [(b"x".as_slice(), 2), (b"x", 2), (b"x", 2)];
     has_facts(rt, shelf.uses(b"x"), &uses)
+}
+
+/// Puts the uses and calls that are pending in order.
+fn flush_facts(shelf: &mut Shelf) {
+    shelf.flush(IndexKind::Facts(FactKind::Uses));
+    shelf.flush(IndexKind::Facts(FactKind::Callees));
+    shelf.flush(IndexKind::Facts(FactKind::Callers));
 }
 
 /// The files, by name.
@@ -111,6 +113,8 @@ fn files_come_and_go(
 fn shows_both(rt: &impl Abort, shelf: &mut Shelf) -> Result<(), Fail> {
     shows_definitions(rt, shelf)?;
     shows_facts(rt, shelf)?;
+    flush_facts(shelf);
+    shows_facts(rt, shelf)?;
     shows_files(rt, shelf, &[b"m.c".as_slice(), b"z/b.c"]);
     assert!(rt;
         shelf.totals()
@@ -131,7 +135,7 @@ fn both_come_and_go(rt: &impl Abort, shelf: &mut Shelf, both: [Shown; 2]) -> Res
     shelf.hide_all(&both);
     shows_files(rt, shelf, &[]);
     let ascending: [Shown; 2] = [both[1], both[0]];
-    if !shelf.can_show_all(&ascending) {
+    if !shelf.can_show(&ascending) {
         return Err(Fail::from("cannot be shown together"));
     }
     shelf.show_all(&ascending);

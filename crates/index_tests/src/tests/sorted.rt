@@ -41,7 +41,7 @@ fn put_and_take(
         Ok(()) => {}
         Err(_) => return Err(Fail::from("no memory")),
     }
-    if index.count(archive, one) != 4 || index.room() < 4 || !index.is_in_order(archive) {
+    if index.count(archive, one.version) != 4 || index.room() < 4 || !index.is_in_order(archive) {
         return Err(Fail::from("no room"));
     }
     index.put_all(archive, one);

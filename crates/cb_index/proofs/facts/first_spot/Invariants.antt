@@ -1,10 +1,9 @@
-use Rattle.std.proofs.Common.{◌≡◌, length}
-use Rattle.cb_index.specs.steps.Given.{given_in}
-use Rattle.cb_index.specs.steps.Runs.{run_entries}
+use Rattle.std.proofs.Common.{◌≡◌}
+use Rattle.cb_index.specs.steps.Left.{group_count, groups_left}
 use Rattle.cb_index.proofs.facts.first_spot.Given as goal
 
-abbrev pub decreases-loop-entry : goal.decreases-loop-entry
-decreases-loop-entry l = length (run_entries l.left)
+abbrev pub decreases-loop-step : goal.decreases-loop-step
+decreases-loop-step l = group_count l.left
 
-abbrev pub invariant-loop-entry : goal.invariant-loop-entry
-invariant-loop-entry l = given_in l.all l.sort l.archive (run_entries l.left) ≡ given_in l.all l.sort l.archive (run_entries l.fn.entries)
+abbrev pub invariant-loop-step : goal.invariant-loop-step
+invariant-loop-step l = groups_left l.all l.sort l.archive l.left ≡ groups_left l.all l.sort l.archive l.fn.groups

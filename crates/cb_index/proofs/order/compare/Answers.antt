@@ -2,12 +2,13 @@ use Rattle.std.proofs.Common.{◌∙◌, sym}
 use Rattle.std.specs.Cmp.Lexicographic.{slice_cmp}
 use Rattle.std.specs.Ordering.{nat_cmp, ordering_then}
 use Rattle.cb_index.specs.Entries.{bytes_key, sort_key}
+use Rattle.cb_index.specs.Kinds.{keyer_of}
 use Rattle.cb_index.proofs.order.compare.Goals as goal
 
 pub returns-in-Less : goal.returns-in-Less
 unfolding sort_key
-returns-in-Less g c =
-    let keyer = g.O.EntryOrder.keyer in
+returns-in-Less c =
+    let keyer = keyer_of c.args.kind in
     let archive = c.args.archive.now in
     let e = c.args.a in
     let f = c.args.b in
@@ -16,8 +17,8 @@ returns-in-Less g c =
 
 pub returns-in-Greater : goal.returns-in-Greater
 unfolding sort_key
-returns-in-Greater g c =
-    let keyer = g.O.EntryOrder.keyer in
+returns-in-Greater c =
+    let keyer = keyer_of c.args.kind in
     let archive = c.args.archive.now in
     let e = c.args.a in
     let f = c.args.b in
@@ -26,8 +27,8 @@ returns-in-Greater g c =
 
 pub returns-in-Equal : goal.returns-in-Equal
 unfolding sort_key
-returns-in-Equal g c =
-    let keyer = g.O.EntryOrder.keyer in
+returns-in-Equal c =
+    let keyer = keyer_of c.args.kind in
     let archive = c.args.archive.now in
     let e = c.args.a in
     let f = c.args.b in

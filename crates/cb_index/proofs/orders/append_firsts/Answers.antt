@@ -13,7 +13,7 @@ use Rattle.cb_index.proofs.orders.append_firsts.Goals.{then-is_first, else-is_fi
 
 pub loop-item-preserved : goal.loop-item-preserved
 loop-item-preserved c =
-    let sort = c.args.sort in
+    let sort = c.args.kind in
     let text = c.args.version.now in
     let shown = c.args.shown in
     let k = c.loop-item.item in

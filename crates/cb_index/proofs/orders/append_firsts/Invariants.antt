@@ -6,8 +6,8 @@ use Rattle.cb_index.proofs.orders.append_firsts.Given as goal
 
 abbrev pub invariant-loop-item : goal.invariant-loop-item
 invariant-loop-item l = record {
-  entries : l.entries.items ++ map (entry_of l.shown) (firsts_from l.sort l.version l.item)
-      ≡ l.initial.entries.items ++ map (entry_of l.shown) (firsts l.sort l.version);
-  room : vec_len l.entries + length (firsts_from l.sort l.version l.item) ≤ vec_capacity l.entries;
+  entries : l.entries.items ++ map (entry_of l.shown) (firsts_from l.kind l.version l.item)
+      ≡ l.initial.entries.items ++ map (entry_of l.shown) (firsts l.kind l.version);
+  room : vec_len l.entries + length (firsts_from l.kind l.version l.item) ≤ vec_capacity l.entries;
   grown : vec_capacity l.initial.entries ≤ vec_capacity l.entries;
 }

@@ -6,7 +6,7 @@ use Rattle.cb_index.proofs.orders.first_count.Goals.{then-is_first, else-is_firs
 
 pub loop-item-preserved : goal.loop-item-preserved
 loop-item-preserved c =
-    let sort = c.args.sort in
+    let sort = c.args.kind in
     let text = c.args.version.now in
     let k = c.loop-item.item in
     let below : k < item_count sort text = omega arith in

@@ -5,7 +5,7 @@ use Rattle.cb_index.proofs.orders.first_count.Given as goal
 
 abbrev pub invariant-loop-item : goal.invariant-loop-item
 invariant-loop-item l = record {
-  counted : l.count + length (firsts_from l.sort l.version l.item)
-      ≡ length (firsts l.sort l.version);
+  counted : l.count + length (firsts_from l.kind l.version l.item)
+      ≡ length (firsts l.kind l.version);
   few : l.count ≤ l.item;
 }

@@ -5,18 +5,19 @@ use Rattle.cb_index.specs.steps.Bounds.{is_ahead}
 use Rattle.cb_index.proofs.BlockLemmas.{all_dropped, block_parts, get_or_any, heads_parted, place_ahead, place_behind, place_inside}
 use Rattle.cb_index.proofs.RangeLemmas.{ahead_parts}
 use Rattle.cb_index.proofs.SortedLemmas.{parts_places}
+use Rattle.cb_index.specs.Kinds.{keyer_of}
 use Rattle.cb_index.proofs.place.place_of.Goals as goal
 
 pub count_begun-begun-requires : goal.count_begun-begun-requires
-count_begun-begun-requires g c =
-    let keyer = g.O.EntryOrder.keyer in
+count_begun-begun-requires c =
+    let keyer = keyer_of c.args.kind in
     let a = c.args.archive.now in
     let p = is_ahead keyer a c.args.bound in
     heads_parted p c.args.blocks.now c.requires.filled (ahead_parts keyer a c.args.bound (joined c.args.blocks.now) c.requires.order)
 
 pub count_ahead-at-requires : goal.count_ahead-at-requires
-count_ahead-at-requires g c =
-    let keyer = g.O.EntryOrder.keyer in
+count_ahead-at-requires c =
+    let keyer = keyer_of c.args.kind in
     let a = c.args.archive.now in
     let p = is_ahead keyer a c.args.bound in
     let bs = c.args.blocks.now in
@@ -29,8 +30,8 @@ count_ahead-at-requires g c =
 
 -- where no block begins ahead of it, nothing stands ahead of it
 pub returns-then-begun-eq0-clause-behind : goal.returns-then-begun-eq0-clause-behind
-returns-then-begun-eq0-clause-behind g c =
-    let keyer = g.O.EntryOrder.keyer in
+returns-then-begun-eq0-clause-behind c =
+    let keyer = keyer_of c.args.kind in
     let a = c.args.archive.now in
     let p = is_ahead keyer a c.args.bound in
     let bs = c.args.blocks.now in
@@ -38,7 +39,7 @@ returns-then-begun-eq0-clause-behind g c =
     (λ below. c.count_begun-begun.ensures.parted.1 0 [] (omega (arith, c.if-begun-eq0.true)) below)
 
 pub returns-clause-place : goal.returns-clause-place
-returns-clause-place g c =
+returns-clause-place c =
     let bs = c.args.blocks.now in
     let k = c.count_begun-begun.result - 1 in
     let low : k < length bs = omega (arith, c.if-begun-eq0.false, c.count_begun-begun.ensures.bound) in
@@ -49,8 +50,8 @@ returns-clause-place g c =
     )
 
 pub returns-clause-ahead : goal.returns-clause-ahead
-returns-clause-ahead g c =
-    let keyer = g.O.EntryOrder.keyer in
+returns-clause-ahead c =
+    let keyer = keyer_of c.args.kind in
     let a = c.args.archive.now in
     let p = is_ahead keyer a c.args.bound in
     let bs = c.args.blocks.now in
@@ -66,8 +67,8 @@ returns-clause-ahead g c =
     (subst (λ b. IsPartitionPoint (λ e. p e ≡ true) (λ e. p e ≡ false) b j) here c.count_ahead-at.ensures.parted)
 
 pub returns-clause-behind : goal.returns-clause-behind
-returns-clause-behind g c =
-    let keyer = g.O.EntryOrder.keyer in
+returns-clause-behind c =
+    let keyer = keyer_of c.args.kind in
     let a = c.args.archive.now in
     let p = is_ahead keyer a c.args.bound in
     let bs = c.args.blocks.now in
@@ -84,8 +85,8 @@ returns-clause-behind g c =
 
 -- an entry of that block stands ahead
 pub returns-clause-start : goal.returns-clause-start
-returns-clause-start g c = λ none.
-    let keyer = g.O.EntryOrder.keyer in
+returns-clause-start c = λ none.
+    let keyer = keyer_of c.args.kind in
     let a = c.args.archive.now in
     let p = is_ahead keyer a c.args.bound in
     let bs = c.args.blocks.now in

@@ -8,11 +8,12 @@ use Rattle.std.specs.Ordering.{is_lt, nat_cmp}
 use Rattle.cb_scan.proofs.OrderLemmas.{neighbours, sorted_is}
 use Rattle.cb_index.specs.Entries.{sort_key}
 use Rattle.cb_index.proofs.EntryLemmas.{sort_exact}
+use Rattle.cb_index.specs.Kinds.{keyer_of}
 use Rattle.cb_index.proofs.sort.sort_whole.Goals as goal
 
 pub returns : goal.returns
-returns g c =
-    let keyer = g.O.EntryOrder.keyer in
+returns c =
+    let keyer = keyer_of c.args.kind in
     let key = sort_key keyer c.args.archive.now in
     let before = c.args.entries.now in
     let after = c.sort_unstable_by.new.self in

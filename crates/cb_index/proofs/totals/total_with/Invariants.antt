@@ -4,5 +4,5 @@ use Rattle.cb_index.proofs.totals.total_with.Given as goal
 
 abbrev pub invariant-loop-s : goal.invariant-loop-s
 invariant-loop-s l =
-    l.count + total (count_for l.counted) l.archive (drop l.s-index l.shown)
-    ≡ l.before + total (count_for l.counted) l.archive l.shown
+    l.count + total (count_for l.kind) l.archive (drop l.s-index l.shown)
+    ≡ l.before + total (count_for l.kind) l.archive l.shown

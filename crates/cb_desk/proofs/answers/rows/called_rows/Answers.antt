@@ -3,7 +3,7 @@ use Rattle.std.specs.List.{flat_map}
 use Rattle.cb_index.specs.Rows.{file_calls_in}
 use Rattle.cb_index.specs.Shelved.{files}
 use Rattle.cb_index.specs.steps.Left.{spots_left}
-use Rattle.cb_index.specs.declared.rows.FactSort.TheVariants.{Callers}
+use Rattle.cb_index.specs.declared.kind.FactKind.TheVariants.{Callers}
 use Rattle.cb_desk.specs.Answer.{distinct, field_rows}
 use Rattle.cb_desk.specs.declared.rows.Field.{Field}
 use Rattle.cb_desk.specs.steps.Lent.{row_named}
@@ -15,15 +15,15 @@ use Rattle.cb_desk.proofs.answers.rows.called_rows.Goals as goal
 pub new-requires-clause-counted : goal.new-requires-clause-counted
 new-requires-clause-counted c =
     let fs = files c.args.shelf.now in
-    c.spots.ensures.counted ∙ c.called_by.ensures.counted ∙ index-counts Callers (file_calls_in c.args.pattern.now) fs
-    ∙ ap length (sym (c.spots.ensures.rows ∙ c.called_by.ensures.new))
+    c.spots.ensures.counted ∙ c.facts.ensures.counted ∙ index-counts Callers (file_calls_in c.args.pattern.now) fs
+    ∙ ap length (sym (c.spots.ensures.rows ∙ c.facts.ensures.new))
 
 pub new-requires-clause-few : goal.new-requires-clause-few
 new-requires-clause-few c =
     let fs = files c.args.shelf.now in
     let p = c.args.pattern.now in
     few-distinct row_named (spots_left c.spots.result) (flat_map (field_rows Field.Called p) fs)
-    (ap (map row_named) (c.spots.ensures.rows ∙ c.called_by.ensures.new) ∙ callers-distinct p fs c.requires.valid.ascending
+    (ap (map row_named) (c.spots.ensures.rows ∙ c.facts.ensures.new) ∙ callers-distinct p fs c.requires.valid.ascending
     ∙ ap distinct (called-rows p fs))
     (called-rows-few p fs c.requires.valid)
 
@@ -31,5 +31,5 @@ pub returns : goal.returns
 returns c =
     let fs = files c.args.shelf.now in
     let p = c.args.pattern.now in
-    c.new.ensures ∙ ap (map row_named) (c.spots.ensures.rows ∙ c.called_by.ensures.new)
+    c.new.ensures ∙ ap (map row_named) (c.spots.ensures.rows ∙ c.facts.ensures.new)
     ∙ callers-distinct p fs c.requires.valid.ascending ∙ ap distinct (called-rows p fs)

@@ -1,11 +1,10 @@
-use Rattle.std.proofs.Common.{◌∙◌, sym, ap, subst, filter, length, map, arith}
+use Rattle.std.proofs.Common.{◌∙◌, sym, ap, filter, length, map, arith}
 use Rattle.std.specs.List.{flat_map}
 use Rattle.std.proofs.lemmas.List.{length-map}
 use Rattle.cb_index.specs.Rows.{Fact}
 use Rattle.cb_index.specs.Shelved.{ShownFile, files}
 use Rattle.cb_index.specs.steps.Left.{tags_left}
 use Rattle.cb_desk.specs.Answer.{field_rows, file_rows, is_header}
-use Rattle.cb_desk.specs.Settled.{IsSettled}
 use Rattle.cb_desk.specs.steps.Lent.{row_around, row_of_tag}
 use Rattle.cb_desk.proofs.AnswerRows.{definition-rows, including-rows, name-rows}
 use Rattle.cb_desk.proofs.RowsFew.{including-rows-few, name-rows-few}
@@ -43,7 +42,3 @@ returns-in-File c =
       rows = rows ∙ ap (λ field. flat_map (field_rows field p) fs) (sym c.in-File.is);
       few = omega (arith, long, name-rows-few p fs c.requires.valid);
     }
-
--- nothing waits that the field reads
-pub defs-rows-requires : goal.defs-rows-requires
-defs-rows-requires c = subst (λ f. IsSettled f c.args.shelf.now.waiting) c.in-Definition.is c.requires.settled

@@ -1,10 +1,9 @@
-use Rattle.std.proofs.Common.{◌≡◌, ◌∙◌, sym, ap, refl, subst, List}
+use Rattle.std.proofs.Common.{◌≡◌, ◌∙◌, sym, ap, refl, List}
 use Rattle.std.specs.List.{flat_map}
 use Rattle.cb_scan.specs.Order.{in_order}
 use Rattle.cb_index.specs.Rows.{tags_by_name, tags_by_tag_name}
 use Rattle.cb_index.specs.Shelved.{files}
 use Rattle.cb_desk.specs.declared.tags.Format.TheVariants.{Plain, Extended}
-use Rattle.cb_desk.specs.Settled.{AreTagsSettled}
 use Rattle.cb_desk.specs.Tags.{file_tags, tag_key}
 use Rattle.cb_desk.specs.World.{File}
 use Rattle.cb_desk.proofs.answers.tags.tag_rows.Goals as goal
@@ -26,10 +25,3 @@ pub returns-in-Extended : goal.returns-in-Extended
 returns-in-Extended c =
     let fs = files c.args.shelf.now in
     c.all_defs.ensures ∙ extended fs ∙ ap (λ f. in_order (tag_key f) (flat_map file_tags fs)) (sym c.in-Extended.is)
-
--- nothing waits that the format reads
-pub tags-requires : goal.tags-requires
-tags-requires c = subst (λ f. AreTagsSettled f c.args.shelf.now.waiting) c.in-Plain.is c.requires
-
-pub all_defs-requires : goal.all_defs-requires
-all_defs-requires c = subst (λ f. AreTagsSettled f c.args.shelf.now.waiting) c.in-Extended.is c.requires

@@ -1,12 +1,17 @@
-use Rattle.std.proofs.Common.{rules, ◌∙◌, ap, filter}
+use Rattle.std.proofs.Common.{rules, ◌≡◌, ◌∙◌, ap, filter}
 use Rattle.std.proofs.lemmas.Fn.{filter_same}
 use Rattle.std.specs.Prelude.{not}
 use Rattle.cb_index.specs.Held.{Indexed}
 use Rattle.cb_index.specs.Names.{is_among, names_of}
+use Rattle.cb_index.specs.declared.entry.Entry.{Entry}
 use Rattle.cb_index.specs.declared.entry.Shown.{Shown}
 use Rattle.cb_index.proofs.index.Index.take_names.Goals as goal
 
-pub returns-clause-waiting : goal.returns-clause-waiting
-returns-clause-waiting g c =
-    filter_same _ (λ (s : Shown). not (is_among (names_of c.args.files.now) s.name)) _ (λ e r f k. (search (rules, k), search (rules, k))) _ _ c.retain.ensures.filtered
-    ∙ ap (λ (x : Indexed). filter (λ (s : Shown). not (is_among (names_of c.args.files.now) s.name)) x.waiting) c.self.view_is
+pub returns : goal.returns
+returns c = record {
+  itself = search rules;
+  held = c.take_names.ensures.entries
+      ∙ ap (λ (x : Indexed). filter (λ (e : Entry). not (is_among (names_of c.args.files.now) e.name)) x.held) c.self.view_is;
+  pending = filter_same _ (λ (s : Shown). not (is_among (names_of c.args.files.now) s.name)) _ (λ e r f k. (search (rules, k), search (rules, k))) _ _ c.retain.ensures.filtered
+      ∙ ap (λ (x : Indexed). filter (λ (s : Shown). not (is_among (names_of c.args.files.now) s.name)) x.pending) c.self.view_is;
+}

@@ -1,13 +1,26 @@
-use Rattle.std.proofs.Common.{arith}
-use Rattle.cb_index.proofs.KeptLemmas.{kept_none}
+use Rattle.std.proofs.Common.{◌≡◌, ◌∷◌, [], ap, length, arith}
+use Rattle.cb_index.specs.Kinds.{all_kinds}
+use Rattle.cb_index.proofs.EachLemmas.{kinds_of}
+use Rattle.cb_index.proofs.KeptLemmas.{has_none, kept_none}
 use Rattle.cb_index.proofs.TotalLemmas.{totals_none}
 use Rattle.cb_index.proofs.shelf.Shelf.new.Goals as goal
 
 pub invariant_of-result : goal.invariant_of-result
-invariant_of-result c = (
-  kept_none c.new.result c.new-2.result.items c.new-3.result c.new-4.result c.new-5.result c.new-6.result c.new-7.result
-      c.new-2.ensures.items c.new-3.ensures.held c.new-3.ensures.waiting c.new-4.ensures.held c.new-4.ensures.waiting
-      c.new-5.ensures.held c.new-5.ensures.waiting c.new-6.ensures.held c.new-6.ensures.waiting c.new-7.ensures.held c.new-7.ensures.waiting,
-  totals_none c.new.result c.new-2.result.items c.new-2.ensures.items,
-  record { defs = omega arith; tags = omega arith; uses = omega arith; callees = omega arith; callers = omega arith },
-)
+invariant_of-result c =
+    let xs = c.new-3.result ∷ c.new-4.result ∷ c.new-5.result ∷ c.new-6.result ∷ c.new-7.result ∷ [] in
+    let kinds : kinds_of xs ≡ all_kinds =
+    λ i. c.new-3.ensures.kind i ∷ c.new-4.ensures.kind i ∷ c.new-5.ensures.kind i ∷ c.new-6.ensures.kind i ∷ c.new-7.ensures.kind i ∷ [] in
+    let none = ap length c.new-2.ensures.items in (
+      kept_none c.new.result c.new-2.result.items xs c.new-2.ensures.items kinds
+          ((c.new-3.ensures.held, c.new-3.ensures.pending), ((c.new-4.ensures.held, c.new-4.ensures.pending), ((c.new-5.ensures.held, c.new-5.ensures.pending),
+          ((c.new-6.ensures.held, c.new-6.ensures.pending), ((c.new-7.ensures.held, c.new-7.ensures.pending), tt))))),
+      totals_none c.new.result c.new-2.result.items c.new-2.ensures.items,
+      record {
+        entries = omega (arith, none);
+        defs = omega arith;
+        uses = omega arith;
+        calls = omega arith;
+        listed = omega arith;
+        each = has_none xs;
+      },
+    )

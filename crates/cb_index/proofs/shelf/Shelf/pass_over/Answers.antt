@@ -1,11 +1,13 @@
-use Rattle.std.proofs.Common.{rules, ◌∙◌, Bool, ap, filter, arith}
+use Rattle.std.proofs.Common.{rules, ◌∙◌, Bool, ap, filter, length, arith}
 use Rattle.std.proofs.lemmas.Fn.{filter_same}
+use Rattle.std.proofs.lemmas.List.Sums.{length-filter}
 use Rattle.std.specs.Prelude.{not}
 use Rattle.cb_index.specs.Files.{call_count, def_count, total, use_count}
 use Rattle.cb_index.specs.Names.{is_among, names_of}
 use Rattle.cb_index.specs.Shelved.{Shelved}
 use Rattle.cb_index.specs.declared.entry.Shown.{Shown}
-use Rattle.cb_index.proofs.KeptLemmas.{kept_hidden}
+use Rattle.cb_index.specs.steps.Moves.{LetsGoAll}
+use Rattle.cb_index.proofs.KeptLemmas.{kept_hidden, rooms_stay}
 use Rattle.cb_index.proofs.TotalLemmas.{total_left}
 use Rattle.cb_index.proofs.shelf.Shelf.pass_over.Goals as goal
 
@@ -28,7 +30,8 @@ invariant_of-self c =
     let x = c.self.inside in
     let a = x.archive in
     let shown = x.shown.items in
-    let stays : Shown → Bool = λ s. not (is_among (names_of c.args.files.now) s.name) in
+    let names = names_of c.args.files.now in
+    let stays : Shown → Bool = λ s. not (is_among names s.name) in
     let left = filter_same _ stays _ (λ e r f k. (search (rules, k), search (rules, k))) _ _ c.retain.ensures.filtered in
     let are = c.self.invariant.1 in
     let within = c.self.invariant.2 in
@@ -36,22 +39,22 @@ invariant_of-self c =
     let is = c.as_slice.ensures.value ∙ left in
     let defs = total_left def_count a stays shown _ _ is are.defs in
     let uses = total_left use_count a stays shown _ _ is are.uses in
-    let calls = total_left call_count a stays shown _ _ is are.calls in (
-      kept_hidden a (λ n. not (is_among (names_of c.args.files.now) n)) shown c.retain.new.self.items x.defs x.tags x.uses x.callees x.callers
-          c.take_names.new.self c.take_names-2.new.self c.take_names-3.new.self c.take_names-4.new.self c.take_names-5.new.self left
-          (c.take_names.ensures.held, c.take_names.ensures.waiting) (c.take_names-2.ensures.held, c.take_names-2.ensures.waiting) (c.take_names-3.ensures.held, c.take_names-3.ensures.waiting) (c.take_names-4.ensures.held, c.take_names-4.ensures.waiting) (c.take_names-5.ensures.held, c.take_names-5.ensures.waiting)
-          c.self.invariant.0,
+    let calls = total_left call_count a stays shown _ _ is are.calls in
+    let fewer = length-filter stays shown in
+    let count = ap length left in (
+      kept_hidden a shown c.retain.new.self.items x.indexes c.take_names_from_each.new.indexes names left c.take_names_from_each.ensures c.self.invariant.0,
       record {
         defs = now.defs ∙ ap (total def_count a) c.as_slice.ensures.value;
         uses = now.uses ∙ ap (total use_count a) c.as_slice.ensures.value;
         calls = now.calls ∙ ap (total call_count a) c.as_slice.ensures.value;
       },
       record {
-        defs = let room = c.take_names.ensures.room in omega (arith, now.defs, defs, within.defs, room);
-        tags = let room = c.take_names-2.ensures.room in omega (arith, now.defs, defs, within.tags, room);
-        uses = let room = c.take_names-3.ensures.room in omega (arith, now.uses, uses, within.uses, room);
-        callees = let room = c.take_names-4.ensures.room in omega (arith, now.calls, calls, within.callees, room);
-        callers = let room = c.take_names-5.ensures.room in omega (arith, now.calls, calls, within.callers, room);
+        entries = omega (arith, within.entries, fewer, count);
+        defs = omega (arith, now.defs, defs, within.defs);
+        uses = omega (arith, now.uses, uses, within.uses);
+        calls = omega (arith, now.calls, calls, within.calls);
+        listed = omega (arith, within.listed, c.retain.ensures.capacity);
+        each = rooms_stay (LetsGoAll names) (λ x y way. way.itself) x.room x.indexes c.take_names_from_each.new.indexes c.take_names_from_each.ensures within.each;
       },
     )
 

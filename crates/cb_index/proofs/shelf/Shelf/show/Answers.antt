@@ -1,23 +1,9 @@
-use Rattle.std.proofs.Common.{◌∙◌, false, [], ◌∷◌, sym, ap, subst, arith}
-use Rattle.std.specs.Prelude.{◌||◌}
+use Rattle.std.proofs.Common.{◌∙◌, [], ◌∷◌, sym, subst}
 use Rattle.cb_scan.specs.Order.{AreOrdered}
 use Rattle.cb_index.specs.Files.{AreApart, AreAscending}
 use Rattle.cb_index.specs.declared.entry.Shown.{Shown}
 use Rattle.cb_index.proofs.ListedLemmas.{apart_both, put_last}
 use Rattle.cb_index.proofs.shelf.Shelf.show.Goals as goal
-
-pub show_all-requires : goal.show_all-requires
-unfolding AreOrdered
-show_all-requires c =
-    let asked = c.requires in record {
-      there = ((asked.name_there, asked.version_there), tt);
-      apart = (tt, tt);
-      other = ap (λ b. b || false) asked.other;
-      entries = omega (arith, asked.entries);
-      defs = omega (arith, asked.defs);
-      uses = omega (arith, asked.uses);
-      calls = omega (arith, asked.calls);
-    }
 
 pub returns-clause-shown : goal.returns-clause-shown
 unfolding AreOrdered
@@ -27,4 +13,4 @@ returns-clause-shown c =
     let up = subst (AreAscending a) c.shown-shown.ensures.value c.shown-shown.ensures.ascending in
     let apart : AreApart a (one ∷ []) = (tt, tt) in
     c.show_all.ensures.shown
-    ∙ sym (put_last a c.args.self.now.shown one up (apart_both a c.args.self.now.shown (one ∷ []) up apart (ap (λ b. b || false) c.requires.other)))
+    ∙ sym (put_last a c.args.self.now.shown one up (apart_both a c.args.self.now.shown (one ∷ []) up apart c.requires.other))

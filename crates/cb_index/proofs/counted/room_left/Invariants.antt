@@ -1,8 +1,0 @@
-use Rattle.std.proofs.Common.{◌≡◌, ◌+◌, drop}
-use Rattle.cb_index.specs.Files.{count_for, total}
-use Rattle.cb_index.proofs.counted.room_left.Given as goal
-
-abbrev pub invariant-loop-s : goal.invariant-loop-s
-invariant-loop-s l =
-    total (count_for l.counted) l.archive l.shown + l.left
-    ≡ l.room + total (count_for l.counted) l.archive (drop l.s-index l.shown)

@@ -1,0 +1,38 @@
+-- What each of the five indexes is ordered by, and what its entries are.
+use Rattle.std.specs.Prelude.{ℕ, List, [], ◌∷◌, Option, Some, None}
+use Rattle.cb_scan.specs.Keys.{key_prefix}
+use Rattle.cb_index.specs.Entries.{Keyer}
+use Rattle.cb_index.specs.Held.{Lister}
+use Rattle.cb_index.specs.Orders.{def_key, defs_listed, firsts_in, item_keyer, tag_key, tag_key_prefix, tags_listed}
+use Rattle.cb_index.specs.declared.kind.FactKind.{FactKind}
+use Rattle.cb_index.specs.declared.kind.FactKind.TheVariants.{Uses, Callees, Callers}
+use Rattle.cb_index.specs.declared.kind.IndexKind.{IndexKind}
+use Rattle.cb_index.specs.declared.kind.IndexKind.TheVariants.{DefsByName, DefsByTagName, Facts}
+
+-- the five kinds, in the order in which a shelf keeps their indexes
+abbrev pub all_kinds : List IndexKind
+all_kinds = DefsByName ∷ DefsByTagName ∷ Facts Uses ∷ Facts Callees ∷ Facts Callers ∷ []
+
+-- the key of an entry
+abbrev pub keyer_of : IndexKind → Keyer
+keyer_of DefsByName = def_key
+keyer_of DefsByTagName = tag_key
+keyer_of (Facts kind) = item_keyer kind
+
+-- the items of a text that have entries
+abbrev pub lister_of : IndexKind → Lister
+lister_of DefsByName = defs_listed
+lister_of DefsByTagName = tags_listed
+lister_of (Facts kind) = firsts_in kind
+
+-- the prefix of the entries that have a key
+abbrev pub prefix_of : IndexKind → List ℕ → ℕ
+prefix_of DefsByName = key_prefix
+prefix_of DefsByTagName = tag_key_prefix
+prefix_of (Facts kind) = key_prefix
+
+-- the facts of which the first of each key is an entry; none where each definition is one
+abbrev pub fact_kind : IndexKind → Option FactKind
+fact_kind DefsByName = None
+fact_kind DefsByTagName = None
+fact_kind (Facts kind) = Some kind

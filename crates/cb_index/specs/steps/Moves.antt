@@ -1,0 +1,62 @@
+-- What becomes of the indexes of a shelf.
+use Rattle.std.specs.Prelude.{ℕ, ◌≡◌, ◌≤◌, ◌+◌, ◌++◌, [], ◌∷◌, List, Bool, length, filter, not, nat_eq, Some}
+use Rattle.cb_scan.specs.Order.{in_order}
+use Rattle.cb_index.specs.Archived.{Archived}
+use Rattle.cb_index.specs.Entries.{sort_key}
+use Rattle.cb_index.specs.Files.{shown_under}
+use Rattle.cb_index.specs.Held.{Indexed, all_entries}
+use Rattle.cb_index.specs.Kinds.{keyer_of, lister_of}
+use Rattle.cb_index.specs.Names.{is_among}
+use Rattle.cb_index.specs.Shelved.{IsIndex}
+use Rattle.cb_index.specs.declared.entry.Entry.{Entry}
+use Rattle.cb_index.specs.declared.entry.Shown.{Shown}
+use Rattle.cb_index.specs.declared.kind.IndexKind.{IndexKind}
+use Rattle.cb_index.specs.declared.kind.IndexKind.TheVariants.{DefsByName, DefsByTagName, Facts}
+
+-- each of some indexes becomes another one, in a way
+abbrev pub Become : (Indexed → Indexed → Type 0) → List Indexed → List Indexed → Type 0
+Become way [] [] = Unit {0}
+Become way [] (y ∷ ys) = ⊥
+Become way (x ∷ xs) [] = ⊥
+Become way (x ∷ xs) (y ∷ ys) = way x y × Become way xs ys
+
+-- an index stays one of its kind, with at least as much room
+pub record StaysItself (x y : Indexed) : Type 0 where
+  pub kind : y.kind ≡ x.kind
+  pub room : x.room ≤ y.room
+  pub version_room : x.version_room ≤ y.version_room
+
+-- what it holds and what is pending stays too
+pub record StaysSame (x y : Indexed) : Type 0 where
+  pub itself : StaysItself x y
+  pub held : y.held ≡ x.held
+  pub pending : y.pending ≡ x.pending
+
+-- an index is in order, and has room for the entries of some versions, and for these to be pending
+pub record CanTakeIn (a : Archived) (news : List Shown) (x : Indexed) : Type 0 where
+  pub order : x.held ≡ in_order (sort_key (keyer_of x.kind) a) x.held
+  pub room : length x.held + length (all_entries (lister_of x.kind) a news) ≤ x.room
+  pub version_room : length x.pending + length news ≤ x.version_room
+
+-- definitions are put in order at once, the others are pending
+abbrev pub IsTaken : IndexKind → Archived → List Shown → Indexed → Indexed → Type 0
+IsTaken (Facts kind) a news x y = (y.held ≡ x.held) × (y.pending ≡ x.pending ++ news)
+IsTaken kind a news x y =
+    (y.held ≡ in_order (sort_key (keyer_of kind) a)
+    (x.held ++ all_entries (lister_of kind) a news)) × (y.pending ≡ x.pending)
+
+pub record TakesIn (a : Archived) (news : List Shown) (x y : Indexed) : Type 0 where
+  pub itself : StaysItself x y
+  pub taken : IsTaken x.kind a news x y
+
+-- what is shown under the name of a version goes
+pub record LetsGo (a : Archived) (one : Shown) (x y : Indexed) : Type 0 where
+  pub itself : StaysItself x y
+  pub others : (shown : List Shown) → IsIndex a shown x → shown_under one.name shown ≡ Some one
+      → IsIndex a (filter (λ (s : Shown). not (nat_eq s.name one.name)) shown) y
+
+-- what is shown under some names goes
+pub record LetsGoAll (names : List ℕ) (x y : Indexed) : Type 0 where
+  pub itself : StaysItself x y
+  pub held : y.held ≡ filter (λ (e : Entry). not (is_among names e.name)) x.held
+  pub pending : y.pending ≡ filter (λ (s : Shown). not (is_among names s.name)) x.pending
