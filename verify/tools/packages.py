@@ -61,8 +61,10 @@ report = Report()
 check = report.check
 
 
-def run(*words: object, **how) -> subprocess.CompletedProcess:
-    return subprocess.run([*map(str, words)], cwd=TOP, capture_output=True, text=True, **how)
+def run(*words: object) -> subprocess.CompletedProcess:
+    """Runs a command at the top; the program that `verify/run` names is not the one installed."""
+    env = {name: value for name, value in os.environ.items() if name != "CBROWSE"}
+    return subprocess.run([*map(str, words)], cwd=TOP, env=env, capture_output=True, text=True)
 
 
 def paths(root: pathlib.Path, without: tuple[str, ...] = ()) -> dict[str, str]:
