@@ -138,6 +138,8 @@ def cut(place: Place) -> None:
         (["main", "--depth"], 2),
         (["main", "--what", "tree"], 2),
         (["main", "nowhere"], 1),
+        (["main"], 2),
+        (["-j1", "--", "main", "tree"], 0),
         (["--help"], 0),
         (["--version"], 0),
     ):
