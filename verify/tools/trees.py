@@ -268,6 +268,13 @@ def ends(place: Place) -> None:
     check("-j 000", status == 2 and said.startswith("cbrowse-tree: -j 000: "), said)
     status, _, said = place.run("--transfer", "-f", "few.tags", "few")
     check("--transfer to no machine", status == 2 and not (place.folder / "tree").exists(), said)
+    (place.folder / "a blank").mkdir()
+    status, _, said = place.run("-f", "few.tags", "few", TMPDIR=place.folder / "a blank")
+    check(
+        "a temporary folder with a blank",
+        status == 0 and (place.folder / "few.tags").read_bytes() == expected,
+        said,
+    )
     place.put("real", OLD)
     (place.folder / "link").symlink_to("real")
     status, _, said = place.run("-f", "link", "few")
