@@ -268,6 +268,11 @@ def ends(place: Place) -> None:
     check("-j 000", status == 2 and said.startswith("cbrowse-tree: -j 000: "), said)
     status, _, said = place.run("--transfer", "-f", "few.tags", "few")
     check("--transfer to no machine", status == 2 and not (place.folder / "tree").exists(), said)
+    lost = "cbrowse-tree: standard output cannot be written\n"
+    for words, ended in (["-f", "few.tags"], (0, "")), (["-x"], (1, lost)):
+        closed = ["sh", "-c", 'exec sh "$0" "$@" few >&-', place.script, *words]
+        status, _, said = place.run_by(closed)
+        check(f"{words[0]} and no standard output", (status, said) == ended, said)
     (place.folder / "a blank").mkdir()
     status, _, said = place.run("-f", "few.tags", "few", TMPDIR=place.folder / "a blank")
     check(
