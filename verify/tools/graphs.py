@@ -138,12 +138,17 @@ def cut(place: Place) -> None:
         (["main", "--depth"], 2),
         (["main", "--what", "tree"], 2),
         (["main", "nowhere"], 1),
+        (["main"], 2),
+        (["-j1", "--", "main", "tree"], 0),
         (["--help"], 0),
         (["--version"], 0),
     ):
         status, out, said = place.run(*words)
         is_told = (said != "") == (expected != 0)
         check(f"status of {words}", status == expected and is_told, (status, said))
+    full = place.run_by(["sh", "-c", 'exec sh "$0" main tree >/dev/full', place.script])
+    told = "cbrowse-graph: standard output cannot be written\n"
+    check("a picture that cannot be written", (full[0], full[2]) == (1, told), full)
 
 
 def main() -> int:

@@ -177,6 +177,16 @@ def others(place: Place) -> None:
         )
     status, _, said = place.run("-b", "a.c", below="others")
     check("a list that is written again", status == 0, said)
+    for words, why in (["-b", "-Z"], "-Z: no such option"), (["-b", "-i"], "-i needs a value"):
+        status, _, said = place.run(*words, below="others")
+        check(f"wrong words {words}", (status, said) == (2, f"cbrowse-cscope: {why}\n"), said)
+    for words, why in (["-b"], "cannot be written"), (["-L", "-1", "f"], "cannot be read"):
+        status, _, said = place.run(*words, "-f", "nowhere/list", below="others")
+        check(
+            f"{words[0]} and a list in no folder",
+            (status, said) == (1, f"cbrowse-cscope: nowhere/list: {why}\n"),
+            said,
+        )
 
 
 def main() -> int:

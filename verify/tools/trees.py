@@ -102,6 +102,11 @@ def questions(place: Place) -> None:
         check(f"many questions by {jobs}", (status, out) == (0, expected), said)
     place.put("questions", "1f7\n6f7\n")
     check("a question that is none", place.run("find", "--questions", "questions", "asked")[0] == 2)
+    for size, expected in (4096, 0), (4097, 2):
+        place.put("questions", "4" + "x" * (size - 1))
+        status, _, said = place.run("find", "--questions", "questions", "asked")
+        is_told = (said != "") == (expected != 0)
+        check(f"a question of {size} bytes", status == expected and is_told, said)
     for words, said in (("6", "x"), "field not in this profile"), (("1", ""), "no pattern"):
         found = place.run("find", *words, "asked")
         check(f"find {words}", found == (2, b"", f"cbrowse: {said}\n"), found)
@@ -259,7 +264,22 @@ def ends(place: Place) -> None:
             status == 0 and (place.folder / "few.tags").read_bytes() == expected,
             said,
         )
-    check("-j 000", place.run("-j", "000", "few")[0] == 2)
+    status, _, said = place.run("-j", "000", "few")
+    check("-j 000", status == 2 and said.startswith("cbrowse-tree: -j 000: "), said)
+    status, _, said = place.run("--transfer", "-f", "few.tags", "few")
+    check("--transfer to no machine", status == 2 and not (place.folder / "tree").exists(), said)
+    lost = "cbrowse-tree: standard output cannot be written\n"
+    for words, ended in (["-f", "few.tags"], (0, "")), (["-x"], (1, lost)):
+        closed = ["sh", "-c", 'exec sh "$0" "$@" few >&-', place.script, *words]
+        status, _, said = place.run_by(closed)
+        check(f"{words[0]} and no standard output", (status, said) == ended, said)
+    (place.folder / "a blank").mkdir()
+    status, _, said = place.run("-f", "few.tags", "few", TMPDIR=place.folder / "a blank")
+    check(
+        "a temporary folder with a blank",
+        status == 0 and (place.folder / "few.tags").read_bytes() == expected,
+        said,
+    )
     place.put("real", OLD)
     (place.folder / "link").symlink_to("real")
     status, _, said = place.run("-f", "link", "few")
