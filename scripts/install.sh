@@ -78,7 +78,7 @@ put 644 editors/vim/doc/cbrowse.txt "$vim/doc/cbrowse.txt"
 put 644 "$tags" "$vim/doc/tags"
 link ../../../../../vim/vimfiles/$pack "$share/nvim/site/$pack"
 
-for path in README.md CHANGELOG.md CONTRIBUTING.md LICENSE-MIT LICENSE-APACHE docs/*.md examples/*; do
+for path in *.md LICENSE-* docs/*.md docs/pictures/* examples/*; do
     put 644 "$path" "$share/doc/cbrowse/$path"
 done
 
