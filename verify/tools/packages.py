@@ -30,7 +30,7 @@ from shared import TOP, Report, words_given, options  # noqa: E402
 PROGRAMS = ("cbrowse", "cbrowse-cscope", "cbrowse-graph", "cbrowse-tree")
 USED = """\
 set -e
-mkdir /tmp/used && cd /tmp/used
+place=$(mktemp -d) && cd "$place"
 printf 'int add(int a) {\\n\\treturn a;\\n}\\nint main(void) {\\n\\treturn add(1);\\n}\\n' >a.c
 cbrowse find 3 add a.c
 cbrowse-tree find 1 main .
@@ -44,7 +44,7 @@ vim -u vimrc -i NONE -n -es -c CbrowseStart -c 'CbrowseDefine add' \\
     -c 'call writefile([line(".")], "line")' \\
     -c 'help cbrowse-files' -c 'call writefile([expand("%:t")], "help")' -c 'qall!' || true
 cat line help
-cd / && rm -r /tmp/used
+cd / && rm -r "$place"
 """
 SAID = """\
 a.c main 5 return add(1);
