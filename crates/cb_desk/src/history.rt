@@ -26,7 +26,7 @@ use crate::present::Present;
 use crate::record::Record;
 use crate::spot::NumberedPlace;
 use crate::{Change, Refusal};
-use cb_index::FactKind;
+use cb_index::IndexKind;
 use std::alloc::{AllocError, Global};
 use std::marker::Model;
 
@@ -90,9 +90,8 @@ impl History {
         &self.present
     }
 
-    /// Puts in order what questions about uses or calls of a kind read. It changes no answer, and
-    /// takes no memory.
-    pub(crate) fn settle(&mut self, kind: FactKind)
+    /// Puts in order what questions read from an index. It changes no answer, and takes no memory.
+    pub(crate) fn settle(&mut self, kind: IndexKind)
         ensures { self.new ≡ self.old }
     {
         self.present.settle(kind);

@@ -56,7 +56,7 @@ use crate::place_edits::PlaceEdits;
 use crate::place_list::PlaceList;
 use crate::plan::Plan;
 use crate::record::Record;
-use cb_index::{FactKind, IndexKind, Room, Shelf, Shown, Version};
+use cb_index::{IndexKind, Room, Shelf, Shown, Version};
 use counts::with_versions;
 use std::alloc::{AllocError, Global};
 use std::marker::Model;
@@ -245,12 +245,11 @@ impl Present {
         mem::swap(&mut self.versions, &mut way.versions);
     }
 
-    /// Puts in order what questions about uses or calls of a kind read. It changes no answer, and
-    /// takes no memory.
-    pub(crate) fn settle(&mut self, kind: FactKind)
+    /// Puts in order what questions read from an index. It changes no answer, and takes no memory.
+    pub(crate) fn settle(&mut self, kind: IndexKind)
         ensures { self.new ≡ self.old }
     {
-        self.shelf.flush(IndexKind::Facts(kind));
+        self.shelf.flush(kind);
     }
 
     /// The room for what a plan brings, for all that is shown and for all that it shows, if its

@@ -27,7 +27,7 @@ ghost use Rattle.cb_desk.specs.steps.Walks.{timeline_in};
 
 use crate::history::History;
 use crate::{Change, Field, Files, Format, Places, Refusal, Rows, TagRows};
-use cb_index::FactKind;
+use cb_index::{FactKind, IndexKind};
 use cb_scan::{Meter, Source, scan};
 use std::alloc::{AllocError, Global};
 use std::marker::Model;
@@ -221,10 +221,22 @@ impl Desk {
         ensures { self.new ≡ self.old }
     {
         match field {
-            Field::Symbol => self.history.settle(FactKind::Uses),
-            Field::Called => self.history.settle(FactKind::Callers),
-            Field::Calling => self.history.settle(FactKind::Callees),
-            _ => {}
+            Field::Symbol => self.history.settle(IndexKind::Facts(FactKind::Uses)),
+            Field::Definition => self.history.settle(IndexKind::DefsByName),
+            Field::Called => self.history.settle(IndexKind::Facts(FactKind::Callers)),
+            Field::Calling => self.history.settle(IndexKind::Facts(FactKind::Callees)),
+            Field::Text | Field::File | Field::Including => {}
+        }
+    }
+
+    /// Puts in order what tags of a format read, where files came in since the last ones, so that
+    /// they are given at once. It changes no answer, and takes no memory.
+    pub fn settle_tags(&mut self, format: Format)
+        ensures { self.new ≡ self.old }
+    {
+        match format {
+            Format::Plain => self.history.settle(IndexKind::DefsByTagName),
+            Format::Extended => self.history.settle(IndexKind::DefsByName),
         }
     }
 

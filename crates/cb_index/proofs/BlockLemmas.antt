@@ -93,9 +93,6 @@ module _ {X : Type 0} (P : X → Type 0) where
   all_back [] ys all = all
   all_back (x ∷ xs) ys all = all_back xs ys all.1
 
-  pub all_more : (xs : List X) (x : X) → AllByRecursion P xs → P x → AllByRecursion P (xs ++ x ∷ [])
-  all_more xs x all here = all-append P xs (x ∷ []) all (here, tt)
-
 -- ---- a place among all entries
 pub parted_at : (bs : Lists) (k : ℕ) → k < length bs → joined bs ≡ joined (take k bs) ++ (get_or bs k [] ++ joined (drop (suc k) bs))
 parted_at bs k low =
@@ -253,16 +250,6 @@ pub get_or_any : {X : Type 0} (xs : List X) (k : ℕ) (d e : X) → k < length x
 get_or_any [] k d e low = absurd (omega (arith, low))
 get_or_any (x ∷ xs) zero d e low = refl
 get_or_any (x ∷ xs) (suc k) d e low = get_or_any xs k d e (omega (arith, low))
-
-pub put_filled : (j : ℕ) (one : Entry) (es : List Entry) → 0 < length (take j es ++ one ∷ drop j es)
-put_filled j one es = let size = length-append (take j es) (one ∷ drop j es) in omega (arith, size)
-
-pub put_none : (n : ℕ) (one : Entry) (bs : Lists) → bs ≡ [] → one ∷ [] ≡ take n (joined bs) ++ one ∷ drop n (joined bs)
-put_none n one bs none = by_place n ∙ sym (ap (λ l. take n (joined l) ++ one ∷ drop n (joined l)) none)
-  where
-    by_place : (m : ℕ) → ◌≡◌ {A = List Entry} (one ∷ []) (take m [] ++ one ∷ drop m [])
-    by_place zero = refl
-    by_place (suc m) = refl
 
 module _ (bs : Lists) (k j : ℕ) (low : k < length bs) (old : List Entry) (here : old ≡ get_or bs k old) where
   here_is : old ≡ get_or bs k []

@@ -18,10 +18,9 @@ use Rattle.cb_scan.specs.lex.Tokens.{bytes_of}
 use Rattle.cb_scan.proofs.FactsWithin.{facts_lie}
 use Rattle.cb_index.specs.Archived.{Archived, name_of}
 use Rattle.cb_index.specs.Bytes.{bytes_at, cut}
-use Rattle.cb_index.specs.Entries.{Keyer, has_key}
+use Rattle.cb_index.specs.Entries.{has_key}
 use Rattle.cb_index.specs.Files.{AreAscending, File, IsThere, files_of}
-use Rattle.cb_index.specs.Firsts.{firsts}
-use Rattle.cb_index.specs.Held.{AreRising, Lister, all_entries, entries_of, entry_of}
+use Rattle.cb_index.specs.Held.{all_entries, entries_of, entry_of}
 use Rattle.cb_index.specs.Items.{item_count, item_key}
 use Rattle.cb_index.specs.Orders.{firsts_in, item_keyer, key_in}
 use Rattle.cb_index.specs.Rows.{Fact, call_in, calls_in, calls_of, facts_named, file_calls_in, file_calls_of, file_facts}

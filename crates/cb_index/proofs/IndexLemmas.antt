@@ -13,7 +13,7 @@ use Rattle.std.specs.Cmp.{nat_cmp_is}
 use Rattle.std.specs.Cmp.Lexicographic.{slice_cmp}
 use Rattle.std.specs.List.{AllByRecursion}
 use Rattle.std.specs.Str.{bytes_eq}
-use Rattle.std.specs.Ordering.{is_gt, nat_cmp, ordering_then}
+use Rattle.std.specs.Ordering.{nat_cmp, ordering_then}
 use Rattle.std.specs.declared.cmp.Ordering.TheVariants.{Less, Equal}
 use Rattle.cb_scan.specs.Order.{AreOrdered, in_order, put}
 use Rattle.cb_scan.proofs.FunctionsRise.{all_implied}
@@ -38,42 +38,7 @@ under_all s [] = tt
 under_all s (item ∷ items) = ((refl, refl), under_all s items)
 
 -- ---- an index takes a version in
-module _ (keyer : Keyer) (lister : Lister) (a : Archived) (s : Shown) (shown : List Shown) (es : List Entry) where
-  pub indexed_put : IsIndexOf keyer lister a shown es
-      → IsIndexOf keyer lister a (put (shown_name a) s shown) (in_order (sort_key keyer a) (es ++ entries_of lister a s))
-  indexed_put is =
-      same_order (sort_key keyer a) (sort_exact keyer a) (es ++ entries_of lister a s)
-      (all_entries lister a (put (shown_name a) s shown))
-      (λ f.
-      let both : sum_by f (es ++ entries_of lister a s) ≡ sum_by f es + sum_by f (entries_of lister a s) =
-      sum_by-append f es (entries_of lister a s) in
-      let held : sum_by f es ≡ sum_by f (all_entries lister a shown) =
-      ap (sum_by f) is ∙ in_order_sum (sort_key keyer a) f (all_entries lister a shown) in
-      let more : sum_by f (all_entries lister a (put (shown_name a) s shown))
-      ≡ sum_by f (entries_of lister a s) + sum_by f (all_entries lister a shown) =
-      sum_flat_put (entries_of lister a) (shown_name a) f s shown in
-      omega (arith, both, held, more))
-
 -- ---- an index takes many versions in
-module _ (keyer : Keyer) (lister : Lister) (a : Archived) (shown news : List Shown) (es : List Entry) where
-  pub indexed_each : IsIndexOf keyer lister a shown es
-      → IsIndexOf keyer lister a (in_order (shown_name a) (shown ++ news))
-      (in_order (sort_key keyer a) (es ++ all_entries lister a news))
-  indexed_each is =
-      same_order (sort_key keyer a) (sort_exact keyer a) (es ++ all_entries lister a news)
-      (all_entries lister a (in_order (shown_name a) (shown ++ news)))
-      (λ f.
-      let size : Shown → ℕ = λ s. sum_by f (entries_of lister a s) in
-      let both = sum_by-append f es (all_entries lister a news) in
-      let held : sum_by f es ≡ sum_by f (all_entries lister a shown) =
-      ap (sum_by f) is ∙ in_order_sum (sort_key keyer a) f (all_entries lister a shown) in
-      let old = sum_flat (entries_of lister a) f shown in
-      let more = sum_flat (entries_of lister a) f news in
-      let whole = sum_flat (entries_of lister a) f (in_order (shown_name a) (shown ++ news)) in
-      let moved = in_order_sum (shown_name a) size (shown ++ news) in
-      let parts = sum_by-append size shown news in
-      omega (arith, both, held, old, more, whole, moved, parts))
-
 -- ---- and lets some go, by the numbers of their names
 module _ (lister : Lister) (a : Archived) (stays : ℕ → Bool) where
   nothing : (b : Bool) → ◌≡◌ {A = List Entry} [] (cond b [] [])
@@ -235,21 +200,6 @@ module _ (lister : Lister) (count : Option (List ℕ) → ℕ) (fewer : (t : Opt
       length-map (listed_of lister a s.version) (entry_of s) in
       omega (arith, both, one, fewer (slice_get a.texts s.version), length_all shown)
 
-  pub fits : (keyer : Keyer) (shown : List Shown) (es : List Entry) (s : Shown) (room : ℕ) → IsIndexOf keyer lister a shown es
-      → total count a shown + count (slice_get a.texts s.version) ≤ room
-      → length es + length (listed_of lister a s.version) ≤ room
-  fits keyer shown es s room is enough =
-      let held : length es ≡ length (all_entries lister a shown) =
-      ap length is ∙ length_in_order (sort_key keyer a) (all_entries lister a shown) in
-      omega (arith, held, enough, length_all shown, fewer (slice_get a.texts s.version))
-
-  pub each_fits : (keyer : Keyer) (shown news : List Shown) (es : List Entry) (room : ℕ) → IsIndexOf keyer lister a shown es
-      → total count a shown + total count a news ≤ room → length es + length (all_entries lister a news) ≤ room
-  each_fits keyer shown news es room is enough =
-      let held : length es ≡ length (all_entries lister a shown) =
-      ap length is ∙ length_in_order (sort_key keyer a) (all_entries lister a shown) in
-      omega (arith, held, enough, length_all shown, length_all news)
-
 -- ---- the entries of one version after another
 module _ (lister : Lister) (a : Archived) (shown : List Shown) (i : ℕ) (d : Shown) (es old : List Entry) (room : ℕ) where
   pub next_fits : i < length shown → es ++ all_entries lister a (drop i shown) ≡ old ++ all_entries lister a shown
@@ -267,9 +217,9 @@ module _ (lister : Lister) (a : Archived) (shown : List Shown) (i : ℕ) (d : Sh
       omega (arith, whole, front, back, all, one, enough)
 
 -- ---- entries go by file and number
--- e does not come after f in the order of files
+-- e comes before f in the order of files
 abbrev pub ComesFirst : Archived → Entry → Entry → Type 0
-ComesFirst a e f = not (is_gt (slice_cmp nat_cmp (file_key a e) (file_key a f))) ≡ true
+ComesFirst a e f = slice_cmp nat_cmp (file_key a e) (file_key a f) ≡ Less
 
 module _ (a : Archived) where
   pub by_number : (e f : Entry) → e.name ≡ f.name → e.version ≡ f.version → e.number < f.number → ComesFirst a e f
@@ -281,13 +231,13 @@ module _ (a : Archived) where
       subst (λ n. nat_cmp e.version n ≡ Equal) version (tied_itself nat_cmp_total e.version) in
       let files : slice_cmp nat_cmp (name_of a e.name) (name_of a f.name) ≡ Equal =
       subst (λ n. slice_cmp nat_cmp (name_of a e.name) (name_of a n) ≡ Equal) name (tied_itself nat_list_cmp_total (name_of a e.name)) in
-      ap (λ o. not (is_gt o)) (sym (file_cmp a e f)
-      ∙ (λ i. ordering_then (files i) (ordering_then (names i) (ordering_then (versions i) (ordering_then (number i) (slice_cmp nat_cmp (e.rows ∷ []) (f.rows ∷ [])))))))
+      sym (file_cmp a e f)
+      ∙ (λ i. ordering_then (files i) (ordering_then (names i) (ordering_then (versions i)
+      (ordering_then (number i) (slice_cmp nat_cmp (e.rows ∷ []) (f.rows ∷ []))))))
 
   by_name : (e f : Entry) → slice_cmp nat_cmp (name_of a e.name) (name_of a f.name) ≡ Less → ComesFirst a e f
   by_name e f less =
-      ap (λ o. not (is_gt o)) (sym (file_cmp a e f)
-      ∙ ap (λ o. ordering_then o (slice_cmp nat_cmp (numbers e) (numbers f))) less)
+      sym (file_cmp a e f) ∙ ap (λ o. ordering_then o (slice_cmp nat_cmp (numbers e) (numbers f))) less
 
   behind : (s : Shown) (item : Listed) (items : List Listed) → AllByRecursion (λ (j : Listed). item.number < j.number) items
       → AllByRecursion (ComesFirst a (entry_of s item)) (map (entry_of s) items)

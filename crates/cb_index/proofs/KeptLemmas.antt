@@ -12,15 +12,13 @@ use Rattle.cb_scan.proofs.FactsWithin.{all_in_order}
 use Rattle.cb_scan.proofs.FunctionsRise.{all_implied}
 use Rattle.cb_scan.proofs.WithinLemmas.{all-append}
 use Rattle.cb_index.specs.Archived.{Archived, name_of}
-use Rattle.cb_index.specs.Files.{AreApart, AreAscending, IsThere, call_count, count_for, def_count, is_shown, shown_name, shown_under, total, use_count}
-use Rattle.cb_index.specs.Kinds.{all_kinds, keyer_of, lister_of}
-use Rattle.cb_index.specs.Entries.{Keyer, sort_key}
-use Rattle.cb_index.specs.Held.{Indexed, Lister, all_entries}
+use Rattle.cb_index.specs.Files.{AreApart, AreAscending, IsThere, count_for, is_shown, shown_name, shown_under, total}
+use Rattle.cb_index.specs.Kinds.{all_kinds, def_kind, keyer_of, lister_of}
+use Rattle.cb_index.specs.Entries.{sort_key}
+use Rattle.cb_index.specs.Held.{Indexed, all_entries}
 use Rattle.cb_index.specs.Names.{is_among, names_of}
-use Rattle.cb_index.specs.Orders.{def_key, defs_listed, tag_key, tags_listed}
-use Rattle.cb_index.specs.Shelved.{AreKept, AreTotals, AreWithin, CanShow, Covers, HasRoom, IsIndex, IsIndexOf, IsPrompt, KeepsRoom, Shelved, larger_room, room_for, total_for}
-use Rattle.cb_index.specs.steps.Moves.{Become, CanTakeIn, IsTaken, LetsGo, LetsGoAll, StaysItself, StaysSame, TakesIn}
-use Rattle.cb_index.specs.declared.entry.Entry.{Entry}
+use Rattle.cb_index.specs.Shelved.{AreKept, AreTotals, AreWithin, CanShow, Covers, HasRoom, IsIndex, IsIndexOf, KeepsRoom, Shelved, larger_room, room_for, total_for}
+use Rattle.cb_index.specs.steps.Moves.{Become, CanTakeIn, LetsGo, LetsGoAll, StaysItself, StaysSame, TakesIn}
 use Rattle.cb_index.specs.declared.entry.Shown.{Shown}
 use Rattle.cb_index.specs.declared.kind.FactKind.TheVariants.{Uses, Callees, Callers}
 use Rattle.cb_index.specs.declared.kind.IndexKind.{IndexKind}
@@ -33,46 +31,29 @@ use Rattle.cb_index.proofs.EachLemmas.{all_at, all_set, become_all, become_kinds
 use Rattle.cb_index.proofs.FewerLemmas.{fewer_of}
 use Rattle.cb_index.proofs.FrontLemmas.{get_or_front, get_or_left, length_front, slice_get_front, slice_get_left}
 use Rattle.cb_index.proofs.InOrderLemmas.{all_filter}
-use Rattle.cb_index.proofs.IndexLemmas.{IsSame, length_all}
+use Rattle.cb_index.proofs.IndexLemmas.{IsSame}
 use Rattle.cb_index.proofs.ListedLemmas.{apart_both, ascending_in_order}
 use Rattle.cb_index.proofs.RowLemmas.{again}
 
 -- ---- indexes by kind
-prompt_none : (kind : IndexKind) (pending : List Shown) → pending ≡ [] → IsPrompt kind pending
-prompt_none DefsByName pending none = none
-prompt_none DefsByTagName pending none = none
-prompt_none (Facts kind) pending none = tt
-
-prompt_filter : (kind : IndexKind) (p : Shown → Bool) (old new : List Shown) → new ≡ filter p old → IsPrompt kind old → IsPrompt kind new
-prompt_filter DefsByName p old new left none = left ∙ ap (filter p) none
-prompt_filter DefsByTagName p old new left none = left ∙ ap (filter p) none
-prompt_filter (Facts kind) p old new left none = tt
-
--- none goes where none is pending
-pub prompt_without : (kind : IndexKind) (old new : List Shown) (n : ℕ) → n < length old → IsPrompt kind old → IsPrompt kind new
-prompt_without DefsByName old new n below none = absurd (let empty = ap length none in omega (arith, below, empty))
-prompt_without DefsByTagName old new n below none = absurd (let empty = ap length none in omega (arith, below, empty))
-prompt_without (Facts kind) old new n below none = tt
-
 -- an index of a kind is one of its own kind
 pub of_its_kind : (a : Archived) (shown : List Shown) (x y : Indexed) → y.kind ≡ x.kind
-    → Covers (keyer_of x.kind) (lister_of x.kind) a shown y × IsPrompt x.kind y.pending → IsIndex a shown y
-of_its_kind a shown x y kind is =
-    subst (λ k. Covers (keyer_of k) (lister_of k) a shown y × IsPrompt k y.pending) (sym kind) is
+    → Covers (keyer_of x.kind) (lister_of x.kind) a shown y → IsIndex a shown y
+of_its_kind a shown x y kind is = subst (λ k. Covers (keyer_of k) (lister_of k) a shown y) (sym kind) is
 
--- an index of definitions holds all
+-- an index where nothing is pending holds all
 pub all_held : (kind : IndexKind) (a : Archived) (shown : List Shown) (x : Indexed) → x.kind ≡ kind → x.pending ≡ []
     → IsIndex a shown x → IsIndexOf (keyer_of kind) (lister_of kind) a shown x.held
 all_held kind a shown x same none is =
     subst (λ k. IsIndexOf (keyer_of k) (lister_of k) a shown x.held) same
-    (covers_read (keyer_of x.kind) (lister_of x.kind) a shown x none is.0)
+    (covers_read (keyer_of x.kind) (lister_of x.kind) a shown x none is)
 
 -- it is in order
 pub in_its_order : (kind : IndexKind) (a : Archived) (shown : List Shown) (x : Indexed) → x.kind ≡ kind → IsIndex a shown x
     → x.held ≡ in_order (sort_key (keyer_of kind) a) x.held
 in_its_order kind a shown x same is =
     subst (λ k. x.held ≡ in_order (sort_key (keyer_of k) a) x.held) same
-    (again (keyer_of x.kind) (lister_of x.kind) a is.0.sorted x.held is.0.held)
+    (again (keyer_of x.kind) (lister_of x.kind) a is.sorted x.held is.held)
 
 -- ---- nothing is kept
 abbrev pub IsEmpty : Indexed → Type 0
@@ -86,7 +67,7 @@ kept_none a shown xs none kinds empty = record {
   ascending = subst (AreAscending a) (sym none) tt;
   kinds = kinds;
   each = all_implied IsEmpty (IsIndex a shown)
-      (λ x is. (covers_none (keyer_of x.kind) (lister_of x.kind) a shown x none is.0 is.1, prompt_none x.kind x.pending is.1)) xs empty;
+      (λ x is. covers_none (keyer_of x.kind) (lister_of x.kind) a shown x none is.0 is.1) xs empty;
 }
 
 -- ---- the archive changes elsewhere
@@ -110,7 +91,7 @@ module _ (a b : Archived) where
     ascending = same_ascending shown all kept.ascending;
     kinds = kept.kinds;
     each = all_implied (IsIndex a shown) (IsIndex b shown)
-        (λ x is. (covers_same (keyer_of x.kind) (lister_of x.kind) a b shown x all is.0, is.1)) xs kept.each;
+        (λ x is. covers_same (keyer_of x.kind) (lister_of x.kind) a b shown x all is) xs kept.each;
   }
 
   -- the same names and texts
@@ -182,10 +163,8 @@ module _ (a : Archived) (shown then : List Shown) (xs ys : List Indexed) where
   pub kept_as : then ≡ shown → Become StaysSame xs ys → AreKept a shown xs → AreKept a then ys
   kept_as same become kept =
       becomes StaysSame (λ x y way. way.itself.kind)
-      (λ x y way is. of_its_kind a then x y way.itself.kind (
-        covers_as (keyer_of x.kind) (lister_of x.kind) a shown then x y same way.held way.pending is.0,
-        subst (IsPrompt x.kind) (sym way.pending) is.1,
-      )) become (subst (AllByRecursion (IsThere a)) (sym same) kept.there) (subst (AreAscending a) (sym same) kept.ascending) kept
+      (λ x y way is. of_its_kind a then x y way.itself.kind
+      (covers_as (keyer_of x.kind) (lister_of x.kind) a shown then x y same way.held way.pending is)) become (subst (AllByRecursion (IsThere a)) (sym same) kept.there) (subst (AreAscending a) (sym same) kept.ascending) kept
 
   -- what is shown under some names is hidden
   pub kept_hidden : (names : List ℕ) → then ≡ filter (λ (s : Shown). not (is_among names s.name)) shown
@@ -194,10 +173,8 @@ module _ (a : Archived) (shown then : List Shown) (xs ys : List Indexed) where
       let stays : ℕ → Bool = λ n. not (is_among names n) in
       let shown_stays : Shown → Bool = λ s. stays s.name in
       becomes (LetsGoAll names) (λ x y way. way.itself.kind)
-      (λ x y way is. of_its_kind a then x y way.itself.kind (
-        covers_hidden (keyer_of x.kind) (lister_of x.kind) a stays shown then x y left way.held way.pending is.0,
-        prompt_filter x.kind shown_stays x.pending y.pending way.pending is.1,
-      )) become
+      (λ x y way is. of_its_kind a then x y way.itself.kind
+      (covers_hidden (keyer_of x.kind) (lister_of x.kind) a stays shown then x y left way.held way.pending is)) become
       (subst (AllByRecursion (IsThere a)) (sym left) (all_filter shown_stays (IsThere a) shown kept.there))
       (subst (AreAscending a) (sym left) (ascending_filter a shown_stays shown kept.ascending)) kept
 
@@ -220,36 +197,13 @@ kept_list a shown then xs same kept = subst (λ l. AreKept a l xs) (sym same) ke
 -- ---- versions are shown
 module _ (a : Archived) (shown news : List Shown) (apart : AreApart a news) (none : list_any (is_shown a shown) news ≡ false)
     (up : AreAscending a shown) where
-  -- those of definitions at once
-  at_once : (keyer : Keyer) (lister : Lister) (x y : Indexed)
-      → y.held ≡ in_order (sort_key keyer a) (x.held ++ all_entries lister a news) → y.pending ≡ x.pending → x.pending ≡ []
-      → Covers keyer lister a shown x → Covers keyer lister a (in_order (shown_name a) (shown ++ news)) y
-  at_once keyer lister x y held same prompt is =
-      let between : Indexed = record {
-        kind = x.kind;
-        held = x.held;
-        pending = x.pending ++ news;
-        room = x.room;
-        version_room = x.version_room;
-      } in
-      covers_settled keyer lister a (in_order (shown_name a) (shown ++ news)) between y
-      (held ∙ ap (λ p. in_order (sort_key keyer a) (x.held ++ all_entries lister a (p ++ news))) (sym prompt)) (same ∙ prompt)
-      (covers_more keyer lister a shown news x between up apart none refl refl is)
-
-  taken : (kind : IndexKind) (x y : Indexed) → IsTaken kind a news x y
-      → Covers (keyer_of kind) (lister_of kind) a shown x × IsPrompt kind x.pending
-      → Covers (keyer_of kind) (lister_of kind) a (in_order (shown_name a) (shown ++ news)) y × IsPrompt kind y.pending
-  taken DefsByName x y way is = (at_once def_key defs_listed x y way.0 way.1 is.1 is.0, way.1 ∙ is.1)
-  taken DefsByTagName x y way is = (at_once tag_key tags_listed x y way.0 way.1 is.1 is.0, way.1 ∙ is.1)
-  taken (Facts kind) x y way is =
-      (covers_more (keyer_of (Facts kind)) (lister_of (Facts kind)) a shown news x y up apart none way.0 way.1 is.0, tt)
-
-  pub kept_each : (xs ys : List Indexed) → AllByRecursion (IsThere a) news → Become (TakesIn a news) xs ys
+  pub kept_each : (xs ys : List Indexed) → AllByRecursion (IsThere a) news → Become (TakesIn news) xs ys
       → AreKept a shown xs → AreKept a (in_order (shown_name a) (shown ++ news)) ys
   kept_each xs ys there become kept =
       let then = in_order (shown_name a) (shown ++ news) in
-      becomes a shown then xs ys (TakesIn a news) (λ x y way. way.itself.kind)
-      (λ x y way is. of_its_kind a then x y way.itself.kind (taken x.kind x y way.taken is)) become
+      becomes a shown then xs ys (TakesIn news) (λ x y way. way.itself.kind)
+      (λ x y way is. of_its_kind a then x y way.itself.kind
+      (covers_more (keyer_of x.kind) (lister_of x.kind) a shown news x y up apart none way.held way.pending is)) become
       (all_in_order (shown_name a) (IsThere a) (shown ++ news) (all-append (IsThere a) shown news kept.there there))
       (ascending_in_order a (shown ++ news) (apart_both a shown news up apart none)) kept
 
@@ -271,42 +225,29 @@ total_fits (Facts Uses) shown capacity n room xs is = is.uses
 total_fits (Facts Callees) shown capacity n room xs is = is.calls
 total_fits (Facts Callers) shown capacity n room xs is = is.calls
 
+-- so do the definitions
+pub defs_fit : (by : Bool) (a : Archived) (shown : List Shown) (capacity : ℕ) (n : Totals) (room : Room) (xs : List Indexed)
+    → AreTotals a shown n → AreWithin shown capacity n room xs → total (count_for (def_kind by)) a shown ≤ room.defs
+defs_fit false a shown capacity n room xs are is = omega (arith, are.defs, is.defs)
+defs_fit true a shown capacity n room xs are is = omega (arith, are.defs, is.defs)
+
 -- what is held and pending fits
 pub flush_fits : (a : Archived) (shown : List Shown) (capacity : ℕ) (n : Totals) (room : Room) (xs : List Indexed) (x : Indexed)
     → AreTotals a shown n → AreWithin shown capacity n room xs → HasRoom room x → IsIndex a shown x
     → length x.held + length (all_entries (lister_of x.kind) a x.pending) ≤ x.room
 flush_fits a shown capacity n room xs x are within has is =
     covers_fits (keyer_of x.kind) (lister_of x.kind) a (count_for x.kind) (fewer_of x.kind) shown x (total_for x.kind n) x.room
-    (total_is x.kind a shown n are) (le_trans (total_fits x.kind shown capacity n room xs within) has.0) is.0
+    (total_is x.kind a shown n are) (le_trans (total_fits x.kind shown capacity n room xs within) has.0) is
 
--- so do those that come in
-module _ (s : Shelved) (news : List Shown) (asked : CanShow s news) (room : Room)
-    (entries : s.entry_room ≡ room.entries) (defs : s.def_room ≡ room.defs) (uses : s.use_room ≡ room.uses) (calls : s.call_room ≡ room.calls) where
-  abbrev BothFit : IndexKind → Type 0
-  BothFit kind = total (count_for kind) s.archive s.shown + total (count_for kind) s.archive news ≤ room_for kind room
-
-  both_fit : (kind : IndexKind) → BothFit kind
-  both_fit DefsByName = subst (λ n. total def_count s.archive s.shown + total def_count s.archive news ≤ n) defs asked.defs
-  both_fit DefsByTagName = subst (λ n. total def_count s.archive s.shown + total def_count s.archive news ≤ n) defs asked.defs
-  both_fit (Facts Uses) = subst (λ n. total use_count s.archive s.shown + total use_count s.archive news ≤ n) uses asked.uses
-  both_fit (Facts Callees) = subst (λ n. total call_count s.archive s.shown + total call_count s.archive news ≤ n) calls asked.calls
-  both_fit (Facts Callers) = subst (λ n. total call_count s.archive s.shown + total call_count s.archive news ≤ n) calls asked.calls
-
-  pub can_take : (x : Indexed) → HasRoom room x → IsIndex s.archive s.shown x → CanTakeIn s.archive news x
+-- there is room for those that come in to be pending
+module _ (s : Shelved) (news : List Shown) (asked : CanShow s news) (room : Room) (entries : s.entry_room ≡ room.entries) where
+  can_take : (x : Indexed) → HasRoom room x → IsIndex s.archive s.shown x → CanTakeIn news x
   can_take x has is =
-      let held = covers_fits (keyer_of x.kind) (lister_of x.kind) s.archive (count_for x.kind) (fewer_of x.kind) s.shown x
-      (total (count_for x.kind) s.archive s.shown) (total (count_for x.kind) s.archive s.shown) refl (omega arith) is.0 in
-      let more = length_all (lister_of x.kind) (count_for x.kind) (fewer_of x.kind) s.archive news in
-      let fit = both_fit x.kind in
-      let pending = covers_length (keyer_of x.kind) (lister_of x.kind) s.archive s.shown x is.0 in
-      record {
-        order = in_its_order x.kind s.archive s.shown x refl is;
-        room = omega (arith, held, more, fit, has.0);
-        version_room = omega (arith, pending, asked.entries, entries, has.1);
-      }
+      let pending = covers_length (keyer_of x.kind) (lister_of x.kind) s.archive s.shown x is in
+      omega (arith, pending, asked.entries, entries, has.1)
 
-  pub all_can_take : (xs : List Indexed) → AllByRecursion (HasRoom room) xs → AllByRecursion (IsIndex s.archive s.shown) xs
-      → AllByRecursion (CanTakeIn s.archive news) xs
+  pub all_can_take : (xs : List Indexed) → AllByRecursion (HasRoom room) xs
+      → AllByRecursion (IsIndex s.archive s.shown) xs → AllByRecursion (CanTakeIn news) xs
   all_can_take [] has is = tt
   all_can_take (x ∷ xs) has is = (can_take x has.0 is.0, all_can_take xs has.1 is.1)
 
@@ -373,7 +314,7 @@ module _ (a : Archived) (shown : List Shown) (xs : List Indexed) (n : ℕ) (y d 
         ascending = kept.ascending;
         kinds = kinds_set xs n y d below itself.kind ∙ kept.kinds;
         each = all_set (IsIndex a shown) xs n y
-            (of_its_kind a shown x y itself.kind (covers_settled (keyer_of x.kind) (lister_of x.kind) a shown x y held none is.0, prompt_none x.kind y.pending none))
+            (of_its_kind a shown x y itself.kind (covers_settled (keyer_of x.kind) (lister_of x.kind) a shown x y held none is))
             kept.each;
       }
 

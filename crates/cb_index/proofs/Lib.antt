@@ -3,6 +3,7 @@ pub mod AscendLemmas
 pub mod BlockLemmas
 pub mod CountLemmas
 pub mod CoverLemmas
+pub mod DefSearchLemmas
 pub mod EachLemmas
 pub mod EntryLemmas
 pub mod FactLemmas

@@ -101,7 +101,7 @@ module _ (keyer : Keyer) (a : Archived) where
       let key_tied : slice_cmp nat_cmp (key_of keyer a e) (key_of keyer a f) ≡ Equal =
       subst (λ k. slice_cmp nat_cmp (key_of keyer a e) k ≡ Equal) keys (tied_itself nat_list_cmp_total (key_of keyer a e)) in
       ap (λ o. not (is_gt o)) (ordered_cmp e f
-      ∙ (λ i. ordering_then (prefix_tied i) (ordering_then (key_tied i) (slice_cmp nat_cmp (file_key a e) (file_key a f))))) ∙ first
+      ∙ (λ i. ordering_then (prefix_tied i) (ordering_then (key_tied i) (slice_cmp nat_cmp (file_key a e) (file_key a f)))) ∙ first)
 
   -- entries that have the prefixes of their keys go by key
   by_key : (front : List ℕ → List ℕ) → GoesFirst front → (e f : Entry) → HasPrefix front keyer a e → HasPrefix front keyer a f
@@ -112,7 +112,7 @@ module _ (keyer : Keyer) (a : Archived) where
       ap (λ o. not (is_gt o)) (ordered_cmp e f ∙ sym (then_assoc (nat_cmp e.prefix f.prefix) keys files)
       ∙ (λ i. ordering_then (ordering_then (nat_cmp (of_e.0 i) (of_f.0 i)) keys) files)
       ∙ ap (λ o. ordering_then o files) (prefixes_first front front_first (key_of keyer a e) (key_of keyer a f) of_e.1 of_f.1))
-      ∙ settled keys files first
+      ∙ settled keys files (ap (λ o. not (is_gt o)) first)
     where
       settled : (o p : Ordering) → not (is_gt p) ≡ true → not (is_gt (ordering_then o p)) ≡ not (is_gt o)
       settled Less p is = refl

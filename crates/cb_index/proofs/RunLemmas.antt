@@ -9,15 +9,6 @@ use Rattle.cb_index.specs.Blocks.{before, joined}
 use Rattle.cb_index.specs.declared.entry.Entry.{Entry}
 use Rattle.cb_index.proofs.BlockLemmas.{Lists, front_at, parted_at}
 
-pub nothing_between : (m n : ℕ) (bs : Lists) → bs ≡ [] → joined bs ≡ drop m (take n (joined bs))
-nothing_between m n bs none = ap joined none ∙ by_places m n ∙ sym (ap (λ l. drop m (take n (joined l))) none)
-  where
-    by_places : (i j : ℕ) → ◌≡◌ {A = List Entry} [] (drop i (take j []))
-    by_places zero zero = refl
-    by_places zero (suc j) = refl
-    by_places (suc i) zero = refl
-    by_places (suc i) (suc j) = refl
-
 -- a place in an earlier block
 before_le : (bs : Lists) (k j m i : ℕ) → k < m → k < length bs → j ≤ length (get_or bs k []) → before bs k j ≤ before bs m i
 before_le [] k j m i less low within = absurd (omega (arith, low))

@@ -206,14 +206,6 @@ module _ {X : Type 0} (p : X → Bool) where
   all_right [] ys a = a
   all_right (x ∷ xs) ys a = all_right xs ys a.1
 
-  -- ahead of what passes all pass
-  pub parts_ahead : (xs ys : List X) (y : X) → Parts (xs ++ y ∷ ys) → p y ≡ true → AllByRecursion (λ x. p x ≡ true) xs
-  parts_ahead [] ys y q is = tt
-  parts_ahead (x ∷ xs) ys y q is = (
-    ⊎_elim (λ yes-x. yes-x) (λ isnt. absurd (true≢false (sym is ∙ (all_right xs (y ∷ ys) (q.0 isnt)).0))) (cases_Bool (p x)),
-    parts_ahead xs ys y q.1 is,
-  )
-
   -- the same by places
   pub parts_places : (xs : List X) → Parts xs → (i j : ℕ) (d : X) → i ≤ j → j < length xs → p (get_or xs j d) ≡ true → p (get_or xs i d) ≡ true
   parts_places [] q i j d upward below is = absurd (omega (arith, below))

@@ -146,17 +146,6 @@ module _ (a : Archived) (key : Shown → List ℕ) (shown news shown_then : List
         calls = let e = more.calls in let f = are.calls in let g = all call_count in omega (arith, e, f, g);
       }
 
-module _ (a : Archived) (key : Shown → List ℕ) (s : Shown) (shown shown_then : List Shown) (n m : Totals) (more : AreWith a (s ∷ []) n m) where
-  pub totals_put : shown_then ≡ put key s shown → AreTotals a shown n → AreTotals a shown_then m
-  totals_put is are =
-      let all : (count : Option (List ℕ) → ℕ) → total count a shown_then ≡ count (slice_get a.texts s.version) + total count a shown =
-      λ count. ap (total count a) is ∙ total_put count a key s shown in
-      record {
-        defs = let e = more.defs in let f = are.defs in let g = all def_count in omega (arith, e, f, g);
-        uses = let e = more.uses in let f = are.uses in let g = all use_count in omega (arith, e, f, g);
-        calls = let e = more.calls in let f = are.calls in let g = all call_count in omega (arith, e, f, g);
-      }
-
 -- the totals without the facts of one
 module _ (a : Archived) (name : ℕ) (shown shown_then : List Shown) (one : Shown) (n m : Totals) where
   pub totals_out : shown_under name shown ≡ Some one → AreAscending a shown

@@ -1,5 +1,5 @@
 -- What each of the five indexes is ordered by, and what its entries are.
-use Rattle.std.specs.Prelude.{ℕ, List, [], ◌∷◌, Option, Some, None}
+use Rattle.std.specs.Prelude.{ℕ, Bool, true, false, List, [], ◌∷◌, Option, Some, None}
 use Rattle.cb_scan.specs.Keys.{key_prefix}
 use Rattle.cb_index.specs.Entries.{Keyer}
 use Rattle.cb_index.specs.Held.{Lister}
@@ -36,3 +36,8 @@ abbrev pub fact_kind : IndexKind → Option FactKind
 fact_kind DefsByName = None
 fact_kind DefsByTagName = None
 fact_kind (Facts kind) = Some kind
+
+-- definitions by tag name, or by name
+abbrev pub def_kind : Bool → IndexKind
+def_kind false = DefsByName
+def_kind true = DefsByTagName

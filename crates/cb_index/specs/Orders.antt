@@ -11,8 +11,10 @@ use Rattle.cb_tags.specs.TagNames.{tag_name}
 use Rattle.cb_index.specs.Bytes.{bytes_at, cut}
 use Rattle.cb_index.specs.Entries.{Keyer}
 use Rattle.cb_index.specs.Firsts.{firsts}
-use Rattle.cb_index.specs.Held.{Listed, Lister}
+use Rattle.cb_index.specs.Held.{Listed, Lister, entry_of}
 use Rattle.cb_index.specs.Items.{item_key}
+use Rattle.cb_index.specs.declared.entry.Entry.{Entry}
+use Rattle.cb_index.specs.declared.entry.Shown.{Shown}
 use Rattle.cb_index.specs.declared.kind.FactKind.{FactKind}
 
 -- the name of a definition, if it is there
@@ -74,6 +76,11 @@ tag_prefix text d = tag_key_prefix (tag_name (cut text d.name) [])
 abbrev pub prefixed : Bool → List ℕ → Def → ℕ
 prefixed false = def_prefix
 prefixed true = tag_prefix
+
+-- the entry of a definition of a version under a name
+abbrev pub def_entry : Bool → List ℕ → Shown → ℕ → Def → Entry
+def_entry by_tag_name text s number d =
+    entry_of s (record { number = number; prefix = prefixed by_tag_name text d; rows = 1 })
 
 abbrev pub tags_listed : Lister
 tags_listed None = []

@@ -1,12 +1,11 @@
 -- What a shelf keeps and shows.
-use Rattle.std.specs.Prelude.{ℕ, ◌≡◌, ◌≤◌, ◌<◌, ◌+◌, ◌^◌, ◌⊎◌, ◌++◌, false, List, [], length, map}
-use Rattle.std.specs.Prelude.{max, slice_get}
+use Rattle.std.specs.Prelude.{ℕ, ◌≡◌, ◌≤◌, ◌+◌, ◌^◌, ◌⊎◌, ◌++◌, false, List, length, map}
+use Rattle.std.specs.Prelude.{max}
 use Rattle.std.specs.List.{AllByRecursion, list_any}
-use Rattle.std.specs.Str.{bytes_eq}
 use Rattle.cb_scan.specs.Definitions.{facts_of}
 use Rattle.cb_scan.specs.Order.{in_order}
 use Rattle.cb_scan.specs.TextFacts.{TextFacts}
-use Rattle.cb_index.specs.Archived.{Archived, name_of}
+use Rattle.cb_index.specs.Archived.{Archived}
 use Rattle.cb_index.specs.Entries.{Keyer, sort_key}
 use Rattle.cb_index.specs.Files.{AreApart, AreAscending, File, IsThere, call_count, def_count}
 use Rattle.cb_index.specs.Files.{files_of, is_shown, shown_name, total, use_count}
@@ -78,16 +77,9 @@ pub record Covers (keyer : Keyer) (lister : Lister) (a : Archived) (shown : List
   pub all : shown ≡ in_order (shown_name a) (sorted ++ x.pending)
   pub apart : AreApart a (sorted ++ x.pending)
 
--- definitions are never pending
-abbrev pub IsPrompt : IndexKind → List Shown → Type 0
-IsPrompt DefsByName pending = pending ≡ []
-IsPrompt DefsByTagName pending = pending ≡ []
-IsPrompt (Facts kind) pending = Unit {0}
-
 -- an index of its kind of what is shown
 abbrev pub IsIndex : Archived → List Shown → Indexed → Type 0
-IsIndex a shown x =
-    Covers (keyer_of x.kind) (lister_of x.kind) a shown x × IsPrompt x.kind x.pending
+IsIndex a shown x = Covers (keyer_of x.kind) (lister_of x.kind) a shown x
 
 -- the five indexes are those of what is shown, whose numbers are there, by file name
 pub record AreKept (a : Archived) (shown : List Shown) (xs : List Indexed) : Type 0 where

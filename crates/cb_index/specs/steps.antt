@@ -1,6 +1,7 @@
 pub mod Bounds
 pub mod Chains
 pub mod Counting
+pub mod DefSearch
 pub mod Found
 pub mod Given
 pub mod Includes
@@ -14,3 +15,4 @@ pub mod Runs
 pub mod Searched
 pub mod Spread
 pub mod Table
+pub mod ToCome

@@ -1,4 +1,4 @@
-//! The five indexes, of which those of uses and calls put new versions off until they are asked.
+//! The five indexes, which put new versions off until they are asked.
 ghost use Rattle.std.specs.Prelude.{
   ◌≡◌,
   ◌+◌,
@@ -14,12 +14,13 @@ ghost use Rattle.std.specs.Prelude.{
   OnOk,
 };
 ghost use Rattle.std.specs.List.{AllByRecursion};
+ghost use Rattle.std.specs.Option.{option_copied};
 ghost use Rattle.std.specs.List.Sorted.{IsStrictlyIncreasing};
 ghost use Rattle.cb_scan.specs.Order.{in_order};
-ghost use Rattle.cb_index.specs.Entries.{has_key, sort_key};
+ghost use Rattle.cb_index.specs.Entries.{sort_key};
 ghost use Rattle.cb_index.specs.Files.{shown_under};
 ghost use Rattle.cb_index.specs.Held.{Indexed, all_entries};
-ghost use Rattle.cb_index.specs.Kinds.{keyer_of, lister_of, prefix_of};
+ghost use Rattle.cb_index.specs.Kinds.{keyer_of, lister_of};
 ghost use Rattle.cb_index.specs.Names.{is_among, names_of};
 ghost use Rattle.cb_index.specs.Shelved.{HasRoom, IsIndex, room_for};
 ghost use Rattle.cb_index.specs.declared.entry.Shown.{Shown};
@@ -33,6 +34,7 @@ ghost use Rattle.cb_index.specs.steps.Moves.{
   TakesIn,
 };
 ghost use Rattle.cb_index.specs.steps.Runs.{run_entries};
+ghost use Rattle.cb_index.specs.steps.ToCome.{is_asked};
 
 use crate::archive::Archive;
 use crate::entry::Shown;
@@ -46,8 +48,8 @@ use crate::run::Run;
 use std::alloc::Global;
 use std::marker::Model;
 
-/// An index of versions. The definitions of a version are put in order when it comes. Its uses and
-/// calls are pending until `flush`, so that those of many versions are put in order together.
+/// An index of versions. Those that come are pending until `flush`, so that the entries of many are
+/// put in order together.
 #[derive(Drop)]
 pub(crate) struct Index {
     kind: IndexKind,
@@ -120,24 +122,13 @@ impl Index {
         self.postings.reserve(room_for(self.kind, room))
     }
 
-    /// Takes versions in, in the room that is there. It takes no memory.
-    pub(crate) fn put(&mut self, archive: &Archive, news: &[Shown])
-        requires { CanTakeIn archive.now news.now self.old }
-        ensures { TakesIn archive.now news.now self.old self.new }
+    /// Takes versions in, in the room that is there: they are pending. It takes no memory.
+    pub(crate) fn put(&mut self, news: &[Shown])
+        requires { length self.old.pending + length news.now ≤ self.old.version_room }
+        ensures { TakesIn news.now self.old self.new }
     {
-        match self.kind {
-            IndexKind::Facts(_) => {
-                if self.pending.extend_from_slice(news).is_err() {
-                    unreachable!()
-                }
-            }
-            IndexKind::DefsByName => {
-                self.postings.put_each(IndexKind::DefsByName, archive, news)
-            }
-            IndexKind::DefsByTagName => {
-                self.postings
-                    .put_each(IndexKind::DefsByTagName, archive, news)
-            }
+        if self.pending.extend_from_slice(news).is_err() {
+            unreachable!()
         }
     }
 
@@ -203,22 +194,17 @@ impl Index {
         self.pending.clear();
     }
 
-    /// The entries that are held, in order.
-    pub(crate) fn entries(&self) -> Run<'_>
-        ensures { run_entries result ≡ self.now.held }
-    {
-        self.postings.entries()
-    }
-
-    /// The entries that are held and have the key, in order.
-    pub(crate) fn with_key(&self, archive: &Archive, key: &[u8]) -> Run<'_>
+    /// The entries that are held, in order: those that have the key, if one is asked for.
+    pub(crate) fn asked(&self, archive: &Archive, key: Option<&[u8]>) -> Run<'_>
         requires { self.now.held
             ≡ in_order (sort_key (keyer_of self.now.kind) archive.now) self.now.held }
-        ensures { run_entries result ≡ filter
-            (has_key (keyer_of self.now.kind) archive.now
-            (prefix_of self.now.kind key.now) key.now) self.now.held }
+        ensures { run_entries result
+            ≡ filter (is_asked self.now.kind archive.now (option_copied key.entry)) self.now.held }
     {
-        self.postings.with_key(self.kind, archive, key)
+        match key {
+            Some(key) => self.postings.with_key(self.kind, archive, key),
+            None => self.postings.entries(),
+        }
     }
 }
 
@@ -235,12 +221,12 @@ pub(crate) fn reserve_each(indexes: &mut [Index], room: &Room) -> Result<(), Out
 }
 
 /// Each index takes versions in.
-pub(crate) fn put_in_each(indexes: &mut [Index], archive: &Archive, news: &[Shown])
-    requires { AllByRecursion (CanTakeIn archive.now news.now) indexes.old }
-    ensures { Become (TakesIn archive.now news.now) indexes.old indexes.new }
+pub(crate) fn put_in_each(indexes: &mut [Index], news: &[Shown])
+    requires { AllByRecursion (CanTakeIn news.now) indexes.old }
+    ensures { Become (TakesIn news.now) indexes.old indexes.new }
 {
     for index in indexes.iter_mut() {
-        index.put(archive, news);
+        index.put(news);
     }
 }
 

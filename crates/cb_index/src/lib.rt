@@ -11,6 +11,7 @@ mod block;
 mod blocks;
 mod bytes;
 mod counts;
+mod def_search;
 mod entries;
 mod entry;
 mod facts;

@@ -22,6 +22,7 @@ ghost use Rattle.cb_index.specs.Firsts.{firsts};
 ghost use Rattle.cb_index.specs.Held.{entries_of, entry_of, listed_of};
 ghost use Rattle.cb_index.specs.Kinds.{keyer_of, lister_of, prefix_of};
 ghost use Rattle.cb_index.specs.Orders.{
+  def_entry,
   def_key,
   def_prefix,
   def_span,
@@ -206,6 +207,30 @@ fn tag_prefix(text: &[u8], def: &Def) -> u64
     key_prefix(front_of_tag(cut(text, def.name)))
 }
 
+/// The entry of a definition, with the prefix of its name or, if so, of its tag name.
+pub(crate) fn def_entry(
+    by_tag_name: bool,
+    text: &[u8],
+    def: &Def,
+    shown: Shown,
+    number: u32,
+) -> Entry
+    ensures { result ≡ def_entry by_tag_name text.now shown number def.now }
+{
+    let prefix = if by_tag_name {
+        tag_prefix(text, def)
+    } else {
+        def_prefix(text, def)
+    };
+    Entry {
+        prefix,
+        name: shown.name,
+        version: shown.version,
+        number,
+        rows: 1,
+    }
+}
+
 /// Puts the entries of definitions behind others, with the prefixes of their names or, if so, of
 /// their tag names.
 fn append_defs(by_tag_name: bool, text: &[u8], defs: &[Def], shown: Shown, entries: &mut Vec<Entry>)
@@ -216,19 +241,7 @@ fn append_defs(by_tag_name: bool, text: &[u8], defs: &[Def], shown: Shown, entri
     ensures room { vec_capacity entries.old ≤ vec_capacity entries.new }
 {
     for (i, def) in defs.iter().enumerate() {
-        let prefix = if by_tag_name {
-            tag_prefix(text, def)
-        } else {
-            def_prefix(text, def)
-        };
-        let entry = Entry {
-            prefix,
-            name: shown.name,
-            version: shown.version,
-            number: i as u32,
-            rows: 1,
-        };
-        let _ = entries.push(entry);
+        let _ = entries.push(def_entry(by_tag_name, text, def, shown, i as u32));
     }
 }
 

@@ -24,12 +24,13 @@ ghost use Rattle.std.specs.Prelude.{
   OnOk,
 };
 ghost use Rattle.std.specs.List.{AllByRecursion, list_any};
+ghost use Rattle.std.specs.Option.{option_copied};
 ghost use Rattle.std.specs.List.Sorted.{IsStrictlyIncreasing};
 ghost use Rattle.std.specs.Cmp.Lexicographic.{slice_cmp};
 ghost use Rattle.std.specs.Ordering.{is_gt, nat_cmp};
 ghost use Rattle.std.specs.Str.{bytes_eq};
 ghost use Rattle.cb_scan.specs.Order.{goes_first, in_order, put};
-ghost use Rattle.cb_index.specs.Archived.{name_of};
+ghost use Rattle.cb_index.specs.Archived.{AreBytes, name_of};
 ghost use Rattle.cb_index.specs.Counts.{rows_in_files, unlike_in_files};
 ghost use Rattle.cb_index.specs.Files.{AreAscending, IsThere, shown_name};
 ghost use Rattle.cb_index.specs.Names.{is_among, names_of};
@@ -54,9 +55,12 @@ ghost use Rattle.cb_index.specs.Shelved.{
   with_facts,
 };
 ghost use Rattle.cb_index.specs.declared.entry.Shown.{Shown};
+ghost use Rattle.cb_index.specs.Kinds.{def_kind};
+ghost use Rattle.cb_index.specs.steps.ToCome.{asked_tags};
 ghost use Rattle.cb_index.specs.steps.Left.{entries_left, facts_counted, facts_left, facts_new, tags_left};
 
 use crate::archive::{Archive, Version};
+use crate::def_search::{DefSearch, def_kind};
 use crate::entries::Entries;
 use crate::entry::Shown;
 use crate::facts::FactRows;
@@ -66,7 +70,7 @@ use crate::listed::{are_there, ascend, has_any_name, put_all_shown, take_under};
 use crate::memory::OutOfMemory;
 use crate::names::Names;
 use crate::room::Room;
-use crate::tags::TagRows;
+use crate::tags::{Defs, TagRows};
 use crate::totals::{Totals, totals_of};
 use std::alloc::Global;
 use std::marker::Model;
@@ -77,9 +81,9 @@ const FEW: usize = 8;
 /// An archive, the versions that are shown of it, each under a file name, and five indexes of what
 /// is found in these. No two versions are shown under one file name. Only `reserve` takes memory.
 ///
-/// The uses and calls of a version that is shown are pending at first, so that those of many are put
-/// in order together by `flush`. Before that a question about them walks over the files: it answers
-/// the same, in more time.
+/// What is found in a version that is shown is pending at first, so that the entries of many are put
+/// in order together by `flush`. Before that a question walks over the files: it answers the same,
+/// in more time.
 #[derive(Drop)]
 pub struct Shelf {
     archive: Archive,
@@ -329,7 +333,7 @@ impl Shelf {
     {
         self.totals = self.totals.with(&self.archive, news);
         put_all_shown(&self.archive, news, &mut self.shown);
-        put_in_each(&mut self.indexes, &self.archive, news);
+        put_in_each(&mut self.indexes, news);
         self.turns = self.turns.saturating_add(news.len() as u64);
     }
 
@@ -416,38 +420,50 @@ impl Shelf {
         &self.indexes[place_of(kind)]
     }
 
-    /// The definitions of a name, by file and place.
-    pub fn defs(&self, name: &[u8]) -> TagRows<'_>
-        ensures { tags_left result ≡ tags_named name.now (files self.now) }
+    /// Definitions by tag name, or by name: those that have the key, if one is asked for. They are
+    /// looked up in the index, or searched in the files where some are pending.
+    fn in_order<'a, 'p>(&'a self, by_tag_name: bool, key: Option<&'p [u8]>) -> TagRows<'a, 'p>
+        ensures tags { tags_left result ≡ asked_tags (def_kind by_tag_name) self.now.archive
+            (option_copied key.entry) self.now.shown }
+        ensures there { AllByRecursion (IsThere self.now.archive) self.now.shown }
+        ensures ascending { AreAscending self.now.archive self.now.shown }
+        ensures bytes { AllByRecursion AreBytes self.now.archive.texts }
     {
+        self.archive.read_texts();
+        read_room(self.room);
+        let index = self.index(def_kind(by_tag_name));
+        if !index.is_flushed() {
+            let shown = self.shown.as_slice();
+            return TagRows {
+                archive: &self.archive,
+                defs: Defs::Searched(DefSearch::new(by_tag_name, &self.archive, shown, key)),
+            };
+        }
         TagRows {
             archive: &self.archive,
-            entries: self
-                .index(IndexKind::DefsByName)
-                .with_key(&self.archive, name),
+            defs: Defs::Indexed(index.asked(&self.archive, key)),
         }
+    }
+
+    /// The definitions of a name, by file and place.
+    pub fn defs<'a, 'p>(&'a self, name: &'p [u8]) -> TagRows<'a, 'p>
+        ensures { tags_left result ≡ tags_named name.now (files self.now) }
+    {
+        self.in_order(false, Some(name))
     }
 
     /// All definitions, by name.
-    pub fn all_defs(&self) -> TagRows<'_>
+    pub fn all_defs(&self) -> TagRows<'_, '_>
         ensures { tags_left result ≡ tags_by_name (files self.now) }
     {
-        self.archive.read_texts();
-        TagRows {
-            archive: &self.archive,
-            entries: self.index(IndexKind::DefsByName).entries(),
-        }
+        self.in_order(false, None)
     }
 
     /// All definitions, by the names that a plain tags file has for them.
-    pub fn tags(&self) -> TagRows<'_>
+    pub fn tags(&self) -> TagRows<'_, '_>
         ensures { tags_left result ≡ tags_by_tag_name (files self.now) }
     {
-        self.archive.read_texts();
-        TagRows {
-            archive: &self.archive,
-            entries: self.index(IndexKind::DefsByTagName).entries(),
-        }
+        self.in_order(true, None)
     }
 
     /// The uses or calls of a kind that have a key, by file and place. They are looked up in the
@@ -461,7 +477,7 @@ impl Shelf {
     {
         let index = self.index(IndexKind::Facts(kind));
         if index.is_flushed() {
-            return FactRows::held(kind, &self.archive, index.with_key(&self.archive, key));
+            return FactRows::held(kind, &self.archive, index.asked(&self.archive, Some(key)));
         }
         FactRows::searched(kind, &self.archive, key, self.shown.as_slice())
     }

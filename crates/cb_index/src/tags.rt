@@ -1,31 +1,62 @@
 //! The tags of definitions, one after another.
-ghost use Rattle.std.specs.Prelude.{◌≡◌, length};
+ghost use Rattle.std.specs.Prelude.{◌≡◌, ◌∷◌, [], length, MatchOption};
 ghost use Rattle.std.specs.Iterator.{YieldsFirstBy, item_count};
 ghost use Rattle.cb_tags.specs.TagLines.{tag_of};
-ghost use Rattle.cb_index.specs.steps.Left.{tags_left};
+ghost use Rattle.cb_index.specs.steps.Left.{defs_left, tags_left};
 
 use crate::archive::Archive;
+use crate::def_search::DefSearch;
+use crate::entry::Entry;
 use crate::rows::tag_at;
 use crate::run::Run;
 use cb_tags::TagRow;
 
-/// The tags of definitions. They take no memory.
+/// Where definitions are found.
 #[derive(Clone, Copy)]
-pub struct TagRows<'a> {
-    pub(crate) archive: &'a Archive,
-    pub(crate) entries: Run<'a>,
+pub(crate) enum Defs<'a, 'p> {
+    /// In the entries of an index.
+    Indexed(Run<'a>),
+    /// By a search of all files.
+    Searched(DefSearch<'a, 'p>),
 }
 
-impl<'a> TagRows<'a> {
+impl<'a, 'p> Defs<'a, 'p> {
+    /// Takes the first one.
+    fn take(&mut self) -> Option<Entry>
+        ensures { MatchOption result ((defs_left self.old ≡ []) × (defs_left self.new ≡ []))
+            (λ e. defs_left self.old ≡ e ∷ defs_left self.new) }
+    {
+        match self {
+            Defs::Indexed(entries) => {
+                let (entry, rest) = entries.split_first()?;
+                *entries = rest;
+                Some(*entry)
+            }
+            Defs::Searched(search) => search.take(),
+        }
+    }
+}
+
+/// The tags of definitions. They take no memory.
+#[derive(Clone, Copy)]
+pub struct TagRows<'a, 'p> {
+    pub(crate) archive: &'a Archive,
+    pub(crate) defs: Defs<'a, 'p>,
+}
+
+impl<'a, 'p> TagRows<'a, 'p> {
     /// How many are left.
     pub fn len(&self) -> usize
         ensures { result ≡ length (tags_left self.now) }
     {
-        self.entries.len()
+        match &self.defs {
+            Defs::Indexed(entries) => entries.len(),
+            Defs::Searched(search) => search.len(),
+        }
     }
 }
 
-impl<'a> Iterator for TagRows<'a> {
+impl<'a, 'p> Iterator for TagRows<'a, 'p> {
     type Item = TagRow<'a>;
 
     ghost next_gives = { YieldsFirstBy tag_of tags_left };
@@ -33,8 +64,9 @@ impl<'a> Iterator for TagRows<'a> {
     ghost remaining = { item_count tags_left };
 
     fn next(&mut self) -> Option<TagRow<'a>> {
-        let (entry, rest) = self.entries.split_first()?;
-        self.entries = rest;
-        Some(tag_at(self.archive, *entry))
+        match self.defs.take() {
+            Some(entry) => Some(tag_at(self.archive, entry)),
+            None => None,
+        }
     }
 }

@@ -43,6 +43,7 @@ pub(crate) fn put_tags<W: Write>(
     ensures written { Puts out.old out.new result
         (tags_reply format (tags format desk.old.timeline.present)) }
 {
+    desk.settle_tags(format);
     put_tags_reply(out, format, desk.tag_rows(format))
 }
 
@@ -54,5 +55,6 @@ pub(crate) fn put_listing<W: Write>(out: &mut Sink<W>, desk: &mut Desk) -> Resul
     ensures written { Puts out.old out.new result
         (listing_reply (tags Extended desk.old.timeline.present)) }
 {
+    desk.settle_tags(Format::Extended);
     put_listing_reply(out, desk.tag_rows(Format::Extended))
 }

@@ -74,6 +74,7 @@ fn write_tags<W: Write>(listing: bool, format: Format, desk: &mut Desk, out: &mu
     ensures { WritesText (tags_output listing format desk.old.timeline.present)
         out.old out.new result }
 {
+    desk.settle_tags(output_format(listing, format));
     let rows = desk.tag_rows(output_format(listing, format));
     match put_output(out, listing, format, rows) {
         Ok(()) => {}

@@ -25,7 +25,7 @@ use cb_tags::TagRow;
 #[derive(Clone, Copy)]
 pub(crate) enum FoundRows<'a, 'p> {
     /// Definitions.
-    Defs(TagRows<'a>),
+    Defs(TagRows<'a, 'p>),
     /// Includes.
     Headers(HeaderRows<'a, 'p>),
     /// Files.

@@ -15,7 +15,7 @@ use std::marker::Model;
 /// Tags, one after another. They take no memory.
 #[derive(Drop)]
 pub struct TagRows<'a> {
-    rest: IndexedTags<'a>,
+    rest: IndexedTags<'a, 'a>,
 }
 
 impl<'a> Model for TagRows<'a> {

@@ -18,6 +18,7 @@ use crate::plan::Plan;
 use crate::present::Present;
 use crate::record::Record;
 use crate::spot::NumberedPlace;
+use cb_index::IndexKind;
 use std::alloc::{AllocError, Global};
 
 impl Present {
@@ -61,6 +62,7 @@ impl Present {
         ensures there { MatchOption result ⊤ (λ (p : NumberedPlace). p.name < self.old.now.names) }
         ensures still { IsStill self.old self.new }
     {
+        self.settle(IndexKind::DefsByName);
         let (file, line) = nth_definition(&self.shelf, name, n)?;
         let found = shown_as(&self.shelf, file)?;
         Some(NumberedPlace {

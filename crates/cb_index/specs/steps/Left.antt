@@ -11,6 +11,7 @@ use Rattle.cb_tags.specs.TagLines.{Tag}
 use Rattle.cb_index.specs.Archived.{Archived, name_of}
 use Rattle.cb_index.specs.Rows.{Fact}
 use Rattle.cb_index.specs.Shelved.{ShownFile}
+use Rattle.cb_index.specs.steps.DefSearch.{search_left}
 use Rattle.cb_index.specs.steps.Found.{fact_at, tag_at}
 use Rattle.cb_index.specs.steps.Given.{given_in, given_left}
 use Rattle.cb_index.specs.steps.Runs.{run_entries}
@@ -24,9 +25,11 @@ use Rattle.cb_index.specs.declared.facts.FactRows.{FactRows}
 use Rattle.cb_index.specs.declared.facts.FactSpots.{FactSpots}
 use Rattle.cb_index.specs.declared.facts.Group.{Group}
 use Rattle.cb_index.specs.declared.facts.Groups.{Groups}
-use Rattle.cb_index.specs.declared.facts.Groups.TheVariants.{Held, Searched}
+use Rattle.cb_index.specs.declared.facts.Groups.TheVariants as groups
 use Rattle.cb_index.specs.declared.facts.Walk.{Walk}
 use Rattle.cb_index.specs.declared.kind.FactKind.{FactKind}
+use Rattle.cb_index.specs.declared.tags.Defs.{Defs}
+use Rattle.cb_index.specs.declared.tags.Defs.TheVariants.{Indexed, Searched}
 use Rattle.cb_index.specs.declared.tags.TagRows.{TagRows}
 
 -- what a row says
@@ -49,8 +52,13 @@ fact_of_spot s = record {
   text = line_text s.source.now s.line;
 }
 
+-- the definitions that are still to come
+abbrev pub defs_left : Defs → List Entry
+defs_left (Indexed entries) = run_entries entries
+defs_left (Searched search) = search_left search
+
 abbrev pub tags_left : TagRows → List Tag
-tags_left r = map (tag_at r.archive.now) (run_entries r.entries)
+tags_left r = map (tag_at r.archive.now) (defs_left r.defs)
 
 abbrev pub group_left : Bool → Group → List Fact
 group_left all g = map (fact_at g.items.sort g.file.now g.items.version.now) (given_left all g.items)
@@ -61,13 +69,13 @@ group_left_if all (Some g) = group_left all g
 
 -- the facts of groups that are still to come
 abbrev pub groups_left : Bool → FactKind → Archived → Groups → List Fact
-groups_left all sort a (Held entries) = given_in all sort a (run_entries entries)
-groups_left all sort a (Searched key shown) = flat_map (searched_at all sort a key.now) shown.now
+groups_left all sort a (groups.Held entries) = given_in all sort a (run_entries entries)
+groups_left all sort a (groups.Searched key shown) = flat_map (searched_at all sort a key.now) shown.now
 
 -- how many groups are still to come
 abbrev pub group_count : Groups → ℕ
-group_count (Held entries) = length (run_entries entries)
-group_count (Searched key shown) = length shown.now
+group_count (groups.Held entries) = length (run_entries entries)
+group_count (groups.Searched key shown) = length shown.now
 
 abbrev pub walk_left : Bool → Walk → List Fact
 walk_left all w = group_left_if all w.group ++ groups_left all w.sort w.archive.now w.groups
@@ -84,8 +92,8 @@ spots_left r = walk_left false r.walk
 
 -- how many rows the groups that are still to come have; what has begun is not counted
 abbrev pub groups_counted : FactKind → Archived → Groups → ℕ
-groups_counted sort a (Held entries) = sum_by (λ (e : Entry). e.rows) (run_entries entries)
-groups_counted sort a (Searched key shown) = sum_by (searched_count sort a key.now) shown.now
+groups_counted sort a (groups.Held entries) = sum_by (λ (e : Entry). e.rows) (run_entries entries)
+groups_counted sort a (groups.Searched key shown) = sum_by (searched_count sort a key.now) shown.now
 
 abbrev pub rows_counted : FactSpots → ℕ
 rows_counted r = groups_counted r.walk.sort r.walk.archive.now r.walk.groups

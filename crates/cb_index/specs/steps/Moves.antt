@@ -1,17 +1,12 @@
 -- What becomes of the indexes of a shelf.
-use Rattle.std.specs.Prelude.{ℕ, ◌≡◌, ◌≤◌, ◌+◌, ◌++◌, [], ◌∷◌, List, Bool, length, filter, not, nat_eq, Some}
-use Rattle.cb_scan.specs.Order.{in_order}
+use Rattle.std.specs.Prelude.{ℕ, ◌≡◌, ◌≤◌, ◌+◌, ◌++◌, [], ◌∷◌, List, length, filter, not, nat_eq, Some}
 use Rattle.cb_index.specs.Archived.{Archived}
-use Rattle.cb_index.specs.Entries.{sort_key}
 use Rattle.cb_index.specs.Files.{shown_under}
-use Rattle.cb_index.specs.Held.{Indexed, all_entries}
-use Rattle.cb_index.specs.Kinds.{keyer_of, lister_of}
+use Rattle.cb_index.specs.Held.{Indexed}
 use Rattle.cb_index.specs.Names.{is_among}
 use Rattle.cb_index.specs.Shelved.{IsIndex}
 use Rattle.cb_index.specs.declared.entry.Entry.{Entry}
 use Rattle.cb_index.specs.declared.entry.Shown.{Shown}
-use Rattle.cb_index.specs.declared.kind.IndexKind.{IndexKind}
-use Rattle.cb_index.specs.declared.kind.IndexKind.TheVariants.{DefsByName, DefsByTagName, Facts}
 
 -- each of some indexes becomes another one, in a way
 abbrev pub Become : (Indexed → Indexed → Type 0) → List Indexed → List Indexed → Type 0
@@ -32,22 +27,15 @@ pub record StaysSame (x y : Indexed) : Type 0 where
   pub held : y.held ≡ x.held
   pub pending : y.pending ≡ x.pending
 
--- an index is in order, and has room for the entries of some versions, and for these to be pending
-pub record CanTakeIn (a : Archived) (news : List Shown) (x : Indexed) : Type 0 where
-  pub order : x.held ≡ in_order (sort_key (keyer_of x.kind) a) x.held
-  pub room : length x.held + length (all_entries (lister_of x.kind) a news) ≤ x.room
-  pub version_room : length x.pending + length news ≤ x.version_room
+-- an index has room for more versions to be pending
+abbrev pub CanTakeIn : List Shown → Indexed → Type 0
+CanTakeIn news x = length x.pending + length news ≤ x.version_room
 
--- definitions are put in order at once, the others are pending
-abbrev pub IsTaken : IndexKind → Archived → List Shown → Indexed → Indexed → Type 0
-IsTaken (Facts kind) a news x y = (y.held ≡ x.held) × (y.pending ≡ x.pending ++ news)
-IsTaken kind a news x y =
-    (y.held ≡ in_order (sort_key (keyer_of kind) a)
-    (x.held ++ all_entries (lister_of kind) a news)) × (y.pending ≡ x.pending)
-
-pub record TakesIn (a : Archived) (news : List Shown) (x y : Indexed) : Type 0 where
+-- they are pending
+pub record TakesIn (news : List Shown) (x y : Indexed) : Type 0 where
   pub itself : StaysItself x y
-  pub taken : IsTaken x.kind a news x y
+  pub held : y.held ≡ x.held
+  pub pending : y.pending ≡ x.pending ++ news
 
 -- what is shown under the name of a version goes
 pub record LetsGo (a : Archived) (one : Shown) (x y : Indexed) : Type 0 where

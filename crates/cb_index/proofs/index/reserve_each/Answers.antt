@@ -1,8 +1,7 @@
-use Rattle.std.proofs.Common.{rules, ◌≡◌, ◌+◌, ◌∷◌, List, suc, slice_set, sym, subst, length, arith}
-use Rattle.std.specs.List.{AllByRecursion}
+use Rattle.std.proofs.Common.{rules, ◌≡◌, ◌+◌, suc, slice_set, subst, arith}
 use Rattle.cb_index.specs.Held.{Indexed}
 use Rattle.cb_index.specs.Shelved.{HasRoom}
-use Rattle.cb_index.specs.steps.Moves.{Become, StaysSame}
+use Rattle.cb_index.specs.steps.Moves.{StaysSame}
 use Rattle.cb_index.proofs.EachLemmas.{Upto, become_less, become_right, upto_done, upto_less, upto_next, upto_rest}
 use Rattle.cb_index.proofs.KeptLemmas.{stays_same}
 use Rattle.cb_index.proofs.index.reserve_each.Goals as goal

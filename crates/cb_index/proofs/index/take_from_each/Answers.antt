@@ -1,4 +1,4 @@
-use Rattle.std.proofs.Common.{◌≡◌, ◌+◌, suc, slice_set, sym, subst, length, arith}
+use Rattle.std.proofs.Common.{◌≡◌, ◌+◌, suc, slice_set, subst, arith}
 use Rattle.cb_index.specs.Held.{Indexed}
 use Rattle.cb_index.specs.steps.Moves.{LetsGo}
 use Rattle.cb_index.specs.Shelved.{IsIndex}

@@ -1,8 +1,8 @@
-use Rattle.std.proofs.Common.{◌≡◌, ◌+◌, suc, slice_set, sym, subst, length, arith}
+use Rattle.std.proofs.Common.{◌≡◌, ◌+◌, suc, slice_set, subst, arith}
 use Rattle.cb_index.specs.Held.{Indexed}
 use Rattle.cb_index.specs.steps.Moves.{LetsGoAll}
 use Rattle.cb_index.specs.Names.{names_of}
-use Rattle.cb_index.proofs.EachLemmas.{Upto, upto_all, upto_done, upto_next}
+use Rattle.cb_index.proofs.EachLemmas.{Upto, upto_done, upto_next}
 use Rattle.cb_index.proofs.index.take_names_from_each.Goals as goal
 
 pub loop-index-preserved : goal.loop-index-preserved

@@ -7,12 +7,11 @@ use Rattle.cb_index.specs.Entries.{sort_key}
 use Rattle.cb_index.specs.Held.{Indexed, all_entries, entries_of}
 use Rattle.cb_index.specs.Kinds.{keyer_of, lister_of}
 use Rattle.cb_index.specs.Names.{AreSingle}
-use Rattle.cb_index.specs.Shelved.{IsPrompt}
 use Rattle.cb_index.specs.declared.entry.Entry.{Entry}
 use Rattle.cb_index.specs.declared.entry.Shown.{Shown}
 use Rattle.cb_index.specs.declared.kind.IndexKind.{IndexKind}
 use Rattle.cb_index.proofs.CoverLemmas.{apart_back, apart_single, covers_held, covers_unheld, covers_unwaited, none_waits}
-use Rattle.cb_index.proofs.KeptLemmas.{of_its_kind, prompt_without}
+use Rattle.cb_index.proofs.KeptLemmas.{of_its_kind}
 use Rattle.cb_index.proofs.index.Index.take.Goals as goal
 
 -- the entries of a version stand among those of an index of a kind
@@ -25,7 +24,7 @@ place_of-at-requires c =
     let x = c.args.self.now in
     let same : c.self.inside.pending.items ≡ x.pending = ap (λ (x : Indexed). x.pending) c.self.view_is in
     subst AreSingle (sym (c.as_slice-pending.ensures.value ∙ same))
-    (apart_single c.args.archive.now x.pending (apart_back c.args.archive.now c.requires.1.0.sorted x.pending c.requires.1.0.apart))
+    (apart_single c.args.archive.now x.pending (apart_back c.args.archive.now c.requires.1.sorted x.pending c.requires.1.apart))
 
 pub take_all-requires : goal.take_all-requires
 take_all-requires c =
@@ -37,10 +36,10 @@ take_all-requires c =
     let at = c.place_of-at.ensures.place ∙ ap (prefix_len (λ (s : Shown). not (nat_eq s.name one.name))) (c.as_slice-pending.ensures.value ∙ same) in
     let counted : c.len.result ≡ length c.self.inside.pending.items = search rules in
     let none = none_waits a one.name x.pending (sym at ∙ c.if-at-len.true ∙ counted ∙ ap length same) in
-    let rest = all_entries (lister_of x.kind) a (filter (λ (s : Shown). not (nat_eq s.name one.name)) c.requires.1.0.sorted) in (
+    let rest = all_entries (lister_of x.kind) a (filter (λ (s : Shown). not (nat_eq s.name one.name)) c.requires.1.sorted) in (
       rest,
       subst (λ k. HasOnes a one c.self.inside.postings.entries k rest) (sym kind)
-          (ap (λ (x : Indexed). x.held) c.self.view_is ∙ covers_held (keyer_of x.kind) (lister_of x.kind) a one c.requires.0 x none c.requires.2 c.requires.1.0),
+          (ap (λ (x : Indexed). x.held) c.self.view_is ∙ covers_held (keyer_of x.kind) (lister_of x.kind) a one c.requires.0 x none c.requires.2 c.requires.1),
     )
 
 pub returns-then-at-len : goal.returns-then-at-len
@@ -59,12 +58,10 @@ returns-then-at-len c =
     record {
       itself = search rules;
       others = λ shown is under.
-          of_its_kind a (filter (λ (s : Shown). not (nat_eq s.name one.name)) shown) x _ kind (
-            covers_unheld (keyer_of x.kind) (lister_of x.kind) a one shown x _ none is.0
-                (taken (all_entries (lister_of x.kind) a (filter (λ (s : Shown). not (nat_eq s.name one.name)) is.0.sorted))
-                (ap (λ (x : Indexed). x.held) c.self.view_is ∙ covers_held (keyer_of x.kind) (lister_of x.kind) a one shown x none under is.0)) same,
-            subst (IsPrompt x.kind) (sym same) is.1,
-          );
+          of_its_kind a (filter (λ (s : Shown). not (nat_eq s.name one.name)) shown) x _ kind
+          (covers_unheld (keyer_of x.kind) (lister_of x.kind) a one shown x _ none is
+          (taken (all_entries (lister_of x.kind) a (filter (λ (s : Shown). not (nat_eq s.name one.name)) is.sorted))
+          (ap (λ (x : Indexed). x.held) c.self.view_is ∙ covers_held (keyer_of x.kind) (lister_of x.kind) a one shown x none under is)) same);
     }
 
 pub returns : goal.returns
@@ -85,9 +82,7 @@ returns c =
     record {
       itself = search rules;
       others = λ shown is under.
-          of_its_kind a (filter (λ (s : Shown). not (nat_eq s.name one.name)) shown) x _ kind (
-            covers_unwaited (keyer_of x.kind) (lister_of x.kind) a one.name shown x _ (subst (λ n. n < length x.pending) at less)
-                (ap (λ (x : Indexed). x.held) c.self.view_is) left is.0,
-            prompt_without x.kind x.pending _ _ less is.1,
-          );
+          of_its_kind a (filter (λ (s : Shown). not (nat_eq s.name one.name)) shown) x _ kind
+          (covers_unwaited (keyer_of x.kind) (lister_of x.kind) a one.name shown x _ (subst (λ n. n < length x.pending) at less)
+          (ap (λ (x : Indexed). x.held) c.self.view_is) left is);
     }

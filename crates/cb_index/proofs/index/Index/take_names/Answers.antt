@@ -1,4 +1,4 @@
-use Rattle.std.proofs.Common.{rules, ◌≡◌, ◌∙◌, ap, filter}
+use Rattle.std.proofs.Common.{rules, ◌∙◌, ap, filter}
 use Rattle.std.proofs.lemmas.Fn.{filter_same}
 use Rattle.std.specs.Prelude.{not}
 use Rattle.cb_index.specs.Held.{Indexed}

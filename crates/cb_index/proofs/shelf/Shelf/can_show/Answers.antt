@@ -1,6 +1,5 @@
-use Rattle.std.proofs.Common.{◌≡◌, ◌+◌, ◌≤◌, ◌^◌, ◌⊎◌, ⊎_elim, false, true, sym, subst, arith}
-use Rattle.cb_index.specs.Files.{call_count, def_count, total, use_count}
-use Rattle.cb_index.specs.Shelved.{AreTooMany, CanShow, Shelved}
+use Rattle.std.proofs.Common.{⊎_elim, sym, subst, arith}
+use Rattle.cb_index.specs.Shelved.{CanShow, Shelved}
 use Rattle.cb_index.proofs.shelf.Shelf.can_show.Goals as goal
 
 -- what there is room for can be counted

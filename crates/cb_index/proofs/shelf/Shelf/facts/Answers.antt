@@ -17,8 +17,8 @@ use Rattle.cb_index.proofs.KeptLemmas.{all_held, in_its_order}
 use Rattle.cb_index.proofs.SearchLemmas.{counted_searched, facts_searched, new_searched}
 use Rattle.cb_index.proofs.shelf.Shelf.facts.Goals as goal
 
-pub with_key-requires : goal.with_key-requires
-with_key-requires c =
+pub asked-requires : goal.asked-requires
+asked-requires c =
     let x = c.index-index.result.now in
     let is = subst (λ (s : Shelved). IsIndex s.archive s.shown x) (sym c.self.view_is) c.index-index.ensures.index in
     in_its_order x.kind c.self.inside.archive c.self.inside.shown.items x refl is
@@ -34,7 +34,7 @@ returns-then-is_flushed-clause-rows c =
     let is = subst (λ (s : Shelved). IsIndex s.archive s.shown x) (sym c.self.view_is) c.index-index.ensures.index in
     let held = all_held (Facts kind) s.archive s.shown.items x c.index-index.ensures.kind (c.is_flushed.ensures c.if-is_flushed.true) is in
     c.held.ensures.rows
-    ∙ ap (facts_in kind s.archive) (c.with_key.ensures
+    ∙ ap (facts_in kind s.archive) (c.asked.ensures
     ∙ ap (λ k. filter (has_key (keyer_of k) s.archive (prefix_of k key) key) x.held) c.index-index.ensures.kind)
     ∙ rows_of_facts kind s.archive key s.shown.items kept.there kept.ascending x.held held
     ∙ ap (λ (v : Shelved). facts_named kind key (files v)) c.self.view_is
@@ -49,7 +49,7 @@ returns-then-is_flushed-clause-new c =
     let is = subst (λ (s : Shelved). IsIndex s.archive s.shown x) (sym c.self.view_is) c.index-index.ensures.index in
     let held = all_held (Facts kind) s.archive s.shown.items x c.index-index.ensures.kind (c.is_flushed.ensures c.if-is_flushed.true) is in
     c.held.ensures.new
-    ∙ ap (given_in false kind s.archive) (c.with_key.ensures
+    ∙ ap (given_in false kind s.archive) (c.asked.ensures
     ∙ ap (λ k. filter (has_key (keyer_of k) s.archive (prefix_of k key) key) x.held) c.index-index.ensures.kind)
     ∙ facts_new kind s.archive key s.shown.items kept.there kept.ascending x.held held
     ∙ ap (λ (v : Shelved). unlike_in_files kind (file_facts kind key) (files v)) c.self.view_is
@@ -64,7 +64,7 @@ returns-then-is_flushed-clause-counted c =
     let is = subst (λ (s : Shelved). IsIndex s.archive s.shown x) (sym c.self.view_is) c.index-index.ensures.index in
     let held = all_held (Facts kind) s.archive s.shown.items x c.index-index.ensures.kind (c.is_flushed.ensures c.if-is_flushed.true) is in
     c.held.ensures.counted
-    ∙ ap (sum_by (λ (e : Entry). e.rows)) (c.with_key.ensures
+    ∙ ap (sum_by (λ (e : Entry). e.rows)) (c.asked.ensures
     ∙ ap (λ k. filter (has_key (keyer_of k) s.archive (prefix_of k key) key) x.held) c.index-index.ensures.kind)
     ∙ facts_counted kind s.archive key s.shown.items kept.there kept.ascending x.held held
     ∙ ap (λ (v : Shelved). rows_in_files kind (file_facts kind key) (files v)) c.self.view_is

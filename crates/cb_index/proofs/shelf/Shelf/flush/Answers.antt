@@ -1,4 +1,4 @@
-use Rattle.std.proofs.Common.{◌≡◌, ◌<◌, refl, sym, subst, length, slice_index_or, slice_set, vec_capacity}
+use Rattle.std.proofs.Common.{◌<◌, refl, sym, subst, length, slice_index_or, slice_set, vec_capacity}
 use Rattle.cb_index.specs.Held.{Indexed}
 use Rattle.cb_index.specs.Shelved.{AreKept, AreTotals, HasRoom, IsIndex}
 use Rattle.cb_index.proofs.EachLemmas.{all_at, place_below}

@@ -2,7 +2,7 @@ use Rattle.std.proofs.Common.{◌≡◌, ◌∙◌, Bool, nat_eq, refl, sym, ap,
 use Rattle.std.proofs.lemmas.List.Filters.{length-filter_both}
 use Rattle.std.specs.Prelude.{not}
 use Rattle.cb_index.specs.Files.{call_count, def_count, use_count}
-use Rattle.cb_index.specs.Shelved.{AreKept, AreTotals, AreWithin, Shelved}
+use Rattle.cb_index.specs.Shelved.{AreKept, AreTotals, Shelved}
 use Rattle.cb_index.specs.declared.entry.Shown.{Shown}
 use Rattle.cb_index.specs.steps.Moves.{LetsGo}
 use Rattle.cb_index.proofs.CoverLemmas.{under_itself, under_named}

@@ -1,4 +1,4 @@
-use Rattle.std.proofs.Common.{rules, ◌≡◌, ◌∙◌, ◌≤◌, refl, ap, length, max, arith}
+use Rattle.std.proofs.Common.{rules, refl, ap, length, arith}
 use Rattle.std.proofs.Math.Nat.{le_trans}
 use Rattle.cb_index.specs.steps.Moves.{StaysSame}
 use Rattle.cb_index.proofs.KeptLemmas.{kept_as, kept_list, kept_moved, larger_fits, rooms_stay}

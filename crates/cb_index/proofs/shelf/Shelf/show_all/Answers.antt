@@ -1,4 +1,4 @@
-use Rattle.std.proofs.Common.{◌≡◌, ◌∙◌, ◌++◌, refl, sym, ap, length, subst, arith}
+use Rattle.std.proofs.Common.{◌∙◌, ◌++◌, refl, sym, ap, length, subst, arith}
 use Rattle.std.proofs.lemmas.List.{length-append}
 use Rattle.cb_scan.specs.Order.{in_order}
 use Rattle.cb_index.specs.Files.{shown_name}
@@ -24,7 +24,7 @@ pub put_in_each-requires : goal.put_in_each-requires
 put_in_each-requires c =
     let x = c.self.inside in
     all_can_take _ c.args.news.now (subst (λ (s : Shelved). CanShow s c.args.news.now) (sym c.self.view_is) c.requires)
-    x.room refl refl refl refl x.indexes c.self.invariant.2.each c.self.invariant.0.each
+    x.room refl x.indexes c.self.invariant.2.each c.self.invariant.0.each
 
 -- the indexes are those of what is shown now
 pub invariant_of-self : goal.invariant_of-self
@@ -49,7 +49,7 @@ invariant_of-self c =
         uses = omega (arith, asked.uses, are.uses, more.uses);
         calls = omega (arith, asked.calls, are.calls, more.calls);
         listed = omega (arith, within.listed, c.put_all_shown.ensures.room);
-        each = rooms_stay (TakesIn a c.args.news.now) (λ x y way. way.itself) x.room x.indexes c.put_in_each.new.indexes c.put_in_each.ensures within.each;
+        each = rooms_stay (TakesIn c.args.news.now) (λ x y way. way.itself) x.room x.indexes c.put_in_each.new.indexes c.put_in_each.ensures within.each;
       },
     )
 

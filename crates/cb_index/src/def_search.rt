@@ -1,0 +1,178 @@
+//! Definitions in order, each found by a search of all files: so they are answered where some are
+//! pending.
+ghost use Rattle.std.specs.Prelude.{
+  ◌≡◌,
+  ◌<◌,
+  ◌^◌,
+  ◌∷◌,
+  [],
+  None,
+  Some,
+  length,
+  MatchOption,
+};
+ghost use Rattle.std.specs.Option.{option_copied};
+ghost use Rattle.cb_index.specs.Files.{AreAscending};
+ghost use Rattle.cb_index.specs.Held.{all_entries, entries_of};
+ghost use Rattle.cb_index.specs.Kinds.{def_kind, keyer_of, lister_of};
+ghost use Rattle.cb_index.specs.declared.entry.Entry.{Entry};
+ghost use Rattle.cb_index.specs.steps.ToCome.{GoesOn, earlier, first_of, is_asked, is_later, to_come};
+
+use crate::archive::{Archive, Version};
+use crate::entry::{Entry, Shown};
+use crate::kind::IndexKind;
+use crate::order::compare;
+use crate::orders::{compare_key_bytes, def_entry, defs_of, prefix};
+use std::cmp::Ordering;
+
+/// The kind of index of definitions, by tag name or else by name.
+pub(crate) fn def_kind(by_tag_name: bool) -> IndexKind
+    ensures { result ≡ def_kind by_tag_name }
+{
+    if by_tag_name {
+        IndexKind::DefsByTagName
+    } else {
+        IndexKind::DefsByName
+    }
+}
+
+/// The definitions of files that are still to come, in order: those that have the key, if one is
+/// asked for. To give one takes a search of all.
+#[derive(Clone, Copy)]
+pub(crate) struct DefSearch<'a, 'p> {
+    by_tag_name: bool,
+    archive: &'a Archive,
+    shown: &'a [Shown],
+    key: Option<&'p [u8]>,
+    last: Option<Entry>,
+    ghost goes_on: { GoesOn (def_kind by_tag_name) archive.now (option_copied key)
+        (all_entries (lister_of (def_kind by_tag_name)) archive.now shown.now) },
+    ghost few: { length (all_entries (lister_of (def_kind by_tag_name)) archive.now shown.now)
+        < 2 ^ 64 },
+}
+
+/// Whether an entry goes behind the last one, if there is one.
+fn is_later(kind: IndexKind, archive: &Archive, last: Option<Entry>, entry: Entry) -> bool
+    ensures { result ≡ is_later (keyer_of kind) archive.now last entry }
+{
+    match last {
+        Some(last) => compare(kind, archive, entry, last) == Ordering::Greater,
+        None => true,
+    }
+}
+
+/// Whether an entry has the key, if one is asked for.
+fn is_asked(kind: IndexKind, archive: &Archive, key: Option<&[u8]>, entry: Entry) -> bool
+    ensures { result ≡ is_asked kind archive.now (option_copied key.entry) entry }
+{
+    match key {
+        Some(key) => {
+            prefix(kind, key) == entry.prefix
+                && compare_key_bytes(kind, archive, key, entry) == Ordering::Equal
+        }
+        None => true,
+    }
+}
+
+/// Of an entry and of one before it, if there is one, the first.
+fn earlier(kind: IndexKind, archive: &Archive, before: Option<Entry>, entry: Entry) -> Entry
+    ensures { result ≡ earlier (keyer_of kind) archive.now before entry }
+{
+    match before {
+        Some(before) if compare(kind, archive, entry, before) == Ordering::Greater => before,
+        _ => entry,
+    }
+}
+
+impl<'a, 'p> DefSearch<'a, 'p> {
+    ghost use Rattle.cb_index.specs.steps.DefSearch.{earlier_of, first_among, search_left};
+
+    /// All definitions of files, whose names ascend: those that have the key, if one is asked for.
+    pub(crate) fn new(
+        by_tag_name: bool,
+        archive: &'a Archive,
+        shown: &'a [Shown],
+        key: Option<&'p [u8]>,
+    ) -> DefSearch<'a, 'p>
+        requires ascending { AreAscending archive.now shown.now }
+        requires few { length (all_entries (lister_of (def_kind by_tag_name)) archive.now shown.now)
+            < 2 ^ 64 }
+        ensures { search_left result ≡ to_come (def_kind by_tag_name) archive.now
+            (option_copied key.entry) None
+            (all_entries (lister_of (def_kind by_tag_name)) archive.now shown.now) }
+    {
+        DefSearch {
+            by_tag_name,
+            archive,
+            shown,
+            key,
+            last: None,
+        }
+    }
+
+    /// Of an entry, if it is still to come, and of one before it, the first.
+    fn earlier(&self, before: Option<Entry>, entry: Entry) -> Option<Entry>
+        ensures { result ≡ earlier_of self.now before entry }
+    {
+        let kind = def_kind(self.by_tag_name);
+        if !is_later(kind, self.archive, self.last, entry)
+            || !is_asked(kind, self.archive, self.key, entry)
+        {
+            return before;
+        }
+        Some(earlier(kind, self.archive, before, entry))
+    }
+
+    /// Of the entries of a version that are still to come and of one before them, the first.
+    fn first_in(&self, shown: Shown, before: Option<Entry>) -> Option<Entry>
+        ensures { result ≡ first_among self.now before
+            (entries_of (lister_of (def_kind self.now.by_tag_name)) self.now.archive.now shown) }
+    {
+        let Some(version) = self.archive.version(shown.version) else {
+            return before;
+        };
+        let text = version.source().bytes();
+        let defs = defs_of(version);
+        let mut first = before;
+        for (i, def) in defs.iter().enumerate() {
+            let entry = def_entry(self.by_tag_name, text, def, shown, i as u32);
+            first = self.earlier(first, entry);
+        }
+        first
+    }
+
+    /// The first of the entries that are still to come.
+    fn first(&self) -> Option<Entry>
+        ensures { result ≡ first_of (search_left self.now) }
+    {
+        let shown = self.shown;
+        let mut first = None;
+        for one in shown {
+            first = self.first_in(*one, first);
+        }
+        first
+    }
+
+    /// Takes the first entry.
+    pub(crate) fn take(&mut self) -> Option<Entry>
+        ensures { MatchOption result
+            ((search_left self.old ≡ []) × (search_left self.new ≡ []))
+            (λ e. search_left self.old ≡ e ∷ search_left self.new) }
+    {
+        let entry = self.first()?;
+        self.last = Some(entry);
+        Some(entry)
+    }
+
+    /// How many are still to come.
+    pub(crate) fn len(&self) -> usize
+        ensures { result ≡ length (search_left self.now) }
+    {
+        let mut left = *self;
+        let mut count = 0;
+        while let Some(_entry) = left.take() {
+            count += 1;
+        }
+        count
+    }
+}
