@@ -17,6 +17,8 @@ pub(crate) fn clock<R: CpuClock>(rt: &R) -> Result<u64, Failed> {
 
 /// Puts the uses and calls that are pending in order.
 pub(crate) fn flush_all(shelf: &mut Shelf) {
+    shelf.flush(IndexKind::DefsByName);
+    shelf.flush(IndexKind::DefsByTagName);
     shelf.flush(IndexKind::Facts(FactKind::Uses));
     shelf.flush(IndexKind::Facts(FactKind::Callees));
     shelf.flush(IndexKind::Facts(FactKind::Callers));

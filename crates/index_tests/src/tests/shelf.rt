@@ -15,7 +15,8 @@ fn show(shelf: &mut Shelf, one: Shown) -> Result<(), Fail> {
 }
 
 /// The tags have these names.
-fn has_tags(rt: &impl Abort, rows: TagRows<'_>, names: &[&[u8]]) -> Result<(), Fail> {
+fn has_tags(rt: &impl Abort, rows: TagRows<'_, '_>, names: &[&[u8]]) -> Result<(), Fail> {
+    assert_eq!(rt; rows.len(), names.len());
     let mut rows = rows;
     for name in names {
         match rows.next() {
@@ -68,8 +69,10 @@ fn shows_facts(rt: &impl Abort, shelf: &Shelf) -> Result<(), Fail> {
     has_facts(rt, shelf.uses(b"x"), &uses)
 }
 
-/// Puts the uses and calls that are pending in order.
-fn flush_facts(shelf: &mut Shelf) {
+/// Puts what is pending in order.
+fn flush_all(shelf: &mut Shelf) {
+    shelf.flush(IndexKind::DefsByName);
+    shelf.flush(IndexKind::DefsByTagName);
     shelf.flush(IndexKind::Facts(FactKind::Uses));
     shelf.flush(IndexKind::Facts(FactKind::Callees));
     shelf.flush(IndexKind::Facts(FactKind::Callers));
@@ -113,7 +116,8 @@ fn files_come_and_go(
 fn shows_both(rt: &impl Abort, shelf: &mut Shelf) -> Result<(), Fail> {
     shows_definitions(rt, shelf)?;
     shows_facts(rt, shelf)?;
-    flush_facts(shelf);
+    flush_all(shelf);
+    shows_definitions(rt, shelf)?;
     shows_facts(rt, shelf)?;
     shows_files(rt, shelf, &[b"m.c".as_slice(), b"z/b.c"]);
     assert!(rt;
