@@ -114,6 +114,7 @@ refusal_shown = refl
 pub query_shown : output [] new_timeline
     (change (load (codes "f.c") (codes " f(){}")) ∷ query Definition (codes "f")
     ∷ undo ∷ query Definition (codes "f") ∷ [])
-    ≡ codes ">> cscope: done\n>> cscope: 1 lines\nf.c f 1 f(){}\n>> cscope: done\n>> cscope: 0 lines\n"
+    ≡ codes
+    ">> cscope: done\n>> cscope: 1 lines\nf.c f 1 f(){}\n>> cscope: done\n>> cscope: 0 lines\n"
 unfolding running finding definitions_from put in_order distinct unindented lining
 query_shown = refl
