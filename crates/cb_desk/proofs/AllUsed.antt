@@ -1,5 +1,6 @@
 -- The archive holds nothing that the timeline does not use.
-use Rattle.std.proofs.Common.{◌≡◌, ◌∙◌, ◌≤◌, ◌<◌, ◌+◌, ℕ, Bool, true, false, ◌||◌, List, [], ◌∷◌, ◌++◌, refl, ap, length, cond, arith, ⊎_elim}
+use Rattle.std.proofs.Common.{◌≡◌, ◌∙◌, ◌≤◌, ◌<◌, ◌+◌, ℕ, Bool, true, false, ◌||◌, List, [], ◌∷◌}
+use Rattle.std.proofs.Common.{◌++◌, refl, ap, length, cond, arith, ⊎_elim}
 use Rattle.std.proofs.Math.Bool.{or-true}
 use Rattle.std.proofs.lemmas.Bool.{cases_lt}
 use Rattle.std.proofs.lemmas.Bool.Decides.{nat_tests}
@@ -9,7 +10,8 @@ use Rattle.std.specs.Prelude.{nat_eq}
 use Rattle.cb_scan.specs.Order.{goes_first, in_order, put}
 use Rattle.cb_index.specs.Archived.{Archived}
 use Rattle.cb_desk.specs.steps.Records.{Numbered, Rooms, Turn, other}
-use Rattle.cb_desk.specs.steps.Walks.{IsAllUsed, LeadsBack, LeadsOn, Recorded, shows_name, shows_version, turns_back, turns_on, walk}
+use Rattle.cb_desk.specs.steps.Walks.{IsAllUsed, LeadsBack, LeadsOn, Recorded, shows_name}
+use Rattle.cb_desk.specs.steps.Walks.{shows_version, turns_back, turns_on, walk}
 
 -- ---- a list in order passes the tests of the list
 module _ {X : Type 0} (p : X → Bool) (key : X → List ℕ) where
@@ -22,7 +24,8 @@ module _ {X : Type 0} (p : X → Bool) (key : X → List ℕ) where
   unfolding put
   any_put x [] = refl
   any_put x (y ∷ ys) =
-      elim (goes_first key x y) as (λ b. list_any p (cond b (x ∷ y ∷ ys) (y ∷ put key x ys)) ≡ (p x || (p y || list_any p ys))) [
+      elim (goes_first key x y) as
+      (λ b. list_any p (cond b (x ∷ y ∷ ys) (y ∷ put key x ys)) ≡ (p x || (p y || list_any p ys))) [
         | true ↦ refl
         | false ↦ ap (λ b. p y || b) (any_put x ys) ∙ other_first (p x) (p y) (list_any p ys)
       ]
@@ -33,9 +36,11 @@ module _ {X : Type 0} (p : X → Bool) (key : X → List ℕ) where
   any_in_order (x ∷ xs) = any_put x (in_order key xs) ∙ ap (λ b. p x || b) (any_in_order xs)
 
 -- what is shown then is also shown in the list of all, in order
-pub any_shown : {X : Type 0} (p : X → Bool) (key : X → List ℕ) (xs ys : List X) → list_any p ys ≡ true → list_any p (in_order key (xs ++ ys)) ≡ true
+pub any_shown : {X : Type 0} (p : X → Bool) (key : X → List ℕ) (xs ys : List X)
+    → list_any p ys ≡ true → list_any p (in_order key (xs ++ ys)) ≡ true
 any_shown p key xs ys is =
-    any_in_order p key (xs ++ ys) ∙ list_any-append p xs ys ∙ ap (λ b. list_any p xs || b) is ∙ or-true (list_any p xs)
+    any_in_order p key (xs ++ ys) ∙ list_any-append p xs ys ∙ ap (λ b. list_any p xs || b) is
+    ∙ or-true (list_any p xs)
 
 -- the only new number
 pub only_new : (x top m : ℕ) → top ≡ x + 1 → x ≤ m → m < top → (nat_eq x m || false) ≡ true
@@ -70,17 +75,21 @@ module _ (count : Numbered → ℕ) (shows : ℕ → Numbered → Bool) where
   both : (a b : Bool) → b ≡ true → (a || b) ≡ true
   both a b is = ap (λ x. a || x) is ∙ or-true a
 
-  used_back : (w : Numbered) (vs : List Numbered) → Back w vs → (n : ℕ) → n < count w → list_any (shows n) (w ∷ vs) ≡ true
+  used_back : (w : Numbered) (vs : List Numbered) → Back w vs → (n : ℕ) → n < count w
+      → list_any (shows n) (w ∷ vs) ≡ true
   used_back w [] none n below = absurd (omega (arith, none, below))
   used_back w (v ∷ vs) back n below =
       ⊎_elim (λ old. both (shows n w) (list_any (shows n) (v ∷ vs)) (used_back v vs back.1 n old))
-      (λ new. either (shows n w) (list_any (shows n) (v ∷ vs)) (back.0 n new below)) (cases_lt n (count v))
+      (λ new. either (shows n w) (list_any (shows n) (v ∷ vs)) (back.0 n new below))
+      (cases_lt n (count v))
 
-  used_on : (all : ℕ) (w : Numbered) (vs : List Numbered) → On all w vs → (n : ℕ) → count w ≤ n → n < all → list_any (shows n) vs ≡ true
+  used_on : (all : ℕ) (w : Numbered) (vs : List Numbered) → On all w vs → (n : ℕ) → count w ≤ n
+      → n < all → list_any (shows n) vs ≡ true
   used_on all w [] end n above below = absurd (omega (arith, end, above, below))
   used_on all w (v ∷ vs) on n above below =
       ⊎_elim (λ new. either (shows n v) (list_any (shows n) vs) (on.0 n above new))
-      (λ later. both (shows n v) (list_any (shows n) vs) (used_on all v vs on.1 n later below)) (cases_lt n (count v))
+      (λ later. both (shows n v) (list_any (shows n) vs) (used_on all v vs on.1 n later below))
+      (cases_lt n (count v))
 
   swapped : (b c d : Bool) → (b || (c || d)) ≡ ((c || b) || d)
   swapped true true d = refl
@@ -91,12 +100,16 @@ module _ (count : Numbered → ℕ) (shows : ℕ → Numbered → Bool) where
       plain true = refl
       plain false = refl
 
-  used : (all : ℕ) (w : Numbered) (bs os : List Numbered) → Back w bs → On all w os → (n : ℕ) → n < all
+  used : (all : ℕ) (w : Numbered) (bs os : List Numbered) → Back w bs → On all w os
+      → (n : ℕ) → n < all
       → list_any (shows n) (bs ++ w ∷ os) ≡ true
   used all w bs os back on n below =
-      list_any-append (shows n) bs (w ∷ os) ∙ swapped (list_any (shows n) bs) (shows n w) (list_any (shows n) os)
-      ∙ ⊎_elim (λ old. either (list_any (shows n) (w ∷ bs)) (list_any (shows n) os) (used_back w bs back n old))
-      (λ later. both (list_any (shows n) (w ∷ bs)) (list_any (shows n) os) (used_on all w os on n later below)) (cases_lt n (count w))
+      list_any-append (shows n) bs (w ∷ os)
+      ∙ swapped (list_any (shows n) bs) (shows n w) (list_any (shows n) os)
+      ∙ ⊎_elim (λ old.
+      either (list_any (shows n) (w ∷ bs)) (list_any (shows n) os) (used_back w bs back n old))
+      (λ later. both (list_any (shows n) (w ∷ bs)) (list_any (shows n) os)
+      (used_on all w os on n later below)) (cases_lt n (count w))
 
 -- ---- turns that lead back and on are such chains
 abbrev names_used : Numbered → ℕ
@@ -112,22 +125,26 @@ abbrev versioned : ℕ → Numbered → Bool
 versioned v w = shows_version v w.shown
 
 module _ (r : Rooms) (a : Archived) where
-  names_back : (w : Numbered) (ts : List Turn) → LeadsBack r a w ts → Back names_used named w (walk a w ts)
+  names_back : (w : Numbered) (ts : List Turn) → LeadsBack r a w ts
+      → Back names_used named w (walk a w ts)
   unfolding LeadsBack
   names_back w [] is = is.1.names
   names_back w (t ∷ ts) is = (is.2.all_names, names_back (other a t w) ts is.3)
 
-  versions_back : (w : Numbered) (ts : List Turn) → LeadsBack r a w ts → Back versions_used versioned w (walk a w ts)
+  versions_back : (w : Numbered) (ts : List Turn) → LeadsBack r a w ts
+      → Back versions_used versioned w (walk a w ts)
   unfolding LeadsBack
   versions_back w [] is = is.1.versions
   versions_back w (t ∷ ts) is = (is.2.all_versions, versions_back (other a t w) ts is.3)
 
-  names_on : (w : Numbered) (ts : List Turn) → LeadsOn r a w ts → On names_used named (length a.names) w (walk a w ts)
+  names_on : (w : Numbered) (ts : List Turn) → LeadsOn r a w ts
+      → On names_used named (length a.names) w (walk a w ts)
   unfolding LeadsOn
   names_on w [] is = is.1.names
   names_on w (t ∷ ts) is = (is.2.all_names, names_on (other a t w) ts is.3)
 
-  versions_on : (w : Numbered) (ts : List Turn) → LeadsOn r a w ts → On versions_used versioned (length a.texts) w (walk a w ts)
+  versions_on : (w : Numbered) (ts : List Turn) → LeadsOn r a w ts
+      → On versions_used versioned (length a.texts) w (walk a w ts)
   unfolding LeadsOn
   versions_on w [] is = is.1.versions
   versions_on w (t ∷ ts) is = (is.2.all_versions, versions_on (other a t w) ts is.3)
@@ -139,8 +156,11 @@ all_used h back on =
     let a = h.kept.archive in
     let w = h.kept.now in
     record {
-      names = used names_used named (length a.names) w (walk a w (turns_back h)) (walk a w (turns_on h))
+      names =
+          used names_used named (length a.names) w (walk a w (turns_back h)) (walk a w (turns_on h))
           (names_back r a w (turns_back h) back) (names_on r a w (turns_on h) on);
-      versions = used versions_used versioned (length a.texts) w (walk a w (turns_back h)) (walk a w (turns_on h))
+      versions =
+          used versions_used versioned (length a.texts) w (walk a w (turns_back h))
+          (walk a w (turns_on h))
           (versions_back r a w (turns_back h) back) (versions_on r a w (turns_on h) on);
     }

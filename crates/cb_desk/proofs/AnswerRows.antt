@@ -1,5 +1,6 @@
 -- The rows that a shelf lends are those of the facts of its files.
-use Rattle.std.proofs.Common.{◌≡◌, ◌∙◌, ap, refl, ℕ, Bool, true, false, cond, List, [], ◌∷◌, ◌++◌, map, filter, Option, Some, None}
+use Rattle.std.proofs.Common.{◌≡◌, ◌∙◌, ap, refl, ℕ, Bool, true, false, cond, List, [], ◌∷◌, ◌++◌}
+use Rattle.std.proofs.Common.{map, filter, Option, Some, None}
 use Rattle.std.specs.List.{flat_map}
 use Rattle.std.specs.Option.{option_map}
 use Rattle.std.specs.Str.{bytes_eq}
@@ -13,36 +14,47 @@ use Rattle.cb_scan.specs.declared.lex.piece.Span.{Span}
 use Rattle.cb_scan.specs.Definitions.{facts_of}
 use Rattle.cb_index.specs.Counts.{column}
 use Rattle.cb_index.specs.Includes.{all_includes, file_includes, include_in}
-use Rattle.cb_index.specs.Rows.{Fact, call_in, calls_in, calls_of, file_calls_in, file_calls_of, file_tags_named, file_uses_of, tag_in, tags_named, use_in, uses_of}
+use Rattle.cb_index.specs.Rows.{Fact, call_in, calls_in, calls_of, file_calls_in, file_calls_of}
+use Rattle.cb_index.specs.Rows.{file_tags_named, file_uses_of, tag_in, tags_named, use_in, uses_of}
 use Rattle.cb_index.specs.Shelved.{ShownFile, with_facts}
 use Rattle.cb_desk.specs.declared.found.Found.{Found}
-use Rattle.cb_desk.specs.declared.rows.Field.TheVariants.{Symbol, Definition, Called, Calling, File as FileName, Including}
-use Rattle.cb_desk.specs.Answer.{AnswerRow, bytes_of, field_rows, file_rows, found_called, found_calling, found_def, found_include, found_row, found_use, function_name, is_asked, is_header, row_on}
+use Rattle.cb_desk.specs.declared.rows.Field.TheVariants.{Symbol, Definition, Called, Calling}
+use Rattle.cb_desk.specs.declared.rows.Field.TheVariants.{File as FileName, Including}
+use Rattle.cb_desk.specs.Answer.{AnswerRow, bytes_of, field_rows, file_rows, found_called}
+use Rattle.cb_desk.specs.Answer.{found_calling, found_def, found_include, found_row, found_use}
+use Rattle.cb_desk.specs.Answer.{function_name, is_asked, is_header, row_on}
 use Rattle.cb_desk.specs.World.{File}
 use Rattle.cb_desk.specs.steps.Lent.{row_around, row_named, row_of_tag}
 use Rattle.cb_desk.proofs.BytesEqual.{bytes-turned}
 
 -- ---- of each file, of all files
-rows-flat : {Y : Type 0} (row : Y → AnswerRow) (g : File → List Y) (h : File → List AnswerRow) → ((f : File) → map row (g f) ≡ h f)
+rows-flat : {Y : Type 0} (row : Y → AnswerRow) (g : File → List Y) (h : File → List AnswerRow)
+    → ((f : File) → map row (g f) ≡ h f)
     → (fs : List File) → map row (flat_map g fs) ≡ flat_map h fs
 rows-flat row g h each [] = refl
 rows-flat row g h each (f ∷ fs) =
     map-append row (g f) (flat_map g fs) ∙ (λ i. each f i ++ rows-flat row g h each fs i)
 
-module _ {X Y : Type 0} (made : X → Y) (row : Y → AnswerRow) (found : X → Found) (f : File) (test : X → Bool) (asked : Found → Bool)
-    (same-test : (x : X) → test x ≡ asked (found x)) (same-row : (x : X) → row (made x) ≡ found_row f (found x)) where
-  kept-rows : (xs : List X) → map row (map made (filter test xs)) ≡ map (found_row f) (filter asked (map found xs))
+module _ {X Y : Type 0} (made : X → Y) (row : Y → AnswerRow) (found : X → Found) (f : File)
+    (test : X → Bool) (asked : Found → Bool)
+    (same-test : (x : X) → test x ≡ asked (found x))
+    (same-row : (x : X) → row (made x) ≡ found_row f (found x)) where
+  kept-rows : (xs : List X)
+      → map row (map made (filter test xs)) ≡ map (found_row f) (filter asked (map found xs))
   kept-rows [] = refl
   kept-rows (x ∷ xs) =
       ap (λ b. map row (map made (cond b (x ∷ filter test xs) (filter test xs)))) (same-test x)
-      ∙ (elim (asked (found x)) as (λ b. map row (map made (cond b (x ∷ filter test xs) (filter test xs)))
-      ≡ map (found_row f) (cond b (found x ∷ filter asked (map found xs)) (filter asked (map found xs)))) [
+      ∙ (elim (asked (found x)) as
+      (λ b. map row (map made (cond b (x ∷ filter test xs) (filter test xs)))
+      ≡ map (found_row f)
+      (cond b (found x ∷ filter asked (map found xs)) (filter asked (map found xs)))) [
         | true ↦ (λ i. same-row x i ∷ kept-rows xs i)
         | false ↦ kept-rows xs
       ])
 
 -- ---- the function column
-column-is : (text : List ℕ) (scope : Option Span) → column (option_map (bytes_of text) scope) ≡ function_name text scope
+column-is : (text : List ℕ) (scope : Option Span)
+    → column (option_map (bytes_of text) scope) ≡ function_name text scope
 column-is text None = refl
 column-is text (Some span) = refl
 
@@ -52,37 +64,49 @@ module _ (p : List ℕ) where
 
   uses-in : (f : File) → map row_around (file_uses_of p f) ≡ field_rows Symbol p f
   uses-in f =
-      kept-rows (use_in f) row_around found_use f (λ (u : Use). bytes_eq p (bytes_of f.bytes u.name))
-      (λ (x : Found). is_asked Symbol p (bytes_of f.bytes x.key)) (λ u. bytes-turned p (bytes_of f.bytes u.name)) (use-row f) (facts_of f.bytes).uses
+      kept-rows (use_in f) row_around found_use f
+      (λ (u : Use). bytes_eq p (bytes_of f.bytes u.name))
+      (λ (x : Found). is_asked Symbol p (bytes_of f.bytes x.key))
+      (λ u. bytes-turned p (bytes_of f.bytes u.name)) (use-row f) (facts_of f.bytes).uses
 
-  pub symbol-rows : (fs : List File) → map row_around (uses_of p fs) ≡ flat_map (field_rows Symbol p) fs
+  pub symbol-rows : (fs : List File)
+      → map row_around (uses_of p fs) ≡ flat_map (field_rows Symbol p) fs
   unfolding uses_of
   symbol-rows fs = rows-flat row_around (file_uses_of p) (field_rows Symbol p) uses-in fs
 
   defs-in : (f : File) → map row_of_tag (file_tags_named p f) ≡ field_rows Definition p f
   defs-in f =
-      kept-rows (tag_in f) row_of_tag found_def f (λ (d : Def). bytes_eq p (bytes_of f.bytes d.name))
-      (λ (x : Found). is_asked Definition p (bytes_of f.bytes x.key)) (λ d. bytes-turned p (bytes_of f.bytes d.name)) (λ d. refl) (facts_of f.bytes).defs
+      kept-rows (tag_in f) row_of_tag found_def f
+      (λ (d : Def). bytes_eq p (bytes_of f.bytes d.name))
+      (λ (x : Found). is_asked Definition p (bytes_of f.bytes x.key))
+      (λ d. bytes-turned p (bytes_of f.bytes d.name)) (λ d. refl) (facts_of f.bytes).defs
 
-  pub definition-rows : (fs : List File) → map row_of_tag (tags_named p fs) ≡ flat_map (field_rows Definition p) fs
+  pub definition-rows : (fs : List File)
+      → map row_of_tag (tags_named p fs) ≡ flat_map (field_rows Definition p) fs
   unfolding tags_named
   definition-rows fs = rows-flat row_of_tag (file_tags_named p) (field_rows Definition p) defs-in fs
 
   called-in : (f : File) → map row_named (file_calls_in p f) ≡ field_rows Called p f
   called-in f =
-      kept-rows (call_in f) row_named found_called f (λ (c : Call). bytes_eq p (bytes_of f.bytes c.caller))
-      (λ (x : Found). is_asked Called p (bytes_of f.bytes x.key)) (λ c. bytes-turned p (bytes_of f.bytes c.caller)) (λ c. refl) (facts_of f.bytes).calls
+      kept-rows (call_in f) row_named found_called f
+      (λ (c : Call). bytes_eq p (bytes_of f.bytes c.caller))
+      (λ (x : Found). is_asked Called p (bytes_of f.bytes x.key))
+      (λ c. bytes-turned p (bytes_of f.bytes c.caller)) (λ c. refl) (facts_of f.bytes).calls
 
-  pub called-rows : (fs : List File) → map row_named (calls_in p fs) ≡ flat_map (field_rows Called p) fs
+  pub called-rows : (fs : List File)
+      → map row_named (calls_in p fs) ≡ flat_map (field_rows Called p) fs
   unfolding calls_in
   called-rows fs = rows-flat row_named (file_calls_in p) (field_rows Called p) called-in fs
 
   calling-in : (f : File) → map row_around (file_calls_of p f) ≡ field_rows Calling p f
   calling-in f =
-      kept-rows (call_in f) row_around found_calling f (λ (c : Call). bytes_eq p (bytes_of f.bytes c.callee))
-      (λ (x : Found). is_asked Calling p (bytes_of f.bytes x.key)) (λ c. bytes-turned p (bytes_of f.bytes c.callee)) (λ c. refl) (facts_of f.bytes).calls
+      kept-rows (call_in f) row_around found_calling f
+      (λ (c : Call). bytes_eq p (bytes_of f.bytes c.callee))
+      (λ (x : Found). is_asked Calling p (bytes_of f.bytes x.key))
+      (λ c. bytes-turned p (bytes_of f.bytes c.callee)) (λ c. refl) (facts_of f.bytes).calls
 
-  pub calling-rows : (fs : List File) → map row_around (calls_of p fs) ≡ flat_map (field_rows Calling p) fs
+  pub calling-rows : (fs : List File)
+      → map row_around (calls_of p fs) ≡ flat_map (field_rows Calling p) fs
   unfolding calls_of
   calling-rows fs = rows-flat row_around (file_calls_of p) (field_rows Calling p) calling-in fs
 
@@ -94,34 +118,47 @@ module _ (p : List ℕ) where
       ≡ map (include_in f) (filter (λ (i : Include). is_header p (bytes_of f.bytes i.header)) is)
   filter-made f [] = refl
   filter-made f (x ∷ is) =
-      elim (is_header p (bytes_of f.bytes x.header)) as (λ b. cond b (include_in f x ∷ filter asked-header (map (include_in f) is)) (filter asked-header (map (include_in f) is))
-      ≡ map (include_in f) (cond b (x ∷ filter (λ (i : Include). is_header p (bytes_of f.bytes i.header)) is) (filter (λ (i : Include). is_header p (bytes_of f.bytes i.header)) is))) [
+      elim (is_header p (bytes_of f.bytes x.header)) as
+      (λ b. cond b (include_in f x ∷ filter asked-header (map (include_in f) is))
+      (filter asked-header (map (include_in f) is))
+      ≡ map (include_in f)
+      (cond b (x ∷ filter (λ (i : Include). is_header p (bytes_of f.bytes i.header)) is)
+      (filter (λ (i : Include). is_header p (bytes_of f.bytes i.header)) is))) [
         | true ↦ ap (λ l. include_in f x ∷ l) (filter-made f is)
         | false ↦ filter-made f is
       ]
 
-  include-row : (f : File) (i : Include) → row_around (include_in f i) ≡ found_row f (found_include i)
+  include-row : (f : File) (i : Include)
+      → row_around (include_in f i) ≡ found_row f (found_include i)
   include-row f i = ap (λ name. row_on f.name f.bytes name i.line) (column-is f.bytes i.scope)
 
-  includes-in : (f : File) → map row_around (filter asked-header (file_includes f)) ≡ field_rows Including p f
+  includes-in : (f : File)
+      → map row_around (filter asked-header (file_includes f)) ≡ field_rows Including p f
   includes-in f =
       ap (map row_around) (filter-made f (facts_of f.bytes).includes)
-      ∙ kept-rows (include_in f) row_around found_include f (λ (i : Include). is_header p (bytes_of f.bytes i.header))
-      (λ (x : Found). is_asked Including p (bytes_of f.bytes x.key)) (λ i. refl) (include-row f) (facts_of f.bytes).includes
+      ∙ kept-rows (include_in f) row_around found_include f
+      (λ (i : Include). is_header p (bytes_of f.bytes i.header))
+      (λ (x : Found). is_asked Including p (bytes_of f.bytes x.key)) (λ i. refl) (include-row f)
+      (facts_of f.bytes).includes
 
-  filter-flat : (fs : List File) → filter asked-header (flat_map file_includes fs) ≡ flat_map (λ f. filter asked-header (file_includes f)) fs
+  filter-flat : (fs : List File) → filter asked-header (flat_map file_includes fs)
+      ≡ flat_map (λ f. filter asked-header (file_includes f)) fs
   filter-flat [] = refl
   filter-flat (f ∷ fs) =
       filter-append asked-header (file_includes f) (flat_map file_includes fs)
       ∙ ap (λ l. filter asked-header (file_includes f) ++ l) (filter-flat fs)
 
-  pub including-rows : (fs : List File) → map row_around (filter asked-header (all_includes fs)) ≡ flat_map (field_rows Including p) fs
+  pub including-rows : (fs : List File) → map row_around (filter asked-header (all_includes fs))
+      ≡ flat_map (field_rows Including p) fs
   unfolding all_includes
   including-rows fs =
       ap (map row_around) (filter-flat fs)
-      ∙ rows-flat row_around (λ f. filter asked-header (file_includes f)) (field_rows Including p) includes-in fs
+      ∙ rows-flat row_around (λ f. filter asked-header (file_includes f))
+      (field_rows Including p) includes-in fs
 
   -- ---- names of files
-  pub name-rows : (fs : List File) → flat_map (λ (f : ShownFile). file_rows p f.name) (map with_facts fs) ≡ flat_map (field_rows FileName p) fs
+  pub name-rows : (fs : List File)
+      → flat_map (λ (f : ShownFile). file_rows p f.name) (map with_facts fs)
+      ≡ flat_map (field_rows FileName p) fs
   name-rows [] = refl
   name-rows (f ∷ fs) = ap (λ l. file_rows p f.name ++ l) (name-rows fs)

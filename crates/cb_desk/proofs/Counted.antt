@@ -1,11 +1,20 @@
 -- Counts up to the greatest number.
-use Rattle.std.proofs.Common.{◌≡◌, ◌∙◌, ◌≤◌, ◌+◌, ◌-◌, ◌^◌, ℕ, List, ◌∷◌, length, refl, sym, ap, subst, arith, Ok, Err, ⊎_elim}
+use Rattle.std.proofs.Common.{◌≡◌, ◌∙◌, ◌≤◌, ◌+◌, ◌-◌, ◌^◌, ℕ, List, ◌∷◌, length, refl, sym, ap}
+use Rattle.std.proofs.Common.{subst, arith, Ok, Err, ⊎_elim}
 use Rattle.std.proofs.Math.Nat.{le-min, min-eq_left, min-eq_right, min-le_left, min-le_right}
 use Rattle.std.proofs.lemmas.Bool.{cases_Bool, true≢false}
 use Rattle.std.proofs.lemmas.Bool.Decides.{nat_tests}
 use Rattle.std.specs.Prelude.{min, nat_le, IsErr, Result}
 use Rattle.cb_desk.specs.declared.refusal.Refusal.{Refusal}
-use Rattle.cb_desk.specs.declared.refusal.Refusal.TheVariants.{UnknownCommand, LineTooLong, BadCount, InputEnded, BadName, NoSuchFile, FileExists, BadText, TooLarge, TooManyFiles, NoPattern, NoSuchDefinition, NoSuchLine, NothingWanted, NothingMarked, StackEmpty, NothingToUndo, NothingToRedo, HistoryFull, OutOfMemory, NoSuchField}
+use Rattle.cb_desk.specs.declared.refusal.Refusal.TheVariants.{UnknownCommand, LineTooLong}
+use Rattle.cb_desk.specs.declared.refusal.Refusal.TheVariants.{BadCount, InputEnded, BadName}
+use Rattle.cb_desk.specs.declared.refusal.Refusal.TheVariants.{NoSuchFile, FileExists, BadText}
+use Rattle.cb_desk.specs.declared.refusal.Refusal.TheVariants.{TooLarge, TooManyFiles, NoPattern}
+use Rattle.cb_desk.specs.declared.refusal.Refusal.TheVariants.{NoSuchDefinition, NoSuchLine}
+use Rattle.cb_desk.specs.declared.refusal.Refusal.TheVariants.{NothingWanted, NothingMarked}
+use Rattle.cb_desk.specs.declared.refusal.Refusal.TheVariants.{StackEmpty, NothingToUndo}
+use Rattle.cb_desk.specs.declared.refusal.Refusal.TheVariants.{NothingToRedo, HistoryFull}
+use Rattle.cb_desk.specs.declared.refusal.Refusal.TheVariants.{OutOfMemory, NoSuchField}
 use Rattle.cb_scan.specs.Definitions.{facts_of}
 use Rattle.cb_desk.specs.Desk.{Counts, CountsUpTo, IsBetween, bytes_in, counted, definitions_in}
 use Rattle.cb_desk.specs.World.{File}
@@ -13,7 +22,8 @@ use Rattle.cb_desk.specs.World.{File}
 module _ (limit : ℕ) where
   capped_twice : (m a b : ℕ) → min (min (m + a) limit + b) limit ≡ min (m + (a + b)) limit
   capped_twice m a b =
-      ⊎_elim (λ is. below (grind (arith, nat_tests, is))) (λ isnt. above (grind (arith, nat_tests, isnt))) (cases_Bool (nat_le (m + a) limit))
+      ⊎_elim (λ is. below (grind (arith, nat_tests, is)))
+      (λ isnt. above (grind (arith, nat_tests, isnt))) (cases_Bool (nat_le (m + a) limit))
     where
       below : m + a ≤ limit → min (min (m + a) limit + b) limit ≡ min (m + (a + b)) limit
       below fits =
@@ -24,13 +34,17 @@ module _ (limit : ℕ) where
       above over =
           let more : limit ≤ m + (a + b) = omega (arith, over) in
           let past : limit ≤ limit + b = omega arith in
-          ap (λ x. min (x + b) limit) (min-eq_right over) ∙ min-eq_right past ∙ sym (min-eq_right more)
+          ap (λ x. min (x + b) limit) (min-eq_right over) ∙ min-eq_right past
+          ∙ sym (min-eq_right more)
 
   capped_none : (m : ℕ) → m ≤ limit → min (m + 0) limit ≡ m
-  capped_none m fits = let same : m + 0 ≡ m = omega arith in ap (λ n. min n limit) same ∙ min-eq_left fits
+  capped_none m fits =
+      let same : m + 0 ≡ m = omega arith in ap (λ n. min n limit) same ∙ min-eq_left fits
 
   capped_more : (m a b : ℕ) → a ≤ b → min (m + a) limit ≤ min (m + b) limit
-  capped_more m a b fewer = let first = min-le_left (m + a) limit in le-min (omega (arith, first, fewer)) (min-le_right (m + a) limit)
+  capped_more m a b fewer =
+      let first = min-le_left (m + a) limit in
+      le-min (omega (arith, first, fewer)) (min-le_right (m + a) limit)
 
   capped_rises : (m a : ℕ) → m ≤ limit → m ≤ min (m + a) limit
   capped_rises m a fits = le-min (omega arith) fits
@@ -45,7 +59,8 @@ pub counted_rises : (m a : ℕ) → m ≤ 2 ^ 64 - 1 → m ≤ counted m a
 counted_rises m a fits = capped_rises (2 ^ 64 - 1) m a fits
 
 -- a call counted so many bytes, whether memory refused something after that or not
-pub counts_any : {A E : Type 0} → (r : Result A E) (more old new : ℕ) → old ≤ 2 ^ 64 - 1 → new ≡ counted old more → CountsUpTo more old new r
+pub counts_any : {A E : Type 0} → (r : Result A E) (more old new : ℕ) → old ≤ 2 ^ 64 - 1
+    → new ≡ counted old more → CountsUpTo more old new r
 counts_any (Ok x) more old new fits is = is
 counts_any (Err e) more old new fits is = record {
   least = subst (λ n. old ≤ n) (sym is) (counted_rises old more fits);
@@ -53,7 +68,8 @@ counts_any (Err e) more old new fits is = record {
 }
 
 -- a call that memory refused counted no more than so many bytes
-pub counts_between : {A E : Type 0} → (r : Result A E) (more old new : ℕ) → IsErr r → IsBetween old more new → CountsUpTo more old new r
+pub counts_between : {A E : Type 0} → (r : Result A E) (more old new : ℕ) → IsErr r
+    → IsBetween old more new → CountsUpTo more old new r
 counts_between (Ok x) more old new refused between = absurd (true≢false (sym refused))
 counts_between (Err e) more old new refused between = between
 
@@ -67,17 +83,23 @@ counted_more m a b fewer = capped_more (2 ^ 64 - 1) m a b fewer
 later : (a b c : ℕ) → a ≤ b → b ≤ c → a ≤ c
 later a b c first then = omega (arith, first, then)
 
-module _ (old m all new : ℕ) (f : File) (rest : List File) (counts : counted m (bytes_in (f ∷ rest)) ≡ counted old all)
+module _ (old m all new : ℕ) (f : File) (rest : List File)
+    (counts : counted m (bytes_in (f ∷ rest)) ≡ counted old all)
     (is : new ≡ counted m (length f.bytes)) where
   pub counts_next : counted new (bytes_in rest) ≡ counted old all
-  counts_next = ap (λ n. counted n (bytes_in rest)) is ∙ counted_twice m (length f.bytes) (bytes_in rest) ∙ counts
+  counts_next =
+      ap (λ n. counted n (bytes_in rest)) is ∙ counted_twice m (length f.bytes) (bytes_in rest)
+      ∙ counts
 
   -- or memory was refused
   pub counts_stop : old ≤ m → m ≤ 2 ^ 64 - 1 → IsBetween old all new
   counts_stop least fits = record {
-    least = subst (λ n. old ≤ n) (sym is) (later old m (counted m (length f.bytes)) least (counted_rises m (length f.bytes) fits));
+    least =
+        subst (λ n. old ≤ n) (sym is)
+        (later old m (counted m (length f.bytes)) least (counted_rises m (length f.bytes) fits));
     most = subst (λ n. n ≤ counted old all) (sym is)
-        (subst (λ n. counted m (length f.bytes) ≤ n) counts (counted_more m (length f.bytes) (length f.bytes + bytes_in rest) (omega arith)));
+        (subst (λ n. counted m (length f.bytes) ≤ n) counts
+        (counted_more m (length f.bytes) (length f.bytes + bytes_in rest) (omega arith)));
   }
 
   pub counts_least : old ≤ m → m ≤ 2 ^ 64 - 1 → old ≤ new
@@ -87,8 +109,10 @@ module _ (old m all new : ℕ) (f : File) (rest : List File) (counts : counted m
   counts_bound = subst (λ n. n ≤ 2 ^ 64 - 1) (sym is) (counted_bound m (length f.bytes))
 
 -- the definitions of one were counted, and those of the rest are to come
-pub finds_next : (n then all : ℕ) (f : File) (rest : List File) (some : ℕ) → counted n (definitions_in (f ∷ rest)) ≡ counted 0 all
-    → some ≡ length (facts_of f.bytes).defs → then ≡ counted n some → counted then (definitions_in rest) ≡ counted 0 all
+pub finds_next : (n then all : ℕ) (f : File) (rest : List File) (some : ℕ)
+    → counted n (definitions_in (f ∷ rest)) ≡ counted 0 all
+    → some ≡ length (facts_of f.bytes).defs → then ≡ counted n some
+    → counted then (definitions_in rest) ≡ counted 0 all
 finds_next n then all f rest some finds is now =
     ap (λ k. counted k (definitions_in rest)) (now ∙ ap (counted n) is)
     ∙ counted_twice n (length (facts_of f.bytes).defs) (definitions_in rest) ∙ finds
@@ -99,12 +123,15 @@ finds_bound n then some is = subst (λ k. k ≤ 2 ^ 64 - 1) (sym is) (counted_bo
 -- ---- calls
 
 -- memory is refused to a call that has counted so many bytes, or no more than these
-pub refused_between : (more old new : ℕ) (r : Result (Unit {0}) Refusal) → r ≡ Err OutOfMemory → IsBetween old more new → Counts more old new r
+pub refused_between : (more old new : ℕ) (r : Result (Unit {0}) Refusal) → r ≡ Err OutOfMemory
+    → IsBetween old more new → Counts more old new r
 refused_between more old new r is between = subst (Counts more old new) (sym is) between
 
-pub refused_after : (more old new : ℕ) (r : Result (Unit {0}) Refusal) → r ≡ Err OutOfMemory → old ≤ 2 ^ 64 - 1 → new ≡ counted old more → Counts more old new r
+pub refused_after : (more old new : ℕ) (r : Result (Unit {0}) Refusal) → r ≡ Err OutOfMemory
+    → old ≤ 2 ^ 64 - 1 → new ≡ counted old more → Counts more old new r
 refused_after more old new r is fits counted =
-    refused_between more old new r is (counts_any {A = Unit {0}} {E = Unit {0}} (Err tt) more old new fits counted)
+    refused_between more old new r is
+    (counts_any {A = Unit {0}} {E = Unit {0}} (Err tt) more old new fits counted)
 
 -- a refused call counts nothing
 module _ (m : ℕ) (fits : m ≤ 2 ^ 64 - 1) where

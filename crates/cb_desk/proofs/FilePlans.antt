@@ -26,7 +26,8 @@ use Rattle.cb_desk.specs.steps.Plans.{name_then, places_without, renumbered}
 use Rattle.cb_desk.specs.steps.Records.{IsFew, Kept, other_wanted, place_in, without, world_in}
 use Rattle.cb_desk.specs.steps.Walks.{IsKept, shows_name, shows_version}
 use Rattle.cb_desk.proofs.AllUsed.{any_shown, none_new, only_new}
-use Rattle.cb_desk.proofs.ArchiveMoves.{Agree, agree_kept, apart_same, below_shown, files_same, order_same, places_same}
+use Rattle.cb_desk.proofs.ArchiveMoves.{Agree, agree_kept, apart_same, below_shown, files_same}
+use Rattle.cb_desk.proofs.ArchiveMoves.{order_same, places_same}
 use Rattle.cb_desk.proofs.PlacePlans.{settled, without_none}
 use Rattle.cb_desk.proofs.Placed.{map-filter}
 use Rattle.cb_desk.proofs.ShownMoves.{Hides, IsOther, Shows, all_among, file_put, files_without}
@@ -49,7 +50,9 @@ module _ (k : Kept) (p : Planned) (kept : IsKept k.rooms k.archive k.now)
   v = k.now.versions
 
   pub agree : Agree k.archive a n v
-  agree = agree_kept k.archive a n v p.names p.texts kept.there.names kept.there.versions keeps.names keeps.texts
+  agree =
+      agree_kept k.archive a n v p.names p.texts kept.there.names kept.there.versions
+      keeps.names keeps.texts
 
   pub all_below : AllByRecursion (λ (s : Shown). (s.name < n) × (s.version < v)) k.now.shown
   all_below = below_shown k.archive a n v agree k.now kept.there (omega arith) (omega arith)
@@ -57,14 +60,16 @@ module _ (k : Kept) (p : Planned) (kept : IsKept k.rooms k.archive k.now)
   in_place : in_order (shown_name a) k.now.shown ≡ k.now.shown
   in_place =
       order_same k.archive a n v agree k.now.shown all_below
-      ∙ settled (shown_name k.archive) k.now.shown (ascending_sorted k.archive k.now.shown ascending)
+      ∙ settled (shown_name k.archive) k.now.shown
+      (ascending_sorted k.archive k.now.shown ascending)
 
   -- the names of what is shown ascend in it
   pub up : AreAscending a k.now.shown
   up =
       subst (AreAscending a) in_place
       (ascending_in_order a k.now.shown
-      (apart_same k.archive a n v agree k.now.shown all_below (ascending_apart k.archive k.now.shown ascending)))
+      (apart_same k.archive a n v agree k.now.shown all_below
+      (ascending_apart k.archive k.now.shown ascending)))
 
   name_count : length a.names ≡ n + length p.names
   name_count =
@@ -81,14 +86,17 @@ module _ (k : Kept) (p : Planned) (kept : IsKept k.rooms k.archive k.now)
   -- the first new name and text
   new_name : (name : List ℕ) (more : List (List ℕ)) → p.names ≡ name ∷ more → name_of a n ≡ name
   new_name name more is =
-      let t : n ≡ length (take n k.archive.names) = sym (length-take-le n k.archive.names kept.there.names) in
+      let t : n ≡ length (take n k.archive.names) =
+      sym (length-take-le n k.archive.names kept.there.names) in
       ap (λ l. slice_index_or l n []) (keeps.names ∙ ap (λ l. take n k.archive.names ++ l) is)
       ∙ ap (λ m. slice_index_or (take n k.archive.names ++ name ∷ more) m []) t
       ∙ get_or-append_seam (take n k.archive.names) name more []
 
-  new_text : (text : List ℕ) (more : List (List ℕ)) → p.texts ≡ text ∷ more → slice_index_or a.texts v [] ≡ text
+  new_text : (text : List ℕ) (more : List (List ℕ)) → p.texts ≡ text ∷ more
+      → slice_index_or a.texts v [] ≡ text
   new_text text more is =
-      let t : v ≡ length (take v k.archive.texts) = sym (length-take-le v k.archive.texts kept.there.versions) in
+      let t : v ≡ length (take v k.archive.texts) =
+      sym (length-take-le v k.archive.texts kept.there.versions) in
       ap (λ l. slice_index_or l v []) (keeps.texts ∙ ap (λ l. take v k.archive.texts ++ l) is)
       ∙ ap (λ m. slice_index_or (take v k.archive.texts ++ text ∷ more) m []) t
       ∙ get_or-append_seam (take v k.archive.texts) text more []
@@ -99,7 +107,9 @@ module _ (k : Kept) (p : Planned) (kept : IsKept k.rooms k.archive k.now)
       → has_file (files_of k.archive ss) name ≡ false → AllByRecursion (IsOther a s) ss
   others_from s name is [] below none = tt
   others_from s name is (r ∷ ss) below none =
-      let parts = split (bytes_eq (name_of k.archive r.name) name) (has_file (files_of k.archive ss) name) none in (
+      let parts =
+      split (bytes_eq (name_of k.archive r.name) name)
+      (has_file (files_of k.archive ss) name) none in (
         other_turned (name_of a r.name) (name_of a s.name)
             ((λ i. bytes_eq (agree.names r.name below.0.0 i) (is i)) ∙ parts.0),
         others_from s name is ss below.1 parts.1,
@@ -109,10 +119,13 @@ module _ (k : Kept) (p : Planned) (kept : IsKept k.rooms k.archive k.now)
       split true y e = cc
       split false y e = (refl, e)
 
-  module _ (marks frames : List NumberedPlace) (fs : List File) (next : Option (List ℕ)) (ms gs : List Place)
-      (hides : Hides a k.now.shown p.turn.hides) (shows : Shows a (without p.turn.hides k.now.shown) p.turn.shows)
+  module _ (marks frames : List NumberedPlace) (fs : List File) (next : Option (List ℕ))
+      (ms gs : List Place)
+      (hides : Hides a k.now.shown p.turn.hides)
+      (shows : Shows a (without p.turn.hides k.now.shown) p.turn.shows)
       (few : IsFew a p.turn k.now)
-      (below : AllByRecursion (λ (s : Shown). (s.name < p.turn.names) × (s.version < p.turn.versions)) p.turn.shows)
+      (below : AllByRecursion
+      (λ (s : Shown). (s.name < p.turn.names) × (s.version < p.turn.versions)) p.turn.shows)
       (wanted : other_wanted p.turn.wanted k.now.wanted ≡ next)
       (names : p.turn.names ≡ n + length p.names) (versions : p.turn.versions ≡ v + length p.texts)
       (are_marks : IsDifference p.turn.marks k.now.marks marks)
@@ -120,9 +133,11 @@ module _ (k : Kept) (p : Planned) (kept : IsKept k.rooms k.archive k.now)
       (marks_named : Places marks p.turn.names) (frames_named : Places frames p.turn.names)
       (all_names : (m : ℕ) → n ≤ m → m < p.turn.names → shows_name m p.turn.shows ≡ true)
       (all_versions : (m : ℕ) → v ≤ m → m < p.turn.versions → shows_version m p.turn.shows ≡ true)
-      (files_are : files_of a (in_order (shown_name a) (without p.turn.hides k.now.shown ++ p.turn.shows)) ≡ fs)
+      (files_are :
+      files_of a (in_order (shown_name a) (without p.turn.hides k.now.shown ++ p.turn.shows)) ≡ fs)
       (marks_are : map (place_in a) marks ≡ ms) (frames_are : map (place_in a) frames ≡ gs) where
-    all_then : AllByRecursion (λ (s : Shown). (s.name < p.turn.names) × (s.version < p.turn.versions)) k.now.shown
+    all_then : AllByRecursion
+        (λ (s : Shown). (s.name < p.turn.names) × (s.version < p.turn.versions)) k.now.shown
     all_then =
         all_implied (λ (s : Shown). (s.name < n) × (s.version < v))
         (λ (s : Shown). (s.name < p.turn.names) × (s.version < p.turn.versions))
@@ -142,9 +157,12 @@ module _ (k : Kept) (p : Planned) (kept : IsKept k.rooms k.archive k.now)
         few = few;
       };
       there = record {
-        shown = all_in_order (shown_name a) (λ (s : Shown). (s.name < p.turn.names) × (s.version < p.turn.versions))
+        shown =
+            all_in_order (shown_name a)
+            (λ (s : Shown). (s.name < p.turn.names) × (s.version < p.turn.versions))
             (without p.turn.hides k.now.shown ++ p.turn.shows)
-            (all-join _ (without p.turn.hides k.now.shown) p.turn.shows (all-filter _ _ k.now.shown all_then) below);
+            (all-join _ (without p.turn.hides k.now.shown) p.turn.shows
+            (all-filter _ _ k.now.shown all_then) below);
         marks = subst (λ ps. Places ps p.turn.names) (sym are_marks.on) marks_named;
         frames = subst (λ ps. Places ps p.turn.names) (sym are_frames.on) frames_named;
         names = omega (arith, names, name_count);
@@ -166,21 +184,27 @@ module _ (k : Kept) (p : Planned) (kept : IsKept k.rooms k.archive k.now)
             (without p.turn.hides k.now.shown) p.turn.shows
             (all_versions m above below);
       };
-      all = record { names = omega (arith, names, name_count); versions = omega (arith, versions, text_count) };
+      all = record {
+        names = omega (arith, names, name_count);
+        versions = omega (arith, versions, text_count);
+      };
     }
 
   -- places of the present world are the same places in it
-  pub same_places : (ps : List NumberedPlace) → Places ps n → map (place_in a) ps ≡ map (place_in k.archive) ps
+  pub same_places : (ps : List NumberedPlace) → Places ps n
+      → map (place_in a) ps ≡ map (place_in k.archive) ps
   same_places ps named = places_same k.archive a n v agree ps named
 
   same_without : (name : List ℕ) (ps : List NumberedPlace) → Places ps n
-      → map (place_in a) (places_without k.archive name ps) ≡ without_places name (map (place_in k.archive) ps)
+      → map (place_in a) (places_without k.archive name ps)
+      ≡ without_places name (map (place_in k.archive) ps)
   same_without name ps named =
       same_places (places_without k.archive name ps) (all-filter _ _ ps named)
       ∙ map-filter (place_in k.archive) (λ q. not (is_in name q)) ps
 
 -- ---- a file goes
-module _ (k : Kept) (p : Planned) (h : Shown) (marks frames : Edits) (kept : IsKept k.rooms k.archive k.now)
+module _ (k : Kept) (p : Planned) (h : Shown) (marks frames : Edits)
+    (kept : IsKept k.rooms k.archive k.now)
     (ascending : AreAscending k.archive k.now.shown) (among : IsAmong k.now.shown h)
     (names : p.names ≡ []) (texts : p.texts ≡ [])
     (turn : p.turn ≡ record {
@@ -192,7 +216,8 @@ module _ (k : Kept) (p : Planned) (h : Shown) (marks frames : Edits) (kept : IsK
       names = k.now.names;
       versions = k.now.versions;
     })
-    (are_marks : IsDifference marks k.now.marks (places_without k.archive (name_of k.archive h.name) k.now.marks))
+    (are_marks : IsDifference marks k.now.marks
+    (places_without k.archive (name_of k.archive h.name) k.now.marks))
     (are_frames : IsDifference frames k.now.frames
     (places_without k.archive (name_of k.archive h.name) k.now.frames)) where
   abbrev name : List ℕ
@@ -227,21 +252,27 @@ module _ (k : Kept) (p : Planned) (h : Shown) (marks frames : Edits) (kept : IsK
       hides (shows_none a rest hides.left) (few_small a planned.turn k.now (omega arith)) tt refl
       (omega arith) (omega arith) are_marks are_frames
       (all-filter _ _ k.now.marks kept.there.marks) (all-filter _ _ k.now.frames kept.there.frames)
-      (λ m above below. none_new k.now.names k.now.names m (shows_name m [] ≡ true) refl above below)
-      (λ m above below. none_new k.now.versions k.now.versions m (shows_version m [] ≡ true) refl above below)
+      (λ m above below.
+      none_new k.now.names k.now.names m (shows_name m [] ≡ true) refl above below)
+      (λ m above below.
+      none_new k.now.versions k.now.versions m (shows_version m [] ≡ true) refl above below)
       (ap (λ l. files_of a (in_order (shown_name a) l)) (append-nil rest)
       ∙ ap (files_of a) (settled (shown_name a) rest (ascending_sorted a rest hides.left))
-      ∙ files_same k.archive a k.now.names k.now.versions (agree k planned kept ascending a keeps) rest below
+      ∙ files_same k.archive a k.now.names k.now.versions
+      (agree k planned kept ascending a keeps) rest below
       ∙ files_without k.archive k.now.shown h among.0 among.1 ascending)
       (same_without k planned kept ascending a keeps name k.now.marks kept.there.marks)
       (same_without k planned kept ascending a keeps name k.now.frames kept.there.frames)
 
   pub unload_planned : IsPlan k p (unloaded (world_in k.archive k.now) name)
-  unload_planned = subst (λ q. IsPlan k q (unloaded (world_in k.archive k.now) name)) (sym is_planned) unload_leads
+  unload_planned =
+      subst (λ q. IsPlan k q (unloaded (world_in k.archive k.now) name))
+      (sym is_planned) unload_leads
 
 -- ---- a file comes
 module _ (k : Kept) (p : Planned) (name text : List ℕ) (kept : IsKept k.rooms k.archive k.now)
-    (ascending : AreAscending k.archive k.now.shown) (fresh : has_file (files_of k.archive k.now.shown) name ≡ false)
+    (ascending : AreAscending k.archive k.now.shown)
+    (fresh : has_file (files_of k.archive k.now.shown) name ≡ false)
     (names : p.names ≡ name ∷ []) (texts : p.texts ≡ text ∷ []) (number version : ℕ)
     (turn : p.turn ≡ record {
       hides = [];
@@ -281,7 +312,8 @@ module _ (k : Kept) (p : Planned) (name text : List ℕ) (kept : IsKept k.rooms 
       let named = new_name k planned_load kept ascending a keeps name [] refl in
       let same : rest ≡ k.now.shown = without_none k.now.shown in
       let hides = hides_none a k.now.shown (up k planned_load kept ascending a keeps) in
-      let other : AllByRecursion (IsOther a new) rest = subst (AllByRecursion (IsOther a new)) (sym same)
+      let other : AllByRecursion (IsOther a new) rest =
+      subst (AllByRecursion (IsOther a new)) (sym same)
       (others_from k planned_load kept ascending a keeps new name named k.now.shown all fresh) in
       file_leads k planned_load kept ascending a keeps k.now.marks k.now.frames _ _ _ _
       hides (shows_one a rest new hides.left other)
@@ -307,7 +339,9 @@ module _ (k : Kept) (p : Planned) (name text : List ℕ) (kept : IsKept k.rooms 
           (λ (q : NumberedPlace). q.name < number) (λ q is. omega (arith, is, one_name)) ps all
 
   pub load_planned : IsPlan k p (loaded (world_in k.archive k.now) name text)
-  load_planned = subst (λ q. IsPlan k q (loaded (world_in k.archive k.now) name text)) (sym is_planned_load) load_leads
+  load_planned =
+      subst (λ q. IsPlan k q (loaded (world_in k.archive k.now) name text))
+      (sym is_planned_load) load_leads
 
 -- ---- a file has other bytes
 module _ (k : Kept) (p : Planned) (h : Shown) (text : List ℕ) (marks frames : Edits)
@@ -324,7 +358,8 @@ module _ (k : Kept) (p : Planned) (h : Shown) (text : List ℕ) (marks frames : 
       versions = version;
     })
     (one_version : version ≡ k.now.versions + 1)
-    (are_marks : IsDifference marks k.now.marks (places_without k.archive (name_of k.archive h.name) k.now.marks))
+    (are_marks : IsDifference marks k.now.marks
+    (places_without k.archive (name_of k.archive h.name) k.now.marks))
     (are_frames : IsDifference frames k.now.frames
     (places_without k.archive (name_of k.archive h.name) k.now.frames)) where
   abbrev reloaded_name : List ℕ
@@ -361,8 +396,10 @@ module _ (k : Kept) (p : Planned) (h : Shown) (text : List ℕ) (marks frames : 
       let there : (h.name < k.now.names) × (h.version < k.now.versions) =
       all_among (λ (s : Shown). (s.name < k.now.names) × (s.version < k.now.versions)) k.now.shown h
       among.0 among.1 all in
-      let other : AllByRecursion (IsOther a changed) rest = others a k.now.shown h among.0 among.1 up_now in
-      let below = all-filter _ (λ (s : Shown). not (is_among (names_of (h ∷ [])) s.name)) k.now.shown all in
+      let other : AllByRecursion (IsOther a changed) rest =
+      others a k.now.shown h among.0 among.1 up_now in
+      let below =
+      all-filter _ (λ (s : Shown). not (is_among (names_of (h ∷ [])) s.name)) k.now.shown all in
       file_leads k planned_reload kept ascending a keeps
       (places_without k.archive reloaded_name k.now.marks)
       (places_without k.archive reloaded_name k.now.frames) _ _ _ _
@@ -371,17 +408,21 @@ module _ (k : Kept) (p : Planned) (h : Shown) (text : List ℕ) (marks frames : 
       ((there.0, omega (arith, one_version)), tt) refl
       (omega arith) (omega (arith, one_version)) are_marks are_frames
       (all-filter _ _ k.now.marks kept.there.marks) (all-filter _ _ k.now.frames kept.there.frames)
-      (λ m above below. none_new k.now.names k.now.names m (shows_name m (changed ∷ []) ≡ true) refl above below)
+      (λ m above below.
+      none_new k.now.names k.now.names m (shows_name m (changed ∷ []) ≡ true) refl above below)
       (λ m above below. only_new k.now.versions version m one_version above below)
-      (ap (files_of a) (order_more a rest changed hides.left other) ∙ file_put a rest changed hides.left
+      (ap (files_of a) (order_more a rest changed hides.left other)
+      ∙ file_put a rest changed hides.left
       ∙ (λ i. with_file (record {
         name = same.names h.name there.0 i;
         bytes = new_text k planned_reload kept ascending a keeps text [] refl i;
       })
       ((files_same k.archive a k.now.names k.now.versions same rest below
       ∙ files_without k.archive k.now.shown h among.0 among.1 ascending) i)))
-      (same_without k planned_reload kept ascending a keeps reloaded_name k.now.marks kept.there.marks)
-      (same_without k planned_reload kept ascending a keeps reloaded_name k.now.frames kept.there.frames)
+      (same_without k planned_reload kept ascending a keeps reloaded_name
+      k.now.marks kept.there.marks)
+      (same_without k planned_reload kept ascending a keeps reloaded_name
+      k.now.frames kept.there.frames)
 
   pub reload_planned : IsPlan k p (reloaded (world_in k.archive k.now) reloaded_name text)
   reload_planned =
@@ -443,16 +484,20 @@ module _ (k : Kept) (p : Planned) (h : Shown) (new_bytes : List ℕ) (marks fram
     still m below = (agree k planned_rename kept ascending a keeps).names m below
 
     then_new : name_then k.archive k.now.names new_bytes k.now.names ≡ name_of a k.now.names
-    then_new = ap (λ b. cond b new_bytes (name_of k.archive k.now.names)) (number_itself k.now.names) ∙ sym named
+    then_new =
+        ap (λ b. cond b new_bytes (name_of k.archive k.now.names)) (number_itself k.now.names)
+        ∙ sym named
 
-    then_still : (m : ℕ) → m < k.now.names → name_then k.archive k.now.names new_bytes m ≡ name_of a m
+    then_still : (m : ℕ) → m < k.now.names
+        → name_then k.archive k.now.names new_bytes m ≡ name_of a m
     then_still m below = ap (λ b. cond b new_bytes (name_of k.archive m))
         (number_below m k.now.names below) ∙ sym (still m below)
 
     all_named : (ps : List NumberedPlace) → Places ps k.now.names → Places (map renumber ps) number
     all_named [] all = tt
     all_named (q ∷ ps) all = (
-      elim (is_of k.archive old_bytes q) as (λ b. (cond b (record q { name = k.now.names }) q).name < number)
+      elim (is_of k.archive old_bytes q) as
+          (λ b. (cond b (record q { name = k.now.names }) q).name < number)
           [ true ↦ omega (arith, one_name) | false ↦ omega (arith, one_name, all.0) ],
       all_named ps all.1,
     )
@@ -467,16 +512,19 @@ module _ (k : Kept) (p : Planned) (h : Shown) (new_bytes : List ℕ) (marks fram
           (cond b (record q { name = k.now.names }) q)
           ≡ place_key (place_in a (cond b (record q { name = k.now.names }) q))) [
             | true ↦ ap (λ x. place_key (record { file = x; line = q.line })) then_new
-            | false ↦ ap (λ x. place_key (record { file = x; line = q.line })) (then_still q.name all.0)
+            | false ↦ ap (λ x. place_key (record { file = x; line = q.line }))
+                (then_still q.name all.0)
           ],
       all_keys ps all.1,
     )
 
     all_places : (ps : List NumberedPlace) → Places ps k.now.names
-        → map (place_in a) (map renumber ps) ≡ renamed_places old_bytes new_bytes (map (place_in k.archive) ps)
+        → map (place_in a) (map renumber ps)
+        ≡ renamed_places old_bytes new_bytes (map (place_in k.archive) ps)
     all_places [] all = refl
     all_places (q ∷ ps) all =
-        let first : place_in a (renumber q) ≡ renamed_place old_bytes new_bytes (place_in k.archive q) =
+        let first : place_in a (renumber q)
+        ≡ renamed_place old_bytes new_bytes (place_in k.archive q) =
         elim (is_of k.archive old_bytes q)
         as (λ b. place_in a (cond b (record q { name = k.now.names }) q)
         ≡ cond b (record (place_in k.archive q) { file = new_bytes }) (place_in k.archive q)) [
@@ -485,18 +533,21 @@ module _ (k : Kept) (p : Planned) (h : Shown) (new_bytes : List ℕ) (marks fram
         ] in
         λ i. first i ∷ all_places ps all.1 i
 
-    rename_leads : LeadsTo k planned_rename (renamed (world_in k.archive k.now) old_bytes new_bytes) a
+    rename_leads : LeadsTo k planned_rename
+        (renamed (world_in k.archive k.now) old_bytes new_bytes) a
     rename_leads =
         let rest = without (h ∷ []) k.now.shown in
         let all = all_below k planned_rename kept ascending a keeps in
-        let hides = hides_one a k.now.shown h among.0 among.1 (up k planned_rename kept ascending a keeps) in
+        let hides =
+        hides_one a k.now.shown h among.0 among.1 (up k planned_rename kept ascending a keeps) in
         let there : (h.name < k.now.names) × (h.version < k.now.versions) =
         all_among (λ (s : Shown). (s.name < k.now.names) × (s.version < k.now.versions)) k.now.shown
         h among.0 among.1 all in
         let other : AllByRecursion (IsOther a moved) rest =
         all-filter _ _ k.now.shown (others_from k planned_rename kept ascending a keeps moved
         new_bytes named k.now.shown all fresh) in
-        let below = all-filter _ (λ (s : Shown). not (is_among (names_of (h ∷ [])) s.name)) k.now.shown all in
+        let below =
+        all-filter _ (λ (s : Shown). not (is_among (names_of (h ∷ [])) s.name)) k.now.shown all in
         file_leads k planned_rename kept ascending a keeps
         (in_order (key_then k.archive k.now.names new_bytes) (map renumber k.now.marks))
         (map renumber k.now.frames) _ _ _ _
@@ -510,7 +561,8 @@ module _ (k : Kept) (p : Planned) (h : Shown) (new_bytes : List ℕ) (marks fram
         (λ m above below. only_new k.now.names number m one_name above below)
         (λ m above below. none_new k.now.versions k.now.versions m
         (shows_version m (moved ∷ []) ≡ true) refl above below)
-        (ap (files_of a) (order_more a rest moved hides.left other) ∙ file_put a rest moved hides.left
+        (ap (files_of a) (order_more a rest moved hides.left other)
+        ∙ file_put a rest moved hides.left
         ∙ (λ i. with_file (record {
           name = named i;
           bytes = ((agree k planned_rename kept ascending a keeps).bytes h.version there.1

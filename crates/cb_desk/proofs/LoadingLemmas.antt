@@ -1,5 +1,6 @@
 -- Files that are loaded before they are shown.
-use Rattle.std.proofs.Common.{◌≡◌, ◌≢◌, ◌∙◌, ◌≤◌, ◌<◌, ◌+◌, ℕ, Bool, true, false, List, [], ◌∷◌, ◌++◌}
+use Rattle.std.proofs.Common.{◌≡◌, ◌≢◌, ◌∙◌, ◌≤◌, ◌<◌, ◌+◌, ℕ, Bool, true, false, List, [], ◌∷◌}
+use Rattle.std.proofs.Common.{◌++◌}
 use Rattle.std.proofs.Common.{None, Ok, refl, sym, ap, subst, length, take, get_or, slice_set}
 use Rattle.std.proofs.Common.{arith, length-append, Option}
 use Rattle.std.proofs.Math.Seq.{take-length, get_or-append_seam, set-append_seam}
@@ -29,9 +30,11 @@ use Rattle.cb_desk.specs.Files.{load_refusal, loaded}
 use Rattle.cb_desk.specs.Timeline.{moved_on, redone}
 use Rattle.cb_desk.specs.World.{IsValidWorld, World, has_file}
 use Rattle.cb_desk.specs.steps.Edits.{each}
-use Rattle.cb_desk.specs.steps.Loading.{AreLoaded, HasRoomToShow, just_room, loaded_numbers, loads_recorded}
+use Rattle.cb_desk.specs.steps.Loading.{AreLoaded, HasRoomToShow, just_room, loaded_numbers}
+use Rattle.cb_desk.specs.steps.Loading.{loads_recorded}
 use Rattle.cb_desk.specs.steps.Plans.{HasRoomFor, IsPlan, Keeps, LeadsTo, Planned}
-use Rattle.cb_desk.specs.steps.Records.{AreThere, KeepsRooms, Kept, Rooms, Turn, no_numbers, other, turned, world_in}
+use Rattle.cb_desk.specs.steps.Records.{AreThere, KeepsRooms, Kept, Rooms, Turn, no_numbers, other}
+use Rattle.cb_desk.specs.steps.Records.{turned, world_in}
 use Rattle.cb_desk.specs.steps.Room.{texts_with, with_texts}
 use Rattle.cb_desk.specs.steps.Walks.{IsRecorded, Recorded, timeline_in, turns_back}
 use Rattle.cb_desk.proofs.ArchiveMoves.{same_recorded, same_timeline}
@@ -39,10 +42,12 @@ use Rattle.cb_desk.proofs.FilePlans.{load_planned, up}
 use Rattle.cb_desk.proofs.PlacePlans.{settled, without_none}
 use Rattle.cb_desk.proofs.PlanLemmas.{next_is, next_recorded, plan_moved, redone_next}
 use Rattle.cb_desk.proofs.RoomLemmas.{has_room}
-use Rattle.cb_desk.proofs.WalkLemmas.{kept_back, nothing_recorded, past_length, redo_is, redo_recorded}
+use Rattle.cb_desk.proofs.WalkLemmas.{kept_back, nothing_recorded, past_length, redo_is}
+use Rattle.cb_desk.proofs.WalkLemmas.{redo_recorded}
 
 -- what is loaded is there
-pub all_there : (a : Archived) (hidden shown : List Shown) (records : List Turn) → AreLoaded a hidden shown records
+pub all_there : (a : Archived) (hidden shown : List Shown) (records : List Turn)
+    → AreLoaded a hidden shown records
     → AllByRecursion (IsThere a) shown
 all_there a hidden shown records is =
     let h = loads_recorded a shown records in
@@ -72,9 +77,11 @@ empty_list [] none = refl
 empty_list (x ∷ xs) none = absurd (omega (arith, none))
 
 -- as many are loaded as there are changes
-loaded_length : (a : Archived) (hidden shown : List Shown) (records : List Turn) → AreLoaded a hidden shown records
+loaded_length : (a : Archived) (hidden shown : List Shown) (records : List Turn)
+    → AreLoaded a hidden shown records
     → length shown ≡ length (timeline_in (loads_recorded a shown records)).past
-loaded_length a hidden shown records is = is.files ∙ sym (past_length (loads_recorded a shown records) (omega arith))
+loaded_length a hidden shown records is =
+    is.files ∙ sym (past_length (loads_recorded a shown records) (omega arith))
 
 pub some_past : (a : Archived) (hidden shown : List Shown) (records : List Turn)
     → AreLoaded a hidden shown records → shown ≢ []
@@ -83,10 +90,12 @@ some_past a hidden shown records is some none =
     some (empty_list shown (loaded_length a hidden shown records is ∙ ap length none))
 
 -- each of them is shown once
-pub shown_turns : (a : Archived) (hidden shown : List Shown) (records : List Turn) → AreLoaded a hidden shown records
+pub shown_turns : (a : Archived) (hidden shown : List Shown) (records : List Turn)
+    → AreLoaded a hidden shown records
     → (old new : ℕ) → new ≡ counted old (length shown)
     → new ≡ counted old (length (timeline_in (loads_recorded a shown records)).past)
-shown_turns a hidden shown records is old new turned = turned ∙ ap (counted old) (loaded_length a hidden shown records is)
+shown_turns a hidden shown records is old new turned =
+    turned ∙ ap (counted old) (loaded_length a hidden shown records is)
 
 pub below_most : (n : ℕ) → nat_le MOST_CHANGES n ≡ false → n < MOST_CHANGES
 below_most n few = grind (arith, few)
@@ -104,13 +113,15 @@ fresh_from true true rest e = cc
 fresh_from true false rest e = refl
 fresh_from false y rest e = cc
 
-pub fresh_name : (w : World) (name bytes : List ℕ) → load_refusal w name bytes ≡ None → has_file w.files name ≡ false
+pub fresh_name : (w : World) (name bytes : List ℕ) → load_refusal w name bytes ≡ None
+    → has_file w.files name ≡ false
 fresh_name w name bytes none = fresh_from (is_file_name name) (has_file w.files name) _ none
 
 -- ---- a shelf shows what is loaded
 pub ascending_then : (a b : Archived) (shown : List Shown) → b.names ≡ a.names
     → AreAscending a shown → AreAscending b shown
-ascending_then a b shown names up = subst (λ ns. AreAscending (record a { names = ns }) shown) (sym names) up
+ascending_then a b shown names up =
+    subst (λ ns. AreAscending (record a { names = ns }) shown) (sym names) up
 
 none_shown : (a : Archived) (ss : List Shown) → list_any (is_shown a []) ss ≡ false
 none_shown a [] = refl
@@ -121,10 +132,13 @@ pub can_show_loaded : (old s : Shelved) (shown : List Shown) (n : Totals) (entri
     → s.archive.names ≡ old.archive.names → s.archive.texts ≡ old.archive.texts
     → AllByRecursion (IsThere old.archive) shown → AreAscending old.archive shown
     → AreTotals old.archive shown n → entries ≡ length shown
-    → entries ≤ s.entry_room → n.defs ≤ s.def_room → n.uses ≤ s.use_room → n.calls ≤ s.call_room → CanShow s shown
-can_show_loaded old s shown n entries none same names texts there up are count files defs uses calls =
+    → entries ≤ s.entry_room → n.defs ≤ s.def_room → n.uses ≤ s.use_room → n.calls ≤ s.call_room
+    → CanShow s shown
+can_show_loaded old s shown n entries none same names texts there up are count
+    files defs uses calls =
     let empty : s.shown ≡ [] = same ∙ none in
-    let now : (f : Option (List ℕ) → ℕ) → total f s.archive s.shown ≡ 0 = λ f. ap (total f s.archive) empty in
+    let now : (f : Option (List ℕ) → ℕ) → total f s.archive s.shown ≡ 0 = λ f.
+    ap (total f s.archive) empty in
     let all : (f : Option (List ℕ) → ℕ) → total f old.archive shown ≡ total f s.archive shown =
     λ f. same_total f old.archive s.archive (sym texts) shown in
     record {
@@ -136,12 +150,19 @@ can_show_loaded old s shown n entries none same names texts there up are count f
       apart = ascending_apart s.archive shown (ascending_then old.archive s.archive shown names up);
       other = ap (λ l. list_any (is_shown s.archive l) shown) empty ∙ none_shown s.archive shown;
       entries = let e = ap length empty in omega (arith, e, count, files);
-      defs = let e = now def_count in let f = all def_count in let g = are.defs in omega (arith, e, f, g, defs);
-      uses = let e = now use_count in let f = all use_count in let g = are.uses in omega (arith, e, f, g, uses);
-      calls = let e = now call_count in let f = all call_count in let g = are.calls in omega (arith, e, f, g, calls);
+      defs =
+          let e = now def_count in let f = all def_count in let g = are.defs in
+          omega (arith, e, f, g, defs);
+      uses =
+          let e = now use_count in let f = all use_count in let g = are.uses in
+          omega (arith, e, f, g, uses);
+      calls =
+          let e = now call_count in let f = all call_count in let g = are.calls in
+          omega (arith, e, f, g, calls);
     }
 
-pub shown_as_loaded : (s : Shelved) (shown : List Shown) → s.shown ≡ [] → AreAscending s.archive shown
+pub shown_as_loaded : (s : Shelved) (shown : List Shown) → s.shown ≡ []
+    → AreAscending s.archive shown
     → in_order (shown_name s.archive) (s.shown ++ shown) ≡ shown
 shown_as_loaded s shown none up =
     ap (λ l. in_order (shown_name s.archive) (l ++ shown)) none
@@ -155,7 +176,8 @@ module _ (a b : Archived) (names : b.names ≡ a.names) (texts : b.texts ≡ a.t
   before = (loads_recorded a shown records).kept
 
   same_now : loaded_numbers b shown ≡ loaded_numbers a shown
-  same_now = λ i. record (loaded_numbers a shown) { names = length (names i); versions = length (texts i) }
+  same_now = λ i.
+      record (loaded_numbers a shown) { names = length (names i); versions = length (texts i) }
 
   same_rooms : KeepsRooms (just_room a shown) (just_room b shown)
   same_rooms = record {
@@ -172,12 +194,14 @@ module _ (a b : Archived) (names : b.names ≡ a.names) (texts : b.texts ≡ a.t
       same_recorded before (loads_recorded b shown records).kept records
       (length records) same_now names texts same_rooms is
 
-  pub roomier_timeline : timeline_in (loads_recorded b shown records) ≡ timeline_in (loads_recorded a shown records)
+  pub roomier_timeline : timeline_in (loads_recorded b shown records)
+      ≡ timeline_in (loads_recorded a shown records)
   roomier_timeline =
       same_timeline before (loads_recorded b shown records).kept records
       (length records) same_now names texts same_rooms is
 
-pub roomier : (a b : Archived) (hidden shown : List Shown) (records : List Turn) → b.names ≡ a.names → b.texts ≡ a.texts
+pub roomier : (a b : Archived) (hidden shown : List Shown) (records : List Turn) → b.names ≡ a.names
+    → b.texts ≡ a.texts
     → AreLoaded a hidden shown records → AreLoaded b hidden shown records
 roomier a b hidden shown records names texts is = record {
   hidden = is.hidden;
@@ -222,7 +246,8 @@ turn_back u count named kept is =
 -- ---- a world that shows what is loaded
 module _ (a : Archived) (hidden shown : List Shown) (records : List Turn) (k : Kept)
     (is : AreLoaded a hidden shown records)
-    (now : k.now ≡ loaded_numbers a shown) (names : k.archive.names ≡ a.names) (texts : k.archive.texts ≡ a.texts)
+    (now : k.now ≡ loaded_numbers a shown) (names : k.archive.names ≡ a.names)
+    (texts : k.archive.texts ≡ a.texts)
     (rooms : KeepsRooms (just_room a shown) k.rooms) where
   pub shown_recorded : IsRecorded (record { kept = k; records = records; done = length records })
   shown_recorded =
@@ -312,11 +337,15 @@ module _ (a b : Archived) (hidden shown : List Shown) (records : List Turn) (nam
   apart_then = subst (λ l. AreApart b (l ++ new ∷ [])) (without_none shown) leads.turn.apart_then
 
   pub ascending_before : AreAscending b shown
-  ascending_before = up k p (kept_back k.rooms a k.now (turns_back h) is.recorded.back) is.ascending b keeps
+  ascending_before =
+      up k p (kept_back k.rooms a k.now (turns_back h) is.recorded.back) is.ascending b keeps
 
   -- ---- room
-  count_then : (count : Option (List ℕ) → ℕ) → total count b shown_then ≡ total count b shown + total count b (new ∷ [])
-  count_then count = total_in_order count b (shown_name b) (shown ++ new ∷ []) ∙ total_append count b shown (new ∷ [])
+  count_then : (count : Option (List ℕ) → ℕ)
+      → total count b shown_then ≡ total count b shown + total count b (new ∷ [])
+  count_then count =
+      total_in_order count b (shown_name b) (shown ++ new ∷ [])
+      ∙ total_append count b shown (new ∷ [])
 
   count_before : (count : Option (List ℕ) → ℕ) → total count a shown ≡ total count b shown
   count_before count =
@@ -400,7 +429,8 @@ module _ (a b : Archived) (hidden shown : List Shown) (records : List Turn) (nam
   roomy_plan : IsPlan roomy p v
   roomy_plan = plan_moved k roomy p v refl refl refl plan
 
-  short : length (timeline_in (record { kept = roomy; records = records; done = length records })).past < MOST_CHANGES
+  short : length (timeline_in
+      (record { kept = roomy; records = records; done = length records })).past < MOST_CHANGES
   short =
       subst (λ n. n < MOST_CHANGES) (sym (past_length
       (record { kept = roomy; records = records; done = length records }) (omega arith))) few
@@ -412,7 +442,9 @@ module _ (a b : Archived) (hidden shown : List Shown) (records : List Turn) (nam
 
   next_timeline : timeline_in (record { kept = kept; records = planned; done = length records })
       ≡ record (timeline_in h) { future = v ∷ [] }
-  next_timeline = next_is roomy kept records (length records) p (omega arith) keeps refl all_rooms roomy_is v roomy_plan
+  next_timeline =
+      next_is roomy kept records (length records) p (omega arith) keeps refl all_rooms
+      roomy_is v roomy_plan
 
   all_taken : planned ≡ records ++ to_new ∷ []
   all_taken = ap (λ l. l ++ to_new ∷ []) (take-length records)
@@ -421,22 +453,27 @@ module _ (a b : Archived) (hidden shown : List Shown) (records : List Turn) (nam
   within = let e = ap length all_taken ∙ length-append records (to_new ∷ []) in omega (arith, e)
 
   at_end : to_new ≡ get_or planned (length records) to_new
-  at_end = sym (ap (λ l. get_or l (length records) to_new) all_taken ∙ get_or-append_seam records to_new [] to_new)
+  at_end =
+      sym (ap (λ l. get_or l (length records) to_new) all_taken
+      ∙ get_or-append_seam records to_new [] to_new)
 
   abbrev kept_then : Kept
   kept_then = (loads_recorded b shown_then (records ++ turned to_new k.now ∷ [])).kept
 
   now_then : loaded_numbers b shown_then ≡ other b to_new k.now
   now_then =
-      let n : length b.names ≡ length a.names + 1 = ap length names ∙ length-append a.names (name ∷ []) in
-      let m : length b.texts ≡ length a.texts + 1 = ap length texts ∙ length-append a.texts (text ∷ []) in
+      let n : length b.names ≡ length a.names + 1 =
+      ap length names ∙ length-append a.names (name ∷ []) in
+      let m : length b.texts ≡ length a.texts + 1 =
+      ap length texts ∙ length-append a.texts (text ∷ []) in
       λ i. record (loaded_numbers b shown_then) {
         shown = in_order (shown_name b) (sym (without_none shown) i ++ new ∷ []);
         names = n i;
         versions = m i;
       }
 
-  last : slice_set planned (length records) (turned to_new k.now) ≡ records ++ turned to_new k.now ∷ []
+  last : slice_set planned (length records) (turned to_new k.now)
+      ≡ records ++ turned to_new k.now ∷ []
   last =
       ap (λ l. slice_set l (length records) (turned to_new k.now)) all_taken
       ∙ set-append_seam records to_new [] (turned to_new k.now)
@@ -460,7 +497,8 @@ module _ (a b : Archived) (hidden shown : List Shown) (records : List Turn) (nam
       redo_is kept planned (length records) to_new within at_end kept_then
       (turned to_new k.now) refl now_then refl all_rooms next
 
-  pub one_more_recorded : IsRecorded (loads_recorded b shown_then (records ++ turned to_new k.now ∷ []))
+  pub one_more_recorded : IsRecorded
+      (loads_recorded b shown_then (records ++ turned to_new k.now ∷ []))
   one_more_recorded =
       subst IsRecorded gone_is
       (redo_recorded kept planned (length records) to_new within at_end kept_then
@@ -474,7 +512,8 @@ module _ (a b : Archived) (hidden shown : List Shown) (records : List Turn) (nam
       (record { kept = kept; records = planned; done = length records })) v next_timeline
       (timeline_in gone) (Ok tt) moved refl
 
-  pub one_more_timeline_as : (then : List Shown) (u : Turn) → then ≡ shown_then → u ≡ turned to_new k.now
+  pub one_more_timeline_as : (then : List Shown) (u : Turn) → then ≡ shown_then
+      → u ≡ turned to_new k.now
       → timeline_in (loads_recorded b then (records ++ u ∷ [])) ≡ moved_on (timeline_in h) v
   one_more_timeline_as then u is_then is_u =
       (λ i. timeline_in (loads_recorded b (is_then i) (records ++ is_u i ∷ []))) ∙ one_more_timeline
@@ -494,7 +533,9 @@ module _ (a b : Archived) (hidden shown : List Shown) (records : List Turn) (nam
         names = omega (arith, n, r, named);
         versions = omega (arith, m, r, kept_texts);
         files = omega (arith, f, r, files);
-        ascending = subst (AreAscending b) (sym is_then) (ascending_in_order b (shown ++ new ∷ []) apart_then);
+        ascending =
+            subst (AreAscending b) (sym is_then)
+            (ascending_in_order b (shown ++ new ∷ []) apart_then);
         recorded = subst (λ t. IsRecorded (loads_recorded b then (records ++ t ∷ []))) (sym is_u)
             (subst (λ l. IsRecorded (loads_recorded b l (records ++ turned to_new k.now ∷ [])))
             (sym is_then) one_more_recorded);

@@ -23,7 +23,8 @@ use Rattle.cb_desk.proofs.Placed.{less-from}
 use Rattle.cb_desk.proofs.Valid.{all-filter}
 
 -- ---- lists
-none_any : {X : Type 0} (p : X → Bool) (xs : List X) → AllByRecursion (λ x. p x ≡ false) xs → list_any p xs ≡ false
+none_any : {X : Type 0} (p : X → Bool) (xs : List X) → AllByRecursion (λ x. p x ≡ false) xs
+    → list_any p xs ≡ false
 none_any p [] all = refl
 none_any p (x ∷ xs) all = ap (λ b. b || list_any p xs) all.0 ∙ none_any p xs all.1
 
@@ -61,10 +62,13 @@ module _ (a : Archived) where
       → AllByRecursion (λ (s : Shown). slice_cmp nat_cmp name (name_of a s.name) ≡ Less) ss
       → AllByRecursion (IsOther name) ss
   above_unnamed name [] all = tt
-  above_unnamed name (s ∷ ss) all = (less_apart name (name_of a s.name) all.0, above_unnamed name ss all.1)
+  above_unnamed name (s ∷ ss) all =
+      (less_apart name (name_of a s.name) all.0, above_unnamed name ss all.1)
 
-  above_all : (name : List ℕ) (s : Shown) (ss : List Shown) → slice_cmp nat_cmp name (name_of a s.name) ≡ Less
-      → AllByRecursion (λ (t : Shown). slice_cmp nat_cmp (name_of a s.name) (name_of a t.name) ≡ Less) ss
+  above_all : (name : List ℕ) (s : Shown) (ss : List Shown)
+      → slice_cmp nat_cmp name (name_of a s.name) ≡ Less
+      → AllByRecursion
+      (λ (t : Shown). slice_cmp nat_cmp (name_of a s.name) (name_of a t.name) ≡ Less) ss
       → AllByRecursion (λ (t : Shown). slice_cmp nat_cmp name (name_of a t.name) ≡ Less) ss
   above_all name s [] less all = tt
   above_all name s (t ∷ ss) less all = (
@@ -106,12 +110,15 @@ module _ (a : Archived) where
       by_test : (b : Bool) → is_here a name m ≡ b → has_mark a ms s ≡ has_mark a (later name ms) s
           → has_mark a (m ∷ ms) s ≡ has_mark a (later name (m ∷ ms)) s
       by_test true is rest =
-          rw is (ap (λ b. b || has_mark a ms s) (apart (name_of a m.name) name (name_of a s.name) is other)
+          rw is (ap (λ b. b || has_mark a ms s)
+          (apart (name_of a m.name) name (name_of a s.name) is other)
           ∙ rest
-          ∙ ap (λ n. has_mark a (drop n (m ∷ ms)) s) (sym (one_more a name (prefix_len (is_here a name) ms))))
+          ∙ ap (λ n. has_mark a (drop n (m ∷ ms)) s)
+          (sym (one_more a name (prefix_len (is_here a name) ms))))
       by_test false is rest = rw is refl
 
-  skipped_all : (name : List ℕ) (ms : List NumberedPlace) (ss : List Shown) → AllByRecursion (IsOther name) ss
+  skipped_all : (name : List ℕ) (ms : List NumberedPlace) (ss : List Shown)
+      → AllByRecursion (IsOther name) ss
       → filter (has_mark a ms) ss ≡ filter (has_mark a (later name ms)) ss
   skipped_all name ms [] all = refl
   skipped_all name ms (s ∷ ss) all =
@@ -125,8 +132,10 @@ module _ (a : Archived) where
   unfolding IsStrictlySortedBy
   below_unmarked m ms s up below =
       let less = less-from (slice_cmp nat_cmp (name_of a s.name) (name_of a m.name)) below in
-      none_any (is_in (name_of a s.name)) (places_in a (m ∷ ms))
-      (less_apart (name_of a s.name) (name_of a m.name) less, all_out a (name_of a s.name) m ms less up.0)
+      none_any (is_in (name_of a s.name)) (places_in a (m ∷ ms)) (
+        less_apart (name_of a s.name) (name_of a m.name) less,
+        all_out a (name_of a s.name) m ms less up.0,
+      )
 
   passed : (m : NumberedPlace) (ms : List NumberedPlace) (ss : List Shown) (i : ℕ)
       → world.AreAscending (places_in a (m ∷ ms))
@@ -146,12 +155,15 @@ module _ (a : Archived) where
       (before : AllWithin (Below (name_of a m.name)) ss 0 i) where
     -- the file of the first mark is there
     first_found : (s : Shown) (more : List Shown) → IsFirst a (name_of a m.name) s more (drop i ss)
-        → filter (has_mark a (m ∷ ms)) ss ≡ s ∷ filter (has_mark a (later (name_of a m.name) (m ∷ ms))) more
+        → filter (has_mark a (m ∷ ms)) ss
+        ≡ s ∷ filter (has_mark a (later (name_of a m.name) (m ∷ ms))) more
     first_found s more is =
         let name = name_of a m.name in
         let here : is_in (name_of a s.name) (place_in a m) ≡ true =
-        subst (λ n. bytes_eq name n ≡ true) (sym (same-name (name_of a s.name) name is.1)) (name-same name) in
-        let others = behind_named name s more (subst (AreAscending a) is.0 (files_after ss i up)) is.1 in
+        subst (λ n. bytes_eq name n ≡ true) (sym (same-name (name_of a s.name) name is.1))
+        (name-same name) in
+        let others =
+        behind_named name s more (subst (AreAscending a) is.0 (files_after ss i up)) is.1 in
         passed m ms ss i marks_up before
         ∙ ap (filter (has_mark a (m ∷ ms))) is.0
         ∙ ap (λ b. cond (b || has_mark a ms s) (s ∷ filter (has_mark a (m ∷ ms)) more)
@@ -161,12 +173,14 @@ module _ (a : Archived) where
     -- it is not there
     first_passed : AllWithin (NotBelow (name_of a m.name)) ss i (length ss)
         → IsNotFirst a (name_of a m.name) (drop i ss)
-        → filter (has_mark a (m ∷ ms)) ss ≡ filter (has_mark a (later (name_of a m.name) (m ∷ ms))) (drop i ss)
+        → filter (has_mark a (m ∷ ms)) ss
+        ≡ filter (has_mark a (later (name_of a m.name) (m ∷ ms))) (drop i ss)
     first_passed after other =
         let name = name_of a m.name in
         passed m ms ss i marks_up before
         ∙ skipped_all name (m ∷ ms) (drop i ss)
-        (none_named name (drop i ss) (files_after ss i up) (all_from (NotBelow name) ss i after) other)
+        (none_named name (drop i ss) (files_after ss i up)
+        (all_from (NotBelow name) ss i after) other)
 
   -- what follows the first file ascends too
   pub more_ascend : (name : List ℕ) (s : Shown) (more files : List Shown)
@@ -174,15 +188,18 @@ module _ (a : Archived) where
   unfolding AreOrdered
   more_ascend name s more files is up = (subst (AreAscending a) is.0 up).1
 
-  pub files_on : (ss here : List Shown) (i : ℕ) → here ≡ drop i ss → AreAscending a ss → AreAscending a here
+  pub files_on : (ss here : List Shown) (i : ℕ) → here ≡ drop i ss → AreAscending a ss
+      → AreAscending a here
   files_on ss here i is up = subst (AreAscending a) (sym is) (files_after ss i up)
 
   pub marks_on : (ms left : List NumberedPlace) (i : ℕ) → left ≡ drop i ms
       → world.AreAscending (places_in a ms) → world.AreAscending (places_in a left)
-  marks_on ms left i is up = subst (λ l. world.AreAscending (places_in a l)) (sym is) (ascend_after a [] ms i up)
+  marks_on ms left i is up =
+      subst (λ l. world.AreAscending (places_in a l)) (sym is) (ascend_after a [] ms i up)
 
   -- some of the files ascend too
-  pub some_ascend : (p : Shown → Bool) (ss : List Shown) → AreAscending a ss → AreAscending a (filter p ss)
+  pub some_ascend : (p : Shown → Bool) (ss : List Shown) → AreAscending a ss
+      → AreAscending a (filter p ss)
   unfolding AreOrdered
   some_ascend p [] up = tt
   some_ascend p (s ∷ ss) up =
@@ -209,7 +226,9 @@ module _ (a : Archived) where
     high = subst (λ n. AllWithin (NotBelow n) ss i (length ss)) named after
 
     dropped : drop k ms ≡ later (name_of a m.name) (m ∷ rest)
-    dropped = ap (λ n. drop n ms) count ∙ (λ j. drop (prefix_len (is_here a (named j)) (split j)) (split j))
+    dropped =
+        ap (λ n. drop n ms) count
+        ∙ (λ j. drop (prefix_len (is_here a (named j)) (split j)) (split j))
 
     pub found_is : (s : Shown) (more here : List Shown) (left : List NumberedPlace)
         → here ≡ drop i ss → left ≡ drop k ms → IsFirst a name s more here
@@ -217,7 +236,8 @@ module _ (a : Archived) where
     found_is s more here left here_is left_is is =
         ap (λ l. filter (has_mark a l) ss) split
         ∙ first_found m rest split_up ss up i low s more
-        (subst (λ n. IsFirst a n s more (drop i ss)) named (subst (IsFirst a name s more) here_is is))
+        (subst (λ n. IsFirst a n s more (drop i ss)) named
+        (subst (IsFirst a name s more) here_is is))
         ∙ ap (λ l. s ∷ filter (has_mark a l) more) (sym (left_is ∙ dropped))
 
     pub passed_is : (here : List Shown) (left : List NumberedPlace) → here ≡ drop i ss
@@ -234,6 +254,7 @@ module _ (a : Archived) where
   no_files (s ∷ ss) = no_files ss
 
   -- without marks no file has one
-  pub none_left : (ms : List NumberedPlace) (ss : List Shown) → length ms ≡ 0 → filter (has_mark a ms) ss ≡ []
+  pub none_left : (ms : List NumberedPlace) (ss : List Shown) → length ms ≡ 0
+      → filter (has_mark a ms) ss ≡ []
   none_left [] ss none = no_files ss
   none_left (m ∷ ms) ss none = absurd (omega (arith, none))

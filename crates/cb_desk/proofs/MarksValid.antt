@@ -14,7 +14,8 @@ use Rattle.cb_tags.specs.Names.{is_file_name}
 use Rattle.cb_desk.specs.declared.limits.TheConstants.{MOST_BYTES}
 use Rattle.cb_desk.specs.Files.{with_file, without_file}
 use Rattle.cb_desk.specs.Marks.{toggled, replaced_file, is_too_large}
-use Rattle.cb_desk.specs.Places.{is_in, same_place, is_place_of, without_places, renamed_place, renamed_places}
+use Rattle.cb_desk.specs.Places.{is_in, same_place, is_place_of, without_places, renamed_place}
+use Rattle.cb_desk.specs.Places.{renamed_places}
 use Rattle.cb_desk.specs.Search.{holds, lines_with}
 use Rattle.cb_desk.specs.World.{File, Place, has_file, text_of_file, place_key, IsAscending}
 use Rattle.cb_desk.specs.World.{AreAscending, IsPlaceOf, IsMarkIn, AreMarksFor, AreValidMarks}
@@ -63,7 +64,8 @@ same-key p q f l = rw (f, l) refl
 -- two places of files that are there stay apart under a name that is not there
 still-apart : (files : List File) (old new : List ℕ) (p q : Place) → has_file files new ≡ false
     → has_file files p.file ≡ true → has_file files q.file ≡ true
-    → place_key p ≢ place_key q → place_key (renamed_place old new p) ≢ place_key (renamed_place old new q)
+    → place_key p ≢ place_key q
+    → place_key (renamed_place old new p) ≢ place_key (renamed_place old new q)
 still-apart files old new p q fresh p_there q_there apart =
     (elim (is_in old p) as (λ b. is_in old p ≡ b
     → place_key (cond b (record p { file = new }) p) ≢ place_key (renamed_place old new q)) [
@@ -77,7 +79,8 @@ still-apart files old new p q fresh p_there q_there apart =
                 let has : has_file files new ≡ true = rw is q_there in cc
           ]) refl
       | false ↦ λ hp.
-          (elim (is_in old q) as (λ b. is_in old q ≡ b → place_key p ≢ place_key (cond b (record q { file = new }) q)) [
+          (elim (is_in old q) as
+          (λ b. is_in old q ≡ b → place_key p ≢ place_key (cond b (record q { file = new }) q)) [
             | true ↦ λ hq e. let is : p.file ≡ new = (one-place p (record q { file = new }) e).0 in
                 let has : has_file files new ≡ true = rw (← is) p_there in cc
             | false ↦ λ hq e. apart e
@@ -91,17 +94,22 @@ module _ (files : List File) (old new : List ℕ) (fresh : has_file files new �
       → AllByRecursion (λ q. place_key (renamed_place old new p) ≢ place_key q)
       (renamed_places old new places)
   all-apart p [] there all apart = tt
-  all-apart p (q ∷ places) there all apart =
-      (still-apart files old new p q fresh there all.0 apart.0, all-apart p places there all.1 apart.1)
+  all-apart p (q ∷ places) there all apart = (
+    still-apart files old new p q fresh there all.0 apart.0,
+    all-apart p places there all.1 apart.1,
+  )
 
   apart-renamed : (places : List Place) → AllByRecursion
       (λ (q : Place). has_file files q.file ≡ true) places → Apart place_key places
       → Apart place_key (renamed_places old new places)
   apart-renamed [] all apart = tt
-  apart-renamed (p ∷ places) all apart = (all-apart p places all.0 all.1 apart.0, apart-renamed places all.1 apart.1)
+  apart-renamed (p ∷ places) all apart =
+      (all-apart p places all.0 all.1 apart.0, apart-renamed places all.1 apart.1)
 
-  pub marks-renamed : (wanted : Option (List ℕ)) (marks : List Place) → AreValidMarks files wanted marks
-      → AreValidMarks (moved files old new) wanted (in_order place_key (renamed_places old new marks))
+  pub marks-renamed : (wanted : Option (List ℕ)) (marks : List Place)
+      → AreValidMarks files wanted marks
+      → AreValidMarks (moved files old new) wanted
+      (in_order place_key (renamed_places old new marks))
   unfolding in_order
   marks-renamed None marks valid = ap (λ ms. in_order place_key (renamed_places old new ms)) valid
   marks-renamed (Some wanted) marks valid = record {
@@ -144,7 +152,8 @@ marks-toggled files wanted marks p is valid = record {
   held =
       elim (list_any (same_place p) marks) as (λ b. AllByRecursion (IsAt (IsMarkIn wanted) files)
       (cond b (filter (λ q. not (same_place p q)) marks) (put place_key p marks))) [
-        | true ↦ all-filter (IsAt (IsMarkIn wanted) files) (λ q. not (same_place p q)) marks valid.held
+        | true ↦ all-filter (IsAt (IsMarkIn wanted) files)
+            (λ q. not (same_place p q)) marks valid.held
         | false ↦ all-put place_key (IsAt (IsMarkIn wanted) files) p marks is valid.held
       ];
   ascending =
@@ -158,7 +167,8 @@ marks-toggled files wanted marks p is valid = record {
 }
 
 -- ---- every line that holds a text
-range-within : (start k : ℕ) → AllByRecursion (λ n. (start ≤ n) × (n < start + k)) (range_with_len start k)
+range-within : (start k : ℕ)
+    → AllByRecursion (λ n. (start ≤ n) × (n < start + k)) (range_with_len start k)
 range-within start zero = tt
 range-within start (suc k) = (
   (omega arith, omega arith),
@@ -178,7 +188,8 @@ range-ascends start (suc k) = (
 )
 
 -- the lines that hold a text are there, and ascend
-lines-marked : (wanted text : List ℕ) → AllByRecursion (IsMarkIn wanted text) (lines_with wanted text)
+lines-marked : (wanted text : List ℕ)
+    → AllByRecursion (IsMarkIn wanted text) (lines_with wanted text)
 lines-marked wanted text =
     all-both (λ n. holds wanted (line_text text n) ≡ true)
     (λ n. (1 ≤ n) × (n < 1 + length (lines text))) (IsMarkIn wanted text) (lines_with wanted text)
@@ -200,9 +211,11 @@ all-later : (name : List ℕ) (n : ℕ) (ns : List ℕ) → AllByRecursion (λ m
     → AllByRecursion (λ q. slice_cmp nat_cmp (place_key (at name n)) (place_key q) ≡ Less)
     (map (at name) ns)
 all-later name n [] all = tt
-all-later name n (m ∷ ns) all = (cmp-places name name n m ∙ rw (name-equal name, all.0) refl, all-later name n ns all.1)
+all-later name n (m ∷ ns) all =
+    (cmp-places name name n m ∙ rw (name-equal name, all.0) refl, all-later name n ns all.1)
 
-places-ascend : (name : List ℕ) (ns : List ℕ) → IsStrictlySortedBy nat_cmp ns → AreAscending (map (at name) ns)
+places-ascend : (name : List ℕ) (ns : List ℕ) → IsStrictlySortedBy nat_cmp ns
+    → AreAscending (map (at name) ns)
 unfolding IsStrictlySortedBy
 places-ascend name [] up = tt
 places-ascend name (n ∷ ns) up = (all-later name n ns up.0, places-ascend name ns up.1)
@@ -232,7 +245,8 @@ module _ (text : List ℕ) where
       (held_places text files)
   files-above f [] all = tt
   files-above f (g ∷ files) all =
-      all-join (λ (q : Place). slice_cmp nat_cmp f.name q.file ≡ Less) (held_in text g) (held_places text files)
+      all-join (λ (q : Place). slice_cmp nat_cmp f.name q.file ≡ Less) (held_in text g)
+      (held_places text files)
       (all-map (at g.name) (λ (q : Place). slice_cmp nat_cmp f.name q.file ≡ Less)
       (lines_with text g.bytes) (all-here (λ _. by_name f g ≡ Less) (lines_with text g.bytes)
       (λ _. all.0)))
@@ -308,7 +322,9 @@ module _ (old new : List ℕ) (marks : List Place) where
   replaced-valid files valid small = record {
     names = names-kept files valid.names;
     sizes = sizes-kept (map changed files) small;
-    count = let count = valid.count in let same = length-map files changed in omega (arith, count, same);
+    count =
+        let count = valid.count in let same = length-map files changed in
+        omega (arith, count, same);
     ascending = ascending-kept files valid.ascending;
   }
 
@@ -323,7 +339,8 @@ frames-kept files frames =
     (filter (is_place_of files) frames) (place-from files) (all-passed (is_place_of files) frames)
 
 -- no line of a file that is not there is there
-pub no-place : (files : List File) (p : Place) → None ≡ file_named files p.file → is_place_of files p ≡ false
+pub no-place : (files : List File) (p : Place) → None ≡ file_named files p.file
+    → is_place_of files p ≡ false
 no-place files p none =
     (elim (is_place_of files p) as (λ b. is_place_of files p ≡ b → b ≡ false) [
       | true ↦ λ h. let there = place-there files p (place-from files p h) in

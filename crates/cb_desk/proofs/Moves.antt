@@ -1,12 +1,14 @@
 -- What changes, undos and redos do to a timeline.
-use Rattle.std.proofs.Common.{◌≡◌, ◌∙◌, sym, ap, refl, subst, ◌<◌, Bool, true, false, cond, List, [], ◌∷◌, length, arith, Result, Ok, Err, Option, Some, None, nat_le}
+use Rattle.std.proofs.Common.{◌≡◌, ◌∙◌, sym, ap, refl, subst, ◌<◌, Bool, true, false, cond, List}
+use Rattle.std.proofs.Common.{[], ◌∷◌, length, arith, Result, Ok, Err, Option, Some, None, nat_le}
 use Rattle.std.specs.List.{AllByRecursion}
 use Rattle.cb_desk.specs.declared.limits.TheConstants.{MOST_CHANGES}
 use Rattle.cb_desk.specs.declared.refusal.Refusal.{Refusal}
 use Rattle.cb_desk.specs.declared.refusal.Refusal.TheVariants.{HistoryFull, OutOfMemory}
 use Rattle.cb_desk.specs.World.{World, IsValidWorld}
 use Rattle.cb_desk.specs.Step.{Step, refusal_of, after, step}
-use Rattle.cb_desk.specs.Timeline.{Timeline, IsValidTimeline, moved_on, advanced, changed, back_to, undone, on_to, redone, Changes, Moves}
+use Rattle.cb_desk.specs.Timeline.{Timeline, IsValidTimeline, moved_on, advanced, changed, back_to}
+use Rattle.cb_desk.specs.Timeline.{undone, on_to, redone, Changes, Moves}
 use Rattle.cb_desk.specs.Laws.{UndoTakesBack, RedoTakesBack}
 use Rattle.cb_desk.proofs.StepsValid.{step_keeps_valid}
 
@@ -21,11 +23,13 @@ pub record Advances (t u : Timeline) (w : World) : Type 0 where
   pub short : length t.past < MOST_CHANGES
   pub is : u ≡ moved_on t w
 
-pub advanced-Ok : (t u : Timeline) (r : Result World Refusal) → advanced t r ≡ Ok u → (w : World) × (r ≡ Ok w) × Advances t u w
+pub advanced-Ok : (t u : Timeline) (r : Result World Refusal) → advanced t r ≡ Ok u
+    → (w : World) × (r ≡ Ok w) × Advances t u w
 advanced-Ok t u (Err e) h = cc
 advanced-Ok t u (Ok w) h =
     let Q : Type 0 = (v : World) × (accepted w ≡ Ok v) × Advances t u v in
-    (elim (nat_le MOST_CHANGES (length t.past)) as (λ b. nat_le MOST_CHANGES (length t.past) ≡ b → cond b (Err HistoryFull) (Ok (moved_on t w)) ≡ Ok u → Q) [
+    (elim (nat_le MOST_CHANGES (length t.past)) as (λ b. nat_le MOST_CHANGES (length t.past) ≡ b
+    → cond b (Err HistoryFull) (Ok (moved_on t w)) ≡ Ok u → Q) [
       | true ↦ λ full k. cc
       | false ↦ λ full k. (w, refl, record { short = grind arith; is = cc })
     ]) refl h
@@ -36,60 +40,85 @@ undo_takes_back t u s h =
     let found = advanced-Ok t u (step t.present s) h in
     rw found.2.is refl
 
-redo-undone : (past : List World) (t u : Timeline) → t.past ≡ past → back_to past t ≡ Ok u → redone u ≡ Ok t
+redo-undone : (past : List World) (t u : Timeline) → t.past ≡ past → back_to past t ≡ Ok u
+    → redone u ≡ Ok t
 unfolding redone
 redo-undone [] t u e h = cc
 redo-undone (w ∷ ws) t u e h =
-    let is : record { past = ws; present = w; future = t.present ∷ t.future } ≡ u = same-Ok _ u (back_to (w ∷ ws) t) refl h in
+    let is : record { past = ws; present = w; future = t.present ∷ t.future } ≡ u =
+    same-Ok _ u (back_to (w ∷ ws) t) refl h in
     rw (← is, ← e) refl
 
-undo-redone : (future : List World) (t u : Timeline) → t.future ≡ future → on_to future t ≡ Ok u → undone u ≡ Ok t
+undo-redone : (future : List World) (t u : Timeline) → t.future ≡ future → on_to future t ≡ Ok u
+    → undone u ≡ Ok t
 unfolding undone
 undo-redone [] t u e h = cc
 undo-redone (w ∷ ws) t u e h =
-    let is : record { past = t.present ∷ t.past; present = w; future = ws } ≡ u = same-Ok _ u (on_to (w ∷ ws) t) refl h in
+    let is : record { past = t.present ∷ t.past; present = w; future = ws } ≡ u =
+    same-Ok _ u (on_to (w ∷ ws) t) refl h in
     rw (← is, ← e) refl
 
 pub redo_takes_back : RedoTakesBack
 unfolding undone redone
-redo_takes_back = record { undo = λ t u h. redo-undone t.past t u refl h; redo = λ t u h. undo-redone t.future t u refl h }
+redo_takes_back = record {
+  undo = λ t u h. redo-undone t.past t u refl h;
+  redo = λ t u h. undo-redone t.future t u refl h;
+}
 
 -- a change of a valid timeline to a valid world
-pub moved_on-valid : (t : Timeline) (w : World) → IsValidTimeline t → IsValidWorld w → length t.past < MOST_CHANGES → IsValidTimeline (moved_on t w)
-moved_on-valid t w valid next short = record { before = (valid.now, valid.before); now = next; later = tt; bounded = omega (arith, short) }
+pub moved_on-valid : (t : Timeline) (w : World) → IsValidTimeline t → IsValidWorld w
+    → length t.past < MOST_CHANGES → IsValidTimeline (moved_on t w)
+moved_on-valid t w valid next short = record {
+  before = (valid.now, valid.before);
+  now = next;
+  later = tt;
+  bounded = omega (arith, short);
+}
 
-pub change_keeps_valid : (t u : Timeline) (s : Step) → IsValidTimeline t → changed t s ≡ Ok u → IsValidTimeline u
+pub change_keeps_valid : (t u : Timeline) (s : Step) → IsValidTimeline t → changed t s ≡ Ok u
+    → IsValidTimeline u
 unfolding changed
 change_keeps_valid t u s valid h =
     let found = advanced-Ok t u (step t.present s) h in
-    rw found.2.is (moved_on-valid t found.0 valid (step_keeps_valid t.present found.0 s valid.now found.1) found.2.short)
+    rw found.2.is (moved_on-valid t found.0 valid
+    (step_keeps_valid t.present found.0 s valid.now found.1) found.2.short)
 
-back-valid : (past : List World) (t u : Timeline) → t.past ≡ past → IsValidTimeline t → back_to past t ≡ Ok u → IsValidTimeline u
+back-valid : (past : List World) (t u : Timeline) → t.past ≡ past → IsValidTimeline t
+    → back_to past t ≡ Ok u → IsValidTimeline u
 back-valid [] t u e valid h = cc
 back-valid (w ∷ ws) t u e valid h =
-    let is : record { past = ws; present = w; future = t.present ∷ t.future } ≡ u = same-Ok _ u (back_to (w ∷ ws) t) refl h in
-    let worlds : AllByRecursion IsValidWorld (w ∷ ws) = subst (AllByRecursion IsValidWorld) e valid.before in
+    let is : record { past = ws; present = w; future = t.present ∷ t.future } ≡ u =
+    same-Ok _ u (back_to (w ∷ ws) t) refl h in
+    let worlds : AllByRecursion IsValidWorld (w ∷ ws) =
+    subst (AllByRecursion IsValidWorld) e valid.before in
     subst IsValidTimeline is (record {
       before = worlds.1;
       now = worlds.0;
       later = (valid.now, valid.later);
-      bounded = let bounded = valid.bounded in let long : length t.past ≡ length (w ∷ ws) = ap length e in omega (arith, bounded, long);
+      bounded =
+          let bounded = valid.bounded in let long : length t.past ≡ length (w ∷ ws) = ap length e in
+          omega (arith, bounded, long);
     })
 
 pub undo_keeps_valid : (t u : Timeline) → IsValidTimeline t → undone t ≡ Ok u → IsValidTimeline u
 unfolding undone
 undo_keeps_valid t u valid h = back-valid t.past t u refl valid h
 
-on-valid : (future : List World) (t u : Timeline) → t.future ≡ future → IsValidTimeline t → on_to future t ≡ Ok u → IsValidTimeline u
+on-valid : (future : List World) (t u : Timeline) → t.future ≡ future → IsValidTimeline t
+    → on_to future t ≡ Ok u → IsValidTimeline u
 on-valid [] t u e valid h = cc
 on-valid (w ∷ ws) t u e valid h =
-    let is : record { past = t.present ∷ t.past; present = w; future = ws } ≡ u = same-Ok _ u (on_to (w ∷ ws) t) refl h in
-    let worlds : AllByRecursion IsValidWorld (w ∷ ws) = subst (AllByRecursion IsValidWorld) e valid.later in
+    let is : record { past = t.present ∷ t.past; present = w; future = ws } ≡ u =
+    same-Ok _ u (on_to (w ∷ ws) t) refl h in
+    let worlds : AllByRecursion IsValidWorld (w ∷ ws) =
+    subst (AllByRecursion IsValidWorld) e valid.later in
     subst IsValidTimeline is (record {
       before = (valid.now, valid.before);
       now = worlds.0;
       later = worlds.1;
-      bounded = let bounded = valid.bounded in let long : length t.future ≡ length (w ∷ ws) = ap length e in omega (arith, bounded, long);
+      bounded =
+          let bounded = valid.bounded in let long : length t.future ≡ length (w ∷ ws) =
+          ap length e in omega (arith, bounded, long);
     })
 
 pub redo_keeps_valid : (t u : Timeline) → IsValidTimeline t → redone t ≡ Ok u → IsValidTimeline u
@@ -97,7 +126,8 @@ unfolding redone
 redo_keeps_valid t u valid h = on-valid t.future t u refl valid h
 
 -- ---- what moves as meant stays valid
-pub moves-keep-valid : (meant : Result Timeline Refusal) (t u : Timeline) (r : Result (Unit {0}) Refusal) → IsValidTimeline t
+pub moves-keep-valid : (meant : Result Timeline Refusal) (t u : Timeline)
+    (r : Result (Unit {0}) Refusal) → IsValidTimeline t
     → ((v : Timeline) → meant ≡ Ok v → IsValidTimeline v) → Moves meant t u r → IsValidTimeline u
 moves-keep-valid meant t u (Ok x) valid keeps moves = keeps u moves
 moves-keep-valid meant t u (Err r) valid keeps moves = subst IsValidTimeline (sym moves.1) valid
@@ -124,7 +154,8 @@ module _ (t : Timeline) (s : Step) (present : World) (same : present ≡ t.prese
     -- the next world is valid
     pub valid-after : (w : World) → IsValidWorld present → w ≡ after present s → IsValidWorld w
     valid-after w valid is =
-        step_keeps_valid t.present w s (subst IsValidWorld same valid) (accepted-step ∙ rw (is, same) refl)
+        step_keeps_valid t.present w s (subst IsValidWorld same valid)
+        (accepted-step ∙ rw (is, same) refl)
 
     module _ (b : Bool) (is : b ≡ nat_le MOST_CHANGES (length t.past)) where
       -- the past is full

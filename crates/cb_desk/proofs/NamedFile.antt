@@ -1,5 +1,7 @@
 -- The file of a name among files that ascend by name.
-use Rattle.std.proofs.Common.{◌≡◌, ◌∙◌, sym, ap, refl, ℕ, zero, suc, ◌<◌, ◌≤◌, Bool, true, false, List, [], ◌∷◌, map, length, get_or, Some, None, arith, nat_cmp, is_lt, is_eq, Ordering, Less, Equal, Greater, bytes_eq}
+use Rattle.std.proofs.Common.{◌≡◌, ◌∙◌, sym, ap, refl, ℕ, zero, suc, ◌<◌, ◌≤◌, Bool, true, false}
+use Rattle.std.proofs.Common.{List, [], ◌∷◌, map, length, get_or, Some, None, arith, nat_cmp, is_lt}
+use Rattle.std.proofs.Common.{is_eq, Ordering, Less, Equal, Greater, bytes_eq}
 use Rattle.std.specs.List.{AllByRecursion, AllWithin}
 use Rattle.std.specs.List.Sorted.{IsStrictlySortedBy, IsPartitionedBy}
 use Rattle.std.specs.Cmp.Lexicographic.{slice_cmp}
@@ -33,21 +35,28 @@ reversed-other : (o : Ordering) → o ≡ Less → is_eq (ordering_reverse o) �
 reversed-other o e = rw e refl
 
 -- a name that is neither lower nor the same is higher
-higher : (name : List ℕ) (f : File) → is_lt (against name f) ≡ false → is_named name f ≡ false → slice_cmp nat_cmp name f.name ≡ Less
+higher : (name : List ℕ) (f : File) → is_lt (against name f) ≡ false → is_named name f ≡ false
+    → slice_cmp nat_cmp name f.name ≡ Less
 higher name f out other =
-    nat_list_cmp_total.antisymm name f.name ∙ above-from (against name f) out (is_eq-slice_cmp f.name name ∙ other)
+    nat_list_cmp_total.antisymm name f.name
+    ∙ above-from (against name f) out (is_eq-slice_cmp f.name name ∙ other)
 
-higher-other : (name : List ℕ) (f : File) → slice_cmp nat_cmp name f.name ≡ Less → is_named name f ≡ false
+higher-other : (name : List ℕ) (f : File) → slice_cmp nat_cmp name f.name ≡ Less
+    → is_named name f ≡ false
 higher-other name f up =
-    sym (is_eq-slice_cmp f.name name) ∙ ap is_eq (nat_list_cmp_total.antisymm f.name name) ∙ reversed-other (slice_cmp nat_cmp name f.name) up
+    sym (is_eq-slice_cmp f.name name) ∙ ap is_eq (nat_list_cmp_total.antisymm f.name name)
+    ∙ reversed-other (slice_cmp nat_cmp name f.name) up
 
 -- no file above a higher name has the name
-none-above : (name : List ℕ) (f : File) (gs : List File) → slice_cmp nat_cmp name f.name ≡ Less → AllByRecursion (λ g. by_name f g ≡ Less) gs → has_file gs name ≡ false
+none-above : (name : List ℕ) (f : File) (gs : List File) → slice_cmp nat_cmp name f.name ≡ Less
+    → AllByRecursion (λ g. by_name f g ≡ Less) gs → has_file gs name ≡ false
 none-above name f [] up all = refl
 none-above name f (g ∷ gs) up all =
-    rw (higher-other name g (nat_list_cmp_total.trans name f.name g.name up all.0)) (none-above name f gs up all.1)
+    rw (higher-other name g (nat_list_cmp_total.trans name f.name g.name up all.0))
+    (none-above name f gs up all.1)
 
-file-same : (f : File) (name bytes : List ℕ) → bytes_eq f.name name ≡ true → bytes ≡ f.bytes → f ≡ record { name = name; bytes = bytes }
+file-same : (f : File) (name bytes : List ℕ) → bytes_eq f.name name ≡ true → bytes ≡ f.bytes
+    → f ≡ record { name = name; bytes = bytes }
 file-same f name bytes named is =
     let same = (bytes_eq-Decides f.name name).0 named in
     rw (← same, is) refl
@@ -57,7 +66,8 @@ module _ {X : Type 0} (v : X → File) (name : List ℕ) where
   abbrev pub below : X → Bool
   below x = is_lt (against name (v x))
 
-  all-at : (P : File → Type 0) (xs : List X) (j : ℕ) (d : X) → AllByRecursion P (map v xs) → j < length xs → P (v (get_or xs j d))
+  all-at : (P : File → Type 0) (xs : List X) (j : ℕ) (d : X) → AllByRecursion P (map v xs)
+      → j < length xs → P (v (get_or xs j d))
   all-at P [] j d all within = absurd (omega arith)
   all-at P (x ∷ xs) zero d all within = all.0
   all-at P (x ∷ xs) (suc j) d all within = all-at P xs j d all.1 (omega arith)
@@ -68,51 +78,74 @@ module _ {X : Type 0} (v : X → File) (name : List ℕ) where
   parted [] up i j d le within is = absurd (omega arith)
   parted (x ∷ xs) up zero zero d le within is = is
   parted (x ∷ xs) up zero (suc j) d le within is =
-      let more : by_name (v x) (v (get_or xs j d)) ≡ Less = all-at (λ g. by_name (v x) g ≡ Less) xs j d up.0 (omega arith) in
-      ap is_lt (nat_list_cmp_total.trans (v x).name (v (get_or xs j d)).name name more (less-from _ is))
+      let more : by_name (v x) (v (get_or xs j d)) ≡ Less =
+      all-at (λ g. by_name (v x) g ≡ Less) xs j d up.0 (omega arith) in
+      ap is_lt
+      (nat_list_cmp_total.trans (v x).name (v (get_or xs j d)).name name more (less-from _ is))
   parted (x ∷ xs) up (suc i) zero d le within is = absurd (omega arith)
-  parted (x ∷ xs) up (suc i) (suc j) d le within is = parted xs up.1 i j d (omega arith) (omega arith) is
+  parted (x ∷ xs) up (suc i) (suc j) d le within is =
+      parted xs up.1 i j d (omega arith) (omega arith) is
 
   -- the first that is not below has the name
-  pub found-at : (xs : List X) (i : ℕ) (d : X) → AllWithin (λ x. below x ≡ true) xs 0 i → i < length xs → is_named name (v (get_or xs i d)) ≡ true
+  pub found-at : (xs : List X) (i : ℕ) (d : X) → AllWithin (λ x. below x ≡ true) xs 0 i
+      → i < length xs → is_named name (v (get_or xs i d)) ≡ true
       → Some (v (get_or xs i d)) ≡ file_named (map v xs) name
   unfolding text_of_file
   found-at [] i d before within is = absurd (omega arith)
-  found-at (x ∷ xs) zero d before within is = rw is (ap Some (file-same (v x) name (v x).bytes is refl))
+  found-at (x ∷ xs) zero d before within is =
+      rw is (ap Some (file-same (v x) name (v x).bytes is refl))
   found-at (x ∷ xs) (suc i) d before within is =
-      let other : is_named name (v x) ≡ false = lower-other name (v x) (before 0 d (omega arith) (omega arith)) in
-      rw other (found-at xs i d (λ k e a b. before (suc k) e (omega arith) (omega arith)) (omega arith) is)
+      let other : is_named name (v x) ≡ false =
+      lower-other name (v x) (before 0 d (omega arith) (omega arith)) in
+      rw other
+      (found-at xs i d (λ k e a b. before (suc k) e (omega arith) (omega arith)) (omega arith) is)
 
-  none-from : (xs : List X) (d : X) → IsAscending (map v xs) → AllWithin (λ x. below x ≡ false) xs 0 (length xs) → (0 < length xs → is_named name (v (get_or xs 0 d)) ≡ false) → has_file (map v xs) name ≡ false
+  none-from : (xs : List X) (d : X) → IsAscending (map v xs)
+      → AllWithin (λ x. below x ≡ false) xs 0 (length xs)
+      → (0 < length xs → is_named name (v (get_or xs 0 d)) ≡ false)
+      → has_file (map v xs) name ≡ false
   unfolding IsStrictlySortedBy
   none-from [] d up after other = refl
   none-from (x ∷ xs) d up after other =
       let here = other (omega arith) in
-      rw here (none-above name (v x) (map v xs) (higher name (v x) (after 0 d (omega arith) (omega arith)) here) up.0)
+      rw here (none-above name (v x) (map v xs)
+      (higher name (v x) (after 0 d (omega arith) (omega arith)) here) up.0)
 
   -- or no file has it
-  pub none-at : (xs : List X) (i : ℕ) (d : X) → IsAscending (map v xs) → AllWithin (λ x. below x ≡ true) xs 0 i → AllWithin (λ x. below x ≡ false) xs i (length xs)
-      → (i < length xs → is_named name (v (get_or xs i d)) ≡ false) → has_file (map v xs) name ≡ false
+  pub none-at : (xs : List X) (i : ℕ) (d : X) → IsAscending (map v xs)
+      → AllWithin (λ x. below x ≡ true) xs 0 i → AllWithin (λ x. below x ≡ false) xs i (length xs)
+      → (i < length xs → is_named name (v (get_or xs i d)) ≡ false)
+      → has_file (map v xs) name ≡ false
   unfolding IsStrictlySortedBy
   none-at xs zero d up before after other = none-from xs d up after other
   none-at [] (suc i) d up before after other = refl
   none-at (x ∷ xs) (suc i) d up before after other =
-      let here : is_named name (v x) ≡ false = lower-other name (v x) (before 0 d (omega arith) (omega arith)) in
-      rw here (none-at xs i d up.1 (λ k e a b. before (suc k) e (omega arith) (omega arith)) (λ k e a b. after (suc k) e (omega arith) (omega arith)) (λ within. other (omega arith)))
+      let here : is_named name (v x) ≡ false =
+      lower-other name (v x) (before 0 d (omega arith) (omega arith)) in
+      rw here (none-at xs i d up.1 (λ k e a b. before (suc k) e (omega arith) (omega arith))
+      (λ k e a b. after (suc k) e (omega arith) (omega arith)) (λ within. other (omega arith)))
 
-  module _ (xs : List X) (up : IsAscending (map v xs)) (i : ℕ) (before : AllWithin (λ x. below x ≡ true) xs 0 i) (after : AllWithin (λ x. below x ≡ false) xs i (length xs)) where
+  module _ (xs : List X) (up : IsAscending (map v xs)) (i : ℕ)
+      (before : AllWithin (λ x. below x ≡ true) xs 0 i)
+      (after : AllWithin (λ x. below x ≡ false) xs i (length xs)) where
     module _ (x : X) (within : i < length xs) (here : x ≡ get_or xs i x) where
       -- the file at that index has the name
       pub named-there : is_named name (v x) ≡ true → Some (v x) ≡ file_named (map v xs) name
       named-there is =
-          ap (λ y. Some (v y)) here ∙ found-at xs i x before within (ap (λ y. is_named name (v y)) (sym here) ∙ is)
+          ap (λ y. Some (v y)) here
+          ∙ found-at xs i x before within (ap (λ y. is_named name (v y)) (sym here) ∙ is)
 
       -- the file at that index has another name
       pub other-there : is_named name (v x) ≡ false → None ≡ file_named (map v xs) name
-      other-there other = rw (none-at xs i x up before after (λ _. ap (λ y. is_named name (v y)) (sym here) ∙ other)) refl
+      other-there other =
+          rw (none-at xs i x up before after
+          (λ _. ap (λ y. is_named name (v y)) (sym here) ∙ other)) refl
 
   -- no file is at that index
-  pub none-there : (xs : List X) (up : IsAscending (map v xs)) (i : ℕ) (before : AllWithin (λ x. below x ≡ true) xs 0 i) (after : AllWithin (λ x. below x ≡ false) xs i (length xs))
+  pub none-there : (xs : List X) (up : IsAscending (map v xs)) (i : ℕ)
+      (before : AllWithin (λ x. below x ≡ true) xs 0 i)
+      (after : AllWithin (λ x. below x ≡ false) xs i (length xs))
       → length xs ≤ i → None ≡ file_named (map v xs) name
   none-there [] up i before after past = refl
-  none-there (x ∷ xs) up i before after past = rw (none-at (x ∷ xs) i x up before after (λ within. absurd (omega arith))) refl
+  none-there (x ∷ xs) up i before after past =
+      rw (none-at (x ∷ xs) i x up before after (λ within. absurd (omega arith))) refl

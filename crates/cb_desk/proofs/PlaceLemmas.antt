@@ -17,7 +17,8 @@ use Rattle.cb_scan.proofs.LineTable.{lines-few}
 use Rattle.cb_tags.specs.Names.{is_file_name}
 use Rattle.cb_desk.specs.Answer.{defines}
 use Rattle.cb_desk.specs.declared.limits.TheConstants.{MOST_BYTES}
-use Rattle.cb_desk.specs.World.{File, Place, is_named, has_file, text_of_file, IsAscending, IsPlaceOf}
+use Rattle.cb_desk.specs.World.{File, Place, is_named, has_file, text_of_file, IsAscending}
+use Rattle.cb_desk.specs.World.{IsPlaceOf}
 use Rattle.cb_desk.specs.Files.{is_before, with_file, without_file}
 use Rattle.cb_desk.specs.Places.{is_in, without_places, renamed_place, renamed_places, nth}
 use Rattle.cb_desk.specs.Stack.{places_in, places}
@@ -31,11 +32,13 @@ pub name-same : (a : List ℕ) → bytes_eq a a ≡ true
 name-same a = (bytes_eq-Decides a a).1 refl
 
 -- a name that is not there has no text
-pub no-text : (files : List File) (name : List ℕ) → has_file files name ≡ false → text_of_file files name ≡ []
+pub no-text : (files : List File) (name : List ℕ) → has_file files name ≡ false
+    → text_of_file files name ≡ []
 unfolding text_of_file
 no-text [] name e = refl
 no-text (f ∷ files) name e =
-    (elim (is_named name f) as (λ b. b || has_file files name ≡ false → cond b f.bytes (text_of_file files name) ≡ []) [
+    (elim (is_named name f) as
+    (λ b. b || has_file files name ≡ false → cond b f.bytes (text_of_file files name) ≡ []) [
       | true ↦ λ k. cc
       | false ↦ λ k. no-text files name k
     ]) e
@@ -57,7 +60,8 @@ text-join (x ∷ xs) ys name =
 has-kept : (p : File → Bool) (kept : Bool) (name : List ℕ)
     → ((f : File) → is_named name f ≡ true → p f ≡ kept) → (files : List File)
     → has_file (filter p files) name ≡ cond kept (has_file files name) false
-has-kept p kept name all [] = elim kept as (λ b. false ≡ cond b false false) [ true ↦ refl | false ↦ refl ]
+has-kept p kept name all [] =
+    elim kept as (λ b. false ≡ cond b false false) [ true ↦ refl | false ↦ refl ]
 has-kept p kept name all (f ∷ files) =
     (elim (is_named name f) as (λ b. is_named name f ≡ b
     → has_file (cond (p f) (f ∷ filter p files) (filter p files)) name
@@ -101,7 +105,8 @@ pub text-with : (f : File) (files : List File) (name : List ℕ) → is_named na
     → text_of_file (with_file f files) name ≡ text_of_file files name
 unfolding text_of_file
 text-with f files name other =
-    text-join (filter (is_before f) files) (f ∷ filter (λ g. not (is_before f g)) files) name ∙ rw other (
+    text-join (filter (is_before f) files) (f ∷ filter (λ g. not (is_before f g)) files) name
+    ∙ rw other (
     (elim (is_lt (slice_cmp nat_cmp name f.name)) as (λ b. is_lt (slice_cmp nat_cmp name f.name) ≡ b
     → cond (has_file (filter (is_before f) files) name)
     (text_of_file (filter (is_before f) files) name)
@@ -124,7 +129,8 @@ text-with f files name other =
       | false ↦ λ h.
           let has : has_file (filter (is_before f) files) name ≡ false =
           has-kept (is_before f) false name (λ g e. side f name g e ∙ h) files in
-          rw has (text-kept (λ g. not (is_before f g)) name (λ g e. ap not (side f name g e ∙ h)) files)
+          rw has
+          (text-kept (λ g. not (is_before f g)) name (λ g e. ap not (side f name g e ∙ h)) files)
     ]) refl
     )
 
@@ -147,7 +153,8 @@ text-with-here f files fresh =
 pub text-without : (files : List File) (gone name : List ℕ) → bytes_eq name gone ≡ false
     → text_of_file (without_file gone files) name ≡ text_of_file files name
 text-without files gone name other =
-    text-kept (λ f. not (is_named gone f)) name (λ f e. rw (same-name f.name name e, other) refl) files
+    text-kept (λ f. not (is_named gone f)) name
+    (λ f e. rw (same-name f.name name e, other) refl) files
 
 pub text-small : (files : List File) (name : List ℕ)
     → AllByRecursion (λ (f : File). length f.bytes ≤ MOST_BYTES) files
@@ -176,7 +183,8 @@ pub other-name : (files : List File) (there gone : List ℕ) → has_file files 
     → has_file files gone ≡ false → bytes_eq gone there ≡ false
 other-name files there gone e k =
     (elim (bytes_eq gone there) as (λ b. bytes_eq gone there ≡ b → b ≡ false) [
-      | true ↦ λ h. let same = same-name gone there h in let has : has_file files gone ≡ true = rw same e in cc
+      | true ↦ λ h. let same = same-name gone there h in let has : has_file files gone ≡ true =
+          rw same e in cc
       | false ↦ λ h. refl
     ]) refl
 
@@ -189,7 +197,8 @@ pub name-good : (files : List File) (name : List ℕ) → has_file files name �
     → AllByRecursion (λ (f : File). IsTrue (is_file_name f.name)) files → is_file_name name ≡ true
 name-good [] name there all = cc
 name-good (f ∷ files) name there all =
-    (elim (is_named name f) as (λ b. is_named name f ≡ b → b || has_file files name ≡ true → is_file_name name ≡ true) [
+    (elim (is_named name f) as
+    (λ b. is_named name f ≡ b → b || has_file files name ≡ true → is_file_name name ≡ true) [
       | true ↦ λ h _. subst (λ n. is_file_name n ≡ true) (same-name f.name name h) all.0
       | false ↦ λ _ e. name-good files name e all.1
     ]) refl there
@@ -204,18 +213,21 @@ pub still-gone : (files : List File) (gone name : List ℕ) → has_file files n
 still-gone files gone name e =
     has-kept (λ f. not (is_named gone f)) (not (bytes_eq name gone)) name
     (λ f h. ap (λ n. not (bytes_eq n gone)) (same-name f.name name h)) files
-    ∙ rw e (elim (not (bytes_eq name gone)) as (λ b. cond b false false ≡ false) [ true ↦ refl | false ↦ refl ])
+    ∙ rw e (elim (not (bytes_eq name gone)) as (λ b. cond b false false ≡ false)
+    [ true ↦ refl | false ↦ refl ])
 
 -- the files in which that of the old name has the new one
 abbrev pub moved : List File → List ℕ → List ℕ → List File
-moved files old new = with_file (record { name = new; bytes = text_of_file files old }) (without_file old files)
+moved files old new =
+    with_file (record { name = new; bytes = text_of_file files old }) (without_file old files)
 
 -- a relation of a text and a line
 abbrev pub IsAt : (List ℕ → ℕ → Type 0) → List File → Place → Type 0
 IsAt R files p = R (text_of_file files p.file) p.line
 
 -- places whose lines are so and so, which only lines that are there can be
-module _ (R : List ℕ → ℕ → Type 0) (lies : (text : List ℕ) (n : ℕ) → R text n → IsLineOf text n) where
+module _ (R : List ℕ → ℕ → Type 0)
+    (lies : (text : List ℕ) (n : ℕ) → R text n → IsLineOf text n) where
   there : (files : List File) (p : Place) → IsAt R files p → has_file files p.file ≡ true
   there files p is = place-there files p (lies (text_of_file files p.file) p.line is)
 
@@ -236,12 +248,14 @@ module _ (R : List ℕ → ℕ → Type 0) (lies : (text : List ℕ) (n : ℕ) �
   places-without files name places all =
       all-both (λ (p : Place). not (is_in name p) ≡ true) (IsAt R files)
       (IsAt R (without_file name files)) (without_places name places)
-      (λ p kept is. subst (λ text. R text p.line) (sym (text-without files name p.file (not-true _ kept))) is)
+      (λ p kept is.
+      subst (λ text. R text p.line) (sym (text-without files name p.file (not-true _ kept))) is)
       (all-passed (λ (p : Place). not (is_in name p)) places)
       (all-filter (IsAt R files) (λ (p : Place). not (is_in name p)) places all)
 
   module _ (files : List File) (old new : List ℕ) (fresh : has_file files new ≡ false) where
-    place-renamed : (p : Place) → IsAt R files p → IsAt R (moved files old new) (renamed_place old new p)
+    place-renamed : (p : Place) → IsAt R files p
+        → IsAt R (moved files old new) (renamed_place old new p)
     place-renamed p is =
         (elim (bytes_eq p.file old) as (λ b. bytes_eq p.file old ≡ b
         → IsAt R (moved files old new) (cond b (record p { file = new }) p)) [
@@ -284,7 +298,8 @@ module _ (files : List File) (name : List ℕ) where
       → AllByRecursion (IsPlaceOf files)
       (map (λ (d : Def). record { file = f.name; line = d.line }) ds)
   frames-of f own [] all = tt
-  frames-of f own (d ∷ ds) all = (subst (λ text. IsLineOf text d.line) (sym own) all.0, frames-of f own ds all.1)
+  frames-of f own (d ∷ ds) all =
+      (subst (λ text. IsLineOf text d.line) (sym own) all.0, frames-of f own ds all.1)
 
   places-of : (some : List File) → AllByRecursion
       (λ (f : File). text_of_file files f.name ≡ f.bytes) some
@@ -311,7 +326,8 @@ nth-place files name (suc n) f up e =
     at-place (IsPlaceOf files) (places files name) n f
     (places-of files name files (own-texts files up)) e
 
-pub all-take : {X : Type 0} (P : X → Type 0) (n : ℕ) (xs : List X) → AllByRecursion P xs → AllByRecursion P (take n xs)
+pub all-take : {X : Type 0} (P : X → Type 0) (n : ℕ) (xs : List X) → AllByRecursion P xs
+    → AllByRecursion P (take n xs)
 all-take P zero xs all = tt
 all-take P (suc n) [] all = tt
 all-take P (suc n) (x ∷ xs) all = (all.0, all-take P n xs all.1)

@@ -1,5 +1,7 @@
 -- Plans that leave the files as they are.
-use Rattle.std.proofs.Common.{◌≡◌, ◌∙◌, ◌≤◌, ◌<◌, ◌+◌, ◌-◌, ℕ, zero, suc, true, false, List, [], ◌∷◌, ◌++◌, refl, sym, ap, subst, length, map, take, drop, arith, append-nil, length-append, length-take-le, take-append-drop}
+use Rattle.std.proofs.Common.{◌≡◌, ◌∙◌, ◌≤◌, ◌<◌, ◌+◌, ◌-◌, ℕ, zero, suc, true, false, List, []}
+use Rattle.std.proofs.Common.{◌∷◌, ◌++◌, refl, sym, ap, subst, length, map, take, drop, arith}
+use Rattle.std.proofs.Common.{append-nil, length-append, length-take-le, take-append-drop}
 use Rattle.std.specs.Prelude.{Option, None, Result, Ok, Err, IfOk, cond}
 use Rattle.std.specs.List.{AllByRecursion}
 use Rattle.cb_scan.specs.Order.{AreOrdered, goes_first, in_order, put}
@@ -15,25 +17,35 @@ use Rattle.std.proofs.lemmas.List.{length-map}
 use Rattle.cb_desk.specs.Stack.{popped}
 use Rattle.cb_desk.specs.World.{World}
 use Rattle.cb_desk.specs.declared.renaming.Renaming.{Renaming}
-use Rattle.cb_desk.specs.steps.Edits.{Edits, IsDifference, both, each, edited, edited_each, more, renamed, renaming, turned_edits, with_number}
+use Rattle.cb_desk.specs.steps.Edits.{Edits, IsDifference, both, each, edited, edited_each, more}
+use Rattle.cb_desk.specs.steps.Edits.{renamed, renaming, turned_edits, with_number}
 use Rattle.cb_desk.specs.steps.Plans.{AreEdits, IsPlan, Keeps, LeadsTo, Planned, with_places}
-use Rattle.cb_desk.specs.steps.Records.{Kept, Numbered, Turn, other, other_wanted, place_in, without, world_in}
+use Rattle.cb_desk.specs.steps.Records.{Kept, Numbered, Turn, other, other_wanted, place_in}
+use Rattle.cb_desk.specs.steps.Records.{without, world_in}
 use Rattle.cb_desk.specs.steps.Walks.{IsKept, shows_name, shows_version}
 use Rattle.cb_desk.proofs.AllUsed.{none_new}
 use Rattle.cb_desk.proofs.TurnLemmas.{few_small}
-use Rattle.cb_desk.proofs.ArchiveMoves.{Agree, agree_kept, apart_same, below_shown, files_same, order_same, places_same}
+use Rattle.cb_desk.proofs.ArchiveMoves.{Agree, agree_kept, apart_same, below_shown, files_same}
+use Rattle.cb_desk.proofs.ArchiveMoves.{order_same, places_same}
 
 -- ---- the length of an edited list
-each_length : (es : List Edit) (ps : List NumberedPlace) → length (edited_each es ps) ≤ length ps + length es
+each_length : (es : List Edit) (ps : List NumberedPlace)
+    → length (edited_each es ps) ≤ length ps + length es
 each_length [] ps = omega arith
 each_length (e ∷ es) ps =
     let here = parts e.kept ps in
     let put = each_length es (drop e.kept ps) in
     let taken = each_length es (drop 1 (drop e.kept ps)) in
     let fewer = drop_one (drop e.kept ps) in
-    elim e.is_put as (λ b. length (take e.kept ps ++ (cond b (e.place ∷ edited_each es (drop e.kept ps)) (edited_each es (drop 1 (drop e.kept ps))))) ≤ length ps + length (e ∷ es)) [
-      | true ↦ let all = length-append (take e.kept ps) (e.place ∷ edited_each es (drop e.kept ps)) in omega (arith, here, put, all)
-      | false ↦ let all = length-append (take e.kept ps) (edited_each es (drop 1 (drop e.kept ps))) in omega (arith, here, taken, fewer, all)
+    elim e.is_put as
+    (λ b. length (take e.kept ps ++ (cond b (e.place ∷ edited_each es (drop e.kept ps))
+    (edited_each es (drop 1 (drop e.kept ps))))) ≤ length ps + length (e ∷ es)) [
+      | true ↦ let all =
+          length-append (take e.kept ps) (e.place ∷ edited_each es (drop e.kept ps)) in
+          omega (arith, here, put, all)
+      | false ↦ let all =
+          length-append (take e.kept ps) (edited_each es (drop 1 (drop e.kept ps))) in
+          omega (arith, here, taken, fewer, all)
     ]
   where
     parts : (n : ℕ) (xs : List NumberedPlace) → length (take n xs) + length (drop n xs) ≡ length xs
@@ -63,13 +75,15 @@ renamed_length r ps =
     parts : (n : ℕ) (xs : List NumberedPlace) → length (take n xs) + length (drop n xs) ≡ length xs
     parts n xs = sym (length-append (take n xs) (drop n xs)) ∙ ap length (take-append-drop n xs)
 
-pub edited_length : (es : Edits) (ps : List NumberedPlace) → length (edited es ps) ≤ length ps + more es
+pub edited_length : (es : Edits) (ps : List NumberedPlace)
+    → length (edited es ps) ≤ length ps + more es
 edited_length (each es) ps = each_length es ps
 edited_length (both old new) ps = omega arith
 edited_length (renaming r) ps = let same = renamed_length r ps in omega (arith, same)
 
 -- ---- a list that is in order
-pub put_first : {X : Type 0} (key : X → List ℕ) (x : X) (xs : List X) → AllByRecursion (λ y. goes_first key x y ≡ true) xs → put key x xs ≡ x ∷ xs
+pub put_first : {X : Type 0} (key : X → List ℕ) (x : X) (xs : List X)
+    → AllByRecursion (λ y. goes_first key x y ≡ true) xs → put key x xs ≡ x ∷ xs
 unfolding put
 put_first key x [] all = refl
 put_first key x (y ∷ ys) all = ap (λ b. cond b (x ∷ y ∷ ys) (y ∷ put key x ys)) all.0
@@ -84,19 +98,42 @@ pub without_none : (shown : List Shown) → without [] shown ≡ shown
 without_none [] = refl
 without_none (s ∷ shown) = ap (λ xs. s ∷ xs) (without_none shown)
 
-module _ (k : Kept) (p : Planned) (wanted : Option (Option (List ℕ))) (marks frames : Edits) (kept : IsKept k.rooms k.archive k.now)
+module _ (k : Kept) (p : Planned) (wanted : Option (Option (List ℕ))) (marks frames : Edits)
+    (kept : IsKept k.rooms k.archive k.now)
     (ascending : AreAscending k.archive k.now.shown) (names : p.names ≡ []) (texts : p.texts ≡ [])
-    (turn : p.turn ≡ record { hides = []; shows = []; wanted = wanted; marks = marks; frames = frames; names = k.now.names; versions = k.now.versions })
-    (are_marks : AreEdits k.now.names marks k.now.marks) (are_frames : AreEdits k.now.names frames k.now.frames) where
+    (turn : p.turn ≡ record {
+      hides = [];
+      shows = [];
+      wanted = wanted;
+      marks = marks;
+      frames = frames;
+      names = k.now.names;
+      versions = k.now.versions;
+    })
+    (are_marks : AreEdits k.now.names marks k.now.marks)
+    (are_frames : AreEdits k.now.names frames k.now.frames) where
   abbrev the_turn : Turn
-  the_turn = record { hides = []; shows = []; wanted = wanted; marks = marks; frames = frames; names = k.now.names; versions = k.now.versions }
+  the_turn = record {
+    hides = [];
+    shows = [];
+    wanted = wanted;
+    marks = marks;
+    frames = frames;
+    names = k.now.names;
+    versions = k.now.versions;
+  }
 
   module _ (a : Archived) (keeps : Keeps k.archive k.now p a) where
     agree : Agree k.archive a k.now.names k.now.versions
-    agree = agree_kept k.archive a k.now.names k.now.versions p.names p.texts kept.there.names kept.there.versions keeps.names keeps.texts
+    agree =
+        agree_kept k.archive a k.now.names k.now.versions p.names p.texts kept.there.names
+        kept.there.versions keeps.names keeps.texts
 
-    all_below : AllByRecursion (λ (s : Shown). (s.name < k.now.names) × (s.version < k.now.versions)) k.now.shown
-    all_below = below_shown k.archive a k.now.names k.now.versions agree k.now kept.there (omega arith) (omega arith)
+    all_below : AllByRecursion
+        (λ (s : Shown). (s.name < k.now.names) × (s.version < k.now.versions)) k.now.shown
+    all_below =
+        below_shown k.archive a k.now.names k.now.versions agree k.now kept.there
+        (omega arith) (omega arith)
 
     both_same : without [] k.now.shown ++ [] ≡ k.now.shown
     both_same = append-nil (without [] k.now.shown) ∙ without_none k.now.shown
@@ -104,7 +141,8 @@ module _ (k : Kept) (p : Planned) (wanted : Option (Option (List ℕ))) (marks f
     in_place : in_order (shown_name a) k.now.shown ≡ k.now.shown
     in_place =
         order_same k.archive a k.now.names k.now.versions agree k.now.shown all_below
-        ∙ settled (shown_name k.archive) k.now.shown (ascending_sorted k.archive k.now.shown ascending)
+        ∙ settled (shown_name k.archive) k.now.shown
+        (ascending_sorted k.archive k.now.shown ascending)
 
     shown_same : in_order (shown_name a) (without [] k.now.shown ++ []) ≡ k.now.shown
     shown_same = ap (in_order (shown_name a)) both_same ∙ in_place
@@ -112,12 +150,14 @@ module _ (k : Kept) (p : Planned) (wanted : Option (Option (List ℕ))) (marks f
     stays_apart : AreApart a (without [] k.now.shown ++ [])
     stays_apart =
         subst (AreApart a) (sym both_same)
-        (apart_same k.archive a k.now.names k.now.versions agree k.now.shown all_below (ascending_apart k.archive k.now.shown ascending))
+        (apart_same k.archive a k.now.names k.now.versions agree k.now.shown all_below
+        (ascending_apart k.archive k.now.shown ascending))
 
     abbrev then : Numbered
     then = other a the_turn k.now
 
-    leads : LeadsTo k (record p { turn = the_turn }) (with_places k.archive k.now wanted marks frames) a
+    leads : LeadsTo k (record p { turn = the_turn })
+        (with_places k.archive k.now wanted marks frames) a
     leads = record {
       turn = record {
         hides_rise = λ i below. absurd (omega (arith, below));
@@ -131,36 +171,54 @@ module _ (k : Kept) (p : Planned) (wanted : Option (Option (List ℕ))) (marks f
         few = few_small a the_turn k.now (omega arith);
       };
       there = record {
-        shown = subst (AllByRecursion (λ (s : Shown). (s.name < k.now.names) × (s.version < k.now.versions))) (sym shown_same) all_below;
+        shown =
+            subst
+            (AllByRecursion (λ (s : Shown). (s.name < k.now.names) × (s.version < k.now.versions)))
+            (sym shown_same) all_below;
         marks = are_marks.named;
         frames = are_frames.named;
         names = agree.name_count;
         versions = agree.text_count;
       };
       world = λ i. record {
-        files = (ap (files_of a) shown_same ∙ files_same k.archive a k.now.names k.now.versions agree k.now.shown all_below) i;
+        files =
+            (ap (files_of a) shown_same
+            ∙ files_same k.archive a k.now.names k.now.versions agree k.now.shown all_below) i;
         wanted = other_wanted wanted k.now.wanted;
-        marks = places_same k.archive a k.now.names k.now.versions agree (edited marks k.now.marks) are_marks.named i;
-        frames = places_same k.archive a k.now.names k.now.versions agree (edited frames k.now.frames) are_frames.named i;
+        marks =
+            places_same k.archive a k.now.names k.now.versions agree
+            (edited marks k.now.marks) are_marks.named i;
+        frames =
+            places_same k.archive a k.now.names k.now.versions agree
+            (edited frames k.now.frames) are_frames.named i;
       };
       next = record {
         names = omega arith;
         versions = omega arith;
-        all_names = λ n above below. none_new k.now.names k.now.names n (shows_name n then.shown ≡ true) refl above below;
-        all_versions = λ v above below. none_new k.now.versions k.now.versions v (shows_version v then.shown ≡ true) refl above below;
+        all_names = λ n above below.
+            none_new k.now.names k.now.names n (shows_name n then.shown ≡ true) refl above below;
+        all_versions = λ v above below.
+            none_new k.now.versions k.now.versions v
+            (shows_version v then.shown ≡ true) refl above below;
       };
       all = record {
-        names = let e = ap length keeps.names ∙ length-append (take k.now.names k.archive.names) p.names in
+        names =
+            let e =
+            ap length keeps.names ∙ length-append (take k.now.names k.archive.names) p.names in
             let t = length-take-le k.now.names k.archive.names kept.there.names in
             let none = ap length names in omega (arith, e, t, none);
-        versions = let e = ap length keeps.texts ∙ length-append (take k.now.versions k.archive.texts) p.texts in
+        versions =
+            let e =
+            ap length keeps.texts ∙ length-append (take k.now.versions k.archive.texts) p.texts in
             let t = length-take-le k.now.versions k.archive.texts kept.there.versions in
             let none = ap length texts in omega (arith, e, t, none);
       };
     }
 
   pub places_planned : IsPlan k p (with_places k.archive k.now wanted marks frames)
-  places_planned a keeps = subst (λ t. LeadsTo k (record p { turn = t }) (with_places k.archive k.now wanted marks frames) a) (sym turn) (leads a keeps)
+  places_planned a keeps =
+      subst (λ t. LeadsTo k (record p { turn = t })
+      (with_places k.archive k.now wanted marks frames) a) (sym turn) (leads a keeps)
 
 -- ---- edits that make one list from another
 pub are_edits : (names : ℕ) (es : Edits) (ps qs : List NumberedPlace) → IsDifference es ps qs
@@ -170,27 +228,36 @@ are_edits names es ps qs is named = record {
   named = subst (AllByRecursion (λ (p : NumberedPlace). p.name < names)) (sym is.on) named;
 }
 
-pub no_edits : (names : ℕ) (es : Edits) (ps : List NumberedPlace) → es ≡ each [] → AllByRecursion (λ (p : NumberedPlace). p.name < names) ps → AreEdits names es ps
+pub no_edits : (names : ℕ) (es : Edits) (ps : List NumberedPlace) → es ≡ each []
+    → AllByRecursion (λ (p : NumberedPlace). p.name < names) ps → AreEdits names es ps
 no_edits names es ps none named =
     subst (λ xs. AreEdits names xs ps) (sym none) (record { back = refl; named = named })
 
 -- what is taken of places that are below a number is
-pub below_taken : (names n : ℕ) (ps : List NumberedPlace) → AllByRecursion (λ (p : NumberedPlace). p.name < names) ps
+pub below_taken : (names n : ℕ) (ps : List NumberedPlace)
+    → AllByRecursion (λ (p : NumberedPlace). p.name < names) ps
     → AllByRecursion (λ (p : NumberedPlace). p.name < names) (take n ps)
 below_taken names zero ps all = tt
 below_taken names (suc n) [] all = tt
 below_taken names (suc n) (p ∷ ps) all = (all.0, below_taken names n ps all.1)
 
-pub below_pushed : (names : ℕ) (p : NumberedPlace) (ps : List NumberedPlace) → p.name < names → AllByRecursion (λ (q : NumberedPlace). q.name < names) ps
+pub below_pushed : (names : ℕ) (p : NumberedPlace) (ps : List NumberedPlace) → p.name < names
+    → AllByRecursion (λ (q : NumberedPlace). q.name < names) ps
     → AllByRecursion (λ (q : NumberedPlace). q.name < names) (ps ++ p ∷ [])
 below_pushed names p [] here all = (here, tt)
 below_pushed names p (q ∷ ps) here all = (all.0, below_pushed names p ps here all.1)
 
 -- ---- the worlds of such edits
-module _ (k : Kept) (v : World) (wanted : Option (Option (List ℕ))) (marks frames : Edits) (new_marks new_frames : List NumberedPlace)
-    (are_marks : edited marks k.now.marks ≡ new_marks) (are_frames : edited frames k.now.frames ≡ new_frames) where
+module _ (k : Kept) (v : World) (wanted : Option (Option (List ℕ))) (marks frames : Edits)
+    (new_marks new_frames : List NumberedPlace)
+    (are_marks : edited marks k.now.marks ≡ new_marks)
+    (are_frames : edited frames k.now.frames ≡ new_frames) where
   pub world_of_edits : with_places k.archive k.now wanted marks frames
-      ≡ record (world_in k.archive k.now) { wanted = other_wanted wanted k.now.wanted; marks = map (place_in k.archive) new_marks; frames = map (place_in k.archive) new_frames }
+      ≡ record (world_in k.archive k.now) {
+        wanted = other_wanted wanted k.now.wanted;
+        marks = map (place_in k.archive) new_marks;
+        frames = map (place_in k.archive) new_frames;
+      }
   world_of_edits = λ i. record (world_in k.archive k.now) {
     wanted = other_wanted wanted k.now.wanted;
     marks = map (place_in k.archive) (are_marks i);
@@ -199,12 +266,14 @@ module _ (k : Kept) (v : World) (wanted : Option (Option (List ℕ))) (marks fra
 
 -- the world without its top frame
 module _ (a : Archived) where
-  taken_places : (n : ℕ) (ps : List NumberedPlace) → map (place_in a) (take n ps) ≡ take n (map (place_in a) ps)
+  taken_places : (n : ℕ) (ps : List NumberedPlace)
+      → map (place_in a) (take n ps) ≡ take n (map (place_in a) ps)
   taken_places zero ps = refl
   taken_places (suc n) [] = refl
   taken_places (suc n) (p ∷ ps) = ap (λ xs. place_in a p ∷ xs) (taken_places n ps)
 
-  pub popped_world : (w : Numbered) (frames : Edits) → edited frames w.frames ≡ take (length w.frames - 1) w.frames
+  pub popped_world : (w : Numbered) (frames : Edits)
+      → edited frames w.frames ≡ take (length w.frames - 1) w.frames
       → with_places a w None (each []) frames ≡ popped (world_in a w)
   popped_world w frames is =
       ap (λ xs. record (world_in a w) { frames = xs })
@@ -212,6 +281,7 @@ module _ (a : Archived) where
       ∙ ap (λ n. take (n - 1) (map (place_in a) w.frames)) (sym (length-map w.frames (place_in a))))
 
 -- what holds of a value that is given holds as well
-pub ok_along : {T E : Type 0} (P Q : T → Type 0) (r : Result T E) → ((x : T) → P x → Q x) → IfOk r P → IfOk r Q
+pub ok_along : {T E : Type 0} (P Q : T → Type 0) (r : Result T E) → ((x : T) → P x → Q x)
+    → IfOk r P → IfOk r Q
 ok_along P Q (Ok x) along p = along x p
 ok_along P Q (Err e) along p = p

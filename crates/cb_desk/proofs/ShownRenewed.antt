@@ -1,12 +1,18 @@
 -- Some files that are shown get new versions.
-use Rattle.std.proofs.Common.{◌≡◌, ◌∙◌, ◌+◌, ◌==◌, ℕ, Bool, true, false, List, [], ◌∷◌, ◌++◌, refl, sym, ap, subst, map, filter, not, ◌||◌, cond, arith}
+use Rattle.std.proofs.Common.{◌≡◌, ◌∙◌, ◌+◌, ◌==◌, ℕ, Bool, true, false, List, [], ◌∷◌, ◌++◌, refl}
+use Rattle.std.proofs.Common.{sym, ap, subst, map, filter, not, ◌||◌, cond, arith}
 use Rattle.std.proofs.lemmas.Bool.{true≢false}
 use Rattle.std.proofs.lemmas.List.{get_or-map, length-map}
-use Rattle.std.proofs.lemmas.List.Sorted.{IsPermutation-append_right, IsPermutation-cons, IsPermutation-filter_both, IsPermutation-map, IsPermutation-middle, IsPermutation-refl, IsPermutation-sym, IsPermutation-trans, list_any-IsPermutation, sum_by-IsPermutation}
+use Rattle.std.proofs.lemmas.List.Sorted.{IsPermutation-append_right, IsPermutation-cons}
+use Rattle.std.proofs.lemmas.List.Sorted.{IsPermutation-filter_both, IsPermutation-map}
+use Rattle.std.proofs.lemmas.List.Sorted.{IsPermutation-middle, IsPermutation-refl}
+use Rattle.std.proofs.lemmas.List.Sorted.{IsPermutation-sym, IsPermutation-trans}
+use Rattle.std.proofs.lemmas.List.Sorted.{list_any-IsPermutation, sum_by-IsPermutation}
 use Rattle.std.proofs.lemmas.Map.Keys.{IsDistinct-IsPermutation, IsStrictlyIncreasing-from_distinct}
 use Rattle.std.specs.Cmp.Lexicographic.{slice_cmp}
 use Rattle.std.specs.List.{AllByRecursion, IsDistinct}
-use Rattle.std.specs.List.Sorted.{IsNonDecreasing, IsNonDecreasingBy, IsPermutation, IsStrictlyIncreasing}
+use Rattle.std.specs.List.Sorted.{IsNonDecreasing, IsNonDecreasingBy, IsPermutation}
+use Rattle.std.specs.List.Sorted.{IsStrictlyIncreasing}
 use Rattle.std.specs.Ordering.{nat_cmp}
 use Rattle.std.specs.Prelude.{nat_eq}
 use Rattle.std.specs.Str.{bytes_eq}
@@ -23,18 +29,22 @@ use Rattle.cb_desk.specs.declared.present.renewal.Renewal.{Renewal}
 use Rattle.cb_desk.specs.steps.Records.{without}
 use Rattle.cb_desk.specs.steps.Replaced.{new_of, old_of, renewals}
 use Rattle.cb_desk.proofs.PlacePlans.{settled}
-use Rattle.cb_desk.proofs.ShownMoves.{After, Hides, IsOther, Shows, all_other, number_itself, number_other}
+use Rattle.cb_desk.proofs.ShownMoves.{After, Hides, IsOther, Shows, all_other, number_itself}
+use Rattle.cb_desk.proofs.ShownMoves.{number_other}
 
 -- what is shown once the files that pass have new versions, with numbers from one on
 abbrev pub renewed : (Shown → Bool) → ℕ → List Shown → List Shown
 renewed p n [] = []
-renewed p n (s ∷ ss) = cond (p s) (record { name = s.name; version = n } ∷ renewed p (n + 1) ss) (s ∷ renewed p n ss)
+renewed p n (s ∷ ss) =
+    cond (p s) (record { name = s.name; version = n } ∷ renewed p (n + 1) ss) (s ∷ renewed p n ss)
 
 -- ---- lists
-kept_alike : {X : Type 0} (p q : X → Bool) (xs : List X) → AllByRecursion (λ x. p x ≡ q x) xs → filter p xs ≡ filter q xs
+kept_alike : {X : Type 0} (p q : X → Bool) (xs : List X) → AllByRecursion (λ x. p x ≡ q x) xs
+    → filter p xs ≡ filter q xs
 kept_alike p q [] all = refl
 kept_alike p q (x ∷ xs) all =
-    ap (λ b. cond b (x ∷ filter p xs) (filter p xs)) all.0 ∙ ap (λ l. cond (q x) (x ∷ l) l) (kept_alike p q xs all.1)
+    ap (λ b. cond b (x ∷ filter p xs) (filter p xs)) all.0
+    ∙ ap (λ l. cond (q x) (x ∷ l) l) (kept_alike p q xs all.1)
 
 not_twice : (b : Bool) → b ≡ not (not b)
 not_twice true = refl
@@ -56,7 +66,8 @@ bytes_turned x y = by_cases (bytes_eq x y) (bytes_eq y x) refl refl
     by_cases false true e h = absurd (true≢false (sym h ∙ other_turned x y e))
 
 -- numbers of renewals that do not fall do not fall
-level_names : (rs : List Renewal) → IsNonDecreasingBy (λ (r : Renewal). r.name) rs → IsNonDecreasing (map (λ (r : Renewal). r.name) rs)
+level_names : (rs : List Renewal) → IsNonDecreasingBy (λ (r : Renewal). r.name) rs
+    → IsNonDecreasing (map (λ (r : Renewal). r.name) rs)
 level_names rs level i j d le within =
     let none : Renewal = record { name = 0; old = 0; new = 0 } in
     let same = length-map rs (λ (r : Renewal). r.name) in
@@ -84,21 +95,26 @@ module _ (a : Archived) where
   module _ (shown ss : List Shown) (up : AreAscending a shown) (same : IsPermutation shown ss) where
     apart_again : AreApart a ss
     apart_again =
-        apart_from ss (IsDistinct-IsPermutation same_name (λ s t. bytes_turned (name_of a s.name) (name_of a t.name)) shown ss same
+        apart_from ss (IsDistinct-IsPermutation same_name
+        (λ s t. bytes_turned (name_of a s.name) (name_of a t.name)) shown ss same
         (distinct_from shown (ascending_apart a shown up)))
 
     order_again : in_order (shown_name a) ss ≡ shown
     order_again =
         sym (order_by_name a ss apart_again)
-        ∙ same_order (shown_key a) (shown_exact a) ss shown (λ f. sum_by-IsPermutation f shown ss same)
+        ∙ same_order (shown_key a) (shown_exact a) ss shown
+        (λ f. sum_by-IsPermutation f shown ss same)
         ∙ order_by_name a shown (ascending_apart a shown up)
         ∙ settled (shown_name a) shown (ascending_sorted a shown up)
 
   -- ---- numbers of names
-  all_numbers : (s : Shown) (ss : List Shown) → AllByRecursion (IsOther a s) ss → AllByRecursion (λ n. (s.name == n) ≡ false) (names_of ss)
+  all_numbers : (s : Shown) (ss : List Shown) → AllByRecursion (IsOther a s) ss
+      → AllByRecursion (λ n. (s.name == n) ≡ false) (names_of ss)
   all_numbers s [] all = tt
-  all_numbers s (t ∷ ss) all =
-      (eq_turned s.name t.name ∙ eq_is t.name s.name (number_other a s t all.0), all_numbers s ss all.1)
+  all_numbers s (t ∷ ss) all = (
+    eq_turned s.name t.name ∙ eq_is t.name s.name (number_other a s t all.0),
+    all_numbers s ss all.1,
+  )
 
   numbers_differ : (ss : List Shown) → AreAscending a ss → IsDistinct (λ m n. m == n) (names_of ss)
   unfolding AreOrdered IsDistinct
@@ -107,12 +123,15 @@ module _ (a : Archived) where
 
   -- ---- which files pass, by the numbers of their names
   module _ (p : Shown → Bool) where
-    none_among : (s : Shown) (ss : List Shown) → AllByRecursion (IsOther a s) ss → is_among (names_of (filter p ss)) s.name ≡ false
+    none_among : (s : Shown) (ss : List Shown) → AllByRecursion (IsOther a s) ss
+        → is_among (names_of (filter p ss)) s.name ≡ false
     none_among s [] all = refl
     none_among s (t ∷ ss) all =
-        elim (p t) as (λ b. is_among (names_of (cond b (t ∷ filter p ss) (filter p ss))) s.name ≡ false) [
+        elim (p t) as
+        (λ b. is_among (names_of (cond b (t ∷ filter p ss) (filter p ss))) s.name ≡ false) [
           | true ↦ ap (λ b. b || is_among (names_of (filter p ss)) s.name)
-              (number_other a t s (other_turned (name_of a s.name) (name_of a t.name) all.0)) ∙ none_among s ss all.1
+              (number_other a t s (other_turned (name_of a s.name) (name_of a t.name) all.0))
+              ∙ none_among s ss all.1
           | false ↦ none_among s ss all.1
         ]
 
@@ -121,76 +140,106 @@ module _ (a : Archived) where
         → AllByRecursion (λ (s : Shown). is_among (names_of (filter p (t ∷ ss))) s.name ≡ p s) us
     still_among t ss [] other all = tt
     still_among t ss (s ∷ us) other all = (
-      elim (p t) as (λ b. is_among (names_of (cond b (t ∷ filter p ss) (filter p ss))) s.name ≡ p s) [
-        | true ↦ ap (λ b. b || is_among (names_of (filter p ss)) s.name) (number_other a t s other.0) ∙ all.0
-        | false ↦ all.0
-      ],
+      elim (p t) as
+          (λ b. is_among (names_of (cond b (t ∷ filter p ss) (filter p ss))) s.name ≡ p s) [
+            | true ↦ ap (λ b. b || is_among (names_of (filter p ss)) s.name)
+                (number_other a t s other.0) ∙ all.0
+            | false ↦ all.0
+          ],
       still_among t ss us other.1 all.1,
     )
 
-    pub among_passed : (ss : List Shown) → AreAscending a ss → AllByRecursion (λ (s : Shown). is_among (names_of (filter p ss)) s.name ≡ p s) ss
+    pub among_passed : (ss : List Shown) → AreAscending a ss
+        → AllByRecursion (λ (s : Shown). is_among (names_of (filter p ss)) s.name ≡ p s) ss
     unfolding AreOrdered
     among_passed [] up = tt
     among_passed (s ∷ ss) up =
         let other = all_other a s ss up.0 in
-        let here : (b : Bool) → p s ≡ b → is_among (names_of (cond b (s ∷ filter p ss) (filter p ss))) s.name ≡ b =
-        λ b is. elim b as (λ b. is_among (names_of (cond b (s ∷ filter p ss) (filter p ss))) s.name ≡ b) [
+        let here : (b : Bool) → p s ≡ b
+        → is_among (names_of (cond b (s ∷ filter p ss) (filter p ss))) s.name ≡ b =
+        λ b is.
+        elim b as (λ b. is_among (names_of (cond b (s ∷ filter p ss) (filter p ss))) s.name ≡ b) [
           | true ↦ ap (λ c. c || is_among (names_of (filter p ss)) s.name) (number_itself s.name)
           | false ↦ none_among s ss other
         ] in
         (here (p s) refl, still_among s ss ss other (among_passed ss up.1))
 
     -- ---- what is shown then
-    all_after : (s t : Shown) (n : ℕ) (ss : List Shown) → s.name ≡ t.name → AllByRecursion (After a s) ss → AllByRecursion (After a t) (renewed p n ss)
+    all_after : (s t : Shown) (n : ℕ) (ss : List Shown) → s.name ≡ t.name
+        → AllByRecursion (After a s) ss → AllByRecursion (After a t) (renewed p n ss)
     all_after s t n [] is all = tt
     all_after s t n (u ∷ ss) is all =
-        elim (p u) as (λ b. AllByRecursion (After a t) (cond b (record { name = u.name; version = n } ∷ renewed p (n + 1) ss) (u ∷ renewed p n ss))) [
-          | true ↦ (subst (λ m. slice_cmp nat_cmp (name_of a m) (name_of a u.name) ≡ Less) is all.0, all_after s t (n + 1) ss is all.1)
-          | false ↦ (subst (λ m. slice_cmp nat_cmp (name_of a m) (name_of a u.name) ≡ Less) is all.0, all_after s t n ss is all.1)
+        elim (p u) as (λ b. AllByRecursion (After a t) (cond b
+        (record { name = u.name; version = n } ∷ renewed p (n + 1) ss) (u ∷ renewed p n ss))) [
+          | true ↦ (
+            subst (λ m. slice_cmp nat_cmp (name_of a m) (name_of a u.name) ≡ Less) is all.0,
+            all_after s t (n + 1) ss is all.1,
+          )
+          | false ↦ (
+            subst (λ m. slice_cmp nat_cmp (name_of a m) (name_of a u.name) ≡ Less) is all.0,
+            all_after s t n ss is all.1,
+          )
         ]
 
     renewed_up : (n : ℕ) (ss : List Shown) → AreAscending a ss → AreAscending a (renewed p n ss)
     unfolding AreOrdered
     renewed_up n [] up = tt
     renewed_up n (s ∷ ss) up =
-        elim (p s) as (λ b. AreAscending a (cond b (record { name = s.name; version = n } ∷ renewed p (n + 1) ss) (s ∷ renewed p n ss))) [
-          | true ↦ (all_after s (record { name = s.name; version = n }) (n + 1) ss refl up.0, renewed_up (n + 1) ss up.1)
+        elim (p s) as (λ b. AreAscending a (cond b
+        (record { name = s.name; version = n } ∷ renewed p (n + 1) ss) (s ∷ renewed p n ss))) [
+          | true ↦ (
+            all_after s (record { name = s.name; version = n }) (n + 1) ss refl up.0,
+            renewed_up (n + 1) ss up.1,
+          )
           | false ↦ (all_after s s n ss refl up.0, renewed_up n ss up.1)
         ]
 
     renewed_moved : (n : ℕ) (ss : List Shown)
-        → IsPermutation (renewed p n ss) (filter (λ s. not (p s)) ss ++ map new_of (renewals n (filter p ss)))
+        → IsPermutation (renewed p n ss)
+        (filter (λ s. not (p s)) ss ++ map new_of (renewals n (filter p ss)))
     renewed_moved n [] = IsPermutation-refl []
     renewed_moved n (s ∷ ss) =
-        elim (p s) as (λ b. IsPermutation (cond b (record { name = s.name; version = n } ∷ renewed p (n + 1) ss) (s ∷ renewed p n ss))
+        elim (p s) as (λ b. IsPermutation
+        (cond b (record { name = s.name; version = n } ∷ renewed p (n + 1) ss) (s ∷ renewed p n ss))
         (cond (not b) (s ∷ filter (λ s. not (p s)) ss) (filter (λ s. not (p s)) ss)
         ++ map new_of (renewals n (cond b (s ∷ filter p ss) (filter p ss))))) [
           | true ↦
               let rest = filter (λ s. not (p s)) ss in
               let news = map new_of (renewals (n + 1) (filter p ss)) in
               let one : Shown = record { name = s.name; version = n } in
-              IsPermutation-trans (one ∷ renewed p (n + 1) ss) (one ∷ (rest ++ news)) (rest ++ one ∷ news)
-              (IsPermutation-cons one (renewed p (n + 1) ss) (rest ++ news) (renewed_moved (n + 1) ss))
-              (IsPermutation-sym (rest ++ one ∷ news) (one ∷ (rest ++ news)) (IsPermutation-middle rest one news))
-          | false ↦ IsPermutation-cons s (renewed p n ss) (filter (λ s. not (p s)) ss ++ map new_of (renewals n (filter p ss))) (renewed_moved n ss)
+              IsPermutation-trans (one ∷ renewed p (n + 1) ss) (one ∷ (rest ++ news))
+              (rest ++ one ∷ news)
+              (IsPermutation-cons one (renewed p (n + 1) ss) (rest ++ news)
+              (renewed_moved (n + 1) ss))
+              (IsPermutation-sym (rest ++ one ∷ news) (one ∷ (rest ++ news))
+              (IsPermutation-middle rest one news))
+          | false ↦ IsPermutation-cons s (renewed p n ss)
+              (filter (λ s. not (p s)) ss ++ map new_of (renewals n (filter p ss)))
+              (renewed_moved n ss)
         ]
 
     -- what is not renewed is what does not pass
-    without_renewed : (is : ℕ → Bool) (n : ℕ) (ss : List Shown) → AllByRecursion (λ (s : Shown). is s.name ≡ p s) ss
+    without_renewed : (is : ℕ → Bool) (n : ℕ) (ss : List Shown)
+        → AllByRecursion (λ (s : Shown). is s.name ≡ p s) ss
         → filter (λ (s : Shown). not (is s.name)) (renewed p n ss) ≡ filter (λ s. not (p s)) ss
     without_renewed is n [] all = refl
     without_renewed is n (s ∷ ss) all = by_test (p s) refl (λ m. without_renewed is m ss all.1)
       where
         by_test : (b : Bool) → p s ≡ b
-            → ((m : ℕ) → filter (λ (s : Shown). not (is s.name)) (renewed p m ss) ≡ filter (λ s. not (p s)) ss)
-            → filter (λ (s : Shown). not (is s.name)) (cond b (record { name = s.name; version = n } ∷ renewed p (n + 1) ss) (s ∷ renewed p n ss))
+            → ((m : ℕ) → filter (λ (s : Shown). not (is s.name)) (renewed p m ss)
+            ≡ filter (λ s. not (p s)) ss)
+            → filter (λ (s : Shown). not (is s.name)) (cond b
+            (record { name = s.name; version = n } ∷ renewed p (n + 1) ss) (s ∷ renewed p n ss))
             ≡ cond (not b) (s ∷ filter (λ s. not (p s)) ss) (filter (λ s. not (p s)) ss)
         by_test true passes later =
             let one : Shown = record { name = s.name; version = n } in
-            ap (λ c. cond (not c) (one ∷ filter (λ (s : Shown). not (is s.name)) (renewed p (n + 1) ss)) (filter (λ (s : Shown). not (is s.name)) (renewed p (n + 1) ss)))
+            ap (λ c.
+            cond (not c) (one ∷ filter (λ (s : Shown). not (is s.name)) (renewed p (n + 1) ss))
+            (filter (λ (s : Shown). not (is s.name)) (renewed p (n + 1) ss)))
             (all.0 ∙ passes) ∙ later (n + 1)
         by_test false passes later =
-            ap (λ c. cond (not c) (s ∷ filter (λ (s : Shown). not (is s.name)) (renewed p n ss)) (filter (λ (s : Shown). not (is s.name)) (renewed p n ss)))
+            ap (λ c. cond (not c) (s ∷ filter (λ (s : Shown). not (is s.name)) (renewed p n ss))
+            (filter (λ (s : Shown). not (is s.name)) (renewed p n ss)))
             (all.0 ∙ passes) ∙ ap (λ l. s ∷ l) (later n)
 
 olds_same : (n : ℕ) (ss : List Shown) → map old_of (renewals n ss) ≡ ss
@@ -210,8 +259,10 @@ new_names [] = refl
 new_names (r ∷ rs) = ap (λ l. r.name ∷ l) (new_names rs)
 
 -- ---- the files that pass are hidden, and shown with their new versions
-module _ (a : Archived) (shown : List Shown) (up : AreAscending a shown) (p : Shown → Bool) (n : ℕ) (rs : List Renewal)
-    (same : IsPermutation (renewals n (filter p shown)) rs) (level : IsNonDecreasingBy (λ (r : Renewal). r.name) rs) where
+module _ (a : Archived) (shown : List Shown) (up : AreAscending a shown) (p : Shown → Bool)
+    (n : ℕ) (rs : List Renewal)
+    (same : IsPermutation (renewals n (filter p shown)) rs)
+    (level : IsNonDecreasingBy (λ (r : Renewal). r.name) rs) where
   abbrev hides : List Shown
   hides = map old_of rs
 
@@ -232,18 +283,23 @@ module _ (a : Archived) (shown : List Shown) (up : AreAscending a shown) (p : Sh
   numbers_rise : IsStrictlyIncreasing numbers
   numbers_rise =
       IsStrictlyIncreasing-from_distinct numbers (level_names rs level)
-      (IsDistinct-IsPermutation (λ m n. m == n) eq_turned (names_of (filter p shown)) numbers numbers_moved
+      (IsDistinct-IsPermutation (λ m n. m == n) eq_turned
+      (names_of (filter p shown)) numbers numbers_moved
       (numbers_differ a (filter p shown) (ascending_filter a p shown up)))
 
   -- whether a file passes, by the number of its name
   among : AllByRecursion (λ (s : Shown). is_among numbers s.name ≡ p s) shown
   among = along shown (among_passed a p shown up)
     where
-      along : (ss : List Shown) → AllByRecursion (λ (s : Shown). is_among (names_of (filter p shown)) s.name ≡ p s) ss
+      along : (ss : List Shown)
+          → AllByRecursion (λ (s : Shown). is_among (names_of (filter p shown)) s.name ≡ p s) ss
           → AllByRecursion (λ (s : Shown). is_among numbers s.name ≡ p s) ss
       along [] all = tt
-      along (s ∷ ss) all =
-          (sym (list_any-IsPermutation (nat_eq s.name) (names_of (filter p shown)) numbers numbers_moved) ∙ all.0, along ss all.1)
+      along (s ∷ ss) all = (
+        sym (list_any-IsPermutation (nat_eq s.name) (names_of (filter p shown)) numbers
+            numbers_moved) ∙ all.0,
+        along ss all.1,
+      )
 
   all_alike : (ss : List Shown) → AllByRecursion (λ (s : Shown). is_among numbers s.name ≡ p s) ss
       → AllByRecursion (λ (s : Shown). not (is_among numbers s.name) ≡ not (p s)) ss
@@ -253,7 +309,8 @@ module _ (a : Archived) (shown : List Shown) (up : AreAscending a shown) (p : Sh
   pub rest_is : without hides shown ≡ rest
   rest_is =
       ap (λ ns. filter (λ (s : Shown). not (is_among ns s.name)) shown) (old_names rs)
-      ∙ kept_alike (λ (s : Shown). not (is_among numbers s.name)) (λ s. not (p s)) shown (all_alike shown among)
+      ∙ kept_alike (λ (s : Shown). not (is_among numbers s.name)) (λ s. not (p s)) shown
+      (all_alike shown among)
 
   olds_moved : IsPermutation shown (rest ++ hides)
   olds_moved =
@@ -265,7 +322,8 @@ module _ (a : Archived) (shown : List Shown) (up : AreAscending a shown) (p : Sh
 
   news_moved : IsPermutation (renewed p n shown) (rest ++ shows)
   news_moved =
-      IsPermutation-trans (renewed p n shown) (rest ++ map new_of (renewals n (filter p shown))) (rest ++ shows)
+      IsPermutation-trans (renewed p n shown) (rest ++ map new_of (renewals n (filter p shown)))
+      (rest ++ shows)
       (renewed_moved a p n shown)
       (IsPermutation-append_right rest (map new_of (renewals n (filter p shown))) shows
       (IsPermutation-map new_of (renewals n (filter p shown)) rs same))
@@ -274,8 +332,12 @@ module _ (a : Archived) (shown : List Shown) (up : AreAscending a shown) (p : Sh
   hides_renewed = record {
     rise = subst IsStrictlyIncreasing (sym (old_names rs)) numbers_rise;
     left = ascending_filter a (λ (s : Shown). not (is_among (names_of hides) s.name)) shown up;
-    apart = subst (λ ss. AreApart a (ss ++ hides)) (sym rest_is) (apart_again a shown (rest ++ hides) up olds_moved);
-    back = ap (λ ss. in_order (shown_name a) (ss ++ hides)) rest_is ∙ order_again a shown (rest ++ hides) up olds_moved;
+    apart =
+        subst (λ ss. AreApart a (ss ++ hides)) (sym rest_is)
+        (apart_again a shown (rest ++ hides) up olds_moved);
+    back =
+        ap (λ ss. in_order (shown_name a) (ss ++ hides)) rest_is
+        ∙ order_again a shown (rest ++ hides) up olds_moved;
   }
 
   pub shown_then : in_order (shown_name a) (without hides shown ++ shows) ≡ renewed p n shown
@@ -286,8 +348,11 @@ module _ (a : Archived) (shown : List Shown) (up : AreAscending a shown) (p : Sh
   pub shows_renewed : Shows a (without hides shown) shows
   shows_renewed = record {
     rise = subst IsStrictlyIncreasing (sym (new_names rs)) numbers_rise;
-    apart = subst (λ ss. AreApart a (ss ++ shows)) (sym rest_is) (apart_again a (renewed p n shown) (rest ++ shows) (renewed_up a p n shown up) news_moved);
+    apart =
+        subst (λ ss. AreApart a (ss ++ shows)) (sym rest_is)
+        (apart_again a (renewed p n shown) (rest ++ shows) (renewed_up a p n shown up) news_moved);
     taken = ap (without shows) shown_then
-        ∙ ap (λ ns. filter (λ (s : Shown). not (is_among ns s.name)) (renewed p n shown)) (new_names rs)
+        ∙ ap (λ ns. filter (λ (s : Shown). not (is_among ns s.name)) (renewed p n shown))
+        (new_names rs)
         ∙ without_renewed a p (is_among numbers) n shown among ∙ sym rest_is;
   }

@@ -15,15 +15,34 @@ use Rattle.cb_desk.proofs.Valid.{length-kept}
 -- no file has more rows than bytes
 few-in : (p : List ℕ) (f : File) → length (text_rows_in p f) ≤ length f.bytes
 few-in p f =
-    let kept = length-kept (λ n. holds p (line_text f.bytes n)) (range_with_len 1 (length (lines f.bytes))) in
-    omega (arith, length-map (lines_with p f.bytes) (line_row f.name f.bytes), kept, length-range_with_len 1 (length (lines f.bytes)), length-map (lines_of f.bytes) without_terminator, lines-few f.bytes)
+    let kept =
+    length-kept (λ n. holds p (line_text f.bytes n)) (range_with_len 1 (length (lines f.bytes))) in
+    omega (
+      arith,
+      length-map (lines_with p f.bytes) (line_row f.name f.bytes),
+      kept,
+      length-range_with_len 1 (length (lines f.bytes)),
+      length-map (lines_of f.bytes) without_terminator,
+      lines-few f.bytes,
+    )
 
-few : (p : List ℕ) (files : List File) → AllByRecursion (λ (f : File). length f.bytes ≤ MOST_BYTES) files → length (flat_map (text_rows_in p) files) ≤ length files * MOST_BYTES
+few : (p : List ℕ) (files : List File)
+    → AllByRecursion (λ (f : File). length f.bytes ≤ MOST_BYTES) files
+    → length (flat_map (text_rows_in p) files) ≤ length files * MOST_BYTES
 few p [] sizes = omega arith
 few p (f ∷ files) sizes =
     let size = sizes.0 in
-    omega (arith, length-append (text_rows_in p f) (flat_map (text_rows_in p) files), few-in p f, size, few p files sizes.1, suc-mul (length files) MOST_BYTES)
+    omega (
+      arith,
+      length-append (text_rows_in p f) (flat_map (text_rows_in p) files),
+      few-in p f,
+      size,
+      few p files sizes.1,
+      suc-mul (length files) MOST_BYTES,
+    )
 
 -- the rows of the files of a world
-pub rows-few : (p : List ℕ) (files : List File) → AreValidFiles files → length (flat_map (text_rows_in p) files) ≤ MOST_FILES * MOST_BYTES
-rows-few p files valid = let count = valid.count in let all = few p files valid.sizes in omega (arith, count, all)
+pub rows-few : (p : List ℕ) (files : List File) → AreValidFiles files
+    → length (flat_map (text_rows_in p) files) ≤ MOST_FILES * MOST_BYTES
+rows-few p files valid =
+    let count = valid.count in let all = few p files valid.sizes in omega (arith, count, all)

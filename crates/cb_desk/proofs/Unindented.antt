@@ -1,5 +1,6 @@
 -- What stays of a line without its leading blanks.
-use Rattle.std.proofs.Common.{◌≡◌, refl, ℕ, ◌+◌, Bool, true, false, ◌||◌, ◌==◌, cond, List, [], ◌∷◌, drop, one-add}
+use Rattle.std.proofs.Common.{◌≡◌, refl, ℕ, ◌+◌, Bool, true, false, ◌||◌, ◌==◌, cond, List, [], ◌∷◌}
+use Rattle.std.proofs.Common.{drop, one-add}
 use Rattle.std.specs.List.{prefix_len}
 use Rattle.cb_desk.specs.Answer.{space, tab, unindented}
 
@@ -11,7 +12,8 @@ pub drop-blanks : (line : List ℕ) → drop (prefix_len is_blank line) line ≡
 unfolding unindented
 drop-blanks [] = refl
 drop-blanks (b ∷ bs) =
-    elim (is_blank b) as (λ t. drop (cond t (1 + prefix_len is_blank bs) 0) (b ∷ bs) ≡ cond t (unindented bs) (b ∷ bs)) [
+    elim (is_blank b) as
+    (λ t. drop (cond t (1 + prefix_len is_blank bs) 0) (b ∷ bs) ≡ cond t (unindented bs) (b ∷ bs)) [
       | true ↦ rw one-add (drop-blanks bs)
       | false ↦ refl
     ]

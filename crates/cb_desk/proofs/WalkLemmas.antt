@@ -1,8 +1,11 @@
 -- Records lead back and on.
-use Rattle.std.proofs.Common.{◌≡◌, ◌∙◌, sym, ap, refl, subst, ℕ, suc, ◌+◌, ◌<◌, ◌≤◌, Bool, true, false, List, [], ◌∷◌, ◌++◌, take, drop, length, get_or, slice_set, reverse, Option, Some, None, Ok, Err, add-one, arith, length-take-le}
+use Rattle.std.proofs.Common.{◌≡◌, ◌∙◌, sym, ap, refl, subst, ℕ, suc, ◌+◌, ◌<◌, ◌≤◌, Bool, true}
+use Rattle.std.proofs.Common.{false, List, [], ◌∷◌, ◌++◌, take, drop, length, get_or, slice_set}
+use Rattle.std.proofs.Common.{reverse, Option, Some, None, Ok, Err, add-one, arith, length-take-le}
 use Rattle.std.specs.Prelude.{not}
 use Rattle.std.proofs.Math.Seq.{drop-cons}
-use Rattle.std.proofs.lemmas.List.{reverse-append, take_more, take_more_set, take-set, drop-set, drop-set-lt, drop_all, length-map, length-reverse, length-set}
+use Rattle.std.proofs.lemmas.List.{reverse-append, take_more, take_more_set, take-set, drop-set}
+use Rattle.std.proofs.lemmas.List.{drop-set-lt, drop_all, length-map, length-reverse, length-set}
 use Rattle.std.specs.List.Sorted.{IsStrictlySortedBy}
 use Rattle.cb_scan.specs.Order.{in_order}
 use Rattle.cb_index.specs.Archived.{Archived}
@@ -12,9 +15,13 @@ use Rattle.cb_desk.specs.declared.refusal.Refusal.TheVariants.{NothingToUndo, No
 use Rattle.cb_desk.specs.Timeline.{IsValidTimeline, Timeline, new_timeline, undone, redone}
 use Rattle.cb_desk.specs.Turns.{touched}
 use Rattle.cb_desk.specs.World.{IsValidWorld, empty_world}
-use Rattle.cb_desk.specs.steps.Edits.{Edits, both, each, edited, renaming, turned_each, turned_edits}
-use Rattle.cb_desk.specs.steps.Records.{Fits, IsTurn, Kept, KeepsRooms, Numbered, no_numbers, Rooms, Turn, kept_wanted, other, other_wanted, turned, without, world_in}
-use Rattle.cb_desk.specs.steps.Walks.{IsKept, IsNext, IsRecorded, LeadsBack, LeadsOn, Recorded, timeline_in, turns_back, turns_on, walk, worlds_in}
+use Rattle.cb_desk.specs.steps.Edits.{Edits, both, each, edited, renaming, turned_each}
+use Rattle.cb_desk.specs.steps.Edits.{turned_edits}
+use Rattle.cb_desk.specs.steps.Records.{Fits, IsTurn, Kept, KeepsRooms, Numbered, no_numbers, Rooms}
+use Rattle.cb_desk.specs.steps.Records.{Turn, kept_wanted, other, other_wanted, turned, without}
+use Rattle.cb_desk.specs.steps.Records.{world_in}
+use Rattle.cb_desk.specs.steps.Walks.{IsKept, IsNext, IsRecorded, LeadsBack, LeadsOn, Recorded}
+use Rattle.cb_desk.specs.steps.Walks.{timeline_in, turns_back, turns_on, walk, worlds_in}
 use Rattle.cb_desk.proofs.AllUsed.{all_used}
 use Rattle.cb_desk.proofs.Moves.{undo_keeps_valid, redo_keeps_valid}
 
@@ -25,14 +32,17 @@ not_not false = refl
 
 each_twice : (es : List Edit) → turned_each (turned_each es) ≡ es
 each_twice [] = refl
-each_twice (e ∷ es) = ap (λ b. record e { is_put = b } ∷ turned_each (turned_each es)) (not_not e.is_put) ∙ ap (λ xs. e ∷ xs) (each_twice es)
+each_twice (e ∷ es) =
+    ap (λ b. record e { is_put = b } ∷ turned_each (turned_each es)) (not_not e.is_put)
+    ∙ ap (λ xs. e ∷ xs) (each_twice es)
 
 turned_twice : (es : Edits) → turned_edits (turned_edits es) ≡ es
 turned_twice (each es) = ap each (each_twice es)
 turned_twice (both old new) = refl
 turned_twice (renaming r) = refl
 
-wanted_again : (t w : Option (Option (List ℕ))) (x : Option (List ℕ)) → t ≡ w → other_wanted (kept_wanted t x) (other_wanted t x) ≡ x
+wanted_again : (t w : Option (Option (List ℕ))) (x : Option (List ℕ)) → t ≡ w
+    → other_wanted (kept_wanted t x) (other_wanted t x) ≡ x
 wanted_again None w x e = refl
 wanted_again (Some y) w x e = refl
 
@@ -47,9 +57,14 @@ module _ (a : Archived) (t : Turn) (w : Numbered) (is : IsTurn a t w) where
   pub back_again : other a (turned t w) then ≡ w
   back_again =
       ap (λ xs. record (other a (turned t w) then) { shown = xs }) shown_again
-      ∙ ap (λ x. record w { wanted = x; marks = edited (turned_edits t.marks) (edited t.marks w.marks); frames = edited (turned_edits t.frames) (edited t.frames w.frames) })
+      ∙ ap (λ x. record w {
+        wanted = x;
+        marks = edited (turned_edits t.marks) (edited t.marks w.marks);
+        frames = edited (turned_edits t.frames) (edited t.frames w.frames);
+      })
       (wanted_again t.wanted t.wanted w.wanted refl)
-      ∙ ap (λ xs. record w { marks = xs; frames = edited (turned_edits t.frames) (edited t.frames w.frames) }) is.marks
+      ∙ ap (λ xs. record w
+      { marks = xs; frames = edited (turned_edits t.frames) (edited t.frames w.frames) }) is.marks
       ∙ ap (λ xs. record w { frames = xs }) is.frames
 
   pub turns_back_again : IsTurn a (turned t w) then
@@ -60,16 +75,25 @@ module _ (a : Archived) (t : Turn) (w : Numbered) (is : IsTurn a t w) where
     apart_then = subst (λ xs. AreApart a (xs ++ t.hides)) (sym is.others) is.apart;
     shown = ap (λ xs. in_order (shown_name a) (xs ++ t.shows)) is.others;
     others = ap (λ xs. without t.hides xs) shown_again ∙ sym is.others;
-    marks = ap (λ es. edited es (edited (turned_edits t.marks) (edited t.marks w.marks))) (turned_twice t.marks) ∙ ap (λ xs. edited t.marks xs) is.marks;
-    frames = ap (λ es. edited es (edited (turned_edits t.frames) (edited t.frames w.frames))) (turned_twice t.frames) ∙ ap (λ xs. edited t.frames xs) is.frames;
+    marks =
+        ap (λ es. edited es (edited (turned_edits t.marks) (edited t.marks w.marks)))
+        (turned_twice t.marks) ∙ ap (λ xs. edited t.marks xs) is.marks;
+    frames =
+        ap (λ es. edited es (edited (turned_edits t.frames) (edited t.frames w.frames)))
+        (turned_twice t.frames) ∙ ap (λ xs. edited t.frames xs) is.frames;
     few = record {
-      on = let e = ap (λ x. length (touched (world_in a then) (world_in a x))) back_again in let few = is.few.back in omega (arith, e, few);
-      back = let e = ap (λ x. length (touched (world_in a x) (world_in a then))) back_again in let few = is.few.on in omega (arith, e, few);
+      on =
+          let e = ap (λ x. length (touched (world_in a then) (world_in a x))) back_again in
+          let few = is.few.back in omega (arith, e, few);
+      back =
+          let e = ap (λ x. length (touched (world_in a x) (world_in a then))) back_again in
+          let few = is.few.on in omega (arith, e, few);
     };
   }
 
 -- ---- more room
-pub fits_more : (r s : Rooms) (a : Archived) (w : Numbered) → KeepsRooms r s → Fits r a w → Fits s a w
+pub fits_more : (r s : Rooms) (a : Archived) (w : Numbered) → KeepsRooms r s
+    → Fits r a w → Fits s a w
 fits_more r s a w more fits = record {
   files = let x = fits.files in let y = more.files in omega (arith, x, y);
   defs = let x = fits.defs in let y = more.defs in omega (arith, x, y);
@@ -79,26 +103,33 @@ fits_more r s a w more fits = record {
   frames = let x = fits.frames in let y = more.frames in omega (arith, x, y);
 }
 
-pub kept_more : (r s : Rooms) (a : Archived) (w : Numbered) → KeepsRooms r s → IsKept r a w → IsKept s a w
+pub kept_more : (r s : Rooms) (a : Archived) (w : Numbered) → KeepsRooms r s
+    → IsKept r a w → IsKept s a w
 kept_more r s a w more is = record { there = is.there; fits = fits_more r s a w more is.fits }
 
-pub back_more : (r s : Rooms) (a : Archived) (w : Numbered) (ts : List Turn) → KeepsRooms r s → LeadsBack r a w ts → LeadsBack s a w ts
+pub back_more : (r s : Rooms) (a : Archived) (w : Numbered) (ts : List Turn) → KeepsRooms r s
+    → LeadsBack r a w ts → LeadsBack s a w ts
 unfolding LeadsBack
 back_more r s a w [] more is = (kept_more r s a w more is.0, is.1)
-back_more r s a w (t ∷ ts) more is = (kept_more r s a w more is.0, is.1, is.2, back_more r s a (other a t w) ts more is.3)
+back_more r s a w (t ∷ ts) more is =
+    (kept_more r s a w more is.0, is.1, is.2, back_more r s a (other a t w) ts more is.3)
 
-pub on_more : (r s : Rooms) (a : Archived) (w : Numbered) (ts : List Turn) → KeepsRooms r s → LeadsOn r a w ts → LeadsOn s a w ts
+pub on_more : (r s : Rooms) (a : Archived) (w : Numbered) (ts : List Turn) → KeepsRooms r s
+    → LeadsOn r a w ts → LeadsOn s a w ts
 unfolding LeadsOn
 on_more r s a w [] more is = (kept_more r s a w more is.0, is.1)
-on_more r s a w (t ∷ ts) more is = (kept_more r s a w more is.0, is.1, is.2, on_more r s a (other a t w) ts more is.3)
+on_more r s a w (t ∷ ts) more is =
+    (kept_more r s a w more is.0, is.1, is.2, on_more r s a (other a t w) ts more is.3)
 
 -- ---- the present is within reach
-pub kept_back : (r : Rooms) (a : Archived) (w : Numbered) (ts : List Turn) → LeadsBack r a w ts → IsKept r a w
+pub kept_back : (r : Rooms) (a : Archived) (w : Numbered) (ts : List Turn)
+    → LeadsBack r a w ts → IsKept r a w
 unfolding LeadsBack
 kept_back r a w [] is = is.0
 kept_back r a w (t ∷ ts) is = is.0
 
-pub kept_on : (r : Rooms) (a : Archived) (w : Numbered) (ts : List Turn) → LeadsOn r a w ts → IsKept r a w
+pub kept_on : (r : Rooms) (a : Archived) (w : Numbered) (ts : List Turn)
+    → LeadsOn r a w ts → IsKept r a w
 unfolding LeadsOn
 kept_on r a w [] is = is.0
 kept_on r a w (t ∷ ts) is = is.0
@@ -108,7 +139,8 @@ module _ (r : Rooms) (a : Archived) (w : Numbered) (t : Turn) (bs os : List Turn
   abbrev next : Numbered
   next = other a t w
 
-  pub on_after_undo : LeadsBack r a w (t ∷ bs) → LeadsOn r a w os → LeadsOn r a next (turned t w ∷ os)
+  pub on_after_undo : LeadsBack r a w (t ∷ bs) → LeadsOn r a w os
+      → LeadsOn r a next (turned t w ∷ os)
   unfolding LeadsBack LeadsOn
   on_after_undo back on = (
     kept_back r a next bs back.3,
@@ -117,7 +149,8 @@ module _ (r : Rooms) (a : Archived) (w : Numbered) (t : Turn) (bs os : List Turn
     subst (λ x. LeadsOn r a x os) (sym (back_again a t w back.1)) on,
   )
 
-  pub back_after_redo : LeadsOn r a w (t ∷ os) → LeadsBack r a w bs → LeadsBack r a next (turned t w ∷ bs)
+  pub back_after_redo : LeadsOn r a w (t ∷ os) → LeadsBack r a w bs
+      → LeadsBack r a next (turned t w ∷ bs)
   unfolding LeadsBack LeadsOn
   back_after_redo on back = (
     kept_on r a next os on.3,
@@ -130,9 +163,14 @@ module _ (r : Rooms) (a : Archived) (w : Numbered) (t : Turn) (bs os : List Turn
 
 -- the timeline of some turns back and on
 abbrev pub line : Archived → List Turn → Numbered → List Turn → Timeline
-line a bs w os = record { past = worlds_in a (walk a w bs); present = world_in a w; future = worlds_in a (walk a w os) }
+line a bs w os = record {
+  past = worlds_in a (walk a w bs);
+  present = world_in a w;
+  future = worlds_in a (walk a w os);
+}
 
-module _ (k : Kept) (records : List Turn) (d : ℕ) (t : Turn) (within : d < length records) (at_d : t ≡ get_or records d t) where
+module _ (k : Kept) (records : List Turn) (d : ℕ) (t : Turn) (within : d < length records)
+    (at_d : t ≡ get_or records d t) where
   abbrev after_it : Numbered
   after_it = other k.archive t k.now
 
@@ -175,7 +213,8 @@ module _ (k : Kept) (records : List Turn) (d : ℕ) (t : Turn) (within : d < len
     unfolding LeadsOn
     redo_kept = kept_on k.rooms k.archive after_it (turns_on undo_from) redo_can.3
 
-  module _ (l : Kept) (u : Turn) (archive : l.archive ≡ k.archive) (now : l.now ≡ other k.archive t k.now) (turn : u ≡ turned t k.now)
+  module _ (l : Kept) (u : Turn) (archive : l.archive ≡ k.archive)
+      (now : l.now ≡ other k.archive t k.now) (turn : u ≡ turned t k.now)
       (rooms : KeepsRooms k.rooms l.rooms) where
     abbrev undo_to : Recorded
     undo_to = record { kept = l; records = slice_set records d u; done = d }
@@ -190,7 +229,8 @@ module _ (k : Kept) (records : List Turn) (d : ℕ) (t : Turn) (within : d < len
     undo_on = drop-set records d u within
 
     redo_back : turns_back redo_to ≡ u ∷ turns_back redo_from
-    redo_back = ap reverse (take_more_set records d u within) ∙ reverse-append (take d records) (u ∷ [])
+    redo_back =
+        ap reverse (take_more_set records d u within) ∙ reverse-append (take d records) (u ∷ [])
 
     redo_on : turns_on redo_to ≡ turns_on undo_from
     redo_on = drop-set-lt (d + 1) records d u (omega arith)
@@ -207,7 +247,8 @@ module _ (k : Kept) (records : List Turn) (d : ℕ) (t : Turn) (within : d < len
         ap (λ a. line a (turns_back undo_to) l.now (turns_on undo_to)) archive
         ∙ ap (λ bs. line k.archive bs l.now (turns_on undo_to)) undo_back
         ∙ ap (λ w. line k.archive (turns_back redo_from) w (turns_on undo_to)) now
-        ∙ ap (line k.archive (turns_back redo_from) after_it) (undo_on ∙ ap (λ x. x ∷ turns_on undo_from) turn)
+        ∙ ap (line k.archive (turns_back redo_from) after_it)
+        (undo_on ∙ ap (λ x. x ∷ turns_on undo_from) turn)
 
     undo_leaves : undone (timeline_in undo_from) ≡ Ok (undo_lands_at k.now)
     unfolding undone
@@ -215,17 +256,23 @@ module _ (k : Kept) (records : List Turn) (d : ℕ) (t : Turn) (within : d < len
 
     pub undo_is : IsRecorded undo_from → undone (timeline_in undo_from) ≡ Ok (timeline_in undo_to)
     undo_is is =
-        undo_leaves ∙ sym (ap (λ u. Ok u) (undo_lands ∙ ap undo_lands_at (back_again k.archive t k.now (undo_turn is))))
+        undo_leaves ∙ sym (ap (λ u. Ok u)
+        (undo_lands ∙ ap undo_lands_at (back_again k.archive t k.now (undo_turn is))))
 
-    undo_leads_back : IsRecorded undo_from → LeadsBack undo_to.kept.rooms undo_to.kept.archive undo_to.kept.now (turns_back undo_to)
+    undo_leads_back : IsRecorded undo_from
+        → LeadsBack undo_to.kept.rooms undo_to.kept.archive undo_to.kept.now (turns_back undo_to)
     unfolding LeadsBack
-    undo_leads_back is = rw (undo_back, archive, now) (back_more k.rooms l.rooms k.archive after_it (turns_back redo_from) rooms (undo_can is).3)
+    undo_leads_back is =
+        rw (undo_back, archive, now)
+        (back_more k.rooms l.rooms k.archive after_it (turns_back redo_from) rooms (undo_can is).3)
 
-    undo_leads_on : IsRecorded undo_from → LeadsOn undo_to.kept.rooms undo_to.kept.archive undo_to.kept.now (turns_on undo_to)
+    undo_leads_on : IsRecorded undo_from
+        → LeadsOn undo_to.kept.rooms undo_to.kept.archive undo_to.kept.now (turns_on undo_to)
     undo_leads_on is =
         rw (undo_on, archive, now, turn)
         (on_more k.rooms l.rooms k.archive after_it (turned t k.now ∷ turns_on undo_from) rooms
-        (on_after_undo k.rooms k.archive k.now t (turns_back redo_from) (turns_on undo_from) (undo_can is) is.on))
+        (on_after_undo k.rooms k.archive k.now t (turns_back redo_from) (turns_on undo_from)
+        (undo_can is) is.on))
 
     pub undo_recorded : IsRecorded undo_from → IsRecorded undo_to
     undo_recorded is = record {
@@ -248,7 +295,8 @@ module _ (k : Kept) (records : List Turn) (d : ℕ) (t : Turn) (within : d < len
         ap (λ a. line a (turns_back redo_to) l.now (turns_on redo_to)) archive
         ∙ ap (λ os. line k.archive (turns_back redo_to) l.now os) redo_on
         ∙ ap (λ w. line k.archive (turns_back redo_to) w (turns_on undo_from)) now
-        ∙ ap (λ bs. line k.archive bs after_it (turns_on undo_from)) (redo_back ∙ ap (λ x. x ∷ turns_back redo_from) turn)
+        ∙ ap (λ bs. line k.archive bs after_it (turns_on undo_from))
+        (redo_back ∙ ap (λ x. x ∷ turns_back redo_from) turn)
 
     redo_leaves : redone (timeline_in redo_from) ≡ Ok (redo_lands_at k.now)
     unfolding redone
@@ -256,17 +304,23 @@ module _ (k : Kept) (records : List Turn) (d : ℕ) (t : Turn) (within : d < len
 
     pub redo_is : IsRecorded redo_from → redone (timeline_in redo_from) ≡ Ok (timeline_in redo_to)
     redo_is is =
-        redo_leaves ∙ sym (ap (λ u. Ok u) (redo_lands ∙ ap redo_lands_at (back_again k.archive t k.now (redo_turn is))))
+        redo_leaves ∙ sym (ap (λ u. Ok u)
+        (redo_lands ∙ ap redo_lands_at (back_again k.archive t k.now (redo_turn is))))
 
-    redo_leads_back : IsRecorded redo_from → LeadsBack redo_to.kept.rooms redo_to.kept.archive redo_to.kept.now (turns_back redo_to)
+    redo_leads_back : IsRecorded redo_from
+        → LeadsBack redo_to.kept.rooms redo_to.kept.archive redo_to.kept.now (turns_back redo_to)
     redo_leads_back is =
         rw (redo_back, archive, now, turn)
         (back_more k.rooms l.rooms k.archive after_it (turned t k.now ∷ turns_back redo_from) rooms
-        (back_after_redo k.rooms k.archive k.now t (turns_back redo_from) (turns_on undo_from) (redo_can is) is.back))
+        (back_after_redo k.rooms k.archive k.now t (turns_back redo_from) (turns_on undo_from)
+        (redo_can is) is.back))
 
-    redo_leads_on : IsRecorded redo_from → LeadsOn redo_to.kept.rooms redo_to.kept.archive redo_to.kept.now (turns_on redo_to)
+    redo_leads_on : IsRecorded redo_from
+        → LeadsOn redo_to.kept.rooms redo_to.kept.archive redo_to.kept.now (turns_on redo_to)
     unfolding LeadsOn
-    redo_leads_on is = rw (redo_on, archive, now) (on_more k.rooms l.rooms k.archive after_it (turns_on undo_from) rooms (redo_can is).3)
+    redo_leads_on is =
+        rw (redo_on, archive, now)
+        (on_more k.rooms l.rooms k.archive after_it (turns_on undo_from) rooms (redo_can is).3)
 
     pub redo_recorded : IsRecorded redo_from → IsRecorded redo_to
     redo_recorded is = record {
@@ -282,14 +336,21 @@ pub undo_nothing : (h : Recorded) → h.done ≡ 0 → undone (timeline_in h) �
 unfolding undone
 undo_nothing h none = rw none refl
 
-pub redo_nothing : (h : Recorded) → h.done ≡ length h.records → redone (timeline_in h) ≡ Err NothingToRedo
+pub redo_nothing : (h : Recorded) → h.done ≡ length h.records
+    → redone (timeline_in h) ≡ Err NothingToRedo
 unfolding redone
-redo_nothing h all = let none : drop h.done h.records ≡ [] = drop_all h.done h.records (omega (arith, all)) in rw none refl
+redo_nothing h all =
+    let none : drop h.done h.records ≡ [] = drop_all h.done h.records (omega (arith, all)) in
+    rw none refl
 
 -- the world without a file is within reach
 empty_is_valid : IsValidWorld empty_world
 unfolding IsStrictlySortedBy
-empty_is_valid = record { files = record { names = tt; sizes = tt; count = omega arith; ascending = tt }; marks = refl; frames = tt }
+empty_is_valid = record {
+  files = record { names = tt; sizes = tt; count = omega arith; ascending = tt };
+  marks = refl;
+  frames = tt;
+}
 
 pub new_valid : IsValidTimeline new_timeline
 new_valid = record { before = tt; now = empty_is_valid; later = tt; bounded = omega arith }
@@ -307,12 +368,31 @@ nothing_recorded k is names texts = record {
   where
     none : IsKept k.rooms k.archive k.now
     none = rw is (record {
-      there = record { shown = tt; marks = tt; frames = tt; names = omega arith; versions = omega arith };
-      fits = record { files = omega arith; defs = omega arith; uses = omega arith; calls = omega arith; marks = omega arith; frames = omega arith };
+      there = record {
+        shown = tt;
+        marks = tt;
+        frames = tt;
+        names = omega arith;
+        versions = omega arith;
+      };
+      fits = record {
+        files = omega arith;
+        defs = omega arith;
+        uses = omega arith;
+        calls = omega arith;
+        marks = omega arith;
+        frames = omega arith;
+      };
     })
 
     no_past : LeadsBack k.rooms k.archive k.now []
-    no_past = (none, record { names = ap (λ (w : Numbered). w.names) is; versions = ap (λ (w : Numbered). w.versions) is })
+    no_past = (
+      none,
+      record {
+        names = ap (λ (w : Numbered). w.names) is;
+        versions = ap (λ (w : Numbered). w.versions) is;
+      },
+    )
 
     no_future : LeadsOn k.rooms k.archive k.now []
     no_future = (

@@ -205,7 +205,8 @@ pub(crate) fn push_edits(
 /// The edits that take the last place out, if there is one.
 pub(crate) fn pop_edits(alloc: Global, places: &[NumberedPlace]) -> Result<Vec<Edit>, AllocError>
     ensures { IfOk result
-        (λ edits. IsEachDifference edits.items places.now (take (length places.now - 1) places.now)) }
+        (λ edits. IsEachDifference edits.items places.now
+        (take (length places.now - 1) places.now)) }
 {
     match places.split_last() {
         Some((last, rest)) => one_edit(

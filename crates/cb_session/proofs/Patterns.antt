@@ -1,10 +1,17 @@
 -- A question that is read has a pattern.
-use Rattle.std.proofs.Common.{◌≡◌, ℕ, Bool, true, false, cond, ◌||◌, List, [], ◌∷◌, Option, Some, None, sym, subst, nat_lt, nat_eq, codes}
+use Rattle.std.proofs.Common.{◌≡◌, ℕ, Bool, true, false, cond, ◌||◌, List, [], ◌∷◌, Option, Some}
+use Rattle.std.proofs.Common.{None, sym, subst, nat_lt, nat_eq, codes}
 use Rattle.std.specs.List.{position}
 use Rattle.std.specs.Str.{bytes_eq}
-use Rattle.cb_session.specs.Commands.{words_in, cut_at, letter_q, end_of_transmission, tags_numbered, tags_words, drop_words, rename_words, mark_numbered, mark_words, to_text, want_of, field_line, digit_5, tag_numbered, tag_words, alone, number_in, is_space, is_digit, load_sized, load_words, query_of, command, command_line, short_line}
+use Rattle.cb_session.specs.Commands.{words_in, cut_at, letter_q, end_of_transmission}
+use Rattle.cb_session.specs.Commands.{tags_numbered, tags_words, drop_words, rename_words}
+use Rattle.cb_session.specs.Commands.{mark_numbered, mark_words, to_text, want_of, field_line}
+use Rattle.cb_session.specs.Commands.{digit_5, tag_numbered, tag_words, alone, number_in, is_space}
+use Rattle.cb_session.specs.Commands.{is_digit, load_sized, load_words, query_of, command}
+use Rattle.cb_session.specs.Commands.{command_line, short_line}
 use Rattle.cb_session.specs.Models.{HasPattern}
-use Rattle.cb_session.specs.Requests.{Request, refused, quit, change, undo, redo, rebuild, tags_file, listing, marks, stack, LineRequest, whole, block}
+use Rattle.cb_session.specs.Requests.{Request, refused, quit, change, undo, redo, rebuild}
+use Rattle.cb_session.specs.Requests.{tags_file, listing, marks, stack, LineRequest, whole, block}
 use Rattle.cb_desk.specs.declared.refusal.Refusal.TheVariants.{BadCount}
 use Rattle.cb_desk.specs.declared.rows.Field.{Field}
 use Rattle.cb_desk.specs.Answer.{field_of_digit}
@@ -19,18 +26,22 @@ IsPatterned (whole e) = HasPattern e
 IsPatterned (block purpose name n) = Unit {0}
 
 -- both choices do, and so the choice
-IsPatterned-choice : (b : Bool) (x y : LineRequest) → IsPatterned x → IsPatterned y → IsPatterned (cond b x y)
+IsPatterned-choice : (b : Bool) (x y : LineRequest) → IsPatterned x → IsPatterned y
+    → IsPatterned (cond b x y)
 IsPatterned-choice true x y p q = p
 IsPatterned-choice false x y p q = q
 
-load_sized-patterned : (purpose : Purpose) (name : List ℕ) (n : Option ℕ) → IsPatterned (load_sized purpose name n)
+load_sized-patterned : (purpose : Purpose) (name : List ℕ) (n : Option ℕ)
+    → IsPatterned (load_sized purpose name n)
 load_sized-patterned purpose name None = tt
 load_sized-patterned purpose name (Some n) = IsPatterned-choice (nat_lt MOST_BYTES n) _ _ tt tt
 
-load_words-patterned : (purpose : Purpose) (words : List (List ℕ)) → IsPatterned (load_words purpose words)
+load_words-patterned : (purpose : Purpose) (words : List (List ℕ))
+    → IsPatterned (load_words purpose words)
 load_words-patterned purpose [] = load_sized-patterned purpose [] (number_in [])
 load_words-patterned purpose (name ∷ []) = load_sized-patterned purpose name (number_in [])
-load_words-patterned purpose (name ∷ count ∷ []) = load_sized-patterned purpose name (number_in count)
+load_words-patterned purpose (name ∷ count ∷ []) =
+    load_sized-patterned purpose name (number_in count)
 load_words-patterned purpose (name ∷ count ∷ more ∷ others) = tt
 
 query_of-patterned : (field : Option Field) (pattern : List ℕ) → HasPattern (query_of field pattern)
@@ -41,9 +52,12 @@ query_of-patterned (Some field) (b ∷ bs) = λ e. cc
 tags_numbered-patterned : (n : Option ℕ) → HasPattern (tags_numbered n)
 tags_numbered-patterned None = tt
 tags_numbered-patterned (Some n) =
-    elim (nat_eq n 1) as (λ b. HasPattern (cond b (tags_file Plain) (cond (nat_eq n 2) (tags_file Extended) (refused BadCount)))) [
+    elim (nat_eq n 1) as (λ b. HasPattern
+    (cond b (tags_file Plain) (cond (nat_eq n 2) (tags_file Extended) (refused BadCount)))) [
       | true ↦ tt
-      | false ↦ elim (nat_eq n 2) as (λ b. HasPattern (cond b (tags_file Extended) (refused BadCount))) [ true ↦ tt | false ↦ tt ]
+      | false ↦ elim (nat_eq n 2) as
+          (λ b. HasPattern (cond b (tags_file Extended) (refused BadCount)))
+          [ true ↦ tt | false ↦ tt ]
     ]
 
 tags_words-patterned : (words : List (List ℕ)) → HasPattern (tags_words words)
@@ -96,19 +110,27 @@ command-patterned word rest =
     IsPatterned-choice (bytes_eq word (codes "r")) _ _ (alone-patterned rebuild words tt)
     (IsPatterned-choice (bytes_eq word (codes ":load")) _ _ (load_words-patterned Load words)
     (IsPatterned-choice (bytes_eq word (codes ":reload")) _ _ (load_words-patterned Reload words)
-    (IsPatterned-choice (bytes_eq word (codes ":drop")) (whole (drop_words words)) _ (drop_words-patterned words)
-    (IsPatterned-choice (bytes_eq word (codes ":rename")) (whole (rename_words words)) _ (rename_words-patterned words)
-    (IsPatterned-choice (bytes_eq word (codes ":mark")) (whole (mark_words words)) _ (mark_words-patterned words)
-    (IsPatterned-choice (bytes_eq word (codes ":markall")) _ _ (alone-patterned (change mark_all) words tt)
-    (IsPatterned-choice (bytes_eq word (codes ":to")) (whole (to_text rest)) _ (to_text-patterned rest)
-    (IsPatterned-choice (bytes_eq word (codes ":tag")) (whole (tag_words words)) _ (tag_words-patterned words)
+    (IsPatterned-choice (bytes_eq word (codes ":drop")) (whole (drop_words words)) _
+    (drop_words-patterned words)
+    (IsPatterned-choice (bytes_eq word (codes ":rename")) (whole (rename_words words)) _
+    (rename_words-patterned words)
+    (IsPatterned-choice (bytes_eq word (codes ":mark")) (whole (mark_words words)) _
+    (mark_words-patterned words)
+    (IsPatterned-choice (bytes_eq word (codes ":markall")) _ _
+    (alone-patterned (change mark_all) words tt)
+    (IsPatterned-choice (bytes_eq word (codes ":to")) (whole (to_text rest)) _
+    (to_text-patterned rest)
+    (IsPatterned-choice (bytes_eq word (codes ":tag")) (whole (tag_words words)) _
+    (tag_words-patterned words)
     (IsPatterned-choice (bytes_eq word (codes ":pop")) _ _ (alone-patterned (change pop) words tt)
     (IsPatterned-choice (bytes_eq word (codes ":undo")) _ _ (alone-patterned undo words tt)
     (IsPatterned-choice (bytes_eq word (codes ":redo")) _ _ (alone-patterned redo words tt)
-    (IsPatterned-choice (bytes_eq word (codes ":tags")) (whole (tags_words words)) _ (tags_words-patterned words)
+    (IsPatterned-choice (bytes_eq word (codes ":tags")) (whole (tags_words words)) _
+    (tags_words-patterned words)
     (IsPatterned-choice (bytes_eq word (codes ":listing")) _ _ (alone-patterned listing words tt)
     (IsPatterned-choice (bytes_eq word (codes ":marks")) _ _ (alone-patterned marks words tt)
-    (IsPatterned-choice (bytes_eq word (codes ":stack")) _ _ (alone-patterned stack words tt) tt)))))))))))))))
+    (IsPatterned-choice (bytes_eq word (codes ":stack")) _ _
+    (alone-patterned stack words tt) tt)))))))))))))))
 
 want_of-patterned : (text : List ℕ) → HasPattern (want_of text)
 want_of-patterned [] = tt
@@ -116,7 +138,8 @@ want_of-patterned (b ∷ bs) = tt
 
 field_line-patterned : (b : ℕ) (bs : List ℕ) → HasPattern (field_line b bs)
 field_line-patterned b bs =
-    elim (nat_eq b digit_5) as (λ is. HasPattern (cond is (want_of bs) (query_of (field_of_digit b) bs))) [
+    elim (nat_eq b digit_5) as
+    (λ is. HasPattern (cond is (want_of bs) (query_of (field_of_digit b) bs))) [
       | true ↦ want_of-patterned bs
       | false ↦ query_of-patterned (field_of_digit b) bs
     ]
@@ -126,7 +149,8 @@ short_line-patterned [] = tt
 short_line-patterned (b ∷ bs) =
     let parts = cut_at (b ∷ bs) (position is_space (b ∷ bs)) in
     IsPatterned-choice (nat_eq b letter_q || nat_eq b end_of_transmission) (whole quit) _ tt
-    (IsPatterned-choice (is_digit b) (whole (field_line b bs)) (command_line (b ∷ bs)) (field_line-patterned b bs) (command-patterned parts.0 parts.1))
+    (IsPatterned-choice (is_digit b) (whole (field_line b bs)) (command_line (b ∷ bs))
+    (field_line-patterned b bs) (command-patterned parts.0 parts.1))
 
 -- the request of a line has its pattern
 pub HasPattern-whole : (line : List ℕ) (e : Request) → whole e ≡ short_line line → HasPattern e

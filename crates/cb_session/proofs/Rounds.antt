@@ -1,17 +1,20 @@
 -- A run, round by round.
-use Rattle.std.proofs.Common.{◌≡◌, ◌⊎◌, ℕ, zero, suc, Bool, true, false, List, [], ◌∷◌, ◌++◌, Option, Some, None, Ok}
+use Rattle.std.proofs.Common.{◌≡◌, ◌⊎◌, ℕ, zero, suc, Bool, true, false, List, [], ◌∷◌, ◌++◌}
+use Rattle.std.proofs.Common.{Option, Some, None, Ok}
 use Rattle.std.proofs.Common.{refl, sym, ap, ◌∙◌, subst, append_assoc, append-nil, ⊎_elim}
 use Rattle.std.specs.Io.KnownBytes.{Appends, Keeps}
 use Rattle.std.proofs.KnownBytes.{Appends-trans, Appends-nil, Appends-kept}
 use Rattle.cb_session.specs.declared.input.Ended.{Ended}
 use Rattle.cb_session.specs.declared.input.Ended.TheVariants.{Done, Cut, Fault, Operand}
-use Rattle.cb_session.specs.declared.input.Fault.TheVariants.{Read, Write, Memory, LongLine, ManyLines}
+use Rattle.cb_session.specs.declared.input.Fault.TheVariants.{Read, Write, Memory, LongLine}
+use Rattle.cb_session.specs.declared.input.Fault.TheVariants.{ManyLines}
 use Rattle.cb_desk.specs.Timeline.{Timeline}
 use Rattle.cb_tags.specs.Writers.{Writer}
 use Rattle.cb_session.specs.Devices.{Reader, WhateverFollows, leaving}
 use Rattle.cb_session.specs.Inputs.{First, Inputs, first, inputs, ending_of, begin_with}
 use Rattle.cb_session.specs.Requests.{Request}
-use Rattle.cb_session.specs.Serving.{FirstLeadTo, HandsOn, IsCutShort, IsLeft, Leaves, LeavesRun, LeavesSession}
+use Rattle.cb_session.specs.Serving.{FirstLeadTo, HandsOn, IsCutShort, IsLeft, Leaves, LeavesRun}
+use Rattle.cb_session.specs.Serving.{LeavesSession}
 use Rattle.cb_session.specs.States.{LeadTo, Leads, State}
 use Rattle.cb_session.specs.steps.Rounds.{EndsRound, LeavesRound, is_unread}
 use Rattle.cb_session.specs.Output.{outcome, exchange, output}
@@ -21,18 +24,22 @@ use Rattle.cb_tags.proofs.Prefixes.{AppendsPrefix-more, AppendsPrefix-after, App
 
 -- the inputs after a request that doesn't end the run, and those of a request that does
 pub inputs-on : (n limit : ℕ) (rest : List ℕ) → ending_of (first limit rest).request ≡ None
-    → inputs (suc n) limit rest ≡ begin_with (first limit rest) None (inputs n limit (first limit rest).rest)
+    → inputs (suc n) limit rest
+    ≡ begin_with (first limit rest) None (inputs n limit (first limit rest).rest)
 unfolding inputs
-inputs-on n limit rest h = ap (λ e. begin_with (first limit rest) e (inputs n limit (first limit rest).rest)) h
+inputs-on n limit rest h =
+    ap (λ e. begin_with (first limit rest) e (inputs n limit (first limit rest).rest)) h
 
-inputs-last : (n limit : ℕ) (rest : List ℕ) (ended : Ended) → ending_of (first limit rest).request ≡ Some ended
+inputs-last : (n limit : ℕ) (rest : List ℕ) (ended : Ended)
+    → ending_of (first limit rest).request ≡ Some ended
     → inputs (suc n) limit rest ≡ record {
       requests = (first limit rest).request ∷ [];
       ending = ended;
       rest = (first limit rest).rest;
     }
 unfolding inputs
-inputs-last n limit rest ended h = ap (λ e. begin_with (first limit rest) e (inputs n limit (first limit rest).rest)) h
+inputs-last n limit rest ended h =
+    ap (λ e. begin_with (first limit rest) e (inputs n limit (first limit rest).rest)) h
 
 begins : (f : First) (o : Option Ended) (i : Inputs)
     → (es : List Request) × ((begin_with f o i).requests ≡ f.request ∷ es)
@@ -81,7 +88,8 @@ pub record Rounds (lines limit : ℕ) (bytes : List ℕ) (start : State) (old : 
   pub done : List Request
   pub unread : feed.bytes ≡ Some rest
   pub wrote : Appends old.bytes out.bytes so_far
-  pub said : (ms : List Bool) (es : List Request) → output (refusals ++ ms) start.timeline (done ++ es) ≡ so_far ++ output ms t.timeline es
+  pub said : (ms : List Bool) (es : List Request)
+      → output (refusals ++ ms) start.timeline (done ++ es) ≡ so_far ++ output ms t.timeline es
   pub ending : (inputs lines limit bytes).ending ≡ (inputs left limit rest).ending
   pub behind : (inputs lines limit bytes).rest ≡ (inputs left limit rest).rest
   pub are : (inputs lines limit bytes).requests ≡ done ++ (inputs left limit rest).requests
@@ -89,11 +97,14 @@ pub record Rounds (lines limit : ℕ) (bytes : List ℕ) (start : State) (old : 
       → LeadTo (refusals ++ ms) start (done ++ es) next
 
 -- the whole output
-Rounds-text : {lines limit : ℕ} {bytes : List ℕ} {start : State} {old : Writer} {left : ℕ} {t : State} {feed : Reader} {out : Writer}
+Rounds-text : {lines limit : ℕ} {bytes : List ℕ} {start : State} {old : Writer} {left : ℕ}
+    {t : State} {feed : Reader} {out : Writer}
     (r : Rounds lines limit bytes start old left t feed out) (ms : List Bool)
-    → output (r.refusals ++ ms) start.timeline (inputs lines limit bytes).requests ≡ r.so_far ++ output ms t.timeline (inputs left limit r.rest).requests
+    → output (r.refusals ++ ms) start.timeline (inputs lines limit bytes).requests
+    ≡ r.so_far ++ output ms t.timeline (inputs left limit r.rest).requests
 Rounds-text {lines = lines} {limit = limit} {start = start} {left = left} r ms =
-    ap (λ es. output (r.refusals ++ ms) start.timeline es) r.are ∙ r.said ms (inputs left limit r.rest).requests
+    ap (λ es. output (r.refusals ++ ms) start.timeline es) r.are
+    ∙ r.said ms (inputs left limit r.rest).requests
 
 pub Rounds-start : (lines limit : ℕ) (bytes : List ℕ) (start : State) (old : Writer)
     (feed : Reader) → feed.bytes ≡ Some bytes
@@ -126,41 +137,53 @@ Rounds-more lines limit bytes start old left t next feed after out new out_of_me
       refusals = r.refusals ++ out_of_memory ∷ [];
       so_far = r.so_far ++ exchange out_of_memory t.timeline f.request;
       unread = h.1;
-      wrote = Appends-trans old.bytes out.bytes new.bytes r.so_far (exchange out_of_memory t.timeline f.request) r.wrote h.3;
+      wrote =
+          Appends-trans old.bytes out.bytes new.bytes r.so_far
+          (exchange out_of_memory t.timeline f.request) r.wrote h.3;
       said = λ ms es.
-          (λ i. output (append_assoc r.refusals (out_of_memory ∷ []) ms i) start.timeline (append_assoc r.done (f.request ∷ []) es i))
+          (λ i. output (append_assoc r.refusals (out_of_memory ∷ []) ms i) start.timeline
+          (append_assoc r.done (f.request ∷ []) es i))
           ∙ r.said (out_of_memory ∷ ms) (f.request ∷ es)
           ∙ ap (λ l. r.so_far ++ l) (output-cons out_of_memory ms t.timeline f.request es)
-          ∙ ap (λ u. r.so_far ++ (exchange out_of_memory t.timeline f.request ++ output ms u es)) (sym h.2.moves)
-          ∙ sym (append_assoc r.so_far (exchange out_of_memory t.timeline f.request) (output ms next.timeline es));
+          ∙ ap (λ u. r.so_far ++ (exchange out_of_memory t.timeline f.request ++ output ms u es))
+          (sym h.2.moves)
+          ∙ sym (append_assoc r.so_far (exchange out_of_memory t.timeline f.request)
+          (output ms next.timeline es));
       ending = r.ending ∙ ap (λ i. i.ending) on;
       behind = r.behind ∙ ap (λ i. i.rest) on;
       done = r.done ++ f.request ∷ [];
       are = r.are ∙ ap (λ i. r.done ++ i.requests) on
           ∙ sym (append_assoc r.done (f.request ∷ []) (inputs left limit f.rest).requests);
       led = λ ms es then later.
-          subst (λ bs. LeadTo bs start ((r.done ++ f.request ∷ []) ++ es) then) (sym (append_assoc r.refusals (out_of_memory ∷ []) ms))
-          (subst (λ l. LeadTo (r.refusals ++ out_of_memory ∷ ms) start l then) (sym (append_assoc r.done (f.request ∷ []) es))
-          (r.led (out_of_memory ∷ ms) (f.request ∷ es) then (led-cons out_of_memory ms t next then f.request es h.2 later)));
+          subst (λ bs. LeadTo bs start ((r.done ++ f.request ∷ []) ++ es) then)
+          (sym (append_assoc r.refusals (out_of_memory ∷ []) ms))
+          (subst (λ l. LeadTo (r.refusals ++ out_of_memory ∷ ms) start l then)
+          (sym (append_assoc r.done (f.request ∷ []) es))
+          (r.led (out_of_memory ∷ ms) (f.request ∷ es)
+          then (led-cons out_of_memory ms t next then f.request es h.2 later)));
     }
 
 -- a fault in a round: a prefix of the output is written
 Rounds-prefix : (lines limit : ℕ) (bytes : List ℕ) (start : State) (old : Writer) (left : ℕ)
     (t : State) (feed : Reader) (out new : Writer) (out_of_memory : Bool)
     → (r : Rounds lines limit bytes start old (suc left) t feed out)
-    → AppendsPrefix out.bytes new.bytes (exchange out_of_memory t.timeline (first limit r.rest).request)
+    → AppendsPrefix out.bytes new.bytes
+    (exchange out_of_memory t.timeline (first limit r.rest).request)
     → AppendsPrefix old.bytes new.bytes (output (r.refusals ++ out_of_memory ∷ []) start.timeline
     (inputs lines limit bytes).requests)
 Rounds-prefix lines limit bytes start old left t feed out new out_of_memory r h =
     let f = first limit r.rest in
     let b = inputs-begin left limit r.rest in
     let after = output [] (outcome out_of_memory t.timeline f.request).timeline b.0 in
-    let whole : output (r.refusals ++ out_of_memory ∷ []) start.timeline (inputs lines limit bytes).requests
+    let whole : output (r.refusals ++ out_of_memory ∷ []) start.timeline
+    (inputs lines limit bytes).requests
     ≡ r.so_far ++ (exchange out_of_memory t.timeline f.request ++ after) =
-    Rounds-text r (out_of_memory ∷ []) ∙ ap (λ es. r.so_far ++ output (out_of_memory ∷ []) t.timeline es) b.1
+    Rounds-text r (out_of_memory ∷ [])
+    ∙ ap (λ es. r.so_far ++ output (out_of_memory ∷ []) t.timeline es) b.1
     ∙ ap (λ l. r.so_far ++ l) (output-cons out_of_memory [] t.timeline f.request b.0) in
     subst (λ l. AppendsPrefix old.bytes new.bytes l) (sym whole)
-    (AppendsPrefix-after old.bytes out.bytes new.bytes r.so_far (exchange out_of_memory t.timeline f.request ++ after) r.wrote
+    (AppendsPrefix-after old.bytes out.bytes new.bytes r.so_far
+    (exchange out_of_memory t.timeline f.request ++ after) r.wrote
     (AppendsPrefix-more out.bytes new.bytes (exchange out_of_memory t.timeline f.request) after h))
 
 -- the last round: the whole output is written, and the bytes behind it are left
@@ -168,20 +191,24 @@ pub record Ends (lines limit : ℕ) (bytes : List ℕ) (start : State) (old : Wr
     (refusals : List Bool) (left : List ℕ) (new : Writer) (ended : Ended) : Type 0 where
   pub ending : Some (inputs lines limit bytes).ending ≡ Some ended
   pub behind : left ≡ (inputs lines limit bytes).rest
-  pub wrote : Appends old.bytes new.bytes (output refusals start.timeline (inputs lines limit bytes).requests)
+  pub wrote : Appends old.bytes new.bytes
+      (output refusals start.timeline (inputs lines limit bytes).requests)
 
 Rounds-last : (lines limit : ℕ) (bytes : List ℕ) (start : State) (old : Writer) (left : ℕ)
     (t : State) (feed : Reader) (out new : Writer) (out_of_memory : Bool) (ended : Ended)
     → (r : Rounds lines limit bytes start old (suc left) t feed out)
     → ending_of (first limit r.rest).request ≡ Some ended
     → Appends out.bytes new.bytes (exchange out_of_memory t.timeline (first limit r.rest).request)
-    → Ends lines limit bytes start old (r.refusals ++ out_of_memory ∷ []) (first limit r.rest).rest new ended
+    → Ends lines limit bytes start old (r.refusals ++ out_of_memory ∷ [])
+    (first limit r.rest).rest new ended
 Rounds-last lines limit bytes start old left t feed out new out_of_memory ended r e h =
     let f = first limit r.rest in
     let last = inputs-last left limit r.rest ended e in
-    let whole : output (r.refusals ++ out_of_memory ∷ []) start.timeline (inputs lines limit bytes).requests
+    let whole : output (r.refusals ++ out_of_memory ∷ []) start.timeline
+    (inputs lines limit bytes).requests
     ≡ r.so_far ++ exchange out_of_memory t.timeline f.request =
-    Rounds-text r (out_of_memory ∷ []) ∙ ap (λ i. r.so_far ++ output (out_of_memory ∷ []) t.timeline i.requests) last
+    Rounds-text r (out_of_memory ∷ [])
+    ∙ ap (λ i. r.so_far ++ output (out_of_memory ∷ []) t.timeline i.requests) last
     ∙ ap (λ l. r.so_far ++ l) (output-cons out_of_memory [] t.timeline f.request []
     ∙ ap (λ l. exchange out_of_memory t.timeline f.request ++ l)
     (output-nil [] (outcome out_of_memory t.timeline f.request).timeline)
@@ -201,10 +228,14 @@ Rounds-whole : (lines limit : ℕ) (bytes : List ℕ) (start : State) (old : Wri
     → ending_of (first limit r.rest).request ≡ Some ended
     → after.bytes ≡ Some (first limit r.rest).rest
     → Appends out.bytes new.bytes (exchange out_of_memory t.timeline (first limit r.rest).request)
-    → (Some (inputs lines limit bytes).ending ≡ Some ended) × (after.bytes ≡ Some (inputs lines limit bytes).rest)
-    × Appends old.bytes new.bytes (output (r.refusals ++ out_of_memory ∷ []) start.timeline (inputs lines limit bytes).requests)
-Rounds-whole lines limit bytes start old left t feed after out new out_of_memory ended r e unread h =
-    let last = Rounds-last lines limit bytes start old left t feed out new out_of_memory ended r e h in
+    → (Some (inputs lines limit bytes).ending ≡ Some ended)
+    × (after.bytes ≡ Some (inputs lines limit bytes).rest)
+    × Appends old.bytes new.bytes
+    (output (r.refusals ++ out_of_memory ∷ []) start.timeline (inputs lines limit bytes).requests)
+Rounds-whole lines limit bytes start old left t feed after out new out_of_memory
+    ended r e unread h =
+    let last =
+    Rounds-last lines limit bytes start old left t feed out new out_of_memory ended r e h in
     (last.ending, unread ∙ ap Some last.behind, last.wrote)
 
 -- where a round that ends the run leaves the session
@@ -224,7 +255,8 @@ Rounds-moved : (lines limit : ℕ) (bytes : List ℕ) (start : State) (old : Wri
     (t : State) (feed : Reader) (out : Writer) (out_of_memory : Bool) (next : State)
     → (r : Rounds lines limit bytes start old (suc left) t feed out)
     → Leads out_of_memory t (first limit r.rest).request next
-    → LeadTo (r.refusals ++ out_of_memory ∷ []) start (r.done ++ (first limit r.rest).request ∷ []) next
+    → LeadTo (r.refusals ++ out_of_memory ∷ []) start
+    (r.done ++ (first limit r.rest).request ∷ []) next
 Rounds-moved lines limit bytes start old left t feed out out_of_memory next r moved =
     let e = (first limit r.rest).request in
     r.led (out_of_memory ∷ []) (e ∷ []) next
@@ -289,18 +321,23 @@ Rounds-end lines limit bytes start old left t next feed after out new
       Rounds-prefix lines limit bytes start old left t feed out new out_of_memory r h.0,
       Rounds-first lines limit bytes start old left t feed out out_of_memory next r h.1,
     )
-Rounds-end lines limit bytes start old left t next feed after out new out_of_memory (Fault LongLine) r h =
-    let last = Rounds-last lines limit bytes start old left t feed out new out_of_memory (Fault LongLine) r h.0.0 h.0.1 in (
+Rounds-end lines limit bytes start old left t next feed after out new out_of_memory
+    (Fault LongLine) r h =
+    let last =
+    Rounds-last lines limit bytes start old left t feed out new out_of_memory
+    (Fault LongLine) r h.0.0 h.0.1 in (
       r.refusals ++ out_of_memory ∷ [],
       (last.ending, last.wrote),
-      Rounds-all lines limit bytes start old left t feed out out_of_memory (Fault LongLine) next r h.0.0 h.1,
+      Rounds-all lines limit bytes start old left t feed out out_of_memory
+          (Fault LongLine) next r h.0.0 h.1,
     )
 Rounds-end lines limit bytes start old left t next feed after out new
     out_of_memory (Fault ManyLines) r h = (
       r.refusals ++ out_of_memory ∷ [],
       Rounds-whole lines limit bytes start old left t feed after out new
           out_of_memory (Fault ManyLines) r h.0.0 h.0.1 h.0.2,
-      Rounds-all lines limit bytes start old left t feed out out_of_memory (Fault ManyLines) next r h.0.0 h.1,
+      Rounds-all lines limit bytes start old left t feed out out_of_memory
+          (Fault ManyLines) next r h.0.0 h.1,
     )
 Rounds-end lines limit bytes start old left t next feed after out new
     out_of_memory Done r h = (
@@ -321,7 +358,8 @@ Rounds-end lines limit bytes start old left t next feed after out new
       r.refusals ++ out_of_memory ∷ [],
       Rounds-whole lines limit bytes start old left t feed after out new
           out_of_memory (Operand place why) r h.0.0 h.0.1 h.0.2,
-      Rounds-all lines limit bytes start old left t feed out out_of_memory (Operand place why) next r h.0.0 h.1,
+      Rounds-all lines limit bytes start old left t feed out out_of_memory
+          (Operand place why) next r h.0.0 h.1,
     )
 
 -- no line is left
@@ -331,7 +369,8 @@ pub Rounds-out : (lines limit : ℕ) (bytes : List ℕ) (start : State) (old : W
     → LeavesSession (inputs lines limit bytes) start t feed old out (Fault ManyLines)
 Rounds-out lines limit bytes start old t feed out r =
     let none = inputs-out limit r.rest in
-    let whole : output (r.refusals ++ []) start.timeline (inputs lines limit bytes).requests ≡ r.so_far =
+    let whole : output (r.refusals ++ []) start.timeline (inputs lines limit bytes).requests
+    ≡ r.so_far =
     Rounds-text r [] ∙ ap (λ i. r.so_far ++ output [] t.timeline i.requests) none
     ∙ ap (λ l. r.so_far ++ l) (output-nil [] t.timeline) ∙ append-nil r.so_far in (
       r.refusals ++ [],
@@ -340,7 +379,8 @@ Rounds-out lines limit bytes start old t feed out r =
         r.unread ∙ ap Some (sym (r.behind ∙ ap (λ i. i.rest) none)),
         subst (λ l. Appends old.bytes out.bytes l) (sym whole) r.wrote,
       ),
-      subst (λ es. LeadTo (r.refusals ++ []) start es t) (sym (r.are ∙ ap (λ i. r.done ++ i.requests) none))
+      subst (λ es. LeadTo (r.refusals ++ []) start es t)
+          (sym (r.are ∙ ap (λ i. r.done ++ i.requests) none))
           (r.led [] [] t (led-nil [] t t refl)),
     )
 
@@ -362,7 +402,8 @@ pub Rounds-stop : (lines limit : ℕ) (bytes : List ℕ) (start : State) (old : 
     (t next : State) (feed after : Reader) (out new : Writer) (ended : Ended)
     → n ≡ suc left → Rounds lines limit bytes start old n t feed out
     → ((rest : List ℕ) → feed.bytes ≡ Some rest
-    → (out_of_memory : Bool) × EndsRound out_of_memory (first limit rest) t next after out new ended)
+    → (out_of_memory : Bool)
+    × EndsRound out_of_memory (first limit rest) t next after out new ended)
     → LeavesSession (inputs lines limit bytes) start next after old new ended
 Rounds-stop lines limit bytes start old n left t next feed after out new ended e s h =
     let r : Rounds lines limit bytes start old (suc left) t feed out =
@@ -386,7 +427,8 @@ pub Follows-next : (lines limit : ℕ) (start : State) (old : Writer) (n left : 
     → WhateverFollows feed after (λ bytes at. Rounds lines limit bytes start old left next at new)
 Follows-next lines limit start old n left t next feed mid after out new e s h =
     Follows-then feed mid after (λ bytes at. Rounds lines limit bytes start old n t at out)
-    (λ bytes at. (out_of_memory : Bool) × LeavesRound out_of_memory (first limit bytes) t next at out new (Ok None))
+    (λ bytes at. (out_of_memory : Bool)
+    × LeavesRound out_of_memory (first limit bytes) t next at out new (Ok None))
     (λ bytes at. Rounds lines limit bytes start old left next at new) s h
     (λ bytes more at rounds round.
     Rounds-next lines limit bytes start old n left t next (leaving mid more) at out new e rounds
@@ -399,21 +441,26 @@ pub Follows-stop : (lines limit : ℕ) (start : State) (old : Writer) (n left : 
     → WhateverFollows feed mid (λ bytes at. Rounds lines limit bytes start old n t at out)
     → WhateverFollows mid after (λ bytes at. (out_of_memory : Bool)
     × EndsRound out_of_memory (first limit bytes) t next at out new ended)
-    → WhateverFollows feed after (λ bytes at. LeavesSession (inputs lines limit bytes) start next at old new ended)
+    → WhateverFollows feed after
+    (λ bytes at. LeavesSession (inputs lines limit bytes) start next at old new ended)
 Follows-stop lines limit start old n left t next feed mid after out new ended e s h =
     Follows-then feed mid after (λ bytes at. Rounds lines limit bytes start old n t at out)
-    (λ bytes at. (out_of_memory : Bool) × EndsRound out_of_memory (first limit bytes) t next at out new ended)
+    (λ bytes at.
+    (out_of_memory : Bool) × EndsRound out_of_memory (first limit bytes) t next at out new ended)
     (λ bytes at. LeavesSession (inputs lines limit bytes) start next at old new ended) s h
     (λ bytes more at rounds round.
-    Rounds-stop lines limit bytes start old n left t next (leaving mid more) at out new ended e rounds
+    Rounds-stop lines limit bytes start old n left t next
+    (leaving mid more) at out new ended e rounds
     (λ rest same.
-    subst (λ l. (out_of_memory : Bool) × EndsRound out_of_memory (first limit l) t next at out new ended)
+    subst
+    (λ l. (out_of_memory : Bool) × EndsRound out_of_memory (first limit l) t next at out new ended)
     (Some-same more rest same) round))
 
 pub Follows-out : (lines limit : ℕ) (start : State) (old : Writer) (n : ℕ) (t : State)
     (feed after : Reader) (out : Writer) → n ≡ zero
     → WhateverFollows feed after (λ bytes at. Rounds lines limit bytes start old n t at out)
-    → WhateverFollows feed after (λ bytes at. LeavesSession (inputs lines limit bytes) start t at old out (Fault ManyLines))
+    → WhateverFollows feed after
+    (λ bytes at. LeavesSession (inputs lines limit bytes) start t at old out (Fault ManyLines))
 Follows-out lines limit start old n t feed after out e s =
     Follows-so feed after (λ bytes at. Rounds lines limit bytes start old n t at out)
     (λ bytes at. LeavesSession (inputs lines limit bytes) start t at old out (Fault ManyLines)) s
@@ -421,7 +468,8 @@ Follows-out lines limit start old n t feed after out e s =
     (subst (λ k. Rounds lines limit bytes start old k t at out) e rounds))
 
 -- no memory for a line, and so no round
-pub LeavesSession-none : (lines limit : ℕ) (bytes : List ℕ) (start : State) (out : Writer) (feed : Reader)
+pub LeavesSession-none : (lines limit : ℕ) (bytes : List ℕ) (start : State)
+    (out : Writer) (feed : Reader)
     → LeavesSession (inputs lines limit bytes) start start feed out out (Fault Memory)
 LeavesSession-none lines limit bytes start out feed = (
   [],
@@ -431,9 +479,11 @@ LeavesSession-none lines limit bytes start out feed = (
 
 -- and so over whatever follows what was read
 pub Follows-none : (lines limit : ℕ) (start : State) (out : Writer) (feed : Reader)
-    → WhateverFollows feed feed (λ bytes at. LeavesSession (inputs lines limit bytes) start start at out out (Fault Memory))
+    → WhateverFollows feed feed
+    (λ bytes at. LeavesSession (inputs lines limit bytes) start start at out out (Fault Memory))
 Follows-none lines limit start out feed =
-    Follows-nothing feed (λ bytes at. LeavesSession (inputs lines limit bytes) start start at out out (Fault Memory))
+    Follows-nothing feed
+    (λ bytes at. LeavesSession (inputs lines limit bytes) start start at out out (Fault Memory))
     (λ bytes at known. LeavesSession-none lines limit bytes start out at)
 
 -- a last flush that fails: of all that a run leaves, a prefix is left
@@ -443,11 +493,14 @@ Leaves-prefix : (text : List ℕ) (meant : Option Ended) (rest : List ℕ) (feed
 Leaves-prefix text meant rest feed old new (Fault Read) p = p
 Leaves-prefix text meant rest feed old new (Fault Write) p = p
 Leaves-prefix text meant rest feed old new (Fault Memory) p = p
-Leaves-prefix text meant rest feed old new (Fault LongLine) p = AppendsPrefix-whole old.bytes new.bytes text p.1
-Leaves-prefix text meant rest feed old new (Fault ManyLines) p = AppendsPrefix-whole old.bytes new.bytes text p.2
+Leaves-prefix text meant rest feed old new (Fault LongLine) p =
+    AppendsPrefix-whole old.bytes new.bytes text p.1
+Leaves-prefix text meant rest feed old new (Fault ManyLines) p =
+    AppendsPrefix-whole old.bytes new.bytes text p.2
 Leaves-prefix text meant rest feed old new Done p = AppendsPrefix-whole old.bytes new.bytes text p.2
 Leaves-prefix text meant rest feed old new Cut p = AppendsPrefix-whole old.bytes new.bytes text p.2
-Leaves-prefix text meant rest feed old new (Operand place why) p = AppendsPrefix-whole old.bytes new.bytes text p.2
+Leaves-prefix text meant rest feed old new (Operand place why) p =
+    AppendsPrefix-whole old.bytes new.bytes text p.2
 
 -- a session behind all inputs is behind the first of them
 IsLeft-first : (refusals : List Bool) (t : State) (es : List Request) (ended : Ended) (next : State)
@@ -461,7 +514,8 @@ IsLeft-first refusals t es Done next h = (es, [], sym (append-nil es), h)
 IsLeft-first refusals t es Cut next h = (es, [], sym (append-nil es), h)
 IsLeft-first refusals t es (Operand place why) next h = (es, [], sym (append-nil es), h)
 
-pub LeavesSession-unflushed : (i : Inputs) (start next : State) (feed : Reader) (old mid new : Writer)
+pub LeavesSession-unflushed : (i : Inputs) (start next : State) (feed : Reader)
+    (old mid new : Writer)
     (ended : Ended) → Keeps mid.bytes new.bytes → LeavesSession i start next feed old mid ended
     → LeavesSession i start next feed old new (Fault Write)
 LeavesSession-unflushed i start next feed old mid new ended kept run =
@@ -499,7 +553,8 @@ pub LeavesSession-flushed : (i : Inputs) (start next : State) (feed : Reader) (o
     → LeavesSession i start next feed old new ended
 LeavesSession-flushed i start next feed old mid new ended kept run = (
   run.0,
-  Leaves-kept (output run.0 start.timeline i.requests) (Some i.ending) i.rest feed old mid new ended kept run.1,
+  Leaves-kept (output run.0 start.timeline i.requests) (Some i.ending) i.rest feed old
+      mid new ended kept run.1,
   run.2,
 )
 
@@ -515,8 +570,10 @@ HandsOn-flushed out Cut h = h
 HandsOn-flushed out (Operand place why) h = tt
 
 -- and so is what a read fault leaves
-pub HandsOn-unread : (lines limit : ℕ) (start next : State) (feed after : Reader) (old new : Writer) (ended : Ended) → is_unread ended ≡ true
-    → (ended ≡ Fault Read → IsCutShort lines limit start next feed after old new) → HandsOn new ended
+pub HandsOn-unread : (lines limit : ℕ) (start next : State) (feed after : Reader) (old new : Writer)
+    (ended : Ended) → is_unread ended ≡ true
+    → (ended ≡ Fault Read → IsCutShort lines limit start next feed after old new)
+    → HandsOn new ended
 HandsOn-unread lines limit start next feed after old new (Fault Read) is cut = (cut refl).handed_on
 HandsOn-unread lines limit start next feed after old new (Fault Write) is cut = tt
 HandsOn-unread lines limit start next feed after old new (Fault Memory) is cut = cc
@@ -531,6 +588,7 @@ pub not_cut_short : (A : Type 0) (ended : Ended) → is_unread ended ≡ false �
 not_cut_short A ended other is = let unread : is_unread ended ≡ true = ap is_unread is in cc
 
 -- what a run leaves beside the session
-pub session_run : (i : Inputs) (start next : State) (feed : Reader) (old new : Writer) (ended : Ended)
+pub session_run : (i : Inputs) (start next : State) (feed : Reader)
+    (old new : Writer) (ended : Ended)
     → LeavesSession i start next feed old new ended → LeavesRun i start feed old new ended
 session_run i start next feed old new ended run = (next, run)

@@ -1,5 +1,7 @@
 -- The rows of the marks and of the frames.
-use Rattle.std.proofs.Common.{◌≡◌, ◌≤◌, ℕ, zero, suc, true, false, cond, Option, Some, None, List, [], ◌∷◌, ◌++◌, map, reverse, length, codes, Result, refl, sym, ap, ◌∙◌, subst, append_assoc, arith, slice_index_or}
+use Rattle.std.proofs.Common.{◌≡◌, ◌≤◌, ℕ, zero, suc, true, false, cond, Option, Some, None, List}
+use Rattle.std.proofs.Common.{[], ◌∷◌, ◌++◌, map, reverse, length, codes, Result, refl, sym, ap}
+use Rattle.std.proofs.Common.{◌∙◌, subst, append_assoc, arith, slice_index_or}
 use Rattle.std.proofs.lemmas.List.{reverse-append, length-map, length-reverse}
 use Rattle.std.specs.Prelude.{IsErrAnd}
 use Rattle.std.specs.List.{flat_map}
@@ -23,8 +25,10 @@ abbrev rows_back : List File → List Place → List ℕ
 rows_back files frames = flat_map row_line (map (place_row files) (reverse frames))
 
 -- the row of the last frame comes first
-rows_back-last : (files : List File) (rest : List Place) (f : Place) → rows_back files (rest ++ f ∷ []) ≡ row_line (place_row files f) ++ rows_back files rest
-rows_back-last files rest f = ap (λ frames. flat_map row_line (map (place_row files) frames)) (reverse-append rest (f ∷ []))
+rows_back-last : (files : List File) (rest : List Place) (f : Place)
+    → rows_back files (rest ++ f ∷ []) ≡ row_line (place_row files f) ++ rows_back files rest
+rows_back-last files rest f =
+    ap (λ frames. flat_map row_line (map (place_row files) frames)) (reverse-append rest (f ∷ []))
 
 -- a stack of which so many frames are left: the rows of the others were written
 pub record Shown (w : World) (old : Writer) (left : List Place) (out : Writer) : Type 0 where
@@ -32,7 +36,8 @@ pub record Shown (w : World) (old : Writer) (left : List Place) (out : Writer) :
   pub wrote : PutsAll old out so_far
   pub rest : so_far ++ rows_back w.files left ≡ flat_map row_line (stack_rows w)
 
-pub Shown-more : (w : World) (old out new : Writer) (left rest : List Place) (f : Place) → Shown w old left out → left ≡ rest ++ f ∷ []
+pub Shown-more : (w : World) (old out new : Writer) (left rest : List Place) (f : Place)
+    → Shown w old left out → left ≡ rest ++ f ∷ []
     → PutsAll out new (row_line (place_row w.files f)) → Shown w old rest new
 Shown-more w old out new left rest f s is wrote = record {
   so_far = s.so_far ++ row_line (place_row w.files f);
@@ -44,13 +49,16 @@ Shown-more w old out new left rest f s is wrote = record {
 }
 
 -- a row that could not be written
-pub Shown-fault : {A : Type 0} (w : World) (old out new : Writer) (left rest : List Place) (f : Place) (r : Result A Fault) (fault : Fault)
+pub Shown-fault : {A : Type 0} (w : World) (old out new : Writer) (left rest : List Place)
+    (f : Place) (r : Result A Fault) (fault : Fault)
     → Shown w old left out → left ≡ rest ++ f ∷ [] → IsErrAnd r (λ e. e ≡ fault)
-    → fault ≡ Write → PutsPrefix out new (row_line (place_row w.files f)) → Puts old new r (flat_map row_line (stack_rows w))
+    → fault ≡ Write → PutsPrefix out new (row_line (place_row w.files f))
+    → Puts old new r (flat_map row_line (stack_rows w))
 Shown-fault w old out new left rest f r fault s is e why p =
     let row = row_line (place_row w.files f) in
     let whole : s.so_far ++ (row ++ rows_back w.files rest) ≡ flat_map row_line (stack_rows w) =
-    ap (λ l. s.so_far ++ l) (sym (rows_back-last w.files rest f)) ∙ ap (λ l. s.so_far ++ rows_back w.files l) (sym is) ∙ s.rest in
+    ap (λ l. s.so_far ++ l) (sym (rows_back-last w.files rest f))
+    ∙ ap (λ l. s.so_far ++ rows_back w.files l) (sym is) ∙ s.rest in
     subst (λ l. Puts old new r l) whole
     (Puts-fault old new r fault _ e why
     (PutsPrefix-after old out new s.so_far (row ++ rows_back w.files rest) s.wrote
@@ -63,39 +71,56 @@ stack_rows-length w = length-map (reverse w.frames) (place_row w.files) ∙ leng
 -- an empty text has no line
 no_lines : lines [] ≡ []
 no_lines =
-    let none : (xs : List (List ℕ)) → length xs ≤ 0 → xs ≡ [] = λ xs. elim xs as (λ ys. length ys ≤ 0 → ys ≡ []) [ [] ↦ λ h. refl | y ∷ ys ↦ λ h. absurd (omega arith) ] in
+    let none : (xs : List (List ℕ)) → length xs ≤ 0 → xs ≡ [] = λ xs.
+    elim xs as (λ ys. length ys ≤ 0 → ys ≡ [])
+    [ [] ↦ λ h. refl | y ∷ ys ↦ λ h. absurd (omega arith) ] in
     none (lines []) (subst (λ n. n ≤ 0) (sym (length-map _ _)) (lines-few []))
 
 -- and so the row of a line of it shows no bytes
-pub line_row-empty : (file : List ℕ) (line : ℕ) → line_row file [] line ≡ record { file = file; function = codes "<unknown>"; line = line; text = [] }
+pub line_row-empty : (file : List ℕ) (line : ℕ) → line_row file [] line
+    ≡ record { file = file; function = codes "<unknown>"; line = line; text = [] }
 unfolding unindented
 line_row-empty file zero = refl
 line_row-empty file (suc n) =
-    let row : List (List ℕ) → AnswerRow = λ ls. record { file = file; function = codes "<unknown>"; line = suc n; text = unindented (slice_index_or ls n []) } in
+    let row : List (List ℕ) → AnswerRow = λ ls.
+    record {
+      file = file;
+      function = codes "<unknown>";
+      line = suc n;
+      text = unindented (slice_index_or ls n []);
+    } in
     ap row no_lines
 
 -- the text of a name, as it is looked up
-pub text-found : (files : List File) (name text : List ℕ) → Some text ≡ text_named files name → text ≡ text_of_file files name
+pub text-found : (files : List File) (name text : List ℕ) → Some text ≡ text_named files name
+    → text ≡ text_of_file files name
 text-found files name text is =
-    (elim (has_file files name) as (λ b. Some text ≡ cond {A = Option (List ℕ)} b (Some (text_of_file files name)) None → text ≡ text_of_file files name) [
+    (elim (has_file files name) as (λ b. Some text ≡ cond {A = Option (List ℕ)} b
+    (Some (text_of_file files name)) None → text ≡ text_of_file files name) [
       | true ↦ λ e. cc
       | false ↦ λ e. cc
     ]) is
 
 -- a name that is not there has no text
-pub no-text-found : (files : List File) (name : List ℕ) → None ≡ text_named files name → text_of_file files name ≡ []
+pub no-text-found : (files : List File) (name : List ℕ) → None ≡ text_named files name
+    → text_of_file files name ≡ []
 no-text-found files name is =
-    (elim (has_file files name) as (λ b. has_file files name ≡ b → None ≡ cond {A = Option (List ℕ)} b (Some (text_of_file files name)) None → text_of_file files name ≡ []) [
+    (elim (has_file files name) as (λ b. has_file files name ≡ b → None ≡ cond {A = Option (List ℕ)}
+    b (Some (text_of_file files name)) None → text_of_file files name ≡ []) [
       | true ↦ λ h e. cc
       | false ↦ λ h e. no-text files name h
     ]) refl is
 
 -- the reply that shows the marks, place by place
-pub marks-shown : (files : List File) (marks : List Place) → count_line (length marks) ++ flat_map (λ (p : Place). row_line (place_row files p)) marks ≡ answer_lines (map (place_row files) marks)
+pub marks-shown : (files : List File) (marks : List Place)
+    → count_line (length marks) ++ flat_map (λ (p : Place). row_line (place_row files p)) marks
+    ≡ answer_lines (map (place_row files) marks)
 marks-shown files marks =
-    ap (λ n. count_line n ++ flat_map (λ (p : Place). row_line (place_row files p)) marks) (sym (length-map marks (place_row files)))
+    ap (λ n. count_line n ++ flat_map (λ (p : Place). row_line (place_row files p)) marks)
+    (sym (length-map marks (place_row files)))
     ∙ ap (λ l. count_line (length (map (place_row files) marks)) ++ l) (rows-of marks)
   where
-    rows-of : (ps : List Place) → flat_map (λ (p : Place). row_line (place_row files p)) ps ≡ flat_map row_line (map (place_row files) ps)
+    rows-of : (ps : List Place) → flat_map (λ (p : Place). row_line (place_row files p)) ps
+        ≡ flat_map row_line (map (place_row files) ps)
     rows-of [] = refl
     rows-of (p ∷ ps) = ap (λ l. row_line (place_row files p) ++ l) (rows-of ps)

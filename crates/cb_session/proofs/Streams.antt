@@ -29,15 +29,18 @@ abbrev pub IsPlain : List ℕ → Type 0
 IsPlain [] = Unit {0}
 IsPlain (b ∷ bs) = (is_line_feed b ≡ false) × IsPlain bs
 
-pub IsPlain-push : (xs : List ℕ) (b : ℕ) → IsPlain xs → is_line_feed b ≡ false → IsPlain (xs ++ b ∷ [])
+pub IsPlain-push : (xs : List ℕ) (b : ℕ) → IsPlain xs → is_line_feed b ≡ false
+    → IsPlain (xs ++ b ∷ [])
 IsPlain-push [] b p q = (q, tt)
 IsPlain-push (x ∷ xs) b p q = (p.0, IsPlain-push xs b p.1 q)
 
 -- plain bytes before a line feed, or alone, have it at their end
-line_feed_place : (xs rest : List ℕ) → IsPlain xs → position_or_len is_line_feed (xs ++ 10 ∷ rest) ≡ length xs
+line_feed_place : (xs rest : List ℕ) → IsPlain xs
+    → position_or_len is_line_feed (xs ++ 10 ∷ rest) ≡ length xs
 line_feed_place [] rest p = refl
 line_feed_place (x ∷ xs) rest p =
-    subst (λ b. cond (not b) (1 + position_or_len is_line_feed (xs ++ 10 ∷ rest)) 0 ≡ suc (length xs)) (sym p.0)
+    subst (λ b.
+    cond (not b) (1 + position_or_len is_line_feed (xs ++ 10 ∷ rest)) 0 ≡ suc (length xs)) (sym p.0)
     (let e = line_feed_place xs rest p.1 in omega (arith, e))
 
 no_line_feed : (xs : List ℕ) → IsPlain xs → position_or_len is_line_feed xs ≡ length xs
@@ -46,11 +49,13 @@ no_line_feed (x ∷ xs) p =
     subst (λ b. cond (not b) (1 + position_or_len is_line_feed xs) 0 ≡ suc (length xs)) (sym p.0)
     (let e = no_line_feed xs p.1 in omega (arith, e))
 
-before_line_feed : (xs rest : List ℕ) → IsPlain xs → before_first is_line_feed (xs ++ 10 ∷ rest) ≡ xs
+before_line_feed : (xs rest : List ℕ) → IsPlain xs
+    → before_first is_line_feed (xs ++ 10 ∷ rest) ≡ xs
 before_line_feed xs rest p =
     ap (λ n. take n (xs ++ 10 ∷ rest)) (line_feed_place xs rest p) ∙ take-append_seam xs (10 ∷ rest)
 
-after_line_feed : (xs rest : List ℕ) → IsPlain xs → after_first is_line_feed (xs ++ 10 ∷ rest) ≡ rest
+after_line_feed : (xs rest : List ℕ) → IsPlain xs
+    → after_first is_line_feed (xs ++ 10 ∷ rest) ≡ rest
 after_line_feed xs rest p =
     ap (λ n. drop (n + 1) (xs ++ 10 ∷ rest)) (line_feed_place xs rest p)
     ∙ drop-append-add xs (10 ∷ rest) 1
@@ -78,13 +83,15 @@ first_line limit bytes xs rest p e =
     (before_line_feed xs rest p)
     ∙ ap (with_block (line_asks limit xs)) (after_line_feed xs rest p)
 
-pub last_line : (limit : ℕ) (xs : List ℕ) → IsPlain xs → xs ≢ [] → first limit xs ≡ with_block (line_asks limit xs) []
+pub last_line : (limit : ℕ) (xs : List ℕ) → IsPlain xs → xs ≢ []
+    → first limit xs ≡ with_block (line_asks limit xs) []
 last_line limit xs p h =
     let at = no_line_feed xs p in
     first_nonempty limit xs h
     ∙ ap (λ line. with_block (line_asks limit line) (after_first is_line_feed xs))
     (ap (λ n. take n xs) at ∙ take-length xs)
-    ∙ ap (with_block (line_asks limit xs)) (ap (λ n. drop (n + 1) xs) at ∙ drop_all (length xs + 1) xs (omega arith))
+    ∙ ap (with_block (line_asks limit xs))
+    (ap (λ n. drop (n + 1) xs) at ∙ drop_all (length xs + 1) xs (omega arith))
 
 -- so many bytes of a line were read, and as many of them kept as a command may have
 pub record Seen (old new : Reader) (line : List ℕ) (read : ℕ) : Type 0 where
@@ -117,7 +124,8 @@ kept_byte m b line bytes e h =
     take_all m (bytes ++ b ∷ []) (omega (arith, length-append bytes (b ∷ []))) in
     ap (λ l. l ++ b ∷ []) (e ∙ all) ∙ sym more
 
-left_byte : (m b : ℕ) (line bytes : List ℕ) → line ≡ take m bytes → m ≤ length line → line ≡ take m (bytes ++ b ∷ [])
+left_byte : (m b : ℕ) (line bytes : List ℕ) → line ≡ take m bytes → m ≤ length line
+    → line ≡ take m (bytes ++ b ∷ [])
 left_byte m b line bytes e h =
     let size : length line ≡ min m (length bytes) = ap length e ∙ length-take m bytes in
     e ∙ sym (take-append-le m bytes (b ∷ []) (omega (arith, size)))
@@ -133,7 +141,8 @@ Seen-kept a b c line next read byte s t p h e = record {
   kept = e ∙ kept_byte MOST_LINE byte line s.bytes s.kept h;
 }
 
-Seen-left : (a b c : Reader) (line : List ℕ) (read byte : ℕ) → Seen a b line read → HasRead b c (byte ∷ []) → byte ≢ 10
+Seen-left : (a b c : Reader) (line : List ℕ) (read byte : ℕ) → Seen a b line read
+    → HasRead b c (byte ∷ []) → byte ≢ 10
     → MOST_LINE ≤ length line → Seen a c line (read + 1)
 Seen-left a b c line read byte s t p h = record {
   bytes = s.bytes ++ byte ∷ [];
@@ -161,7 +170,8 @@ Seen-more a b c line next read byte s t p kept left =
 -- what is answered of a line with so many bytes
 answered : (limit : ℕ) (bytes line xs rest : List ℕ) (new : Reader)
     → first limit bytes ≡ with_block (line_asks limit xs) rest → new.bytes ≡ Some rest
-    → length xs ≤ limit → line ≡ take MOST_LINE xs → ReadsLine limit bytes new line (Ok (line_of_length (length xs)))
+    → length xs ≤ limit → line ≡ take MOST_LINE xs
+    → ReadsLine limit bytes new line (Ok (line_of_length (length xs)))
 answered limit bytes line xs rest new e r h k =
     let within : nat_lt limit (length xs) ≡ false = grind (arith, nat_tests) in
     let Q : Bool → Type 0 = λ b. nat_le (length xs) MOST_LINE ≡ b
@@ -205,7 +215,8 @@ fed limit line rest old mid left read s e h =
 
 pub ReadsLine-line_feed : (limit : ℕ) (bytes line : List ℕ) (old mid new : Reader) (read : ℕ)
     → Seen old mid line read → HasRead mid new (10 ∷ [])
-    → read ≤ limit → old.bytes ≡ Some bytes → ReadsLine limit bytes new line (Ok (line_of_length read))
+    → read ≤ limit → old.bytes ≡ Some bytes
+    → ReadsLine limit bytes new line (Ok (line_of_length read))
 ReadsLine-line_feed limit bytes line old mid new read s t h e =
     let k = Consumes-known old.bytes new.bytes (s.bytes ++ 10 ∷ []) bytes
     (HasRead-trans old mid new s.bytes (10 ∷ []) s.taken t).0 e in
@@ -214,7 +225,8 @@ ReadsLine-line_feed limit bytes line old mid new read s t h e =
 
 pub Follows-line_feed : (limit : ℕ) (line : List ℕ) (old mid new : Reader) (read : ℕ)
     → Seen old mid line read → HasRead mid new (10 ∷ []) → read ≤ limit
-    → WhateverFollows old new (λ bytes left. ReadsLine limit bytes left line (Ok (line_of_length read)))
+    → WhateverFollows old new
+    (λ bytes left. ReadsLine limit bytes left line (Ok (line_of_length read)))
 Follows-line_feed limit line old mid new read s t h = (
   s.bytes ++ 10 ∷ [],
   HasRead-trans old mid new s.bytes (10 ∷ []) s.taken t,
@@ -253,7 +265,8 @@ ReadsLine-end limit bytes line old mid new read s t n z h e =
 
 pub Follows-line_end : (limit : ℕ) (line : List ℕ) (old mid new : Reader) (read : ℕ)
     → Seen old mid line read → GivesByte mid new (Ok None) → read ≢ 0
-    → read ≤ limit → WhateverFollows old new (λ bytes left. ReadsLine limit bytes left line (Ok (line_of_length read)))
+    → read ≤ limit → WhateverFollows old new
+    (λ bytes left. ReadsLine limit bytes left line (Ok (line_of_length read)))
 Follows-line_end limit line old mid new read s k z h =
     Follows-ended old mid new s.bytes (λ bytes left. ReadsLine limit bytes left line
     (Ok (line_of_length read))) s.taken k
@@ -262,7 +275,8 @@ Follows-line_end limit line old mid new read s k z h =
 -- no line, since the input is at its end
 pub ReadsLine-none : (limit : ℕ) (bytes line : List ℕ) (old mid new : Reader) (read : ℕ)
     → Seen old mid line read → IsAtEnd mid.bytes
-    → new.bytes ≡ Some [] → read ≡ 0 → old.bytes ≡ Some bytes → ReadsLine limit bytes new line (Ok End)
+    → new.bytes ≡ Some [] → read ≡ 0 → old.bytes ≡ Some bytes
+    → ReadsLine limit bytes new line (Ok End)
 unfolding first
 ReadsLine-none limit bytes line old mid new read s t n z e =
     (ap (first limit) (all_seen bytes line old mid read s t e ∙ no_bytes s.bytes (s.count ∙ z)), n)
@@ -272,14 +286,16 @@ pub Follows-no_line : (limit : ℕ) (line : List ℕ) (old mid new : Reader) (re
     → WhateverFollows old new (λ bytes left. ReadsLine limit bytes left line (Ok End))
 unfolding first
 Follows-no_line limit line old mid new read s k z =
-    Follows-ended old mid new s.bytes (λ bytes left. ReadsLine limit bytes left line (Ok End)) s.taken k
+    Follows-ended old mid new s.bytes
+    (λ bytes left. ReadsLine limit bytes left line (Ok End)) s.taken k
     (ap (first limit) (no_bytes s.bytes (s.count ∙ z)), refl)
 
 -- plain bytes at the start come before the first line feed
 plain_prefix : (xs ys : List ℕ) → IsPlain xs → length xs ≤ position_or_len is_line_feed (xs ++ ys)
 plain_prefix [] ys p = omega arith
 plain_prefix (x ∷ xs) ys p =
-    subst (λ b. suc (length xs) ≤ cond (not b) (1 + position_or_len is_line_feed (xs ++ ys)) 0) (sym p.0)
+    subst (λ b. suc (length xs) ≤ cond (not b) (1 + position_or_len is_line_feed (xs ++ ys)) 0)
+    (sym p.0)
     (let e = plain_prefix xs ys p.1 in omega (arith, e))
 
 nonempty_push : (xs ys : List ℕ) (b : ℕ) → (xs ++ b ∷ []) ++ ys ≢ []
@@ -287,7 +303,8 @@ nonempty_push [] ys b = λ e. cc
 nonempty_push (x ∷ xs) ys b = λ e. cc
 
 -- a line that is too long for the run
-over : (limit : ℕ) (line rest : List ℕ) (old mid : Reader) (byte : ℕ) → (s : Seen old mid line limit) → byte ≢ 10
+over : (limit : ℕ) (line rest : List ℕ) (old mid : Reader) (byte : ℕ)
+    → (s : Seen old mid line limit) → byte ≢ 10
     → (first limit ((s.bytes ++ byte ∷ []) ++ rest)).request ≡ overlong
 over limit line rest old mid byte s h =
     let seen = s.bytes ++ byte ∷ [] in
@@ -295,7 +312,8 @@ over limit line rest old mid byte s h =
     let at = position_or_len is_line_feed all in
     let plain : IsPlain seen = IsPlain-push s.bytes byte s.plain (plain_byte byte h) in
     let far : length seen ≤ at = plain_prefix seen rest plain in
-    let size : length seen ≡ limit + 1 = omega (arith, length-append s.bytes (byte ∷ []), s.count) in
+    let size : length seen ≡ limit + 1 =
+    omega (arith, length-append s.bytes (byte ∷ []), s.count) in
     let within : length seen ≤ length all = omega (arith, length-append seen rest) in
     let long : length (take at all) ≡ min at (length all) = length-take at all in
     let over : limit < length (take at all) = omega (arith, far, size, within, long) in
@@ -328,14 +346,16 @@ line_failed : (limit : ℕ) (bytes line : List ℕ) (left : Reader) (r : Result 
     → IsErrAnd r (λ fault. fault ≡ Read) → left.stage ≡ Failed
     → ReadsLine limit bytes left line r
 line_failed limit bytes line left (Ok x) e s = absurd e
-line_failed limit bytes line left (Err fault) e s = subst (λ k. ReadsLine limit bytes left line (Err k)) (sym e) s
+line_failed limit bytes line left (Err fault) e s =
+    subst (λ k. ReadsLine limit bytes left line (Err k)) (sym e) s
 
 pub Follows-line_failed : (limit : ℕ) (line : List ℕ) (old mid new : Reader) (read : ℕ)
     (fault : ReadFault) (r : Result LineRead Fault) → Seen old mid line read
     → GivesByte mid new (Err fault) → IsErrAnd r (λ fault. fault ≡ Read)
     → WhateverFollows old new (λ bytes left. ReadsLine limit bytes left line r)
 Follows-line_failed limit line old mid new read fault r s k e =
-    Follows-failed old mid new s.bytes fault (λ bytes left. ReadsLine limit bytes left line r) s.taken k
+    Follows-failed old mid new s.bytes fault
+    (λ bytes left. ReadsLine limit bytes left line r) s.taken k
     (λ bytes left failed. line_failed limit bytes line left r e failed)
 
 -- a block that was read
@@ -360,7 +380,8 @@ ReadsBlock-whole old new block bytes count t n e =
       k.1 ∙ f.2 ∙ ap Some (sym (ap (drop count) k.2)),
     )
 
-pub Follows-block : (old new : Reader) (block : List ℕ) (count : ℕ) → HasRead old new block → length block ≡ count
+pub Follows-block : (old new : Reader) (block : List ℕ) (count : ℕ) → HasRead old new block
+    → length block ≡ count
     → WhateverFollows old new (λ bytes left. (count ≤ length bytes) × (block ≡ take count bytes)
     × (left.bytes ≡ Some (drop count bytes)))
 Follows-block old new block count h n = (block, h, λ rest m. filled block rest count n)
@@ -377,4 +398,5 @@ pub Follows-block_end : (old mid new : Reader) (block : List ℕ) (count : ℕ) 
     → GivesByte mid new (Ok None) → length block < count
     → WhateverFollows old new (λ bytes left. (length bytes < count) × (left.bytes ≡ Some []))
 Follows-block_end old mid new block count h k short =
-    Follows-ended old mid new block (λ bytes left. (length bytes < count) × (left.bytes ≡ Some [])) h k (short, refl)
+    Follows-ended old mid new block (λ bytes left. (length bytes < count) × (left.bytes ≡ Some []))
+    h k (short, refl)

@@ -1,5 +1,7 @@
 -- Reading that a fault of the reader cuts: no request is whole in what was read.
-use Rattle.std.proofs.Common.{◌≡◌, ◌≢◌, ◌≤◌, ℕ, Bool, true, false, cond, List, [], ◌∷◌, ◌++◌, length, take, drop, Result, Ok, Err, refl, sym, ap, ◌∙◌, subst, arith, nat_lt, append_assoc}
+use Rattle.std.proofs.Common.{◌≡◌, ◌≢◌, ◌≤◌, ℕ, Bool, true, false, cond, List, [], ◌∷◌, ◌++◌}
+use Rattle.std.proofs.Common.{length, take, drop, Result, Ok, Err, refl, sym, ap, ◌∙◌, subst, arith}
+use Rattle.std.proofs.Common.{nat_lt, append_assoc}
 use Rattle.std.specs.Prelude.{IfErr}
 use Rattle.std.proofs.lemmas.List.{drop_all, length-append, take-append-drop}
 use Rattle.cb_desk.specs.declared.refusal.Refusal.TheVariants.{InputEnded}
@@ -26,22 +28,30 @@ some_bytes [] x = λ e. cc
 some_bytes (y ∷ ys) x = λ e. cc
 
 -- bytes after which one byte more leaves nothing begin with no whole request
-none_whole : (limit x : ℕ) (read : List ℕ) → (first limit (read ++ x ∷ [])).rest ≡ [] → HoldNone limit read
+none_whole : (limit x : ℕ) (read : List ℕ) → (first limit (read ++ x ∷ [])).rest ≡ []
+    → HoldNone limit read
 none_whole limit x read none n e is =
     let back : take n read ++ (drop n read ++ x ∷ []) ≡ read ++ x ∷ [] =
-    sym (append_assoc (take n read) (drop n read) (x ∷ [])) ∙ ap (λ l. l ++ x ∷ []) (take-append-drop n read) in
+    sym (append_assoc (take n read) (drop n read) (x ∷ []))
+    ∙ ap (λ l. l ++ x ∷ []) (take-append-drop n read) in
     some_bytes (drop n read) x
-    (sym (ap (λ f. f.rest) (is (drop n read ++ x ∷ []))) ∙ ap (λ l. (first limit l).rest) back ∙ none)
+    (sym (ap (λ f. f.rest) (is (drop n read ++ x ∷ [])))
+    ∙ ap (λ l. (first limit l).rest) back ∙ none)
 
 -- a block takes all that is left, where that is no more than it wants
-none_left : (b : Bool) (f : First) → f.rest ≡ [] → First.rest (cond b (record { request = refused InputEnded; rest = [] }) f) ≡ []
+none_left : (b : Bool) (f : First) → f.rest ≡ []
+    → First.rest (cond b (record { request = refused InputEnded; rest = [] }) f) ≡ []
 none_left true f e = refl
 none_left false f e = e
 
 no_block : (purpose : Purpose) (name : List ℕ) (count : ℕ) (bytes : List ℕ) → length bytes ≤ count
     → (with_block (block purpose name count) bytes).rest ≡ []
 no_block purpose name count bytes few =
-    none_left (nat_lt (length bytes) count) (record { request = change (change_with purpose name (take count bytes)); rest = drop count bytes })
+    none_left (nat_lt (length bytes) count)
+    (record {
+      request = change (change_with purpose name (take count bytes));
+      rest = drop count bytes;
+    })
     (drop_all count bytes few)
 
 no_rest : (l : LineRequest) → (with_block l []).rest ≡ []
@@ -55,20 +65,25 @@ Unread-bytes limit line old mid new read fault s k = (
   s.bytes,
   HasRead-stop old mid new s.bytes s.taken (HasRead-fault mid new fault k),
   none_whole limit 0 s.bytes
-      (ap (λ f. f.rest) (last_line limit (s.bytes ++ 0 ∷ []) (IsPlain-push s.bytes 0 s.plain refl) (some_bytes s.bytes 0))
+      (ap (λ f. f.rest) (last_line limit (s.bytes ++ 0 ∷ []) (IsPlain-push s.bytes 0 s.plain refl)
+      (some_bytes s.bytes 0))
       ∙ no_rest (line_asks limit (s.bytes ++ 0 ∷ []))),
 )
 
-pub Unread-line : (limit : ℕ) (line : List ℕ) (old mid new : Reader) (read : ℕ) (fault : ReadFault) (r : Result LineRead Fault)
-    → Seen old mid line read → GivesByte mid new (Err fault) → IfErr r (λ fault. fault ≡ Read → IsUnread limit old new)
+pub Unread-line : (limit : ℕ) (line : List ℕ) (old mid new : Reader) (read : ℕ) (fault : ReadFault)
+    (r : Result LineRead Fault)
+    → Seen old mid line read → GivesByte mid new (Err fault)
+    → IfErr r (λ fault. fault ≡ Read → IsUnread limit old new)
 Unread-line limit line old mid new read fault (Ok x) s k = tt
-Unread-line limit line old mid new read fault (Err x) s k = λ is. Unread-bytes limit line old mid new read fault s k
+Unread-line limit line old mid new read fault (Err x) s k = λ is.
+    Unread-bytes limit line old mid new read fault s k
 
 not_ended : (s : Stage) → s ≡ Failed → s ≡ Ended → ⊥
 not_ended s p q = cc
 
 -- a block that is cut
-Unread-block : (limit : ℕ) (line : List ℕ) (old mid new : Reader) (purpose : Purpose) (name : List ℕ) (count : ℕ)
+Unread-block : (limit : ℕ) (line : List ℕ) (old mid new : Reader) (purpose : Purpose)
+    (name : List ℕ) (count : ℕ)
     → short_line line ≡ block purpose name count
     → WhateverFollows old mid (λ bytes left. ReadsLine limit bytes left line (Ok Line))
     → StopsBefore count mid new → new.stage ≡ Failed → IsUnread limit old new
@@ -82,14 +97,17 @@ Unread-block limit line old mid new purpose name count asks w h failed =
           (ap (λ l. (first limit l).rest) (append_assoc w.0 h.0 (0 ∷ []))
           ∙ ap (λ f. f.rest) (is.1 ∙ ap (λ l. with_block l is.0) asks
           ∙ ap (with_block (block purpose name count)) (sym (Some-same (h.0 ++ 0 ∷ []) is.0 is.2)))
-          ∙ no_block purpose name count (h.0 ++ 0 ∷ []) (omega (arith, short, length-append h.0 (0 ∷ [])))),
+          ∙ no_block purpose name count (h.0 ++ 0 ∷ [])
+          (omega (arith, short, length-append h.0 (0 ∷ [])))),
     )
 
-pub Unread-change : (limit : ℕ) (line : List ℕ) (old mid new : Reader) (purpose : Purpose) (name : List ℕ) (count : ℕ) (r : Result Input Fault)
+pub Unread-change : (limit : ℕ) (line : List ℕ) (old mid new : Reader) (purpose : Purpose)
+    (name : List ℕ) (count : ℕ) (r : Result Input Fault)
     → short_line line ≡ block purpose name count
     → WhateverFollows old mid (λ bytes left. ReadsLine limit bytes left line (Ok Line))
     → IfErr r (λ fault. fault ≡ Read → StopsBefore count mid new) → IfErr r (IsReadFault mid new)
     → IfErr r (λ fault. fault ≡ Read → IsUnread limit old new)
 Unread-change limit line old mid new purpose name count (Ok x) asks w h k = tt
 Unread-change limit line old mid new purpose name count (Err fault) asks w h k = λ is.
-    Unread-block limit line old mid new purpose name count asks w (h is) (subst (IsReadFault mid new) is k)
+    Unread-block limit line old mid new purpose name count asks w (h is)
+    (subst (IsReadFault mid new) is k)

@@ -1,6 +1,6 @@
 -- Short runs, computed: how input is cut into requests, and what is written. Expected values are
 -- worked out by hand.
-use Rattle.std.specs.Prelude.{◌≡◌, true, [], ◌∷◌, codes, refl}
+use Rattle.std.specs.Prelude.{◌≡◌, true, [], ◌∷◌, ◌++◌, codes, refl}
 use Rattle.std.specs.Fmt.{digits}
 use Rattle.cb_scan.specs.Definitions.{definitions_from}
 use Rattle.cb_scan.specs.examples.Functions.{finding}
@@ -91,7 +91,8 @@ many_lines = refl
 -- moves and refusals
 pub moves_shown : output [] new_timeline
     (change (load (codes "a.c") (codes "{}")) ∷ undo ∷ undo ∷ redo ∷ refused NoPattern ∷ quit ∷ [])
-    ≡ codes ">> cscope: done\n>> cscope: done\n>> cscope: refused: nothing to undo\n>> cscope: done\n>> cscope: refused: no pattern\n>> "
+    ≡ codes ">> cscope: done\n>> cscope: done\n>> cscope: refused: nothing to undo\n"
+    ++ codes ">> cscope: done\n>> cscope: refused: no pattern\n>> "
 unfolding running
 moves_shown = refl
 
@@ -99,7 +100,8 @@ moves_shown = refl
 pub reload_undone : output [] new_timeline
     (change (load (codes "a.c") (codes "{}")) ∷ change (reload (codes "a.c") (codes "x"))
     ∷ undo ∷ undo ∷ undo ∷ [])
-    ≡ codes ">> cscope: done\n>> cscope: done\n>> cscope: done\n>> cscope: done\n>> cscope: refused: nothing to undo\n"
+    ≡ codes ">> cscope: done\n>> cscope: done\n>> cscope: done\n>> cscope: done\n"
+    ++ codes ">> cscope: refused: nothing to undo\n"
 unfolding running
 reload_undone = refl
 
@@ -114,6 +116,7 @@ refusal_shown = refl
 pub query_shown : output [] new_timeline
     (change (load (codes "f.c") (codes " f(){}")) ∷ query Definition (codes "f")
     ∷ undo ∷ query Definition (codes "f") ∷ [])
-    ≡ codes ">> cscope: done\n>> cscope: 1 lines\nf.c f 1 f(){}\n>> cscope: done\n>> cscope: 0 lines\n"
+    ≡ codes ">> cscope: done\n>> cscope: 1 lines\nf.c f 1 f(){}\n"
+    ++ codes ">> cscope: done\n>> cscope: 0 lines\n"
 unfolding running finding definitions_from put in_order distinct unindented lining
 query_shown = refl

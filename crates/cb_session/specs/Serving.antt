@@ -58,9 +58,9 @@ LeavesSession i s next feed old new ended =
 abbrev pub LeavesRun : Inputs → State → Reader → Writer → Writer → Ended → Type 0
 LeavesRun i s feed old new ended = (next : State) × LeavesSession i s next feed old new ended
 
--- a run that a read fault ends: what was read holds the inputs whole that are answered, and no more;
--- they are the first ones, whatever follows; and after their replies one prompt is written and
--- handed on
+-- a run that a read fault ends: what was read holds the inputs whole that are answered, and no
+-- more; they are the first ones, whatever follows; and after their replies one prompt is written
+-- and handed on
 pub record IsCutShort (lines limit : ℕ) (s next : State) (feed feed' : Reader)
     (out out' : Writer) : Type 0 where
   pub refusals : List Bool
@@ -74,8 +74,8 @@ pub record IsCutShort (lines limit : ℕ) (s next : State) (feed feed' : Reader)
   pub wrote : Appends out.bytes out'.bytes (output refusals s.timeline done ++ prompt)
   pub handed_on : out'.pending ≡ false
 
--- a run that ends has handed on all that was written, unless the writer failed; one that stops at an
--- operand has not begun
+-- a run that ends has handed on all that was written, unless the writer failed; one that stops at
+-- an operand has not begun
 abbrev pub HandsOn : Writer → Ended → Type 0
 HandsOn out (Fault Write) = Unit {0}
 HandsOn out (Operand place why) = Unit {0}
@@ -105,9 +105,9 @@ IfFault (Fault fault) P = P fault
 IfFault _ P = Unit {0}
 
 -- the inputs of a run that leads from one state to the next, within so many lines and so many bytes
--- of each: it is a run over the bytes of the reader, where these are known, and over whatever follows
--- those that it has read; a read fault cuts it short between two inputs; a fault of a device is
--- answered only where that has failed, and a device that fails is told
+-- of each: it is a run over the bytes of the reader, where these are known, and over whatever
+-- follows those that it has read; a read fault cuts it short between two inputs; a fault of a
+-- device is answered only where that has failed, and a device that fails is told
 pub record ServesInputs (lines limit : ℕ) (s next : State) (feed feed' : Reader)
     (out out' : Writer) (ended : Ended) : Type 0 where
   pub output : (bytes : List ℕ) → feed.bytes ≡ Some bytes

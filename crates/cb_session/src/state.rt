@@ -78,7 +78,8 @@ impl Session {
         ensures does { (out_of_memory : Bool)
             × Does out_of_memory self.old (request_of input.entry)
             self.new out.old out.new result }
-        ensures going { IfOk result (λ going. going ≡ going_of (ending_of (request_of input.entry))) }
+        ensures going { IfOk result
+            (λ going. going ≡ going_of (ending_of (request_of input.entry))) }
     {
         let going = input.going();
         self.answer(alloc, input, out)?;

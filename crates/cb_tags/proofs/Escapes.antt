@@ -9,7 +9,8 @@ use Rattle.cb_tags.specs.declared.sink.WriteFault.{WriteFault}
 use Rattle.cb_tags.specs.Addresses.{is_escaped, escaped, escape}
 use Rattle.cb_tags.specs.Writers.{Writer}
 use Rattle.cb_tags.specs.Writing.{PutsAll, PutsPrefix, Puts}
-use Rattle.cb_tags.proofs.Prefixes.{PutsAll-after, PutsPrefix-more, PutsPrefix-after, Puts-after, flat_map-at}
+use Rattle.cb_tags.proofs.Prefixes.{PutsAll-after, PutsPrefix-more, PutsPrefix-after, Puts-after}
+use Rattle.cb_tags.proofs.Prefixes.{flat_map-at}
 
 -- the bytes from one place up to another
 abbrev pub piece : ℕ → ℕ → List ℕ → List ℕ
@@ -17,7 +18,8 @@ piece start end text = take (end - start) (drop start text)
 
 -- what was written, and then the bytes from start up to i, is the first i bytes with their escapes
 abbrev pub Owes : Writer → Writer → List ℕ → ℕ → ℕ → Type 0
-Owes a b text start i = (w : List ℕ) × PutsAll a b w × (w ++ piece start i text ≡ escape (take i text))
+Owes a b text start i =
+    (w : List ℕ) × PutsAll a b w × (w ++ piece start i text ≡ escape (take i text))
 
 piece-next : (text : List ℕ) (start i d : ℕ) → start ≤ i → i < length text
     → piece start (i + 1) text ≡ piece start i text ++ get_or text i d ∷ []
@@ -26,13 +28,15 @@ piece-next text start i d s h =
     let at : start + (i - start) ≡ i = omega arith in
     ap (λ n. take n (drop start text)) e
     ∙ take_more (drop start text) (i - start) d (omega (arith, length-drop start text))
-    ∙ ap (λ x. piece start i text ++ x ∷ []) (get_or-drop start text (i - start) d ∙ ap (λ n. get_or text n d) at)
+    ∙ ap (λ x. piece start i text ++ x ∷ [])
+    (get_or-drop start text (i - start) d ∙ ap (λ n. get_or text n d) at)
 
 escape-next : (text : List ℕ) (i d : ℕ) → i < length text
     → escape (take (i + 1) text) ≡ escape (take i text) ++ escaped (get_or text i d)
 unfolding escape
 escape-next text i d h =
-    ap (flat_map escaped) (take_more text i d h) ∙ flat_map-append escaped (take i text) (get_or text i d ∷ [])
+    ap (flat_map escaped) (take_more text i d h)
+    ∙ flat_map-append escaped (take i text) (get_or text i d ∷ [])
     ∙ ap (λ t. flat_map escaped (take i text) ++ t) (append-nil (escaped (get_or text i d)))
 
 -- a byte that is not escaped
@@ -43,7 +47,8 @@ Owes-own a b text start i d s h own p =
     let x = get_or text i d in (
       p.0,
       p.1,
-      ap (λ t. p.0 ++ t) (piece-next text start i d s h) ∙ sym (append_assoc p.0 (piece start i text) (x ∷ []))
+      ap (λ t. p.0 ++ t) (piece-next text start i d s h)
+          ∙ sym (append_assoc p.0 (piece start i text) (x ∷ []))
           ∙ ap (λ t. t ++ x ∷ []) p.2
           ∙ ap (λ e. escape (take i text) ++ cond e (92 ∷ x ∷ []) (x ∷ [])) (sym own)
           ∙ sym (escape-next text i d h),
@@ -60,8 +65,10 @@ Owes-escaped a b c text start i d s h esc p q =
     let none : piece i i text ≡ [] = ap (λ n. take n (drop i text)) still in (
       p.0 ++ owed,
       PutsAll-after a b c p.0 owed p.1 q,
-      ap (λ t. (p.0 ++ owed) ++ t) (piece-next text i i d (omega arith) h ∙ ap (λ t. t ++ x ∷ []) none)
-          ∙ ap (λ t. t ++ x ∷ []) (sym (append_assoc p.0 (piece start i text) (92 ∷ [])) ∙ ap (λ t. t ++ 92 ∷ []) p.2)
+      ap (λ t. (p.0 ++ owed) ++ t)
+          (piece-next text i i d (omega arith) h ∙ ap (λ t. t ++ x ∷ []) none)
+          ∙ ap (λ t. t ++ x ∷ [])
+          (sym (append_assoc p.0 (piece start i text) (92 ∷ [])) ∙ ap (λ t. t ++ 92 ∷ []) p.2)
           ∙ append_assoc (escape (take i text)) (92 ∷ []) (x ∷ [])
           ∙ ap (λ e. escape (take i text) ++ cond e (92 ∷ x ∷ []) (x ∷ [])) (sym esc)
           ∙ sym (escape-next text i d h),
@@ -70,7 +77,8 @@ Owes-escaped a b c text start i d s h esc p q =
 -- the fault of a writer that was given the bytes before an escaped byte and a `\`
 pub Owes-stopped : (a b c : Writer) (text : List ℕ) (start i d : ℕ) → i < length text
     → is_escaped (get_or text i d) ≡ true
-    → Owes a b text start i → PutsPrefix b c (piece start i text ++ 92 ∷ []) → PutsPrefix a c (escape text)
+    → Owes a b text start i → PutsPrefix b c (piece start i text ++ 92 ∷ [])
+    → PutsPrefix a c (escape text)
 unfolding escape
 Owes-stopped a b c text start i d h esc p q =
     let x = get_or text i d in
@@ -86,7 +94,8 @@ Owes-stopped a b c text start i d h esc p q =
     (PutsPrefix-more a c (p.0 ++ owed) (x ∷ rest) (PutsPrefix-after a b c p.0 owed p.1 q))
 
 -- the rest is written
-pub Owes-done : (old mid new : Writer) (r : Result (Unit {0}) WriteFault) (text : List ℕ) (start : ℕ)
+pub Owes-done : (old mid new : Writer) (r : Result (Unit {0}) WriteFault)
+    (text : List ℕ) (start : ℕ)
     → Owes old mid text start (length text) → Puts mid new r (piece start (length text) text)
     → Puts old new r (escape text)
 Owes-done old mid new r text start p q =

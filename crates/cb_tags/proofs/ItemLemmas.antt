@@ -5,7 +5,8 @@ use Rattle.std.specs.List.{flat_map}
 use Rattle.std.proofs.lemmas.Bool.{cases_Bool, false≢true, cond-true, cond-false, eqb-true, eq-eqb}
 use Rattle.std.proofs.lemmas.Bool.{ne_eqb, and_from, and_parts, or_left, or_right, or_from}
 use Rattle.std.proofs.lemmas.Bool.{or_cases}
-use Rattle.cb_tags.specs.Addresses.{is_escaped, escaped, escape, Items, no_item, escaped_item, own_item, IsOneLine}
+use Rattle.cb_tags.specs.Addresses.{is_escaped, escaped, escape, Items, no_item, escaped_item}
+use Rattle.cb_tags.specs.Addresses.{own_item, IsOneLine}
 use Rattle.cb_tags.specs.steps.Items.{are_items, unescaped}
 
 not_true : (b : Bool) → not b ≡ true → b ≡ false
@@ -16,7 +17,9 @@ eqb-false : (a b : ℕ) → (a == b) ≡ false → a ≢ b
 eqb-false a b f e = false≢true (sym f ∙ eq-eqb a b e)
 
 which : (b : ℕ) → is_escaped b ≡ true → (b ≡ 47) ⊎ (b ≡ 92)
-which b t = ⊎_elim (λ e. inl (eqb-true b 47 e)) (λ e. inr (eqb-true b 92 e)) (or_cases (b == 47) (b == 92) t)
+which b t =
+    ⊎_elim (λ e. inl (eqb-true b 47 e)) (λ e. inr (eqb-true b 92 e))
+    (or_cases (b == 47) (b == 92) t)
 
 is_one : (b : ℕ) → (b ≡ 47) ⊎ (b ≡ 92) → is_escaped b ≡ true
 is_one b (inl e) = or_left _ _ (eq-eqb b 47 e)
@@ -32,7 +35,8 @@ read-Items (b ∷ []) t = ⊎_elim
     let parts = and_parts (not (b == 47) && not (b == 10)) true (sym (cond-false _ _ _ f) ∙ t) in
     let tests = and_parts (not (b == 47)) (not (b == 10)) parts.0 in
     subst (λ t. Items (b ∷ []) t) (sym (cond-false _ _ _ f))
-    (own_item (eqb-false b 47 (not_true _ tests.0)) (eqb-false b 92 f) (eqb-false b 10 (not_true _ tests.1)) no_item))
+    (own_item (eqb-false b 47 (not_true _ tests.0)) (eqb-false b 92 f)
+    (eqb-false b 10 (not_true _ tests.1)) no_item))
     (cases_Bool (b == 92))
 read-Items (b ∷ c ∷ bs) t = ⊎_elim
     (λ e.
@@ -40,7 +44,9 @@ read-Items (b ∷ c ∷ bs) t = ⊎_elim
     subst (λ t. Items (b ∷ c ∷ bs) t) (sym (cond-true _ _ _ e))
     (escaped_item (eqb-true b 92 e) (which c parts.0) (read-Items bs parts.1)))
     (λ f.
-    let parts = and_parts (not (b == 47) && not (b == 10)) (are_items false (c ∷ bs)) (sym (cond-false _ _ _ f) ∙ t) in
+    let parts =
+    and_parts (not (b == 47) && not (b == 10)) (are_items false (c ∷ bs))
+    (sym (cond-false _ _ _ f) ∙ t) in
     let tests = and_parts (not (b == 47)) (not (b == 10)) parts.0 in
     subst (λ t. Items (b ∷ c ∷ bs) t) (sym (cond-false _ _ _ f))
     (own_item (eqb-false b 47 (not_true _ tests.0)) (eqb-false b 92 f)
@@ -81,16 +87,23 @@ written-Items (b ∷ bs) one = ⊎_elim
     (cases_Bool (is_escaped b))
 
 -- items are what is written for the text that they stand for, and that is one line
-pub Items-written : (items text : List ℕ) → Items items text → (items ≡ escape text) × IsOneLine text
+pub Items-written : (items text : List ℕ) → Items items text
+    → (items ≡ escape text) × IsOneLine text
 unfolding escape
 Items-written _ _ no_item = (refl, tt)
 Items-written _ _ (escaped_item {a} {b} {items} {text} e w r) =
     let k = Items-written items text r in (
       ap (λ x. x ∷ b ∷ items) e ∙ ap (λ t. 92 ∷ b ∷ t) k.0
           ∙ ap (λ e. cond e (92 ∷ b ∷ []) (b ∷ []) ++ flat_map escaped text) (sym (is_one b w)),
-      (⊎_elim (λ is f. absurd (omega (arith, is, f))) (λ is f. absurd (omega (arith, is, f))) w, k.1),
+      (
+        ⊎_elim (λ is f. absurd (omega (arith, is, f))) (λ is f. absurd (omega (arith, is, f))) w,
+        k.1,
+      ),
     )
 Items-written _ _ (own_item {b} {items} {text} x y z r) =
     let k = Items-written items text r in
-    let f : is_escaped b ≡ false = or_from _ _ (ne_eqb b 47 x) (ne_eqb b 92 y) in
-    (ap (λ t. b ∷ t) k.0 ∙ ap (λ e. cond e (92 ∷ b ∷ []) (b ∷ []) ++ flat_map escaped text) (sym f), (z, k.1))
+    let f : is_escaped b ≡ false = or_from _ _ (ne_eqb b 47 x) (ne_eqb b 92 y) in (
+      ap (λ t. b ∷ t) k.0
+          ∙ ap (λ e. cond e (92 ∷ b ∷ []) (b ∷ []) ++ flat_map escaped text) (sym f),
+      (z, k.1),
+    )

@@ -26,7 +26,8 @@ first_line [] = tt
 first_line (b ∷ bs) = ⊎_elim
     (λ t. subst (λ n. FeedsLast (take n (b ∷ bs))) (sym (cond-true _ _ _ t)) tt)
     (λ f. subst (λ n. FeedsLast (take n (b ∷ bs))) (sym (cond-false _ _ _ f))
-    (feeds_more b (take (line_len bs) bs) (λ e. false≢true (sym f ∙ eq-eqb b 10 e)) (first_line bs)))
+    (feeds_more b (take (line_len bs) bs) (λ e. false≢true (sym f ∙ eq-eqb b 10 e))
+    (first_line bs)))
     (cases_Bool (b == 10))
 
 each_line : (fuel : ℕ) (text : List ℕ) → AllByRecursion FeedsLast (lines_from fuel text)
@@ -48,12 +49,16 @@ part-one (suc n) [] one = tt
 part-one (suc n) (b ∷ bs) one = (one.0, part-one n bs one.1)
 
 -- all of it, where the last byte is no line feed either
-whole-one : (bs : List ℕ) → FeedsLast bs → (0 < length bs → slice_index bs (length bs - 1) ≢ 10) → IsOneLine bs
+whole-one : (bs : List ℕ) → FeedsLast bs → (0 < length bs → slice_index bs (length bs - 1) ≢ 10)
+    → IsOneLine bs
 whole-one [] f other = tt
 whole-one (b ∷ []) f other = (other (omega arith), tt)
 whole-one (b ∷ c ∷ bs) f other =
-    let next : length (b ∷ c ∷ bs) - 1 ≡ suc (length (c ∷ bs) - 1) = omega arith in
-    (f.0, whole-one (c ∷ bs) f.1 (λ some e. other (omega arith) (ap (slice_index (b ∷ c ∷ bs)) next ∙ e)))
+    let next : length (b ∷ c ∷ bs) - 1 ≡ suc (length (c ∷ bs) - 1) = omega arith in (
+      f.0,
+      whole-one (c ∷ bs) f.1
+          (λ some e. other (omega arith) (ap (slice_index (b ∷ c ∷ bs)) next ∙ e)),
+    )
 
 no_cr-one : (bs : List ℕ) → IsOneLine bs → IsOneLine (no_cr bs)
 no_cr-one bs one = ⊎_elim
@@ -67,7 +72,8 @@ shown-one (b ∷ bs) f =
     let line = b ∷ bs in
     let last = length line - 1 in
     ⊎_elim
-    (λ t. subst IsOneLine (sym (cond-true _ _ _ t)) (no_cr-one (take last line) (front-one line last f (omega arith))))
+    (λ t. subst IsOneLine (sym (cond-true _ _ _ t))
+    (no_cr-one (take last line) (front-one line last f (omega arith))))
     (λ n. subst IsOneLine (sym (cond-false _ _ _ n))
     (whole-one line f (λ some e. false≢true (sym n ∙ and_from _ _ (grind (arith, nat_tests))
     (eq-eqb (slice_index line last) 10 e)))))

@@ -30,10 +30,12 @@ record FirstIs (p : ℕ → Bool) (a k : ℕ) (xs : List ℕ) : Type 0 where
   least : first ≤ k
   passes : p first ≡ true
 
-first_is : (p : ℕ → Bool) (a n k : ℕ) → a ≤ k → k < a + n → p k ≡ true → FirstIs p a k (range_with_len a n)
+first_is : (p : ℕ → Bool) (a n k : ℕ) → a ≤ k → k < a + n → p k ≡ true
+    → FirstIs p a k (range_with_len a n)
 first_is p a zero k low high passes_k = absurd (omega arith)
 first_is p a (suc n) k low high passes_k = ⊎_elim
-    (λ t. record { first = a; found = cond-true _ _ _ t; from = omega arith; least = low; passes = t })
+    (λ t.
+    record { first = a; found = cond-true _ _ _ t; from = omega arith; least = low; passes = t })
     (λ f.
     let other : a ≢ k = λ is. false≢true (sym f ∙ ap p is ∙ passes_k) in
     let above : a + 1 ≤ k = omega (arith, other, low) in
@@ -55,5 +57,10 @@ unfolding finds
 finds-line source n low high =
     let text = line_text source n in
     let r = first_is (λ m. bytes_eq text (line_text source m)) 1 (length (lines source)) n low
-    (omega arith) ((bytes_eq-Decides text text).1 refl) in
-    (r.first, r.found, r.from, r.least, sym ((bytes_eq-Decides text (line_text source r.first)).0 r.passes))
+    (omega arith) ((bytes_eq-Decides text text).1 refl) in (
+      r.first,
+      r.found,
+      r.from,
+      r.least,
+      sym ((bytes_eq-Decides text (line_text source r.first)).0 r.passes),
+    )

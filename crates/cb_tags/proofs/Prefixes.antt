@@ -22,11 +22,16 @@ AppendsPrefix-more a b text more p =
 -- a whole text, and then a prefix of another
 pub AppendsPrefix-after : (a b c : Option (List ℕ)) (text more : List ℕ) → Appends a b text
     → AppendsPrefix b c more → AppendsPrefix a c (text ++ more)
-AppendsPrefix-after a b c text more p q =
-    (text ++ q.0, q.1, ap (λ t. text ++ t) q.2 ∙ sym (append_assoc text q.0 q.1), Appends-trans a b c text q.0 p q.3)
+AppendsPrefix-after a b c text more p q = (
+  text ++ q.0,
+  q.1,
+  ap (λ t. text ++ t) q.2 ∙ sym (append_assoc text q.0 q.1),
+  Appends-trans a b c text q.0 p q.3,
+)
 
 -- a whole text is a prefix of it
-pub AppendsPrefix-whole : (a b : Option (List ℕ)) (text : List ℕ) → Appends a b text → AppendsPrefix a b text
+pub AppendsPrefix-whole : (a b : Option (List ℕ)) (text : List ℕ) → Appends a b text
+    → AppendsPrefix a b text
 AppendsPrefix-whole a b text p = (text, [], sym (append-nil text), p)
 
 -- a text of no bytes leaves the known bytes as they were
@@ -63,7 +68,8 @@ PutsAll-after old mid new (x ∷ xs) more p q = (
 -- a prefix of a text is one of each longer text
 pub PutsPrefix-more : (old new : Writer) (text more : List ℕ) → PutsPrefix old new text
     → PutsPrefix old new (text ++ more)
-PutsPrefix-more old new text more p = (p.0, p.1, AppendsPrefix-more old.bytes new.bytes text more p.2)
+PutsPrefix-more old new text more p =
+    (p.0, p.1, AppendsPrefix-more old.bytes new.bytes text more p.2)
 
 -- a whole text, and then a prefix of another
 pub PutsPrefix-after : (old mid new : Writer) (text more : List ℕ) → PutsAll old mid text
@@ -120,11 +126,14 @@ PutsAll-next old mid new text at n p q =
     (q.1 ∙ sym q.0, λ h. q.0, q.4, λ e. absurd (take-some n (drop at text) q.2 q.3 e)))
 
 -- a text of which the first bytes were written, and nothing after them
-pub PutsPrefix-stopped : (old mid new : Writer) (text : List ℕ) (at : ℕ) → PutsAll old mid (take at text)
-    → (new.failed ≡ true) × Keeps mid.bytes new.bytes × (new.pending ≡ mid.pending) → PutsPrefix old new text
+pub PutsPrefix-stopped : (old mid new : Writer) (text : List ℕ) (at : ℕ)
+    → PutsAll old mid (take at text)
+    → (new.failed ≡ true) × Keeps mid.bytes new.bytes × (new.pending ≡ mid.pending)
+    → PutsPrefix old new text
 PutsPrefix-stopped old mid new text at p q =
     subst (λ t. PutsPrefix old new t) (take-append-drop at text)
-    (PutsPrefix-after old mid new (take at text) (drop at text) p (PutsPrefix-none mid new (drop at text) q.0 q.1 q.2))
+    (PutsPrefix-after old mid new (take at text) (drop at text) p
+    (PutsPrefix-none mid new (drop at text) q.0 q.1 q.2))
 
 -- the texts of the elements of a list: those before an element, that of the element, those after it
 pub flat_map-at : {X : Type 0} (f : X → List ℕ) (xs : List X) (i : ℕ) (d : X) → i < length xs
@@ -134,14 +143,16 @@ flat_map-at f xs i d h =
     ∙ ap (λ t. flat_map f (take i xs) ++ flat_map f t) (drop-cons xs i d h)
 
 -- the text of the next element
-pub PutsAll-element : {X : Type 0} (f : X → List ℕ) (old mid new : Writer) (xs : List X) (i : ℕ) (d : X) → i < length xs
+pub PutsAll-element : {X : Type 0} (f : X → List ℕ) (old mid new : Writer) (xs : List X) (i : ℕ)
+    (d : X) → i < length xs
     → PutsAll old mid (flat_map f (take i xs)) → PutsAll mid new (f (get_or xs i d))
     → PutsAll old new (flat_map f (take (i + 1) xs))
 PutsAll-element f old mid new xs i d h p q =
     let e : flat_map f (take (i + 1) xs) ≡ flat_map f (take i xs) ++ f (get_or xs i d) =
     ap (flat_map f) (take_more xs i d h) ∙ flat_map-append f (take i xs) (get_or xs i d ∷ [])
     ∙ ap (λ t. flat_map f (take i xs) ++ t) (append-nil (f (get_or xs i d))) in
-    subst (λ t. PutsAll old new t) (sym e) (PutsAll-after old mid new (flat_map f (take i xs)) (f (get_or xs i d)) p q)
+    subst (λ t. PutsAll old new t) (sym e)
+    (PutsAll-after old mid new (flat_map f (take i xs)) (f (get_or xs i d)) p q)
 
 -- a prefix of the text of the next element
 pub PutsPrefix-element : {X : Type 0} (f : X → List ℕ) (old mid new : Writer) (xs : List X) (i : ℕ)
@@ -150,5 +161,6 @@ pub PutsPrefix-element : {X : Type 0} (f : X → List ℕ) (old mid new : Writer
     → PutsPrefix old new (flat_map f xs)
 PutsPrefix-element f old mid new xs i d h p q =
     subst (λ t. PutsPrefix old new t) (sym (flat_map-at f xs i d h))
-    (PutsPrefix-after old mid new (flat_map f (take i xs)) (f (get_or xs i d) ++ flat_map f (drop (suc i) xs)) p
+    (PutsPrefix-after old mid new (flat_map f (take i xs))
+    (f (get_or xs i d) ++ flat_map f (drop (suc i) xs)) p
     (PutsPrefix-more mid new (f (get_or xs i d)) (flat_map f (drop (suc i) xs)) q))

@@ -8,8 +8,8 @@ abbrev pub AppendsPrefix : Option (List ℕ) → Option (List ℕ) → List ℕ 
 AppendsPrefix old new text =
     (prefix rest : List ℕ) × (text ≡ prefix ++ rest) × Appends old new prefix
 
--- the whole text was written; a writer that had failed takes no text but the empty one, which leaves
--- no more pending than before
+-- the whole text was written; a writer that had failed takes no text but the empty one, which
+-- leaves no more pending than before
 abbrev pub PutsAll : Writer → Writer → List ℕ → Type 0
 PutsAll old new text =
     (new.failed ≡ old.failed) × (text ≢ [] → old.failed ≡ false) × Appends old.bytes new.bytes text

@@ -1,5 +1,6 @@
 -- The words of a process, and what is done with them.
-use Rattle.std.proofs.Common.{◌≡◌, ◌∙◌, ◌⊎◌, ◌++◌, ap, inr, refl, sym, subst, take, ℕ, List, [], Option, None, Some, Result, Ok, Err, String, map, string_bytes}
+use Rattle.std.proofs.Common.{◌≡◌, ◌∙◌, ◌⊎◌, ◌++◌, ap, inr, refl, sym, subst, take, ℕ, List, []}
+use Rattle.std.proofs.Common.{Option, None, Some, Result, Ok, Err, String, map, string_bytes}
 use Rattle.std.specs.Prelude.{IfOk, IfSome}
 use Rattle.std.specs.Option.{option_map}
 use Rattle.std.specs.Io.Take.{take_inner, take_limit, take_remaining}
@@ -20,7 +21,9 @@ use Rattle.cbrowse.specs.Program.{most_read}
 use Rattle.cb_words.specs.Usages.{IsUsageOf}
 
 -- the words were taken
-pub process_ran : (words : Result (IntoIter (String Global) Global) Error) (taken : Vec (String Global) Global) (slice : List (String Global)) (status : ℕ) (feed feed' : Reader)
+pub process_ran : (words : Result (IntoIter (String Global) Global) Error)
+    (taken : Vec (String Global) Global) (slice : List (String Global)) (status : ℕ)
+    (feed feed' : Reader)
     (out out' errors errors' : Writer) → TakesWords words (Ok taken) → slice ≡ taken.items
     → EndsJob (map string_bytes slice) status feed feed' out out' errors errors'
     ⊎ EndsUsage (map string_bytes slice) status feed feed' out out' errors errors'
@@ -31,27 +34,42 @@ process_ran (Ok given) taken slice status feed feed' out out' errors errors' t s
 process_ran (Err error) taken slice status feed feed' out out' errors errors' t same e = absurd t
 
 -- there are none
-pub process_refused : (words : Result (IntoIter (String Global) Global) Error) (usage : Usage) (status : ℕ) (feed : Reader)
-    (out errors errors' : Writer) → TakesWords words (Err usage) → status ≡ usage_status usage → Says errors errors' (usage_said usage)
+pub process_refused : (words : Result (IntoIter (String Global) Global) Error) (usage : Usage)
+    (status : ℕ) (feed : Reader)
+    (out errors errors' : Writer) → TakesWords words (Err usage) → status ≡ usage_status usage
+    → Says errors errors' (usage_said usage)
     → EndsProcess words status feed feed out out errors errors'
 process_refused (Ok given) usage status feed out errors errors' t is says =
-    inr (usage, subst (IsUsageOf (map string_bytes (into_iter_items given))) (sym t) tt, (refl, refl), is, says)
-process_refused (Err error) usage status feed out errors errors' t is says = (usage, t, (refl, refl), is, says)
+    inr (
+      usage,
+      subst (IsUsageOf (map string_bytes (into_iter_items given))) (sym t) tt,
+      (refl, refl),
+      is,
+      says,
+    )
+process_refused (Err error) usage status feed out errors errors' t is says =
+    (usage, t, (refl, refl), is, says)
 
 -- the words are collected
-pub collected : (given : IntoIter (String Global) Global) {E : Type 0} (r : Result (Vec (String Global) Global) E)
-    → IsCollectResult into_iter_steps given r → IfOk r (λ taken. taken.items ≡ into_iter_items given)
-collected given r k = items_from_collect r k (YieldsList-from_vec (into_iter_items given) refl given.rest.ok.0)
+pub collected : (given : IntoIter (String Global) Global) {E : Type 0}
+    (r : Result (Vec (String Global) Global) E)
+    → IsCollectResult into_iter_steps given r
+    → IfOk r (λ taken. taken.items ≡ into_iter_items given)
+collected given r k =
+    items_from_collect r k (YieldsList-from_vec (into_iter_items given) refl given.rest.ok.0)
 
 -- all that is left is read, up to a limit
 rest_of : (known : Option (List ℕ)) (limit : ℕ) (before got : List ℕ) → before ≡ []
-    → IfSome (option_map (take limit) known) (λ xs. got ≡ before ++ xs) → IfSome known (λ left. got ≡ take limit left)
+    → IfSome (option_map (take limit) known) (λ xs. got ≡ before ++ xs)
+    → IfSome known (λ left. got ≡ take limit left)
 rest_of None limit before got e h = tt
 rest_of (Some xs) limit before got e h = h ∙ ap (λ b. b ++ take limit xs) e
 
-pub read_all : {F : Type 0} (remaining : F → Option (List ℕ)) (t : Take F) (file : F) (before got : List ℕ)
+pub read_all : {F : Type 0} (remaining : F → Option (List ℕ)) (t : Take F) (file : F)
+    (before got : List ℕ)
     → take_limit t ≡ most_read → take_inner t ≡ file → before ≡ []
-    → IfSome (take_remaining remaining t) (λ xs. got ≡ before ++ xs) → IfSome (remaining file) (λ left. got ≡ take most_read left)
+    → IfSome (take_remaining remaining t) (λ xs. got ≡ before ++ xs)
+    → IfSome (remaining file) (λ left. got ≡ take most_read left)
 read_all remaining t file before got limit inner e h =
     subst (λ f. IfSome (remaining f) (λ left. got ≡ take most_read left)) inner
     (subst (λ n. IfSome (remaining (take_inner t)) (λ left. got ≡ take n left)) limit

@@ -74,8 +74,8 @@ abbrev pub HasPattern : Job → Type 0
 HasPattern (Find field pattern files) = string_bytes pattern ≢ []
 HasPattern _ = Unit {0}
 
--- a job is done from a timeline: a session is served; the rows of a search and tags are written, and
--- the reader is left alone
+-- a job is done from a timeline: a session is served; the rows of a search and tags are written,
+-- and the reader is left alone
 abbrev pub DoesJob : Job → (lines limit : ℕ) → State → Reader → Reader → Writer → Writer
     → Ended → Type 0
 DoesJob (Line files) lines limit s feed feed' old new ended =
@@ -157,8 +157,8 @@ abbrev pub late_contents : {F : Type 0} → (F → Option (List ℕ)) → Option
 late_contents contents None = Some []
 late_contents contents (Some file) = contents file
 
--- reading the files stops: memory is refused, or the file at a place can't be read, and those before
--- it were
+-- reading the files stops: memory is refused, or the file at a place can't be read, and those
+-- before it were
 abbrev pub StopsReading : List (List ℕ) → (read : List (List ℕ)) → Finish → Type 0
 StopsReading files read (Ran ended) = ended ≡ Fault Memory
 StopsReading files read (Unreadable place) =

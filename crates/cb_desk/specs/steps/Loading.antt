@@ -39,7 +39,12 @@ just_room a shown = record {
 -- that world, and the records that take the loads back
 abbrev pub loads_recorded : Archived → List Shown → List Turn → Recorded
 loads_recorded a shown records = record {
-  kept = record { archive = a; turns = length shown; now = loaded_numbers a shown; rooms = just_room a shown };
+  kept = record {
+    archive = a;
+    turns = length shown;
+    now = loaded_numbers a shown;
+    rooms = just_room a shown;
+  };
   records = records;
   done = length records;
 }

@@ -18,8 +18,8 @@ count_before ps name = prefix_len (λ (p : NumberedPlace). not (nat_eq p.name na
 abbrev pub count_of : List NumberedPlace → ℕ → ℕ
 count_of ps name = count_by (λ (p : NumberedPlace). nat_eq p.name name) ps
 
--- so many places of a file stand behind `before` others in one list and behind `after` others in the
--- other: the places between these two change sides with them
+-- so many places of a file stand behind `before` others in one list and behind `after` others in
+-- the other: the places between these two change sides with them
 abbrev pub renaming_over : (from to count before after : ℕ) → Renaming
 renaming_over from to count before after = record {
   from = from;

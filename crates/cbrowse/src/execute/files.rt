@@ -41,8 +41,8 @@ fn path_of(alloc: Global, folder: &str, name: &str) -> Result<String, AllocError
     Ok(path)
 }
 
-/// The bytes that are left, at most `MOST_READ`. There is room for so many of them, and for one more
-/// that would show that there are more, before the first is read.
+/// The bytes that are left, at most `MOST_READ`. There is room for so many of them, and for one
+/// more that would show that there are more, before the first is read.
 fn read_whole<F: Read + Drop>(alloc: Global, file: F, size: u64) -> io::Result<Vec<u8>>
     ensures { IfOk result (λ bytes.
         IfSome (F.remaining file) (λ left. bytes.items ≡ take most_read left)) }
@@ -165,8 +165,8 @@ fn checked<F: OpenFile + Drop>(name: &str, file: F) -> io::Result<(F, Metadata)>
     }
 }
 
-/// Makes or empties a tags file. Where memory is refused, the old one stays as it was, and so does a
-/// C source.
+/// Makes or empties a tags file. Where memory is refused, the old one stays as it was, and so does
+/// a C source.
 pub(crate) fn make_file<R: Files + AllocGlobal>(
     rt: &R,
     folder: &str,

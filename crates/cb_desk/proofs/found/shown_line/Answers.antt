@@ -12,7 +12,8 @@ returns-in-Some c =
     (λ none. absurd (none-some _ (sym (c.in-Some.ensures.zero none))))
     (λ some.
     let above : 0 < c.args.line = omega (arith, some) in
-    sym (line_text-at text c.args.line above ∙ get_or_from_slice_get (lines text) (c.args.line - 1) _ [] (sym (c.in-Some.ensures.line above))))
+    sym (line_text-at text c.args.line above ∙ get_or_from_slice_get (lines text)
+    (c.args.line - 1) _ [] (sym (c.in-Some.ensures.line above))))
     (cases_eq c.args.line 0)
 
 pub returns-in-None : goal.returns-in-None
@@ -22,5 +23,6 @@ returns-in-None c =
     (λ none. sym (ap (line_text text) none))
     (λ some.
     let above : 0 < c.args.line = omega (arith, some) in
-    sym (line_text-at text c.args.line above ∙ sym (unwrap_or-slice_get (lines text) (c.args.line - 1) []) ∙ ap (λ found. unwrap_or found []) (sym (c.in-None.ensures.line above))))
+    sym (line_text-at text c.args.line above ∙ sym (unwrap_or-slice_get (lines text)
+    (c.args.line - 1) []) ∙ ap (λ found. unwrap_or found []) (sym (c.in-None.ensures.line above))))
     (cases_eq c.args.line 0)

@@ -7,7 +7,8 @@ abbrev pub invariant-loop-name : goal.invariant-loop-name
 invariant-loop-name l = record {
   names : l.shelf.archive.names ++ map (λ n. n.items) (into_iter_items l.name-iterator)
       ≡ l.initial.shelf.archive.names ++ map (λ n. n.items) l.fn.names.items;
-  fits : length l.shelf.archive.names + length (into_iter_items l.name-iterator) ≤ l.shelf.archive.name_room;
+  fits : length l.shelf.archive.names + length (into_iter_items l.name-iterator)
+      ≤ l.shelf.archive.name_room;
   texts : l.shelf.archive.texts ≡ l.initial.shelf.archive.texts;
   shown : l.shelf.shown ≡ l.initial.shelf.shown;
   turns : l.shelf.turns ≡ l.initial.shelf.turns;

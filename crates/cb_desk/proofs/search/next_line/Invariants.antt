@@ -9,6 +9,7 @@ decreases-loop-place l = length (lines l.left.rest.now)
 
 abbrev pub invariant-loop-place : goal.invariant-loop-place
 invariant-loop-place l = record {
-  found : found_from l.finder l.left.line (lines l.left.rest.now) ≡ found_from l.finder l.fn.left.line (lines l.fn.left.rest.now);
+  found : found_from l.finder l.left.line (lines l.left.rest.now)
+      ≡ found_from l.finder l.fn.left.line (lines l.fn.left.rest.now);
   small : l.left.line + length (lines l.left.rest.now) ≤ MOST_BYTES + 1;
 }

@@ -1,7 +1,8 @@
 use Rattle.std.proofs.Common.{◌≡◌, ◌∙◌, ap, subst, sym}
 use Rattle.cb_desk.specs.Desk.{bytes_in, counted, definitions_in}
 use Rattle.cb_desk.specs.Models.{file_of}
-use Rattle.cb_desk.proofs.Counted.{counted_none, counts_between, counts_bound, counts_least, counts_next, counts_stop, finds_bound, finds_next}
+use Rattle.cb_desk.proofs.Counted.{counted_none, counts_between, counts_bound, counts_least}
+use Rattle.cb_desk.proofs.Counted.{counts_next, counts_stop, finds_bound, finds_next}
 use Rattle.cb_desk.proofs.state.scan_files.Goals as goal
 
 pub loop-source-preserved : goal.loop-source-preserved
@@ -10,15 +11,21 @@ loop-source-preserved c =
     let m = c.loop-source.meter in
     let all = bytes_in c.args.files in
     let f = file_of (c.in-Some.field-0-0, c.in-Some.source) in
-    let counts = subst (λ fs. counted m (bytes_in fs) ≡ counted old all) c.in-Some.ensures.steps c.loop-source.invariant.counts in
+    let counts =
+    subst (λ fs. counted m (bytes_in fs) ≡ counted old all) c.in-Some.ensures.steps
+    c.loop-source.invariant.counts in
     let least = c.loop-source.invariant.least in
     let fits = c.loop-source.invariant.fits in
-    let finds = subst (λ fs. counted c.loop-source.found (definitions_in fs) ≡ counted 0 (definitions_in c.args.files)) c.in-Some.ensures.steps c.loop-source.invariant.finds in
+    let finds =
+    subst (λ fs. counted c.loop-source.found (definitions_in fs) ≡ counted 0
+    (definitions_in c.args.files)) c.in-Some.ensures.steps c.loop-source.invariant.finds in
     record {
       counts = counts_next old m all _ f _ counts c.in_ok-more.ensures.counted;
       least = counts_least old m all _ f _ counts c.in_ok-more.ensures.counted least fits;
       fits = counts_bound old m all _ f _ counts c.in_ok-more.ensures.counted;
-      finds = finds_next c.loop-source.found _ (definitions_in c.args.files) f _ _ finds c.in_ok-more.ensures.found c.saturating_add-found.ensures;
+      finds =
+          finds_next c.loop-source.found _ (definitions_in c.args.files) f _ _ finds
+          c.in_ok-more.ensures.found c.saturating_add-found.ensures;
       few = finds_bound c.loop-source.found _ _ c.saturating_add-found.ensures;
     }
 
@@ -28,9 +35,12 @@ returns-in_err-more-clause-meter c =
     let m = c.loop-source.meter in
     let all = bytes_in c.args.files in
     let f = file_of (c.in-Some.field-0-0, c.in-Some.source) in
-    let counts = subst (λ fs. counted m (bytes_in fs) ≡ counted old all) c.in-Some.ensures.steps c.loop-source.invariant.counts in
+    let counts =
+    subst (λ fs. counted m (bytes_in fs) ≡ counted old all) c.in-Some.ensures.steps
+    c.loop-source.invariant.counts in
     counts_between c.from_residual.result all old _ c.from_residual.ensures.0
-    (counts_stop old m all _ f _ counts c.in_err-more.ensures.counted c.loop-source.invariant.least c.loop-source.invariant.fits)
+    (counts_stop old m all _ f _ counts c.in_err-more.ensures.counted c.loop-source.invariant.least
+    c.loop-source.invariant.fits)
 
 pub returns-clause-meter : goal.returns-clause-meter
 returns-clause-meter c =

@@ -5,4 +5,5 @@ use Rattle.cb_session.proofs.Words.{too_many-0}
 use Rattle.cb_session.proofs.line.alone.Goals as goal
 
 pub returns : goal.returns
-returns c = sym (too_many-0 (alone (command_of c.args.command)) _ (λ a words. refl) _ _ c.in-Some.is)
+returns c =
+    sym (too_many-0 (alone (command_of c.args.command)) _ (λ a words. refl) _ _ c.in-Some.is)

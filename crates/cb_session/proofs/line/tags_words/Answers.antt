@@ -4,4 +4,6 @@ use Rattle.cb_session.proofs.Words.{too_many-1}
 use Rattle.cb_session.proofs.line.tags_words.Goals as goal
 
 pub returns-in_default-Some : goal.returns-in_default-Some
-returns-in_default-Some c = sym (too_many-1 tags_words _ (λ a b words. refl) _ _ _ _ _ c.in-Some.is c.cut_word.ensures.words c.in_default-Some.is-1)
+returns-in_default-Some c =
+    sym (too_many-1 tags_words _ (λ a b words. refl) _ _ _ _ _ c.in-Some.is c.cut_word.ensures.words
+    c.in_default-Some.is-1)

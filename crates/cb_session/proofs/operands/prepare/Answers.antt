@@ -3,7 +3,8 @@ use Rattle.std.proofs.lemmas.List.{length-map}
 use Rattle.std.specs.Vec.Iter.{into_iter_items}
 use Rattle.cb_desk.specs.steps.Loading.{Loaded}
 use Rattle.cb_session.specs.Operands.{file_of_operand}
-use Rattle.cb_session.proofs.Loading.{goes_on, past_grows, scans_bound, scans_next, starts_all, stops}
+use Rattle.cb_session.proofs.Loading.{goes_on, past_grows, scans_bound, scans_next, starts_all}
+use Rattle.cb_session.proofs.Loading.{stops}
 use Rattle.cb_session.proofs.operands.prepare.Goals as goal
 
 pub overflow_add-place : goal.overflow_add-place
@@ -21,10 +22,15 @@ loop-operand-preserved c =
     let counted = c.loop-operand.invariant.counted in
     let fewer = c.in-Some.ensures.steps.1 in
     record {
-      goes = goes_on _ _ _ _ _ _ _ (file_of_operand c.in-Some.operand) _ tt c.loop-operand.invariant.goes first c.as_slice.ensures.value c.in-Ok.ensures.timeline;
+      goes =
+          goes_on _ _ _ _ _ _ _ (file_of_operand c.in-Some.operand) _ tt
+          c.loop-operand.invariant.goes first c.as_slice.ensures.value c.in-Ok.ensures.timeline;
       placed = past_grows _ _ _ _ _ tt c.loop-operand.invariant.placed c.in-Ok.ensures.timeline;
       counted = omega (arith, one_less, counted, fewer);
-      scanned = scans_next _ _ (map file_of_operand c.args.operands.items) _ (file_of_operand c.in-Some.operand) _ tt first c.loop-operand.invariant.scanned c.in-Ok.ensures.meter;
+      scanned =
+          scans_next _ _ (map file_of_operand c.args.operands.items) _
+          (file_of_operand c.in-Some.operand) _ tt first c.loop-operand.invariant.scanned
+          c.in-Ok.ensures.meter;
       fits = scans_bound _ _ (file_of_operand c.in-Some.operand) tt c.in-Ok.ensures.meter;
       hidden = c.load.ensures.turns ∙ c.loop-operand.invariant.hidden;
     }
@@ -32,7 +38,8 @@ loop-operand-preserved c =
 pub returns-in-Err : goal.returns-in-Err
 returns-in-Err c =
     let first = ap (map file_of_operand) c.in-Some.ensures.steps.0 in
-    stops _ _ _ _ _ _ _ (file_of_operand c.in-Some.operand) _ _ c.loop-operand.invariant.goes first c.as_slice.ensures.value c.in-Err.ensures.timeline
+    stops _ _ _ _ _ _ _ (file_of_operand c.in-Some.operand) _ _ c.loop-operand.invariant.goes first
+    c.as_slice.ensures.value c.in-Err.ensures.timeline
 
 pub session_of-requires : goal.session_of-requires
 session_of-requires c = c.loop-operand.invariant.placed
@@ -40,6 +47,11 @@ session_of-requires c = c.loop-operand.invariant.placed
 pub returns : goal.returns
 returns c =
     let items = into_iter_items c.loop-operand.operand-iterator in
-    let none = length-map items file_of_operand ∙ sym c.loop-operand.invariant.counted ∙ c.in-None.ensures.steps.0 in
-    starts_all _ c.loop-operand.place (map file_of_operand c.args.operands.items) (map file_of_operand items) c.session_of.result
-    c.loop-operand.invariant.goes none c.loop-operand.invariant.placed c.loop-operand.invariant.scanned c.loop-operand.invariant.fits c.loop-operand.invariant.hidden c.session_of.ensures
+    let none =
+    length-map items file_of_operand ∙ sym c.loop-operand.invariant.counted
+    ∙ c.in-None.ensures.steps.0 in
+    starts_all _ c.loop-operand.place (map file_of_operand c.args.operands.items)
+    (map file_of_operand items) c.session_of.result
+    c.loop-operand.invariant.goes none c.loop-operand.invariant.placed
+    c.loop-operand.invariant.scanned c.loop-operand.invariant.fits c.loop-operand.invariant.hidden
+    c.session_of.ensures

@@ -7,4 +7,5 @@ use Rattle.cb_session.proofs.places.put_marks.Given as goal
 
 abbrev pub invariant-loop-file : goal.invariant-loop-file
 invariant-loop-file g l =
-    let w = l.fn.desk.timeline.present in WrittenAfter (count_line (length w.marks)) (λ (p : Place). row_line (place_row w.files p)) l.fn.out l.out l.file-iterator w.marks
+    let w = l.fn.desk.timeline.present in WrittenAfter (count_line (length w.marks))
+    (λ (p : Place). row_line (place_row w.files p)) l.fn.out l.out l.file-iterator w.marks

@@ -3,7 +3,8 @@ use Rattle.std.specs.List.{flat_map}
 use Rattle.cb_desk.specs.Models.{row_of}
 use Rattle.cb_session.specs.Output.{count_line, row_line}
 use Rattle.cb_session.specs.Writing.{Puts}
-use Rattle.cb_session.proofs.Puts.{Puts-unfinished, WrittenAfter-all, WrittenAfter-fault, WrittenAfter-more}
+use Rattle.cb_session.proofs.Puts.{Puts-unfinished, WrittenAfter-all, WrittenAfter-fault}
+use Rattle.cb_session.proofs.Puts.{WrittenAfter-more}
 use Rattle.cb_session.proofs.reply.put_rows.Goals as goal
 use Rattle.cb_session.proofs.reply.put_rows.Goals.{in-Some+in_ok-put_row-in-Some, in-None}
 
@@ -14,13 +15,15 @@ nothing-left (x ∷ xs) few = absurd (omega arith)
 pub returns-in_err-put_count : goal.returns-in_err-put_count
 returns-in_err-put_count g c =
     let k = c.in_err-put_count.ensures in
-    subst (λ n. Puts c.args.out.now c.put_count.new.out c.from_residual.result (count_line n ++ flat_map row_line c.args.rows)) c.count_left-count.ensures
+    subst (λ n. Puts c.args.out.now c.put_count.new.out c.from_residual.result
+    (count_line n ++ flat_map row_line c.args.rows)) c.count_left-count.ensures
     (Puts-unfinished _ _ _ _ _ _ c.from_residual.ensures.1 k.1 k.0)
 
 pub returns-in_err-put_row-in-Some : goal.returns-in_err-put_row-in-Some
 returns-in_err-put_row-in-Some g c =
     let k = c.in_err-put_row-in-Some.ensures in
-    WrittenAfter-fault _ row_line _ _ _ _ _ _ (row_of c.in-Some.row) _ _ c.rows.invariant.wrote c.in-Some.ensures.steps c.from_residual-in_err-put_row-in-Some.ensures.1 k.1 k.0
+    WrittenAfter-fault _ row_line _ _ _ _ _ _ (row_of c.in-Some.row) _ _ c.rows.invariant.wrote
+    c.in-Some.ensures.steps c.from_residual-in_err-put_row-in-Some.ensures.1 k.1 k.0
 
 pub rows-preserved : goal.rows-preserved
 rows-preserved g c =
@@ -29,7 +32,9 @@ rows-preserved g c =
           let fewer = ap length w.in-Some.ensures.steps in
           let left = c.rows.invariant.left in
           record {
-            wrote = rw w.out-is (WrittenAfter-more _ row_line _ _ _ _ _ _ (row_of w.in-Some.row) c.rows.invariant.wrote w.in-Some.ensures.steps w.in_ok-put_row-in-Some.ensures.0);
+            wrote =
+                rw w.out-is (WrittenAfter-more _ row_line _ _ _ _ _ _ (row_of w.in-Some.row)
+                c.rows.invariant.wrote w.in-Some.ensures.steps w.in_ok-put_row-in-Some.ensures.0);
             left = omega (arith, fewer, left);
           }
       | in-None w ↦
@@ -44,5 +49,8 @@ pub returns : goal.returns
 returns g c =
     let counted = c.count_left-count.ensures in
     let left = c.rows.invariant.left in
-    let after = c.rows-test.false in
-    (WrittenAfter-all _ row_line _ _ _ _ c.rows.invariant.wrote (nothing-left _ (omega (arith, left, after, counted))), tt)
+    let after = c.rows-test.false in (
+      WrittenAfter-all _ row_line _ _ _ _ c.rows.invariant.wrote
+          (nothing-left _ (omega (arith, left, after, counted))),
+      tt,
+    )

@@ -5,13 +5,15 @@ use Rattle.cb_tags.proofs.address.put_address.Goals as goal
 pub returns-in_err-put_text : goal.returns-in_err-put_text
 unfolding address
 returns-in_err-put_text g c =
-    Puts-fault _ _ _ _ _ c.from_residual.ensures.1 (PutsPrefix-more _ _ _ _ c.in_err-put_text.ensures)
+    Puts-fault _ _ _ _ _ c.from_residual.ensures.1
+    (PutsPrefix-more _ _ _ _ c.in_err-put_text.ensures)
 
 pub returns-in_err-put_escaped : goal.returns-in_err-put_escaped
 unfolding address
 returns-in_err-put_escaped g c =
     Puts-fault _ _ _ _ _ c.from_residual-in_err-put_escaped.ensures.1
-    (PutsPrefix-after _ _ _ _ _ c.in_ok-put_text.ensures (PutsPrefix-more _ _ _ _ c.in_err-put_escaped.ensures))
+    (PutsPrefix-after _ _ _ _ _ c.in_ok-put_text.ensures
+    (PutsPrefix-more _ _ _ _ c.in_err-put_escaped.ensures))
 
 pub returns : goal.returns
 unfolding address

@@ -3,7 +3,8 @@ use Rattle.cb_tags.specs.Addresses.{escape}
 use Rattle.cb_tags.proofs.Escapes.{Owes, Owes-own, Owes-escaped, Owes-stopped, Owes-done}
 use Rattle.cb_tags.proofs.Prefixes.{Puts-fault, PutsAll-none}
 use Rattle.cb_tags.proofs.address.put_escaped.Goals as goal
-use Rattle.cb_tags.proofs.address.put_escaped.Goals.{then-is_escaped+in_ok-put_texts, else-is_escaped}
+use Rattle.cb_tags.proofs.address.put_escaped.Goals.{then-is_escaped+in_ok-put_texts}
+use Rattle.cb_tags.proofs.address.put_escaped.Goals.{else-is_escaped}
 
 pub returns-in_err-put_texts : goal.returns-in_err-put_texts
 returns-in_err-put_texts g c =
@@ -40,4 +41,5 @@ returns g c =
     let l = c.loop-i in
     let e : l.i ≡ length c.args.text.now = omega (arith, l.auto.i-end, c.loop-i-test.false) in
     Owes-done _ _ _ _ _ l.start (subst
-    (λ i. Owes c.args.out.now l.out c.args.text.now l.start i) e l.invariant.written) c.put_text.ensures
+    (λ i. Owes c.args.out.now l.out c.args.text.now l.start i) e l.invariant.written)
+    c.put_text.ensures

@@ -2,7 +2,8 @@ use Rattle.std.proofs.Common.{◌∙◌, sym}
 use Rattle.cb_tags.proofs.Anchors.{not_items}
 use Rattle.cb_tags.proofs.ItemLemmas.{read-Items}
 use Rattle.cb_tags.proofs.address.read_address.Goals as goal
-use Rattle.cb_tags.proofs.address.read_address.Goals.{in_default-via-in-Some+else-are_items, in_default-via-in_default}
+use Rattle.cb_tags.proofs.address.read_address.Goals.{in_default-via-in-Some+else-are_items}
+use Rattle.cb_tags.proofs.address.read_address.Goals.{in_default-via-in_default}
 
 pub returns-in-Some : goal.returns-in-Some
 returns-in-Some c = (

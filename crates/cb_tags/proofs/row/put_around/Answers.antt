@@ -3,12 +3,14 @@ use Rattle.cb_tags.proofs.row.put_around.Goals as goal
 
 pub returns-in_err-put_texts : goal.returns-in_err-put_texts
 returns-in_err-put_texts g c =
-    Puts-fault _ _ _ _ _ c.from_residual.ensures.1 (PutsPrefix-more _ _ _ _ c.in_err-put_texts.ensures)
+    Puts-fault _ _ _ _ _ c.from_residual.ensures.1
+    (PutsPrefix-more _ _ _ _ c.in_err-put_texts.ensures)
 
 pub returns-in_err-put_address : goal.returns-in_err-put_address
 returns-in_err-put_address g c =
     Puts-fault _ _ _ _ _ c.from_residual-in_err-put_address.ensures.1
-    (PutsPrefix-after _ _ _ _ _ c.in_ok-put_texts.ensures (PutsPrefix-more _ _ _ _ c.in_err-put_address.ensures))
+    (PutsPrefix-after _ _ _ _ _ c.in_ok-put_texts.ensures
+    (PutsPrefix-more _ _ _ _ c.in_err-put_address.ensures))
 
 pub returns : goal.returns
 returns g c =

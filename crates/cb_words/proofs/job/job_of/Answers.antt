@@ -18,7 +18,8 @@ pub returns-in-Err : goal.returns-in-Err
 returns-in-Err c =
     let words = map string_bytes c.args.words.now in
     let app = c.in_ok-command.ensures in
-    usage_from_kind words _ app.0 _ _ app.1 app.2 c.usage_of.ensures (c.in-Err.ensures.kinds (ap is_simple_and_free app.2))
+    usage_from_kind words _ app.0 _ _ app.1 app.2 c.usage_of.ensures
+    (c.in-Err.ensures.kinds (ap is_simple_and_free app.2))
 
 pub returns-in-Err-found_job : goal.returns-in-Err-found_job
 returns-in-Err-found_job c =
@@ -27,7 +28,8 @@ returns-in-Err-found_job c =
     let found = c.in-Ok.ensures.ok.2 (ap is_simple app.2) in
     let same : subcommand_rows_of c.in-Ok.matches ≡ subcommand_of browse_app words =
     found.1 ∙ ap (λ a. subcommand_of a words) app.2 ∙ sym (same_found app.0 words) in
-    usage_from_search words (subcommand_rows_of c.in-Ok.matches) c.in-Err-found_job.usage same c.in-Err-found_job.ensures
+    usage_from_search words (subcommand_rows_of c.in-Ok.matches) c.in-Err-found_job.usage same
+    c.in-Err-found_job.ensures
 
 pub returns : goal.returns
 returns c =

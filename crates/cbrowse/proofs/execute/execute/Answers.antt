@@ -3,7 +3,22 @@ use Rattle.cbrowse.proofs.execute.execute.Goals as goal
 
 pub returns-in-Ok : goal.returns-in-Ok
 returns-in-Ok g c =
-    inl (c.in-Ok.job, c.work-end.result.0, c.work-end.result.1, c.in-Ok.ensures, c.work-end.ensures, c.conclude.ensures.status, c.conclude.ensures.said)
+    inl (
+      c.in-Ok.job,
+      c.work-end.result.0,
+      c.work-end.result.1,
+      c.in-Ok.ensures,
+      c.work-end.ensures,
+      c.conclude.ensures.status,
+      c.conclude.ensures.said,
+    )
 
 pub returns-in-Err : goal.returns-in-Err
-returns-in-Err g c = inr (c.in-Err.usage, c.in-Err.ensures, (refl, refl), c.refuse.ensures.status, c.refuse.ensures.said)
+returns-in-Err g c =
+    inr (
+      c.in-Err.usage,
+      c.in-Err.ensures,
+      (refl, refl),
+      c.refuse.ensures.status,
+      c.refuse.ensures.said,
+    )

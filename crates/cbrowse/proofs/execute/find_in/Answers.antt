@@ -8,5 +8,7 @@ use Rattle.cbrowse.proofs.execute.find_in.Goals as goal
 
 pub returns : goal.returns
 returns g c =
-    subst (λ (t : State). WritesText (flat_map row_line (answer t.timeline.present c.args.field c.args.pattern.now))
-    c.args.out.now c.write_rows-ended.new.out c.write_rows-ended.result) c.into_desk-desk.ensures c.write_rows-ended.ensures
+    subst (λ (t : State).
+    WritesText (flat_map row_line (answer t.timeline.present c.args.field c.args.pattern.now))
+    c.args.out.now c.write_rows-ended.new.out c.write_rows-ended.result)
+    c.into_desk-desk.ensures c.write_rows-ended.ensures

@@ -8,12 +8,14 @@ returns-in-Err-prepare g c =
 
 pub returns-in-Ok-make_file : goal.returns-in-Ok-make_file
 returns-in-Ok-make_file g c =
-    into_file _ _ _ _ _ _ (Some _) c.in-Some.ensures.0 (reaches _ _ (Ok _) (c.in-Ok.ensures ∙ c.files_of.ensures) c.in-Ok-prepare.ensures)
+    into_file _ _ _ _ _ _ (Some _) c.in-Some.ensures.0
+    (reaches _ _ (Ok _) (c.in-Ok.ensures ∙ c.files_of.ensures) c.in-Ok-prepare.ensures)
     (_, c.run_job_into-end.ensures.written) c.run_job_into-end.ensures.feed
 
 pub returns-in-Err-make_file : goal.returns-in-Err-make_file
 returns-in-Err-make_file g c =
-    into_file _ _ _ _ _ _ None c.in-Some.ensures.0 (reaches _ _ (Ok _) (c.in-Ok.ensures ∙ c.files_of.ensures) c.in-Ok-prepare.ensures)
+    into_file _ _ _ _ _ _ None c.in-Some.ensures.0
+    (reaches _ _ (Ok _) (c.in-Ok.ensures ∙ c.files_of.ensures) c.in-Ok-prepare.ensures)
     c.in-Err-make_file.ensures refl
 
 pub returns-in-None : goal.returns-in-None

@@ -8,10 +8,12 @@ use Rattle.cbrowse.proofs.execute.write_rows.Goals as goal
 
 pub returns-in-Err-flush : goal.returns-in-Err-flush
 returns-in-Err-flush g c =
-    let text = flat_map row_line (answer c.args.desk.now.timeline.present c.args.field c.args.pattern.now) in
+    let text =
+    flat_map row_line (answer c.args.desk.now.timeline.present c.args.field c.args.pattern.now) in
     let put : PutsAll c.args.out.now c.put_answer.new.out text = search rules in
     let prefix : PutsPrefix c.args.out.now c.flush.new.self text =
     subst (PutsPrefix c.args.out.now c.flush.new.self) (append-nil text)
     (PutsPrefix-after c.args.out.now c.put_answer.new.out c.flush.new.self text [] put
-    (PutsPrefix-none c.put_answer.new.out c.flush.new.self [] c.in-Err-flush.ensures.0 c.in-Err-flush.ensures.1 c.in-Err-flush.ensures.2)) in
+    (PutsPrefix-none c.put_answer.new.out c.flush.new.self
+    [] c.in-Err-flush.ensures.0 c.in-Err-flush.ensures.1 c.in-Err-flush.ensures.2)) in
     (prefix.0, prefix.2)

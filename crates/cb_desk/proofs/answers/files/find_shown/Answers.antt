@@ -13,9 +13,12 @@ returns-then-index-shown-clause-value c =
     let shown = c.args.shown.now in
     let name = c.args.name.now in
     let up = files-ascend a shown c.requires.ascending in
-    let point = IsPartitionPoint-from_clause (below (file_of a) name) shown _ c.partition_point-index.ensures.partitioned
+    let point =
+    IsPartitionPoint-from_clause (below (file_of a) name) shown _
+    c.partition_point-index.ensures.partitioned
     (parted (file_of a) name shown up) (λ s r f k. (search (rules, k), search (rules, k))) in
-    none-there (file_of a) name shown up c.partition_point-index.result point.0 point.1 (omega arith)
+    none-there (file_of a) name shown up c.partition_point-index.result point.0 point.1
+    (omega arith)
 
 pub returns-then-eq-clause-value : goal.returns-then-eq-clause-value
 returns-then-eq-clause-value c =
@@ -24,7 +27,9 @@ returns-then-eq-clause-value c =
     let name = c.args.name.now in
     let none : Shown = record { name = 0; version = 0 } in
     let up = files-ascend a shown c.requires.ascending in
-    let point = IsPartitionPoint-from_clause (below (file_of a) name) shown _ c.partition_point-index.ensures.partitioned
+    let point =
+    IsPartitionPoint-from_clause (below (file_of a) name) shown _
+    c.partition_point-index.ensures.partitioned
     (parted (file_of a) name shown up) (λ s r f k. (search (rules, k), search (rules, k))) in
     found-at (file_of a) name shown c.partition_point-index.result none point.0 (omega arith)
     (sym (c.eq.ensures ∙ ap (λ n. bytes_eq n name) c.name.ensures) ∙ c.if-eq.true)
@@ -36,7 +41,9 @@ returns-else-eq-clause-value c =
     let name = c.args.name.now in
     let none : Shown = record { name = 0; version = 0 } in
     let up = files-ascend a shown c.requires.ascending in
-    let point = IsPartitionPoint-from_clause (below (file_of a) name) shown _ c.partition_point-index.ensures.partitioned
+    let point =
+    IsPartitionPoint-from_clause (below (file_of a) name) shown _
+    c.partition_point-index.ensures.partitioned
     (parted (file_of a) name shown up) (λ s r f k. (search (rules, k), search (rules, k))) in
     none-named (files_of a shown) name
     (none-at (file_of a) name shown c.partition_point-index.result none up point.0 point.1

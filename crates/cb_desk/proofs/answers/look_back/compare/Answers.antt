@@ -16,7 +16,8 @@ returns-in-Equal c =
     let row = c.args.row.now in
     let same : slice_cmp nat_cmp file row.file.now ≡ Equal = sym c.cmp.ensures ∙ c.in-Equal.is in
     c.cmp-in-Equal.ensures
-    ∙ sym (cmp-places file row.file.now c.args.line row.line ∙ ap (λ o. ordering_then o (nat_cmp c.args.line row.line)) same)
+    ∙ sym (cmp-places file row.file.now c.args.line row.line
+    ∙ ap (λ o. ordering_then o (nat_cmp c.args.line row.line)) same)
 
 pub returns-in_default : goal.returns-in_default
 returns-in_default c =
@@ -24,4 +25,5 @@ returns-in_default c =
     let row = c.args.row.now in
     c.cmp.ensures
     ∙ sym (cmp-places file row.file.now c.args.line row.line
-    ∙ first-decides (slice_cmp nat_cmp file row.file.now) _ (λ e. c.in_default.not-Equal (c.cmp.ensures ∙ e)))
+    ∙ first-decides (slice_cmp nat_cmp file row.file.now) _
+    (λ e. c.in_default.not-Equal (c.cmp.ensures ∙ e)))

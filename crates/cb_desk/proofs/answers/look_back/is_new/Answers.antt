@@ -7,20 +7,26 @@ use Rattle.cb_desk.proofs.answers.look_back.is_new.Goals as goal
 pub returns-in-Less : goal.returns-in-Less
 returns-in-Less c =
     let l = c.args.left.now in
-    sym (ap not (is-new-after (found_left l.all) (found_left l.group) (found_left l.rest) l.first l.passed
-    (place_key (record { file = l.file.now; line = l.line })) c.requires.kept (spot_row c.args.row.now) (found_left c.args.rest.now)
+    sym (ap not
+    (is-new-after (found_left l.all) (found_left l.group) (found_left l.rest) l.first l.passed
+    (place_key (record { file = l.file.now; line = l.line })) c.requires.kept
+    (spot_row c.args.row.now) (found_left c.args.rest.now)
     c.requires.next (sym c.requires.order ∙ c.in-Less.is)))
 
 pub returns-in-Equal : goal.returns-in-Equal
 returns-in-Equal c =
     let l = c.args.left.now in
-    ap not (c.has_like.ensures ∙ in-group (found_left l.all) (found_left l.group) (found_left l.rest) l.first l.passed
-    (place_key (record { file = l.file.now; line = l.line })) c.requires.kept (spot_row c.args.row.now) (found_left c.args.rest.now)
+    ap not (c.has_like.ensures
+    ∙ in-group (found_left l.all) (found_left l.group) (found_left l.rest) l.first l.passed
+    (place_key (record { file = l.file.now; line = l.line })) c.requires.kept
+    (spot_row c.args.row.now) (found_left c.args.rest.now)
     c.requires.next (sym c.requires.order ∙ c.in-Equal.is))
 
 pub returns-in-Greater : goal.returns-in-Greater
 returns-in-Greater c =
     let l = c.args.left.now in
-    ap not (c.has_like-in-Greater.ensures ∙ in-all (found_left l.all) (found_left l.group) (found_left l.rest) l.first l.passed
-    (place_key (record { file = l.file.now; line = l.line })) c.requires.kept (spot_row c.args.row.now) (found_left c.args.rest.now)
+    ap not (c.has_like-in-Greater.ensures
+    ∙ in-all (found_left l.all) (found_left l.group) (found_left l.rest) l.first l.passed
+    (place_key (record { file = l.file.now; line = l.line })) c.requires.kept
+    (spot_row c.args.row.now) (found_left c.args.rest.now)
     c.requires.next)

@@ -7,4 +7,5 @@ abbrev pub decreases-loop-row : goal.decreases-loop-row
 decreases-loop-row l = length (found_left l.left.rest)
 
 abbrev pub invariant-loop-row : goal.invariant-loop-row
-invariant-loop-row l = IsLookBack l.left × (news_left l.left ≡ news_left l.fn.left) × (l.left.all ≡ l.fn.left.all)
+invariant-loop-row l =
+    IsLookBack l.left × (news_left l.left ≡ news_left l.fn.left) × (l.left.all ≡ l.fn.left.all)

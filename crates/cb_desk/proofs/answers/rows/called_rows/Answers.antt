@@ -15,7 +15,8 @@ use Rattle.cb_desk.proofs.answers.rows.called_rows.Goals as goal
 pub new-requires-clause-counted : goal.new-requires-clause-counted
 new-requires-clause-counted c =
     let fs = files c.args.shelf.now in
-    c.spots.ensures.counted ∙ c.facts.ensures.counted ∙ index-counts Callers (file_calls_in c.args.pattern.now) fs
+    c.spots.ensures.counted ∙ c.facts.ensures.counted
+    ∙ index-counts Callers (file_calls_in c.args.pattern.now) fs
     ∙ ap length (sym (c.spots.ensures.rows ∙ c.facts.ensures.new))
 
 pub new-requires-clause-few : goal.new-requires-clause-few
@@ -23,7 +24,8 @@ new-requires-clause-few c =
     let fs = files c.args.shelf.now in
     let p = c.args.pattern.now in
     few-distinct row_named (spots_left c.spots.result) (flat_map (field_rows Field.Called p) fs)
-    (ap (map row_named) (c.spots.ensures.rows ∙ c.facts.ensures.new) ∙ callers-distinct p fs c.requires.valid.ascending
+    (ap (map row_named) (c.spots.ensures.rows ∙ c.facts.ensures.new)
+    ∙ callers-distinct p fs c.requires.valid.ascending
     ∙ ap distinct (called-rows p fs))
     (called-rows-few p fs c.requires.valid)
 

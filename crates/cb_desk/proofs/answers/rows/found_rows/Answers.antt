@@ -25,7 +25,9 @@ pub returns-in-Including : goal.returns-in-Including
 returns-in-Including c =
     let fs = files c.args.shelf.now in
     let p = c.args.pattern.now in
-    let rows = ap (λ facts. map row_around (filter (λ (f : Fact). is_header p f.name) facts)) c.includes.ensures ∙ including-rows p fs in
+    let rows =
+    ap (λ facts. map row_around (filter (λ (f : Fact). is_header p f.name) facts))
+    c.includes.ensures ∙ including-rows p fs in
     let long = ap length rows in
     record {
       rows = rows ∙ ap (λ field. flat_map (field_rows field p) fs) (sym c.in-Including.is);
@@ -36,7 +38,8 @@ pub returns-in-File : goal.returns-in-File
 returns-in-File c =
     let fs = files c.args.shelf.now in
     let p = c.args.pattern.now in
-    let rows = ap (flat_map (λ (f : ShownFile). file_rows p f.name)) c.entries.ensures ∙ name-rows p fs in
+    let rows =
+    ap (flat_map (λ (f : ShownFile). file_rows p f.name)) c.entries.ensures ∙ name-rows p fs in
     let long = ap length rows in
     record {
       rows = rows ∙ ap (λ field. flat_map (field_rows field p) fs) (sym c.in-File.is);

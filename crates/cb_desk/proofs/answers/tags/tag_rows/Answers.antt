@@ -19,9 +19,11 @@ extended fs = refl
 pub returns-in-Plain : goal.returns-in-Plain
 returns-in-Plain c =
     let fs = files c.args.shelf.now in
-    c.tags.ensures ∙ plain fs ∙ ap (λ f. in_order (tag_key f) (flat_map file_tags fs)) (sym c.in-Plain.is)
+    c.tags.ensures ∙ plain fs
+    ∙ ap (λ f. in_order (tag_key f) (flat_map file_tags fs)) (sym c.in-Plain.is)
 
 pub returns-in-Extended : goal.returns-in-Extended
 returns-in-Extended c =
     let fs = files c.args.shelf.now in
-    c.all_defs.ensures ∙ extended fs ∙ ap (λ f. in_order (tag_key f) (flat_map file_tags fs)) (sym c.in-Extended.is)
+    c.all_defs.ensures ∙ extended fs
+    ∙ ap (λ f. in_order (tag_key f) (flat_map file_tags fs)) (sym c.in-Extended.is)

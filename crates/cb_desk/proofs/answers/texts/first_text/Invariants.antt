@@ -7,4 +7,5 @@ abbrev pub decreases-loop-name : goal.decreases-loop-name
 decreases-loop-name l = length l.files
 
 abbrev pub invariant-loop-name : goal.invariant-loop-name
-invariant-loop-name l = flat_map (text_rows_in l.finder) l.files ≡ flat_map (text_rows_in l.finder) l.fn.files
+invariant-loop-name l =
+    flat_map (text_rows_in l.finder) l.files ≡ flat_map (text_rows_in l.finder) l.fn.files

@@ -7,18 +7,21 @@ use Rattle.cb_desk.proofs.history.History.go.Goals as goal
 
 pub returns-in_err-set_next-clause-timeline : goal.returns-in_err-set_next-clause-timeline
 returns-in_err-set_next-clause-timeline c v plan =
-    refused_as _ _ c.from_residual.result c.from_residual.ensures.0 (c.in_err-set_next.ensures.timeline v plan)
+    refused_as _ _ c.from_residual.result c.from_residual.ensures.0
+    (c.in_err-set_next.ensures.timeline v plan)
 
 pub unreachable-requires : goal.unreachable-requires
 unreachable-requires c =
     let next = c.in_ok-set_next.ensures.timeline c.requires.0 c.requires.1 in
-    redone_not_refused (timeline_in c.args.self.now) (timeline_in c.set_next.new.self) c.requires.0 next (timeline_in c.redo.new.self) c.redo.result
+    redone_not_refused (timeline_in c.args.self.now) (timeline_in c.set_next.new.self) c.requires.0
+    next (timeline_in c.redo.new.self) c.redo.result
     c.redo.ensures.timeline (search rules)
 
 pub returns-clause-timeline : goal.returns-clause-timeline
 returns-clause-timeline c v plan =
     let next = c.in_ok-set_next.ensures.timeline v plan in
-    redone_next (timeline_in c.args.self.now) (timeline_in c.set_next.new.self) v next (timeline_in c.redo.new.self) c.redo.result
+    redone_next (timeline_in c.args.self.now) (timeline_in c.set_next.new.self) v next
+    (timeline_in c.redo.new.self) c.redo.result
     c.redo.ensures.timeline (search rules)
 
 pub returns-in_err-set_next-clause-turns : goal.returns-in_err-set_next-clause-turns
@@ -28,4 +31,5 @@ returns-in_err-set_next-clause-turns c =
 pub returns-clause-turns : goal.returns-clause-turns
 returns-clause-turns c =
     let next = c.in_ok-set_next.ensures.timeline c.requires.0 c.requires.1 in
-    turns_next _ _ _ _ _ _ c.redo.result (ap (λ (t : Timeline). t.present) next) c.set_next.ensures.turns (search rules) c.redo.ensures.turns
+    turns_next _ _ _ _ _ _ c.redo.result (ap (λ (t : Timeline). t.present) next)
+    c.set_next.ensures.turns (search rules) c.redo.ensures.turns

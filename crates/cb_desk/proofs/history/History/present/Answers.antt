@@ -5,4 +5,5 @@ use Rattle.cb_desk.proofs.history.History.present.Goals as goal
 
 pub returns-clause-kept : goal.returns-clause-kept
 returns-clause-kept c =
-    subst (λ (h : Recorded). IsKept h.kept.rooms h.kept.archive h.kept.now) c.self.view_is (kept_back _ _ _ _ c.self.invariant.back)
+    subst (λ (h : Recorded). IsKept h.kept.rooms h.kept.archive h.kept.now) c.self.view_is
+    (kept_back _ _ _ _ c.self.invariant.back)

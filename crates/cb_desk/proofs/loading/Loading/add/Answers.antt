@@ -1,4 +1,5 @@
-use Rattle.std.proofs.Common.{rules, ◌≡◌, ◌∙◌, ◌<◌, ◌++◌, ◌∷◌, [], None, false, sym, ap, subst, length, arith}
+use Rattle.std.proofs.Common.{rules, ◌≡◌, ◌∙◌, ◌<◌, ◌++◌, ◌∷◌, [], None, false, sym, ap, subst}
+use Rattle.std.proofs.Common.{length, arith}
 use Rattle.cb_scan.specs.Order.{in_order}
 use Rattle.cb_index.specs.Files.{shown_name}
 use Rattle.cb_index.specs.declared.entry.Shown.{Shown}
@@ -10,7 +11,8 @@ use Rattle.cb_desk.specs.steps.Edits.{each}
 use Rattle.cb_desk.specs.steps.Loading.{Loaded, loads_recorded}
 use Rattle.cb_desk.specs.steps.Records.{Turn}
 use Rattle.cb_desk.specs.steps.Walks.{timeline_in}
-use Rattle.cb_desk.proofs.LoadingLemmas.{apart_then, ascending_before, one_more, one_more_timeline_as, roomier, roomier_timeline, turn_back}
+use Rattle.cb_desk.proofs.LoadingLemmas.{apart_then, ascending_before, one_more}
+use Rattle.cb_desk.proofs.LoadingLemmas.{one_more_timeline_as, roomier, roomier_timeline, turn_back}
 use Rattle.cb_desk.proofs.PlanLemmas.{refused_as}
 use Rattle.cb_desk.proofs.WalkLemmas.{past_length}
 use Rattle.cb_desk.proofs.loading.Loading.add.Goals as goal
@@ -18,15 +20,23 @@ use Rattle.cb_desk.proofs.loading.Loading.add.Goals as goal
 -- what is loaded stays where room is refused
 pub invariant_of-self : goal.invariant_of-self
 invariant_of-self c =
-    rw (c.make_room.ensures.same_shown, c.make_room.ensures.same_list, c.make_room.ensures.same_records)
-    (roomier c.self.inside.shelf.archive c.make_room.new.shelf.archive c.self.inside.shelf.shown c.self.inside.shown.items c.self.inside.records.items
+    rw (
+      c.make_room.ensures.same_shown,
+      c.make_room.ensures.same_list,
+      c.make_room.ensures.same_records,
+    )
+    (roomier c.self.inside.shelf.archive c.make_room.new.shelf.archive c.self.inside.shelf.shown
+    c.self.inside.shown.items c.self.inside.records.items
     c.make_room.ensures.same_names c.make_room.ensures.same_texts c.self.invariant)
 
 pub returns-in_err-make_room-clause-timeline : goal.returns-in_err-make_room-clause-timeline
 returns-in_err-make_room-clause-timeline c =
-    refused_as _ _ c.from_residual-in_err-make_room.result c.from_residual-in_err-make_room.ensures.0
-    ((λ i. timeline_in (loads_recorded c.make_room.new.shelf.archive (c.make_room.ensures.same_list i) (c.make_room.ensures.same_records i)))
-    ∙ roomier_timeline c.self.inside.shelf.archive c.make_room.new.shelf.archive c.make_room.ensures.same_names c.make_room.ensures.same_texts
+    refused_as _ _ c.from_residual-in_err-make_room.result
+    c.from_residual-in_err-make_room.ensures.0
+    ((λ i. timeline_in (loads_recorded c.make_room.new.shelf.archive
+    (c.make_room.ensures.same_list i) (c.make_room.ensures.same_records i)))
+    ∙ roomier_timeline c.self.inside.shelf.archive c.make_room.new.shelf.archive
+    c.make_room.ensures.same_names c.make_room.ensures.same_texts
     c.self.inside.shown.items c.self.inside.records.items c.self.invariant.recorded
     ∙ ap (λ (l : Loaded). l.timeline) c.self.view_is)
 
@@ -41,16 +51,24 @@ put_all_shown-requires-clause-ascending c =
     let text = c.args.version in
     let is = c.self.invariant in
     let names : b.names ≡ a.names ++ name ∷ [] =
-    c.push_version.ensures.names ∙ c.push_name.ensures.names ∙ ap (λ l. l ++ name ∷ []) c.make_room.ensures.same_names in
+    c.push_version.ensures.names ∙ c.push_name.ensures.names
+    ∙ ap (λ l. l ++ name ∷ []) c.make_room.ensures.same_names in
     let texts : b.texts ≡ a.texts ++ text ∷ [] =
-    c.push_version.ensures.texts ∙ ap (λ l. l ++ text ∷ []) (c.push_name.ensures.texts ∙ c.make_room.ensures.same_texts) in
-    let fresh = subst (λ (l : Loaded). has_file l.timeline.present.files name ≡ false) (sym c.self.view_is) c.requires.fresh in
-    let valid = subst (λ (l : Loaded). IsValidWorld (after l.timeline.present name text)) (sym c.self.view_is) c.requires.valid in
+    c.push_version.ensures.texts
+    ∙ ap (λ l. l ++ text ∷ []) (c.push_name.ensures.texts ∙ c.make_room.ensures.same_texts) in
+    let fresh =
+    subst (λ (l : Loaded). has_file l.timeline.present.files name ≡ false)
+    (sym c.self.view_is) c.requires.fresh in
+    let valid =
+    subst (λ (l : Loaded). IsValidWorld (after l.timeline.present name text))
+    (sym c.self.view_is) c.requires.valid in
     let few =
     subst (λ n. n < MOST_CHANGES) (past_length (loads_recorded a shown records) (omega arith))
-    (subst (λ (l : Loaded). length l.timeline.past < MOST_CHANGES) (sym c.self.view_is) c.requires.few) in
+    (subst (λ (l : Loaded). length l.timeline.past < MOST_CHANGES)
+    (sym c.self.view_is) c.requires.few) in
     rw (c.archive.ensures, c.make_room.ensures.same_list)
-    (ascending_before a b c.self.inside.shelf.shown shown records name text is names texts fresh valid few)
+    (ascending_before a b c.self.inside.shelf.shown shown records name text is names
+    texts fresh valid few)
 
 pub put_all_shown-requires-clause-apart : goal.put_all_shown-requires-clause-apart
 put_all_shown-requires-clause-apart c =
@@ -62,20 +80,29 @@ put_all_shown-requires-clause-apart c =
     let text = c.args.version in
     let is = c.self.invariant in
     let names : b.names ≡ a.names ++ name ∷ [] =
-    c.push_version.ensures.names ∙ c.push_name.ensures.names ∙ ap (λ l. l ++ name ∷ []) c.make_room.ensures.same_names in
+    c.push_version.ensures.names ∙ c.push_name.ensures.names
+    ∙ ap (λ l. l ++ name ∷ []) c.make_room.ensures.same_names in
     let texts : b.texts ≡ a.texts ++ text ∷ [] =
-    c.push_version.ensures.texts ∙ ap (λ l. l ++ text ∷ []) (c.push_name.ensures.texts ∙ c.make_room.ensures.same_texts) in
-    let fresh = subst (λ (l : Loaded). has_file l.timeline.present.files name ≡ false) (sym c.self.view_is) c.requires.fresh in
-    let valid = subst (λ (l : Loaded). IsValidWorld (after l.timeline.present name text)) (sym c.self.view_is) c.requires.valid in
+    c.push_version.ensures.texts
+    ∙ ap (λ l. l ++ text ∷ []) (c.push_name.ensures.texts ∙ c.make_room.ensures.same_texts) in
+    let fresh =
+    subst (λ (l : Loaded). has_file l.timeline.present.files name ≡ false)
+    (sym c.self.view_is) c.requires.fresh in
+    let valid =
+    subst (λ (l : Loaded). IsValidWorld (after l.timeline.present name text))
+    (sym c.self.view_is) c.requires.valid in
     let few =
     subst (λ n. n < MOST_CHANGES) (past_length (loads_recorded a shown records) (omega arith))
-    (subst (λ (l : Loaded). length l.timeline.past < MOST_CHANGES) (sym c.self.view_is) c.requires.few) in
+    (subst (λ (l : Loaded). length l.timeline.past < MOST_CHANGES)
+    (sym c.self.view_is) c.requires.few) in
     let named : c.len-count.result ≡ length a.names = search rules in
     let kept : c.len-count.result ≡ length a.texts = search rules in
-    let one : ◌≡◌ {A = Shown} (record { name = c.len-count.result; version = c.len-count.result }) (record { name = length a.names; version = length a.texts }) =
+    let one : ◌≡◌ {A = Shown} (record { name = c.len-count.result; version = c.len-count.result })
+    (record { name = length a.names; version = length a.texts }) =
     (λ i. record { name = named i; version = kept i }) in
     rw (c.archive.ensures, c.make_room.ensures.same_list, one)
-    (apart_then a b c.self.inside.shelf.shown shown records name text is names texts fresh valid few)
+    (apart_then a b c.self.inside.shelf.shown shown records name text is names
+    texts fresh valid few)
 
 -- one file more is loaded
 pub invariant_of-self-2 : goal.invariant_of-self-2
@@ -88,21 +115,32 @@ invariant_of-self-2 c =
     let text = c.args.version in
     let is = c.self.invariant in
     let names : b.names ≡ a.names ++ name ∷ [] =
-    c.push_version.ensures.names ∙ c.push_name.ensures.names ∙ ap (λ l. l ++ name ∷ []) c.make_room.ensures.same_names in
+    c.push_version.ensures.names ∙ c.push_name.ensures.names
+    ∙ ap (λ l. l ++ name ∷ []) c.make_room.ensures.same_names in
     let texts : b.texts ≡ a.texts ++ text ∷ [] =
-    c.push_version.ensures.texts ∙ ap (λ l. l ++ text ∷ []) (c.push_name.ensures.texts ∙ c.make_room.ensures.same_texts) in
-    let fresh = subst (λ (l : Loaded). has_file l.timeline.present.files name ≡ false) (sym c.self.view_is) c.requires.fresh in
-    let valid = subst (λ (l : Loaded). IsValidWorld (after l.timeline.present name text)) (sym c.self.view_is) c.requires.valid in
+    c.push_version.ensures.texts
+    ∙ ap (λ l. l ++ text ∷ []) (c.push_name.ensures.texts ∙ c.make_room.ensures.same_texts) in
+    let fresh =
+    subst (λ (l : Loaded). has_file l.timeline.present.files name ≡ false)
+    (sym c.self.view_is) c.requires.fresh in
+    let valid =
+    subst (λ (l : Loaded). IsValidWorld (after l.timeline.present name text))
+    (sym c.self.view_is) c.requires.valid in
     let few =
     subst (λ n. n < MOST_CHANGES) (past_length (loads_recorded a shown records) (omega arith))
-    (subst (λ (l : Loaded). length l.timeline.past < MOST_CHANGES) (sym c.self.view_is) c.requires.few) in
+    (subst (λ (l : Loaded). length l.timeline.past < MOST_CHANGES)
+    (sym c.self.view_is) c.requires.few) in
     let named : c.len-count.result ≡ length a.names = search rules in
     let kept : c.len-count.result ≡ length a.texts = search rules in
-    let one : ◌≡◌ {A = Shown} (record { name = c.len-count.result; version = c.len-count.result }) (record { name = length a.names; version = length a.texts }) =
+    let one : ◌≡◌ {A = Shown} (record { name = c.len-count.result; version = c.len-count.result })
+    (record { name = length a.names; version = length a.texts }) =
     (λ i. record { name = named i; version = kept i }) in
-    let hidden = c.push_version.ensures.shown ∙ c.push_name.ensures.shown ∙ c.make_room.ensures.same_shown in
-    let list : c.put_all_shown.new.shown.items ≡ in_order (shown_name b) (shown ++ record { name = length a.names; version = length a.texts } ∷ []) =
-    c.put_all_shown.ensures.items ∙ (λ i. in_order (shown_name (c.archive.ensures i)) (c.make_room.ensures.same_list i ++ one i ∷ [])) in
+    let hidden =
+    c.push_version.ensures.shown ∙ c.push_name.ensures.shown ∙ c.make_room.ensures.same_shown in
+    let list : c.put_all_shown.new.shown.items ≡ in_order (shown_name b)
+    (shown ++ record { name = length a.names; version = length a.texts } ∷ []) =
+    c.put_all_shown.ensures.items ∙ (λ i.
+    in_order (shown_name (c.archive.ensures i)) (c.make_room.ensures.same_list i ++ one i ∷ [])) in
     let u : Turn = record {
       hides = c.in_ok-hides.hides.items;
       shows = c.new.result.items;
@@ -112,12 +150,27 @@ invariant_of-self-2 c =
       names = c.len-count.result;
       versions = c.len-count.result;
     } in
-    let turn : ◌≡◌ {A = Turn} u (record { hides = record { name = c.len-count.result; version = c.len-count.result } ∷ []; shows = []; wanted = None; marks = each []; frames = each []; names = c.len-count.result; versions = c.len-count.result }) =
-    (λ i. record u { hides = c.in_ok-hides.ensures i; shows = c.new.ensures.items i; marks = c.none.ensures i; frames = c.none-2.ensures i }) in
+    let turn : ◌≡◌ {A = Turn} u
+    (record {
+      hides = record { name = c.len-count.result; version = c.len-count.result } ∷ [];
+      shows = [];
+      wanted = None;
+      marks = each [];
+      frames = each [];
+      names = c.len-count.result;
+      versions = c.len-count.result;
+    }) =
+    (λ i. record u {
+      hides = c.in_ok-hides.ensures i;
+      shows = c.new.ensures.items i;
+      marks = c.none.ensures i;
+      frames = c.none-2.ensures i;
+    }) in
     let pushed : c.push_reserved.new.self.items ≡ records ++ u ∷ [] =
     c.push_reserved.ensures.items ∙ ap (λ l. l ++ u ∷ []) c.make_room.ensures.same_records in
     rw (hidden, pushed)
-    (one_more a b c.self.inside.shelf.shown shown records name text is names texts fresh valid few _ u list
+    (one_more a b c.self.inside.shelf.shown shown records name text is names texts
+    fresh valid few _ u list
     (turn_back u c.len-count.result named kept turn))
 
 pub returns-clause-timeline : goal.returns-clause-timeline
@@ -130,20 +183,30 @@ returns-clause-timeline c =
     let text = c.args.version in
     let is = c.self.invariant in
     let names : b.names ≡ a.names ++ name ∷ [] =
-    c.push_version.ensures.names ∙ c.push_name.ensures.names ∙ ap (λ l. l ++ name ∷ []) c.make_room.ensures.same_names in
+    c.push_version.ensures.names ∙ c.push_name.ensures.names
+    ∙ ap (λ l. l ++ name ∷ []) c.make_room.ensures.same_names in
     let texts : b.texts ≡ a.texts ++ text ∷ [] =
-    c.push_version.ensures.texts ∙ ap (λ l. l ++ text ∷ []) (c.push_name.ensures.texts ∙ c.make_room.ensures.same_texts) in
-    let fresh = subst (λ (l : Loaded). has_file l.timeline.present.files name ≡ false) (sym c.self.view_is) c.requires.fresh in
-    let valid = subst (λ (l : Loaded). IsValidWorld (after l.timeline.present name text)) (sym c.self.view_is) c.requires.valid in
+    c.push_version.ensures.texts
+    ∙ ap (λ l. l ++ text ∷ []) (c.push_name.ensures.texts ∙ c.make_room.ensures.same_texts) in
+    let fresh =
+    subst (λ (l : Loaded). has_file l.timeline.present.files name ≡ false)
+    (sym c.self.view_is) c.requires.fresh in
+    let valid =
+    subst (λ (l : Loaded). IsValidWorld (after l.timeline.present name text))
+    (sym c.self.view_is) c.requires.valid in
     let few =
     subst (λ n. n < MOST_CHANGES) (past_length (loads_recorded a shown records) (omega arith))
-    (subst (λ (l : Loaded). length l.timeline.past < MOST_CHANGES) (sym c.self.view_is) c.requires.few) in
+    (subst (λ (l : Loaded). length l.timeline.past < MOST_CHANGES)
+    (sym c.self.view_is) c.requires.few) in
     let named : c.len-count.result ≡ length a.names = search rules in
     let kept : c.len-count.result ≡ length a.texts = search rules in
-    let one : ◌≡◌ {A = Shown} (record { name = c.len-count.result; version = c.len-count.result }) (record { name = length a.names; version = length a.texts }) =
+    let one : ◌≡◌ {A = Shown} (record { name = c.len-count.result; version = c.len-count.result })
+    (record { name = length a.names; version = length a.texts }) =
     (λ i. record { name = named i; version = kept i }) in
-    let list : c.put_all_shown.new.shown.items ≡ in_order (shown_name b) (shown ++ record { name = length a.names; version = length a.texts } ∷ []) =
-    c.put_all_shown.ensures.items ∙ (λ i. in_order (shown_name (c.archive.ensures i)) (c.make_room.ensures.same_list i ++ one i ∷ [])) in
+    let list : c.put_all_shown.new.shown.items ≡ in_order (shown_name b)
+    (shown ++ record { name = length a.names; version = length a.texts } ∷ []) =
+    c.put_all_shown.ensures.items ∙ (λ i.
+    in_order (shown_name (c.archive.ensures i)) (c.make_room.ensures.same_list i ++ one i ∷ [])) in
     let u : Turn = record {
       hides = c.in_ok-hides.hides.items;
       shows = c.new.result.items;
@@ -153,11 +216,26 @@ returns-clause-timeline c =
       names = c.len-count.result;
       versions = c.len-count.result;
     } in
-    let turn : ◌≡◌ {A = Turn} u (record { hides = record { name = c.len-count.result; version = c.len-count.result } ∷ []; shows = []; wanted = None; marks = each []; frames = each []; names = c.len-count.result; versions = c.len-count.result }) =
-    (λ i. record u { hides = c.in_ok-hides.ensures i; shows = c.new.ensures.items i; marks = c.none.ensures i; frames = c.none-2.ensures i }) in
+    let turn : ◌≡◌ {A = Turn} u
+    (record {
+      hides = record { name = c.len-count.result; version = c.len-count.result } ∷ [];
+      shows = [];
+      wanted = None;
+      marks = each [];
+      frames = each [];
+      names = c.len-count.result;
+      versions = c.len-count.result;
+    }) =
+    (λ i. record u {
+      hides = c.in_ok-hides.ensures i;
+      shows = c.new.ensures.items i;
+      marks = c.none.ensures i;
+      frames = c.none-2.ensures i;
+    }) in
     let pushed : c.push_reserved.new.self.items ≡ records ++ u ∷ [] =
     c.push_reserved.ensures.items ∙ ap (λ l. l ++ u ∷ []) c.make_room.ensures.same_records in
     rw (pushed)
-    (one_more_timeline_as a b c.self.inside.shelf.shown shown records name text is names texts fresh valid few _ u list
+    (one_more_timeline_as a b c.self.inside.shelf.shown shown records name text is names texts
+    fresh valid few _ u list
     (turn_back u c.len-count.result named kept turn)
     ∙ ap (λ (l : Loaded). moved_on l.timeline (after l.timeline.present name text)) c.self.view_is)

@@ -4,13 +4,15 @@ use Rattle.cb_desk.specs.Timeline.{IsValidTimeline}
 use Rattle.cb_desk.specs.steps.Loading.{HasRoomToShow, Loaded, loaded_numbers}
 use Rattle.cb_desk.specs.steps.Records.{no_numbers}
 use Rattle.cb_desk.specs.Desk.{counted}
-use Rattle.cb_desk.proofs.LoadingLemmas.{all_there, refused_with, rooms_kept, shown_recorded, shown_timeline, shown_turns, some_past}
+use Rattle.cb_desk.proofs.LoadingLemmas.{all_there, refused_with, rooms_kept, shown_recorded}
+use Rattle.cb_desk.proofs.LoadingLemmas.{shown_timeline, shown_turns, some_past}
 use Rattle.cb_desk.proofs.loading.Loading.desk.Goals as goal
 
 pub show-requires-clause-there : goal.show-requires-clause-there
 show-requires-clause-there c =
     rw (c.as_slice.ensures.value)
-    (all_there c.self.inside.shelf.archive c.self.inside.shelf.shown c.self.inside.shown.items c.self.inside.records.items c.self.invariant)
+    (all_there c.self.inside.shelf.archive c.self.inside.shelf.shown c.self.inside.shown.items
+    c.self.inside.records.items c.self.invariant)
 
 -- memory is refused only where there is something to show
 pub returns-in_err-show : goal.returns-in_err-show
@@ -33,13 +35,21 @@ loaded-requires c =
     let has : HasRoomToShow c.show.new.shelf shown = search rules in
     let now : c.loaded-present.result.now ≡ loaded_numbers a shown =
     c.loaded-present.ensures.now
-    ∙ (λ i. record no_numbers { shown = is_shown i; names = (count ∙ sym c.self.invariant.names) i; versions = (count ∙ sym c.self.invariant.versions) i }) in
-    let names : c.loaded-present.result.archive.names ≡ a.names = ap (λ (x : Archived). x.names) c.loaded-present.ensures.archive ∙ c.show.ensures.names in
-    let texts : c.loaded-present.result.archive.texts ≡ a.texts = ap (λ (x : Archived). x.texts) c.loaded-present.ensures.archive ∙ c.show.ensures.texts in
+    ∙ (λ i. record no_numbers {
+      shown = is_shown i;
+      names = (count ∙ sym c.self.invariant.names) i;
+      versions = (count ∙ sym c.self.invariant.versions) i;
+    }) in
+    let names : c.loaded-present.result.archive.names ≡ a.names =
+    ap (λ (x : Archived). x.names) c.loaded-present.ensures.archive ∙ c.show.ensures.names in
+    let texts : c.loaded-present.result.archive.texts ≡ a.texts =
+    ap (λ (x : Archived). x.texts) c.loaded-present.ensures.archive ∙ c.show.ensures.texts in
     let rooms =
     rooms_kept a c.show.new.shelf shown c.loaded-present.result.rooms c.show.ensures.texts has
-    c.loaded-present.ensures.files c.loaded-present.ensures.defs c.loaded-present.ensures.uses c.loaded-present.ensures.calls in
-    shown_recorded a c.self.inside.shelf.shown shown records c.loaded-present.result c.self.invariant now names texts rooms
+    c.loaded-present.ensures.files c.loaded-present.ensures.defs c.loaded-present.ensures.uses
+    c.loaded-present.ensures.calls in
+    shown_recorded a c.self.inside.shelf.shown shown records c.loaded-present.result
+    c.self.invariant now names texts rooms
 
 pub over-requires : goal.over-requires
 over-requires c =
@@ -51,37 +61,55 @@ over-requires c =
     let has : HasRoomToShow c.show.new.shelf shown = search rules in
     let now : c.loaded-present.result.now ≡ loaded_numbers a shown =
     c.loaded-present.ensures.now
-    ∙ (λ i. record no_numbers { shown = is_shown i; names = (count ∙ sym c.self.invariant.names) i; versions = (count ∙ sym c.self.invariant.versions) i }) in
-    let names : c.loaded-present.result.archive.names ≡ a.names = ap (λ (x : Archived). x.names) c.loaded-present.ensures.archive ∙ c.show.ensures.names in
-    let texts : c.loaded-present.result.archive.texts ≡ a.texts = ap (λ (x : Archived). x.texts) c.loaded-present.ensures.archive ∙ c.show.ensures.texts in
+    ∙ (λ i. record no_numbers {
+      shown = is_shown i;
+      names = (count ∙ sym c.self.invariant.names) i;
+      versions = (count ∙ sym c.self.invariant.versions) i;
+    }) in
+    let names : c.loaded-present.result.archive.names ≡ a.names =
+    ap (λ (x : Archived). x.names) c.loaded-present.ensures.archive ∙ c.show.ensures.names in
+    let texts : c.loaded-present.result.archive.texts ≡ a.texts =
+    ap (λ (x : Archived). x.texts) c.loaded-present.ensures.archive ∙ c.show.ensures.texts in
     let rooms =
     rooms_kept a c.show.new.shelf shown c.loaded-present.result.rooms c.show.ensures.texts has
-    c.loaded-present.ensures.files c.loaded-present.ensures.defs c.loaded-present.ensures.uses c.loaded-present.ensures.calls in
+    c.loaded-present.ensures.files c.loaded-present.ensures.defs c.loaded-present.ensures.uses
+    c.loaded-present.ensures.calls in
     subst IsValidTimeline (sym c.loaded.ensures.timeline)
-    (shown_recorded a c.self.inside.shelf.shown shown records c.loaded-present.result c.self.invariant now names texts rooms).valid
+    (shown_recorded a c.self.inside.shelf.shown shown records c.loaded-present.result
+    c.self.invariant now names texts rooms).valid
 
 pub returns : goal.returns
 returns c =
     let a = c.self.inside.shelf.archive in
     let shown = c.self.inside.shown.items in
     let records = c.self.inside.records.items in
-    let turned : c.show.new.shelf.turns ≡ counted c.self.inside.shelf.turns (length shown) = search rules in
+    let turned : c.show.new.shelf.turns ≡ counted c.self.inside.shelf.turns (length shown) =
+    search rules in
     let count : c.len-count.result ≡ length records = search rules in
     let is_shown : c.show.new.shelf.shown ≡ shown = search rules in
     let has : HasRoomToShow c.show.new.shelf shown = search rules in
     let now : c.loaded-present.result.now ≡ loaded_numbers a shown =
     c.loaded-present.ensures.now
-    ∙ (λ i. record no_numbers { shown = is_shown i; names = (count ∙ sym c.self.invariant.names) i; versions = (count ∙ sym c.self.invariant.versions) i }) in
-    let names : c.loaded-present.result.archive.names ≡ a.names = ap (λ (x : Archived). x.names) c.loaded-present.ensures.archive ∙ c.show.ensures.names in
-    let texts : c.loaded-present.result.archive.texts ≡ a.texts = ap (λ (x : Archived). x.texts) c.loaded-present.ensures.archive ∙ c.show.ensures.texts in
+    ∙ (λ i. record no_numbers {
+      shown = is_shown i;
+      names = (count ∙ sym c.self.invariant.names) i;
+      versions = (count ∙ sym c.self.invariant.versions) i;
+    }) in
+    let names : c.loaded-present.result.archive.names ≡ a.names =
+    ap (λ (x : Archived). x.names) c.loaded-present.ensures.archive ∙ c.show.ensures.names in
+    let texts : c.loaded-present.result.archive.texts ≡ a.texts =
+    ap (λ (x : Archived). x.texts) c.loaded-present.ensures.archive ∙ c.show.ensures.texts in
     let rooms =
     rooms_kept a c.show.new.shelf shown c.loaded-present.result.rooms c.show.ensures.texts has
-    c.loaded-present.ensures.files c.loaded-present.ensures.defs c.loaded-present.ensures.uses c.loaded-present.ensures.calls in (
+    c.loaded-present.ensures.files c.loaded-present.ensures.defs c.loaded-present.ensures.uses
+    c.loaded-present.ensures.calls in (
       c.over.ensures.timeline ∙ c.loaded.ensures.timeline
-          ∙ shown_timeline a c.self.inside.shelf.shown shown records c.loaded-present.result c.self.invariant now names texts rooms
+          ∙ shown_timeline a c.self.inside.shelf.shown shown records c.loaded-present.result
+          c.self.invariant now names texts rooms
           ∙ ap (λ (l : Loaded). l.timeline) c.self.view_is,
       c.over.ensures.meter ∙ ap (λ (l : Loaded). l.meter) c.self.view_is,
       c.over.ensures.turns ∙ c.loaded.ensures.turns ∙ c.loaded-present.ensures.turns
-          ∙ shown_turns a c.self.inside.shelf.shown shown records c.self.invariant c.self.inside.shelf.turns c.show.new.shelf.turns turned
+          ∙ shown_turns a c.self.inside.shelf.shown shown records c.self.invariant
+          c.self.inside.shelf.turns c.show.new.shelf.turns turned
           ∙ ap (λ (l : Loaded). counted l.turns (length l.timeline.past)) c.self.view_is,
     )

@@ -14,9 +14,12 @@ returns-clause-place c =
     let k = c.args.self.now in
     let files = files_of k.archive k.now.shown in
     let file = c.in_ok-file.file.now in
-    let place : nth c.args.n (places files c.args.name.now) ≡ Some (record { file = file; line = c.in_ok-file.line }) = search rules in
-    let found : Some (file_of k.archive c.in_ok-found.found) ≡ file_named files file = search rules in
-    let framed : List ℕ → Option Place = λ n. Some (record { file = n; line = c.in_ok-file.line }) in
+    let place : nth c.args.n (places files c.args.name.now)
+    ≡ Some (record { file = file; line = c.in_ok-file.line }) = search rules in
+    let found : Some (file_of k.archive c.in_ok-found.found) ≡ file_named files file =
+    search rules in
+    let framed : List ℕ → Option Place = λ n.
+    Some (record { file = n; line = c.in_ok-file.line }) in
     ap framed (has_that_name (file_of k.archive c.in_ok-found.found) files file found) ∙ sym place
 
 pub returns-in_err-found-clause-place : goal.returns-in_err-found-clause-place
@@ -24,11 +27,13 @@ returns-in_err-found-clause-place c =
     let k = c.args.self.now in
     let files = files_of k.archive k.now.shown in
     let file = c.in_ok-file.file.now in
-    let place : nth c.args.n (places files c.args.name.now) ≡ Some (record { file = file; line = c.in_ok-file.line }) = search rules in
+    let place : nth c.args.n (places files c.args.name.now)
+    ≡ Some (record { file = file; line = c.in_ok-file.line }) = search rules in
     let none : None ≡ file_named files file = search rules in
     absurd (is_there files file none (nth_is_placed c.args.name.now files c.args.n _ place))
 
 pub returns-clause-there : goal.returns-clause-there
 returns-clause-there c =
     let k = c.args.self.now in
-    (all_contained (λ (s : Shown). (s.name < k.now.names) × (s.version < k.now.versions)) k.now.shown c.in_ok-found.found c.requires.there.shown (search rules)).0
+    (all_contained (λ (s : Shown). (s.name < k.now.names) × (s.version < k.now.versions))
+    k.now.shown c.in_ok-found.found c.requires.there.shown (search rules)).0

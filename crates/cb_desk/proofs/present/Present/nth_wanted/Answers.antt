@@ -13,16 +13,20 @@ returns-clause-place c =
     let k = c.args.self.now in
     let text = c.as_slice.result.now in
     let wanted : k.now.wanted ≡ Some text = search rules in
-    let found : c.nth_held.result ≡ nth c.args.n (held_numbers k.archive text k.now.shown) = search rules in
+    let found : c.nth_held.result ≡ nth c.args.n (held_numbers k.archive text k.now.shown) =
+    search rules in
     ap (option_map (place_in k.archive)) found
     ∙ nth_place_in k.archive c.args.n (held_numbers k.archive text k.now.shown)
-    ∙ ap (nth c.args.n) (held_are k.archive text k.now.shown ∙ sym (wanted-held (world_in k.archive k.now) text wanted c.requires.ascending))
+    ∙ ap (nth c.args.n) (held_are k.archive text k.now.shown
+    ∙ sym (wanted-held (world_in k.archive k.now) text wanted c.requires.ascending))
 
 pub returns-clause-there : goal.returns-clause-there
 returns-clause-there c =
     let k = c.args.self.now in
     let text = c.as_slice.result.now in
-    let found : c.nth_held.result ≡ nth c.args.n (held_numbers k.archive text k.now.shown) = search rules in
+    let found : c.nth_held.result ≡ nth c.args.n (held_numbers k.archive text k.now.shown) =
+    search rules in
     subst (λ r. MatchOption r ⊤ (λ (p : NumberedPlace). p.name < k.now.names)) (sym found)
     (nth_below k.now.names c.args.n (held_numbers k.archive text k.now.shown)
-    (all_held_below k.archive text k.now.names k.now.versions k.now.shown c.requires.kept.there.shown))
+    (all_held_below k.archive text k.now.names k.now.versions k.now.shown
+    c.requires.kept.there.shown))

@@ -20,9 +20,12 @@ returns-in-Mark-clause-plan c =
     let k = c.args.self.now in
     let w = world_in k.archive k.now in
     let place = option_map (place_in k.archive) c.args.place in
-    let marked : toggled_at w (place_of w (step_of c.args.change)) ≡ after w (step_of c.args.change) = rw c.in-Mark.is refl in
-    ok_along (λ p. IsPlan k p (toggled_at w place)) (λ p. IsPlan k p (after w (step_of c.args.change))) c.plan_to_mark.result
-    (λ p is. subst (IsPlan k p) (ap (toggled_at w) c.requires.place ∙ marked) is) c.plan_to_mark.ensures
+    let marked : toggled_at w (place_of w (step_of c.args.change))
+    ≡ after w (step_of c.args.change) = rw c.in-Mark.is refl in
+    ok_along (λ p. IsPlan k p (toggled_at w place))
+    (λ p. IsPlan k p (after w (step_of c.args.change))) c.plan_to_mark.result
+    (λ p is. subst (IsPlan k p) (ap (toggled_at w) c.requires.place ∙ marked) is)
+    c.plan_to_mark.ensures
 
 pub returns-in-Replace-clause-plan : goal.returns-in-Replace-clause-plan
 returns-in-Replace-clause-plan c = rw c.in-Replace.is c.plan_replace.ensures.plan
@@ -32,6 +35,8 @@ returns-in-Tag-clause-plan c =
     let k = c.args.self.now in
     let w = world_in k.archive k.now in
     let place = option_map (place_in k.archive) c.args.place in
-    let on_top : pushed w (place_of w (step_of c.args.change)) ≡ after w (step_of c.args.change) = rw c.in-Tag.is refl in
-    ok_along (λ p. IsPlan k p (pushed w place)) (λ p. IsPlan k p (after w (step_of c.args.change))) c.plan_to_push.result
+    let on_top : pushed w (place_of w (step_of c.args.change)) ≡ after w (step_of c.args.change) =
+    rw c.in-Tag.is refl in
+    ok_along (λ p. IsPlan k p (pushed w place)) (λ p. IsPlan k p (after w (step_of c.args.change)))
+    c.plan_to_push.result
     (λ p is. subst (IsPlan k p) (ap (pushed w) c.requires.place ∙ on_top) is) c.plan_to_push.ensures

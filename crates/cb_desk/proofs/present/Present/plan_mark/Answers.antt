@@ -11,16 +11,22 @@ use Rattle.cb_desk.proofs.present.Present.plan_mark.Goals as goal
 pub plan_marks-requires-clause-there : goal.plan_marks-requires-clause-there
 plan_marks-requires-clause-there c =
     let k = c.args.self.now in
-    let marks : c.as_slice-2.result.now ≡ toggled_numbers k.archive c.args.place k.now.marks = search rules in
+    let marks : c.as_slice-2.result.now ≡ toggled_numbers k.archive c.args.place k.now.marks =
+    search rules in
     subst (AllByRecursion (λ (p : NumberedPlace). p.name < k.now.names)) (sym marks)
-    (toggled_below k.archive k.now.names c.args.place k.now.marks c.requires.there c.requires.kept.there.marks)
+    (toggled_below k.archive k.now.names c.args.place k.now.marks c.requires.there
+    c.requires.kept.there.marks)
 
 pub returns : goal.returns
 returns c =
     let k = c.args.self.now in
-    let marks : c.as_slice-2.result.now ≡ toggled_numbers k.archive c.args.place k.now.marks = search rules in
-    let world : with_marks k.archive k.now None c.as_slice-2.result.now ≡ toggled_at (world_in k.archive k.now) (Some (place_in k.archive c.args.place)) =
-    ap (with_marks k.archive k.now None) marks ∙ ap (λ xs. record (world_in k.archive k.now) { marks = xs }) (toggled_places k.archive c.args.place k.now.marks) in
+    let marks : c.as_slice-2.result.now ≡ toggled_numbers k.archive c.args.place k.now.marks =
+    search rules in
+    let world : with_marks k.archive k.now None c.as_slice-2.result.now
+    ≡ toggled_at (world_in k.archive k.now) (Some (place_in k.archive c.args.place)) =
+    ap (with_marks k.archive k.now None) marks ∙ ap (λ xs. record (world_in k.archive k.now)
+    { marks = xs }) (toggled_places k.archive c.args.place k.now.marks) in
     ok_along (λ p. IsPlan k p (with_marks k.archive k.now None c.as_slice-2.result.now))
-    (λ p. IsPlan k p (toggled_at (world_in k.archive k.now) (Some (place_in k.archive c.args.place))))
+    (λ p.
+    IsPlan k p (toggled_at (world_in k.archive k.now) (Some (place_in k.archive c.args.place))))
     c.plan_marks.result (λ p is. subst (IsPlan k p) world is) (search rules)

@@ -8,8 +8,11 @@ use Rattle.cb_desk.proofs.present.Present.plan_mark_all.Goals as goal
 pub returns : goal.returns
 returns c =
     let k = c.args.self.now in
-    let places : map (place_in k.archive) c.as_slice.result.now ≡ wanted_places (world_in k.archive k.now) = search rules in
-    let world : with_marks k.archive k.now None c.as_slice.result.now ≡ all_marked (world_in k.archive k.now) =
+    let places : map (place_in k.archive) c.as_slice.result.now
+    ≡ wanted_places (world_in k.archive k.now) = search rules in
+    let world : with_marks k.archive k.now None c.as_slice.result.now
+    ≡ all_marked (world_in k.archive k.now) =
     ap (λ xs. record (world_in k.archive k.now) { marks = xs }) places in
-    ok_along (λ p. IsPlan k p (with_marks k.archive k.now None c.as_slice.result.now)) (λ p. IsPlan k p (all_marked (world_in k.archive k.now)))
+    ok_along (λ p. IsPlan k p (with_marks k.archive k.now None c.as_slice.result.now))
+    (λ p. IsPlan k p (all_marked (world_in k.archive k.now)))
     c.plan_marks.result (λ p is. subst (IsPlan k p) world is) (search rules)

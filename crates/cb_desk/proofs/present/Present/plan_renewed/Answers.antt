@@ -18,7 +18,9 @@ edits_staying-requires-clause-ascending c =
 -- as many versions are made as there are files with a mark
 pub sorted_renewals-requires : goal.sorted_renewals-requires
 sorted_renewals-requires c =
-    let many = ap length c.requires.versions ∙ length-map _ _ ∙ length-map _ _ ∙ ap length (sym c.requires.marked) in
+    let many =
+    ap length c.requires.versions ∙ length-map _ _ ∙ length-map _ _
+    ∙ ap length (sym c.requires.marked) in
     search (rules, many)
 
 pub returns : goal.returns
@@ -32,8 +34,10 @@ returns c =
     let places : c.as_slice-places.result.now ≡ k.now.frames = search rules in
     let stay : staying r.archive.now new_files c.as_slice-places.result.now ≡ left =
     (λ i. staying (c.requires.archive i)
-    (files_then (c.requires.archive i) (c.requires.marks i) r.old.now r.new.now (c.requires.marked i)) (places i))
-    ∙ staying_remaining k.archive k.now.marks r.old.now r.new.now k.now.shown k.now.frames c.requires.valid.frames in
+    (files_then (c.requires.archive i) (c.requires.marks i) r.old.now r.new.now
+    (c.requires.marked i)) (places i))
+    ∙ staying_remaining k.archive k.now.marks r.old.now r.new.now k.now.shown k.now.frames
+    c.requires.valid.frames in
     let are_frames : IsDifference frames k.now.frames left =
     subst (λ ps. IsDifference frames ps left) places
     (subst (IsDifference frames c.as_slice-places.result.now) stay c.in_ok-frames.ensures) in

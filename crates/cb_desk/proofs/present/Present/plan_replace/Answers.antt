@@ -20,8 +20,10 @@ versions_then-requires c =
     let shown = c.shown.result.now in
     let marked : c.as_slice-2.result.now ≡ filter (has_mark a marks) shown = search rules in
     let there : AllByRecursion (IsThere a) shown =
-    subst (λ b. AllByRecursion (IsThere b) shown) (ap (λ (p : Kept). p.archive) c.self.view_is ∙ sym c.replacing-replacing.ensures.archive) c.shown.ensures.there in
-    subst (AllByRecursion (IsThere a)) (sym marked) (all_filter (has_mark a marks) (IsThere a) shown there)
+    subst (λ b. AllByRecursion (IsThere b) shown) (ap (λ (p : Kept). p.archive) c.self.view_is
+    ∙ sym c.replacing-replacing.ensures.archive) c.shown.ensures.there in
+    subst (AllByRecursion (IsThere a)) (sym marked)
+    (all_filter (has_mark a marks) (IsThere a) shown there)
 
 pub returns-in_err-versions-clause-meter : goal.returns-in_err-versions-clause-meter
 returns-in_err-versions-clause-meter c =
@@ -31,14 +33,21 @@ returns-in_err-versions-clause-meter c =
     let marks = made.marks.now in
     let wanted : k.now.wanted ≡ Some made.old.now = search rules in
     let shown : c.shown.result.now ≡ k.now.shown = search rules in
-    let marked : c.as_slice-2.result.now ≡ filter (has_mark a marks) c.shown.result.now = search rules in
-    let same : files_then a marks made.old.now made.new.now c.as_slice-2.result.now ≡ new_texts (world_in k.archive k.now) c.args.text.now =
+    let marked : c.as_slice-2.result.now ≡ filter (has_mark a marks) c.shown.result.now =
+    search rules in
+    let same : files_then a marks made.old.now made.new.now c.as_slice-2.result.now
+    ≡ new_texts (world_in k.archive k.now) c.args.text.now =
     ap (files_then a marks made.old.now made.new.now) marked
-    ∙ (λ i. files_changed (c.replacing-replacing.ensures.archive i) (c.replacing-replacing.ensures.marks i) made.old.now (c.replacing-replacing.ensures.new i) (shown i))
+    ∙ (λ i.
+    files_changed (c.replacing-replacing.ensures.archive i) (c.replacing-replacing.ensures.marks i)
+    made.old.now (c.replacing-replacing.ensures.new i) (shown i))
     ∙ sym (world_changed k.archive k.now made.old.now c.args.text.now wanted) in
-    counts_between c.from_residual-in_err-versions.result (bytes_in (new_texts (world_in k.archive k.now) c.args.text.now)) c.args.meter.now c.versions_then.new.meter
+    counts_between c.from_residual-in_err-versions.result
+    (bytes_in (new_texts (world_in k.archive k.now) c.args.text.now)) c.args.meter.now
+    c.versions_then.new.meter
     c.from_residual-in_err-versions.ensures.0
-    (subst (λ fs. IsBetween c.args.meter.now (bytes_in fs) c.versions_then.new.meter) same c.in_err-versions.ensures.meter)
+    (subst (λ fs. IsBetween c.args.meter.now (bytes_in fs) c.versions_then.new.meter) same
+    c.in_err-versions.ensures.meter)
 
 pub returns-clause-plan : goal.returns-clause-plan
 returns-clause-plan c =
@@ -47,10 +56,12 @@ returns-clause-plan c =
     let new = c.replacing-replacing.result.new.now in
     let w = world_in k.archive k.now in
     let wanted : k.now.wanted ≡ Some old = search rules in
-    let world : with_files w (replaced_files old new w) ≡ replaced_on_marks w k.now.wanted c.args.text.now =
+    let world : with_files w (replaced_files old new w)
+    ≡ replaced_on_marks w k.now.wanted c.args.text.now =
     ap (λ t. with_files w (replaced_files old t w)) c.replacing-replacing.ensures.new
     ∙ ap (λ o. replaced_on_marks w o c.args.text.now) (sym wanted) in
-    ok_along (λ p. IsPlan k p (with_files w (replaced_files old new w))) (λ p. IsPlan k p (replaced_on_marks w k.now.wanted c.args.text.now))
+    ok_along (λ p. IsPlan k p (with_files w (replaced_files old new w)))
+    (λ p. IsPlan k p (replaced_on_marks w k.now.wanted c.args.text.now))
     c.plan_renewed.result (λ p is. subst (IsPlan k p) world is) c.plan_renewed.ensures
 
 pub returns-clause-meter : goal.returns-clause-meter
@@ -61,12 +72,18 @@ returns-clause-meter c =
     let marks = made.marks.now in
     let wanted : k.now.wanted ≡ Some made.old.now = search rules in
     let shown : c.shown.result.now ≡ k.now.shown = search rules in
-    let marked : c.as_slice-2.result.now ≡ filter (has_mark a marks) c.shown.result.now = search rules in
-    let same : files_then a marks made.old.now made.new.now c.as_slice-2.result.now ≡ new_texts (world_in k.archive k.now) c.args.text.now =
+    let marked : c.as_slice-2.result.now ≡ filter (has_mark a marks) c.shown.result.now =
+    search rules in
+    let same : files_then a marks made.old.now made.new.now c.as_slice-2.result.now
+    ≡ new_texts (world_in k.archive k.now) c.args.text.now =
     ap (files_then a marks made.old.now made.new.now) marked
-    ∙ (λ i. files_changed (c.replacing-replacing.ensures.archive i) (c.replacing-replacing.ensures.marks i) made.old.now (c.replacing-replacing.ensures.new i) (shown i))
+    ∙ (λ i.
+    files_changed (c.replacing-replacing.ensures.archive i) (c.replacing-replacing.ensures.marks i)
+    made.old.now (c.replacing-replacing.ensures.new i) (shown i))
     ∙ sym (world_changed k.archive k.now made.old.now c.args.text.now wanted) in
     let read = c.read-counted.ensures in
     let few = c.read-counted.type_inv in
-    counts_any c.plan_renewed.result (bytes_in (new_texts (world_in k.archive k.now) c.args.text.now)) c.args.meter.now c.versions_then.new.meter (omega (arith, read, few))
+    counts_any c.plan_renewed.result
+    (bytes_in (new_texts (world_in k.archive k.now) c.args.text.now)) c.args.meter.now
+    c.versions_then.new.meter (omega (arith, read, few))
     (c.in_ok-versions.ensures.meter ∙ ap (λ fs. counted c.args.meter.now (bytes_in fs)) same)

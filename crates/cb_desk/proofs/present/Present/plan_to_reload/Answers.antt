@@ -18,8 +18,11 @@ returns-clause-plan c =
     let shown = c.in-Some.shown in
     let version = c.in_ok-version.version in
     let found : Some (file_of k.archive shown) ≡ file_named files name = search rules in
-    let named : name_of k.archive shown.name ≡ name = has_that_name (file_of k.archive shown) files name found in
-    let world : reloaded w (name_of k.archive shown.name) version ≡ reloaded w name c.args.bytes.items =
+    let named : name_of k.archive shown.name ≡ name =
+    has_that_name (file_of k.archive shown) files name found in
+    let world : reloaded w (name_of k.archive shown.name) version
+    ≡ reloaded w name c.args.bytes.items =
     ap (λ n. reloaded w n version) named ∙ ap (reloaded w name) c.in_ok-version.ensures.value in
-    ok_along (λ p. IsPlan k p (reloaded w (name_of k.archive shown.name) version)) (λ p. IsPlan k p (reloaded w name c.args.bytes.items)) c.plan_reload.result
+    ok_along (λ p. IsPlan k p (reloaded w (name_of k.archive shown.name) version))
+    (λ p. IsPlan k p (reloaded w name c.args.bytes.items)) c.plan_reload.result
     (λ p is. subst (IsPlan k p) world is) c.plan_reload.ensures

@@ -18,6 +18,8 @@ returns c =
     let new = c.args.new.now in
     let shown = c.in-Some.shown in
     let found : Some (file_of k.archive shown) ≡ file_named files old = search rules in
-    let named : name_of k.archive shown.name ≡ old = has_that_name (file_of k.archive shown) files old found in
-    ok_along (λ p. IsPlan k p (renamed w (name_of k.archive shown.name) new)) (λ p. IsPlan k p (renamed w old new)) c.plan_rename.result
+    let named : name_of k.archive shown.name ≡ old =
+    has_that_name (file_of k.archive shown) files old found in
+    ok_along (λ p. IsPlan k p (renamed w (name_of k.archive shown.name) new))
+    (λ p. IsPlan k p (renamed w old new)) c.plan_rename.result
     (λ p is. subst (λ n. IsPlan k p (renamed w n new)) named is) c.plan_rename.ensures

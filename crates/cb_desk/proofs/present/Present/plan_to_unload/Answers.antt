@@ -17,6 +17,8 @@ returns c =
     let name = c.args.name.now in
     let hides = c.in-Some.hides in
     let found : Some (file_of k.archive hides) ≡ file_named files name = search rules in
-    let named : name_of k.archive hides.name ≡ name = has_that_name (file_of k.archive hides) files name found in
-    ok_along (λ p. IsPlan k p (unloaded w (name_of k.archive hides.name))) (λ p. IsPlan k p (unloaded w name)) c.plan_unload.result
+    let named : name_of k.archive hides.name ≡ name =
+    has_that_name (file_of k.archive hides) files name found in
+    ok_along (λ p. IsPlan k p (unloaded w (name_of k.archive hides.name)))
+    (λ p. IsPlan k p (unloaded w name)) c.plan_unload.result
     (λ p is. subst (λ n. IsPlan k p (unloaded w n)) named is) c.plan_unload.ensures

@@ -11,8 +11,10 @@ returns c =
     let k = c.args.self.now in
     let p = c.args.plan.now in
     let are : AreTotals k.archive k.now.shown c.totals-now.result = search rules in
-    let more : AreCounted (texts_with k p) p.turn.shows c.totals-now.result c.in_ok-all.all = search rules in
-    room_asked k p _ c.totals-now.result c.requires are (search (rules, length-map)) (search (rules, length-map)) (search (rules, length-map))
+    let more : AreCounted (texts_with k p) p.turn.shows c.totals-now.result c.in_ok-all.all =
+    search rules in
+    room_asked k p _ c.totals-now.result c.requires are (search (rules, length-map))
+    (search (rules, length-map)) (search (rules, length-map))
     more.defs more.uses more.calls
 
 pub returns-in_err-all : goal.returns-in_err-all
@@ -20,6 +22,8 @@ returns-in_err-all c =
     let k = c.args.self.now in
     let p = c.args.plan.now in
     let are : AreTotals k.archive k.now.shown c.totals-now.result = search rules in
-    let many : 2 ^ 64 ≤ facts_with c.totals-now.result (fact_count (texts_with k p) p.turn.shows) = search rules in
+    let many : 2 ^ 64 ≤ facts_with c.totals-now.result (fact_count (texts_with k p) p.turn.shows) =
+    search rules in
     let none : c.from_residual.result ≡ None = search rules in
-    none_given _ _ c.from_residual.result none (not_countable k p c.totals-now.result c.requires are many)
+    none_given _ _ c.from_residual.result none
+    (not_countable k p c.totals-now.result c.requires are many)

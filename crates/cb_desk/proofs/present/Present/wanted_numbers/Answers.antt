@@ -13,9 +13,11 @@ returns-in-Some-clause-places c =
     let k = c.args.self.now in
     let text = c.in-Some.text.items in
     let wanted : k.now.wanted ≡ Some text = search rules in
-    let held : IfOk c.held_numbers.result (λ made. made.items ≡ held_numbers k.archive text k.now.shown) = search rules in
+    let held : IfOk c.held_numbers.result
+    (λ made. made.items ≡ held_numbers k.archive text k.now.shown) = search rules in
     ok_along (λ made. made.items ≡ held_numbers k.archive text k.now.shown)
-    (λ made. map (place_in k.archive) made.items ≡ wanted_places (world_in k.archive k.now)) c.held_numbers.result
+    (λ made. map (place_in k.archive) made.items ≡ wanted_places (world_in k.archive k.now))
+    c.held_numbers.result
     (λ made is. ap (map (place_in k.archive)) is ∙ held_are k.archive text k.now.shown
     ∙ sym (wanted-held (world_in k.archive k.now) text wanted c.requires.ascending)) held
 
@@ -23,8 +25,11 @@ pub returns-in-Some-clause-there : goal.returns-in-Some-clause-there
 returns-in-Some-clause-there c =
     let k = c.args.self.now in
     let text = c.in-Some.text.items in
-    let held : IfOk c.held_numbers.result (λ made. made.items ≡ held_numbers k.archive text k.now.shown) = search rules in
+    let held : IfOk c.held_numbers.result
+    (λ made. made.items ≡ held_numbers k.archive text k.now.shown) = search rules in
     ok_along (λ made. made.items ≡ held_numbers k.archive text k.now.shown)
-    (λ made. AllByRecursion (λ (p : NumberedPlace). p.name < k.now.names) made.items) c.held_numbers.result
+    (λ made. AllByRecursion (λ (p : NumberedPlace). p.name < k.now.names) made.items)
+    c.held_numbers.result
     (λ made is. subst (AllByRecursion (λ (p : NumberedPlace). p.name < k.now.names)) (sym is)
-    (all_held_below k.archive text k.now.names k.now.versions k.now.shown c.requires.kept.there.shown)) held
+    (all_held_below k.archive text k.now.names k.now.versions k.now.shown
+    c.requires.kept.there.shown)) held

@@ -7,8 +7,11 @@ abbrev pub invariant-loop-s : goal.invariant-loop-s
 invariant-loop-s l =
     let texts = with_texts (take l.kept l.archive.texts ++ l.news) in
     record {
-      defs : l.totals.defs + total def_count texts (drop l.s-index l.shown) ≡ l.fn.before.defs + total def_count texts l.shown;
-      uses : l.totals.uses + total use_count texts (drop l.s-index l.shown) ≡ l.fn.before.uses + total use_count texts l.shown;
-      calls : l.totals.calls + total call_count texts (drop l.s-index l.shown) ≡ l.fn.before.calls + total call_count texts l.shown;
+      defs : l.totals.defs + total def_count texts (drop l.s-index l.shown)
+          ≡ l.fn.before.defs + total def_count texts l.shown;
+      uses : l.totals.uses + total use_count texts (drop l.s-index l.shown)
+          ≡ l.fn.before.uses + total use_count texts l.shown;
+      calls : l.totals.calls + total call_count texts (drop l.s-index l.shown)
+          ≡ l.fn.before.calls + total call_count texts l.shown;
       kept : l.kept ≤ length l.archive.texts;
     }

@@ -1,12 +1,15 @@
 use Rattle.std.proofs.Common.{rules, ◌≡◌, ◌∙◌, ◌∷◌, length}
 use Rattle.cb_index.specs.Archived.{name_of}
-use Rattle.cb_desk.proofs.MarkedFiles.{files_on, found_is, marks_on, more_ascend, none_left, passed_is}
+use Rattle.cb_desk.proofs.MarkedFiles.{files_on, found_is, marks_on, more_ascend, none_left}
+use Rattle.cb_desk.proofs.MarkedFiles.{passed_is}
 use Rattle.cb_desk.proofs.present.marked_files.first_marked.Goals as goal
 
 pub returns-in-Some-split_named-clause-files : goal.returns-in-Some-split_named-clause-files
 returns-in-Some-split_named-clause-files c =
-    let split : c.loop-mark.left.now ≡ c.in-Some.mark.now ∷ c.in-Some.field-0-1.now = search rules in
-    let named : c.name-name.result.now ≡ name_of c.args.archive.now c.in-Some.mark.now.name = search rules in
+    let split : c.loop-mark.left.now ≡ c.in-Some.mark.now ∷ c.in-Some.field-0-1.now =
+    search rules in
+    let named : c.name-name.result.now ≡ name_of c.args.archive.now c.in-Some.mark.now.name =
+    search rules in
     c.loop-mark.invariant.same
     ∙ found_is c.args.archive.now c.loop-mark.left.now c.loop-mark.rest.now
     c.loop-mark.invariant.marks c.loop-mark.invariant.files
@@ -19,7 +22,8 @@ returns-in-Some-split_named-clause-files c =
 
 pub returns-in-Some-split_named-clause-ascending : goal.returns-in-Some-split_named-clause-ascending
 returns-in-Some-split_named-clause-ascending c = (
-  more_ascend c.args.archive.now c.name-name.result.now c.in-Some-split_named.file c.in-Some-split_named.more.now
+  more_ascend c.args.archive.now c.name-name.result.now c.in-Some-split_named.file
+      c.in-Some-split_named.more.now
       c.split_at.result.1.now c.in-Some-split_named.ensures
       (files_on c.args.archive.now c.loop-mark.rest.now c.split_at.result.1.now c.index_for.result
       c.split_at.ensures.back c.loop-mark.invariant.files),
@@ -29,8 +33,10 @@ returns-in-Some-split_named-clause-ascending c = (
 
 pub loop-mark-preserved : goal.loop-mark-preserved
 loop-mark-preserved c =
-    let split : c.loop-mark.left.now ≡ c.in-Some.mark.now ∷ c.in-Some.field-0-1.now = search rules in
-    let named : c.name-name.result.now ≡ name_of c.args.archive.now c.in-Some.mark.now.name = search rules in
+    let split : c.loop-mark.left.now ≡ c.in-Some.mark.now ∷ c.in-Some.field-0-1.now =
+    search rules in
+    let named : c.name-name.result.now ≡ name_of c.args.archive.now c.in-Some.mark.now.name =
+    search rules in
     record {
       same = c.loop-mark.invariant.same
           ∙ passed_is c.args.archive.now c.loop-mark.left.now c.loop-mark.rest.now
@@ -49,4 +55,5 @@ loop-mark-preserved c =
 pub returns-clause-files : goal.returns-clause-files
 returns-clause-files c =
     let none : length c.loop-mark.left.now ≡ 0 = search rules in
-    c.loop-mark.invariant.same ∙ none_left c.args.archive.now c.loop-mark.left.now c.loop-mark.rest.now none
+    c.loop-mark.invariant.same
+    ∙ none_left c.args.archive.now c.loop-mark.left.now c.loop-mark.rest.now none

@@ -10,5 +10,7 @@ returns-clause-parted c =
     let a = c.args.archive.now in
     let shown = c.args.shown.now in
     let name = c.args.name.now in
-    IsPartitionPoint-from_clause (below (file_of a) name) shown _ c.partition_point.ensures.partitioned
-    (parted (file_of a) name shown (files-ascend a shown c.requires)) (λ s r f k. (search (rules, k), search (rules, k)))
+    IsPartitionPoint-from_clause (below (file_of a) name) shown _
+    c.partition_point.ensures.partitioned
+    (parted (file_of a) name shown (files-ascend a shown c.requires))
+    (λ s r f k. (search (rules, k), search (rules, k)))

@@ -15,14 +15,21 @@ pub returns-in-Equal : goal.returns-in-Equal
 returns-in-Equal c =
     let x = name_of c.args.archive.now c.args.a.name in
     let y = name_of c.args.archive.now c.args.b.name in
-    let same : slice_cmp nat_cmp x y ≡ Equal = (λ i. slice_cmp nat_cmp (sym c.name.ensures i) (sym c.name-2.ensures i)) ∙ sym c.cmp.ensures ∙ c.in-Equal.is in
+    let same : slice_cmp nat_cmp x y ≡ Equal =
+    (λ i. slice_cmp nat_cmp (sym c.name.ensures i) (sym c.name-2.ensures i)) ∙ sym c.cmp.ensures
+    ∙ c.in-Equal.is in
     c.cmp-in-Equal.ensures
-    ∙ sym (cmp-places x y c.args.a.line c.args.b.line ∙ ap (λ o. ordering_then o (nat_cmp c.args.a.line c.args.b.line)) same)
+    ∙ sym (cmp-places x y c.args.a.line c.args.b.line
+    ∙ ap (λ o. ordering_then o (nat_cmp c.args.a.line c.args.b.line)) same)
 
 pub returns-in_default : goal.returns-in_default
 returns-in_default c =
     let x = name_of c.args.archive.now c.args.a.name in
     let y = name_of c.args.archive.now c.args.b.name in
-    let is : slice_cmp nat_cmp x y ≡ c.in_default.unlike = (λ i. slice_cmp nat_cmp (sym c.name.ensures i) (sym c.name-2.ensures i)) ∙ sym c.cmp.ensures ∙ c.in_default.unlike-is in
-    c.in_default.unlike-is ∙ sym (cmp-places x y c.args.a.line c.args.b.line ∙ ap (λ o. ordering_then o (nat_cmp c.args.a.line c.args.b.line)) is
-    ∙ first-decides c.in_default.unlike _ (λ e. c.in_default.not-Equal (c.in_default.unlike-is ∙ e)))
+    let is : slice_cmp nat_cmp x y ≡ c.in_default.unlike =
+    (λ i. slice_cmp nat_cmp (sym c.name.ensures i) (sym c.name-2.ensures i)) ∙ sym c.cmp.ensures
+    ∙ c.in_default.unlike-is in
+    c.in_default.unlike-is ∙ sym (cmp-places x y c.args.a.line c.args.b.line
+    ∙ ap (λ o. ordering_then o (nat_cmp c.args.a.line c.args.b.line)) is
+    ∙ first-decides c.in_default.unlike _
+    (λ e. c.in_default.not-Equal (c.in_default.unlike-is ∙ e)))

@@ -6,7 +6,8 @@ use Rattle.cb_desk.proofs.present.marks.held_numbers.Given as goal
 
 abbrev pub invariant-loop-file : goal.invariant-loop-file
 invariant-loop-file l = record {
-  made : l.made.items ++ held_numbers l.archive l.text l.rest ≡ held_numbers l.archive l.text l.shown;
+  made : l.made.items ++ held_numbers l.archive l.text l.rest
+      ≡ held_numbers l.archive l.text l.shown;
   there : AllByRecursion (IsThere l.archive) l.rest;
 }
 

@@ -7,7 +7,8 @@ use Rattle.cb_desk.proofs.present.marks.nth_held.Given as goal
 
 abbrev pub invariant-loop-file : goal.invariant-loop-file
 invariant-loop-file l = record {
-  goes : nth l.fn.n (held_numbers l.archive l.text l.shown) ≡ slice_get (held_numbers l.archive l.text l.rest) l.passed;
+  goes : nth l.fn.n (held_numbers l.archive l.text l.shown)
+      ≡ slice_get (held_numbers l.archive l.text l.rest) l.passed;
   there : AllByRecursion (IsThere l.archive) l.rest;
 }
 

@@ -7,7 +7,9 @@ pub returns : goal.returns
 returns c =
     let line = c.args.line.now in
     let text = c.shown-text.result.now in
-    let made = line-made c.args.old.now c.args.new.now line text c.args.made.now.items c.shown-text.ensures.value in
+    let made =
+    line-made c.args.old.now c.args.new.now line text c.args.made.now.items
+    c.shown-text.ensures.value in
     let replaced = c.in_ok-replace_into.ensures.ok refl in
     let end = take_rest line (length text) in
     c.in_ok-extend_from_slice.ensures.items ∙ (λ i. replaced i ++ end i) ∙ made

@@ -5,12 +5,14 @@ use Rattle.cb_desk.proofs.ReplacedLines.{LineSized, line-sized, new-bound}
 use Rattle.cb_desk.proofs.present.replacement.replaced_line_len.Goals as goal
 
 -- the bytes of the line before and after
-of-line : (c : goal.After-count-count) → LineSized c.args.old.now c.args.new.now c.args.line.now c.count-count.result
+of-line : (c : goal.After-count-count)
+    → LineSized c.args.old.now c.args.new.now c.args.line.now c.count-count.result
 of-line c =
     let counted : c.count-count.result ≡ length (matches c.shown.result.now c.args.old.now 0) =
     count_from_yields_List c.find_iter.result c.count-count.result c.count-count.ensures.ran
     (YieldsList-from_first (λ (x : ℕ). x) (λ (l : List ℕ). l) _ c.find_iter.ensures.value) in
-    line-sized c.args.old.now c.args.new.now c.args.line.now c.shown.result.now c.count-count.result c.requires.some c.shown.ensures.value c.shown.ensures.within counted
+    line-sized c.args.old.now c.args.new.now c.args.line.now c.shown.result.now c.count-count.result
+    c.requires.some c.shown.ensures.value c.shown.ensures.within counted
 
 pub overflow_mul-result-2 : goal.overflow_mul-result-2
 overflow_mul-result-2 c = let s = of-line c in let a = s.taken in omega arith

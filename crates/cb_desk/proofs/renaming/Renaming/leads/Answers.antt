@@ -7,5 +7,6 @@ use Rattle.cb_desk.proofs.renaming.Renaming.leads.Goals as goal
 pub returns : goal.returns
 returns c =
     let made : c.as_slice.result.now ≡ renamed c.args.self c.args.old.now = search rules in
-    let is = slice_eq-Decides same_place c.as_slice.result.now c.args.new.now c.eq.result c.eq.ensures in
+    let is =
+    slice_eq-Decides same_place c.as_slice.result.now c.args.new.now c.eq.result c.eq.ensures in
     (λ same. sym made ∙ is.0 same, λ led. is.1 (made ∙ led))

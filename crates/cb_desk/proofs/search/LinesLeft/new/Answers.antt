@@ -3,4 +3,5 @@ use Rattle.bstr.proofs.lemmas.LengthLemmas.{length-lines}
 use Rattle.cb_desk.proofs.search.LinesLeft.new.Goals as goal
 
 pub returns-clause-len : goal.returns-clause-len
-returns-clause-len c = omega (arith, length-lines c.args.source.now, ap length c.bytes.ensures.value)
+returns-clause-len c =
+    omega (arith, length-lines c.args.source.now, ap length c.bytes.ensures.value)

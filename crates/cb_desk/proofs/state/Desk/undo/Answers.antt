@@ -2,4 +2,6 @@ use Rattle.cb_desk.proofs.Moves.{moves-keep-valid, undo_keeps_valid}
 use Rattle.cb_desk.proofs.state.Desk.undo.Goals as goal
 
 pub invariant_of-self : goal.invariant_of-self
-invariant_of-self c = moves-keep-valid _ _ _ _ c.self.invariant (λ v is. undo_keeps_valid _ v c.self.invariant is) c.undo.ensures.timeline
+invariant_of-self c =
+    moves-keep-valid _ _ _ _ c.self.invariant (λ v is. undo_keeps_valid _ v c.self.invariant is)
+    c.undo.ensures.timeline

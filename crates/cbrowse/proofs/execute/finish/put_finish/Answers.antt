@@ -4,7 +4,9 @@ use Rattle.cbrowse.proofs.execute.finish.put_finish.Goals as goal
 
 pub returns-in-Unreadable : goal.returns-in-Unreadable
 returns-in-Unreadable g c =
-    let named = c.name_at.ensures ∙ ap (λ names. slice_index_or names c.in-Unreadable.place []) c.files_of-in-Unreadable.ensures in
+    let named =
+    c.name_at.ensures ∙ ap (λ names. slice_index_or names c.in-Unreadable.place [])
+    c.files_of-in-Unreadable.ensures in
     rw (c.in-Unreadable.is, sym named) c.put_file_error.ensures
 
 pub returns-in-Unwritable : goal.returns-in-Unwritable

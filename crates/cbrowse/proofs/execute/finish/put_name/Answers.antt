@@ -5,11 +5,13 @@ use Rattle.cbrowse.proofs.execute.finish.put_name.Goals as goal
 pub returns-in_err-put_byte : goal.returns-in_err-put_byte
 returns-in_err-put_byte g c =
     Puts-fault _ _ _ _ _ c.from_residual.ensures.1
-    (PutsPrefix-element told_byte _ _ _ _ c.loop-byte.byte-index _ c.loop-byte-test.true c.loop-byte.invariant c.in_err-put_byte.ensures)
+    (PutsPrefix-element told_byte _ _ _ _ c.loop-byte.byte-index _ c.loop-byte-test.true
+    c.loop-byte.invariant c.in_err-put_byte.ensures)
 
 pub loop-byte-init : goal.loop-byte-init
 loop-byte-init g c = PutsAll-none c.args.errors.now
 
 pub loop-byte-preserved : goal.loop-byte-preserved
 loop-byte-preserved g c =
-    PutsAll-element told_byte _ _ _ _ c.loop-byte.byte-index _ c.loop-byte-test.true c.loop-byte.invariant c.in_ok-put_byte.ensures
+    PutsAll-element told_byte _ _ _ _ c.loop-byte.byte-index _ c.loop-byte-test.true
+    c.loop-byte.invariant c.in_ok-put_byte.ensures

@@ -5,4 +5,5 @@ use Rattle.cbrowse.specs.Messages.{told_byte}
 use Rattle.cbrowse.proofs.execute.finish.put_name.Given as goal
 
 abbrev pub invariant-loop-byte : goal.invariant-loop-byte
-invariant-loop-byte g l = PutsAll l.fn.errors l.errors (flat_map told_byte (take l.byte-index l.name))
+invariant-loop-byte g l =
+    PutsAll l.fn.errors l.errors (flat_map told_byte (take l.byte-index l.name))

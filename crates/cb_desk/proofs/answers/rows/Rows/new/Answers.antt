@@ -17,7 +17,8 @@ new-requires-clause-few c =
 pub new-requires-in_default-clause-texts : goal.new-requires-in_default-clause-texts
 new-requires-in_default-clause-texts c =
     subst HaveLineTexts (sym c.found_rows.ensures.rows)
-    (line-texts c.args.field c.args.pattern.now (files c.args.shelf.now) c.new-files.ensures.ascending)
+    (line-texts c.args.field c.args.pattern.now (files c.args.shelf.now)
+    c.new-files.ensures.ascending)
 
 pub returns-in-Text : goal.returns-in-Text
 returns-in-Text c =

@@ -10,4 +10,5 @@ returns-clause-rows c =
     let line = c.new.ensures.line in
     let text = c.new.ensures.text in
     ap (map (line_row c.args.name.now c.args.source.now))
-    ((λ i. found_from c.args.finder.now (line i) (lines (text i))) ∙ sym (lines_with-found c.args.finder.now c.args.source.now))
+    ((λ i. found_from c.args.finder.now (line i) (lines (text i)))
+    ∙ sym (lines_with-found c.args.finder.now c.args.source.now))

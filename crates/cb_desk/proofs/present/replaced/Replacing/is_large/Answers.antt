@@ -11,6 +11,8 @@ pub returns : goal.returns
 returns c =
     let a = c.args.self.archive.now in
     let ns = marked_lines (name_of a c.args.file.name) (places_in a c.args.self.marks.now) in
-    let lines : map (λ (m : NumberedPlace). m.line) c.marks_of-marks.result.now ≡ ns = search rules in
+    let lines : map (λ (m : NumberedPlace). m.line) c.marks_of-marks.result.now ≡ ns =
+    search rules in
     ap (nat_lt MOST_BYTES) (c.replaced_len.ensures
-    ∙ (λ i. length (replaced_text c.args.self.old.now c.args.self.new.now (lines i) (c.source-source.ensures i))))
+    ∙ (λ i. length
+    (replaced_text c.args.self.old.now c.args.self.new.now (lines i) (c.source-source.ensures i))))

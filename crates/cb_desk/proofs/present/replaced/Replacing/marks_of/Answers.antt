@@ -14,10 +14,13 @@ returns-clause-lines c =
     let mine : c.split_at-2.result.0.now ≡ take (prefix_len (is_here a name) rest) rest =
     c.split_at-2.ensures.front ∙ ap (λ n. take n rest) c.count_in-count.ensures.value in
     let parted = c.start_of-start.ensures.parted in
-    ap (map (λ (m : NumberedPlace). m.line)) (mine ∙ ap (λ (l : List NumberedPlace). take (prefix_len (is_here a name) l) l) c.split_at.ensures.back)
-    ∙ lines_found a name c.args.self.marks.now c.args.self.ascending c.start_of-start.result c.start_of-start.ensures.within parted.0 parted.1
+    ap (map (λ (m : NumberedPlace). m.line)) (mine ∙ ap
+    (λ (l : List NumberedPlace). take (prefix_len (is_here a name) l) l) c.split_at.ensures.back)
+    ∙ lines_found a name c.args.self.marks.now c.args.self.ascending c.start_of-start.result
+    c.start_of-start.ensures.within parted.0 parted.1
 
 pub returns-clause-ascending : goal.returns-clause-ascending
 returns-clause-ascending c =
     subst (IsStrictlySortedBy nat_cmp) (sym (returns-clause-lines c))
-    (lines_rise c.args.self.archive.now c.args.name.now (places_in c.args.self.archive.now c.args.self.marks.now) c.args.self.ascending)
+    (lines_rise c.args.self.archive.now c.args.name.now
+    (places_in c.args.self.archive.now c.args.self.marks.now) c.args.self.ascending)

@@ -12,7 +12,8 @@ abbrev none : Shown
 none = record { name = 0; version = 0 }
 
 above : (n m : ℕ) → 1 ≤ n → nat_le 1 n && nat_le n m ≡ nat_le n m
-above n m within = let first : nat_le 1 n ≡ true = grind (arith, within) in ap (λ b. b && nat_le n m) first
+above n m within =
+    let first : nat_le 1 n ≡ true = grind (arith, within) in ap (λ b. b && nat_le n m) first
 
 below : (n : ℕ) → n < 1 → nat_le 1 n ≡ false
 below n out = grind (arith, out)

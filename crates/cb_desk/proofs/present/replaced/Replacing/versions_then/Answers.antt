@@ -1,4 +1,5 @@
-use Rattle.std.proofs.Common.{rules, ◌≡◌, ◌∙◌, ◌≤◌, ap, sym, refl, subst, arith, [], ◌∷◌, ◌++◌, length, append_assoc}
+use Rattle.std.proofs.Common.{rules, ◌≡◌, ◌∙◌, ◌≤◌, ap, sym, refl, subst, arith, [], ◌∷◌, ◌++◌}
+use Rattle.std.proofs.Common.{length, append_assoc}
 use Rattle.std.specs.List.{AllByRecursion}
 use Rattle.cb_index.specs.Files.{IsThere}
 use Rattle.cb_desk.specs.Desk.{bytes_in, counted}
@@ -15,7 +16,9 @@ loop-file-init c =
     let read = c.read-counted.ensures in
     let few = c.read-counted.type_inv in
     record {
-      versions = ap (λ l. l ++ texts_of (files_then a marks old new c.args.files.now)) c.new-made.ensures.items;
+      versions =
+          ap (λ l. l ++ texts_of (files_then a marks old new c.args.files.now))
+          c.new-made.ensures.items;
       meter = refl;
       raised = omega arith;
       bounded = omega (arith, read, few);
@@ -34,17 +37,23 @@ loop-file-preserved c =
     let later = files_then a marks old new more in
     let split : c.loop-file.rest.now ≡ file ∷ more = search rules in
     let raised = c.loop-file.invariant.raised in
-    let meter : c.version_then.new.meter ≡ counted c.loop-file.meter (length text) = c.in_ok-version_then.ensures.meter in
+    let meter : c.version_then.new.meter ≡ counted c.loop-file.meter (length text) =
+    c.in_ok-version_then.ensures.meter in
     let bound = counted_bound c.loop-file.meter (length text) in
     let rises = counted_rises c.loop-file.meter (length text) c.loop-file.invariant.bounded in
     record {
       versions = ap (λ l. l ++ texts_of later) c.in_ok-push.ensures.items
           ∙ append_assoc c.loop-file.made.items (c.in_ok-version_then.field-0 ∷ []) (texts_of later)
-          ∙ ap (λ t. c.loop-file.made.items ++ t ∷ texts_of later) c.in_ok-version_then.ensures.value
-          ∙ ap (λ ss. c.loop-file.made.items ++ texts_of (files_then a marks old new ss)) (sym split)
+          ∙ ap (λ t. c.loop-file.made.items ++ t ∷ texts_of later)
+          c.in_ok-version_then.ensures.value
+          ∙ ap (λ ss. c.loop-file.made.items ++ texts_of (files_then a marks old new ss))
+          (sym split)
           ∙ c.loop-file.invariant.versions;
-      meter = ap (λ m. counted m (bytes_in later)) meter ∙ counted_twice c.loop-file.meter (length text) (bytes_in later)
-          ∙ ap (λ ss. counted c.loop-file.meter (bytes_in (files_then a marks old new ss))) (sym split) ∙ c.loop-file.invariant.meter;
+      meter =
+          ap (λ m. counted m (bytes_in later)) meter
+          ∙ counted_twice c.loop-file.meter (length text) (bytes_in later)
+          ∙ ap (λ ss. counted c.loop-file.meter (bytes_in (files_then a marks old new ss)))
+          (sym split) ∙ c.loop-file.invariant.meter;
       raised = subst (λ m. c.args.meter.now ≤ m) (sym meter) (omega (arith, raised, rises));
       bounded = subst (λ m. m ≤ 18446744073709551615) (sym meter) bound;
       there = (subst (AllByRecursion (IsThere a)) split c.loop-file.invariant.there).1;

@@ -7,10 +7,14 @@ use Rattle.cb_desk.proofs.present.replaced.Replacing.versions_then.Given as goal
 
 abbrev pub invariant-loop-file : goal.invariant-loop-file
 invariant-loop-file l = record {
-  versions : l.made.items ++ texts_of (files_then l.self.archive.now l.self.marks.now l.self.old.now l.self.new.now l.rest)
-      ≡ texts_of (files_then l.self.archive.now l.self.marks.now l.self.old.now l.self.new.now l.files);
-  meter : counted l.meter (bytes_in (files_then l.self.archive.now l.self.marks.now l.self.old.now l.self.new.now l.rest))
-      ≡ counted l.initial.meter (bytes_in (files_then l.self.archive.now l.self.marks.now l.self.old.now l.self.new.now l.files));
+  versions : l.made.items ++ texts_of
+      (files_then l.self.archive.now l.self.marks.now l.self.old.now l.self.new.now l.rest)
+      ≡ texts_of (files_then l.self.archive.now l.self.marks.now l.self.old.now
+      l.self.new.now l.files);
+  meter : counted l.meter (bytes_in
+      (files_then l.self.archive.now l.self.marks.now l.self.old.now l.self.new.now l.rest))
+      ≡ counted l.initial.meter (bytes_in
+      (files_then l.self.archive.now l.self.marks.now l.self.old.now l.self.new.now l.files));
   raised : l.initial.meter ≤ l.meter;
   bounded : l.meter ≤ 2 ^ 64 - 1;
   there : AllByRecursion (IsThere l.self.archive.now) l.rest;

@@ -7,7 +7,8 @@ use Rattle.cb_desk.proofs.present.replacement.marked.MarkedLines.new.Goals as go
 
 pub invariant_of-result : goal.invariant_of-result
 invariant_of-result c = (
-  subst (Rises 1) (sym c.split_at_line.ensures.rest) (rises-next 0 _ (rises-ascending _ c.requires)),
+  subst (Rises 1) (sym c.split_at_line.ensures.rest)
+      (rises-next 0 _ (rises-ascending _ c.requires)),
   omega (arith, c.lines_with_terminator.ensures.len),
 )
 

@@ -6,7 +6,8 @@ use Rattle.cb_desk.proofs.present.replacement.marked.MarkedLinesIterator.next.Go
 
 pub invariant_of-self-2 : goal.invariant_of-self-2
 invariant_of-self-2 c = (
-  subst (Rises (c.self.inside.number + 1)) (sym c.split_at_line-marked.ensures.rest) (rises-next c.self.inside.number _ c.self.invariant.0),
+  subst (Rises (c.self.inside.number + 1)) (sym c.split_at_line-marked.ensures.rest)
+      (rises-next c.self.inside.number _ c.self.invariant.0),
   omega (arith, ap length c.in_ok-line.ensures.steps, c.self.invariant.1),
 )
 
