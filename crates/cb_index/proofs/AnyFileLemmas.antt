@@ -19,24 +19,29 @@ module _ (file other text : List ℕ) where
   call_line None = refl
   call_line (Some c) = refl
 
-  pub line_is : (sort : FactKind) (item : ℕ) → (fact_at sort file text item).line ≡ (fact_at sort other text item).line
+  pub line_is : (sort : FactKind) (item : ℕ)
+      → (fact_at sort file text item).line ≡ (fact_at sort other text item).line
   line_is Uses item = use_line (slice_get (facts_of text).uses item)
   line_is Callees item = call_line (slice_get (facts_of text).calls item)
   line_is Callers item = call_line (slice_get (facts_of text).calls item)
 
-  use_function : (u : Option Use) → column (fact_of_use file text u).scope ≡ column (fact_of_use other text u).scope
+  use_function : (u : Option Use)
+      → column (fact_of_use file text u).scope ≡ column (fact_of_use other text u).scope
   use_function None = refl
   use_function (Some u) = refl
 
-  callee_function : (c : Option Call) → column (fact_of_call file text c).scope ≡ column (fact_of_call other text c).scope
+  callee_function : (c : Option Call)
+      → column (fact_of_call file text c).scope ≡ column (fact_of_call other text c).scope
   callee_function None = refl
   callee_function (Some c) = refl
 
-  caller_function : (c : Option Call) → (fact_of_call file text c).name ≡ (fact_of_call other text c).name
+  caller_function : (c : Option Call)
+      → (fact_of_call file text c).name ≡ (fact_of_call other text c).name
   caller_function None = refl
   caller_function (Some c) = refl
 
-  pub function_is : (sort : FactKind) (item : ℕ) → function_of sort (fact_at sort file text item) ≡ function_of sort (fact_at sort other text item)
+  pub function_is : (sort : FactKind) (item : ℕ) → function_of sort (fact_at sort file text item)
+      ≡ function_of sort (fact_at sort other text item)
   function_is Uses item = use_function (slice_get (facts_of text).uses item)
   function_is Callees item = callee_function (slice_get (facts_of text).calls item)
   function_is Callers item = caller_function (slice_get (facts_of text).calls item)

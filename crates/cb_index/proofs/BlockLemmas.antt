@@ -1,7 +1,10 @@
 -- Entries that are kept in blocks.
-use Rattle.std.proofs.Common.{◌≡◌, ◌∙◌, ◌≤◌, ◌<◌, ◌+◌, ◌-◌, ℕ, zero, suc, Bool, true, false, List, [], ◌∷◌, ◌++◌, refl, sym, ap, subst, length, take, drop, drop-cons, get_or, set, arith}
+use Rattle.std.proofs.Common.{◌≡◌, ◌∙◌, ◌≤◌, ◌<◌, ◌+◌, ◌-◌, ℕ, zero, suc, Bool, true, false, List}
+use Rattle.std.proofs.Common.{[], ◌∷◌, ◌++◌, refl, sym, ap, subst, length, take, drop, drop-cons}
+use Rattle.std.proofs.Common.{get_or, set, arith}
 use Rattle.std.proofs.lemmas.Bool.{true≢false}
-use Rattle.std.proofs.lemmas.List.{append_assoc, drop-append-le, length-append, take-append-drop, take-append-le}
+use Rattle.std.proofs.lemmas.List.{append_assoc, drop-append-le, length-append, take-append-drop}
+use Rattle.std.proofs.lemmas.List.{take-append-le}
 use Rattle.std.proofs.lemmas.List.Concat.{flat_map-append}
 use Rattle.std.proofs.Math.Seq.{drop-append-add, take-append-add}
 use Rattle.std.specs.List.{AllByRecursion, insert, remove}
@@ -20,15 +23,18 @@ joined-append front bs = flat_map-append (λ (b : List Entry). b) front bs
 -- ---- a list that is parted in two
 module _ {X : Type 0} (one : X) where
   pub in_lower : (at n : ℕ) (xs : List X) → at ≤ n
-      → (take at (take n xs) ++ one ∷ drop at (take n xs)) ++ drop n xs ≡ take at xs ++ one ∷ drop at xs
+      → (take at (take n xs) ++ one ∷ drop at (take n xs)) ++ drop n xs
+      ≡ take at xs ++ one ∷ drop at xs
   in_lower zero n xs low = ap (λ l. one ∷ l) (take-append-drop n xs)
   in_lower (suc at) zero xs low = absurd (omega (arith, low))
   in_lower (suc at) (suc n) [] low = refl
   in_lower (suc at) (suc n) (x ∷ xs) low = ap (λ l. x ∷ l) (in_lower at n xs (omega (arith, low)))
 
   pub in_upper : (n at : ℕ) (xs : List X) → n ≤ at
-      → take n xs ++ (take (at - n) (drop n xs) ++ one ∷ drop (at - n) (drop n xs)) ≡ take at xs ++ one ∷ drop at xs
-  in_upper zero at xs low = let same : at - 0 ≡ at = omega arith in λ i. take (same i) xs ++ one ∷ drop (same i) xs
+      → take n xs ++ (take (at - n) (drop n xs) ++ one ∷ drop (at - n) (drop n xs))
+      ≡ take at xs ++ one ∷ drop at xs
+  in_upper zero at xs low =
+      let same : at - 0 ≡ at = omega arith in λ i. take (same i) xs ++ one ∷ drop (same i) xs
   in_upper (suc n) zero xs low = absurd (omega (arith, low))
   in_upper (suc n) (suc at) [] low =
       let less : suc at - suc n ≡ at - n = omega arith in
@@ -48,10 +54,12 @@ pub joined_set : (bs : Lists) (k : ℕ) (b : List Entry) → k < length bs
 joined_set [] k b low = absurd (omega (arith, low))
 joined_set (c ∷ bs) zero b low = refl
 joined_set (c ∷ bs) (suc k) b low =
-    ap (λ l. c ++ l) (joined_set bs k b (omega (arith, low))) ∙ sym (append_assoc c (joined (take k bs)) (b ++ joined (drop (suc k) bs)))
+    ap (λ l. c ++ l) (joined_set bs k b (omega (arith, low)))
+    ∙ sym (append_assoc c (joined (take k bs)) (b ++ joined (drop (suc k) bs)))
 
 pub joined_split : (bs : Lists) (k : ℕ) (lower upper : List Entry) → k < length bs
-    → joined (insert (set bs k lower) (k + 1) upper) ≡ joined (take k bs) ++ ((lower ++ upper) ++ joined (drop (suc k) bs))
+    → joined (insert (set bs k lower) (k + 1) upper)
+    ≡ joined (take k bs) ++ ((lower ++ upper) ++ joined (drop (suc k) bs))
 joined_split [] k lower upper low = absurd (omega (arith, low))
 joined_split (c ∷ bs) zero lower upper low = sym (append_assoc lower upper (joined bs))
 joined_split (c ∷ bs) (suc k) lower upper low =
@@ -65,21 +73,25 @@ pub joined_remove : (bs : Lists) (k : ℕ) (b : List Entry) → k < length bs
 joined_remove [] k b low = absurd (omega (arith, low))
 joined_remove (c ∷ bs) zero b low = refl
 joined_remove (c ∷ bs) (suc k) b low =
-    ap (λ l. c ++ l) (joined_remove bs k b (omega (arith, low))) ∙ sym (append_assoc c (joined (take k bs)) (joined (drop (suc k) bs)))
+    ap (λ l. c ++ l) (joined_remove bs k b (omega (arith, low)))
+    ∙ sym (append_assoc c (joined (take k bs)) (joined (drop (suc k) bs)))
 
 module _ {X : Type 0} (P : X → Type 0) where
-  pub all_set : (xs : List X) (k : ℕ) (x : X) → AllByRecursion P xs → P x → AllByRecursion P (set xs k x)
+  pub all_set : (xs : List X) (k : ℕ) (x : X) → AllByRecursion P xs → P x
+      → AllByRecursion P (set xs k x)
   all_set [] k x all here = tt
   all_set (y ∷ ys) zero x all here = (here, all.1)
   all_set (y ∷ ys) (suc k) x all here = (all.0, all_set ys k x all.1 here)
 
-  pub all_insert : (xs : List X) (k : ℕ) (x : X) → AllByRecursion P xs → P x → AllByRecursion P (insert xs k x)
+  pub all_insert : (xs : List X) (k : ℕ) (x : X) → AllByRecursion P xs → P x
+      → AllByRecursion P (insert xs k x)
   all_insert xs zero x all here = (here, all)
   all_insert [] (suc k) x all here = (here, tt)
   all_insert (y ∷ ys) (suc k) x all here = (all.0, all_insert ys k x all.1 here)
 
   -- the other elements stay
-  pub all_remove : (xs : List X) (k : ℕ) (x : X) → AllByRecursion P xs → AllByRecursion P (remove (set xs k x) k)
+  pub all_remove : (xs : List X) (k : ℕ) (x : X) → AllByRecursion P xs
+      → AllByRecursion P (remove (set xs k x) k)
   all_remove [] zero x all = tt
   all_remove [] (suc k) x all = tt
   all_remove (y ∷ ys) zero x all = all.1
@@ -94,16 +106,20 @@ module _ {X : Type 0} (P : X → Type 0) where
   all_back (x ∷ xs) ys all = all_back xs ys all.1
 
 -- ---- a place among all entries
-pub parted_at : (bs : Lists) (k : ℕ) → k < length bs → joined bs ≡ joined (take k bs) ++ (get_or bs k [] ++ joined (drop (suc k) bs))
+pub parted_at : (bs : Lists) (k : ℕ) → k < length bs
+    → joined bs ≡ joined (take k bs) ++ (get_or bs k [] ++ joined (drop (suc k) bs))
 parted_at bs k low =
     ap joined (sym (take-append-drop k bs)) ∙ joined-append (take k bs) (drop k bs)
     ∙ ap (λ l. joined (take k bs) ++ joined l) (drop-cons bs k [] low)
 
 module _ (bs : Lists) (k j : ℕ) (low : k < length bs) (within : j ≤ length (get_or bs k [])) where
-  take_more : (xs ys zs : List Entry) → j ≤ length ys → take (length xs + j) (xs ++ (ys ++ zs)) ≡ xs ++ take j ys
-  take_more xs ys zs fits = take-append-add xs (ys ++ zs) j ∙ ap (λ l. xs ++ l) (take-append-le j ys zs fits)
+  take_more : (xs ys zs : List Entry) → j ≤ length ys
+      → take (length xs + j) (xs ++ (ys ++ zs)) ≡ xs ++ take j ys
+  take_more xs ys zs fits =
+      take-append-add xs (ys ++ zs) j ∙ ap (λ l. xs ++ l) (take-append-le j ys zs fits)
 
-  drop_more : (xs ys zs : List Entry) → j ≤ length ys → drop (length xs + j) (xs ++ (ys ++ zs)) ≡ drop j ys ++ zs
+  drop_more : (xs ys zs : List Entry) → j ≤ length ys
+      → drop (length xs + j) (xs ++ (ys ++ zs)) ≡ drop j ys ++ zs
   drop_more xs ys zs fits = drop-append-add xs (ys ++ zs) j ∙ drop-append-le j ys zs fits
 
   pub front_at : take (before bs k j) (joined bs) ≡ joined (take k bs) ++ take j (get_or bs k [])
@@ -111,29 +127,38 @@ module _ (bs : Lists) (k j : ℕ) (low : k < length bs) (within : j ≤ length (
       ap (take (before bs k j)) (parted_at bs k low)
       ∙ take_more (joined (take k bs)) (get_or bs k []) (joined (drop (suc k) bs)) within
 
-  pub back_at : drop (before bs k j) (joined bs) ≡ drop j (get_or bs k []) ++ joined (drop (suc k) bs)
+  pub back_at : drop (before bs k j) (joined bs)
+      ≡ drop j (get_or bs k []) ++ joined (drop (suc k) bs)
   back_at =
       ap (drop (before bs k j)) (parted_at bs k low)
       ∙ drop_more (joined (take k bs)) (get_or bs k []) (joined (drop (suc k) bs)) within
 
   -- an entry put there
   pub put_there : (one : Entry)
-      → joined (take k bs) ++ ((take j (get_or bs k []) ++ one ∷ drop j (get_or bs k [])) ++ joined (drop (suc k) bs))
+      → joined (take k bs)
+      ++ ((take j (get_or bs k []) ++ one ∷ drop j (get_or bs k [])) ++ joined (drop (suc k) bs))
       ≡ take (before bs k j) (joined bs) ++ one ∷ drop (before bs k j) (joined bs)
   put_there one =
-      ap (λ l. joined (take k bs) ++ l) (append_assoc (take j (get_or bs k [])) (one ∷ drop j (get_or bs k [])) (joined (drop (suc k) bs)))
-      ∙ sym (append_assoc (joined (take k bs)) (take j (get_or bs k [])) (one ∷ (drop j (get_or bs k []) ++ joined (drop (suc k) bs))))
+      ap (λ l. joined (take k bs) ++ l) (append_assoc (take j (get_or bs k []))
+      (one ∷ drop j (get_or bs k [])) (joined (drop (suc k) bs)))
+      ∙ sym (append_assoc (joined (take k bs)) (take j (get_or bs k []))
+      (one ∷ (drop j (get_or bs k []) ++ joined (drop (suc k) bs))))
       ∙ (λ i. sym front_at i ++ one ∷ sym back_at i)
 
 -- an entry taken from there
 pub taken_there : (bs : Lists) (k j : ℕ) → k < length bs → j < length (get_or bs k [])
-    → joined (take k bs) ++ ((take j (get_or bs k []) ++ drop (suc j) (get_or bs k [])) ++ joined (drop (suc k) bs))
+    → joined (take k bs)
+    ++ ((take j (get_or bs k []) ++ drop (suc j) (get_or bs k [])) ++ joined (drop (suc k) bs))
     ≡ take (before bs k j) (joined bs) ++ drop (suc (before bs k j)) (joined bs)
 taken_there bs k j low within =
-    let next : length (joined (take k bs)) + suc j ≡ suc (length (joined (take k bs)) + j) = omega arith in
-    ap (λ l. joined (take k bs) ++ l) (append_assoc (take j (get_or bs k [])) (drop (suc j) (get_or bs k [])) (joined (drop (suc k) bs)))
-    ∙ sym (append_assoc (joined (take k bs)) (take j (get_or bs k [])) (drop (suc j) (get_or bs k []) ++ joined (drop (suc k) bs)))
-    ∙ (λ i. sym (front_at bs k j low (omega (arith, within))) i ++ sym (back_at bs k (suc j) low (omega (arith, within))) i)
+    let next : length (joined (take k bs)) + suc j ≡ suc (length (joined (take k bs)) + j) =
+    omega arith in
+    ap (λ l. joined (take k bs) ++ l) (append_assoc (take j (get_or bs k []))
+    (drop (suc j) (get_or bs k [])) (joined (drop (suc k) bs)))
+    ∙ sym (append_assoc (joined (take k bs)) (take j (get_or bs k []))
+    (drop (suc j) (get_or bs k []) ++ joined (drop (suc k) bs)))
+    ∙ (λ i. sym (front_at bs k j low (omega (arith, within))) i
+    ++ sym (back_at bs k (suc j) low (omega (arith, within))) i)
     ∙ ap (λ n. take (before bs k j) (joined bs) ++ drop n (joined bs)) next
 
 -- ---- blocks that a test parts
@@ -144,13 +169,16 @@ module _ (p : Entry → Bool) where
   head_fails [] a = refl
   head_fails (e ∷ es) a = a.0
 
-  later_fail : (bs : Lists) (j : ℕ) (d : List Entry) → j < length bs → AllByRecursion (λ e. p e ≡ false) (joined bs)
+  later_fail : (bs : Lists) (j : ℕ) (d : List Entry) → j < length bs
+      → AllByRecursion (λ e. p e ≡ false) (joined bs)
       → head_is p (get_or bs j d) ≡ false
   later_fail [] j d below a = absurd (omega (arith, below))
   later_fail (b ∷ bs) zero d below a = head_fails b (all_front (λ e. p e ≡ false) b (joined bs) a)
-  later_fail (b ∷ bs) (suc j) d below a = later_fail bs j d (omega (arith, below)) (all_back (λ e. p e ≡ false) b (joined bs) a)
+  later_fail (b ∷ bs) (suc j) d below a =
+      later_fail bs j d (omega (arith, below)) (all_back (λ e. p e ≡ false) b (joined bs) a)
 
-  pub heads_parted : (bs : Lists) → AllByRecursion IsFilled bs → Parts p (joined bs) → IsPartitionedBy (head_is p) bs
+  pub heads_parted : (bs : Lists) → AllByRecursion IsFilled bs → Parts p (joined bs)
+      → IsPartitionedBy (head_is p) bs
   unfolding head_is
   heads_parted [] f q i j d upward below is = absurd (omega (arith, below))
   heads_parted ([] ∷ bs) f q i j d upward below is = absurd (omega (arith, f.0))
@@ -160,19 +188,24 @@ module _ (p : Entry → Bool) where
       by_test : (b : Bool) → p e ≡ b → p e ≡ true
       by_test true eq = eq
       by_test false eq =
-          absurd (true≢false (sym is ∙ later_fail bs j d (omega (arith, below)) (all_back (λ x. p x ≡ false) es (joined bs) (q.0 eq))))
+          absurd (true≢false (sym is ∙ later_fail bs j d (omega (arith, below))
+          (all_back (λ x. p x ≡ false) es (joined bs) (q.0 eq))))
   heads_parted ((e ∷ es) ∷ bs) f q (suc i) zero d upward below is = absurd (omega (arith, upward))
   heads_parted ((e ∷ es) ∷ bs) f q (suc i) (suc j) d upward below is =
-      heads_parted bs f.1 (parts_right p (e ∷ es) (joined bs) q) i j d (omega (arith, upward)) (omega (arith, below)) is
+      heads_parted bs f.1 (parts_right p (e ∷ es) (joined bs) q) i j d (omega (arith, upward))
+      (omega (arith, below)) is
 
   -- each block of them is parted
-  pub block_parts : (bs : Lists) (k : ℕ) → k < length bs → Parts p (joined bs) → Parts p (get_or bs k [])
+  pub block_parts : (bs : Lists) (k : ℕ) → k < length bs → Parts p (joined bs)
+      → Parts p (get_or bs k [])
   block_parts [] k low q = absurd (omega (arith, low))
   block_parts (b ∷ bs) zero low q = parts_left p b (joined bs) q
-  block_parts (b ∷ bs) (suc k) low q = block_parts bs k (omega (arith, low)) (parts_right p b (joined bs) q)
+  block_parts (b ∷ bs) (suc k) low q =
+      block_parts bs k (omega (arith, low)) (parts_right p b (joined bs) q)
 
   -- ahead of a block that begins with what passes, all pass
-  blocks_ahead : (bs : Lists) (k : ℕ) → k < length bs → Parts p (joined bs) → head_is p (get_or bs k []) ≡ true
+  blocks_ahead : (bs : Lists) (k : ℕ) → k < length bs → Parts p (joined bs)
+      → head_is p (get_or bs k []) ≡ true
       → AllByRecursion (λ e. p e ≡ true) (joined (take k bs))
   blocks_ahead [] k low q is = absurd (omega (arith, low))
   blocks_ahead (b ∷ bs) zero low q is = tt
@@ -187,26 +220,32 @@ module _ (p : Entry → Bool) where
           by_test : (c : Bool) → p e ≡ c → p e ≡ true
           by_test true eq = eq
           by_test false eq =
-              absurd (true≢false (sym is ∙ later_fail bs k [] (omega (arith, low)) (all_back (λ x. p x ≡ false) es (joined bs) (r.0 eq))))
+              absurd (true≢false (sym is ∙ later_fail bs k
+              [] (omega (arith, low)) (all_back (λ x. p x ≡ false) es (joined bs) (r.0 eq))))
 
   -- from a block on that begins with what fails, all fail
   blocks_behind : (bs : Lists) → AllByRecursion IsFilled bs → Parts p (joined bs)
-      → (0 < length bs → head_is p (get_or bs 0 []) ≡ false) → AllByRecursion (λ e. p e ≡ false) (joined bs)
+      → (0 < length bs → head_is p (get_or bs 0 []) ≡ false)
+      → AllByRecursion (λ e. p e ≡ false) (joined bs)
   unfolding head_is
   blocks_behind [] f q isnt = tt
   blocks_behind ([] ∷ bs) f q isnt = absurd (omega (arith, f.0))
-  blocks_behind ((e ∷ es) ∷ bs) f q isnt = let none : p e ≡ false = isnt (omega arith) in (none, q.0 none)
+  blocks_behind ((e ∷ es) ∷ bs) f q isnt =
+      let none : p e ≡ false = isnt (omega arith) in (none, q.0 none)
 
   pub all_dropped : (bs : Lists) (k : ℕ) → AllByRecursion IsFilled bs → Parts p (joined bs)
-      → (k < length bs → head_is p (get_or bs k []) ≡ false) → AllByRecursion (λ e. p e ≡ false) (joined (drop k bs))
+      → (k < length bs → head_is p (get_or bs k []) ≡ false)
+      → AllByRecursion (λ e. p e ≡ false) (joined (drop k bs))
   all_dropped bs zero f q isnt = blocks_behind bs f q isnt
   all_dropped [] (suc k) f q isnt = tt
   all_dropped (b ∷ bs) (suc k) f q isnt =
       all_dropped bs k f.1 (parts_right p b (joined bs) q) (λ low. isnt (omega (arith, low)))
 
   -- the place in the last block that begins with what passes
-  module _ (bs : Lists) (k j : ℕ) (low : k < length bs) (f : AllByRecursion IsFilled bs) (q : Parts p (joined bs))
-      (heads : IsPartitionPoint (λ b. head_is p b ≡ true) (λ b. head_is p b ≡ false) bs (suc k)) (within : j ≤ length (get_or bs k []))
+  module _ (bs : Lists) (k j : ℕ) (low : k < length bs) (f : AllByRecursion IsFilled bs)
+      (q : Parts p (joined bs))
+      (heads : IsPartitionPoint (λ b. head_is p b ≡ true) (λ b. head_is p b ≡ false) bs (suc k))
+      (within : j ≤ length (get_or bs k []))
       (inner : IsPartitionPoint (λ e. p e ≡ true) (λ e. p e ≡ false) (get_or bs k []) j) where
     pub place_ahead : AllByRecursion (λ e. p e ≡ true) (take (before bs k j) (joined bs))
     place_ahead =
@@ -227,64 +266,82 @@ module _ (p : Entry → Bool) where
     unfolding head_is
     place_inside = by_place j (get_or bs k []) inner.1 (heads.0 k [] (omega arith) (omega arith))
       where
-        by_place : (n : ℕ) (b : List Entry) → ((i : ℕ) (d : Entry) → n ≤ i → i < length b → p (get_or b i d) ≡ false) → head_is p b ≡ true → 0 < n
+        by_place : (n : ℕ) (b : List Entry)
+            → ((i : ℕ) (d : Entry) → n ≤ i → i < length b → p (get_or b i d) ≡ false)
+            → head_is p b ≡ true → 0 < n
         by_place (suc n) b none is = omega arith
         by_place zero [] none is = absurd (true≢false (sym is))
-        by_place zero (e ∷ es) none is = absurd (true≢false (sym is ∙ none 0 e (omega arith) (omega arith)))
+        by_place zero (e ∷ es) none is =
+            absurd (true≢false (sym is ∙ none 0 e (omega arith) (omega arith)))
 
 -- ---- bounds of places
 pub place_there : (bs : Lists) (k j : ℕ) → IsPlace bs k j → 0 < j → k < length bs
 place_there [] k j is some = absurd (omega (arith, is.1, some))
 place_there (b ∷ bs) k j is some = omega (arith, is.0)
 
-pub before_fits : (bs : Lists) (k j : ℕ) → k < length bs → j ≤ length (get_or bs k []) → before bs k j ≤ length (joined bs)
+pub before_fits : (bs : Lists) (k j : ℕ) → k < length bs → j ≤ length (get_or bs k [])
+    → before bs k j ≤ length (joined bs)
 before_fits bs k j low within =
-    let whole : length (joined bs) ≡ length (joined (take k bs) ++ (get_or bs k [] ++ joined (drop (suc k) bs))) =
+    let whole : length (joined bs)
+    ≡ length (joined (take k bs) ++ (get_or bs k [] ++ joined (drop (suc k) bs))) =
     ap length (parted_at bs k low) in
     let first = length-append (joined (take k bs)) (get_or bs k [] ++ joined (drop (suc k) bs)) in
     let second = length-append (get_or bs k []) (joined (drop (suc k) bs)) in
     omega (arith, whole, first, second, within)
 
 -- ---- what becomes of the blocks where one of them changes
-pub get_or_any : {X : Type 0} (xs : List X) (k : ℕ) (d e : X) → k < length xs → get_or xs k d ≡ get_or xs k e
+pub get_or_any : {X : Type 0} (xs : List X) (k : ℕ) (d e : X) → k < length xs
+    → get_or xs k d ≡ get_or xs k e
 get_or_any [] k d e low = absurd (omega (arith, low))
 get_or_any (x ∷ xs) zero d e low = refl
 get_or_any (x ∷ xs) (suc k) d e low = get_or_any xs k d e (omega (arith, low))
 
-module _ (bs : Lists) (k j : ℕ) (low : k < length bs) (old : List Entry) (here : old ≡ get_or bs k old) where
+module _ (bs : Lists) (k j : ℕ) (low : k < length bs) (old : List Entry)
+    (here : old ≡ get_or bs k old) where
   here_is : old ≡ get_or bs k []
   here_is = here ∙ get_or_any bs k old [] low
 
   -- an entry comes into one block
-  pub put_changed : (one : Entry) (new : List Entry) → j ≤ length (get_or bs k []) → new ≡ take j old ++ one ∷ drop j old
-      → joined (set bs k new) ≡ take (before bs k j) (joined bs) ++ one ∷ drop (before bs k j) (joined bs)
+  pub put_changed : (one : Entry) (new : List Entry) → j ≤ length (get_or bs k [])
+      → new ≡ take j old ++ one ∷ drop j old
+      → joined (set bs k new)
+      ≡ take (before bs k j) (joined bs) ++ one ∷ drop (before bs k j) (joined bs)
   put_changed one new within is =
       joined_set bs k new low
-      ∙ ap (λ l. joined (take k bs) ++ (l ++ joined (drop (suc k) bs))) (is ∙ (λ i. take j (here_is i) ++ one ∷ drop j (here_is i)))
+      ∙ ap (λ l. joined (take k bs) ++ (l ++ joined (drop (suc k) bs)))
+      (is ∙ (λ i. take j (here_is i) ++ one ∷ drop j (here_is i)))
       ∙ put_there bs k j low within one
 
   -- a block becomes two
   pub split_changed : (one : Entry) (lower upper : List Entry) → j ≤ length (get_or bs k [])
       → lower ++ upper ≡ take j old ++ one ∷ drop j old
-      → joined (insert (set bs k lower) (k + 1) upper) ≡ take (before bs k j) (joined bs) ++ one ∷ drop (before bs k j) (joined bs)
+      → joined (insert (set bs k lower) (k + 1) upper)
+      ≡ take (before bs k j) (joined bs) ++ one ∷ drop (before bs k j) (joined bs)
   split_changed one lower upper within is =
       joined_split bs k lower upper low
-      ∙ ap (λ l. joined (take k bs) ++ (l ++ joined (drop (suc k) bs))) (is ∙ (λ i. take j (here_is i) ++ one ∷ drop j (here_is i)))
+      ∙ ap (λ l. joined (take k bs) ++ (l ++ joined (drop (suc k) bs)))
+      (is ∙ (λ i. take j (here_is i) ++ one ∷ drop j (here_is i)))
       ∙ put_there bs k j low within one
 
   -- an entry goes out of one block
-  pub taken_changed : (new : List Entry) → j < length (get_or bs k []) → new ≡ take j old ++ drop (suc j) old
-      → joined (set bs k new) ≡ take (before bs k j) (joined bs) ++ drop (suc (before bs k j)) (joined bs)
+  pub taken_changed : (new : List Entry) → j < length (get_or bs k [])
+      → new ≡ take j old ++ drop (suc j) old
+      → joined (set bs k new)
+      ≡ take (before bs k j) (joined bs) ++ drop (suc (before bs k j)) (joined bs)
   taken_changed new within is =
       joined_set bs k new low
-      ∙ ap (λ l. joined (take k bs) ++ (l ++ joined (drop (suc k) bs))) (is ∙ (λ i. take j (here_is i) ++ drop (suc j) (here_is i)))
+      ∙ ap (λ l. joined (take k bs) ++ (l ++ joined (drop (suc k) bs)))
+      (is ∙ (λ i. take j (here_is i) ++ drop (suc j) (here_is i)))
       ∙ taken_there bs k j low within
 
   -- and the block with it
-  pub emptied_changed : (new : List Entry) → j < length (get_or bs k []) → new ≡ take j old ++ drop (suc j) old → new ≡ []
-      → joined (remove (set bs k new) k) ≡ take (before bs k j) (joined bs) ++ drop (suc (before bs k j)) (joined bs)
+  pub emptied_changed : (new : List Entry) → j < length (get_or bs k [])
+      → new ≡ take j old ++ drop (suc j) old → new ≡ []
+      → joined (remove (set bs k new) k)
+      ≡ take (before bs k j) (joined bs) ++ drop (suc (before bs k j)) (joined bs)
   emptied_changed new within is none =
-      joined_remove bs k new low ∙ ap (λ l. joined (take k bs) ++ (l ++ joined (drop (suc k) bs))) (sym none)
+      joined_remove bs k new low
+      ∙ ap (λ l. joined (take k bs) ++ (l ++ joined (drop (suc k) bs))) (sym none)
       ∙ sym (joined_set bs k new low) ∙ taken_changed new within is
 
 pub nil_of : (es : List Entry) → length es ≡ 0 → es ≡ []
@@ -292,7 +349,8 @@ nil_of [] is = refl
 nil_of (e ∷ es) is = absurd (omega (arith, is))
 
 -- ---- one block after another
-pub lift_fits : (bs : Lists) (i : ℕ) (d : List Entry) (es old : List Entry) (room : ℕ) → i < length bs
+pub lift_fits : (bs : Lists) (i : ℕ) (d : List Entry) (es old : List Entry) (room : ℕ)
+    → i < length bs
     → es ++ joined (drop i bs) ≡ old ++ joined bs → length old + length (joined bs) ≤ room
     → length es + length (get_or bs i d) ≤ room
 lift_fits bs i d es old room below is enough =

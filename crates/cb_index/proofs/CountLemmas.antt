@@ -1,5 +1,6 @@
 -- How many rows the entries of a key stand for.
-use Rattle.std.proofs.Common.{◌≡◌, ◌∙◌, ◌+◌, ℕ, Bool, true, false, not, List, [], ◌∷◌, ◌++◌, Some, refl, sym, ap, length, map, filter, get_or, append-nil, arith}
+use Rattle.std.proofs.Common.{◌≡◌, ◌∙◌, ◌+◌, ℕ, Bool, true, false, not, List, [], ◌∷◌, ◌++◌, Some}
+use Rattle.std.proofs.Common.{refl, sym, ap, length, map, filter, get_or, append-nil, arith}
 use Rattle.std.proofs.lemmas.List.{length-map}
 use Rattle.std.proofs.lemmas.List.Elements.{filter-append}
 use Rattle.std.proofs.lemmas.List.Concat.{flat_map-append}
@@ -33,11 +34,13 @@ use Rattle.cb_index.proofs.RiseLemmas.{firsts_rise}
 use Rattle.cb_index.proofs.RowLemmas.{kept_key}
 
 -- ---- the rows of elements, by what tells them apart
-filter_map : {X Y : Type 0} (p : Y → Bool) (f : X → Y) (xs : List X) → filter p (map f xs) ≡ map f (filter (λ x. p (f x)) xs)
+filter_map : {X Y : Type 0} (p : Y → Bool) (f : X → Y) (xs : List X)
+    → filter p (map f xs) ≡ map f (filter (λ x. p (f x)) xs)
 filter_map p f [] = refl
 filter_map p f (x ∷ xs) =
     let later = filter_map p f xs in
-    elim (p (f x)) as (λ b. cond b (f x ∷ filter p (map f xs)) (filter p (map f xs)) ≡ map f (cond b (x ∷ filter (λ y. p (f y)) xs) (filter (λ y. p (f y)) xs))) [
+    elim (p (f x)) as (λ b. cond b (f x ∷ filter p (map f xs)) (filter p (map f xs))
+    ≡ map f (cond b (x ∷ filter (λ y. p (f y)) xs) (filter (λ y. p (f y)) xs))) [
       | true ↦ ap (λ l. f x ∷ l) later
       | false ↦ later
     ]
@@ -49,30 +52,37 @@ module _ {X : Type 0} where
   apart same (x ∷ xs) = x ∷ filter (λ y. not (same x y)) (apart same xs)
 
   module _ (sort : FactKind) where
-    unlike_mapped : (fact : X → Fact) (xs : List X) → unlike sort (map fact xs) ≡ map fact (apart (λ x y. same_row sort (fact x) (fact y)) xs)
+    unlike_mapped : (fact : X → Fact) (xs : List X)
+        → unlike sort (map fact xs) ≡ map fact (apart (λ x y. same_row sort (fact x) (fact y)) xs)
     unfolding unlike
     unlike_mapped fact [] = refl
     unlike_mapped fact (x ∷ xs) =
         ap (λ l. fact x ∷ filter (λ g. not (same_row sort (fact x) g)) l) (unlike_mapped fact xs)
-        ∙ ap (λ l. fact x ∷ l) (filter_map (λ g. not (same_row sort (fact x) g)) fact (apart (λ x y. same_row sort (fact x) (fact y)) xs))
+        ∙ ap (λ l. fact x ∷ l) (filter_map (λ g. not (same_row sort (fact x) g)) fact
+        (apart (λ x y. same_row sort (fact x) (fact y)) xs))
 
     -- where the same elements have equal rows there are as many rows
-    same_count : (f g : X → Fact) → ((x y : X) → same_row sort (f x) (f y) ≡ same_row sort (g x) (g y)) → (xs : List X)
+    same_count : (f g : X → Fact)
+        → ((x y : X) → same_row sort (f x) (f y) ≡ same_row sort (g x) (g y)) → (xs : List X)
         → length (unlike sort (map f xs)) ≡ length (unlike sort (map g xs))
     same_count f g same xs =
         ap length (unlike_mapped f xs) ∙ length-map (apart (λ x y. same_row sort (f x) (f y)) xs) f
         ∙ (λ i. length (apart (λ x y. same x y i) xs))
-        ∙ sym (ap length (unlike_mapped g xs) ∙ length-map (apart (λ x y. same_row sort (g x) (g y)) xs) g)
+        ∙ sym (ap length (unlike_mapped g xs)
+        ∙ length-map (apart (λ x y. same_row sort (g x) (g y)) xs) g)
 
 -- ---- the file name plays no part
 module _ (file other text : List ℕ) where
   pub in_any_file : (sort : FactKind) (items : List ℕ)
-      → length (unlike sort (map (fact_at sort file text) items)) ≡ length (unlike sort (map (fact_at sort other text) items))
+      → length (unlike sort (map (fact_at sort file text) items))
+      ≡ length (unlike sort (map (fact_at sort other text) items))
   in_any_file sort =
-      same_count sort (fact_at sort file text) (fact_at sort other text) (same_anywhere file other text sort)
+      same_count sort (fact_at sort file text) (fact_at sort other text)
+      (same_anywhere file other text sort)
 
 -- ---- one version
-module _ (sort : FactKind) (a : Archived) (s : Shown) (text : List ℕ) (there : slice_get a.texts s.version ≡ Some text)
+module _ (sort : FactKind) (a : Archived) (s : Shown) (text : List ℕ)
+    (there : slice_get a.texts s.version ≡ Some text)
     (key : List ℕ) where
   abbrev keyer : Keyer
   keyer = item_keyer sort
@@ -87,18 +97,23 @@ module _ (sort : FactKind) (a : Archived) (s : Shown) (text : List ℕ) (there :
   one_counted : (item : ℕ) → IsCounted (entry_of s (listed sort text item) ∷ [])
   unfolding row_count
   one_counted item =
-      let facts : facts_in sort a (entry_of s (listed sort text item) ∷ []) ≡ map (fact_at sort (name_of a s.name) text) (items_from sort text item) =
-      append-nil (facts_at sort a (entry_of s (listed sort text item))) ∙ ap (facts_in_text sort (name_of a s.name) item) there in
-      let count : row_count sort text item ≡ length (unlike sort (map (fact_at sort (name_of a s.name) text) (items_from sort text item))) =
+      let facts : facts_in sort a (entry_of s (listed sort text item) ∷ [])
+      ≡ map (fact_at sort (name_of a s.name) text) (items_from sort text item) =
+      append-nil (facts_at sort a (entry_of s (listed sort text item)))
+      ∙ ap (facts_in_text sort (name_of a s.name) item) there in
+      let count : row_count sort text item ≡ length
+      (unlike sort (map (fact_at sort (name_of a s.name) text) (items_from sort text item))) =
       sym (in_any_file (name_of a s.name) [] text sort (items_from sort text item)) in
       let same = ap (λ fs. length (unlike sort fs)) facts in
       let sum = sum_by-cons (λ (e : Entry). e.rows) (entry_of s (listed sort text item)) [] in
       omega (arith, count, same, sum)
 
-  version_counted : IsCounted (filter (has_key keyer a (key_prefix key) key) (map (entry_of s) (firsts sort text)))
+  version_counted : IsCounted
+      (filter (has_key keyer a (key_prefix key) key) (map (entry_of s) (firsts sort text)))
   version_counted =
       at_most_one sort text key (has_key keyer a (key_prefix key) key) s
-      (λ item. ap (λ k. nat_eq (key_prefix key) (key_prefix (item_key sort text item)) && bytes_eq key k)
+      (λ item.
+      ap (λ k. nat_eq (key_prefix key) (key_prefix (item_key sort text item)) && bytes_eq key k)
       (ap (λ t. key_in sort t item) there)
       ∙ prefix_and_key key (item_key sort text item))
       IsCounted none_counted (λ item first. one_counted item) 0 (item_count sort text)
@@ -111,7 +126,8 @@ module _ (sort : FactKind) (a : Archived) (s : Shown) (text : List ℕ) (there :
   unfolding unlike
   none_new = refl
 
-  one_new : (item : ℕ) → is_first sort text item ≡ true → AreNew (entry_of s (listed sort text item) ∷ [])
+  one_new : (item : ℕ) → is_first sort text item ≡ true
+      → AreNew (entry_of s (listed sort text item) ∷ [])
   one_new item first =
       append-nil (given_at false sort a (entry_of s (listed sort text item)))
       ∙ ap (given_in_text false sort (name_of a s.name) item) there
@@ -119,10 +135,12 @@ module _ (sort : FactKind) (a : Archived) (s : Shown) (text : List ℕ) (there :
       ∙ sym (ap (unlike sort) (append-nil (facts_at sort a (entry_of s (listed sort text item)))
       ∙ ap (facts_in_text sort (name_of a s.name) item) there))
 
-  version_new : AreNew (filter (has_key keyer a (key_prefix key) key) (map (entry_of s) (firsts sort text)))
+  version_new : AreNew
+      (filter (has_key keyer a (key_prefix key) key) (map (entry_of s) (firsts sort text)))
   version_new =
       at_most_one sort text key (has_key keyer a (key_prefix key) key) s
-      (λ item. ap (λ k. nat_eq (key_prefix key) (key_prefix (item_key sort text item)) && bytes_eq key k)
+      (λ item.
+      ap (λ k. nat_eq (key_prefix key) (key_prefix (item_key sort text item)) && bytes_eq key k)
       (ap (λ t. key_in sort t item) there)
       ∙ prefix_and_key key (item_key sort text item))
       AreNew none_new one_new 0 (item_count sort text)
@@ -139,30 +157,37 @@ module _ (sort : FactKind) (a : Archived) (key : List ℕ) where
       → sum_by (λ (e : Entry). e.rows) (filter has_it (entries_of (firsts_in sort) a s))
       ≡ length (unlike sort (rows (record { name = name_of a s.name; bytes = text })))
   known s text there =
-      let same : entries_of (firsts_in sort) a s ≡ map (entry_of s) (firsts sort text) = ap (λ o. map (entry_of s) (firsts_in sort o)) there in
+      let same : entries_of (firsts_in sort) a s ≡ map (entry_of s) (firsts sort text) =
+      ap (λ o. map (entry_of s) (firsts_in sort o)) there in
       ap (λ es. sum_by (λ (e : Entry). e.rows) (filter has_it es)) same
       ∙ version_counted sort a s text there key
       ∙ sym (ap (λ es. length (unlike sort (facts_in sort a (filter has_it es)))) same)
       ∙ ap (λ fs. length (unlike sort fs)) (one_facts a s text there key sort)
 
   all_counted : (shown : List Shown) → AllByRecursion (IsThere a) shown
-      → sum_by (λ (e : Entry). e.rows) (filter has_it (all_entries (firsts_in sort) a shown)) ≡ rows_in_files sort rows (files_of a shown)
+      → sum_by (λ (e : Entry). e.rows) (filter has_it (all_entries (firsts_in sort) a shown))
+      ≡ rows_in_files sort rows (files_of a shown)
   all_counted [] all = refl
   all_counted (s ∷ shown) all =
       let text = get_or a.texts s.version [] in
       let file : File = record { name = name_of a s.name; bytes = text } in
       let here = known s text (slice_get-get_or a.texts s.version [] all.0.1) in
-      ap (sum_by (λ (e : Entry). e.rows)) (filter-append has_it (entries_of (firsts_in sort) a s) (all_entries (firsts_in sort) a shown))
-      ∙ sum_by-append (λ (e : Entry). e.rows) (filter has_it (entries_of (firsts_in sort) a s)) (filter has_it (all_entries (firsts_in sort) a shown))
+      ap (sum_by (λ (e : Entry). e.rows)) (filter-append has_it (entries_of (firsts_in sort) a s)
+      (all_entries (firsts_in sort) a shown))
+      ∙ sum_by-append (λ (e : Entry). e.rows) (filter has_it (entries_of (firsts_in sort) a s))
+      (filter has_it (all_entries (firsts_in sort) a shown))
       ∙ (λ i. here i + all_counted shown all.1 i)
       ∙ sym (sum_by-cons (λ (f : File). length (unlike sort (rows f))) file (files_of a shown))
 
-  pub facts_counted : (shown : List Shown) → AllByRecursion (IsThere a) shown → AreAscending a shown → (es : List Entry)
+  pub facts_counted : (shown : List Shown) → AllByRecursion (IsThere a) shown → AreAscending a shown
+      → (es : List Entry)
       → IsIndexOf (item_keyer sort) (firsts_in sort) a shown es
-      → sum_by (λ (e : Entry). e.rows) (filter (has_key (item_keyer sort) a (key_prefix key) key) es)
+      → sum_by (λ (e : Entry). e.rows)
+      (filter (has_key (item_keyer sort) a (key_prefix key) key) es)
       ≡ rows_in_files sort (file_facts sort key) (files_of a shown)
   facts_counted shown all up es is =
-      ap (sum_by (λ (e : Entry). e.rows)) (kept_key (item_keyer sort) a (firsts_in sort) (firsts_rise sort) shown up (key_prefix key) key es is)
+      ap (sum_by (λ (e : Entry). e.rows)) (kept_key (item_keyer sort) a (firsts_in sort)
+      (firsts_rise sort) shown up (key_prefix key) key es is)
       ∙ all_counted shown all
 
   -- ---- those that are no repeats
@@ -170,26 +195,32 @@ module _ (sort : FactKind) (a : Archived) (key : List ℕ) where
       → given_in false sort a (filter has_it (entries_of (firsts_in sort) a s))
       ≡ unlike sort (rows (record { name = name_of a s.name; bytes = text }))
   known_new s text there =
-      let same : entries_of (firsts_in sort) a s ≡ map (entry_of s) (firsts sort text) = ap (λ o. map (entry_of s) (firsts_in sort o)) there in
+      let same : entries_of (firsts_in sort) a s ≡ map (entry_of s) (firsts sort text) =
+      ap (λ o. map (entry_of s) (firsts_in sort o)) there in
       ap (λ es. given_in false sort a (filter has_it es)) same
       ∙ version_new sort a s text there key
       ∙ sym (ap (λ es. unlike sort (facts_in sort a (filter has_it es))) same)
       ∙ ap (unlike sort) (one_facts a s text there key sort)
 
   all_new : (shown : List Shown) → AllByRecursion (IsThere a) shown
-      → given_in false sort a (filter has_it (all_entries (firsts_in sort) a shown)) ≡ unlike_in_files sort rows (files_of a shown)
+      → given_in false sort a (filter has_it (all_entries (firsts_in sort) a shown))
+      ≡ unlike_in_files sort rows (files_of a shown)
   all_new [] all = refl
   all_new (s ∷ shown) all =
       let text = get_or a.texts s.version [] in
       let here = known_new s text (slice_get-get_or a.texts s.version [] all.0.1) in
-      ap (given_in false sort a) (filter-append has_it (entries_of (firsts_in sort) a s) (all_entries (firsts_in sort) a shown))
-      ∙ flat_map-append (given_at false sort a) (filter has_it (entries_of (firsts_in sort) a s)) (filter has_it (all_entries (firsts_in sort) a shown))
+      ap (given_in false sort a) (filter-append has_it (entries_of (firsts_in sort) a s)
+      (all_entries (firsts_in sort) a shown))
+      ∙ flat_map-append (given_at false sort a) (filter has_it (entries_of (firsts_in sort) a s))
+      (filter has_it (all_entries (firsts_in sort) a shown))
       ∙ (λ i. here i ++ all_new shown all.1 i)
 
-  pub facts_new : (shown : List Shown) → AllByRecursion (IsThere a) shown → AreAscending a shown → (es : List Entry)
+  pub facts_new : (shown : List Shown) → AllByRecursion (IsThere a) shown → AreAscending a shown
+      → (es : List Entry)
       → IsIndexOf (item_keyer sort) (firsts_in sort) a shown es
       → given_in false sort a (filter (has_key (item_keyer sort) a (key_prefix key) key) es)
       ≡ unlike_in_files sort (file_facts sort key) (files_of a shown)
   facts_new shown all up es is =
-      ap (given_in false sort a) (kept_key (item_keyer sort) a (firsts_in sort) (firsts_rise sort) shown up (key_prefix key) key es is)
+      ap (given_in false sort a) (kept_key (item_keyer sort) a (firsts_in sort)
+      (firsts_rise sort) shown up (key_prefix key) key es is)
       ∙ all_new shown all

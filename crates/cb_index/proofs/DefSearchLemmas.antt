@@ -1,6 +1,7 @@
 -- A search that gives the least of what is behind the last one gives all in order.
 use Rattle.std.proofs.Common.{◌≡◌, ◌∙◌, ℕ, Bool, true, false, List, [], ◌∷◌, ◌++◌, Some, None}
-use Rattle.std.proofs.Common.{◌+◌, refl, sym, ap, subst, filter, length, map, append-nil, append_assoc, arith, ◌≤◌, ◌<◌, suc, get_or, drop, drop-cons}
+use Rattle.std.proofs.Common.{◌+◌, refl, sym, ap, subst, filter, length, map, append-nil}
+use Rattle.std.proofs.Common.{append_assoc, arith, ◌≤◌, ◌<◌, suc, get_or, drop, drop-cons}
 use Rattle.std.proofs.lemmas.Bool.{true≢false}
 use Rattle.std.proofs.lemmas.Cmp.{nat_list_cmp_total, tied_itself}
 use Rattle.std.proofs.lemmas.List.Elements.{filter-append}
@@ -13,7 +14,8 @@ use Rattle.std.specs.Ordering.{is_lt}
 use Rattle.cb_scan.specs.Definitions.{facts_of}
 use Rattle.cb_scan.specs.Order.{AreOrdered, goes_first, in_order, put}
 use Rattle.cb_scan.proofs.FactsWithin.{all_in_order, all_put}
-use Rattle.cb_scan.proofs.OrderLemmas.{Sorted, both_first, first_trans, goes_itself, in_order_sorted, other_first}
+use Rattle.cb_scan.proofs.OrderLemmas.{Sorted, both_first, first_trans, goes_itself}
+use Rattle.cb_scan.proofs.OrderLemmas.{in_order_sorted, other_first}
 use Rattle.cb_index.specs.Archived.{Archived}
 use Rattle.cb_index.specs.Entries.{file_key, sort_key}
 use Rattle.cb_index.specs.Files.{AreAscending}
@@ -21,7 +23,8 @@ use Rattle.cb_index.specs.Held.{AreRising, all_entries, entries_of}
 use Rattle.cb_index.specs.Kinds.{def_kind, keyer_of, lister_of}
 use Rattle.cb_index.specs.Orders.{numbered, prefixed}
 use Rattle.cb_index.specs.steps.DefSearch.{earlier_of, first_among}
-use Rattle.cb_index.specs.steps.ToCome.{GoesOn, earlier, first_of, is_asked, is_later, is_to_come, to_come}
+use Rattle.cb_index.specs.steps.ToCome.{GoesOn, earlier, first_of, is_asked, is_later, is_to_come}
+use Rattle.cb_index.specs.steps.ToCome.{to_come}
 use Rattle.cb_index.specs.declared.def_search.DefSearch.{DefSearch}
 use Rattle.cb_index.specs.declared.entry.Entry.{Entry}
 use Rattle.cb_index.specs.declared.entry.Shown.{Shown}
@@ -33,10 +36,12 @@ use Rattle.cb_index.proofs.RiseLemmas.{defs_rise, tags_rise}
 
 -- ---- tests
 module _ {X : Type 0} where
-  pub filter_all : (p : X → Bool) (xs : List X) → AllByRecursion (λ x. p x ≡ true) xs → filter p xs ≡ xs
+  pub filter_all : (p : X → Bool) (xs : List X) → AllByRecursion (λ x. p x ≡ true) xs
+      → filter p xs ≡ xs
   filter_all p [] all = refl
   filter_all p (x ∷ xs) all =
-      ap (λ b. cond b (x ∷ filter p xs) (filter p xs)) all.0 ∙ ap (λ l. x ∷ l) (filter_all p xs all.1)
+      ap (λ b. cond b (x ∷ filter p xs) (filter p xs)) all.0
+      ∙ ap (λ l. x ∷ l) (filter_all p xs all.1)
 
   -- one test after another
   filter_twice : (p q r : X → Bool) → ((x : X) → (q x && p x) ≡ r x) → (xs : List X)
@@ -45,7 +50,8 @@ module _ {X : Type 0} where
   filter_twice p q r same (x ∷ xs) = by_test (q x) (same x) (filter_twice p q r same xs)
     where
       by_test : (b : Bool) → (b && p x) ≡ r x → filter p (filter q xs) ≡ filter r xs
-          → filter p (cond b (x ∷ filter q xs) (filter q xs)) ≡ cond (r x) (x ∷ filter r xs) (filter r xs)
+          → filter p (cond b (x ∷ filter q xs) (filter q xs))
+          ≡ cond (r x) (x ∷ filter r xs) (filter r xs)
       by_test true here later =
           (λ i. cond (here i) (x ∷ later i) (later i))
       by_test false here later = later ∙ ap (λ c. cond c (x ∷ filter r xs) (filter r xs)) here
@@ -62,7 +68,8 @@ every [] = tt
 every (x ∷ xs) = (refl, every xs)
 
 -- all are asked for where no key is
-pub all_asked : (kind : IndexKind) (a : Archived) (es : List Entry) → filter (is_asked kind a None) es ≡ es
+pub all_asked : (kind : IndexKind) (a : Archived) (es : List Entry)
+    → filter (is_asked kind a None) es ≡ es
 all_asked kind a es = filter_all (is_asked kind a None) es (every es)
 
 -- ---- elements of which no two are one
@@ -75,18 +82,24 @@ module _ {X : Type 0} (key : X → List ℕ) where
   unfolding put AreOrdered
   differ_put x [] other apart = (tt, tt)
   differ_put x (y ∷ ys) other apart =
-      elim (goes_first key x y) as (λ b. AreOrdered Differ (cond b (x ∷ y ∷ ys) (y ∷ put key x ys))) [
+      elim (goes_first key x y) as
+      (λ b. AreOrdered Differ (cond b (x ∷ y ∷ ys) (y ∷ put key x ys))) [
         | true ↦ (other, apart)
-        | false ↦ (all_put key (Differ y) x ys (λ is. other.0 (sym is)) apart.0, differ_put x ys other.1 apart.1)
+        | false ↦ (
+          all_put key (Differ y) x ys (λ is. other.0 (sym is)) apart.0,
+          differ_put x ys other.1 apart.1,
+        )
       ]
 
   differ_in_order : (xs : List X) → AreOrdered Differ xs → AreOrdered Differ (in_order key xs)
   unfolding in_order AreOrdered
   differ_in_order [] apart = tt
   differ_in_order (x ∷ xs) apart =
-      differ_put x (in_order key xs) (all_in_order key (Differ x) xs apart.0) (differ_in_order xs apart.1)
+      differ_put x (in_order key xs) (all_in_order key (Differ x) xs apart.0)
+      (differ_in_order xs apart.1)
 
-  differ_filter : (p : X → Bool) (xs : List X) → AreOrdered Differ xs → AreOrdered Differ (filter p xs)
+  differ_filter : (p : X → Bool) (xs : List X) → AreOrdered Differ xs
+      → AreOrdered Differ (filter p xs)
   unfolding AreOrdered
   differ_filter p [] apart = tt
   differ_filter p (x ∷ xs) apart =
@@ -118,7 +131,8 @@ module _ {X : Type 0} (key : X → List ℕ) (exact : (x y : X) → key x ≡ ke
       ∙ filter_all (behind e) xs (all_behind e xs s.0 other)
 
   -- the first of all in order, and those behind it in order
-  pub first_and_rest : (e : X) (rest xs : List X) → AreOrdered Differ xs → in_order key xs ≡ e ∷ rest
+  pub first_and_rest : (e : X) (rest xs : List X) → AreOrdered Differ xs
+      → in_order key xs ≡ e ∷ rest
       → rest ≡ in_order key (filter (behind e) xs)
   unfolding AreOrdered
   first_and_rest e rest xs apart is =
@@ -159,7 +173,8 @@ module _ {X : Type 0} (R Q : X → X → Type 0) (less : (x y : X) → R x y →
   ordered_less [] all = tt
   ordered_less (x ∷ xs) all = (all_less x xs all.0, ordered_less xs all.1)
 
-all_passed : {X : Type 0} (p : X → Bool) (xs : List X) → AllByRecursion (λ x. p x ≡ true) (filter p xs)
+all_passed : {X : Type 0} (p : X → Bool) (xs : List X)
+    → AllByRecursion (λ x. p x ≡ true) (filter p xs)
 all_passed p [] = tt
 all_passed p (x ∷ xs) = by_test (p x) refl (all_passed p xs)
   where
@@ -195,8 +210,10 @@ module _ (kind : IndexKind) (a : Archived) (key : Option (List ℕ)) where
       by_test false is = refl
 
   -- of those still to come, the ones behind one of them are still to come once it was given
-  still_to_come : (last : Option Entry) (e : Entry) → is_later (keyer_of kind) a last e ≡ true → (x : Entry)
-      → (is_to_come kind a key last x && not (goes_first order x e)) ≡ is_to_come kind a key (Some e) x
+  still_to_come : (last : Option Entry) (e : Entry) → is_later (keyer_of kind) a last e ≡ true
+      → (x : Entry)
+      → (is_to_come kind a key last x && not (goes_first order x e))
+      ≡ is_to_come kind a key (Some e) x
   still_to_come last e later x = by_test (not (goes_first order x e)) refl
     where
       gone : (b : Bool) → (b && false) ≡ false
@@ -224,13 +241,17 @@ module _ (kind : IndexKind) (a : Archived) (key : Option (List ℕ)) where
           → z ∷ rest ≡ z ∷ to_come kind a key (Some z) all
       given z rest are =
           let passed = subst (AllByRecursion (λ x. is_to_come kind a key last x ≡ true)) are
-          (all_in_order order (λ x. is_to_come kind a key last x ≡ true) (filter (is_to_come kind a key last) all)
+          (all_in_order order (λ x. is_to_come kind a key last x ≡ true)
+          (filter (is_to_come kind a key last) all)
           (all_passed (is_to_come kind a key last) all)) in
-          let later = front_and (is_later (keyer_of kind) a last z) (is_asked kind a key z) passed.0 in
+          let later =
+          front_and (is_later (keyer_of kind) a last z) (is_asked kind a key z) passed.0 in
           ap (λ l. z ∷ l)
-          (first_and_rest order (sort_exact (keyer_of kind) a) z rest (filter (is_to_come kind a key last) all)
+          (first_and_rest order (sort_exact (keyer_of kind) a) z rest
+          (filter (is_to_come kind a key last) all)
           (differ_filter order (is_to_come kind a key last) all apart) are
-          ∙ ap (in_order order) (filter_twice (λ x. not (goes_first order x z)) (is_to_come kind a key last)
+          ∙ ap (in_order order)
+          (filter_twice (λ x. not (goes_first order x z)) (is_to_come kind a key last)
           (is_to_come kind a key (Some z)) (still_to_come last z later) all))
 
       or_first : Option Entry → Entry → Entry
@@ -247,7 +268,8 @@ module _ (kind : IndexKind) (a : Archived) (key : Option (List ℕ)) where
   -- one more entry is still to come
   pub earlier_is : (last : Option Entry) (e : Entry) (seen : List Entry) (first : Option Entry)
       → first ≡ first_of (to_come kind a key last seen) → is_to_come kind a key last e ≡ true
-      → Some (earlier (keyer_of kind) a first e) ≡ first_of (to_come kind a key last (seen ++ e ∷ []))
+      → Some (earlier (keyer_of kind) a first e)
+      ≡ first_of (to_come kind a key last (seen ++ e ∷ []))
   unfolding put
   earlier_is last e seen first is passes =
       let old = to_come kind a key last seen in
@@ -262,7 +284,8 @@ module _ (kind : IndexKind) (a : Archived) (key : Option (List ℕ)) where
       by_test true z zs = refl
       by_test false z zs = refl
 
-      by_list : (zs : List Entry) → Some (earlier (keyer_of kind) a (first_of zs) e) ≡ first_of (put order e zs)
+      by_list : (zs : List Entry)
+          → Some (earlier (keyer_of kind) a (first_of zs) e) ≡ first_of (put order e zs)
       by_list [] = refl
       by_list (z ∷ zs) = by_test (goes_first order e z) z zs
 
@@ -276,7 +299,8 @@ module _ (kind : IndexKind) (a : Archived) (key : Option (List ℕ)) where
       ∙ append-nil (filter (is_to_come kind a key last) seen)))
 
   -- they are no more than all
-  pub few_to_come : (last : Option Entry) (es : List Entry) → length (to_come kind a key last es) ≤ length es
+  pub few_to_come : (last : Option Entry) (es : List Entry)
+      → length (to_come kind a key last es) ≤ length es
   few_to_come last es =
       let same = length_in_order order (filter (is_to_come kind a key last) es) in
       let fewer = filter_short (is_to_come kind a key last) es in
@@ -284,9 +308,11 @@ module _ (kind : IndexKind) (a : Archived) (key : Option (List ℕ)) where
 
 -- before any is given, those that are asked for are still to come
 pub asked_first : (kind : IndexKind) (a : Archived) (key : Option (List ℕ)) (es : List Entry)
-    → to_come kind a key None es ≡ filter (is_asked kind a key) (in_order (sort_key (keyer_of kind) a) es)
+    → to_come kind a key None es
+    ≡ filter (is_asked kind a key) (in_order (sort_key (keyer_of kind) a) es)
 asked_first kind a key es =
-    sym (filter_in_order (sort_key (keyer_of kind) a) (sort_exact (keyer_of kind) a) (is_asked kind a key) es)
+    sym (filter_in_order (sort_key (keyer_of kind) a) (sort_exact (keyer_of kind) a)
+    (is_asked kind a key) es)
 
 -- the entries of a version that is there
 pub listed_defs : (by : Bool) (text : List ℕ)
@@ -308,9 +334,11 @@ module _ (s : DefSearch) where
   All shown = all_entries (lister_of (def_kind s.by_tag_name)) s.archive.now shown
 
   -- one version after another
-  pub among_next : (before : Option Entry) (shown : List Shown) (i : ℕ) (d : Shown) → i < length shown
+  pub among_next : (before : Option Entry) (shown : List Shown) (i : ℕ) (d : Shown)
+      → i < length shown
       → first_among s
-      (first_among s before (entries_of (lister_of (def_kind s.by_tag_name)) s.archive.now (get_or shown i d)))
+      (first_among s before
+      (entries_of (lister_of (def_kind s.by_tag_name)) s.archive.now (get_or shown i d)))
       (All (drop (i + 1) shown))
       ≡ first_among s before (All (drop i shown))
   among_next before shown i d below =
@@ -323,15 +351,20 @@ module _ (s : DefSearch) where
   one_seen : (before : Option Entry) (e : Entry) (seen : List Entry) → before ≡ first_of (Come seen)
       → earlier_of s before e ≡ first_of (Come (seen ++ e ∷ []))
   one_seen before e seen is =
-      by_test (is_to_come (def_kind s.by_tag_name) s.archive.now (option_copied s.key) s.last e) refl
+      by_test (is_to_come (def_kind s.by_tag_name) s.archive.now (option_copied s.key) s.last e)
+      refl
     where
-      by_test : (b : Bool) → is_to_come (def_kind s.by_tag_name) s.archive.now (option_copied s.key) s.last e ≡ b
-          → cond b (Some (earlier (keyer_of (def_kind s.by_tag_name)) s.archive.now before e)) before
+      by_test : (b : Bool)
+          → is_to_come (def_kind s.by_tag_name) s.archive.now (option_copied s.key) s.last e ≡ b
+          → cond b (Some (earlier (keyer_of (def_kind s.by_tag_name)) s.archive.now before e))
+          before
           ≡ first_of (Come (seen ++ e ∷ []))
       by_test true passes =
-          earlier_is (def_kind s.by_tag_name) s.archive.now (option_copied s.key) s.last e seen before is passes
+          earlier_is (def_kind s.by_tag_name) s.archive.now (option_copied s.key) s.last
+          e seen before is passes
       by_test false fails =
-          is ∙ ap first_of (not_to_come (def_kind s.by_tag_name) s.archive.now (option_copied s.key) s.last e seen fails)
+          is ∙ ap first_of (not_to_come (def_kind s.by_tag_name) s.archive.now
+          (option_copied s.key) s.last e seen fails)
 
   all_seen : (before : Option Entry) (seen es : List Entry) → before ≡ first_of (Come seen)
       → first_among s before es ≡ first_of (Come (seen ++ es))
@@ -345,7 +378,8 @@ module _ (s : DefSearch) where
   among_all es = all_seen None [] es refl
 
 -- a search of files whose names ascend goes on
-pub goes_on : (by : Bool) (a : Archived) (key : Option (List ℕ)) (shown : List Shown) → AreAscending a shown
+pub goes_on : (by : Bool) (a : Archived) (key : Option (List ℕ)) (shown : List Shown)
+    → AreAscending a shown
     → GoesOn (def_kind by) a key (all_entries (lister_of (def_kind by)) a shown)
 goes_on by a key shown up last e is =
     let all = all_entries (lister_of (def_kind by)) a shown in

@@ -28,7 +28,9 @@ module _ (keyer : Keyer) (a : Archived) (e f : Entry) where
       let tied : slice_cmp nat_cmp (sort_key keyer a e) (sort_key keyer a f) ≡ Equal =
       subst (λ x. slice_cmp nat_cmp (sort_key keyer a e) x ≡ Equal) same
       (tied_itself nat_list_cmp_total (sort_key keyer a e)) in
-      let first = both_equal (nat_cmp e.prefix f.prefix) (slice_cmp nat_cmp (bytes_key keyer a e) (bytes_key keyer a f)) tied in
+      let first =
+      both_equal (nat_cmp e.prefix f.prefix)
+      (slice_cmp nat_cmp (bytes_key keyer a e) (bytes_key keyer a f)) tied in
       let second = both_equal _ _ (bytes_cmp ∙ first.1) in
       let third = both_equal _ _ (file_cmp a e f ∙ second.1) in
       let name = both_equal (nat_cmp e.name f.name) _ third.1 in

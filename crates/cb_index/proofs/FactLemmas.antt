@@ -23,10 +23,12 @@ use Rattle.cb_index.specs.Files.{AreAscending, File, IsThere, files_of}
 use Rattle.cb_index.specs.Held.{all_entries, entries_of, entry_of}
 use Rattle.cb_index.specs.Items.{item_count, item_key}
 use Rattle.cb_index.specs.Orders.{firsts_in, item_keyer, key_in}
-use Rattle.cb_index.specs.Rows.{Fact, call_in, calls_in, calls_of, facts_named, file_calls_in, file_calls_of, file_facts}
+use Rattle.cb_index.specs.Rows.{Fact, call_in, calls_in, calls_of, facts_named, file_calls_in}
+use Rattle.cb_index.specs.Rows.{file_calls_of, file_facts}
 use Rattle.cb_index.specs.Rows.{file_uses_of, use_in, uses_of}
 use Rattle.cb_index.specs.Shelved.{IsIndexOf}
-use Rattle.cb_index.specs.steps.Found.{fact_at, fact_of_call, fact_of_use, facts_at, facts_in, facts_in_text}
+use Rattle.cb_index.specs.steps.Found.{fact_at, fact_of_call, fact_of_use, facts_at, facts_in}
+use Rattle.cb_index.specs.steps.Found.{facts_in_text}
 use Rattle.cb_index.specs.steps.Given.{given_in, given_in_text}
 use Rattle.cb_index.specs.steps.Searched.{items_with}
 use Rattle.cb_index.specs.steps.Spread.{items_from}
@@ -41,7 +43,8 @@ use Rattle.cb_index.proofs.RiseLemmas.{firsts_rise}
 use Rattle.cb_index.proofs.RowLemmas.{cut_is, kept_key}
 
 -- ---- the facts of numbers
-module _ {X : Type 0} (fact : ℕ → Fact) (row : X → Fact) (key_of_x : X → List ℕ) (key : List ℕ) where
+module _ {X : Type 0} (fact : ℕ → Fact) (row : X → Fact) (key_of_x : X → List ℕ)
+    (key : List ℕ) where
   abbrev pub Rows : ℕ → List X → Type 0
   Rows n [] = Unit {0}
   Rows n (x ∷ xs) = (fact n ≡ row x) × Rows (suc n) xs
@@ -51,20 +54,24 @@ module _ {X : Type 0} (fact : ℕ → Fact) (row : X → Fact) (key_of_x : X →
   Tests has n [] = Unit {0}
   Tests has n (x ∷ xs) = (has n ≡ bytes_eq key (key_of_x x)) × Tests has (suc n) xs
 
-  kept_number : (b : Bool) (n : ℕ) (ns : List ℕ) (x : X) (xs : List X) → fact n ≡ row x → map fact ns ≡ map row xs
+  kept_number : (b : Bool) (n : ℕ) (ns : List ℕ) (x : X) (xs : List X) → fact n ≡ row x
+      → map fact ns ≡ map row xs
       → map fact (cond b (n ∷ ns) ns) ≡ map row (cond b (x ∷ xs) xs)
   kept_number true n ns x xs here later = λ i. here i ∷ later i
   kept_number false n ns x xs here later = later
 
   numbers_rows : (has : ℕ → Bool) (n : ℕ) (xs : List X) → Rows n xs → Tests has n xs
-      → map fact (filter has (range_with_len n (length xs))) ≡ map row (filter (λ x. bytes_eq key (key_of_x x)) xs)
+      → map fact (filter has (range_with_len n (length xs)))
+      ≡ map row (filter (λ x. bytes_eq key (key_of_x x)) xs)
   numbers_rows has n [] rows tests = refl
   numbers_rows has n (x ∷ xs) rows tests =
       ap (λ l. map fact (filter has l)) (range_next n (length xs))
       ∙ ap (λ b. map fact (cond b (n ∷ filter has (range_with_len (suc n) (length xs)))
       (filter has (range_with_len (suc n) (length xs))))) tests.0
-      ∙ kept_number (bytes_eq key (key_of_x x)) n (filter has (range_with_len (suc n) (length xs))) x
-      (filter (λ y. bytes_eq key (key_of_x y)) xs) rows.0 (numbers_rows has (suc n) xs rows.1 tests.1)
+      ∙ kept_number (bytes_eq key (key_of_x x)) n
+      (filter has (range_with_len (suc n) (length xs))) x
+      (filter (λ y. bytes_eq key (key_of_x y)) xs) rows.0
+      (numbers_rows has (suc n) xs rows.1 tests.1)
 
 -- ---- one version
 module _ {X : Type 0} (sort : FactKind) (a : Archived) (s : Shown) (text : List ℕ)
@@ -72,7 +79,8 @@ module _ {X : Type 0} (sort : FactKind) (a : Archived) (s : Shown) (text : List 
     (key_of_x : X → List ℕ) (key : List ℕ) (xs : List X)
     (count_is : item_count sort text ≡ length xs)
     (rows : Rows (fact_at sort (name_of a s.name) text) row key_of_x key 0 xs)
-    (tests : Tests (fact_at sort (name_of a s.name) text) row key_of_x key (has sort text key) 0 xs) where
+    (tests : Tests (fact_at sort (name_of a s.name) text) row key_of_x key
+    (has sort text key) 0 xs) where
   pub version_searched : map (fact_at sort (name_of a s.name) text) (items_with sort text key)
       ≡ map row (filter (λ x. bytes_eq key (key_of_x x)) xs)
   version_searched =
@@ -93,7 +101,8 @@ module _ (a : Archived) (s : Shown) (text : List ℕ)
 
   use_tests : (n : ℕ) (us : List Use) → drop n (facts_of text).uses ≡ us
       → AllByRecursion (λ (u : Use). IsWithin text u.name × IsScopeWithin text u.scope) us
-      → Tests (fact_at Uses (name_of a s.name) text) (use_in file) (λ (u : Use). bytes_of text u.name) key (has Uses text key) n us
+      → Tests (fact_at Uses (name_of a s.name) text) (use_in file)
+      (λ (u : Use). bytes_of text u.name) key (has Uses text key) n us
   use_tests n [] is within = tt
   use_tests n (u ∷ us) is within = (
     ap (bytes_eq key) (ap (λ o. bytes_at text (option_map (λ (x : Use). x.name) o))
@@ -104,10 +113,12 @@ module _ (a : Archived) (s : Shown) (text : List ℕ)
 
   use_rows : (n : ℕ) (us : List Use) → drop n (facts_of text).uses ≡ us
       → AllByRecursion (λ (u : Use). IsWithin text u.name × IsScopeWithin text u.scope) us
-      → Rows (fact_at Uses (name_of a s.name) text) (use_in file) (λ (u : Use). bytes_of text u.name) key n us
+      → Rows (fact_at Uses (name_of a s.name) text) (use_in file)
+      (λ (u : Use). bytes_of text u.name) key n us
   use_rows n [] is within = tt
   use_rows n (u ∷ us) is within = (
-    ap (fact_of_use (name_of a s.name) text) (at_front n (facts_of text).uses ∙ ap (λ l. slice_get l 0) is)
+    ap (fact_of_use (name_of a s.name) text)
+        (at_front n (facts_of text).uses ∙ ap (λ l. slice_get l 0) is)
         ∙ (λ i. record (use_in file u) {
           name = cut_is text u.name within.0.0 i;
           scope = scope_is text u.scope within.0.1 i;
@@ -115,9 +126,11 @@ module _ (a : Archived) (s : Shown) (text : List ℕ)
     use_rows (suc n) us (drop_next n (facts_of text).uses ∙ ap (drop 1) is) within.1,
   )
 
-  uses_searched : map (fact_at Uses (name_of a s.name) text) (items_with Uses text key) ≡ file_uses_of key file
+  uses_searched : map (fact_at Uses (name_of a s.name) text) (items_with Uses text key)
+      ≡ file_uses_of key file
   uses_searched =
-      version_searched Uses a s text there (use_in file) (λ (u : Use). bytes_of text u.name) key (facts_of text).uses refl
+      version_searched Uses a s text there (use_in file) (λ (u : Use). bytes_of text u.name) key
+      (facts_of text).uses refl
       (use_rows 0 (facts_of text).uses refl (facts_lie text).uses)
       (use_tests 0 (facts_of text).uses refl (facts_lie text).uses)
 
@@ -142,66 +155,83 @@ module _ (a : Archived) (s : Shown) (text : List ℕ)
   CallsWithin cs = AllByRecursion (λ (c : Call). IsWithin text c.callee × IsWithin text c.caller) cs
 
   callee_tests : (n : ℕ) (cs : List Call) → drop n (facts_of text).calls ≡ cs → CallsWithin cs
-      → Tests (fact_at Callees (name_of a s.name) text) (call_in file) (λ (c : Call). bytes_of text c.callee) key (has Callees text key) n cs
+      → Tests (fact_at Callees (name_of a s.name) text) (call_in file)
+      (λ (c : Call). bytes_of text c.callee) key (has Callees text key) n cs
   callee_tests n [] is within = tt
   callee_tests n (c ∷ cs) is within = (
-    ap (bytes_eq key) (ap (λ o. bytes_at text (option_map (λ (x : Call). x.callee) o)) (found_call n c cs is)
+    ap (bytes_eq key)
+        (ap (λ o. bytes_at text (option_map (λ (x : Call). x.callee) o)) (found_call n c cs is)
         ∙ cut_is text c.callee within.0.0),
     callee_tests (suc n) cs (next_call n c cs is) within.1,
   )
 
   caller_tests : (n : ℕ) (cs : List Call) → drop n (facts_of text).calls ≡ cs → CallsWithin cs
-      → Tests (fact_at Callers (name_of a s.name) text) (call_in file) (λ (c : Call). bytes_of text c.caller) key (has Callers text key) n cs
+      → Tests (fact_at Callers (name_of a s.name) text) (call_in file)
+      (λ (c : Call). bytes_of text c.caller) key (has Callers text key) n cs
   caller_tests n [] is within = tt
   caller_tests n (c ∷ cs) is within = (
-    ap (bytes_eq key) (ap (λ o. bytes_at text (option_map (λ (x : Call). x.caller) o)) (found_call n c cs is)
+    ap (bytes_eq key)
+        (ap (λ o. bytes_at text (option_map (λ (x : Call). x.caller) o)) (found_call n c cs is)
         ∙ cut_is text c.caller within.0.1),
     caller_tests (suc n) cs (next_call n c cs is) within.1,
   )
 
   callee_rows : (n : ℕ) (cs : List Call) → drop n (facts_of text).calls ≡ cs → CallsWithin cs
-      → Rows (fact_at Callees (name_of a s.name) text) (call_in file) (λ (c : Call). bytes_of text c.callee) key n cs
+      → Rows (fact_at Callees (name_of a s.name) text) (call_in file)
+      (λ (c : Call). bytes_of text c.callee) key n cs
   callee_rows n [] is within = tt
   callee_rows n (c ∷ cs) is within =
       (call_is n c cs is within.0, callee_rows (suc n) cs (next_call n c cs is) within.1)
 
   caller_rows : (n : ℕ) (cs : List Call) → drop n (facts_of text).calls ≡ cs → CallsWithin cs
-      → Rows (fact_at Callers (name_of a s.name) text) (call_in file) (λ (c : Call). bytes_of text c.caller) key n cs
+      → Rows (fact_at Callers (name_of a s.name) text) (call_in file)
+      (λ (c : Call). bytes_of text c.caller) key n cs
   caller_rows n [] is within = tt
   caller_rows n (c ∷ cs) is within =
       (call_is n c cs is within.0, caller_rows (suc n) cs (next_call n c cs is) within.1)
 
-  callees_searched : map (fact_at Callees (name_of a s.name) text) (items_with Callees text key) ≡ file_calls_of key file
+  callees_searched : map (fact_at Callees (name_of a s.name) text) (items_with Callees text key)
+      ≡ file_calls_of key file
   callees_searched =
-      version_searched Callees a s text there (call_in file) (λ (c : Call). bytes_of text c.callee) key (facts_of text).calls refl
+      version_searched Callees a s text there (call_in file) (λ (c : Call). bytes_of text c.callee)
+      key (facts_of text).calls refl
       (callee_rows 0 (facts_of text).calls refl (facts_lie text).calls)
       (callee_tests 0 (facts_of text).calls refl (facts_lie text).calls)
 
-  callers_searched : map (fact_at Callers (name_of a s.name) text) (items_with Callers text key) ≡ file_calls_in key file
+  callers_searched : map (fact_at Callers (name_of a s.name) text) (items_with Callers text key)
+      ≡ file_calls_in key file
   callers_searched =
-      version_searched Callers a s text there (call_in file) (λ (c : Call). bytes_of text c.caller) key (facts_of text).calls refl
+      version_searched Callers a s text there (call_in file) (λ (c : Call). bytes_of text c.caller)
+      key (facts_of text).calls refl
       (caller_rows 0 (facts_of text).calls refl (facts_lie text).calls)
       (caller_tests 0 (facts_of text).calls refl (facts_lie text).calls)
 
   -- ---- by kind
-  pub one_searched : (kind : FactKind) → map (fact_at kind (name_of a s.name) text) (items_with kind text key) ≡ file_facts kind key file
+  pub one_searched : (kind : FactKind)
+      → map (fact_at kind (name_of a s.name) text) (items_with kind text key)
+      ≡ file_facts kind key file
   one_searched Uses = uses_searched
   one_searched Callees = callees_searched
   one_searched Callers = callers_searched
 
-  pub one_facts : (kind : FactKind) → facts_in kind a (filter (has_key (item_keyer kind) a (key_prefix key) key)
+  pub one_facts : (kind : FactKind)
+      → facts_in kind a (filter (has_key (item_keyer kind) a (key_prefix key) key)
       (entries_of (firsts_in kind) a s)) ≡ file_facts kind key file
   one_facts kind =
-      ap (λ o. facts_in kind a (filter (has_key (item_keyer kind) a (key_prefix key) key) (map (entry_of s) (firsts_in kind o)))) there
-      ∙ firsts_give kind text key (fact_at kind (name_of a s.name) text) (facts_at kind a) (has_key (item_keyer kind) a (key_prefix key) key) s
+      ap (λ o. facts_in kind a (filter (has_key (item_keyer kind) a (key_prefix key) key)
+      (map (entry_of s) (firsts_in kind o)))) there
+      ∙ firsts_give kind text key (fact_at kind (name_of a s.name) text) (facts_at kind a)
+      (has_key (item_keyer kind) a (key_prefix key) key) s
       (λ item. ap (facts_in_text kind (name_of a s.name) item) there)
-      (λ item. ap (λ k. nat_eq (key_prefix key) (key_prefix (item_key kind text item)) && bytes_eq key k)
+      (λ item.
+      ap (λ k. nat_eq (key_prefix key) (key_prefix (item_key kind text item)) && bytes_eq key k)
       (ap (λ t. key_in kind t item) there) ∙ prefix_and_key key (item_key kind text item))
       0 (item_count kind text) (omega arith) (λ before below. absurd (omega (arith, below)))
       ∙ one_searched kind
 
 -- ---- all versions
-pub named_apart : (kind : FactKind) (key : List ℕ) (fs : List File) → flat_map (file_facts kind key) fs ≡ facts_named kind key fs
+pub named_apart : (kind : FactKind) (key : List ℕ) (fs : List File)
+    → flat_map (file_facts kind key) fs ≡ facts_named kind key fs
 unfolding uses_of calls_of calls_in
 named_apart Uses key fs = refl
 named_apart Callees key fs = refl
@@ -214,17 +244,22 @@ module _ (kind : FactKind) (a : Archived) (key : List ℕ) where
   all_facts [] all = refl
   all_facts (s ∷ shown) all =
       let has = has_key (item_keyer kind) a (key_prefix key) key in
-      ap (facts_in kind a) (filter-append has (entries_of (firsts_in kind) a s) (all_entries (firsts_in kind) a shown))
+      ap (facts_in kind a)
+      (filter-append has (entries_of (firsts_in kind) a s) (all_entries (firsts_in kind) a shown))
       ∙ flat_map-append (facts_at kind a) (filter has (entries_of (firsts_in kind) a s))
       (filter has (all_entries (firsts_in kind) a shown))
-      ∙ (λ i. one_facts a s (get_or a.texts s.version []) (slice_get-get_or a.texts s.version [] all.0.1) key kind i
+      ∙ (λ i. one_facts a s (get_or a.texts s.version [])
+      (slice_get-get_or a.texts s.version [] all.0.1) key kind i
       ++ all_facts shown all.1 i)
 
-  pub rows_of_facts : (shown : List Shown) → AllByRecursion (IsThere a) shown → AreAscending a shown → (es : List Entry)
+  pub rows_of_facts : (shown : List Shown) → AllByRecursion (IsThere a) shown → AreAscending a shown
+      → (es : List Entry)
       → IsIndexOf (item_keyer kind) (firsts_in kind) a shown es
-      → facts_in kind a (filter (has_key (item_keyer kind) a (key_prefix key) key) es) ≡ facts_named kind key (files_of a shown)
+      → facts_in kind a (filter (has_key (item_keyer kind) a (key_prefix key) key) es)
+      ≡ facts_named kind key (files_of a shown)
   rows_of_facts shown all up es is =
-      ap (facts_in kind a) (kept_key (item_keyer kind) a (firsts_in kind) (firsts_rise kind) shown up (key_prefix key) key es is)
+      ap (facts_in kind a) (kept_key (item_keyer kind) a (firsts_in kind) (firsts_rise kind) shown
+      up (key_prefix key) key es is)
       ∙ all_facts shown all ∙ named_apart kind key (files_of a shown)
 
 -- ---- where all are given

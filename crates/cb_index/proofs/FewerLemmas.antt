@@ -1,5 +1,6 @@
 -- A version has no more entries than facts.
-use Rattle.std.proofs.Common.{◌≡◌, ◌≤◌, ℕ, suc, List, [], ◌∷◌, Some, None, ap, refl, filter, length, map, not, arith}
+use Rattle.std.proofs.Common.{◌≡◌, ◌≤◌, ℕ, suc, List, [], ◌∷◌, Some, None, ap, refl, filter, length}
+use Rattle.std.proofs.Common.{map, not, arith}
 use Rattle.std.proofs.lemmas.List.{length-map}
 use Rattle.std.proofs.lemmas.List.Filters.{length-filter_both}
 use Rattle.std.proofs.lemmas.List.FromFn.{length-range_with_len}
@@ -38,11 +39,13 @@ few_firsts : (sort : FactKind) (text : List ℕ) → length (firsts sort text) �
 few_firsts sort text =
     let all = range_with_len 0 (item_count sort text) in
     let same = length-map (filter (is_first sort text) all) (listed sort text) in
-    let split = length-filter_both (is_first sort text) (λ i. not (is_first sort text i)) (λ i. refl) all in
+    let split =
+    length-filter_both (is_first sort text) (λ i. not (is_first sort text i)) (λ i. refl) all in
     omega (arith, same, split, length-range_with_len 0 (item_count sort text))
 
 -- by kind
-pub fewer_of : (kind : IndexKind) (t : Option (List ℕ)) → length (lister_of kind t) ≤ count_for kind t
+pub fewer_of : (kind : IndexKind) (t : Option (List ℕ))
+    → length (lister_of kind t) ≤ count_for kind t
 fewer_of DefsByName t = fewer_defs t
 fewer_of DefsByTagName t = fewer_tags t
 fewer_of (Facts Uses) None = omega arith

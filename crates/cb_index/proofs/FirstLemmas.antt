@@ -1,5 +1,7 @@
 -- The first items of keys, and those behind them.
-use Rattle.std.proofs.Common.{◌≡◌, ◌∙◌, ◌+◌, ◌-◌, ◌<◌, ◌≤◌, ℕ, zero, suc, Bool, true, false, not, List, [], ◌∷◌, ◌++◌, refl, sym, ap, subst, map, filter, get_or, arith, append-nil, ◌⊎◌, inl, inr}
+use Rattle.std.proofs.Common.{◌≡◌, ◌∙◌, ◌+◌, ◌-◌, ◌<◌, ◌≤◌, ℕ, zero, suc, Bool, true, false, not}
+use Rattle.std.proofs.Common.{List, [], ◌∷◌, ◌++◌, refl, sym, ap, subst, map, filter, get_or, arith}
+use Rattle.std.proofs.Common.{append-nil, ◌⊎◌, inl, inr}
 use Rattle.std.proofs.lemmas.Bool.{cases_lt, false≢true, true≢false}
 use Rattle.std.proofs.lemmas.Bool.Decides.{Decides-eqb}
 use Rattle.std.proofs.lemmas.List.Elements.{All-from_get_or, filter_agree}
@@ -28,7 +30,8 @@ pub prefix_and_key : (key other : List ℕ)
     → (nat_eq (key_prefix key) (key_prefix other) && bytes_eq key other) ≡ bytes_eq key other
 prefix_and_key key other =
     and_same (nat_eq (key_prefix key) (key_prefix other)) (bytes_eq key other)
-    (λ is. (Decides-eqb (key_prefix key) (key_prefix other)).1 (ap key_prefix ((bytes_eq-Decides key other).0 is)))
+    (λ is. (Decides-eqb (key_prefix key) (key_prefix other)).1
+    (ap key_prefix ((bytes_eq-Decides key other).0 is)))
 
 pub at_number : (len i : ℕ) → i < len → get_or (range_with_len 0 len) i 0 ≡ i
 at_number len i below = omega (arith, get_or-range_with_len 0 len i 0 below)
@@ -42,16 +45,19 @@ module _ (sort : FactKind) (text key : List ℕ) where
   key_is item is = (bytes_eq-Decides key (item_key sort text item)).0 is
 
   -- of an item that has the key, the test for its key is that for the key
-  pub same_test : (item : ℕ) → has item ≡ true → (other : ℕ) → have_one_key sort text item other ≡ has other
+  pub same_test : (item : ℕ) → has item ≡ true → (other : ℕ)
+      → have_one_key sort text item other ≡ has other
   same_test item is other = ap (λ k. bytes_eq k (item_key sort text other)) (sym (key_is item is))
 
   -- no item before the first one that has the key has it
-  pub is_first_of_key : (item : ℕ) → has item ≡ true → ((before : ℕ) → before < item → has before ≡ false)
+  pub is_first_of_key : (item : ℕ) → has item ≡ true
+      → ((before : ℕ) → before < item → has before ≡ false)
       → is_first sort text item ≡ true
   unfolding is_first
   is_first_of_key item is none =
       ap not (list_any_none (have_one_key sort text item) (range_with_len 0 item)
-      (All-from_get_or (λ other. have_one_key sort text item other ≡ false) (range_with_len 0 item) 0
+      (All-from_get_or (λ other. have_one_key sort text item other ≡ false)
+      (range_with_len 0 item) 0
       (λ i below.
       let at : i < item = omega (arith, below, length-range_with_len 0 item) in
       let other : get_or (range_with_len 0 item) i 0 ≡ i = at_number item i at in
@@ -64,7 +70,8 @@ module _ (sort : FactKind) (text key : List ℕ) where
   no_first before item below had is =
       ap not (list_any_at (have_one_key sort text item) (range_with_len 0 item) before 0
       (omega (arith, below, length-range_with_len 0 item))
-      (ap (have_one_key sort text item) (at_number item before below) ∙ same_test item is before ∙ had))
+      (ap (have_one_key sort text item) (at_number item before below)
+      ∙ same_test item is before ∙ had))
 
   -- the items behind one that has the key are those that have it
   pub later_is : (item len : ℕ) → has item ≡ true → suc item + len ≡ item_count sort text
@@ -73,9 +80,11 @@ module _ (sort : FactKind) (text key : List ℕ) where
   later_is item len is size =
       let rest : item_count sort text - suc item ≡ len = omega (arith, size) in
       ap (λ n. filter (have_one_key sort text item) (range_with_len (suc item) n)) rest
-      ∙ filter_agree (have_one_key sort text item) has (same_test item is) (range_with_len (suc item) len)
+      ∙ filter_agree (have_one_key sort text item) has (same_test item is)
+      (range_with_len (suc item) len)
 
-  module _ (takes : Entry → Bool) (s : Shown) (tests : (item : ℕ) → takes (entry_of s (listed sort text item)) ≡ has item) where
+  module _ (takes : Entry → Bool) (s : Shown)
+      (tests : (item : ℕ) → takes (entry_of s (listed sort text item)) ≡ has item) where
     abbrev entries_in : List ℕ → List Entry
     entries_in items = map (entry_of s) (map (listed sort text) (filter (is_first sort text) items))
 
@@ -85,49 +94,60 @@ module _ (sort : FactKind) (text key : List ℕ) where
     none_behind before had n zero low = refl
     none_behind before had n (suc len) low =
         ap (λ l. filter takes (entries_in l)) (range_next n len)
-        ∙ step (is_first sort text n) (has n) refl refl (none_behind before had (suc n) len (omega (arith, low)))
+        ∙ step (is_first sort text n) (has n) refl refl
+        (none_behind before had (suc n) len (omega (arith, low)))
       where
         step : (first here : Bool) → is_first sort text n ≡ first → has n ≡ here
             → filter takes (entries_in (range_with_len (suc n) len)) ≡ []
             → filter takes (map (entry_of s) (map (listed sort text)
             (cond first (n ∷ filter (is_first sort text) (range_with_len (suc n) len))
             (filter (is_first sort text) (range_with_len (suc n) len))))) ≡ []
-        step true true is_one has_it rest = absurd (true≢false (sym is_one ∙ no_first before n low had has_it))
+        step true true is_one has_it rest =
+            absurd (true≢false (sym is_one ∙ no_first before n low had has_it))
         step true false is_one has_not rest =
-            ap (λ b. cond b (entry_of s (listed sort text n) ∷ filter takes (entries_in (range_with_len (suc n) len)))
+            ap (λ b. cond b (entry_of s (listed sort text n)
+            ∷ filter takes (entries_in (range_with_len (suc n) len)))
             (filter takes (entries_in (range_with_len (suc n) len)))) (tests n ∙ has_not) ∙ rest
         step false here is_none has_or_not rest = rest
 
     -- of the entries of first items there is at most one that has the key
-    module _ (P : List Entry → Type 0) (none : P []) (one : (item : ℕ) → is_first sort text item ≡ true → P (entry_of s (listed sort text item) ∷ [])) where
+    module _ (P : List Entry → Type 0) (none : P []) (one : (item : ℕ)
+        → is_first sort text item ≡ true → P (entry_of s (listed sort text item) ∷ [])) where
       pub at_most_one : (n len : ℕ) → P (filter takes (entries_in (range_with_len n len)))
       at_most_one n zero = none
       at_most_one n (suc len) =
           subst P (sym (ap (λ l. filter takes (entries_in l)) (range_next n len)))
           (step (is_first sort text n) (has n) refl refl (at_most_one (suc n) len))
         where
-          step : (first here : Bool) → is_first sort text n ≡ first → has n ≡ here → P (filter takes (entries_in (range_with_len (suc n) len)))
+          step : (first here : Bool) → is_first sort text n ≡ first → has n ≡ here
+              → P (filter takes (entries_in (range_with_len (suc n) len)))
               → P (filter takes (map (entry_of s) (map (listed sort text)
               (cond first (n ∷ filter (is_first sort text) (range_with_len (suc n) len))
               (filter (is_first sort text) (range_with_len (suc n) len))))))
           step true true is_one has_it rest =
-              subst P (sym (ap (λ b. cond b (entry_of s (listed sort text n) ∷ filter takes (entries_in (range_with_len (suc n) len)))
+              subst P (sym (ap (λ b. cond b (entry_of s (listed sort text n)
+              ∷ filter takes (entries_in (range_with_len (suc n) len)))
               (filter takes (entries_in (range_with_len (suc n) len)))) (tests n ∙ has_it)
-              ∙ ap (λ es. entry_of s (listed sort text n) ∷ es) (none_behind n has_it (suc n) len (omega arith)))) (one n is_one)
+              ∙ ap (λ es. entry_of s (listed sort text n) ∷ es)
+              (none_behind n has_it (suc n) len (omega arith)))) (one n is_one)
           step true false is_one has_not rest =
-              subst P (sym (ap (λ b. cond b (entry_of s (listed sort text n) ∷ filter takes (entries_in (range_with_len (suc n) len)))
+              subst P (sym (ap (λ b. cond b (entry_of s (listed sort text n)
+              ∷ filter takes (entries_in (range_with_len (suc n) len)))
               (filter takes (entries_in (range_with_len (suc n) len)))) (tests n ∙ has_not))) rest
           step false here is_none has_or_not rest = rest
 
   -- ---- what the entries of the first items give
   module _ {Y : Type 0} (fact : ℕ → Y) (give : Entry → List Y) (takes : Entry → Bool) (s : Shown)
-      (gives : (item : ℕ) → give (entry_of s (listed sort text item)) ≡ map fact (item ∷ later sort text item))
+      (gives : (item : ℕ)
+      → give (entry_of s (listed sort text item)) ≡ map fact (item ∷ later sort text item))
       (tests : (item : ℕ) → takes (entry_of s (listed sort text item)) ≡ has item) where
     abbrev entries_of_firsts : List ℕ → List Entry
     entries_of_firsts = entries_in takes s tests
 
-    pub firsts_give : (n len : ℕ) → n + len ≡ item_count sort text → ((before : ℕ) → before < n → has before ≡ false)
-        → flat_map give (filter takes (entries_of_firsts (range_with_len n len))) ≡ map fact (filter has (range_with_len n len))
+    pub firsts_give : (n len : ℕ) → n + len ≡ item_count sort text
+        → ((before : ℕ) → before < n → has before ≡ false)
+        → flat_map give (filter takes (entries_of_firsts (range_with_len n len)))
+        ≡ map fact (filter has (range_with_len n len))
     firsts_give n zero size none = refl
     firsts_give n (suc len) size none =
         ap (λ l. flat_map give (filter takes (entries_of_firsts l))) (range_next n len)
@@ -151,15 +171,19 @@ module _ (sort : FactKind) (text key : List ℕ) where
         step : (first here : Bool) → is_first sort text n ≡ first → has n ≡ here
             → (has n ≡ false → flat_map give behind ≡ map fact (filter has rest))
             → flat_map give (filter takes (map (entry_of s) (map (listed sort text)
-            (cond first (n ∷ filter (is_first sort text) rest) (filter (is_first sort text) rest)))))
+            (cond first (n ∷ filter (is_first sort text) rest)
+            (filter (is_first sort text) rest)))))
             ≡ map fact (cond here (n ∷ filter has rest) (filter has rest))
         step true true is_one has_it later_give =
-            ap (λ b. flat_map give (cond b (entry_of s (listed sort text n) ∷ behind) behind)) (tests n ∙ has_it)
-            ∙ (λ i. gives n i ++ flat_map give (none_behind takes s tests n has_it (suc n) len (omega arith) i))
+            ap (λ b. flat_map give (cond b (entry_of s (listed sort text n) ∷ behind) behind))
+            (tests n ∙ has_it)
+            ∙ (λ i. gives n i
+            ++ flat_map give (none_behind takes s tests n has_it (suc n) len (omega arith) i))
             ∙ append-nil (map fact (n ∷ later sort text n))
             ∙ ap (λ l. map fact (n ∷ l)) (later_is n len has_it (omega (arith, size)))
         step true false is_one has_not later_give =
-            ap (λ b. flat_map give (cond b (entry_of s (listed sort text n) ∷ behind) behind)) (tests n ∙ has_not)
+            ap (λ b. flat_map give (cond b (entry_of s (listed sort text n) ∷ behind) behind))
+            (tests n ∙ has_not)
             ∙ later_give has_not
         step false true is_none has_it later_give =
             absurd (true≢false (sym (is_first_of_key n has_it none) ∙ is_none))

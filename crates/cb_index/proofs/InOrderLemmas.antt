@@ -1,5 +1,7 @@
 -- Lists in the order of a key.
-use Rattle.std.proofs.Common.{◌≡◌, ◌∙◌, ◌≤◌, ◌<◌, ◌+◌, ℕ, zero, suc, Bool, true, false, List, [], ◌∷◌, ◌++◌, refl, sym, ap, length, map, take, drop, filter, get_or, arith, ⊎_elim}
+use Rattle.std.proofs.Common.{◌≡◌, ◌∙◌, ◌≤◌, ◌<◌, ◌+◌, ℕ, zero, suc, Bool, true, false, List, []}
+use Rattle.std.proofs.Common.{◌∷◌, ◌++◌, refl, sym, ap, length, map, take, drop, filter, get_or}
+use Rattle.std.proofs.Common.{arith, ⊎_elim}
 use Rattle.std.proofs.lemmas.Bool.{cases_Bool, true≢false, false≢true}
 use Rattle.std.proofs.lemmas.List.Sums.{sum_by-append, sum_by-cons}
 use Rattle.std.specs.Prelude.{cond, not, sum_by}
@@ -9,21 +11,25 @@ use Rattle.std.specs.List.Sorted.{IsPartitionedBy}
 use Rattle.std.specs.Ordering.{is_gt, nat_cmp}
 use Rattle.cb_scan.specs.Order.{AreOrdered, goes_first, in_order, put}
 use Rattle.cb_scan.proofs.FactsWithin.{all_in_order}
-use Rattle.cb_scan.proofs.OrderLemmas.{Sorted, first_trans, goes_itself, in_order_sorted, in_order_sum, put_sum, unique}
+use Rattle.cb_scan.proofs.OrderLemmas.{Sorted, first_trans, goes_itself, in_order_sorted}
+use Rattle.cb_scan.proofs.OrderLemmas.{in_order_sum, put_sum, unique}
 
 -- ---- what stays and what goes
 module _ {X : Type 0} (p : X → Bool) where
-  pub sum_filter : (f : X → ℕ) (xs : List X) → sum_by f (filter p xs) ≡ sum_by (λ x. cond (p x) (f x) 0) xs
+  pub sum_filter : (f : X → ℕ) (xs : List X)
+      → sum_by f (filter p xs) ≡ sum_by (λ x. cond (p x) (f x) 0) xs
   sum_filter f [] = refl
   sum_filter f (x ∷ xs) =
       here (p x) (sum_filter f xs) ∙ sym (sum_by-cons (λ y. cond (p y) (f y) 0) x xs)
     where
       here : (b : Bool) → sum_by f (filter p xs) ≡ sum_by (λ y. cond (p y) (f y) 0) xs
-          → sum_by f (cond b (x ∷ filter p xs) (filter p xs)) ≡ cond b (f x) 0 + sum_by (λ y. cond (p y) (f y) 0) xs
+          → sum_by f (cond b (x ∷ filter p xs) (filter p xs))
+          ≡ cond b (f x) 0 + sum_by (λ y. cond (p y) (f y) 0) xs
       here true later = sum_by-cons f x (filter p xs) ∙ ap (λ n. f x + n) later
       here false later = omega (arith, later)
 
-  pub all_filter : (P : X → Type 0) (xs : List X) → AllByRecursion P xs → AllByRecursion P (filter p xs)
+  pub all_filter : (P : X → Type 0) (xs : List X) → AllByRecursion P xs
+      → AllByRecursion P (filter p xs)
   all_filter P [] a = tt
   all_filter P (x ∷ xs) a =
       elim (p x) as (λ b. AllByRecursion P (cond b (x ∷ filter p xs) (filter p xs)))
@@ -32,21 +38,27 @@ module _ {X : Type 0} (p : X → Bool) where
   sorted_filter : (key : X → List ℕ) (xs : List X) → Sorted key xs → Sorted key (filter p xs)
   sorted_filter key [] s = tt
   sorted_filter key (x ∷ xs) s =
-      elim (p x) as (λ b. Sorted key (cond b (x ∷ filter p xs) (filter p xs)))
-      [ true ↦ (all_filter (λ y. goes_first key x y ≡ true) xs s.0, sorted_filter key xs s.1) | false ↦ sorted_filter key xs s.1 ]
+      elim (p x) as (λ b. Sorted key (cond b (x ∷ filter p xs) (filter p xs))) [
+        | true ↦ (all_filter (λ y. goes_first key x y ≡ true) xs s.0, sorted_filter key xs s.1)
+        | false ↦ sorted_filter key xs s.1
+      ]
 
 -- ---- one order
 module _ {X : Type 0} (key : X → List ℕ) (exact : (x y : X) → key x ≡ key y → x ≡ y) where
   -- lists with the same elements are one list in order
-  pub same_order : (xs ys : List X) → ((f : X → ℕ) → sum_by f xs ≡ sum_by f ys) → in_order key xs ≡ in_order key ys
+  pub same_order : (xs ys : List X) → ((f : X → ℕ) → sum_by f xs ≡ sum_by f ys)
+      → in_order key xs ≡ in_order key ys
   same_order xs ys same =
-      unique key exact (in_order key xs) (in_order key ys) (in_order_sorted key xs) (in_order_sorted key ys)
+      unique key exact (in_order key xs) (in_order key ys) (in_order_sorted key xs)
+      (in_order_sorted key ys)
       (λ f. in_order_sum key f xs ∙ same f ∙ sym (in_order_sum key f ys))
 
-  pub filter_in_order : (p : X → Bool) (xs : List X) → filter p (in_order key xs) ≡ in_order key (filter p xs)
+  pub filter_in_order : (p : X → Bool) (xs : List X)
+      → filter p (in_order key xs) ≡ in_order key (filter p xs)
   filter_in_order p xs =
       unique key exact (filter p (in_order key xs)) (in_order key (filter p xs))
-      (sorted_filter p key (in_order key xs) (in_order_sorted key xs)) (in_order_sorted key (filter p xs))
+      (sorted_filter p key (in_order key xs) (in_order_sorted key xs))
+      (in_order_sorted key (filter p xs))
       (λ f. sum_filter p f (in_order key xs) ∙ in_order_sum key (λ x. cond (p x) (f x) 0) xs
       ∙ sym (sum_filter p f xs) ∙ sym (in_order_sum key f (filter p xs)))
 
@@ -55,18 +67,22 @@ module _ {X : Type 0} (key other : X → List ℕ) where
   Agree : X → X → Type 0
   Agree x y = goes_first key x y ≡ goes_first other x y
 
-  put_agree : (x : X) (ys : List X) → AllByRecursion (λ y. goes_first key x y ≡ goes_first other x y) ys → put key x ys ≡ put other x ys
+  put_agree : (x : X) (ys : List X)
+      → AllByRecursion (λ y. goes_first key x y ≡ goes_first other x y) ys
+      → put key x ys ≡ put other x ys
   unfolding put
   put_agree x [] a = refl
   put_agree x (y ∷ ys) a = λ i. cond (a.0 i) (x ∷ y ∷ ys) (y ∷ put_agree x ys a.1 i)
 
   -- two keys that agree on elements that follow one another give one order
-  pub in_order_agree : (xs : List X) → AreOrdered (λ x y. goes_first key x y ≡ goes_first other x y) xs
+  pub in_order_agree : (xs : List X)
+      → AreOrdered (λ x y. goes_first key x y ≡ goes_first other x y) xs
       → in_order key xs ≡ in_order other xs
   unfolding in_order AreOrdered
   in_order_agree [] a = refl
   in_order_agree (x ∷ xs) a =
-      put_agree x (in_order key xs) (all_in_order key (λ y. goes_first key x y ≡ goes_first other x y) xs a.0)
+      put_agree x (in_order key xs)
+      (all_in_order key (λ y. goes_first key x y ≡ goes_first other x y) xs a.0)
       ∙ ap (put other x) (in_order_agree xs a.1)
 
   all_agree : (x : X) → key x ≡ other x → (ys : List X) → AllByRecursion (λ y. key y ≡ other y) ys
@@ -82,19 +98,22 @@ module _ {X : Type 0} (key other : X → List ℕ) where
   all_pairs_agree (x ∷ xs) a = (all_agree x a.0 xs a.1, all_pairs_agree xs a.1)
 
   -- keys that are equal on all elements give one order
-  pub in_order_cong : (xs : List X) → AllByRecursion (λ x. key x ≡ other x) xs → in_order key xs ≡ in_order other xs
+  pub in_order_cong : (xs : List X) → AllByRecursion (λ x. key x ≡ other x) xs
+      → in_order key xs ≡ in_order other xs
   in_order_cong xs a = in_order_agree xs (all_pairs_agree xs a)
 
 -- ---- what is made of elements
 module _ {X Y : Type 0} (key : X → List ℕ) (other : Y → List ℕ) (f : X → Y) where
-  map_put : (x : X) → key x ≡ other (f x) → (ys : List X) → AllByRecursion (λ y. key y ≡ other (f y)) ys
+  map_put : (x : X) → key x ≡ other (f x) → (ys : List X)
+      → AllByRecursion (λ y. key y ≡ other (f y)) ys
       → map f (put key x ys) ≡ put other (f x) (map f ys)
   unfolding put
   map_put x here [] a = refl
   map_put x here (y ∷ ys) a =
       elim (goes_first key x y) as (λ b. map f (cond b (x ∷ y ∷ ys) (y ∷ put key x ys))
       ≡ cond b (f x ∷ f y ∷ map f ys) (f y ∷ map f (put key x ys))) [ true ↦ refl | false ↦ refl ]
-      ∙ (λ i. cond (not (is_gt (slice_cmp nat_cmp (here i) (a.0 i)))) (f x ∷ f y ∷ map f ys) (f y ∷ map_put x here ys a.1 i))
+      ∙ (λ i. cond (not (is_gt (slice_cmp nat_cmp (here i) (a.0 i)))) (f x ∷ f y ∷ map f ys)
+      (f y ∷ map_put x here ys a.1 i))
 
   pub map_in_order : (xs : List X) → AllByRecursion (λ x. key x ≡ other (f x)) xs
       → map f (in_order key xs) ≡ in_order other (map f xs)
@@ -113,7 +132,8 @@ module _ {X : Type 0} (key : X → List ℕ) (has : X → Bool) where
   put_in x [] is a = ap (λ b. cond b (x ∷ []) []) is
   put_in x (y ∷ ys) is a = by_test (goes_first key x y) (has y) refl refl (put_in x ys is a.1)
     where
-      by_test : (b c : Bool) → goes_first key x y ≡ b → has y ≡ c → filter has (put key x ys) ≡ x ∷ filter has ys
+      by_test : (b c : Bool) → goes_first key x y ≡ b → has y ≡ c
+          → filter has (put key x ys) ≡ x ∷ filter has ys
           → filter has (put key x (y ∷ ys)) ≡ x ∷ filter has (y ∷ ys)
       by_test true c first holds later =
           ap (λ b. filter has (cond b (x ∷ y ∷ ys) (y ∷ put key x ys))) first
@@ -121,7 +141,8 @@ module _ {X : Type 0} (key : X → List ℕ) (has : X → Bool) where
       by_test false true first holds later = absurd (true≢false (sym (a.0 is holds) ∙ first))
       by_test false false first holds later =
           ap (λ b. filter has (cond b (x ∷ y ∷ ys) (y ∷ put key x ys))) first
-          ∙ ap (λ c. cond c (y ∷ filter has (put key x ys)) (filter has (put key x ys))) holds ∙ later
+          ∙ ap (λ c. cond c (y ∷ filter has (put key x ys)) (filter has (put key x ys))) holds
+          ∙ later
           ∙ sym (ap (λ c. x ∷ cond c (y ∷ filter has ys) (filter has ys)) holds)
 
   put_out : (x : X) (ys : List X) → has x ≡ false → filter has (put key x ys) ≡ filter has ys
@@ -139,7 +160,8 @@ module _ {X : Type 0} (key : X → List ℕ) (has : X → Bool) where
           ∙ ap (λ l. cond (has y) (y ∷ l) l) later
 
   -- what passes a test is not moved, if it is in order among itself
-  pub filter_kept : (xs : List X) → AreOrdered (λ x y. has x ≡ true → has y ≡ true → goes_first key x y ≡ true) xs
+  pub filter_kept : (xs : List X)
+      → AreOrdered (λ x y. has x ≡ true → has y ≡ true → goes_first key x y ≡ true) xs
       → filter has (in_order key xs) ≡ filter has xs
   unfolding in_order AreOrdered
   filter_kept [] a = refl
@@ -152,24 +174,30 @@ module _ {X : Type 0} (key : X → List ℕ) (has : X → Bool) where
           (all_in_order key (λ y. has x ≡ true → has y ≡ true → goes_first key x y ≡ true) xs a.0)
           ∙ ap (λ l. x ∷ l) later ∙ sym (ap (λ b. cond b (x ∷ filter has xs) (filter has xs)) is)
       by_test false isnt later =
-          put_out x (in_order key xs) isnt ∙ later ∙ sym (ap (λ b. cond b (x ∷ filter has xs) (filter has xs)) isnt)
+          put_out x (in_order key xs) isnt ∙ later
+          ∙ sym (ap (λ b. cond b (x ∷ filter has xs) (filter has xs)) isnt)
 
 -- ---- where an element is put
 module _ {X : Type 0} (key : X → List ℕ) (x : X) where
-  pub put_at : (n : ℕ) (ys : List X) → n ≤ length ys → AllWithin (λ y. is_gt (slice_cmp nat_cmp (key x) (key y)) ≡ true) ys 0 n
-      → AllWithin (λ y. is_gt (slice_cmp nat_cmp (key x) (key y)) ≡ false) ys n (length ys) → take n ys ++ x ∷ drop n ys ≡ put key x ys
+  pub put_at : (n : ℕ) (ys : List X) → n ≤ length ys
+      → AllWithin (λ y. is_gt (slice_cmp nat_cmp (key x) (key y)) ≡ true) ys 0 n
+      → AllWithin (λ y. is_gt (slice_cmp nat_cmp (key x) (key y)) ≡ false) ys n (length ys)
+      → take n ys ++ x ∷ drop n ys ≡ put key x ys
   unfolding put
   put_at zero [] within before after = refl
   put_at (suc n) [] within before after = absurd (omega (arith, within))
   put_at zero (y ∷ ys) within before after =
-      sym (ap (λ b. cond (not b) (x ∷ y ∷ ys) (y ∷ put key x ys)) (after 0 y (omega arith) (omega arith)))
+      sym (ap (λ b. cond (not b) (x ∷ y ∷ ys) (y ∷ put key x ys))
+      (after 0 y (omega arith) (omega arith)))
   put_at (suc n) (y ∷ ys) within before after =
       ap (λ l. y ∷ l) (put_at n ys (omega (arith, within))
       (λ k d low below. before (suc k) d (omega arith) (omega (arith, below)))
       (λ k d low below. after (suc k) d (omega (arith, low)) (omega (arith, below))))
-      ∙ sym (ap (λ b. cond (not b) (x ∷ y ∷ ys) (y ∷ put key x ys)) (before 0 y (omega arith) (omega arith)))
+      ∙ sym (ap (λ b. cond (not b) (x ∷ y ∷ ys) (y ∷ put key x ys))
+      (before 0 y (omega arith) (omega arith)))
 
-  all_at : (P : X → Type 0) (ys : List X) → AllByRecursion P ys → (k : ℕ) (d : X) → k < length ys → P (get_or ys k d)
+  all_at : (P : X → Type 0) (ys : List X) → AllByRecursion P ys → (k : ℕ) (d : X) → k < length ys
+      → P (get_or ys k d)
   all_at P [] all k d below = absurd (omega (arith, below))
   all_at P (y ∷ ys) all zero d below = all.0
   all_at P (y ∷ ys) all (suc k) d below = all_at P ys all.1 k d (omega (arith, below))
@@ -178,21 +206,26 @@ module _ {X : Type 0} (key : X → List ℕ) (x : X) where
       → goes_first key (get_or ys i d) (get_or ys j d) ≡ true
   far [] s i j d upward below = absurd (omega (arith, below))
   far (y ∷ ys) s zero zero d upward below = goes_itself key y
-  far (y ∷ ys) s zero (suc j) d upward below = all_at (λ z. goes_first key y z ≡ true) ys s.0 j d (omega (arith, below))
+  far (y ∷ ys) s zero (suc j) d upward below =
+      all_at (λ z. goes_first key y z ≡ true) ys s.0 j d (omega (arith, below))
   far (y ∷ ys) s (suc i) zero d upward below = absurd (omega (arith, upward))
-  far (y ∷ ys) s (suc i) (suc j) d upward below = far ys s.1 i j d (omega (arith, upward)) (omega (arith, below))
+  far (y ∷ ys) s (suc i) (suc j) d upward below =
+      far ys s.1 i j d (omega (arith, upward)) (omega (arith, below))
 
   -- a sorted list is parted by the place of an element
-  pub put_parted : (ys : List X) → Sorted key ys → IsPartitionedBy (λ y. is_gt (slice_cmp nat_cmp (key x) (key y))) ys
+  pub put_parted : (ys : List X) → Sorted key ys
+      → IsPartitionedBy (λ y. is_gt (slice_cmp nat_cmp (key x) (key y))) ys
   put_parted ys s i j d upward below is =
       ⊎_elim (λ after. after)
-      (λ first. absurd (false≢true (sym (ap not is) ∙ first_trans (key x) (key (get_or ys i d)) (key (get_or ys j d))
+      (λ first. absurd
+      (false≢true (sym (ap not is) ∙ first_trans (key x) (key (get_or ys i d)) (key (get_or ys j d))
       (ap not first) (far ys s i j d upward below))))
       (cases_Bool (is_gt (slice_cmp nat_cmp (key x) (key (get_or ys i d)))))
 
 -- ---- sums and lengths
 module _ {X Y : Type 0} (g : X → List Y) where
-  pub sum_flat : (f : Y → ℕ) (xs : List X) → sum_by f (flat_map g xs) ≡ sum_by (λ x. sum_by f (g x)) xs
+  pub sum_flat : (f : Y → ℕ) (xs : List X)
+      → sum_by f (flat_map g xs) ≡ sum_by (λ x. sum_by f (g x)) xs
   sum_flat f [] = refl
   sum_flat f (x ∷ xs) =
       sum_by-append f (g x) (flat_map g xs) ∙ ap (λ n. sum_by f (g x) + n) (sum_flat f xs)
@@ -202,14 +235,16 @@ module _ {X Y : Type 0} (g : X → List Y) where
   pub sum_flat_put : (key : X → List ℕ) (f : Y → ℕ) (x : X) (xs : List X)
       → sum_by f (flat_map g (put key x xs)) ≡ sum_by f (g x) + sum_by f (flat_map g xs)
   sum_flat_put key f x xs =
-      sum_flat f (put key x xs) ∙ put_sum key (λ y. sum_by f (g y)) x xs ∙ ap (λ n. sum_by f (g x) + n) (sym (sum_flat f xs))
+      sum_flat f (put key x xs) ∙ put_sum key (λ y. sum_by f (g y)) x xs
+      ∙ ap (λ n. sum_by f (g x) + n) (sym (sum_flat f xs))
 
 module _ {X : Type 0} (key : X → List ℕ) where
   length_put : (x : X) (ys : List X) → length (put key x ys) ≡ suc (length ys)
   unfolding put
   length_put x [] = refl
   length_put x (y ∷ ys) =
-      elim (goes_first key x y) as (λ b. length (cond b (x ∷ y ∷ ys) (y ∷ put key x ys)) ≡ suc (suc (length ys)))
+      elim (goes_first key x y) as
+      (λ b. length (cond b (x ∷ y ∷ ys) (y ∷ put key x ys)) ≡ suc (suc (length ys)))
       [ true ↦ refl | false ↦ ap suc (length_put x ys) ]
 
   pub length_in_order : (xs : List X) → length (in_order key xs) ≡ length xs

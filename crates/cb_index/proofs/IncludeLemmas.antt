@@ -13,7 +13,8 @@ use Rattle.cb_index.proofs.RowLemmas.{cut_is}
 
 module _ (f : File) where
   includes_from : (is : List Include)
-      → AllByRecursion (λ (i : Include). IsWithin f.bytes i.header × IsScopeWithin f.bytes i.scope) is
+      → AllByRecursion
+      (λ (i : Include). IsWithin f.bytes i.header × IsScopeWithin f.bytes i.scope) is
       → map (include_at f.name f.bytes) is ≡ map (include_in f) is
   includes_from [] within = refl
   includes_from (i ∷ is) within =

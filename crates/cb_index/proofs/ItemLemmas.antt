@@ -57,7 +57,8 @@ pub record StandsFirst (p : ℕ → Bool) (k n j : ℕ) (rest : List ℕ) : Type
   pub passes : p j ≡ true
   pub behind : rest ≡ filter p (range_with_len (suc j) (k + n - suc j))
 
-pub stands_first : (p : ℕ → Bool) (k n j : ℕ) (rest : List ℕ) → filter p (range_with_len k n) ≡ j ∷ rest
+pub stands_first : (p : ℕ → Bool) (k n j : ℕ) (rest : List ℕ)
+    → filter p (range_with_len k n) ≡ j ∷ rest
     → StandsFirst p k n j rest
 stands_first p k zero j rest is = absurd cc
 stands_first p k (suc n) j rest is =

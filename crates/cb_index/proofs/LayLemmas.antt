@@ -1,5 +1,7 @@
 -- Links that are set by sorted entries are those of all items.
-use Rattle.std.proofs.Common.{◌≡◌, ◌∙◌, ◌+◌, ◌-◌, ◌<◌, ◌≤◌, ◌≢◌, ℕ, zero, suc, Bool, true, false, List, [], ◌∷◌, ◌++◌, Some, None, refl, sym, ap, subst, length, map, drop, filter, get_or, arith, append_assoc, ◌⊎◌, inl, inr}
+use Rattle.std.proofs.Common.{◌≡◌, ◌∙◌, ◌+◌, ◌-◌, ◌<◌, ◌≤◌, ◌≢◌, ℕ, zero, suc, Bool, true, false}
+use Rattle.std.proofs.Common.{List, [], ◌∷◌, ◌++◌, Some, None, refl, sym, ap, subst, length, map}
+use Rattle.std.proofs.Common.{drop, filter, get_or, arith, append_assoc, ◌⊎◌, inl, inr}
 use Rattle.std.proofs.lemmas.Bool.{cases_eq}
 use Rattle.std.proofs.lemmas.List.{get_or-set_other, get_or-set_same, length-map, length-set}
 use Rattle.std.proofs.lemmas.List.Elements.{filter-append}
@@ -23,7 +25,8 @@ use Rattle.cb_index.specs.Entries.{file_key, has_key, key_of, sort_key}
 use Rattle.cb_index.specs.Items.{have_one_key, is_first, item_count, item_key, later}
 use Rattle.cb_index.specs.Links.{first_or_none, link_of, links_of}
 use Rattle.cb_index.specs.Orders.{item_keyer, key_in}
-use Rattle.cb_index.specs.steps.Laying.{entries_match, item_entries, item_entry, link_to, next_item, starts, with_each}
+use Rattle.cb_index.specs.steps.Laying.{entries_match, item_entries, item_entry, link_to, next_item}
+use Rattle.cb_index.specs.steps.Laying.{starts, with_each}
 use Rattle.cb_index.specs.declared.entry.Entry.{Entry}
 use Rattle.cb_index.specs.declared.links.Link.{Link}
 use Rattle.cb_index.specs.declared.kind.FactKind.{FactKind}
@@ -36,7 +39,8 @@ use Rattle.cb_index.proofs.RowLemmas.{one_key, ordered_cmp}
 module _ {X : Type 0} (p : X → Bool) where
   none_kept : (xs : List X) → AllByRecursion (λ x. p x ≡ false) xs → filter p xs ≡ []
   none_kept [] all = refl
-  none_kept (x ∷ xs) all = ap (λ b. cond b (x ∷ filter p xs) (filter p xs)) all.0 ∙ none_kept xs all.1
+  none_kept (x ∷ xs) all =
+      ap (λ b. cond b (x ∷ filter p xs) (filter p xs)) all.0 ∙ none_kept xs all.1
 
   none_any : (xs : List X) → AllByRecursion (λ x. p x ≡ false) xs → list_any p xs ≡ false
   none_any [] all = refl
@@ -50,7 +54,8 @@ module _ {X : Type 0} (p : X → Bool) where
   any_kept : (xs : List X) → list_any p xs ≡ is_some_left (filter p xs)
   any_kept [] = refl
   any_kept (x ∷ xs) =
-      elim (p x) as (λ b. (b || list_any p xs) ≡ is_some_left (cond b (x ∷ filter p xs) (filter p xs)))
+      elim (p x) as
+      (λ b. (b || list_any p xs) ≡ is_some_left (cond b (x ∷ filter p xs) (filter p xs)))
       [ true ↦ refl | false ↦ any_kept xs ]
 
 module _ {X : Type 0} (P : X → Type 0) where
@@ -58,7 +63,8 @@ module _ {X : Type 0} (P : X → Type 0) where
   right_of [] ys all = all
   right_of (x ∷ xs) ys all = right_of xs ys all.1
 
-  pub at_place : (xs : List X) → AllByRecursion P xs → (k : ℕ) (d : X) → k < length xs → P (get_or xs k d)
+  pub at_place : (xs : List X) → AllByRecursion P xs → (k : ℕ) (d : X) → k < length xs
+      → P (get_or xs k d)
   at_place [] all k d below = absurd (omega (arith, below))
   at_place (x ∷ xs) all zero d below = all.0
   at_place (x ∷ xs) all (suc k) d below = at_place xs all.1 k d (omega (arith, below))
@@ -70,7 +76,8 @@ module _ {X : Type 0} (P : X → Type 0) where
     put_back x (y ∷ ys) all = by_test (goes_first key x y) (put_back x ys) all
       where
         by_test : (b : Bool) → (AllByRecursion P (put key x ys) → P x × AllByRecursion P ys)
-            → AllByRecursion P (cond b (x ∷ y ∷ ys) (y ∷ put key x ys)) → P x × (P y × AllByRecursion P ys)
+            → AllByRecursion P (cond b (x ∷ y ∷ ys) (y ∷ put key x ys))
+            → P x × (P y × AllByRecursion P ys)
         by_test true later all = all
         by_test false later all =
             let rest = later all.1 in
@@ -98,7 +105,8 @@ module _ {X : Type 0} (key : X → List ℕ) where
 -- ---- ranges of numbers
 range_below : (a len end : ℕ) → a + len ≡ end → AllByRecursion (λ n. n < end) (range_with_len a len)
 range_below a zero end is = tt
-range_below a (suc len) end is = (omega (arith, is), range_below (a + 1) len end (omega (arith, is)))
+range_below a (suc len) end is =
+    (omega (arith, is), range_below (a + 1) len end (omega (arith, is)))
 
 module _ (R : ℕ → ℕ → Type 0) (related : (x y : ℕ) → x < y → R x y) where
   range_above : (x a len : ℕ) → x < a → AllByRecursion (R x) (range_with_len a len)
@@ -117,10 +125,12 @@ record Stands (p : ℕ → Bool) (a n end : ℕ) (xs ys : List ℕ) : Type 0 whe
   behind : ys ≡ filter p (range_with_len (suc n) (end - suc n))
 
 module _ (p : ℕ → Bool) (n end : ℕ) (ys : List ℕ) where
-  stands : (a len : ℕ) (xs : List ℕ) → a + len ≡ end → filter p (range_with_len a len) ≡ xs ++ n ∷ ys → Stands p a n end xs ys
+  stands : (a len : ℕ) (xs : List ℕ) → a + len ≡ end
+      → filter p (range_with_len a len) ≡ xs ++ n ∷ ys → Stands p a n end xs ys
   stands a zero [] size is = absurd cc
   stands a zero (x ∷ xs) size is = absurd cc
-  stands a (suc len) xs size is = by_test (p a) xs (λ zs e. stands (a + 1) len zs (omega (arith, size)) e) refl is
+  stands a (suc len) xs size is =
+      by_test (p a) xs (λ zs e. stands (a + 1) len zs (omega (arith, size)) e) refl is
     where
       longer : suc a ≤ n → n - a ≡ suc (n - suc a)
       longer low = omega (arith, low)
@@ -131,13 +141,17 @@ module _ (p : ℕ → Bool) (n end : ℕ) (ys : List ℕ) where
           let low : suc a ≤ n = omega (arith, rest.from) in
           let next : n - (a + 1) ≡ n - suc a = omega arith in
           (λ i. cond b (a ∷ rest.ahead i) (rest.ahead i))
-          ∙ ap (λ c. cond c (a ∷ filter p (range_with_len (a + 1) (n - (a + 1)))) (filter p (range_with_len (a + 1) (n - (a + 1))))) (sym test)
-          ∙ ap (λ k. cond (p a) (a ∷ filter p (range_with_len (a + 1) k)) (filter p (range_with_len (a + 1) k))) next
+          ∙ ap (λ c. cond c (a ∷ filter p (range_with_len (a + 1) (n - (a + 1))))
+          (filter p (range_with_len (a + 1) (n - (a + 1))))) (sym test)
+          ∙ ap (λ k. cond (p a) (a ∷ filter p (range_with_len (a + 1) k))
+          (filter p (range_with_len (a + 1) k))) next
           ∙ sym (ap (λ k. filter p (range_with_len a k)) (longer low))
 
       by_test : (b : Bool) (xs : List ℕ)
-          → ((zs : List ℕ) → filter p (range_with_len (a + 1) len) ≡ zs ++ n ∷ ys → Stands p (a + 1) n end zs ys)
-          → p a ≡ b → cond b (a ∷ filter p (range_with_len (a + 1) len)) (filter p (range_with_len (a + 1) len)) ≡ xs ++ n ∷ ys
+          → ((zs : List ℕ) → filter p (range_with_len (a + 1) len) ≡ zs ++ n ∷ ys
+          → Stands p (a + 1) n end zs ys)
+          → p a ≡ b → cond b (a ∷ filter p (range_with_len (a + 1) len))
+          (filter p (range_with_len (a + 1) len)) ≡ xs ++ n ∷ ys
           → Stands p a n end xs ys
       by_test true [] later test is =
           let here : a ≡ n = cc in
@@ -210,17 +224,23 @@ module _ (sort : FactKind) (text : List ℕ) where
     key_is n = ap (λ o. key_in sort o n) there
 
     rank_cmp : (x y : ℕ) → slice_cmp nat_cmp (rank x) (rank y)
-        ≡ ordering_then (slice_cmp nat_cmp (whole x) (whole y)) (slice_cmp nat_cmp (file_key a (entry x)) (file_key a (entry y)))
+        ≡ ordering_then (slice_cmp nat_cmp (whole x) (whole y))
+        (slice_cmp nat_cmp (file_key a (entry x)) (file_key a (entry y)))
     rank_cmp x y =
-        let prefixes = nat_cmp (key_prefix (item_key sort text x)) (key_prefix (item_key sort text y)) in
+        let prefixes =
+        nat_cmp (key_prefix (item_key sort text x)) (key_prefix (item_key sort text y)) in
         let files = slice_cmp nat_cmp (file_key a (entry x)) (file_key a (entry y)) in
         ordered_cmp (item_keyer sort) a (entry x) (entry y)
-        ∙ (λ i. ordering_then prefixes (ordering_then (slice_cmp nat_cmp (key_is x i) (key_is y i)) files))
-        ∙ sym (then_assoc prefixes (slice_cmp nat_cmp (item_key sort text x) (item_key sort text y)) files)
+        ∙ (λ i.
+        ordering_then prefixes (ordering_then (slice_cmp nat_cmp (key_is x i) (key_is y i)) files))
+        ∙ sym (then_assoc prefixes
+        (slice_cmp nat_cmp (item_key sort text x) (item_key sort text y)) files)
 
-    whole_first : (x y : ℕ) → goes_first rank x y ≡ true → not (is_gt (slice_cmp nat_cmp (whole x) (whole y))) ≡ true
+    whole_first : (x y : ℕ) → goes_first rank x y ≡ true
+        → not (is_gt (slice_cmp nat_cmp (whole x) (whole y))) ≡ true
     whole_first x y first =
-        then_first (slice_cmp nat_cmp (whole x) (whole y)) (slice_cmp nat_cmp (file_key a (entry x)) (file_key a (entry y)))
+        then_first (slice_cmp nat_cmp (whole x) (whole y))
+        (slice_cmp nat_cmp (file_key a (entry x)) (file_key a (entry y)))
         (sym (ap (λ o. not (is_gt o)) (rank_cmp x y)) ∙ first)
 
     -- what stands between items of one key has that key
@@ -228,19 +248,23 @@ module _ (sort : FactKind) (text : List ℕ) where
         → item_key sort text x ≡ item_key sort text y → item_key sort text x ≡ item_key sort text z
     between x z y xz zy is =
         let back : not (is_gt (slice_cmp nat_cmp (whole z) (whole x))) ≡ true =
-        subst (λ k. not (is_gt (slice_cmp nat_cmp (whole z) (key_prefix k ∷ k))) ≡ true) (sym is) (whole_first z y zy) in
+        subst (λ k. not (is_gt (slice_cmp nat_cmp (whole z) (key_prefix k ∷ k))) ≡ true) (sym is)
+        (whole_first z y zy) in
         ap (drop 1) (both_first (whole x) (whole z) [] (whole_first x z xz) back)
 
     none_behind : (n j : ℕ) (rest : List ℕ) → goes_first rank n j ≡ true → have n j ≡ false
-        → AllByRecursion (λ z. goes_first rank j z ≡ true) rest → AllByRecursion (λ z. have n z ≡ false) rest
+        → AllByRecursion (λ z. goes_first rank j z ≡ true) rest
+        → AllByRecursion (λ z. have n z ≡ false) rest
     none_behind n j [] first isnt all = tt
     none_behind n j (z ∷ rest) first isnt all = (
-      not_true (have n z) (λ is. sym (are_one n j (between n j z first all.0 (have_is n z is))) ∙ isnt),
+      not_true (have n z)
+          (λ is. sym (are_one n j (between n j z first all.0 (have_is n z is))) ∙ isnt),
       none_behind n j rest first isnt all.1,
     )
 
     none_ahead : (n j : ℕ) (front : List ℕ) → goes_first rank n j ≡ true → have n j ≡ false
-        → AllByRecursion (λ x. goes_first rank x n ≡ true) front → AllByRecursion (λ x. have j x ≡ false) front
+        → AllByRecursion (λ x. goes_first rank x n ≡ true) front
+        → AllByRecursion (λ x. have j x ≡ false) front
     none_ahead n j [] first isnt all = tt
     none_ahead n j (x ∷ front) first isnt all = (
       not_true (have j x) (λ is.
@@ -257,13 +281,17 @@ module _ (sort : FactKind) (text : List ℕ) where
     follows n ns = next_item sort text (entry n) (map entry ns)
 
     next_is : (n : ℕ) (ns : List ℕ) (first : Bool) → Sorted rank (n ∷ ns)
-        → link_to (follows n ns) first ≡ record { next = first_or_none (filter (have n) ns); first = first }
+        → link_to (follows n ns) first
+        ≡ record { next = first_or_none (filter (have n) ns); first = first }
     next_is n [] first s = refl
     next_is n (j ∷ rest) first s =
         ap (λ b. link_to (cond b (Some j) None) first) (match_is n j) ∙ by_test (have n j) refl
       where
         by_test : (b : Bool) → have n j ≡ b → link_to (cond b (Some j) None) first
-            ≡ record { next = first_or_none (cond b (j ∷ filter (have n) rest) (filter (have n) rest)); first = first }
+            ≡ record {
+              next = first_or_none (cond b (j ∷ filter (have n) rest) (filter (have n) rest));
+              first = first;
+            }
         by_test true is = refl
         by_test false isnt =
             sym (ap (λ l. record { next = first_or_none l; first = first })
@@ -281,43 +309,58 @@ module _ (sort : FactKind) (text : List ℕ) where
         ap (λ b. starts (cond b (Some j) None)) (match_is n j) ∙ by_test (have n j) refl
         ∙ sym (ap not (list_any-append (have j) front (n ∷ [])))
       where
-        by_test : (b : Bool) → have n j ≡ b → starts (cond b (Some j) None) ≡ not (list_any (have j) front || (have j n || false))
+        by_test : (b : Bool) → have n j ≡ b
+            → starts (cond b (Some j) None) ≡ not (list_any (have j) front || (have j n || false))
         by_test true is =
-            sym (ap not (or_true (list_any (have j) front) (have j n) (are_one j n (sym (have_is n j is)))))
+            sym (ap not
+            (or_true (list_any (have j) front) (have j n) (are_one j n (sym (have_is n j is)))))
         by_test false isnt =
-            let first : goes_first rank n j ≡ true = (sorted_right rank front (n ∷ j ∷ rest) s).0.0 in
+            let first : goes_first rank n j ≡ true =
+            (sorted_right rank front (n ∷ j ∷ rest) s).0.0 in
             let none : list_any (have j) front ≡ false =
-            none_any (have j) front (none_ahead n j front first isnt (ahead_first rank front n (j ∷ rest) s)) in
+            none_any (have j) front
+            (none_ahead n j front first isnt (ahead_first rank front n (j ∷ rest) s)) in
             sym (λ i. not (none i || (have_not n j isnt i || false)))
 
     -- ---- the links that are set
     -- each entry gives its item the right link
     abbrev AreRight : Bool → List ℕ → Type 0
     AreRight first [] = Unit {0}
-    AreRight first (n ∷ ns) = (link_to (follows n ns) first ≡ link_of sort text n) × AreRight (starts (follows n ns)) ns
+    AreRight first (n ∷ ns) =
+        (link_to (follows n ns) first ≡ link_of sort text n) × AreRight (starts (follows n ns)) ns
 
     module _ (all : List ℕ) (sorted : Sorted rank all)
-        (kept : (n : ℕ) → filter (have n) all ≡ filter (have n) (range_with_len 0 (item_count sort text))) where
+        (kept : (n : ℕ)
+        → filter (have n) all ≡ filter (have n) (range_with_len 0 (item_count sort text))) where
       link_is : (front : List ℕ) (n : ℕ) (ns : List ℕ) (first : Bool) → front ++ n ∷ ns ≡ all
-          → first ≡ not (list_any (have n) front) → link_to (follows n ns) first ≡ link_of sort text n
+          → first ≡ not (list_any (have n) front)
+          → link_to (follows n ns) first ≡ link_of sort text n
       unfolding is_first later
       link_is front n ns first is begins =
           let count = item_count sort text in
           let itself : have n n ≡ true = are_one n n refl in
-          let parts : filter (have n) (range_with_len 0 count) ≡ filter (have n) front ++ n ∷ filter (have n) ns =
+          let parts : filter (have n) (range_with_len 0 count)
+          ≡ filter (have n) front ++ n ∷ filter (have n) ns =
           sym (kept n) ∙ sym (ap (filter (have n)) is) ∙ filter-append (have n) front (n ∷ ns)
-          ∙ ap (λ b. filter (have n) front ++ cond b (n ∷ filter (have n) ns) (filter (have n) ns)) itself in
-          let at = stands (have n) n count (filter (have n) ns) 0 count (filter (have n) front) (omega arith) parts in
+          ∙ ap (λ b. filter (have n) front ++ cond b (n ∷ filter (have n) ns) (filter (have n) ns))
+          itself in
+          let at =
+          stands (have n) n count (filter (have n) ns) 0 count (filter (have n) front)
+          (omega arith) parts in
           let none : n - 0 ≡ n = omega arith in
           let ahead : filter (have n) front ≡ filter (have n) (range_with_len 0 n) =
           at.ahead ∙ ap (λ k. filter (have n) (range_with_len 0 k)) none in
           let any : list_any (have n) front ≡ list_any (have n) (range_with_len 0 n) =
-          any_kept (have n) front ∙ ap (is_some_left (have n)) ahead ∙ sym (any_kept (have n) (range_with_len 0 n)) in
-          let first_is : first ≡ not (list_any (have n) (range_with_len 0 n)) = begins ∙ ap not any in
-          next_is n ns first (sorted_right rank front (n ∷ ns) (subst (Sorted rank) (sym is) sorted))
+          any_kept (have n) front ∙ ap (is_some_left (have n)) ahead
+          ∙ sym (any_kept (have n) (range_with_len 0 n)) in
+          let first_is : first ≡ not (list_any (have n) (range_with_len 0 n)) =
+          begins ∙ ap not any in
+          next_is n ns first
+          (sorted_right rank front (n ∷ ns) (subst (Sorted rank) (sym is) sorted))
           ∙ (λ i. record { next = first_or_none (at.behind i); first = first_is i })
 
-      are_right : (front ns : List ℕ) (first : Bool) → front ++ ns ≡ all → Begins first front ns → AreRight first ns
+      are_right : (front ns : List ℕ) (first : Bool) → front ++ ns ≡ all → Begins first front ns
+          → AreRight first ns
       are_right front [] first is begins = tt
       are_right front (n ∷ ns) first is begins = (
         link_is front n ns first is begins,
@@ -328,7 +371,8 @@ module _ (sort : FactKind) (text : List ℕ) where
     abbrev set_all : Bool → List ℕ → List Link → List Link
     set_all first ns links = with_each sort text first (map entry ns) links
 
-    length_set_all : (first : Bool) (ns : List ℕ) (links : List Link) → length (set_all first ns links) ≡ length links
+    length_set_all : (first : Bool) (ns : List ℕ) (links : List Link)
+        → length (set_all first ns links) ≡ length links
     unfolding with_each
     length_set_all first [] links = refl
     length_set_all first (n ∷ ns) links =
@@ -337,8 +381,10 @@ module _ (sort : FactKind) (text : List ℕ) where
 
     module _ (d : Link) where
       -- a link that is right stays so
-      stays : (first : Bool) (ns : List ℕ) (links : List Link) → AreRight first ns → (k : ℕ) → k < length links
-          → get_or links k d ≡ link_of sort text k → get_or (set_all first ns links) k d ≡ link_of sort text k
+      stays : (first : Bool) (ns : List ℕ) (links : List Link) → AreRight first ns
+          → (k : ℕ) → k < length links
+          → get_or links k d ≡ link_of sort text k
+          → get_or (set_all first ns links) k d ≡ link_of sort text k
       unfolding with_each
       stays first [] links right k below is = is
       stays first (n ∷ ns) links right k below is =
@@ -346,11 +392,15 @@ module _ (sort : FactKind) (text : List ℕ) where
           stays (starts (follows n ns)) ns (slice_set links n link) right.1 k
           (omega (arith, below, length-set links n link)) (either (cases_eq k n))
         where
-          either : (k ≡ n) ⊎ (k ≢ n) → get_or (slice_set links n (link_to (follows n ns) first)) k d ≡ link_of sort text k
+          either : (k ≡ n) ⊎ (k ≢ n)
+              → get_or (slice_set links n (link_to (follows n ns) first)) k d ≡ link_of sort text k
           either (inl same) =
-              subst (λ j. get_or (slice_set links n (link_to (follows n ns) first)) j d ≡ link_of sort text j) (sym same)
-              (get_or-set_same links n (link_to (follows n ns) first) d (omega (arith, below, same)) ∙ right.0)
-          either (inr other) = get_or-set_other links n k (link_to (follows n ns) first) d other ∙ is
+              subst (λ j. get_or (slice_set links n (link_to (follows n ns) first)) j d
+              ≡ link_of sort text j) (sym same)
+              (get_or-set_same links n (link_to (follows n ns) first) d (omega (arith, below, same))
+              ∙ right.0)
+          either (inr other) =
+              get_or-set_other links n k (link_to (follows n ns) first) d other ∙ is
 
       all_set : (first : Bool) (ns : List ℕ) (links : List Link) → AreRight first ns
           → AllByRecursion (λ n. n < length links) ns
@@ -360,7 +410,8 @@ module _ (sort : FactKind) (text : List ℕ) where
       all_set first (n ∷ ns) links right within =
           let link = link_to (follows n ns) first in
           let same : length (slice_set links n link) ≡ length links = length-set links n link in (
-            stays (starts (follows n ns)) ns (slice_set links n link) right.1 n (omega (arith, same, within.0))
+            stays (starts (follows n ns)) ns (slice_set links n link) right.1 n
+                (omega (arith, same, within.0))
                 (get_or-set_same links n link d within.0 ∙ right.0),
             all_set (starts (follows n ns)) ns (slice_set links n link) right.1
                 (subst (λ len. AllByRecursion (λ k. k < len) ns) (sym same) within.1),
@@ -370,71 +421,94 @@ module _ (sort : FactKind) (text : List ℕ) where
     abbrev numbers_in_order : List ℕ
     numbers_in_order = in_order rank (range_with_len 0 (item_count sort text))
 
-    all_refl : (xs : List ℕ) → AllByRecursion (λ n. rank n ≡ sort_key (item_keyer sort) a (entry n)) xs
+    all_refl : (xs : List ℕ)
+        → AllByRecursion (λ n. rank n ≡ sort_key (item_keyer sort) a (entry n)) xs
     all_refl [] = tt
     all_refl (x ∷ xs) = (refl, all_refl xs)
 
-    entries_are : in_order (sort_key (item_keyer sort) a) (item_entries sort text version) ≡ map entry numbers_in_order
+    entries_are : in_order (sort_key (item_keyer sort) a) (item_entries sort text version)
+        ≡ map entry numbers_in_order
     entries_are =
-        sym (map_in_order rank (sort_key (item_keyer sort) a) entry (range_with_len 0 (item_count sort text))
+        sym (map_in_order rank (sort_key (item_keyer sort) a) entry
+        (range_with_len 0 (item_count sort text))
         (all_refl (range_with_len 0 (item_count sort text))))
 
-    one_key_first : (n x y : ℕ) → x < y → have n x ≡ true → have n y ≡ true → goes_first rank x y ≡ true
+    one_key_first : (n x y : ℕ) → x < y → have n x ≡ true → have n y ≡ true
+        → goes_first rank x y ≡ true
     one_key_first n x y less has_x has_y =
-        one_key (item_keyer sort) a (key_prefix (item_key sort text n)) (item_key sort text n) (entry x) (entry y)
+        one_key (item_keyer sort) a (key_prefix (item_key sort text n)) (item_key sort text n)
+        (entry x) (entry y)
         (by_number a (entry x) (entry y) refl refl less) (has x has_x) (has y has_y)
       where
-        has : (z : ℕ) → have n z ≡ true → has_key (item_keyer sort) a (key_prefix (item_key sort text n)) (item_key sort text n) (entry z) ≡ true
+        has : (z : ℕ) → have n z ≡ true → has_key (item_keyer sort) a
+            (key_prefix (item_key sort text n)) (item_key sort text n) (entry z) ≡ true
         has z is =
-            ap (λ k. nat_eq (key_prefix (item_key sort text n)) (key_prefix (item_key sort text z)) && bytes_eq (item_key sort text n) k) (key_is z)
+            ap (λ k. nat_eq (key_prefix (item_key sort text n)) (key_prefix (item_key sort text z))
+            && bytes_eq (item_key sort text n) k) (key_is z)
             ∙ prefix_and_key (item_key sort text n) (item_key sort text z) ∙ is
 
-    numbers_kept : (n : ℕ) → filter (have n) numbers_in_order ≡ filter (have n) (range_with_len 0 (item_count sort text))
+    numbers_kept : (n : ℕ) → filter (have n) numbers_in_order
+        ≡ filter (have n) (range_with_len 0 (item_count sort text))
     numbers_kept n =
         filter_kept rank (have n) (range_with_len 0 (item_count sort text))
-        (range_ordered (λ x y. have n x ≡ true → have n y ≡ true → goes_first rank x y ≡ true) (one_key_first n)
+        (range_ordered (λ x y. have n x ≡ true → have n y ≡ true → goes_first rank x y ≡ true)
+        (one_key_first n)
         0 (item_count sort text))
 
     begins_all : (ns : List ℕ) → Begins true [] ns
     begins_all [] = tt
     begins_all (n ∷ ns) = refl
 
-    pub laid_is : (entries : List Entry) → entries ≡ in_order (sort_key (item_keyer sort) a) (item_entries sort text version)
-        → (links : List Link) → length links ≡ item_count sort text → with_each sort text true entries links ≡ links_of sort text
+    pub laid_is : (entries : List Entry)
+        → entries ≡ in_order (sort_key (item_keyer sort) a) (item_entries sort text version)
+        → (links : List Link) → length links ≡ item_count sort text
+        → with_each sort text true entries links ≡ links_of sort text
     unfolding links_of
     laid_is entries is links size =
         let count = item_count sort text in
         let d : Link = record { next = 0; first = true } in
         let ns = numbers_in_order in
         let right : AreRight true ns =
-        are_right ns (in_order_sorted rank (range_with_len 0 count)) numbers_kept [] ns true refl (begins_all ns) in
+        are_right ns (in_order_sorted rank (range_with_len 0 count)) numbers_kept
+        [] ns true refl (begins_all ns) in
         let within : AllByRecursion (λ n. n < length links) ns =
         all_in_order rank (λ n. n < length links) (range_with_len 0 count)
         (range_below 0 count (length links) (omega (arith, size))) in
-        let each : AllByRecursion (λ n. get_or (set_all true ns links) n d ≡ link_of sort text n) (range_with_len 0 count) =
-        all_back (λ n. get_or (set_all true ns links) n d ≡ link_of sort text n) rank (range_with_len 0 count)
+        let each : AllByRecursion (λ n. get_or (set_all true ns links) n d ≡ link_of sort text n)
+        (range_with_len 0 count) =
+        all_back (λ n. get_or (set_all true ns links) n d ≡ link_of sort text n) rank
+        (range_with_len 0 count)
         (all_set d true ns links right within) in
         ap (λ es. with_each sort text true es links) (is ∙ entries_are)
-        ∙ fill_by_all (link_of sort text) (set_all true ns links) count d (length_set_all true ns links ∙ size)
+        ∙ fill_by_all (link_of sort text) (set_all true ns links) count d
+        (length_set_all true ns links ∙ size)
         (λ k below.
-        subst (λ n. get_or (set_all true ns links) n d ≡ link_of sort text n) (at_number count k below)
-        (at_place (λ n. get_or (set_all true ns links) n d ≡ link_of sort text n) (range_with_len 0 count) each k 0
+        subst (λ n. get_or (set_all true ns links) n d ≡ link_of sort text n)
+        (at_number count k below)
+        (at_place (λ n. get_or (set_all true ns links) n d ≡ link_of sort text n)
+        (range_with_len 0 count) each k 0
         (omega (arith, below, length-range_with_len 0 count))))
 
-    pub numbers_within : (entries : List Entry) → entries ≡ in_order (sort_key (item_keyer sort) a) (item_entries sort text version)
+    pub numbers_within : (entries : List Entry)
+        → entries ≡ in_order (sort_key (item_keyer sort) a) (item_entries sort text version)
         → AllByRecursion (λ (e : Entry). e.number < item_count sort text) entries
     numbers_within entries is =
         subst (AllByRecursion (λ (e : Entry). e.number < item_count sort text)) (sym is)
-        (all_in_order (sort_key (item_keyer sort) a) (λ (e : Entry). e.number < item_count sort text) (item_entries sort text version)
-        (each_below (range_with_len 0 (item_count sort text)) (range_below 0 (item_count sort text) (item_count sort text) (omega arith))))
+        (all_in_order (sort_key (item_keyer sort) a)
+        (λ (e : Entry). e.number < item_count sort text) (item_entries sort text version)
+        (each_below (range_with_len 0 (item_count sort text))
+        (range_below 0 (item_count sort text) (item_count sort text) (omega arith))))
       where
         each_below : (ns : List ℕ) → AllByRecursion (λ n. n < item_count sort text) ns
             → AllByRecursion (λ (e : Entry). e.number < item_count sort text) (map entry ns)
         each_below [] all = tt
         each_below (n ∷ ns) all = (all.0, each_below ns all.1)
 
-    pub entry_count : (entries : List Entry) → entries ≡ in_order (sort_key (item_keyer sort) a) (item_entries sort text version)
+    pub entry_count : (entries : List Entry)
+        → entries ≡ in_order (sort_key (item_keyer sort) a) (item_entries sort text version)
         → length entries ≡ item_count sort text
     entry_count entries is =
-        ap length is ∙ length_in_order (sort_key (item_keyer sort) a) (item_entries sort text version)
-        ∙ length-map (range_with_len 0 (item_count sort text)) entry ∙ length-range_with_len 0 (item_count sort text)
+        ap length is
+        ∙ length_in_order (sort_key (item_keyer sort) a) (item_entries sort text version)
+        ∙ length-map (range_with_len 0 (item_count sort text)) entry
+        ∙ length-range_with_len 0 (item_count sort text)

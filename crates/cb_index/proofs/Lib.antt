@@ -10,6 +10,7 @@ pub mod FactLemmas
 pub mod FewerLemmas
 pub mod FirstLemmas
 pub mod FrontLemmas
+pub mod HeldRowLemmas
 pub mod InOrderLemmas
 pub mod IncludeLemmas
 pub mod IndexLemmas
@@ -28,6 +29,7 @@ pub mod RestLemmas
 pub mod RiseLemmas
 pub mod RowLemmas
 pub mod RowOrderLemmas
+pub mod RowsAscendLemmas
 pub mod RunLemmas
 pub mod SearchLemmas
 pub mod SortLemmas

@@ -1,5 +1,7 @@
 -- The list of the versions that are shown.
-use Rattle.std.proofs.Common.{◌≡◌, ◌∙◌, ◌≤◌, ◌<◌, ◌+◌, ℕ, zero, suc, Bool, true, false, List, [], ◌∷◌, ◌++◌, refl, sym, ap, append-nil, subst, length, get_or, cond, arith, ⊎_elim}
+use Rattle.std.proofs.Common.{◌≡◌, ◌∙◌, ◌≤◌, ◌<◌, ◌+◌, ℕ, zero, suc, Bool, true, false, List, []}
+use Rattle.std.proofs.Common.{◌∷◌, ◌++◌, refl, sym, ap, append-nil, subst, length, get_or, cond}
+use Rattle.std.proofs.Common.{arith, ⊎_elim}
 use Rattle.std.proofs.lemmas.Bool.{and_parts, cases_Bool, true≢false, false≢true}
 use Rattle.std.proofs.lemmas.Bool.Decides.{nat_tests}
 use Rattle.std.proofs.lemmas.Cmp.{nat_list_cmp_total, tied_itself}
@@ -8,7 +10,8 @@ use Rattle.std.proofs.lemmas.Map.Text.{is_eq-slice_cmp}
 use Rattle.std.proofs.lemmas.Slice.Eq.{bytes_eq-Decides}
 use Rattle.std.specs.Prelude.{nat_lt, not, sum_by, ◌||◌, ◌&&◌}
 use Rattle.std.specs.Cmp.Lexicographic.{slice_cmp}
-use Rattle.std.specs.List.{AllAdjacentBelow, IsAllAdjacentAnswer, AllByRecursion, AllWithin, list_all, list_any}
+use Rattle.std.specs.List.{AllAdjacentBelow, IsAllAdjacentAnswer, AllByRecursion, AllWithin}
+use Rattle.std.specs.List.{list_all, list_any}
 use Rattle.std.specs.Ordering.{is_eq, is_gt, is_lt, nat_cmp, ordering_then}
 use Rattle.std.specs.Str.{bytes_eq}
 use Rattle.std.specs.declared.cmp.Ordering.{Ordering}
@@ -23,7 +26,8 @@ use Rattle.cb_index.specs.Archived.{Archived, name_of}
 use Rattle.cb_index.specs.Files.{AreApart, AreAscending, IsThere, is_shown, shown_key, shown_name}
 use Rattle.cb_index.specs.declared.entry.Shown.{Shown}
 use Rattle.cb_index.proofs.InOrderLemmas.{in_order_agree, same_order}
-use Rattle.cb_index.proofs.AscendLemmas.{After, ascending_put, ascending_sorted, before_all, others, split_or, strict}
+use Rattle.cb_index.proofs.AscendLemmas.{After, ascending_put, ascending_sorted, before_all, others}
+use Rattle.cb_index.proofs.AscendLemmas.{split_or, strict}
 
 abbrev Names : List ℕ → List ℕ → Ordering
 Names = slice_cmp nat_cmp
@@ -33,7 +37,8 @@ numbers s = s.name ∷ s.version ∷ []
 
 -- ---- two versions
 module _ (a : Archived) (s t : Shown) where
-  pub shown_cmp : ordering_then (Names (name_of a s.name) (name_of a t.name)) (Names (numbers s) (numbers t))
+  pub shown_cmp : ordering_then (Names (name_of a s.name) (name_of a t.name))
+      (Names (numbers s) (numbers t))
       ≡ Names (shown_key a s) (shown_key a t)
   shown_cmp = sym (ended (name_of a s.name) (name_of a t.name) (numbers s) (numbers t))
 
@@ -41,24 +46,34 @@ module _ (a : Archived) (s t : Shown) where
   pub shown_exact : shown_key a s ≡ shown_key a t → s ≡ t
   shown_exact same =
       let tied : Names (shown_key a s) (shown_key a t) ≡ Equal =
-      subst (λ x. Names (shown_key a s) x ≡ Equal) same (tied_itself nat_list_cmp_total (shown_key a s)) in
-      let first = both_equal (Names (name_of a s.name) (name_of a t.name)) (Names (numbers s) (numbers t)) (shown_cmp ∙ tied) in
+      subst (λ x. Names (shown_key a s) x ≡ Equal) same
+      (tied_itself nat_list_cmp_total (shown_key a s)) in
+      let first =
+      both_equal (Names (name_of a s.name) (name_of a t.name)) (Names (numbers s) (numbers t))
+      (shown_cmp ∙ tied) in
       let name = both_equal (nat_cmp s.name t.name) _ first.1 in
       let version = both_equal (nat_cmp s.version t.version) _ name.1 in
-      λ i. record { name = same_number s.name t.name name.0 i; version = same_number s.version t.version version.0 i }
+      λ i. record {
+        name = same_number s.name t.name name.0 i;
+        version = same_number s.version t.version version.0 i;
+      }
 
   -- of two that have not one file name the numbers say nothing
-  name_settles : bytes_eq (name_of a s.name) (name_of a t.name) ≡ false → goes_first (shown_key a) s t ≡ goes_first (shown_name a) s t
+  name_settles : bytes_eq (name_of a s.name) (name_of a t.name) ≡ false
+      → goes_first (shown_key a) s t ≡ goes_first (shown_name a) s t
   name_settles other = by_order (Names (name_of a s.name) (name_of a t.name)) refl
     where
       by_order : (o : Ordering) → Names (name_of a s.name) (name_of a t.name) ≡ o
           → goes_first (shown_key a) s t ≡ goes_first (shown_name a) s t
       by_order Less is =
-          ap (λ p. not (is_gt p)) (sym shown_cmp ∙ ap (λ p. ordering_then p (Names (numbers s) (numbers t))) is ∙ sym is)
+          ap (λ p. not (is_gt p))
+          (sym shown_cmp ∙ ap (λ p. ordering_then p (Names (numbers s) (numbers t))) is ∙ sym is)
       by_order Equal is =
-          absurd (true≢false (sym (sym (is_eq-slice_cmp (name_of a s.name) (name_of a t.name)) ∙ ap is_eq is) ∙ other))
+          absurd (true≢false
+          (sym (sym (is_eq-slice_cmp (name_of a s.name) (name_of a t.name)) ∙ ap is_eq is) ∙ other))
       by_order Greater is =
-          ap (λ p. not (is_gt p)) (sym shown_cmp ∙ ap (λ p. ordering_then p (Names (numbers s) (numbers t))) is ∙ sym is)
+          ap (λ p. not (is_gt p))
+          (sym shown_cmp ∙ ap (λ p. ordering_then p (Names (numbers s) (numbers t))) is ∙ sym is)
 
 -- ---- names that are apart
 pub bytes_other : (x y : List ℕ) → Names x y ≡ Less → bytes_eq x y ≡ false
@@ -66,7 +81,9 @@ bytes_other x y less = sym (is_eq-slice_cmp x y) ∙ ap is_eq less
 
 pub other_turned : (x y : List ℕ) → bytes_eq x y ≡ false → bytes_eq y x ≡ false
 other_turned x y isnt =
-    ⊎_elim (λ is. absurd (true≢false (sym ((bytes_eq-Decides x y).1 (sym ((bytes_eq-Decides y x).0 is))) ∙ isnt))) (λ is. is)
+    ⊎_elim (λ is.
+    absurd (true≢false (sym ((bytes_eq-Decides x y).1 (sym ((bytes_eq-Decides y x).0 is))) ∙ isnt)))
+    (λ is. is)
     (cases_Bool (bytes_eq y x))
 
 module _ (a : Archived) where
@@ -74,39 +91,48 @@ module _ (a : Archived) where
   IsApart s t = bytes_eq (name_of a s.name) (name_of a t.name) ≡ false
 
   all_settled : (s : Shown) (shown : List Shown) → AllByRecursion (IsApart s) shown
-      → AllByRecursion (λ (t : Shown). goes_first (shown_key a) s t ≡ goes_first (shown_name a) s t) shown
+      → AllByRecursion
+      (λ (t : Shown). goes_first (shown_key a) s t ≡ goes_first (shown_name a) s t) shown
   all_settled s [] apart = tt
   all_settled s (t ∷ shown) apart = (name_settles a s t apart.0, all_settled s shown apart.1)
 
   settled : (shown : List Shown) → AreApart a shown
-      → AreOrdered (λ (s t : Shown). goes_first (shown_key a) s t ≡ goes_first (shown_name a) s t) shown
+      → AreOrdered
+      (λ (s t : Shown). goes_first (shown_key a) s t ≡ goes_first (shown_name a) s t) shown
   unfolding AreOrdered
   settled [] apart = tt
   settled (s ∷ shown) apart = (all_settled s shown apart.0, settled shown apart.1)
 
   -- they are in one order by name alone and with their numbers
-  pub order_by_name : (shown : List Shown) → AreApart a shown → in_order (shown_key a) shown ≡ in_order (shown_name a) shown
-  order_by_name shown apart = in_order_agree (shown_key a) (shown_name a) shown (settled shown apart)
+  pub order_by_name : (shown : List Shown) → AreApart a shown
+      → in_order (shown_key a) shown ≡ in_order (shown_name a) shown
+  order_by_name shown apart =
+      in_order_agree (shown_key a) (shown_name a) shown (settled shown apart)
 
   -- in order their names ascend
-  pub ascending_in_order : (shown : List Shown) → AreApart a shown → AreAscending a (in_order (shown_name a) shown)
+  pub ascending_in_order : (shown : List Shown) → AreApart a shown
+      → AreAscending a (in_order (shown_name a) shown)
   unfolding in_order AreOrdered
   ascending_in_order [] apart = tt
   ascending_in_order (s ∷ shown) apart =
-      ascending_put a s (in_order (shown_name a) shown) (all_in_order (shown_name a) (IsApart s) shown apart.0)
+      ascending_put a s (in_order (shown_name a) shown)
+      (all_in_order (shown_name a) (IsApart s) shown apart.0)
       (ascending_in_order shown apart.1)
 
   -- ---- old and new ones
-  later_apart : (s : Shown) (shown : List Shown) → AllByRecursion (After a s s) shown → AllByRecursion (IsApart s) shown
+  later_apart : (s : Shown) (shown : List Shown) → AllByRecursion (After a s s) shown
+      → AllByRecursion (IsApart s) shown
   later_apart s [] up = tt
-  later_apart s (t ∷ shown) up = (bytes_other (name_of a s.name) (name_of a t.name) up.0, later_apart s shown up.1)
+  later_apart s (t ∷ shown) up =
+      (bytes_other (name_of a s.name) (name_of a t.name) up.0, later_apart s shown up.1)
 
   pub ascending_apart : (shown : List Shown) → AreAscending a shown → AreApart a shown
   unfolding AreOrdered
   ascending_apart [] up = tt
   ascending_apart (s ∷ shown) up = (later_apart s shown up.0, ascending_apart shown up.1)
 
-  pub none_shown : (old news : List Shown) → list_any (is_shown a old) news ≡ false → AllByRecursion (λ n. AllByRecursion (IsApart n) old) news
+  pub none_shown : (old news : List Shown) → list_any (is_shown a old) news ≡ false
+      → AllByRecursion (λ n. AllByRecursion (IsApart n) old) news
   none_shown old [] none = tt
   none_shown old (n ∷ news) none =
       let parts = split_or a n (is_shown a old n) (list_any (is_shown a old) news) none in
@@ -118,35 +144,45 @@ module _ (a : Archived) where
   apart_append [] news front back across = back
   apart_append (s ∷ old) news front back across = (
     all-append (IsApart s) old news front.0
-        (all_implied (λ n. AllByRecursion (IsApart n) (s ∷ old)) (IsApart s) (λ n is. other_turned (name_of a n.name) (name_of a s.name) is.0) news across),
+        (all_implied (λ n. AllByRecursion (IsApart n) (s ∷ old)) (IsApart s)
+        (λ n is. other_turned (name_of a n.name) (name_of a s.name) is.0) news across),
     apart_append old news front.1 back
-        (all_implied (λ n. AllByRecursion (IsApart n) (s ∷ old)) (λ n. AllByRecursion (IsApart n) old) (λ n is. is.1) news across),
+        (all_implied (λ n. AllByRecursion (IsApart n) (s ∷ old))
+        (λ n. AllByRecursion (IsApart n) old) (λ n is. is.1) news across),
   )
 
   -- no file name stands twice among those that are shown and those that can be
-  pub apart_both : (old news : List Shown) → AreAscending a old → AreApart a news → list_any (is_shown a old) news ≡ false
+  pub apart_both : (old news : List Shown) → AreAscending a old → AreApart a news
+      → list_any (is_shown a old) news ≡ false
       → AreApart a (old ++ news)
-  apart_both old news up apart none = apart_append old news (ascending_apart old up) apart (none_shown old news none)
+  apart_both old news up apart none =
+      apart_append old news (ascending_apart old up) apart (none_shown old news none)
 
   still : (xs : List Shown) → Sorted (shown_name a) xs → in_order (shown_name a) xs ≡ xs
   unfolding in_order AreOrdered put
   still [] sorted = refl
   still (x ∷ xs) sorted = ap (put (shown_name a) x) (still xs sorted.1) ∙ first_put x xs sorted.0
     where
-      first_put : (x : Shown) (xs : List Shown) → AllByRecursion (λ y. goes_first (shown_name a) x y ≡ true) xs → put (shown_name a) x xs ≡ x ∷ xs
+      first_put : (x : Shown) (xs : List Shown)
+          → AllByRecursion (λ y. goes_first (shown_name a) x y ≡ true) xs
+          → put (shown_name a) x xs ≡ x ∷ xs
       first_put x [] all = refl
       first_put x (y ∷ ys) all = ap (λ b. cond b (x ∷ y ∷ ys) (y ∷ put (shown_name a) x ys)) all.0
 
   -- none more leaves all as they are
-  pub none_more : (old : List Shown) → AreAscending a old → old ≡ in_order (shown_name a) (old ++ [])
-  none_more old up = sym (ap (in_order (shown_name a)) (append-nil old) ∙ still old (ascending_sorted a old up))
+  pub none_more : (old : List Shown) → AreAscending a old
+      → old ≡ in_order (shown_name a) (old ++ [])
+  none_more old up =
+      sym (ap (in_order (shown_name a)) (append-nil old) ∙ still old (ascending_sorted a old up))
 
   -- one version more is in order where it is put
-  module _ (old : List Shown) (s : Shown) (up : AreAscending a old) (apart : AreApart a (old ++ s ∷ [])) where
+  module _ (old : List Shown) (s : Shown) (up : AreAscending a old)
+      (apart : AreApart a (old ++ s ∷ [])) where
     from_last : (xs : List Shown) → AreApart a (xs ++ s ∷ []) → AllByRecursion (IsApart s) xs
     unfolding AreOrdered
     from_last [] is = tt
-    from_last (x ∷ xs) is = (other_turned (name_of a x.name) (name_of a s.name) (at_end xs is.0), from_last xs is.1)
+    from_last (x ∷ xs) is =
+        (other_turned (name_of a x.name) (name_of a s.name) (at_end xs is.0), from_last xs is.1)
       where
         at_end : (ys : List Shown) → AllByRecursion (IsApart x) (ys ++ s ∷ []) → IsApart x s
         at_end [] all = all.0
@@ -190,66 +226,84 @@ module _ (a : Archived) (s : Shown) where
   abbrev is_above : Shown → Bool
   is_above t = is_gt (Names (name_of a s.name) (name_of a t.name))
 
-  none_after : (shown : List Shown) → AllByRecursion (After a s s) shown → list_any is_here shown ≡ false
+  none_after : (shown : List Shown) → AllByRecursion (After a s s) shown
+      → list_any is_here shown ≡ false
   none_after [] up = refl
   none_after (t ∷ shown) up =
-      ap (λ b. b || list_any is_here shown) (bytes_other (name_of a s.name) (name_of a t.name) up.0) ∙ none_after shown up.1
+      ap (λ b. b || list_any is_here shown) (bytes_other (name_of a s.name) (name_of a t.name) up.0)
+      ∙ none_after shown up.1
 
   -- what stands at the place of a name settles whether the name is there
   pub here_is : (n : ℕ) (shown : List Shown) (d : Shown) → n < length shown → AreAscending a shown
-      → AllWithin (λ t. is_above t ≡ true) shown 0 n → AllWithin (λ t. is_above t ≡ false) shown n (length shown)
+      → AllWithin (λ t. is_above t ≡ true) shown 0 n
+      → AllWithin (λ t. is_above t ≡ false) shown n (length shown)
       → is_here (get_or shown n d) ≡ list_any is_here shown
   unfolding AreOrdered
   here_is n [] d within up before after = absurd (omega (arith, within))
   here_is zero (t ∷ shown) d within up before after =
       ⊎_elim (λ is. is ∙ sym (ap (λ b. b || list_any is_here shown) is))
       (λ isnt.
-      let less = strict a s (name_of a s.name) (name_of a t.name) (ap not (after 0 t (omega arith) (omega arith))) isnt in
-      isnt ∙ sym (ap (λ b. b || list_any is_here shown) isnt ∙ none_after shown (before_all a s t shown less up.0)))
+      let less =
+      strict a s (name_of a s.name) (name_of a t.name)
+      (ap not (after 0 t (omega arith) (omega arith))) isnt in
+      isnt ∙ sym (ap (λ b. b || list_any is_here shown) isnt
+      ∙ none_after shown (before_all a s t shown less up.0)))
       (cases_Bool (is_here t))
   here_is (suc n) (t ∷ shown) d within up before after =
       here_is n shown d (omega (arith, within)) up.1
       (λ k e low below. before (suc k) e (omega arith) (omega (arith, below)))
       (λ k e low below. after (suc k) e (omega (arith, low)) (omega (arith, below)))
       ∙ sym (ap (λ b. b || list_any is_here shown)
-      (greater_other (name_of a s.name) (name_of a t.name) (before 0 t (omega arith) (omega arith))))
+      (greater_other (name_of a s.name) (name_of a t.name)
+      (before 0 t (omega arith) (omega arith))))
 
   -- where all go before the name it is not there
-  pub none_here : (n : ℕ) (shown : List Shown) → length shown ≤ n → AllWithin (λ t. is_above t ≡ true) shown 0 n
+  pub none_here : (n : ℕ) (shown : List Shown) → length shown ≤ n
+      → AllWithin (λ t. is_above t ≡ true) shown 0 n
       → list_any is_here shown ≡ false
   none_here n [] past before = refl
   none_here zero (t ∷ shown) past before = absurd (omega (arith, past))
   none_here (suc n) (t ∷ shown) past before =
       ap (λ b. b || list_any is_here shown)
       (greater_other (name_of a s.name) (name_of a t.name) (before 0 t (omega arith) (omega arith)))
-      ∙ none_here n shown (omega (arith, past)) (λ k e low below. before (suc k) e (omega arith) (omega (arith, below)))
+      ∙ none_here n shown (omega (arith, past))
+      (λ k e low below. before (suc k) e (omega arith) (omega (arith, below)))
 
 -- ---- numbers that are there
 module _ (a : Archived) where
   pub there_if : (shown : List Shown)
-      → list_all (λ (s : Shown). nat_lt s.name (length a.names) && nat_lt s.version (length a.texts)) shown ≡ true
+      → list_all (λ (s : Shown).
+      nat_lt s.name (length a.names) && nat_lt s.version (length a.texts)) shown ≡ true
       → AllByRecursion (IsThere a) shown
   there_if [] all = tt
   there_if (s ∷ shown) all =
-      let parts = and_parts (nat_lt s.name (length a.names) && nat_lt s.version (length a.texts)) _ all in
-      let here = and_parts (nat_lt s.name (length a.names)) (nat_lt s.version (length a.texts)) parts.0 in
-      ((less s.name (length a.names) here.0, less s.version (length a.texts) here.1), there_if shown parts.1)
+      let parts =
+      and_parts (nat_lt s.name (length a.names) && nat_lt s.version (length a.texts)) _ all in
+      let here =
+      and_parts (nat_lt s.name (length a.names)) (nat_lt s.version (length a.texts)) parts.0 in (
+        (less s.name (length a.names) here.0, less s.version (length a.texts) here.1),
+        there_if shown parts.1,
+      )
     where
       less : (x y : ℕ) → nat_lt x y ≡ true → x < y
       less x y is = grind (arith, nat_tests)
 
   -- neighbours whose names ascend
   pub ascending_if : (shown : List Shown)
-      → AllAdjacentBelow (λ (s t : Shown). true ≡ is_lt (Names (name_of a s.name) (name_of a t.name))) shown (length shown)
+      → AllAdjacentBelow (λ (s t : Shown).
+      true ≡ is_lt (Names (name_of a s.name) (name_of a t.name))) shown (length shown)
       → AreAscending a shown
   unfolding AreOrdered
   ascending_if [] up = tt
   ascending_if (s ∷ []) up = (tt, tt)
   ascending_if (s ∷ t ∷ shown) up =
-      let later : AreAscending a (t ∷ shown) = ascending_if (t ∷ shown) (λ k d below. let step : suc k + 1 ≡ suc (k + 1) = omega arith in
-      subst (λ m. true ≡ is_lt (Names (name_of a (get_or (t ∷ shown) k d).name) (name_of a (get_or (s ∷ t ∷ shown) m d).name)))
+      let later : AreAscending a (t ∷ shown) =
+      ascending_if (t ∷ shown) (λ k d below. let step : suc k + 1 ≡ suc (k + 1) = omega arith in
+      subst (λ m. true ≡ is_lt (Names (name_of a (get_or (t ∷ shown) k d).name)
+      (name_of a (get_or (s ∷ t ∷ shown) m d).name)))
       step (up (suc k) d (omega (arith, below)))) in
-      let first = less_if (Names (name_of a s.name) (name_of a t.name)) (sym (up 0 s (omega arith))) in
+      let first =
+      less_if (Names (name_of a s.name) (name_of a t.name)) (sym (up 0 s (omega arith))) in
       ((first, before_all a s t shown first later.0), later)
     where
       less_if : (o : Ordering) → is_lt o ≡ true → o ≡ Less
@@ -258,35 +312,44 @@ module _ (a : Archived) where
       less_if Greater is = absurd (false≢true is)
 
   -- and the other way round
-  pub ascending_at : (shown : List Shown) → AreAscending a shown → (k : ℕ) (d : Shown) → k + 1 < length shown
-      → is_lt (Names (name_of a (get_or shown k d).name) (name_of a (get_or shown (k + 1) d).name)) ≡ true
+  pub ascending_at : (shown : List Shown) → AreAscending a shown → (k : ℕ) (d : Shown)
+      → k + 1 < length shown
+      → is_lt (Names (name_of a (get_or shown k d).name) (name_of a (get_or shown (k + 1) d).name))
+      ≡ true
   unfolding AreOrdered
   ascending_at [] up k d below = absurd (omega (arith, below))
   ascending_at (s ∷ []) up k d below = absurd (omega (arith, below))
   ascending_at (s ∷ t ∷ shown) up zero d below = ap is_lt up.0.0
   ascending_at (s ∷ t ∷ shown) up (suc k) d below =
       let step : suc k + 1 ≡ suc (k + 1) = omega arith in
-      subst (λ m. is_lt (Names (name_of a (get_or (t ∷ shown) k d).name) (name_of a (get_or (s ∷ t ∷ shown) m d).name)) ≡ true) (sym step)
+      subst (λ m. is_lt (Names (name_of a (get_or (t ∷ shown) k d).name)
+      (name_of a (get_or (s ∷ t ∷ shown) m d).name)) ≡ true) (sym step)
       (ascending_at (t ∷ shown) up.1 k d (omega (arith, below)))
 
   pub ascending_answer : (news : List Shown) (b : Bool) → AreAscending a news
-      → IsAllAdjacentAnswer (λ (s t : Shown) r. r ≡ is_lt (Names (name_of a s.name) (name_of a t.name))) news b → b ≡ true
+      → IsAllAdjacentAnswer
+      (λ (s t : Shown) r. r ≡ is_lt (Names (name_of a s.name) (name_of a t.name))) news b → b ≡ true
   ascending_answer news true up answer = refl
   ascending_answer news false up answer =
       let none : Shown = record { name = 0; version = 0 } in
       absurd (false≢true (answer.2 none ∙ ascending_at news up answer.0 none answer.1))
 
   pub there_is : (news : List Shown) → AllByRecursion (IsThere a) news
-      → list_all (λ (s : Shown). nat_lt s.name (length a.names) && nat_lt s.version (length a.texts)) news ≡ true
+      → list_all (λ (s : Shown).
+      nat_lt s.name (length a.names) && nat_lt s.version (length a.texts)) news ≡ true
   there_is [] all = refl
   there_is (s ∷ news) all =
-      both (nat_lt s.name (length a.names)) (nat_lt s.version (length a.texts)) (less s.name (length a.names) all.0.0) (less s.version (length a.texts) all.0.1) (there_is news all.1)
+      both (nat_lt s.name (length a.names)) (nat_lt s.version (length a.texts))
+      (less s.name (length a.names) all.0.0) (less s.version (length a.texts) all.0.1)
+      (there_is news all.1)
     where
       less : (x y : ℕ) → x < y → nat_lt x y ≡ true
       less x y is = grind (arith, nat_tests, is)
 
-      both : (p q : Bool) → p ≡ true → q ≡ true → list_all (λ (s : Shown). nat_lt s.name (length a.names) && nat_lt s.version (length a.texts)) news ≡ true
-          → ((p && q) && list_all (λ (s : Shown). nat_lt s.name (length a.names) && nat_lt s.version (length a.texts)) news) ≡ true
+      both : (p q : Bool) → p ≡ true → q ≡ true → list_all (λ (s : Shown).
+          nat_lt s.name (length a.names) && nat_lt s.version (length a.texts)) news ≡ true
+          → ((p && q) && list_all (λ (s : Shown).
+          nat_lt s.name (length a.names) && nat_lt s.version (length a.texts)) news) ≡ true
       both true true is-p is-q later = later
       both true false is-p is-q later = absurd (false≢true is-q)
       both false q is-p is-q later = absurd (false≢true is-p)

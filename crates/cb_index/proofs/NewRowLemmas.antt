@@ -1,5 +1,7 @@
 -- A key has as many rows as items that are no repeats.
-use Rattle.std.proofs.Common.{◌≡◌, ◌∙◌, ◌-◌, ◌<◌, ◌≤◌, ◌^◌, ℕ, zero, suc, Bool, true, false, not, ◌&&◌, ◌||◌, List, [], ◌∷◌, ◌++◌, refl, sym, ap, length, map, filter, arith}
+use Rattle.std.proofs.Common.{◌≡◌, ◌∙◌, ◌-◌, ◌<◌, ◌≤◌, ◌^◌, ℕ, zero, suc, Bool, true, false, not}
+use Rattle.std.proofs.Common.{◌&&◌, ◌||◌, List, [], ◌∷◌, ◌++◌, refl, sym, ap, length, map, filter}
+use Rattle.std.proofs.Common.{arith}
 use Rattle.std.proofs.lemmas.Bool.{false_from_ne_true, true≢false}
 use Rattle.std.proofs.lemmas.List.{length-map}
 use Rattle.std.proofs.lemmas.List.Filters.{length-filter_both}
@@ -25,20 +27,24 @@ use Rattle.cb_index.proofs.RepeatLemmas.{and_false}
 -- ---- lists
 module _ {X : Type 0} (p : X → Bool) where
   -- what is kept of what is kept
-  twice : (q s : X → Bool) → ((x : X) → s x ≡ (p x && q x)) → (xs : List X) → filter s xs ≡ filter p (filter q xs)
+  twice : (q s : X → Bool) → ((x : X) → s x ≡ (p x && q x)) → (xs : List X)
+      → filter s xs ≡ filter p (filter q xs)
   twice q s both [] = refl
   twice q s both (x ∷ xs) =
       let later = twice q s both xs in
       ap (λ b. cond b (x ∷ filter s xs) (filter s xs)) (both x)
-      ∙ (elim (q x) as (λ b. cond (p x && b) (x ∷ filter s xs) (filter s xs) ≡ filter p (cond b (x ∷ filter q xs) (filter q xs))) [
-        | true ↦ elim (p x) as (λ a. cond (a && true) (x ∷ filter s xs) (filter s xs) ≡ cond a (x ∷ filter p (filter q xs)) (filter p (filter q xs))) [
-          | true ↦ ap (λ l. x ∷ l) later
-          | false ↦ later
-        ]
-        | false ↦ elim (p x) as (λ a. cond (a && false) (x ∷ filter s xs) (filter s xs) ≡ filter p (filter q xs)) [
-          | true ↦ later
-          | false ↦ later
-        ]
+      ∙ (elim (q x) as (λ b. cond (p x && b) (x ∷ filter s xs) (filter s xs)
+      ≡ filter p (cond b (x ∷ filter q xs) (filter q xs))) [
+        | true ↦ elim (p x) as (λ a. cond (a && true) (x ∷ filter s xs) (filter s xs)
+            ≡ cond a (x ∷ filter p (filter q xs)) (filter p (filter q xs))) [
+              | true ↦ ap (λ l. x ∷ l) later
+              | false ↦ later
+            ]
+        | false ↦ elim (p x) as
+            (λ a. cond (a && false) (x ∷ filter s xs) (filter s xs) ≡ filter p (filter q xs)) [
+              | true ↦ later
+              | false ↦ later
+            ]
       ])
 
 -- ---- the rows that are those of none before
@@ -46,7 +52,8 @@ module _ (sort : FactKind) where
   abbrev unseen : List Fact → Fact → Bool
   unseen seen f = not (has_row sort seen f)
 
-  unseen_more : (seen : List Fact) (f g : Fact) → unseen (seen ++ f ∷ []) g ≡ (unseen seen g && not (same_row sort f g))
+  unseen_more : (seen : List Fact) (f g : Fact)
+      → unseen (seen ++ f ∷ []) g ≡ (unseen seen g && not (same_row sort f g))
   unseen_more seen f g =
       ap not (list_any-append (λ h. same_row sort h g) seen (f ∷ []))
       ∙ by_cases (has_row sort seen g) (same_row sort f g)
@@ -62,8 +69,10 @@ module _ (sort : FactKind) where
   fresh_unseen seen (f ∷ fs) =
       ap (λ l. cond (has_row sort seen f) l (f ∷ l))
       (fresh_unseen (seen ++ f ∷ []) fs
-      ∙ twice (unseen seen) (λ g. not (same_row sort f g)) (unseen (seen ++ f ∷ [])) (unseen_more seen f) (unlike sort fs))
-      ∙ by_cases (has_row sort seen f) (filter (unseen seen) (filter (λ g. not (same_row sort f g)) (unlike sort fs)))
+      ∙ twice (unseen seen) (λ g. not (same_row sort f g)) (unseen (seen ++ f ∷ []))
+      (unseen_more seen f) (unlike sort fs))
+      ∙ by_cases (has_row sort seen f)
+      (filter (unseen seen) (filter (λ g. not (same_row sort f g)) (unlike sort fs)))
     where
       by_cases : (b : Bool) (gs : List Fact) → cond b gs (f ∷ gs) ≡ cond (not b) (f ∷ gs) gs
       by_cases true gs = refl
@@ -87,7 +96,8 @@ none_below p (suc n) none =
 
 module _ (file : List ℕ) (sort : FactKind) (text : List ℕ) where
   -- all items of one key are few
-  pub key_few : (item : ℕ) → length (key_facts sort text item) ≤ suc (item_count sort text - suc item)
+  pub key_few : (item : ℕ)
+      → length (key_facts sort text item) ≤ suc (item_count sort text - suc item)
   unfolding later
   key_few item =
       let has = have_one_key sort text item in

@@ -1,6 +1,7 @@
 -- Repeats that are found by a table are those of all items.
 use Rattle.std.proofs.Common.{◌≡◌, ◌≢◌, ◌∙◌, ◌<◌, ◌≤◌, ℕ, zero, suc, Bool, true, false}
-use Rattle.std.proofs.Common.{List, [], length, map, get_or, set, refl, sym, ap, subst, arith, ⊎_elim}
+use Rattle.std.proofs.Common.{List, [], length, map, get_or, set, refl, sym, ap, subst, arith}
+use Rattle.std.proofs.Common.{⊎_elim}
 use Rattle.std.proofs.Common.{◌⊎◌, inl, inr}
 use Rattle.std.specs.Prelude.{◌&&◌, ◌||◌, cond, not, nat_eq, slice_get, Option, Some, None}
 use Rattle.std.specs.Option.{option_map}
@@ -284,7 +285,8 @@ module _ (sort : FactKind) (text : List ℕ) where
   -- an entry of the table, after an item was chained and before it is in front of its place
   pub record IsHalf (i k : ℕ) (e : Entry) : Type 0 where
     pub head : e.version ≡ last_at sort text k i
-    pub behind : k ≤ i → is_repeat sort text k ≡ false → e.name ≡ last_at sort text (row_place sort text k) k
+    pub behind : k ≤ i → is_repeat sort text k ≡ false
+        → e.name ≡ last_at sort text (row_place sort text k) k
 
   module _ (i : ℕ) (below : i < n) (none : repeat i ≡ false) (es : List Entry)
       (seen : AreSeen sort text i es) (own : Entry) (own_is : IsSeen sort text i i own)
@@ -330,7 +332,8 @@ module _ (sort : FactKind) (text : List ℕ) where
               → IsSeen sort text (suc i) k (get_or (set (set es i chained) p headed) k d)
           either k d within (inl same) =
               let here : stands p i ≡ true =
-              ap (λ b. b && not (repeat i)) ((Decides-eqb (place i) p).1 (sym p_is)) ∙ ap not none in
+              ap (λ b. b && not (repeat i)) ((Decides-eqb (place i) p).1 (sym p_is))
+              ∙ ap not none in
               subst (λ j. IsSeen sort text (suc i) j (get_or (set (set es i chained) p headed) j d))
               (sym same)
               (subst (IsSeen sort text (suc i) p)

@@ -1,5 +1,6 @@
 -- The items of a version that have entries ascend by number.
-use Rattle.std.proofs.Common.{◌<◌, ℕ, zero, suc, Bool, true, false, List, [], ◌∷◌, Some, None, map, filter, subst, sym, arith}
+use Rattle.std.proofs.Common.{◌<◌, ℕ, zero, suc, Bool, true, false, List, [], ◌∷◌, Some, None, map}
+use Rattle.std.proofs.Common.{filter, subst, sym, arith}
 use Rattle.std.specs.Prelude.{Option, cond}
 use Rattle.std.specs.List.{AllByRecursion, range_with_len}
 use Rattle.cb_scan.specs.Definitions.{facts_of}
@@ -7,19 +8,22 @@ use Rattle.cb_scan.specs.Order.{AreOrdered}
 use Rattle.cb_index.specs.Firsts.{listed}
 use Rattle.cb_index.specs.Held.{AreRising, Listed}
 use Rattle.cb_index.specs.Items.{is_first, item_count}
-use Rattle.cb_index.specs.Orders.{def_prefix, defs_listed, firsts_in, numbered, tag_prefix, tags_listed}
+use Rattle.cb_index.specs.Orders.{def_prefix, defs_listed, firsts_in, numbered, tag_prefix}
+use Rattle.cb_index.specs.Orders.{tags_listed}
 use Rattle.cb_index.specs.declared.kind.FactKind.{FactKind}
 use Rattle.cb_index.proofs.RangeItems.{range_next}
 
 -- ---- definitions: each has an entry
-above : (least number : ℕ) (ps : List ℕ) → least < number → AllByRecursion (λ (j : Listed). least < j.number) (numbered number ps)
+above : (least number : ℕ) (ps : List ℕ) → least < number
+    → AllByRecursion (λ (j : Listed). least < j.number) (numbered number ps)
 above least number [] low = tt
 above least number (p ∷ ps) low = (low, above least (suc number) ps (omega (arith, low)))
 
 numbered_rise : (number : ℕ) (ps : List ℕ) → AreRising (numbered number ps)
 unfolding AreOrdered
 numbered_rise number [] = tt
-numbered_rise number (p ∷ ps) = (above number (suc number) ps (omega arith), numbered_rise (suc number) ps)
+numbered_rise number (p ∷ ps) =
+    (above number (suc number) ps (omega arith), numbered_rise (suc number) ps)
 
 pub defs_rise : (t : Option (List ℕ)) → AreRising (defs_listed t)
 unfolding AreOrdered
@@ -34,15 +38,19 @@ tags_rise (Some text) = numbered_rise 0 (map (tag_prefix text) (facts_of text).d
 -- ---- uses and calls: the first of each key has one
 module _ (sort : FactKind) (text : List ℕ) (keeps : ℕ → Bool) where
   kept_above : (least n len : ℕ) → least < n
-      → AllByRecursion (λ (j : Listed). least < j.number) (map (listed sort text) (filter keeps (range_with_len n len)))
+      → AllByRecursion (λ (j : Listed). least < j.number)
+      (map (listed sort text) (filter keeps (range_with_len n len)))
   kept_above least n zero low = tt
   kept_above least n (suc len) low =
-      subst (λ l. AllByRecursion (λ (j : Listed). least < j.number) (map (listed sort text) (filter keeps l)))
+      subst (λ l.
+      AllByRecursion (λ (j : Listed). least < j.number) (map (listed sort text) (filter keeps l)))
       (sym (range_next n len)) (step (keeps n) (kept_above least (suc n) len (omega (arith, low))))
     where
-      step : (b : Bool) → AllByRecursion (λ (j : Listed). least < j.number) (map (listed sort text) (filter keeps (range_with_len (suc n) len)))
+      step : (b : Bool) → AllByRecursion (λ (j : Listed). least < j.number)
+          (map (listed sort text) (filter keeps (range_with_len (suc n) len)))
           → AllByRecursion (λ (j : Listed). least < j.number)
-          (map (listed sort text) (cond b (n ∷ filter keeps (range_with_len (suc n) len)) (filter keeps (range_with_len (suc n) len))))
+          (map (listed sort text) (cond b (n ∷ filter keeps (range_with_len (suc n) len))
+          (filter keeps (range_with_len (suc n) len))))
       step true rest = (low, rest)
       step false rest = rest
 
@@ -53,8 +61,10 @@ module _ (sort : FactKind) (text : List ℕ) (keeps : ℕ → Bool) where
       subst (λ l. AreRising (map (listed sort text) (filter keeps l)))
       (sym (range_next n len)) (step (keeps n) (kept_rise (suc n) len))
     where
-      step : (b : Bool) → AreRising (map (listed sort text) (filter keeps (range_with_len (suc n) len)))
-          → AreRising (map (listed sort text) (cond b (n ∷ filter keeps (range_with_len (suc n) len)) (filter keeps (range_with_len (suc n) len))))
+      step : (b : Bool)
+          → AreRising (map (listed sort text) (filter keeps (range_with_len (suc n) len)))
+          → AreRising (map (listed sort text) (cond b (n
+          ∷ filter keeps (range_with_len (suc n) len)) (filter keeps (range_with_len (suc n) len))))
       step true rest = (kept_above n (suc n) len (omega arith), rest)
       step false rest = rest
 

@@ -1,5 +1,6 @@
 -- The rows of the definitions that are shown.
-use Rattle.std.proofs.Common.{◌≡◌, ◌∙◌, ℕ, suc, Bool, true, false, List, [], ◌∷◌, ◌++◌, Some, None, refl, sym, ap, subst, length, map, drop, filter, get_or, min}
+use Rattle.std.proofs.Common.{◌≡◌, ◌∙◌, ℕ, suc, Bool, true, false, List, [], ◌∷◌, ◌++◌, Some, None}
+use Rattle.std.proofs.Common.{refl, sym, ap, subst, length, map, drop, filter, get_or, min}
 use Rattle.std.proofs.lemmas.Bool.{false≢true}
 use Rattle.std.proofs.lemmas.Bool.Decides.{Decides-eqb}
 use Rattle.std.proofs.lemmas.Cmp.{nat_cmp_total, nat_list_cmp_total, tied_itself}
@@ -32,8 +33,10 @@ use Rattle.cb_index.specs.Bytes.{bytes_at, cut}
 use Rattle.cb_index.specs.Entries.{Keyer, file_key, has_key, key_of, sort_key}
 use Rattle.cb_index.specs.Files.{AreAscending, File, IsThere, file_of, files_of}
 use Rattle.cb_index.specs.Held.{AreRising, Lister, all_entries, entries_of, entry_of}
-use Rattle.cb_index.specs.Orders.{def_key, def_prefix, defs_listed, numbered, tag_front, tag_key, tag_prefix, tags_listed}
-use Rattle.cb_index.specs.Rows.{file_tags, file_tags_named, tag_in, tags_by_name, tags_by_tag_name, tags_named}
+use Rattle.cb_index.specs.Orders.{def_key, def_prefix, defs_listed, numbered, tag_front, tag_key}
+use Rattle.cb_index.specs.Orders.{tag_prefix, tags_listed}
+use Rattle.cb_index.specs.Rows.{file_tags, file_tags_named, tag_in, tags_by_name, tags_by_tag_name}
+use Rattle.cb_index.specs.Rows.{tags_named}
 use Rattle.cb_index.specs.Shelved.{IsIndexOf, with_facts}
 use Rattle.cb_index.specs.steps.Found.{tag_at, tag_in_text, tag_of_def}
 use Rattle.cb_index.specs.steps.Left.{entries_in, file_or_end}
@@ -42,7 +45,9 @@ use Rattle.cb_index.specs.declared.entry.Shown.{Shown}
 use Rattle.cb_index.proofs.EntryLemmas.{bytes_cmp, sort_exact}
 use Rattle.cb_index.proofs.InOrderLemmas.{filter_kept, in_order_agree, map_in_order, same_order}
 use Rattle.cb_index.proofs.IndexLemmas.{ComesFirst, all_ordered}
-use Rattle.cb_index.proofs.PrefixLemmas.{GoesFirst, HasPrefix, defs_told, entry_told, key_decides, names_told, prefixes_first, tag_front_first, tag_names_told, whole_first}
+use Rattle.cb_index.proofs.PrefixLemmas.{GoesFirst, HasPrefix, defs_told, entry_told, key_decides}
+use Rattle.cb_index.proofs.PrefixLemmas.{names_told, prefixes_first, tag_front_first}
+use Rattle.cb_index.proofs.PrefixLemmas.{tag_names_told, whole_first}
 use Rattle.cb_index.proofs.RestLemmas.{at_front, drop_next}
 use Rattle.cb_index.proofs.RiseLemmas.{defs_rise, tags_rise}
 
@@ -51,18 +56,22 @@ pub again : (keyer : Keyer) (lister : Lister) (a : Archived) (shown : List Shown
     → IsIndexOf keyer lister a shown es → es ≡ in_order (sort_key keyer a) es
 again keyer lister a shown es is =
     is ∙ same_order (sort_key keyer a) (sort_exact keyer a) (all_entries lister a shown) es
-    (λ f. sym (in_order_sum (sort_key keyer a) f (all_entries lister a shown)) ∙ sym (ap (sum_by f) is))
+    (λ f. sym (in_order_sum (sort_key keyer a) f (all_entries lister a shown))
+    ∙ sym (ap (sum_by f) is))
 
 -- ---- the bytes of a span that lies in the text
 pub cut_is : (text : List ℕ) (span : Span) → IsWithin text span → cut text span ≡ bytes_of text span
 cut_is text span within =
     let end : min span.end (length text) ≡ span.end = min-eq_left within.1 in
-    let start : min span.start (min span.end (length text)) ≡ span.start = ap (min span.start) end ∙ min-eq_left within.0 in
+    let start : min span.start (min span.end (length text)) ≡ span.start =
+    ap (min span.start) end ∙ min-eq_left within.0 in
     λ i. slice_range text (start i) (end i)
 
 -- ---- entries of one key
-module _ {X : Type 0} (R Q : X → X → Type 0) (P : X → Type 0) (imply : (x y : X) → P x → P y → R x y → Q x y) where
-  all_both : (x : X) → P x → (ys : List X) → AllByRecursion P ys → AllByRecursion (R x) ys → AllByRecursion (Q x) ys
+module _ {X : Type 0} (R Q : X → X → Type 0) (P : X → Type 0)
+    (imply : (x y : X) → P x → P y → R x y → Q x y) where
+  all_both : (x : X) → P x → (ys : List X) → AllByRecursion P ys → AllByRecursion (R x) ys
+      → AllByRecursion (Q x) ys
   all_both x px [] p r = tt
   all_both x px (y ∷ ys) p r = (imply x y px p.0 r.0, all_both x px ys p.1 r.1)
 
@@ -82,12 +91,14 @@ split_and false c is = absurd (false≢true is)
 module _ (keyer : Keyer) (a : Archived) where
   pub ordered_cmp : (e f : Entry) → slice_cmp nat_cmp (sort_key keyer a e) (sort_key keyer a f)
       ≡ ordering_then (nat_cmp e.prefix f.prefix)
-      (ordering_then (slice_cmp nat_cmp (key_of keyer a e) (key_of keyer a f)) (slice_cmp nat_cmp (file_key a e) (file_key a f)))
+      (ordering_then (slice_cmp nat_cmp (key_of keyer a e) (key_of keyer a f))
+      (slice_cmp nat_cmp (file_key a e) (file_key a f)))
   unfolding sort_key
   ordered_cmp e f = ap (ordering_then (nat_cmp e.prefix f.prefix)) (sym (bytes_cmp keyer a e f))
 
   -- entries of one key go by file and number
-  pub one_key : (prefix : ℕ) (key : List ℕ) (e f : Entry) → ComesFirst a e f → has_key keyer a prefix key e ≡ true
+  pub one_key : (prefix : ℕ) (key : List ℕ) (e f : Entry) → ComesFirst a e f
+      → has_key keyer a prefix key e ≡ true
       → has_key keyer a prefix key f ≡ true → goes_first (sort_key keyer a) e f ≡ true
   one_key prefix key e f first has_e has_f =
       let in_e = split_and (nat_eq prefix e.prefix) (bytes_eq key (key_of keyer a e)) has_e in
@@ -95,57 +106,74 @@ module _ (keyer : Keyer) (a : Archived) where
       let prefixes : e.prefix ≡ f.prefix =
       sym ((Decides-eqb prefix e.prefix).0 in_e.0) ∙ (Decides-eqb prefix f.prefix).0 in_f.0 in
       let keys : key_of keyer a e ≡ key_of keyer a f =
-      sym ((bytes_eq-Decides key (key_of keyer a e)).0 in_e.1) ∙ (bytes_eq-Decides key (key_of keyer a f)).0 in_f.1 in
+      sym ((bytes_eq-Decides key (key_of keyer a e)).0 in_e.1)
+      ∙ (bytes_eq-Decides key (key_of keyer a f)).0 in_f.1 in
       let prefix_tied : nat_cmp e.prefix f.prefix ≡ Equal =
       subst (λ n. nat_cmp e.prefix n ≡ Equal) prefixes (tied_itself nat_cmp_total e.prefix) in
       let key_tied : slice_cmp nat_cmp (key_of keyer a e) (key_of keyer a f) ≡ Equal =
-      subst (λ k. slice_cmp nat_cmp (key_of keyer a e) k ≡ Equal) keys (tied_itself nat_list_cmp_total (key_of keyer a e)) in
+      subst (λ k. slice_cmp nat_cmp (key_of keyer a e) k ≡ Equal) keys
+      (tied_itself nat_list_cmp_total (key_of keyer a e)) in
       ap (λ o. not (is_gt o)) (ordered_cmp e f
-      ∙ (λ i. ordering_then (prefix_tied i) (ordering_then (key_tied i) (slice_cmp nat_cmp (file_key a e) (file_key a f)))) ∙ first)
+      ∙ (λ i. ordering_then (prefix_tied i)
+      (ordering_then (key_tied i) (slice_cmp nat_cmp (file_key a e) (file_key a f)))) ∙ first)
 
   -- entries that have the prefixes of their keys go by key
-  by_key : (front : List ℕ → List ℕ) → GoesFirst front → (e f : Entry) → HasPrefix front keyer a e → HasPrefix front keyer a f
+  by_key : (front : List ℕ → List ℕ) → GoesFirst front → (e f : Entry) → HasPrefix front keyer a e
+      → HasPrefix front keyer a f
       → ComesFirst a e f → goes_first (sort_key keyer a) e f ≡ goes_first (key_of keyer a) e f
   by_key front front_first e f of_e of_f first =
       let keys = slice_cmp nat_cmp (key_of keyer a e) (key_of keyer a f) in
       let files = slice_cmp nat_cmp (file_key a e) (file_key a f) in
-      ap (λ o. not (is_gt o)) (ordered_cmp e f ∙ sym (then_assoc (nat_cmp e.prefix f.prefix) keys files)
+      ap (λ o. not (is_gt o))
+      (ordered_cmp e f ∙ sym (then_assoc (nat_cmp e.prefix f.prefix) keys files)
       ∙ (λ i. ordering_then (ordering_then (nat_cmp (of_e.0 i) (of_f.0 i)) keys) files)
-      ∙ ap (λ o. ordering_then o files) (prefixes_first front front_first (key_of keyer a e) (key_of keyer a f) of_e.1 of_f.1))
+      ∙ ap (λ o. ordering_then o files)
+      (prefixes_first front front_first (key_of keyer a e) (key_of keyer a f) of_e.1 of_f.1))
       ∙ settled keys files (ap (λ o. not (is_gt o)) first)
     where
-      settled : (o p : Ordering) → not (is_gt p) ≡ true → not (is_gt (ordering_then o p)) ≡ not (is_gt o)
+      settled : (o p : Ordering) → not (is_gt p) ≡ true
+          → not (is_gt (ordering_then o p)) ≡ not (is_gt o)
       settled Less p is = refl
       settled Equal p is = is
       settled Greater p is = refl
 
-  module _ (lister : Lister) (rising : (t : Option (List ℕ)) → AreRising (lister t)) (shown : List Shown) (up : AreAscending a shown) where
+  module _ (lister : Lister) (rising : (t : Option (List ℕ)) → AreRising (lister t))
+      (shown : List Shown) (up : AreAscending a shown) where
     -- the entries of a key in an index are those of the versions, one after the other
     pub kept_key : (prefix : ℕ) (key : List ℕ) (es : List Entry) → IsIndexOf keyer lister a shown es
-        → filter (has_key keyer a prefix key) es ≡ filter (has_key keyer a prefix key) (all_entries lister a shown)
+        → filter (has_key keyer a prefix key) es
+        ≡ filter (has_key keyer a prefix key) (all_entries lister a shown)
     kept_key prefix key es is =
         ap (filter (has_key keyer a prefix key)) is
         ∙ filter_kept (sort_key keyer a) (has_key keyer a prefix key) (all_entries lister a shown)
         (ordered_with (ComesFirst a)
-        (λ e f. has_key keyer a prefix key e ≡ true → has_key keyer a prefix key f ≡ true → goes_first (sort_key keyer a) e f ≡ true)
+        (λ e f. has_key keyer a prefix key e ≡ true → has_key keyer a prefix key f ≡ true
+        → goes_first (sort_key keyer a) e f ≡ true)
         (λ (_ : Entry). Unit {0}) (λ e f _ _ first. one_key prefix key e f first)
-        (all_entries lister a shown) (all_any (all_entries lister a shown)) (all_ordered a lister rising shown up))
+        (all_entries lister a shown) (all_any (all_entries lister a shown))
+        (all_ordered a lister rising shown up))
 
     -- an index of entries that have the prefixes of their keys goes by key
-    pub kept_order : (front : List ℕ → List ℕ) → GoesFirst front → AllByRecursion (HasPrefix front keyer a) (all_entries lister a shown)
-        → (es : List Entry) → IsIndexOf keyer lister a shown es → es ≡ in_order (key_of keyer a) (all_entries lister a shown)
+    pub kept_order : (front : List ℕ → List ℕ) → GoesFirst front
+        → AllByRecursion (HasPrefix front keyer a) (all_entries lister a shown)
+        → (es : List Entry) → IsIndexOf keyer lister a shown es
+        → es ≡ in_order (key_of keyer a) (all_entries lister a shown)
     kept_order front front_first told es is =
         is ∙ in_order_agree (sort_key keyer a) (key_of keyer a) (all_entries lister a shown)
-        (ordered_with (ComesFirst a) (λ e f. goes_first (sort_key keyer a) e f ≡ goes_first (key_of keyer a) e f)
-        (HasPrefix front keyer a) (by_key front front_first) (all_entries lister a shown) told (all_ordered a lister rising shown up))
+        (ordered_with (ComesFirst a)
+        (λ e f. goes_first (sort_key keyer a) e f ≡ goes_first (key_of keyer a) e f)
+        (HasPrefix front keyer a) (by_key front front_first) (all_entries lister a shown) told
+        (all_ordered a lister rising shown up))
 
 -- ---- the tags of definitions
 -- the name of a tag is the key of its entry
-found_name : (file text : List ℕ) (d : Option Def) → bytes_at text (option_map (λ (x : Def). x.name) d) ≡ (tag_of_def file text d).name
+found_name : (file text : List ℕ) (d : Option Def)
+    → bytes_at text (option_map (λ (x : Def). x.name) d) ≡ (tag_of_def file text d).name
 found_name file text None = refl
 found_name file text (Some d) = refl
 
-key_name : (file : List ℕ) (number : ℕ) (text : Option (List ℕ)) → def_key text file number ≡ (tag_in_text file number text).name
+key_name : (file : List ℕ) (number : ℕ) (text : Option (List ℕ))
+    → def_key text file number ≡ (tag_in_text file number text).name
 key_name file number None = refl
 key_name file number (Some text) = found_name file text (slice_get (facts_of text).defs number)
 
@@ -153,14 +181,16 @@ found_file : (file text : List ℕ) (d : Option Def) → file ≡ (tag_of_def fi
 found_file file text None = refl
 found_file file text (Some d) = refl
 
-key_file : (file : List ℕ) (number : ℕ) (text : Option (List ℕ)) → file ≡ (tag_in_text file number text).file
+key_file : (file : List ℕ) (number : ℕ) (text : Option (List ℕ))
+    → file ≡ (tag_in_text file number text).file
 key_file file number None = refl
 key_file file number (Some text) = found_file file text (slice_get (facts_of text).defs number)
 
 pub key_is_name : (a : Archived) (e : Entry) → key_of def_key a e ≡ (tag_at a e).name
 key_is_name a e = key_name (name_of a e.name) e.number (slice_get a.texts e.version)
 
-pub key_is_tag_name : (a : Archived) (e : Entry) → key_of tag_key a e ≡ tag_name (tag_at a e).name (tag_at a e).file
+pub key_is_tag_name : (a : Archived) (e : Entry)
+    → key_of tag_key a e ≡ tag_name (tag_at a e).name (tag_at a e).file
 key_is_tag_name a e =
     λ i. tag_name (key_name (name_of a e.name) e.number (slice_get a.texts e.version) i)
     (key_file (name_of a e.name) e.number (slice_get a.texts e.version) i)
@@ -171,31 +201,37 @@ all_of P holds (x ∷ xs) = (holds x, all_of P holds xs)
 
 -- a part that is kept or not, on both sides
 module _ {X Y Z : Type 0} (f : X → Z) (g : Y → Z) where
-  pub kept_or_not : (b : Bool) (x : X) (xs : List X) (y : Y) (ys : List Y) → f x ≡ g y → map f xs ≡ map g ys
+  pub kept_or_not : (b : Bool) (x : X) (xs : List X) (y : Y) (ys : List Y) → f x ≡ g y
+      → map f xs ≡ map g ys
       → map f (cond b (x ∷ xs) xs) ≡ map g (cond b (y ∷ ys) ys)
   kept_or_not true x xs y ys here later = λ i. here i ∷ later i
   kept_or_not false x xs y ys here later = later
 
-module _ (a : Archived) (s : Shown) (text : List ℕ) (there : slice_get a.texts s.version ≡ Some text) where
+module _ (a : Archived) (s : Shown) (text : List ℕ)
+    (there : slice_get a.texts s.version ≡ Some text) where
   abbrev file : File
   file = record { name = name_of a s.name; bytes = text }
 
   abbrev entry : ℕ → ℕ → Entry
-  entry prefix n = record { prefix = prefix; name = s.name; version = s.version; number = n; rows = 1 }
+  entry prefix n =
+      record { prefix = prefix; name = s.name; version = s.version; number = n; rows = 1 }
 
-  module _ (prefix n : ℕ) (d : Def) (rest : List Def) (is : drop n (facts_of text).defs ≡ d ∷ rest) (within : IsWithin text d.name) where
+  module _ (prefix n : ℕ) (d : Def) (rest : List Def) (is : drop n (facts_of text).defs ≡ d ∷ rest)
+      (within : IsWithin text d.name) where
     found_def : slice_get (facts_of text).defs n ≡ Some d
     found_def = at_front n (facts_of text).defs ∙ ap (λ l. slice_get l 0) is
 
     tag_is : tag_at a (entry prefix n) ≡ tag_in file d
     tag_is =
-        ap (tag_in_text (name_of a s.name) n) there ∙ ap (tag_of_def (name_of a s.name) text) found_def
+        ap (tag_in_text (name_of a s.name) n) there
+        ∙ ap (tag_of_def (name_of a s.name) text) found_def
         ∙ (λ i. record (tag_in file d) { name = cut_is text d.name within i })
 
     key_is : key_of def_key a (entry prefix n) ≡ bytes_of text d.name
     key_is =
         ap (λ o. def_key o (name_of a s.name) n) there
-        ∙ ap (λ o. bytes_at text (option_map (λ (x : Def). x.name) o)) found_def ∙ cut_is text d.name within
+        ∙ ap (λ o. bytes_at text (option_map (λ (x : Def). x.name) o)) found_def
+        ∙ cut_is text d.name within
 
   tags_from : (prefixed : Def → ℕ) (n : ℕ) (defs : List Def) → drop n (facts_of text).defs ≡ defs
       → AllByRecursion (λ (d : Def). IsWithin text d.name) defs
@@ -203,79 +239,109 @@ module _ (a : Archived) (s : Shown) (text : List ℕ) (there : slice_get a.texts
   tags_from prefixed n [] is within = refl
   tags_from prefixed n (d ∷ defs) is within =
       λ i. tag_is (prefixed d) n d defs is within.0 i
-      ∷ tags_from prefixed (suc n) defs (drop_next n (facts_of text).defs ∙ ap (drop 1) is) within.1 i
+      ∷ tags_from prefixed (suc n) defs
+      (drop_next n (facts_of text).defs ∙ ap (drop 1) is) within.1 i
 
   tags_named_from : (name : List ℕ) (n : ℕ) (defs : List Def) → drop n (facts_of text).defs ≡ defs
       → AllByRecursion (λ (d : Def). IsWithin text d.name) defs
-      → map (tag_at a) (filter (has_key def_key a (key_prefix name) name) (map (entry_of s) (numbered n (map (def_prefix text) defs))))
+      → map (tag_at a) (filter (has_key def_key a (key_prefix name) name)
+      (map (entry_of s) (numbered n (map (def_prefix text) defs))))
       ≡ map (tag_in file) (filter (λ (d : Def). bytes_eq name (bytes_of text d.name)) defs)
   tags_named_from name n [] is within = refl
   tags_named_from name n (d ∷ defs) is within =
-      let later = tags_named_from name (suc n) defs (drop_next n (facts_of text).defs ∙ ap (drop 1) is) within.1 in
+      let later =
+      tags_named_from name (suc n) defs
+      (drop_next n (facts_of text).defs ∙ ap (drop 1) is) within.1 in
       let here = entry (def_prefix text d) n in
-      let kept = filter (has_key def_key a (key_prefix name) name) (map (entry_of s) (numbered (suc n) (map (def_prefix text) defs))) in
+      let kept =
+      filter (has_key def_key a (key_prefix name) name)
+      (map (entry_of s) (numbered (suc n) (map (def_prefix text) defs))) in
       ap (λ b. map (tag_at a) (cond b (here ∷ kept) kept))
-      (key_decides (λ key. key) def_key a name here (entry_told (λ key. key) def_key def_prefix names_told a s text there n d defs is)
+      (key_decides (λ key. key) def_key a name here
+      (entry_told (λ key. key) def_key def_prefix names_told a s text there n d defs is)
       ∙ ap (bytes_eq name) (key_is (def_prefix text d) n d defs is within.0))
       ∙ kept_or_not (tag_at a) (tag_in file) (bytes_eq name (bytes_of text d.name)) here kept d
-      (filter (λ (x : Def). bytes_eq name (bytes_of text x.name)) defs) (tag_is (def_prefix text d) n d defs is within.0) later
+      (filter (λ (x : Def). bytes_eq name (bytes_of text x.name)) defs)
+      (tag_is (def_prefix text d) n d defs is within.0) later
 
 module _ (a : Archived) where
   all_tags : (lister : Lister) (prefixed : List ℕ → Def → ℕ)
-      → ((text : List ℕ) → lister (Some text) ≡ numbered 0 (map (prefixed text) (facts_of text).defs))
+      → ((text : List ℕ)
+      → lister (Some text) ≡ numbered 0 (map (prefixed text) (facts_of text).defs))
       → (shown : List Shown) → AllByRecursion (IsThere a) shown
       → map (tag_at a) (all_entries lister a shown) ≡ flat_map file_tags (files_of a shown)
   all_tags lister prefixed some [] all = refl
   all_tags lister prefixed some (s ∷ shown) all =
       let text = get_or a.texts s.version [] in
-      let there : slice_get a.texts s.version ≡ Some text = slice_get-get_or a.texts s.version [] all.0.1 in
+      let there : slice_get a.texts s.version ≡ Some text =
+      slice_get-get_or a.texts s.version [] all.0.1 in
       map-append (tag_at a) (entries_of lister a s) (all_entries lister a shown)
       ∙ (λ i. (ap (λ o. map (tag_at a) (map (entry_of s) (lister o))) there
       ∙ ap (λ ps. map (tag_at a) (map (entry_of s) ps)) (some text)
-      ∙ tags_from a s text there (prefixed text) 0 (facts_of text).defs refl (facts_lie text).defs) i
+      ∙ tags_from a s text there (prefixed text) 0 (facts_of text).defs refl (facts_lie text).defs)
+      i
       ++ all_tags lister prefixed some shown all.1 i)
 
   all_tags_named : (name : List ℕ) (shown : List Shown) → AllByRecursion (IsThere a) shown
-      → map (tag_at a) (filter (has_key def_key a (key_prefix name) name) (all_entries defs_listed a shown))
+      → map (tag_at a)
+      (filter (has_key def_key a (key_prefix name) name) (all_entries defs_listed a shown))
       ≡ flat_map (file_tags_named name) (files_of a shown)
   all_tags_named name [] all = refl
   all_tags_named name (s ∷ shown) all =
       let text = get_or a.texts s.version [] in
-      let there : slice_get a.texts s.version ≡ Some text = slice_get-get_or a.texts s.version [] all.0.1 in
+      let there : slice_get a.texts s.version ≡ Some text =
+      slice_get-get_or a.texts s.version [] all.0.1 in
       let has = has_key def_key a (key_prefix name) name in
-      ap (map (tag_at a)) (filter-append has (entries_of defs_listed a s) (all_entries defs_listed a shown))
-      ∙ map-append (tag_at a) (filter has (entries_of defs_listed a s)) (filter has (all_entries defs_listed a shown))
+      ap (map (tag_at a))
+      (filter-append has (entries_of defs_listed a s) (all_entries defs_listed a shown))
+      ∙ map-append (tag_at a) (filter has (entries_of defs_listed a s))
+      (filter has (all_entries defs_listed a shown))
       ∙ (λ i. (ap (λ o. map (tag_at a) (filter has (map (entry_of s) (defs_listed o)))) there
-      ∙ tags_named_from a s text there name 0 (facts_of text).defs refl (facts_lie text).defs) i ++ all_tags_named name shown all.1 i)
+      ∙ tags_named_from a s text there name 0 (facts_of text).defs refl (facts_lie text).defs) i
+      ++ all_tags_named name shown all.1 i)
 
-  module _ (shown : List Shown) (all : AllByRecursion (IsThere a) shown) (up : AreAscending a shown) (es : List Entry) where
+  module _ (shown : List Shown) (all : AllByRecursion (IsThere a) shown) (up : AreAscending a shown)
+      (es : List Entry) where
     module _ (bytes : AllByRecursion AreBytes a.texts) where
-      pub rows_by_name : IsIndexOf def_key defs_listed a shown es → map (tag_at a) es ≡ tags_by_name (files_of a shown)
+      pub rows_by_name : IsIndexOf def_key defs_listed a shown es
+          → map (tag_at a) es ≡ tags_by_name (files_of a shown)
       unfolding tags_by_name
       rows_by_name is =
-          ap (map (tag_at a)) (kept_order def_key a defs_listed defs_rise shown up (λ key. key) whole_first (defs_told a bytes shown) es is)
-          ∙ map_in_order (key_of def_key a) (λ (t : Tag). t.name) (tag_at a) (all_entries defs_listed a shown)
-          (all_of (λ e. key_of def_key a e ≡ (tag_at a e).name) (key_is_name a) (all_entries defs_listed a shown))
-          ∙ ap (in_order (λ (t : Tag). t.name)) (all_tags defs_listed def_prefix (λ text. refl) shown all)
+          ap (map (tag_at a)) (kept_order def_key a defs_listed defs_rise shown up
+          (λ key. key) whole_first (defs_told a bytes shown) es is)
+          ∙ map_in_order (key_of def_key a) (λ (t : Tag). t.name) (tag_at a)
+          (all_entries defs_listed a shown)
+          (all_of (λ e. key_of def_key a e ≡ (tag_at a e).name) (key_is_name a)
+          (all_entries defs_listed a shown))
+          ∙ ap (in_order (λ (t : Tag). t.name))
+          (all_tags defs_listed def_prefix (λ text. refl) shown all)
 
-      pub rows_by_tag_name : IsIndexOf tag_key tags_listed a shown es → map (tag_at a) es ≡ tags_by_tag_name (files_of a shown)
+      pub rows_by_tag_name : IsIndexOf tag_key tags_listed a shown es
+          → map (tag_at a) es ≡ tags_by_tag_name (files_of a shown)
       unfolding tags_by_tag_name
       rows_by_tag_name is =
-          ap (map (tag_at a)) (kept_order tag_key a tags_listed tags_rise shown up tag_front tag_front_first (tag_names_told a bytes shown) es is)
-          ∙ map_in_order (key_of tag_key a) (λ (t : Tag). tag_name t.name t.file) (tag_at a) (all_entries tags_listed a shown)
-          (all_of (λ e. key_of tag_key a e ≡ tag_name (tag_at a e).name (tag_at a e).file) (key_is_tag_name a) (all_entries tags_listed a shown))
-          ∙ ap (in_order (λ (t : Tag). tag_name t.name t.file)) (all_tags tags_listed tag_prefix (λ text. refl) shown all)
+          ap (map (tag_at a)) (kept_order tag_key a tags_listed tags_rise shown up tag_front
+          tag_front_first (tag_names_told a bytes shown) es is)
+          ∙ map_in_order (key_of tag_key a) (λ (t : Tag). tag_name t.name t.file) (tag_at a)
+          (all_entries tags_listed a shown)
+          (all_of (λ e. key_of tag_key a e ≡ tag_name (tag_at a e).name (tag_at a e).file)
+          (key_is_tag_name a) (all_entries tags_listed a shown))
+          ∙ ap (in_order (λ (t : Tag). tag_name t.name t.file))
+          (all_tags tags_listed tag_prefix (λ text. refl) shown all)
 
     pub rows_named : (name : List ℕ) → IsIndexOf def_key defs_listed a shown es
-        → map (tag_at a) (filter (has_key def_key a (key_prefix name) name) es) ≡ tags_named name (files_of a shown)
+        → map (tag_at a) (filter (has_key def_key a (key_prefix name) name) es)
+        ≡ tags_named name (files_of a shown)
     unfolding tags_named
     rows_named name is =
-        ap (map (tag_at a)) (kept_key def_key a defs_listed defs_rise shown up (key_prefix name) name es is) ∙ all_tags_named name shown all
+        ap (map (tag_at a)) (kept_key def_key a defs_listed defs_rise shown up
+        (key_prefix name) name es is) ∙ all_tags_named name shown all
 
 -- ---- the files that are shown
 pub entries_are : (a : Archived) (shown : List Shown) → AllByRecursion (IsThere a) shown
     → entries_in a shown ≡ map with_facts (files_of a shown)
 entries_are a [] all = refl
 entries_are a (s ∷ shown) all =
-    ap (λ o. file_or_end (name_of a s.name) o (entries_in a shown)) (slice_get-get_or a.texts s.version [] all.0.1)
+    ap (λ o. file_or_end (name_of a s.name) o (entries_in a shown))
+    (slice_get-get_or a.texts s.version [] all.0.1)
     ∙ ap (λ l. with_facts (file_of a s) ∷ l) (entries_are a shown all.1)

@@ -43,12 +43,14 @@ module _ (keyer : Keyer) (start rank : Placer) (a : Archived) where
   first_not_gt Equal p is = refl
   first_not_gt Greater p is = absurd (false≢true is)
 
-  same_from : (x y : List ℕ) → is_gt (slice_cmp nat_cmp x y) ≡ false → is_gt (slice_cmp nat_cmp y x) ≡ false → x ≡ y
+  same_from : (x y : List ℕ) → is_gt (slice_cmp nat_cmp x y) ≡ false
+      → is_gt (slice_cmp nat_cmp y x) ≡ false → x ≡ y
   same_from x y low high = by_order (slice_cmp nat_cmp y x) refl high
     where
       by_order : (o : Ordering) → slice_cmp nat_cmp y x ≡ o → is_gt o ≡ false → x ≡ y
       by_order Less is le =
-          absurd (true≢false (sym (ap is_gt (nat_list_cmp_total.antisymm x y ∙ ap ordering_reverse is)) ∙ low))
+          absurd (true≢false
+          (sym (ap is_gt (nat_list_cmp_total.antisymm x y ∙ ap ordering_reverse is)) ∙ low))
       by_order Equal is le = sym (same_bytes y x is)
       by_order Greater is le = absurd (true≢false le)
 

@@ -1,7 +1,9 @@
 -- The entries between two places.
-use Rattle.std.proofs.Common.{◌≡◌, ◌∙◌, ◌≤◌, ◌<◌, ◌+◌, ℕ, zero, suc, List, [], ◌∷◌, ◌++◌, refl, sym, ap, length, take, drop, drop_of_length-le, get_or, arith, ⊎_elim}
+use Rattle.std.proofs.Common.{◌≡◌, ◌∙◌, ◌≤◌, ◌<◌, ◌+◌, ℕ, zero, suc, List, [], ◌∷◌, ◌++◌, refl, sym}
+use Rattle.std.proofs.Common.{ap, length, take, drop, drop_of_length-le, get_or, arith, ⊎_elim}
 use Rattle.std.proofs.lemmas.Bool.{cases_lt}
-use Rattle.std.proofs.lemmas.List.{append-nil, append_assoc, drop-append-le, length-append, length-drop, length-take, length-take-le, take-take}
+use Rattle.std.proofs.lemmas.List.{append-nil, append_assoc, drop-append-le, length-append}
+use Rattle.std.proofs.lemmas.List.{length-drop, length-take, length-take-le, take-take}
 use Rattle.std.proofs.Math.Nat.{min-le_left, min-le_right}
 use Rattle.std.proofs.Math.Seq.{drop-append-add}
 use Rattle.std.specs.Prelude.{min}
@@ -10,7 +12,8 @@ use Rattle.cb_index.specs.declared.entry.Entry.{Entry}
 use Rattle.cb_index.proofs.BlockLemmas.{Lists, front_at, parted_at}
 
 -- a place in an earlier block
-before_le : (bs : Lists) (k j m i : ℕ) → k < m → k < length bs → j ≤ length (get_or bs k []) → before bs k j ≤ before bs m i
+before_le : (bs : Lists) (k j m i : ℕ) → k < m → k < length bs → j ≤ length (get_or bs k [])
+    → before bs k j ≤ before bs m i
 before_le [] k j m i less low within = absurd (omega (arith, low))
 before_le (b ∷ bs) k j zero i less low within = absurd (omega (arith, less))
 before_le (b ∷ bs) zero j (suc m) i less low within =
@@ -22,7 +25,8 @@ before_le (b ∷ bs) (suc k) j (suc m) i less low within =
     omega (arith, one, other, later)
 
 -- what ends before it begins is empty
-pub turned_between : (bs : Lists) (k j m i : ℕ) → k < m → k < length bs → j ≤ length (get_or bs k [])
+pub turned_between : (bs : Lists) (k j m i : ℕ) → k < m → k < length bs
+    → j ≤ length (get_or bs k [])
     → ◌≡◌ {A = List Entry} [] (drop (before bs m i) (take (before bs k j) (joined bs)))
 turned_between bs k j m i less low within =
     let size = length-take (before bs k j) (joined bs) in
@@ -44,7 +48,8 @@ drop_min f t es =
 
 -- both places in one block
 pub inside_between : (bs : Lists) (k f t : ℕ) → k < length bs → t ≤ length (get_or bs k [])
-    → drop (min f t) (take t (get_or bs k [])) ++ (joined [] ++ []) ≡ drop (before bs k f) (take (before bs k t) (joined bs))
+    → drop (min f t) (take t (get_or bs k [])) ++ (joined [] ++ [])
+    ≡ drop (before bs k f) (take (before bs k t) (joined bs))
 inside_between bs k f t low within =
     append-nil (drop (min f t) (take t (get_or bs k []))) ∙ drop_min f t (get_or bs k [])
     ∙ sym (drop-append-add (joined (take k bs)) (take t (get_or bs k [])) f)
@@ -57,7 +62,8 @@ get_or_taken (b ∷ bs) zero (suc m) less = refl
 get_or_taken (b ∷ bs) (suc k) (suc m) less = get_or_taken bs k m (omega (arith, less))
 
 -- places in two blocks
-pub across_between : (bs : Lists) (k f m t : ℕ) → k < m → m < length bs → f ≤ length (get_or bs k []) → t ≤ length (get_or bs m [])
+pub across_between : (bs : Lists) (k f m t : ℕ) → k < m → m < length bs
+    → f ≤ length (get_or bs k []) → t ≤ length (get_or bs m [])
     → drop f (get_or bs k []) ++ (joined (drop (k + 1) (take m bs)) ++ take t (get_or bs m []))
     ≡ drop (before bs k f) (take (before bs m t) (joined bs))
 across_between bs k f m t less low inner within =
@@ -69,7 +75,8 @@ across_between bs k f m t less low inner within =
     let size : length (take m bs) ≡ m = length-take-le m bs (omega (arith, low)) in
     let whole : joined (take m bs) ≡ front ++ (block ++ middle) =
     parted_at (take m bs) k (omega (arith, size, less))
-    ∙ (λ i. joined (take-take k m bs (omega (arith, less)) i) ++ (get_or_taken bs k m less i ++ middle)) in
+    ∙ (λ i.
+    joined (take-take k m bs (omega (arith, less)) i) ++ (get_or_taken bs k m less i ++ middle)) in
     ap (λ n. drop f block ++ (joined (drop n (take m bs)) ++ last)) next
     ∙ sym (drop-append-le f block (middle ++ last) inner)
     ∙ sym (drop-append-add front (block ++ (middle ++ last)) f)
@@ -79,7 +86,8 @@ across_between bs k f m t less low inner within =
     ∙ ap (drop (before bs k f)) (sym (front_at bs m t low within))
 
 -- no more entries than all
-pub between_fits : (m n : ℕ) (es xs : List Entry) (most : ℕ) → xs ≡ drop m (take n es) → length es < most → length xs < most
+pub between_fits : (m n : ℕ) (es xs : List Entry) (most : ℕ) → xs ≡ drop m (take n es)
+    → length es < most → length xs < most
 between_fits m n es xs most is fits =
     let size : length xs ≡ length (drop m (take n es)) = ap length is in
     let dropped = length-drop m (take n es) in

@@ -1,5 +1,7 @@
 -- A search for a key in a file.
-use Rattle.std.proofs.Common.{◌≡◌, ◌∙◌, ◌+◌, ◌-◌, ◌<◌, ◌≤◌, ℕ, zero, suc, Bool, true, false, List, [], ◌∷◌, ◌++◌, Some, refl, sym, ap, subst, length, map, filter, get_or, arith, ◌⊎◌, inl, inr}
+use Rattle.std.proofs.Common.{◌≡◌, ◌∙◌, ◌+◌, ◌-◌, ◌<◌, ◌≤◌, ℕ, zero, suc, Bool, true, false, List}
+use Rattle.std.proofs.Common.{[], ◌∷◌, ◌++◌, Some, refl, sym, ap, subst, length, map, filter}
+use Rattle.std.proofs.Common.{get_or, arith, ◌⊎◌, inl, inr}
 use Rattle.std.proofs.lemmas.Bool.{cases_lt}
 use Rattle.std.proofs.lemmas.List.{length-map}
 use Rattle.std.proofs.lemmas.List.Elements.{filter_agree}
@@ -31,19 +33,23 @@ module _ (sort : FactKind) (text key : List ℕ) where
   next_from : (k : ℕ) → k < item_count sort text → with_from k
       ≡ cond (has sort text key k) (k ∷ with_from (suc k)) (with_from (suc k))
   next_from k below =
-      let more : item_count sort text - k ≡ suc (item_count sort text - suc k) = omega (arith, below) in
+      let more : item_count sort text - k ≡ suc (item_count sort text - suc k) =
+      omega (arith, below) in
       ap (λ n. filter (has sort text key) (range_with_len k n)) more
       ∙ ap (filter (has sort text key)) (range_next k (item_count sort text - suc k))
 
-  pub with_passed : (k : ℕ) → k < item_count sort text → has sort text key k ≡ false → with_from (suc k) ≡ with_from k
+  pub with_passed : (k : ℕ) → k < item_count sort text → has sort text key k ≡ false
+      → with_from (suc k) ≡ with_from k
   with_passed k below isnt =
       sym (next_from k below ∙ ap (λ b. cond b (k ∷ with_from (suc k)) (with_from (suc k))) isnt)
 
-  pub with_found : (k : ℕ) → k < item_count sort text → has sort text key k ≡ true → with_from k ≡ items_from sort text k
+  pub with_found : (k : ℕ) → k < item_count sort text → has sort text key k ≡ true
+      → with_from k ≡ items_from sort text k
   unfolding later
   with_found k below is =
       next_from k below ∙ ap (λ b. cond b (k ∷ with_from (suc k)) (with_from (suc k))) is
-      ∙ ap (λ l. k ∷ l) (sym (filter_agree (have_one_key sort text k) (has sort text key) (same_test sort text key k is)
+      ∙ ap (λ l. k ∷ l) (sym
+      (filter_agree (have_one_key sort text k) (has sort text key) (same_test sort text key k is)
       (range_with_len (suc k) (item_count sort text - suc k))))
 
   module _ (file : List ℕ) where
@@ -51,23 +57,30 @@ module _ (sort : FactKind) (text key : List ℕ) where
     fact = fact_at sort file text
 
     abbrev IsNew : ℕ → Type 0
-    IsNew k = map fact (filter (gives false sort text) (with_from k)) ≡ unlike sort (map fact (with_from k))
+    IsNew k =
+        map fact (filter (gives false sort text) (with_from k))
+        ≡ unlike sort (map fact (with_from k))
 
     -- those that are no repeats give each row once
-    new_from : (n k : ℕ) → k + n ≡ item_count sort text → ((before : ℕ) → before < k → has sort text key before ≡ false)
-        → map fact (filter (gives false sort text) (with_from k)) ≡ unlike sort (map fact (with_from k))
+    new_from : (n k : ℕ) → k + n ≡ item_count sort text
+        → ((before : ℕ) → before < k → has sort text key before ≡ false)
+        → map fact (filter (gives false sort text) (with_from k))
+        ≡ unlike sort (map fact (with_from k))
     unfolding unlike
     new_from zero k all none =
         let past : item_count sort text - k ≡ 0 = omega (arith, all) in
-        subst (λ m. map fact (filter (gives false sort text) (filter (has sort text key) (range_with_len k m)))
+        subst (λ m.
+        map fact (filter (gives false sort text) (filter (has sort text key) (range_with_len k m)))
         ≡ unlike sort (map fact (filter (has sort text key) (range_with_len k m)))) (sym past) refl
-    new_from (suc n) k all none = by_test (has sort text key k) refl (λ still. new_from n (suc k) (omega (arith, all)) still)
+    new_from (suc n) k all none =
+        by_test (has sort text key k) refl (λ still. new_from n (suc k) (omega (arith, all)) still)
       where
         below : k < item_count sort text
         below = omega (arith, all)
 
         by_test : (b : Bool) → has sort text key k ≡ b
-            → (((before : ℕ) → before < suc k → has sort text key before ≡ false) → IsNew (suc k)) → IsNew k
+            → (((before : ℕ) → before < suc k → has sort text key before ≡ false) → IsNew (suc k))
+            → IsNew k
         by_test true is later =
             let found = with_found k below is in
             ap (λ l. map fact (filter (gives false sort text) l)) found
@@ -88,20 +101,26 @@ module _ (sort : FactKind) (text key : List ℕ) where
                     let same : before ≡ k = omega (arith, late, low) in
                     ap (has sort text key) same ∙ isnt
 
-    pub searched_new : map fact (filter (gives false sort text) (items_with sort text key)) ≡ unlike sort (map fact (items_with sort text key))
+    pub searched_new : map fact (filter (gives false sort text) (items_with sort text key))
+        ≡ unlike sort (map fact (items_with sort text key))
     searched_new =
         let all : item_count sort text - 0 ≡ item_count sort text = omega arith in
-        subst (λ n. map fact (filter (gives false sort text) (filter (has sort text key) (range_with_len 0 n)))
+        subst (λ n.
+        map fact (filter (gives false sort text) (filter (has sort text key) (range_with_len 0 n)))
         ≡ unlike sort (map fact (filter (has sort text key) (range_with_len 0 n)))) all
-        (new_from (item_count sort text) 0 (omega arith) (λ before low. absurd (omega (arith, low))))
+        (new_from (item_count sort text) 0 (omega arith)
+        (λ before low. absurd (omega (arith, low))))
 
   -- as many as the first item and those behind it have
-  pub searched_rows : (file : List ℕ) (item : ℕ) → is_first sort text item ≡ true → items_with sort text key ≡ items_from sort text item
-      → row_count sort text item ≡ length (map (fact_at sort file text) (filter (gives false sort text) (items_with sort text key)))
+  pub searched_rows : (file : List ℕ) (item : ℕ) → is_first sort text item ≡ true
+      → items_with sort text key ≡ items_from sort text item
+      → row_count sort text item ≡ length
+      (map (fact_at sort file text) (filter (gives false sort text) (items_with sort text key)))
   searched_rows file item first is =
       sym (rows_counted sort text item first)
       ∙ ap (λ l. length (filter (gives false sort text) l)) (sym is)
-      ∙ sym (length-map (filter (gives false sort text) (items_with sort text key)) (fact_at sort file text))
+      ∙ sym (length-map (filter (gives false sort text) (items_with sort text key))
+      (fact_at sort file text))
 
 -- ---- all files
 module _ (kind : FactKind) (a : Archived) (key : List ℕ) where
@@ -126,23 +145,28 @@ module _ (kind : FactKind) (a : Archived) (key : List ℕ) where
         ∙ ap (unlike kind) (one_searched a s text there key kind)
 
   all_searched : (shown : List Shown) → AllByRecursion (IsThere a) shown
-      → flat_map (searched_at true kind a key) shown ≡ flat_map (file_facts kind key) (files_of a shown)
+      → flat_map (searched_at true kind a key) shown
+      ≡ flat_map (file_facts kind key) (files_of a shown)
   all_searched [] all = refl
   all_searched (s ∷ shown) all =
-      λ i. one_all s (get_or a.texts s.version []) (slice_get-get_or a.texts s.version [] all.0.1) i ++ all_searched shown all.1 i
+      λ i. one_all s (get_or a.texts s.version []) (slice_get-get_or a.texts s.version [] all.0.1) i
+      ++ all_searched shown all.1 i
 
   pub facts_searched : (shown : List Shown) → AllByRecursion (IsThere a) shown
       → flat_map (searched_at true kind a key) shown ≡ facts_named kind key (files_of a shown)
   facts_searched shown all = all_searched shown all ∙ named_apart kind key (files_of a shown)
 
   pub new_searched : (shown : List Shown) → AllByRecursion (IsThere a) shown
-      → flat_map (searched_at false kind a key) shown ≡ unlike_in_files kind (file_facts kind key) (files_of a shown)
+      → flat_map (searched_at false kind a key) shown
+      ≡ unlike_in_files kind (file_facts kind key) (files_of a shown)
   new_searched [] all = refl
   new_searched (s ∷ shown) all =
-      λ i. one_new s (get_or a.texts s.version []) (slice_get-get_or a.texts s.version [] all.0.1) i ++ new_searched shown all.1 i
+      λ i. one_new s (get_or a.texts s.version []) (slice_get-get_or a.texts s.version [] all.0.1) i
+      ++ new_searched shown all.1 i
 
   pub counted_searched : (shown : List Shown) → AllByRecursion (IsThere a) shown
-      → sum_by (searched_count kind a key) shown ≡ rows_in_files kind (file_facts kind key) (files_of a shown)
+      → sum_by (searched_count kind a key) shown
+      ≡ rows_in_files kind (file_facts kind key) (files_of a shown)
   counted_searched [] all = refl
   counted_searched (s ∷ shown) all =
       let text = get_or a.texts s.version [] in
@@ -150,4 +174,5 @@ module _ (kind : FactKind) (a : Archived) (key : List ℕ) where
       let here = ap length (one_new s text (slice_get-get_or a.texts s.version [] all.0.1)) in
       sum_by-cons (searched_count kind a key) s shown
       ∙ (λ i. here i + counted_searched shown all.1 i)
-      ∙ sym (sum_by-cons (λ (f : File). length (unlike kind (file_facts kind key f))) file (files_of a shown))
+      ∙ sym (sum_by-cons (λ (f : File). length (unlike kind (file_facts kind key f))) file
+      (files_of a shown))

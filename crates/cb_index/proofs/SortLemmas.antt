@@ -1,5 +1,6 @@
 -- Parts between which the prefixes change are put in order each for itself.
-use Rattle.std.proofs.Common.{◌≡◌, ◌∙◌, ◌≤◌, ◌<◌, ◌+◌, ℕ, Bool, true, false, List, [], ◌∷◌, ◌++◌, sym, ap, take, drop, length, get_or, arith, ⊎_elim}
+use Rattle.std.proofs.Common.{◌≡◌, ◌∙◌, ◌≤◌, ◌<◌, ◌+◌, ℕ, Bool, true, false, List, [], ◌∷◌, ◌++◌}
+use Rattle.std.proofs.Common.{sym, ap, take, drop, length, get_or, arith, ⊎_elim}
 use Rattle.std.proofs.lemmas.Bool.{cases_lt, false≢true}
 use Rattle.std.proofs.lemmas.Bool.Decides.{nat_tests}
 use Rattle.std.proofs.lemmas.List.{take-append-drop}
@@ -33,24 +34,29 @@ number_greater x y greater = grind (arith, nat_tests, greater)
 not_greater : (e f : Entry) → goes_first quick_key e f ≡ true → e.prefix ≤ f.prefix
 not_greater e f first =
     ⊎_elim
-    (λ above. absurd (false≢true (sym (ap (λ o. not (is_gt (ordering_then o (slice_cmp nat_cmp (e.name ∷ e.number ∷ []) (f.name ∷ f.number ∷ [])))))
+    (λ above. absurd (false≢true (sym (ap (λ o. not
+    (is_gt (ordering_then o (slice_cmp nat_cmp (e.name ∷ e.number ∷ []) (f.name ∷ f.number ∷ [])))))
     (number_greater e.prefix f.prefix above)) ∙ first)))
     (λ upward. upward)
     (cases_lt f.prefix e.prefix)
 
 pub prefixes_rise : (es : List Entry) → Sorted quick_key es → IsNonDecreasingBy prefix_of es
-prefixes_rise es s i j d upward below = not_greater (get_or es i d) (get_or es j d) (earlier_first quick_key es s i j d upward below)
+prefixes_rise es s i j d upward below =
+    not_greater (get_or es i d) (get_or es j d) (earlier_first quick_key es s i j d upward below)
 
 -- a place where a test on the prefix parts the entries
-pub parted_at : (p : Entry → Bool) (bound n : ℕ) (es : List Entry) → ((e : Entry) → p e ≡ true → e.prefix < bound)
+pub parted_at : (p : Entry → Bool) (bound n : ℕ) (es : List Entry)
+    → ((e : Entry) → p e ≡ true → e.prefix < bound)
     → ((e : Entry) → p e ≡ false → bound ≤ e.prefix) → n ≤ length es
     → IsPartitionPoint (λ e. p e ≡ true) (λ e. p e ≡ false) es n → IsBoundary es n
 parted_at p bound n es ahead behind within parted = (
   within,
   (
     bound,
-    all_implied (λ e. p e ≡ true) (λ (e : Entry). e.prefix < bound) ahead (take n es) (all_upto (λ e. p e ≡ true) n es within parted.0),
-    all_implied (λ e. p e ≡ false) (λ (e : Entry). bound ≤ e.prefix) behind (drop n es) (all_behind (λ e. p e ≡ false) n es parted.1),
+    all_implied (λ e. p e ≡ true) (λ (e : Entry). e.prefix < bound) ahead (take n es)
+        (all_upto (λ e. p e ≡ true) n es within parted.0),
+    all_implied (λ e. p e ≡ false) (λ (e : Entry). bound ≤ e.prefix) behind (drop n es)
+        (all_behind (λ e. p e ≡ false) n es parted.1),
   ),
 )
 
@@ -59,25 +65,31 @@ module _ (keyer : Keyer) (a : Archived) where
   prefix_first : (e f : Entry) → e.prefix < f.prefix → goes_first (sort_key keyer a) e f ≡ true
   unfolding sort_key
   prefix_first e f less =
-      ap (λ o. not (is_gt (ordering_then o (slice_cmp nat_cmp (bytes_key keyer a e) (bytes_key keyer a f)))))
+      ap (λ o.
+      not (is_gt (ordering_then o (slice_cmp nat_cmp (bytes_key keyer a e) (bytes_key keyer a f)))))
       (number_less e.prefix f.prefix less)
 
-  before_all : (p : ℕ) (e : Entry) (fs : List Entry) → e.prefix < p → AllByRecursion (λ (f : Entry). p ≤ f.prefix) fs
+  before_all : (p : ℕ) (e : Entry) (fs : List Entry) → e.prefix < p
+      → AllByRecursion (λ (f : Entry). p ≤ f.prefix) fs
       → AllByRecursion (λ f. goes_first (sort_key keyer a) e f ≡ true) fs
   before_all p e [] ahead behind = tt
-  before_all p e (f ∷ fs) ahead behind = (prefix_first e f (omega (arith, ahead, behind.0)), before_all p e fs ahead behind.1)
+  before_all p e (f ∷ fs) ahead behind =
+      (prefix_first e f (omega (arith, ahead, behind.0)), before_all p e fs ahead behind.1)
 
   sorted_parts : (p : ℕ) (es fs : List Entry) → AllByRecursion (λ (e : Entry). e.prefix < p) es
-      → AllByRecursion (λ (f : Entry). p ≤ f.prefix) fs → Sorted (sort_key keyer a) es → Sorted (sort_key keyer a) fs
+      → AllByRecursion (λ (f : Entry). p ≤ f.prefix) fs → Sorted (sort_key keyer a) es
+      → Sorted (sort_key keyer a) fs
       → Sorted (sort_key keyer a) (es ++ fs)
   sorted_parts p [] fs ahead behind s t = t
   sorted_parts p (e ∷ es) fs ahead behind s t = (
-    all-append (λ f. goes_first (sort_key keyer a) e f ≡ true) es fs s.0 (before_all p e fs ahead.0 behind),
+    all-append (λ f. goes_first (sort_key keyer a) e f ≡ true) es fs s.0
+        (before_all p e fs ahead.0 behind),
     sorted_parts p es fs ahead.1 behind s.1 t,
   )
 
   pub parts_order : (n : ℕ) (es : List Entry) → IsBoundary es n
-      → in_order (sort_key keyer a) (take n es) ++ in_order (sort_key keyer a) (drop n es) ≡ in_order (sort_key keyer a) es
+      → in_order (sort_key keyer a) (take n es) ++ in_order (sort_key keyer a) (drop n es)
+      ≡ in_order (sort_key keyer a) es
   parts_order n es parted =
       let key = sort_key keyer a in
       let front = in_order key (take n es) in

@@ -94,7 +94,8 @@ module _ (sort : FactKind) (text : List ℕ) where
   unfolding first_in
   here i below =
       ap first_or_none
-      (kept_here (stands_in sort text (place i)) i n below ((Decides-eqb (place i) (place i)).1 refl))
+      (kept_here (stands_in sort text (place i)) i n below
+      ((Decides-eqb (place i) (place i)).1 refl))
 
   passed : (p i : ℕ) → i < n → nat_eq (place i) p ≡ false
       → first_in sort text p i ≡ first_in sort text p (i + 1)
@@ -407,7 +408,10 @@ module _ (sort : FactKind) (text : List ℕ) where
                 subst (λ k. get_or (set (set ls i own_link) next later_link) k d ≡ link_from i k)
                 (sym same)
                 (get_or-set_same (set ls i own_link) next later_link d there
-                ∙ (λ t. record { next = (old_is t).next; first = sym (not_first i below next next_is some) t }))
+                ∙ (λ t. record {
+                  next = (old_is t).next;
+                  first = sym (not_first i below next next_is some) t;
+                }))
             either j d low within (inr other) =
                 get_or-set_other (set ls i own_link) next j later_link d other
                 ∙ half_linked j d low within

@@ -3,7 +3,8 @@ use Rattle.std.specs.Prelude.{ℕ, Bool, true, false, List, [], ◌∷◌, Optio
 use Rattle.cb_scan.specs.Keys.{key_prefix}
 use Rattle.cb_index.specs.Entries.{Keyer}
 use Rattle.cb_index.specs.Held.{Lister}
-use Rattle.cb_index.specs.Orders.{def_key, defs_listed, firsts_in, item_keyer, tag_key, tag_key_prefix, tags_listed}
+use Rattle.cb_index.specs.Orders.{def_key, defs_listed, firsts_in, item_keyer, tag_key}
+use Rattle.cb_index.specs.Orders.{tag_key_prefix, tags_listed}
 use Rattle.cb_index.specs.declared.kind.FactKind.{FactKind}
 use Rattle.cb_index.specs.declared.kind.FactKind.TheVariants.{Uses, Callees, Callers}
 use Rattle.cb_index.specs.declared.kind.IndexKind.{IndexKind}

@@ -16,7 +16,8 @@ ghost use Rattle.cb_index.specs.Files.{AreAscending};
 ghost use Rattle.cb_index.specs.Held.{all_entries, entries_of};
 ghost use Rattle.cb_index.specs.Kinds.{def_kind, keyer_of, lister_of};
 ghost use Rattle.cb_index.specs.declared.entry.Entry.{Entry};
-ghost use Rattle.cb_index.specs.steps.ToCome.{GoesOn, earlier, first_of, is_asked, is_later, to_come};
+ghost use Rattle.cb_index.specs.steps.ToCome.{GoesOn, earlier, first_of, is_asked, is_later};
+ghost use Rattle.cb_index.specs.steps.ToCome.{to_come};
 
 use crate::archive::{Archive, Version};
 use crate::entry::{Entry, Shown};

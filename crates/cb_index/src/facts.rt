@@ -1,5 +1,6 @@
 //! Uses and calls, one after another.
-ghost use Rattle.std.specs.Prelude.{◌≡◌, ◌+◌, ◌++◌, ◌∷◌, [], Bool, true, false, ⊤, IfSome, MatchOption, sum_by};
+ghost use Rattle.std.specs.Prelude.{◌≡◌, ◌+◌, ◌++◌, ◌∷◌, [], Bool, true, false, ⊤, IfSome};
+ghost use Rattle.std.specs.Prelude.{MatchOption, sum_by};
 ghost use Rattle.cb_index.specs.Items.{is_first};
 ghost use Rattle.std.specs.List.{flat_map};
 ghost use Rattle.std.specs.Iterator.{YieldsFirstBy, item_count};
@@ -136,7 +137,8 @@ fn next_group<'a, 'p>(
     archive: &'a Archive,
     groups: Groups<'a, 'p>,
 ) -> Option<GroupStep<'a, 'p>>
-    ensures given { (all : Bool) → MatchOption result (groups_left all sort archive.now groups.entry ≡ [])
+    ensures given { (all : Bool)
+        → MatchOption result (groups_left all sort archive.now groups.entry ≡ [])
         (λ r. groups_left all sort archive.now groups.entry
         ≡ group_left_if all r.group ++ groups_left all sort archive.now r.rest) }
     ensures fewer { MatchOption result ⊤ (λ r. group_count groups.entry ≡ 1 + group_count r.rest) }

@@ -8,7 +8,7 @@ ghost use Rattle.cb_index.specs.Archived.{Archived};
 ghost use Rattle.cb_index.specs.Entries.{sort_key};
 ghost use Rattle.cb_index.specs.Kinds.{keyer_of};
 ghost use Rattle.cb_index.specs.RowOrders.{row_key, row_order};
-ghost use Rattle.cb_index.specs.Spreads.{SpreadsInto};
+ghost use Rattle.cb_index.specs.Spreads.{RowsAscend, SpreadsInto};
 ghost use Rattle.cb_index.specs.declared.entry.Entry.{Entry};
 ghost use Rattle.cb_index.specs.declared.kind.IndexKind.{IndexKind};
 ghost use Rattle.cb_index.specs.declared.row.Row.{Row};
@@ -52,4 +52,9 @@ pub fn rows_of_a_key_stand_together<O: RowOrder>()
 /// that have the key, by file name and then by item.
 pub fn ranges_have_the_rows_of_their_keys()
     ensures { (kind : IndexKind) → SpreadsInto kind }
+{}
+
+/// The rows of a key in files whose names ascend stand in the strict order of their kind.
+pub fn rows_of_files_ascend()
+    ensures { (kind : IndexKind) → RowsAscend kind }
 {}

@@ -1,6 +1,6 @@
-//! How two entries compare: by prefix, key, file name and then by their own numbers. Key and name are
-//! looked up in the archive; so what is pushed there changes nothing of the order of entries that are
-//! held. Of one key in one file the numbers go by place.
+//! How two entries compare: by prefix, key, file name and then by their own numbers. Key and name
+//! are looked up in the archive; so what is pushed there changes nothing of the order of entries
+//! that are held. Of one key in one file the numbers go by place.
 ghost use Rattle.std.specs.Prelude.{◌≡◌};
 ghost use Rattle.std.specs.Cmp.Lexicographic.{slice_cmp};
 ghost use Rattle.std.specs.Ordering.{nat_cmp};
@@ -33,7 +33,8 @@ fn compare_files(archive: &Archive, a: Entry, b: Entry) -> Ordering
 /// The order of two entries with one prefix.
 fn compare_bytes(kind: IndexKind, archive: &Archive, a: Entry, b: Entry) -> Ordering
     ensures { result
-        ≡ slice_cmp nat_cmp (bytes_key (keyer_of kind) archive.now a) (bytes_key (keyer_of kind) archive.now b) }
+        ≡ slice_cmp nat_cmp (bytes_key (keyer_of kind) archive.now a)
+        (bytes_key (keyer_of kind) archive.now b) }
 {
     match compare_keys(kind, archive, a, b) {
         Ordering::Less => Ordering::Less,
@@ -45,7 +46,8 @@ fn compare_bytes(kind: IndexKind, archive: &Archive, a: Entry, b: Entry) -> Orde
 /// The order of two entries.
 pub(crate) fn compare(kind: IndexKind, archive: &Archive, a: Entry, b: Entry) -> Ordering
     ensures { result
-        ≡ slice_cmp nat_cmp (sort_key (keyer_of kind) archive.now a) (sort_key (keyer_of kind) archive.now b) }
+        ≡ slice_cmp nat_cmp (sort_key (keyer_of kind) archive.now a)
+        (sort_key (keyer_of kind) archive.now b) }
 {
     match a.prefix.cmp(&b.prefix) {
         Ordering::Less => Ordering::Less,

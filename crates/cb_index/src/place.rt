@@ -99,11 +99,13 @@ fn count_begun(kind: IndexKind, archive: &Archive, bound: Bound<'_>, blocks: &[B
     ensures bound { result ≤ length blocks.now }
     ensures parted { IsPartitionPoint
         (λ b. head_is (is_ahead (keyer_of kind) archive.now bound.entry) b ≡ true)
-        (λ b. head_is (is_ahead (keyer_of kind) archive.now bound.entry) b ≡ false) blocks.now result }
+        (λ b. head_is (is_ahead (keyer_of kind) archive.now bound.entry) b ≡ false)
+        blocks.now result }
 {
     blocks.partition_point(
         |b: &Block| -> bool
-            ensures { result ≡ head_is (is_ahead (keyer_of kind) archive.entry.now bound.entry) b.now }
+            ensures { result
+                ≡ head_is (is_ahead (keyer_of kind) archive.entry.now bound.entry) b.now }
         { begins_ahead(kind, archive, bound, b) },
     )
 }
@@ -121,7 +123,8 @@ pub(crate) fn place_of(
     ensures place { IsPlace blocks.now result.block result.at }
     ensures ahead { AllByRecursion (λ e. is_ahead (keyer_of kind) archive.now bound.entry e ≡ true)
         (take (before blocks.now result.block result.at) (joined blocks.now)) }
-    ensures behind { AllByRecursion (λ e. is_ahead (keyer_of kind) archive.now bound.entry e ≡ false)
+    ensures behind { AllByRecursion
+        (λ e. is_ahead (keyer_of kind) archive.now bound.entry e ≡ false)
         (drop (before blocks.now result.block result.at) (joined blocks.now)) }
     ensures start { result.at ≡ 0 → result.block ≡ 0 }
 {

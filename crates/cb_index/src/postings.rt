@@ -116,7 +116,8 @@ fn are_few(kind: IndexKind, archive: &Archive, shown: &[Shown], held: usize) -> 
 
 /// Puts the entries of versions behind others, in the room that is there.
 fn append_each(kind: IndexKind, archive: &Archive, shown: &[Shown], entries: &mut Vec<Entry>)
-    requires { length entries.old.items + length (all_entries (lister_of kind) archive.now shown.now)
+    requires { length entries.old.items
+        + length (all_entries (lister_of kind) archive.now shown.now)
         ≤ vec_capacity entries.old }
     ensures items { entries.new.items
         ≡ entries.old.items ++ all_entries (lister_of kind) archive.now shown.now }
@@ -351,7 +352,8 @@ impl Postings {
 
     /// Puts the entries of many versions among the others by one sort.
     fn sort_each(&mut self, kind: IndexKind, archive: &Archive, shown: &[Shown])
-        requires { length self.old.entries + length (all_entries (lister_of kind) archive.now shown.now)
+        requires { length self.old.entries
+            + length (all_entries (lister_of kind) archive.now shown.now)
             ≤ self.old.room }
         ensures entries { self.new.entries ≡ in_order (sort_key (keyer_of kind) archive.now)
             (self.old.entries ++ all_entries (lister_of kind) archive.now shown.now) }
@@ -365,7 +367,8 @@ impl Postings {
     /// Takes away the entries of a version under a name, all of which are there. It takes no
     /// memory, and the room stays.
     pub(crate) fn take_all(&mut self, kind: IndexKind, archive: &Archive, shown: Shown)
-        requires { (rest : List Entry) × (self.old.entries ≡ in_order (sort_key (keyer_of kind) archive.now)
+        requires { (rest : List Entry)
+            × (self.old.entries ≡ in_order (sort_key (keyer_of kind) archive.now)
             (entries_of (lister_of kind) archive.now shown ++ rest)) }
         ensures entries { (rest : List Entry)
             → self.old.entries ≡ in_order (sort_key (keyer_of kind) archive.now)
@@ -399,9 +402,11 @@ impl Postings {
 
     /// The entries that have the key, in order.
     pub(crate) fn with_key(&self, kind: IndexKind, archive: &Archive, key: &[u8]) -> Run<'_>
-        requires { self.now.entries ≡ in_order (sort_key (keyer_of kind) archive.now) self.now.entries }
-        ensures { run_entries result ≡ filter
-            (has_key (keyer_of kind) archive.now (prefix_of kind key.now) key.now) self.now.entries }
+        requires { self.now.entries
+            ≡ in_order (sort_key (keyer_of kind) archive.now) self.now.entries }
+        ensures { run_entries result
+            ≡ filter (has_key (keyer_of kind) archive.now (prefix_of kind key.now) key.now)
+            self.now.entries }
     {
         let _room = self.scratch.capacity();
         let prefix = prefix(kind, key);

@@ -57,7 +57,8 @@ ghost use Rattle.cb_index.specs.Shelved.{
 ghost use Rattle.cb_index.specs.declared.entry.Shown.{Shown};
 ghost use Rattle.cb_index.specs.Kinds.{def_kind};
 ghost use Rattle.cb_index.specs.steps.ToCome.{asked_tags};
-ghost use Rattle.cb_index.specs.steps.Left.{entries_left, facts_counted, facts_left, facts_new, tags_left};
+ghost use Rattle.cb_index.specs.steps.Left.{entries_left, facts_counted, facts_left, facts_new};
+ghost use Rattle.cb_index.specs.steps.Left.{tags_left};
 
 use crate::archive::{Archive, Version};
 use crate::def_search::{DefSearch, def_kind};
@@ -81,9 +82,9 @@ const FEW: usize = 8;
 /// An archive, the versions that are shown of it, each under a file name, and five indexes of what
 /// is found in these. No two versions are shown under one file name. Only `reserve` takes memory.
 ///
-/// What is found in a version that is shown is pending at first, so that the entries of many are put
-/// in order together by `flush`. Before that a question walks over the files: it answers the same,
-/// in more time.
+/// What is found in a version that is shown is pending at first, so that the entries of many are
+/// put in order together by `flush`. Before that a question walks over the files: it answers the
+/// same, in more time.
 #[derive(Drop)]
 pub struct Shelf {
     archive: Archive,

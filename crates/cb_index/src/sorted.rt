@@ -1,12 +1,33 @@
 //! An index of rows in one order.
-ghost use Rattle.std.specs.Prelude.{◌≡◌, ◌+◌, ◌≤◌, ◌++◌, List, [], filter, length, true, OnOk};
-ghost use Rattle.cb_scan.specs.Order.{in_order};
+ghost use Rattle.std.specs.Prelude.{
+  ◌≡◌,
+  ◌+◌,
+  ◌≤◌,
+  ◌++◌,
+  List,
+  [],
+  Some,
+  filter,
+  length,
+  nat_eq,
+  not,
+  true,
+  false,
+  OnOk,
+};
+ghost use Rattle.std.specs.declared.cmp.Ordering.TheVariants.{Less};
+ghost use Rattle.cb_scan.specs.Order.{AreOrdered, in_order, put};
+ghost use Rattle.cb_index.specs.Archived.{Archived};
 ghost use Rattle.cb_index.specs.Entries.{has_key, sort_key};
+ghost use Rattle.cb_index.specs.Files.{IsThere, is_shown, shown_name, shown_under};
 ghost use Rattle.cb_index.specs.Held.{entries_of, listed_of};
 ghost use Rattle.cb_index.specs.Kinds.{fact_kind, keyer_of, lister_of, prefix_of};
+ghost use Rattle.cb_index.specs.RowOrders.{row_order};
+ghost use Rattle.cb_index.specs.Spreads.{HoldsRowsOf, rows_of_key};
 ghost use Rattle.cb_index.specs.steps.RowsLeft.{rows_left};
 ghost use Rattle.cb_index.specs.steps.Spread.{rows_in};
 ghost use Rattle.cb_index.specs.declared.entry.Entry.{Entry};
+ghost use Rattle.cb_index.specs.declared.entry.Shown.{Shown};
 
 use crate::archive::Archive;
 use crate::entry::Shown;
@@ -47,7 +68,8 @@ fn fact_kind(kind: IndexKind) -> Option<FactKind>
 impl<O: RowOrder> Sorted<O> {
     /// An index that holds nothing. It takes no memory.
     pub fn new(alloc: Global) -> Sorted<O>
-        ensures { result.entries ≡ [] }
+        ensures entries { result.entries ≡ [] }
+        ensures rows { (a : Archived) → HoldsRowsOf O.kind a [] result.entries }
     {
         Sorted {
             postings: Postings::new(alloc),
@@ -96,6 +118,10 @@ impl<O: RowOrder> Sorted<O> {
             + length (listed_of (lister_of O.kind) archive.now shown.version) ≤ self.old.room }
         ensures entries { self.new.entries ≡ in_order (sort_key (keyer_of O.kind) archive.now)
             (self.old.entries ++ entries_of (lister_of O.kind) archive.now shown) }
+        ensures rows { (files : List Shown) → HoldsRowsOf O.kind archive.now files self.old.entries
+            → IsThere archive.now shown → is_shown archive.now files shown ≡ false
+            → HoldsRowsOf O.kind archive.now (put (shown_name archive.now) shown files)
+            self.new.entries }
         ensures room { self.old.room ≤ self.new.room }
     {
         self.postings.put_all(O::kind(), archive, shown);
@@ -111,6 +137,10 @@ impl<O: RowOrder> Sorted<O> {
             ≡ in_order (sort_key (keyer_of O.kind) archive.now)
             (entries_of (lister_of O.kind) archive.now shown ++ rest)
             → self.new.entries ≡ in_order (sort_key (keyer_of O.kind) archive.now) rest }
+        ensures rows { (files : List Shown) → HoldsRowsOf O.kind archive.now files self.old.entries
+            → shown_under shown.name files ≡ Some shown
+            → HoldsRowsOf O.kind archive.now
+            (filter (λ (s : Shown). not (nat_eq s.name shown.name)) files) self.new.entries }
         ensures room { self.old.room ≤ self.new.room }
     {
         self.postings.take_all(O::kind(), archive, shown);
@@ -120,9 +150,14 @@ impl<O: RowOrder> Sorted<O> {
     pub fn range<'a>(&'a self, archive: &'a Archive, key: &[u8]) -> Rows<'a>
         requires { self.now.entries
             ≡ in_order (sort_key (keyer_of O.kind) archive.now) self.now.entries }
-        ensures { rows_left result ≡ rows_in (fact_kind O.kind) archive.now (filter
+        ensures entries { rows_left result ≡ rows_in (fact_kind O.kind) archive.now (filter
             (has_key (keyer_of O.kind) archive.now (prefix_of O.kind key.now) key.now)
             self.now.entries) }
+        ensures rows { (files : List Shown) → HoldsRowsOf O.kind archive.now files self.now.entries
+            → rows_left result ≡ rows_of_key O.kind archive.now key.now files }
+        ensures ascending { (files : List Shown)
+            → HoldsRowsOf O.kind archive.now files self.now.entries
+            → AreOrdered (λ r s. row_order O.kind archive.now r s ≡ Less) (rows_left result) }
     {
         Rows::new(
             fact_kind(O::kind()),

@@ -1,8 +1,8 @@
 //! Laying the links of a version by a table. Each item stands in one of as many places as there are
 //! items, by a hash of its key. The items of one place are chained: the field `version` of the
 //! entry of that number holds the first of them, and the field `name` of the entry of an item the
-//! next one; 0 is for none. The items are noted from the last to the first, so item 0 is in front of
-//! all chains and is never looked for.
+//! next one; 0 is for none. The items are noted from the last to the first, so item 0 is in front
+//! of all chains and is never looked for.
 ghost use Rattle.std.specs.Prelude.{
   ◌≡◌,
   ◌<◌,

@@ -61,7 +61,8 @@ abbrev pub tags_left : TagRows → List Tag
 tags_left r = map (tag_at r.archive.now) (defs_left r.defs)
 
 abbrev pub group_left : Bool → Group → List Fact
-group_left all g = map (fact_at g.items.sort g.file.now g.items.version.now) (given_left all g.items)
+group_left all g =
+    map (fact_at g.items.sort g.file.now g.items.version.now) (given_left all g.items)
 
 abbrev pub group_left_if : Bool → Option Group → List Fact
 group_left_if all None = []
@@ -70,7 +71,8 @@ group_left_if all (Some g) = group_left all g
 -- the facts of groups that are still to come
 abbrev pub groups_left : Bool → FactKind → Archived → Groups → List Fact
 groups_left all sort a (groups.Held entries) = given_in all sort a (run_entries entries)
-groups_left all sort a (groups.Searched key shown) = flat_map (searched_at all sort a key.now) shown.now
+groups_left all sort a (groups.Searched key shown) =
+    flat_map (searched_at all sort a key.now) shown.now
 
 -- how many groups are still to come
 abbrev pub group_count : Groups → ℕ

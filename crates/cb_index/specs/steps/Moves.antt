@@ -1,5 +1,6 @@
 -- What becomes of the indexes of a shelf.
-use Rattle.std.specs.Prelude.{ℕ, ◌≡◌, ◌≤◌, ◌+◌, ◌++◌, [], ◌∷◌, List, length, filter, not, nat_eq, Some}
+use Rattle.std.specs.Prelude.{ℕ, ◌≡◌, ◌≤◌, ◌+◌, ◌++◌, [], ◌∷◌, List, length, filter, not, nat_eq}
+use Rattle.std.specs.Prelude.{Some}
 use Rattle.cb_index.specs.Archived.{Archived}
 use Rattle.cb_index.specs.Files.{shown_under}
 use Rattle.cb_index.specs.Held.{Indexed}

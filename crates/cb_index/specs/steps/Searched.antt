@@ -14,7 +14,8 @@ use Rattle.cb_index.specs.declared.kind.FactKind.{FactKind}
 -- the items of a text that have a key
 abbrev pub items_with : FactKind → List ℕ → List ℕ → List ℕ
 items_with sort text key =
-    filter (λ item. bytes_eq key (item_key sort text item)) (range_with_len 0 (item_count sort text))
+    filter (λ item. bytes_eq key (item_key sort text item))
+    (range_with_len 0 (item_count sort text))
 
 -- their facts: of all, or of those that are no repeats
 abbrev pub searched_in_text : Bool → FactKind → List ℕ → List ℕ → Option (List ℕ) → List Fact

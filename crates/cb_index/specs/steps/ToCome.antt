@@ -1,5 +1,6 @@
 -- Entries that are still to come, where they are found one after another.
-use Rattle.std.specs.Prelude.{ℕ, ◌≡◌, Bool, true, not, ◌&&◌, List, [], ◌∷◌, Option, Some, None, filter}
+use Rattle.std.specs.Prelude.{ℕ, ◌≡◌, Bool, true, not, ◌&&◌, List, [], ◌∷◌, Option, Some, None}
+use Rattle.std.specs.Prelude.{filter}
 use Rattle.std.specs.Prelude.{map, if◌then◌else◌}
 use Rattle.cb_scan.specs.Order.{goes_first, in_order}
 use Rattle.cb_tags.specs.TagLines.{Tag}

@@ -12,7 +12,8 @@ pub returns-then-prefix-entry : goal.returns-then-prefix-entry
 returns-then-prefix-entry c =
     let key = c.in-Some.key.now in
     let own = key_of (keyer_of c.args.kind) c.args.archive.now c.args.entry in
-    let same : nat_eq (prefix_of c.args.kind key) c.args.entry.prefix ≡ true = (Decides-eqb _ _).1 (search rules) in
+    let same : nat_eq (prefix_of c.args.kind key) c.args.entry.prefix ≡ true =
+    (Decides-eqb _ _).1 (search rules) in
     let equal : c.eq.result ≡ is_eq c.compare_key_bytes.result = search rules in
     equal ∙ ap is_eq c.compare_key_bytes.ensures ∙ is_eq-slice_cmp key own
     ∙ ap (λ b. b && bytes_eq key own) (sym same)

@@ -9,6 +9,7 @@ decreases-loop-entry l = length (run_entries l.left)
 
 abbrev pub invariant-loop-entry : goal.invariant-loop-entry
 invariant-loop-entry l = record {
-  counted : l.count + sum_by (λ (e : Entry). e.rows) (run_entries l.left) ≡ sum_by (λ (e : Entry). e.rows) (run_entries l.fn.entries);
+  counted : l.count + sum_by (λ (e : Entry). e.rows) (run_entries l.left)
+      ≡ sum_by (λ (e : Entry). e.rows) (run_entries l.fn.entries);
   few : l.count + length (run_entries l.left) * 2 ^ 32 ≤ length (run_entries l.fn.entries) * 2 ^ 32;
 }

@@ -9,5 +9,6 @@ returns-in-Some-first_with_key c =
     let file = name_of c.args.archive.now c.args.shown.name in
     let found = c.in-Some-first_with_key in
     c.row_count.ensures
-    ∙ searched_rows c.args.sort c.in-Some.version.now c.args.key.now file found.item found.ensures.first found.ensures.items
+    ∙ searched_rows c.args.sort c.in-Some.version.now c.args.key.now file found.item
+    found.ensures.first found.ensures.items
     ∙ ap (λ t. length (searched_in_text false c.args.sort file c.args.key.now t)) c.in-Some.ensures

@@ -10,11 +10,14 @@ loop-index-preserved c =
     let i = c.loop-index.index-index in
     let way : Indexed → Indexed → Type 0 = LetsGoAll (names_of c.args.files.now) in
     let step : suc i ≡ i + 1 = omega arith in
-    subst (λ n. Upto way n c.args.indexes.now (slice_set c.loop-index.indexes i c.take_names.new.self)) step
-    (upto_next way i c.args.indexes.now c.loop-index.indexes c.take_names.new.self c.index-item.result (omega (arith, c.loop-index-test.true, c.loop-index.auto.indexes))
+    subst (λ n.
+    Upto way n c.args.indexes.now (slice_set c.loop-index.indexes i c.take_names.new.self)) step
+    (upto_next way i c.args.indexes.now c.loop-index.indexes c.take_names.new.self
+    c.index-item.result (omega (arith, c.loop-index-test.true, c.loop-index.auto.indexes))
     c.loop-index.invariant c.take_names.ensures)
 
 pub returns : goal.returns
 returns c =
-    upto_done (LetsGoAll (names_of c.args.files.now)) c.loop-index.index-index c.args.indexes.now c.loop-index.indexes
+    upto_done (LetsGoAll (names_of c.args.files.now)) c.loop-index.index-index c.args.indexes.now
+    c.loop-index.indexes
     (omega (arith, c.loop-index-test.false, c.loop-index.auto.indexes)) c.loop-index.invariant

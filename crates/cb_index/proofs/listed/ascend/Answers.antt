@@ -13,8 +13,10 @@ pub returns-clause-apart : goal.returns-clause-apart
 returns-clause-apart c = λ is.
     let a = c.args.archive.now in
     ascending_apart a c.args.news.now (ascending_if a c.args.news.now
-    (subst (IsAllAdjacentAnswer (λ (s t : Shown) b. b ≡ is_lt (slice_cmp nat_cmp (name_of a s.name) (name_of a t.name))) c.args.news.now) is
-    (c.is_sorted_by.ensures.cases (λ s t. is_lt (slice_cmp nat_cmp (name_of a s.name) (name_of a t.name)))
+    (subst (IsAllAdjacentAnswer (λ (s t : Shown) b.
+    b ≡ is_lt (slice_cmp nat_cmp (name_of a s.name) (name_of a t.name))) c.args.news.now) is
+    (c.is_sorted_by.ensures.cases
+    (λ s t. is_lt (slice_cmp nat_cmp (name_of a s.name) (name_of a t.name)))
     (always_returns_same _ _ _ (λ x r q k. (search (rules, k), search (rules, k)))))))
 
 -- where each name is below the next, no two are found that are not
@@ -23,5 +25,6 @@ returns-clause-ascending c = λ up.
     let a = c.args.archive.now in
     let news = c.args.news.now in
     ascending_answer a news c.is_sorted_by.result up
-    (c.is_sorted_by.ensures.cases (λ s t. is_lt (slice_cmp nat_cmp (name_of a s.name) (name_of a t.name)))
+    (c.is_sorted_by.ensures.cases
+    (λ s t. is_lt (slice_cmp nat_cmp (name_of a s.name) (name_of a t.name)))
     (always_returns_same _ _ _ (λ x r q k. (search (rules, k), search (rules, k)))))

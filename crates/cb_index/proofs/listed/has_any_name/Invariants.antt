@@ -5,4 +5,5 @@ use Rattle.cb_index.proofs.listed.has_any_name.Given as goal
 
 abbrev pub invariant-loop-one : goal.invariant-loop-one
 invariant-loop-one l =
-    list_any (is_shown l.archive l.shown) (drop l.one-index l.news) ≡ list_any (is_shown l.archive l.shown) l.news
+    list_any (is_shown l.archive l.shown) (drop l.one-index l.news)
+    ≡ list_any (is_shown l.archive l.shown) l.news

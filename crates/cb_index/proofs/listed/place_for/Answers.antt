@@ -14,7 +14,9 @@ returns-clause-parted c =
     let archive = c.args.archive.now in
     let shown = c.args.shown.now in
     let name = c.args.name in
-    IsPartitionPoint-from_clause (λ (s : Shown). is_gt (slice_cmp nat_cmp (name_of archive name) (name_of archive s.name))) shown _
+    IsPartitionPoint-from_clause (λ (s : Shown).
+    is_gt (slice_cmp nat_cmp (name_of archive name) (name_of archive s.name))) shown _
     c.partition_point.ensures.partitioned
-    (put_parted (shown_name archive) (record { name = name; version = 0 }) shown (ascending_sorted archive shown c.requires))
+    (put_parted (shown_name archive) (record { name = name; version = 0 }) shown
+    (ascending_sorted archive shown c.requires))
     (λ a r f k. (search (rules, k), search (rules, k)))

@@ -16,7 +16,10 @@ returns-clause-items c =
     let at = c.place_for-at.result in
     let bound = subst (λ l. at ≤ length l) c.as_slice.ensures.value c.place_for-at.ensures.bound in
     let point = subst (λ l. IsPartitionPoint
-    (λ (s : Shown). is_gt (slice_cmp nat_cmp (name_of archive one.name) (name_of archive s.name)) ≡ true)
-    (λ (s : Shown). is_gt (slice_cmp nat_cmp (name_of archive one.name) (name_of archive s.name)) ≡ false) l at)
+    (λ (s : Shown).
+    is_gt (slice_cmp nat_cmp (name_of archive one.name) (name_of archive s.name)) ≡ true)
+    (λ (s : Shown).
+    is_gt (slice_cmp nat_cmp (name_of archive one.name) (name_of archive s.name)) ≡ false) l at)
     c.as_slice.ensures.value c.place_for-at.ensures.parted in
-    c.insert_shown.ensures.items ∙ put_at (shown_name archive) one at c.args.shown.now.items bound point.0 point.1
+    c.insert_shown.ensures.items
+    ∙ put_at (shown_name archive) one at c.args.shown.now.items bound point.0 point.1

@@ -3,14 +3,16 @@ use Rattle.std.specs.List.{prefix_len, remove}
 use Rattle.std.specs.Prelude.{not, slice_index_or}
 use Rattle.cb_index.specs.Names.{AreSingle}
 use Rattle.cb_index.specs.declared.entry.Shown.{Shown}
-use Rattle.cb_index.proofs.CoverLemmas.{apart_single, last_stay, none_if, none_waits, one_there, others_left}
+use Rattle.cb_index.proofs.CoverLemmas.{apart_single, last_stay, none_if, none_waits, one_there}
+use Rattle.cb_index.proofs.CoverLemmas.{others_left}
 use Rattle.cb_index.proofs.ListedLemmas.{ascending_apart}
 use Rattle.cb_index.proofs.listed.take_under.Goals as goal
 
 pub place_of-at-requires : goal.place_of-at-requires
 place_of-at-requires c =
     let a = c.args.archive.now in
-    subst AreSingle (sym c.as_slice-listed.ensures.value) (apart_single a c.args.shown.now.items (ascending_apart a c.args.shown.now.items c.requires))
+    subst AreSingle (sym c.as_slice-listed.ensures.value)
+    (apart_single a c.args.shown.now.items (ascending_apart a c.args.shown.now.items c.requires))
 
 -- none has the name where all are passed
 pub returns-then-at-listed-clause-value : goal.returns-then-at-listed-clause-value
@@ -19,8 +21,11 @@ returns-then-at-listed-clause-value c =
     let name = c.args.name in
     let shown = c.args.shown.now.items in
     let listed = c.as_slice-listed.ensures.value in
-    let at = c.place_of-at.ensures.place ∙ ap (prefix_len (λ (s : Shown). not (nat_eq s.name name))) listed in
-    sym (none_if a name shown (none_waits a name shown (sym at ∙ c.if-at-listed.true ∙ ap length listed)))
+    let at =
+    c.place_of-at.ensures.place
+    ∙ ap (prefix_len (λ (s : Shown). not (nat_eq s.name name))) listed in
+    sym (none_if a name shown
+    (none_waits a name shown (sym at ∙ c.if-at-listed.true ∙ ap length listed)))
 
 pub returns-then-at-listed-clause-items : goal.returns-then-at-listed-clause-items
 returns-then-at-listed-clause-items c =
@@ -28,8 +33,11 @@ returns-then-at-listed-clause-items c =
     let name = c.args.name in
     let shown = c.args.shown.now.items in
     let listed = c.as_slice-listed.ensures.value in
-    let at = c.place_of-at.ensures.place ∙ ap (prefix_len (λ (s : Shown). not (nat_eq s.name name))) listed in
-    sym (last_stay a name shown (none_waits a name shown (sym at ∙ c.if-at-listed.true ∙ ap length listed)))
+    let at =
+    c.place_of-at.ensures.place
+    ∙ ap (prefix_len (λ (s : Shown). not (nat_eq s.name name))) listed in
+    sym (last_stay a name shown
+    (none_waits a name shown (sym at ∙ c.if-at-listed.true ∙ ap length listed)))
 
 -- the one that is found goes, and the others stay
 pub returns-clause-value : goal.returns-clause-value
@@ -38,7 +46,9 @@ returns-clause-value c =
     let name = c.args.name in
     let shown = c.args.shown.now.items in
     let listed = c.as_slice-listed.ensures.value in
-    let at = c.place_of-at.ensures.place ∙ ap (prefix_len (λ (s : Shown). not (nat_eq s.name name))) listed in
+    let at =
+    c.place_of-at.ensures.place
+    ∙ ap (prefix_len (λ (s : Shown). not (nat_eq s.name name))) listed in
     let within = c.place_of-at.ensures.bound in
     let long = ap length listed in
     let isnt = c.if-at-listed.false in
@@ -52,10 +62,13 @@ returns-clause-items c =
     let name = c.args.name in
     let shown = c.args.shown.now.items in
     let listed = c.as_slice-listed.ensures.value in
-    let at = c.place_of-at.ensures.place ∙ ap (prefix_len (λ (s : Shown). not (nat_eq s.name name))) listed in
+    let at =
+    c.place_of-at.ensures.place
+    ∙ ap (prefix_len (λ (s : Shown). not (nat_eq s.name name))) listed in
     let within = c.place_of-at.ensures.bound in
     let long = ap length listed in
     let isnt = c.if-at-listed.false in
     let less : c.place_of-at.result < length shown = omega (arith, within, long, isnt) in
     c.remove.ensures.items ∙ ap (remove shown) at
-    ∙ others_left a name shown (ascending_apart a shown c.requires) (subst (λ n. n < length shown) at less)
+    ∙ others_left a name shown (ascending_apart a shown c.requires)
+    (subst (λ n. n < length shown) at less)

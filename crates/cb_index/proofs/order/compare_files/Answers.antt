@@ -10,7 +10,8 @@ returns-in-Less c =
     let archive = c.args.archive.now in
     let e = c.args.a in
     let f = c.args.b in
-    (λ i. ordering_then ((sym c.in-Less.is ∙ c.cmp.ensures ∙ (λ j. slice_cmp nat_cmp (c.name.ensures j) (c.name-2.ensures j))) i)
+    (λ i. ordering_then ((sym c.in-Less.is ∙ c.cmp.ensures
+    ∙ (λ j. slice_cmp nat_cmp (c.name.ensures j) (c.name-2.ensures j))) i)
     (slice_cmp nat_cmp (numbers e) (numbers f))) ∙ file_cmp archive e f
 
 pub returns-in-Greater : goal.returns-in-Greater
@@ -18,7 +19,8 @@ returns-in-Greater c =
     let archive = c.args.archive.now in
     let e = c.args.a in
     let f = c.args.b in
-    (λ i. ordering_then ((sym c.in-Greater.is ∙ c.cmp.ensures ∙ (λ j. slice_cmp nat_cmp (c.name.ensures j) (c.name-2.ensures j))) i)
+    (λ i. ordering_then ((sym c.in-Greater.is ∙ c.cmp.ensures
+    ∙ (λ j. slice_cmp nat_cmp (c.name.ensures j) (c.name-2.ensures j))) i)
     (slice_cmp nat_cmp (numbers e) (numbers f))) ∙ file_cmp archive e f
 
 pub returns-in-Equal : goal.returns-in-Equal
@@ -26,5 +28,8 @@ returns-in-Equal c =
     let archive = c.args.archive.now in
     let e = c.args.a in
     let f = c.args.b in
-    (λ i. ordering_then ((sym c.in-Equal.is ∙ c.cmp.ensures ∙ (λ j. slice_cmp nat_cmp (c.name.ensures j) (c.name-2.ensures j))) i)
-    ((c.cmp-in-Equal.ensures ∙ (λ j. slice_cmp nat_cmp (c.numbers.ensures j) (c.numbers-in-Equal.ensures j))) i)) ∙ file_cmp archive e f
+    (λ i. ordering_then ((sym c.in-Equal.is ∙ c.cmp.ensures
+    ∙ (λ j. slice_cmp nat_cmp (c.name.ensures j) (c.name-2.ensures j))) i)
+    ((c.cmp-in-Equal.ensures
+    ∙ (λ j. slice_cmp nat_cmp (c.numbers.ensures j) (c.numbers-in-Equal.ensures j))) i))
+    ∙ file_cmp archive e f

@@ -1,4 +1,5 @@
-use Rattle.std.proofs.Common.{◌≡◌, ◌∙◌, ◌+◌, ◌≤◌, ap, length, subst, sym, vec_capacity, vec_len, arith}
+use Rattle.std.proofs.Common.{◌≡◌, ◌∙◌, ◌+◌, ◌≤◌, ap, length, subst, sym, vec_capacity, vec_len}
+use Rattle.std.proofs.Common.{arith}
 use Rattle.std.specs.Prelude.{slice_get}
 use Rattle.cb_scan.specs.Definitions.{facts_of}
 use Rattle.cb_index.specs.Held.{listed_of}
@@ -11,7 +12,9 @@ use Rattle.cb_index.proofs.orders.append.Goals as goal
 pub append_defs-requires-clause-room : goal.append_defs-requires-clause-room
 append_defs-requires-clause-room c =
     let text = c.in-Some.kept.now in
-    let room = subst (λ k. vec_len c.args.entries.now + length (listed_of (lister_of k) c.args.archive.now c.args.shown.version) ≤ vec_capacity c.args.entries.now) c.in-DefsByName.is c.requires in
+    let room =
+    subst (λ k. vec_len c.args.entries.now + length (listed_of (lister_of k) c.args.archive.now
+    c.args.shown.version) ≤ vec_capacity c.args.entries.now) c.in-DefsByName.is c.requires in
     let count : length c.defs_of.result.now
     ≡ length (defs_listed (slice_get c.args.archive.now.texts c.args.shown.version)) =
     ap length c.defs_of.ensures.value
@@ -19,10 +22,13 @@ append_defs-requires-clause-room c =
     ∙ ap (λ t. length (defs_listed t)) c.in-Some.ensures in
     omega (arith, count, room)
 
-pub append_defs-requires-in-DefsByTagName-clause-room : goal.append_defs-requires-in-DefsByTagName-clause-room
+pub append_defs-requires-in-DefsByTagName-clause-room :
+    goal.append_defs-requires-in-DefsByTagName-clause-room
 append_defs-requires-in-DefsByTagName-clause-room c =
     let text = c.in-Some.kept.now in
-    let room = subst (λ k. vec_len c.args.entries.now + length (listed_of (lister_of k) c.args.archive.now c.args.shown.version) ≤ vec_capacity c.args.entries.now) c.in-DefsByTagName.is c.requires in
+    let room =
+    subst (λ k. vec_len c.args.entries.now + length (listed_of (lister_of k) c.args.archive.now
+    c.args.shown.version) ≤ vec_capacity c.args.entries.now) c.in-DefsByTagName.is c.requires in
     let count : length c.defs_of-in-DefsByTagName.result.now
     ≡ length (tags_listed (slice_get c.args.archive.now.texts c.args.shown.version)) =
     ap length c.defs_of-in-DefsByTagName.ensures.value

@@ -13,7 +13,8 @@ returns-in-DefsByName c =
     ap length c.defs_of.ensures.value
     ∙ sym (length_numbered (def_prefix text) 0 (facts_of text).defs)
     ∙ ap (λ t. length (defs_listed t)) c.in-Some.ensures
-    ∙ ap (λ k. length (listed_of (lister_of k) c.args.archive.now c.args.version)) (sym c.in-DefsByName.is)
+    ∙ ap (λ k. length (listed_of (lister_of k) c.args.archive.now c.args.version))
+    (sym c.in-DefsByName.is)
 
 pub returns-in-DefsByTagName : goal.returns-in-DefsByTagName
 returns-in-DefsByTagName c =
@@ -21,4 +22,5 @@ returns-in-DefsByTagName c =
     ap length c.defs_of-in-DefsByTagName.ensures.value
     ∙ sym (length_numbered (tag_prefix text) 0 (facts_of text).defs)
     ∙ ap (λ t. length (tags_listed t)) c.in-Some.ensures
-    ∙ ap (λ k. length (listed_of (lister_of k) c.args.archive.now c.args.version)) (sym c.in-DefsByTagName.is)
+    ∙ ap (λ k. length (listed_of (lister_of k) c.args.archive.now c.args.version))
+    (sym c.in-DefsByTagName.is)

@@ -7,5 +7,7 @@ use Rattle.cb_index.proofs.place.count_begun.Goals as goal
 
 pub returns-clause-parted : goal.returns-clause-parted
 returns-clause-parted c =
-    IsPartitionPoint-from_clause (head_is (is_ahead (keyer_of c.args.kind) c.args.archive.now c.args.bound)) c.args.blocks.now _
-    c.partition_point.ensures.partitioned c.requires (λ a r f k. (search (rules, k), search (rules, k)))
+    IsPartitionPoint-from_clause
+    (head_is (is_ahead (keyer_of c.args.kind) c.args.archive.now c.args.bound)) c.args.blocks.now _
+    c.partition_point.ensures.partitioned c.requires
+    (λ a r f k. (search (rules, k), search (rules, k)))

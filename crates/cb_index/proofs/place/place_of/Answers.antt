@@ -1,8 +1,10 @@
-use Rattle.std.proofs.Common.{◌≡◌, ◌∙◌, ◌≤◌, ◌<◌, ◌-◌, true, false, [], suc, sym, subst, length, get_or, arith}
+use Rattle.std.proofs.Common.{◌≡◌, ◌∙◌, ◌≤◌, ◌<◌, ◌-◌, true, false, [], suc, sym, subst, length}
+use Rattle.std.proofs.Common.{get_or, arith}
 use Rattle.std.specs.List.Sorted.{IsPartitionPoint, IsPartitionedBy}
 use Rattle.cb_index.specs.Blocks.{head_is, joined}
 use Rattle.cb_index.specs.steps.Bounds.{is_ahead}
-use Rattle.cb_index.proofs.BlockLemmas.{all_dropped, block_parts, get_or_any, heads_parted, place_ahead, place_behind, place_inside}
+use Rattle.cb_index.proofs.BlockLemmas.{all_dropped, block_parts, get_or_any, heads_parted}
+use Rattle.cb_index.proofs.BlockLemmas.{place_ahead, place_behind, place_inside}
 use Rattle.cb_index.proofs.RangeLemmas.{ahead_parts}
 use Rattle.cb_index.proofs.SortedLemmas.{parts_places}
 use Rattle.cb_index.specs.Kinds.{keyer_of}
@@ -13,7 +15,8 @@ count_begun-begun-requires c =
     let keyer = keyer_of c.args.kind in
     let a = c.args.archive.now in
     let p = is_ahead keyer a c.args.bound in
-    heads_parted p c.args.blocks.now c.requires.filled (ahead_parts keyer a c.args.bound (joined c.args.blocks.now) c.requires.order)
+    heads_parted p c.args.blocks.now c.requires.filled
+    (ahead_parts keyer a c.args.bound (joined c.args.blocks.now) c.requires.order)
 
 pub count_ahead-at-requires : goal.count_ahead-at-requires
 count_ahead-at-requires c =
@@ -22,11 +25,14 @@ count_ahead-at-requires c =
     let p = is_ahead keyer a c.args.bound in
     let bs = c.args.blocks.now in
     let k = c.count_begun-begun.result - 1 in
-    let low : k < length bs = omega (arith, c.if-begun-eq0.false, c.count_begun-begun.ensures.bound) in
+    let low : k < length bs =
+    omega (arith, c.if-begun-eq0.false, c.count_begun-begun.ensures.bound) in
     let here : c.entries.result.now ≡ get_or bs k [] =
-    c.entries.ensures.value ∙ c.index-blocks-block.is ∙ get_or_any bs k c.index-blocks-block.result [] low in
+    c.entries.ensures.value ∙ c.index-blocks-block.is
+    ∙ get_or_any bs k c.index-blocks-block.result [] low in
     subst (IsPartitionedBy p) (sym here)
-    (parts_places p (get_or bs k []) (block_parts p bs k low (ahead_parts keyer a c.args.bound (joined bs) c.requires.order)))
+    (parts_places p (get_or bs k [])
+    (block_parts p bs k low (ahead_parts keyer a c.args.bound (joined bs) c.requires.order)))
 
 -- where no block begins ahead of it, nothing stands ahead of it
 pub returns-then-begun-eq0-clause-behind : goal.returns-then-begun-eq0-clause-behind
@@ -35,16 +41,19 @@ returns-then-begun-eq0-clause-behind c =
     let a = c.args.archive.now in
     let p = is_ahead keyer a c.args.bound in
     let bs = c.args.blocks.now in
-    all_dropped p bs 0 c.requires.filled (ahead_parts keyer a c.args.bound (joined bs) c.requires.order)
+    all_dropped p bs 0 c.requires.filled
+    (ahead_parts keyer a c.args.bound (joined bs) c.requires.order)
     (λ below. c.count_begun-begun.ensures.parted.1 0 [] (omega (arith, c.if-begun-eq0.true)) below)
 
 pub returns-clause-place : goal.returns-clause-place
 returns-clause-place c =
     let bs = c.args.blocks.now in
     let k = c.count_begun-begun.result - 1 in
-    let low : k < length bs = omega (arith, c.if-begun-eq0.false, c.count_begun-begun.ensures.bound) in
+    let low : k < length bs =
+    omega (arith, c.if-begun-eq0.false, c.count_begun-begun.ensures.bound) in
     let here : c.entries.result.now ≡ get_or bs k [] =
-    c.entries.ensures.value ∙ c.index-blocks-block.is ∙ get_or_any bs k c.index-blocks-block.result [] low in (
+    c.entries.ensures.value ∙ c.index-blocks-block.is
+    ∙ get_or_any bs k c.index-blocks-block.result [] low in (
       omega (arith, c.count_begun-begun.ensures.bound),
       subst (λ b. c.count_ahead-at.result ≤ length b) here c.count_ahead-at.ensures.bound,
     )
@@ -57,14 +66,19 @@ returns-clause-ahead c =
     let bs = c.args.blocks.now in
     let k = c.count_begun-begun.result - 1 in
     let j = c.count_ahead-at.result in
-    let low : k < length bs = omega (arith, c.if-begun-eq0.false, c.count_begun-begun.ensures.bound) in
+    let low : k < length bs =
+    omega (arith, c.if-begun-eq0.false, c.count_begun-begun.ensures.bound) in
     let next : c.count_begun-begun.result ≡ suc k = omega (arith, c.if-begun-eq0.false) in
     let here : c.entries.result.now ≡ get_or bs k [] =
-    c.entries.ensures.value ∙ c.index-blocks-block.is ∙ get_or_any bs k c.index-blocks-block.result [] low in
-    place_ahead p bs k j low c.requires.filled (ahead_parts keyer a c.args.bound (joined bs) c.requires.order)
-    (subst (λ n. IsPartitionPoint (λ b. head_is p b ≡ true) (λ b. head_is p b ≡ false) bs n) next c.count_begun-begun.ensures.parted)
+    c.entries.ensures.value ∙ c.index-blocks-block.is
+    ∙ get_or_any bs k c.index-blocks-block.result [] low in
+    place_ahead p bs k j low c.requires.filled
+    (ahead_parts keyer a c.args.bound (joined bs) c.requires.order)
+    (subst (λ n. IsPartitionPoint (λ b. head_is p b ≡ true) (λ b. head_is p b ≡ false) bs n) next
+    c.count_begun-begun.ensures.parted)
     (subst (λ b. j ≤ length b) here c.count_ahead-at.ensures.bound)
-    (subst (λ b. IsPartitionPoint (λ e. p e ≡ true) (λ e. p e ≡ false) b j) here c.count_ahead-at.ensures.parted)
+    (subst (λ b. IsPartitionPoint (λ e. p e ≡ true) (λ e. p e ≡ false) b j) here
+    c.count_ahead-at.ensures.parted)
 
 pub returns-clause-behind : goal.returns-clause-behind
 returns-clause-behind c =
@@ -74,14 +88,19 @@ returns-clause-behind c =
     let bs = c.args.blocks.now in
     let k = c.count_begun-begun.result - 1 in
     let j = c.count_ahead-at.result in
-    let low : k < length bs = omega (arith, c.if-begun-eq0.false, c.count_begun-begun.ensures.bound) in
+    let low : k < length bs =
+    omega (arith, c.if-begun-eq0.false, c.count_begun-begun.ensures.bound) in
     let next : c.count_begun-begun.result ≡ suc k = omega (arith, c.if-begun-eq0.false) in
     let here : c.entries.result.now ≡ get_or bs k [] =
-    c.entries.ensures.value ∙ c.index-blocks-block.is ∙ get_or_any bs k c.index-blocks-block.result [] low in
-    place_behind p bs k j low c.requires.filled (ahead_parts keyer a c.args.bound (joined bs) c.requires.order)
-    (subst (λ n. IsPartitionPoint (λ b. head_is p b ≡ true) (λ b. head_is p b ≡ false) bs n) next c.count_begun-begun.ensures.parted)
+    c.entries.ensures.value ∙ c.index-blocks-block.is
+    ∙ get_or_any bs k c.index-blocks-block.result [] low in
+    place_behind p bs k j low c.requires.filled
+    (ahead_parts keyer a c.args.bound (joined bs) c.requires.order)
+    (subst (λ n. IsPartitionPoint (λ b. head_is p b ≡ true) (λ b. head_is p b ≡ false) bs n) next
+    c.count_begun-begun.ensures.parted)
     (subst (λ b. j ≤ length b) here c.count_ahead-at.ensures.bound)
-    (subst (λ b. IsPartitionPoint (λ e. p e ≡ true) (λ e. p e ≡ false) b j) here c.count_ahead-at.ensures.parted)
+    (subst (λ b. IsPartitionPoint (λ e. p e ≡ true) (λ e. p e ≡ false) b j) here
+    c.count_ahead-at.ensures.parted)
 
 -- an entry of that block stands ahead
 pub returns-clause-start : goal.returns-clause-start
@@ -92,12 +111,18 @@ returns-clause-start c = λ none.
     let bs = c.args.blocks.now in
     let k = c.count_begun-begun.result - 1 in
     let j = c.count_ahead-at.result in
-    let low : k < length bs = omega (arith, c.if-begun-eq0.false, c.count_begun-begun.ensures.bound) in
+    let low : k < length bs =
+    omega (arith, c.if-begun-eq0.false, c.count_begun-begun.ensures.bound) in
     let next : c.count_begun-begun.result ≡ suc k = omega (arith, c.if-begun-eq0.false) in
     let here : c.entries.result.now ≡ get_or bs k [] =
-    c.entries.ensures.value ∙ c.index-blocks-block.is ∙ get_or_any bs k c.index-blocks-block.result [] low in
-    let some = place_inside p bs k j low c.requires.filled (ahead_parts keyer a c.args.bound (joined bs) c.requires.order)
-    (subst (λ n. IsPartitionPoint (λ b. head_is p b ≡ true) (λ b. head_is p b ≡ false) bs n) next c.count_begun-begun.ensures.parted)
+    c.entries.ensures.value ∙ c.index-blocks-block.is
+    ∙ get_or_any bs k c.index-blocks-block.result [] low in
+    let some =
+    place_inside p bs k j low c.requires.filled
+    (ahead_parts keyer a c.args.bound (joined bs) c.requires.order)
+    (subst (λ n. IsPartitionPoint (λ b. head_is p b ≡ true) (λ b. head_is p b ≡ false) bs n) next
+    c.count_begun-begun.ensures.parted)
     (subst (λ b. j ≤ length b) here c.count_ahead-at.ensures.bound)
-    (subst (λ b. IsPartitionPoint (λ e. p e ≡ true) (λ e. p e ≡ false) b j) here c.count_ahead-at.ensures.parted) in
+    (subst (λ b. IsPartitionPoint (λ e. p e ≡ true) (λ e. p e ≡ false) b j) here
+    c.count_ahead-at.ensures.parted) in
     absurd (omega (arith, some, none))

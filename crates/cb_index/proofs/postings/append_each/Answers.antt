@@ -9,7 +9,9 @@ use Rattle.cb_index.proofs.postings.append_each.Goals as goal
 pub append-requires : goal.append-requires
 append-requires c =
     let none : Shown = record { name = 0; version = 0 } in
-    let fits = next_fits (lister_of c.args.kind) c.args.archive.now c.args.shown.now c.loop-one.one-index none
-    c.loop-one.entries.items c.args.entries.now.items _ c.loop-one-test.true c.loop-one.invariant.entries
+    let fits =
+    next_fits (lister_of c.args.kind) c.args.archive.now c.args.shown.now c.loop-one.one-index none
+    c.loop-one.entries.items c.args.entries.now.items _ c.loop-one-test.true
+    c.loop-one.invariant.entries
     (le_trans c.requires c.loop-one.invariant.grown) in
     omega (arith, c.loop-one.entries.ok.0, fits)

@@ -11,7 +11,8 @@ use Rattle.cb_index.proofs.postings.ascend.Goals as goal
 
 pub returns-in-None : goal.returns-in-None
 returns-in-None c = λ is.
-    none_in_order (sort_key (keyer_of c.args.kind) c.args.archive.now) (run_entries c.args.entries) (search rules)
+    none_in_order (sort_key (keyer_of c.args.kind) c.args.archive.now) (run_entries c.args.entries)
+    (search rules)
 
 -- the last one goes before the next, and so before all after it
 pub loop-entry-preserved : goal.loop-entry-preserved
@@ -22,7 +23,8 @@ loop-entry-preserved c = λ s.
     let rest = run_entries c.in-Some-split_first.rest in
     let first : goes_first key last next ≡ true = search rules in
     let is : run_entries c.loop-entry.left ≡ next ∷ rest = search rules in
-    c.loop-entry.invariant (subst (λ l. Sorted key (last ∷ l)) (sym is) ((first, all_first key last next rest first s.0), s))
+    c.loop-entry.invariant (subst (λ l. Sorted key (last ∷ l)) (sym is)
+    ((first, all_first key last next rest first s.0), s))
 
 pub returns : goal.returns
 returns c = λ is.

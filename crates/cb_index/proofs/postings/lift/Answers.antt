@@ -8,8 +8,11 @@ use Rattle.cb_index.proofs.postings.lift.Goals as goal
 pub extend-requires : goal.extend-requires
 extend-requires c =
     let es = c.loop-block.entries.items in
-    subst (λ b. length es + length b ≤ vec_capacity c.loop-block.entries) (sym (c.entries.ensures.value ∙ c.block-item.is))
-    (lift_fits c.used-used.result.now c.loop-block.block-index c.block-item.result es c.args.entries.now.items _
+    subst (λ b. length es + length b ≤ vec_capacity c.loop-block.entries)
+    (sym (c.entries.ensures.value ∙ c.block-item.is))
+    (lift_fits c.used-used.result.now c.loop-block.block-index c.block-item.result es
+    c.args.entries.now.items _
     c.loop-block-test.true c.loop-block.invariant.entries
-    (le_trans (subst (λ bs. length c.args.entries.now.items + length (joined bs) ≤ vec_capacity c.args.entries.now)
+    (le_trans (subst
+    (λ bs. length c.args.entries.now.items + length (joined bs) ≤ vec_capacity c.args.entries.now)
     (sym c.used-used.ensures.value) c.requires) c.loop-block.invariant.grown))

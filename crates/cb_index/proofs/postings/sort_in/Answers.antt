@@ -10,7 +10,8 @@ use Rattle.cb_index.proofs.postings.sort_in.Goals as goal
 pub deal-requires-clause-room : goal.deal-requires-clause-room
 deal-requires-clause-room c =
     let key = sort_key (keyer_of c.args.kind) c.args.archive.now in
-    let size = parts_length key c.as_slice.result.now c.args.more.now.items (joined c.args.blocks.now.used)
+    let size =
+    parts_length key c.as_slice.result.now c.args.more.now.items (joined c.args.blocks.now.used)
     (c.as_slice.ensures.value ∙ c.sort.ensures.items ∙ ap (in_order key) c.lift.ensures.items) in
     omega (arith, size, c.requires.blocks, c.lift.ensures.count)
 

@@ -1,4 +1,5 @@
-use Rattle.std.proofs.Common.{◌≡◌, ◌∙◌, ◌<◌, ◌-◌, true, false, ◌∷◌, suc, sym, subst, take, drop, arith}
+use Rattle.std.proofs.Common.{◌≡◌, ◌∙◌, ◌<◌, ◌-◌, true, false, ◌∷◌, suc, sym, subst, take, drop}
+use Rattle.std.proofs.Common.{arith}
 use Rattle.std.proofs.lemmas.Bool.{true≢false}
 use Rattle.std.specs.List.{AllByRecursion}
 use Rattle.cb_scan.specs.Order.{in_order}
@@ -18,7 +19,8 @@ place_of-place-requires-clause-order c =
     let keyer = keyer_of c.args.kind in
     let a = c.args.archive.now in
     subst (λ bs. joined bs ≡ in_order (sort_key keyer a) (joined bs)) (sym c.used.ensures.value)
-    (again_in_order (sort_key keyer a) (sort_exact keyer a) (joined c.args.blocks.now.used) (c.args.one ∷ c.requires.0) c.requires.1)
+    (again_in_order (sort_key keyer a) (sort_exact keyer a) (joined c.args.blocks.now.used)
+    (c.args.one ∷ c.requires.0) c.requires.1)
 
 -- an entry that is there does not stand behind the bound
 pub unreachable-requires : goal.unreachable-requires
@@ -29,12 +31,16 @@ unreachable-requires c =
     let k = c.place_of-place.result.block in
     let j = c.place_of-place.result.at in
     let held = c.args.blocks.now.used in
-    let behind : AllByRecursion (λ e. is_ahead keyer a (Behind one) e ≡ false) (drop (before held k j) (joined held)) =
-    subst (λ bs. AllByRecursion (λ e. is_ahead keyer a (Behind one) e ≡ false) (drop (before bs k j) (joined bs))) c.used.ensures.value c.place_of-place.ensures.behind in
+    let behind : AllByRecursion (λ e. is_ahead keyer a (Behind one) e ≡ false)
+    (drop (before held k j) (joined held)) =
+    subst (λ bs. AllByRecursion (λ e. is_ahead keyer a (Behind one) e ≡ false)
+    (drop (before bs k j) (joined bs))) c.used.ensures.value c.place_of-place.ensures.behind in
     true≢false (behind_some keyer a one c.requires.0 (joined held) c.requires.1
-    (subst (λ n. AllByRecursion (λ e. is_ahead keyer a (Behind one) e ≡ false) (drop (before held n 0) (joined held)))
+    (subst (λ n. AllByRecursion (λ e. is_ahead keyer a (Behind one) e ≡ false)
+    (drop (before held n 0) (joined held)))
     (c.place_of-place.ensures.start c.if-place-eq0.true)
-    (subst (λ n. AllByRecursion (λ e. is_ahead keyer a (Behind one) e ≡ false) (drop (before held k n) (joined held))) c.if-place-eq0.true behind)))
+    (subst (λ n. AllByRecursion (λ e. is_ahead keyer a (Behind one) e ≡ false)
+    (drop (before held k n) (joined held))) c.if-place-eq0.true behind)))
 
 pub returns-clause-taken : goal.returns-clause-taken
 returns-clause-taken c = λ rest is.
@@ -45,12 +51,18 @@ returns-clause-taken c = λ rest is.
     let j = c.place_of-place.result.at in
     let held = c.args.blocks.now.used in
     let some : 0 < j = omega (arith, c.if-place-eq0.false) in
-    let place : IsPlace held k j = subst (λ bs. IsPlace bs k j) c.used.ensures.value c.place_of-place.ensures.place in
+    let place : IsPlace held k j =
+    subst (λ bs. IsPlace bs k j) c.used.ensures.value c.place_of-place.ensures.place in
     let fits = before_fits held k j (place_there held k j place some) place.1 in
     let next : before held k j ≡ suc (before held k (j - 1)) = omega (arith, some) in
     c.remove.ensures.taken
-    ∙ behind_taken keyer a one (before held k (j - 1)) rest (joined held) is (omega (arith, fits, next))
-    (subst (λ n. AllByRecursion (λ e. is_ahead keyer a (Behind one) e ≡ true) (take n (joined held))) next
-    (subst (λ bs. AllByRecursion (λ e. is_ahead keyer a (Behind one) e ≡ true) (take (before bs k j) (joined bs))) c.used.ensures.value c.place_of-place.ensures.ahead))
-    (subst (λ n. AllByRecursion (λ e. is_ahead keyer a (Behind one) e ≡ false) (drop n (joined held))) next
-    (subst (λ bs. AllByRecursion (λ e. is_ahead keyer a (Behind one) e ≡ false) (drop (before bs k j) (joined bs))) c.used.ensures.value c.place_of-place.ensures.behind))
+    ∙ behind_taken keyer a one (before held k (j - 1)) rest (joined held) is
+    (omega (arith, fits, next))
+    (subst
+    (λ n. AllByRecursion (λ e. is_ahead keyer a (Behind one) e ≡ true) (take n (joined held))) next
+    (subst (λ bs. AllByRecursion (λ e. is_ahead keyer a (Behind one) e ≡ true)
+    (take (before bs k j) (joined bs))) c.used.ensures.value c.place_of-place.ensures.ahead))
+    (subst
+    (λ n. AllByRecursion (λ e. is_ahead keyer a (Behind one) e ≡ false) (drop n (joined held))) next
+    (subst (λ bs. AllByRecursion (λ e. is_ahead keyer a (Behind one) e ≡ false)
+    (drop (before bs k j) (joined bs))) c.used.ensures.value c.place_of-place.ensures.behind))

@@ -14,7 +14,8 @@ take_one-requires c =
     let gone = c.pop.new.self.items in
     let items : c.loop-one.gone.items ≡ gone ++ c.in-Some.one ∷ [] = search rules in (
       gone ++ c.requires.0,
-      c.loop-one.invariant.left c.requires.0 c.requires.1 ∙ ap (λ l. in_order key (l ++ c.requires.0)) items
+      c.loop-one.invariant.left c.requires.0 c.requires.1
+          ∙ ap (λ l. in_order key (l ++ c.requires.0)) items
           ∙ take_next key (sort_exact keyer a) gone c.requires.0 c.in-Some.one,
     )
 

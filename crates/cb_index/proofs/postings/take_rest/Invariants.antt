@@ -13,8 +13,10 @@ decreases-loop-one l = length l.gone.items
 abbrev pub invariant-loop-one : goal.invariant-loop-one
 invariant-loop-one l = record {
   left : (rest : List Entry)
-      → joined l.initial.blocks.used ≡ in_order (sort_key (keyer_of l.kind) l.archive) (l.initial.gone.items ++ rest)
-      → joined l.blocks.used ≡ in_order (sort_key (keyer_of l.kind) l.archive) (l.gone.items ++ rest);
+      → joined l.initial.blocks.used
+      ≡ in_order (sort_key (keyer_of l.kind) l.archive) (l.initial.gone.items ++ rest)
+      → joined l.blocks.used
+      ≡ in_order (sort_key (keyer_of l.kind) l.archive) (l.gone.items ++ rest);
   count : l.blocks.count ≡ l.initial.blocks.count;
   room : vec_capacity l.gone ≡ vec_capacity l.initial.gone;
 }

@@ -17,5 +17,7 @@ returns-clause-put c = λ is.
     let held = c.args.blocks.now.used in
     c.try_insert.ensures.put is
     ∙ behind_inserted keyer a one (before held k j) (joined held) c.requires
-    (subst (λ bs. AllByRecursion (λ e. is_ahead keyer a (Behind one) e ≡ true) (take (before bs k j) (joined bs))) c.used.ensures.value c.place_of-place.ensures.ahead)
-    (subst (λ bs. AllByRecursion (λ e. is_ahead keyer a (Behind one) e ≡ false) (drop (before bs k j) (joined bs))) c.used.ensures.value c.place_of-place.ensures.behind)
+    (subst (λ bs. AllByRecursion (λ e. is_ahead keyer a (Behind one) e ≡ true)
+    (take (before bs k j) (joined bs))) c.used.ensures.value c.place_of-place.ensures.ahead)
+    (subst (λ bs. AllByRecursion (λ e. is_ahead keyer a (Behind one) e ≡ false)
+    (drop (before bs k j) (joined bs))) c.used.ensures.value c.place_of-place.ensures.behind)

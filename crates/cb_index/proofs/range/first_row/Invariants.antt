@@ -7,4 +7,6 @@ abbrev pub decreases-loop-entry : goal.decreases-loop-entry
 decreases-loop-entry l = length (run_entries l.left)
 
 abbrev pub invariant-loop-entry : goal.invariant-loop-entry
-invariant-loop-entry l = rows_in l.sort l.archive (run_entries l.left) ≡ rows_in l.sort l.archive (run_entries l.fn.entries)
+invariant-loop-entry l =
+    rows_in l.sort l.archive (run_entries l.left)
+    ≡ rows_in l.sort l.archive (run_entries l.fn.entries)

@@ -14,7 +14,8 @@ returns-in-Some c =
     (λ some.
     let above : 0 < c.args.line = omega (arith, some) in
     sym (line_text-at text c.args.line above
-    ∙ get_or_from_slice_get (lines text) (c.args.line - 1) _ [] (sym (c.in-Some.ensures.line above))))
+    ∙ get_or_from_slice_get (lines text) (c.args.line - 1) _
+    [] (sym (c.in-Some.ensures.line above))))
     (cases_eq c.args.line 0)
 
 pub returns-in-None : goal.returns-in-None
@@ -24,6 +25,7 @@ returns-in-None c =
     (λ zero. sym (ap (line_text text) zero))
     (λ some.
     let above : 0 < c.args.line = omega (arith, some) in
-    sym (line_text-at text c.args.line above ∙ sym (unwrap_or-slice_get (lines text) (c.args.line - 1) [])
+    sym (line_text-at text c.args.line above
+    ∙ sym (unwrap_or-slice_get (lines text) (c.args.line - 1) [])
     ∙ ap (λ found. unwrap_or found []) (sym (c.in-None.ensures.line above))))
     (cases_eq c.args.line 0)

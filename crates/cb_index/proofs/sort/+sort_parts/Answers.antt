@@ -11,4 +11,5 @@ returns t c =
     let key = sort_key keyer c.args.archive.now in
     (λ i. (c.sort_parts.ensures ∙ ap (in_order key) c.split_at_mut-front.ensures.front) i
     ++ (c.sort_parts-2.ensures ∙ ap (in_order key) c.split_at_mut-front.ensures.back) i)
-    ∙ parts_order keyer c.args.archive.now c.boundary-at.result c.args.entries.now c.boundary-at.ensures
+    ∙ parts_order keyer c.args.archive.now c.boundary-at.result c.args.entries.now
+    c.boundary-at.ensures

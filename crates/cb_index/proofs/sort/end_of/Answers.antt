@@ -10,7 +10,9 @@ pub returns : goal.returns
 returns c =
     let test : Entry → Bool = λ e. nat_le e.prefix c.args.prefix in
     parted_at test (suc c.args.prefix) c.partition_point.result c.args.entries.now
-    (λ e is. grind (arith, nat_tests, is)) (λ e isnt. grind (arith, nat_tests, isnt)) c.partition_point.ensures.bound
-    (IsPartitionPoint-from_clause test c.args.entries.now c.partition_point.result c.partition_point.ensures.partitioned
+    (λ e is. grind (arith, nat_tests, is)) (λ e isnt. grind (arith, nat_tests, isnt))
+    c.partition_point.ensures.bound
+    (IsPartitionPoint-from_clause test c.args.entries.now c.partition_point.result
+    c.partition_point.ensures.partitioned
     (IsPartitionedBy-leb (λ (e : Entry). e.prefix) c.args.entries.now c.args.prefix c.requires)
     (λ a r f k. (search (rules, k), search (rules, k))))

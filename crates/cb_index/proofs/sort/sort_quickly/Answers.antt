@@ -12,6 +12,8 @@ use Rattle.cb_index.proofs.sort.sort_quickly.Goals as goal
 pub returns-clause-order : goal.returns-clause-order
 returns-clause-order c =
     let after = c.sort_unstable_by.new.self in
-    let adjacent = c.sort_unstable_by.ensures.sorted (λ e f. is_lt (slice_cmp nat_cmp (quick_key e) (quick_key f)))
-    (ranks_by nat_list_cmp_total quick_key) (always_returns_same _ _ _ (λ a r q k. (search (rules, k), search (rules, k)))) in
+    let adjacent =
+    c.sort_unstable_by.ensures.sorted (λ e f. is_lt (slice_cmp nat_cmp (quick_key e) (quick_key f)))
+    (ranks_by nat_list_cmp_total quick_key)
+    (always_returns_same _ _ _ (λ a r q k. (search (rules, k), search (rules, k)))) in
     prefixes_rise after (neighbours quick_key after adjacent)

@@ -19,5 +19,7 @@ returns c =
     let after = c.sort_unstable_by.new.self in
     let moved = c.sort_unstable_by.ensures in
     let adjacent = moved.sorted (λ e f. is_lt (slice_cmp nat_cmp (key e) (key f)))
-    (ranks_by nat_list_cmp_total key) (always_returns_same _ _ _ (λ a r q k. (search (rules, k), search (rules, k)))) in
-    sym (sorted_is key (sort_exact keyer c.args.archive.now) before after moved.permutation (neighbours key after adjacent))
+    (ranks_by nat_list_cmp_total key)
+    (always_returns_same _ _ _ (λ a r q k. (search (rules, k), search (rules, k)))) in
+    sym (sorted_is key (sort_exact keyer c.args.archive.now) before after moved.permutation
+    (neighbours key after adjacent))

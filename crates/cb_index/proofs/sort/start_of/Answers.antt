@@ -10,7 +10,10 @@ pub returns : goal.returns
 returns c =
     let test : Entry → Bool = λ e. nat_lt e.prefix c.args.prefix in
     parted_at test (c.args.prefix) c.partition_point.result c.args.entries.now
-    (λ e is. grind (arith, nat_tests, is)) (λ e isnt. grind (arith, nat_tests, isnt)) c.partition_point.ensures.bound
-    (IsPartitionPoint-from_clause test c.args.entries.now c.partition_point.result c.partition_point.ensures.partitioned
-    (IsPartitionedBy-leb (λ (e : Entry). suc e.prefix) c.args.entries.now c.args.prefix (λ i j d upward below. omega (arith, c.requires i j d upward below)))
+    (λ e is. grind (arith, nat_tests, is)) (λ e isnt. grind (arith, nat_tests, isnt))
+    c.partition_point.ensures.bound
+    (IsPartitionPoint-from_clause test c.args.entries.now c.partition_point.result
+    c.partition_point.ensures.partitioned
+    (IsPartitionedBy-leb (λ (e : Entry). suc e.prefix) c.args.entries.now c.args.prefix
+    (λ i j d upward below. omega (arith, c.requires i j d upward below)))
     (λ a r f k. (search (rules, k), search (rules, k))))

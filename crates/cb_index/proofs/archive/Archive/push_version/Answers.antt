@@ -14,5 +14,8 @@ invariant_of-self c =
     let bytes : AreBytes c.args.version =
     subst AreBytes text (by_recursion (λ b. b < 256) c.bytes.result.now c.read_bytes.ensures) in
     subst (AllByRecursion AreBytes) (sym c.push.ensures.items)
-    (elim (is_ok c.push.result) as (λ b. AllByRecursion AreBytes (cond b (kept ++ c.args.version ∷ []) kept))
-    [ true ↦ all-append AreBytes kept (c.args.version ∷ []) c.self.invariant (bytes, tt) | false ↦ c.self.invariant ])
+    (elim (is_ok c.push.result) as
+    (λ b. AllByRecursion AreBytes (cond b (kept ++ c.args.version ∷ []) kept)) [
+      | true ↦ all-append AreBytes kept (c.args.version ∷ []) c.self.invariant (bytes, tt)
+      | false ↦ c.self.invariant
+    ])

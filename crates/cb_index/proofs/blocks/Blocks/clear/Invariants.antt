@@ -8,6 +8,8 @@ abbrev pub invariant-loop-block : goal.invariant-loop-block
 invariant-loop-block l = record {
   count : length l.self-inside.used.items + length l.self-inside.spare.items
       ≡ length l.initial.self-inside.used.items + length l.initial.self-inside.spare.items;
-  used_fits : length l.self-inside.used.items + length l.self-inside.spare.items ≤ vec_capacity l.self-inside.used;
-  spare_fits : length l.self-inside.used.items + length l.self-inside.spare.items ≤ vec_capacity l.self-inside.spare;
+  used_fits : length l.self-inside.used.items + length l.self-inside.spare.items
+      ≤ vec_capacity l.self-inside.used;
+  spare_fits : length l.self-inside.used.items + length l.self-inside.spare.items
+      ≤ vec_capacity l.self-inside.spare;
 }

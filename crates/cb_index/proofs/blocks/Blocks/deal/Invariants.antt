@@ -14,6 +14,8 @@ invariant-loop-left l = record {
   filled : AllByRecursion IsFilled l.self-inside.used.items;
   count : length l.self-inside.used.items + length l.self-inside.spare.items
       ≡ length l.initial.self-inside.used.items + length l.initial.self-inside.spare.items;
-  used_fits : length l.self-inside.used.items + length l.self-inside.spare.items ≤ vec_capacity l.self-inside.used;
-  spare_fits : length l.self-inside.used.items + length l.self-inside.spare.items ≤ vec_capacity l.self-inside.spare;
+  used_fits : length l.self-inside.used.items + length l.self-inside.spare.items
+      ≤ vec_capacity l.self-inside.used;
+  spare_fits : length l.self-inside.used.items + length l.self-inside.spare.items
+      ≤ vec_capacity l.self-inside.spare;
 }

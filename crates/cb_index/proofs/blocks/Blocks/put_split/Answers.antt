@@ -8,7 +8,11 @@ returns-clause-put c = λ is.
     let k = c.args.place.block in
     let j = c.args.place.at in
     ap joined c.insert_block.ensures.items
-    ∙ split_changed c.self.inside.used.items k j (subst (λ (p : Parted). k < length p.used) (sym c.self.view_is) c.requires.block)
-    c.index_mut-block.result.now c.index_mut-block.ensures.value c.args.one c.insert_split.new.self c.insert_split.new.upper
-    (subst (λ (p : Parted). IsPlace p.used k j) (sym c.self.view_is) c.requires.place).1 c.insert_split.ensures.both
-    ∙ ap (λ (p : Parted). take (before p.used k j) (joined p.used) ++ c.args.one ∷ drop (before p.used k j) (joined p.used)) c.self.view_is
+    ∙ split_changed c.self.inside.used.items k j
+    (subst (λ (p : Parted). k < length p.used) (sym c.self.view_is) c.requires.block)
+    c.index_mut-block.result.now c.index_mut-block.ensures.value c.args.one c.insert_split.new.self
+    c.insert_split.new.upper
+    (subst (λ (p : Parted). IsPlace p.used k j) (sym c.self.view_is) c.requires.place).1
+    c.insert_split.ensures.both
+    ∙ ap (λ (p : Parted). take (before p.used k j) (joined p.used) ++ c.args.one
+    ∷ drop (before p.used k j) (joined p.used)) c.self.view_is

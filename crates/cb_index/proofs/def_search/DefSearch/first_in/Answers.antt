@@ -15,7 +15,8 @@ returns c =
     let bytes = c.bytes-text.result.now in
     let defs = c.defs_of-defs.result.now in
     let same : bytes ≡ text = c.bytes-text.ensures.value ∙ c.source.ensures in
-    ap (λ ds. first_among s c.loop-i.first (map (entry_of one) (numbered c.loop-i.i (map (prefixed by bytes) ds))))
+    ap (λ ds. first_among s c.loop-i.first
+    (map (entry_of one) (numbered c.loop-i.i (map (prefixed by bytes) ds))))
     (sym (drop_of_length-le defs c.loop-i-test.false))
     ∙ c.loop-i.invariant
     ∙ (λ i. first_among s c.args.before

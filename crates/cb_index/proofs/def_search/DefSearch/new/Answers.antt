@@ -4,6 +4,8 @@ use Rattle.cb_index.proofs.def_search.DefSearch.new.Goals as goal
 
 pub invariant_of-result : goal.invariant_of-result
 invariant_of-result c = record {
-  goes_on = goes_on c.args.by_tag_name c.args.archive.now (option_copied c.args.key) c.args.shown.now c.requires.ascending;
+  goes_on =
+      goes_on c.args.by_tag_name c.args.archive.now (option_copied c.args.key) c.args.shown.now
+      c.requires.ascending;
   few = c.requires.few;
 }

@@ -9,5 +9,6 @@ pub returns-in-None : goal.returns-in-None
 returns-in-None c =
     let x = c.args.self.now in
     let a = c.args.archive.now in
-    c.entries.ensures ∙ ap (λ (x : Indexed). x.held) c.self.view_is ∙ sym (all_asked x.kind a x.held)
+    c.entries.ensures ∙ ap (λ (x : Indexed). x.held) c.self.view_is
+    ∙ sym (all_asked x.kind a x.held)
     ∙ ap (λ key. filter (is_asked x.kind a (option_copied key)) x.held) (sym c.in-None.is)

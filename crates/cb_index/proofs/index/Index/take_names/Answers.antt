@@ -11,7 +11,11 @@ pub returns : goal.returns
 returns c = record {
   itself = search rules;
   held = c.take_names.ensures.entries
-      ∙ ap (λ (x : Indexed). filter (λ (e : Entry). not (is_among (names_of c.args.files.now) e.name)) x.held) c.self.view_is;
-  pending = filter_same _ (λ (s : Shown). not (is_among (names_of c.args.files.now) s.name)) _ (λ e r f k. (search (rules, k), search (rules, k))) _ _ c.retain.ensures.filtered
-      ∙ ap (λ (x : Indexed). filter (λ (s : Shown). not (is_among (names_of c.args.files.now) s.name)) x.pending) c.self.view_is;
+      ∙ ap (λ (x : Indexed). filter
+      (λ (e : Entry). not (is_among (names_of c.args.files.now) e.name)) x.held) c.self.view_is;
+  pending =
+      filter_same _ (λ (s : Shown). not (is_among (names_of c.args.files.now) s.name)) _
+      (λ e r f k. (search (rules, k), search (rules, k))) _ _ c.retain.ensures.filtered
+      ∙ ap (λ (x : Indexed). filter
+      (λ (s : Shown). not (is_among (names_of c.args.files.now) s.name)) x.pending) c.self.view_is;
 }

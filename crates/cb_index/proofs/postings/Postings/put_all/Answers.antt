@@ -1,4 +1,5 @@
-use Rattle.std.proofs.Common.{◌≡◌, ◌∙◌, ◌≤◌, ◌*◌, ◌+◌, ◌++◌, sym, ap, subst, length, vec_capacity, arith}
+use Rattle.std.proofs.Common.{◌≡◌, ◌∙◌, ◌≤◌, ◌*◌, ◌+◌, ◌++◌, sym, ap, subst, length, vec_capacity}
+use Rattle.std.proofs.Common.{arith}
 use Rattle.std.proofs.Math.Nat.{min-le_left, min-le_right}
 use Rattle.std.proofs.lemmas.List.{length-map}
 use Rattle.cb_scan.specs.Order.{in_order}
@@ -16,10 +17,14 @@ put_rest-requires-clause-room c =
     let a = c.args.archive.now in
     let items = listed_of (lister_of c.args.kind) a c.args.shown.version in
     let size : length c.append.new.entries.items ≡ length items =
-    ap length (c.append.ensures.entries ∙ ap (λ l. l ++ entries_of (lister_of c.args.kind) a c.args.shown) c.truncate.ensures.items)
+    ap length (c.append.ensures.entries
+    ∙ ap (λ l. l ++ entries_of (lister_of c.args.kind) a c.args.shown) c.truncate.ensures.items)
     ∙ length-map items (entry_of c.args.shown) in
-    let fits = subst (λ (h : Held). length h.entries + length items ≤ h.room) (sym c.self.view_is) c.requires.room in
-    let low = min-le_left (vec_capacity c.self.inside.scratch) (HALF * c.self.inside.blocks.count) in
+    let fits =
+    subst (λ (h : Held). length h.entries + length items ≤ h.room)
+    (sym c.self.view_is) c.requires.room in
+    let low =
+    min-le_left (vec_capacity c.self.inside.scratch) (HALF * c.self.inside.blocks.count) in
     omega (arith, size, fits, low, c.truncate.ensures.capacity, c.append.ensures.room)
 
 pub put_rest-requires-clause-blocks : goal.put_rest-requires-clause-blocks
@@ -27,10 +32,14 @@ put_rest-requires-clause-blocks c =
     let a = c.args.archive.now in
     let items = listed_of (lister_of c.args.kind) a c.args.shown.version in
     let size : length c.append.new.entries.items ≡ length items =
-    ap length (c.append.ensures.entries ∙ ap (λ l. l ++ entries_of (lister_of c.args.kind) a c.args.shown) c.truncate.ensures.items)
+    ap length (c.append.ensures.entries
+    ∙ ap (λ l. l ++ entries_of (lister_of c.args.kind) a c.args.shown) c.truncate.ensures.items)
     ∙ length-map items (entry_of c.args.shown) in
-    let fits = subst (λ (h : Held). length h.entries + length items ≤ h.room) (sym c.self.view_is) c.requires.room in
-    let low = min-le_right (vec_capacity c.self.inside.scratch) (HALF * c.self.inside.blocks.count) in
+    let fits =
+    subst (λ (h : Held). length h.entries + length items ≤ h.room)
+    (sym c.self.view_is) c.requires.room in
+    let low =
+    min-le_right (vec_capacity c.self.inside.scratch) (HALF * c.self.inside.blocks.count) in
     omega (arith, size, fits, low)
 
 pub invariant_of-self : goal.invariant_of-self
@@ -39,13 +48,29 @@ invariant_of-self c =
     let key = sort_key (keyer_of c.args.kind) a in
     let items = listed_of (lister_of c.args.kind) a c.args.shown.version in
     let size : length c.append.new.entries.items ≡ length items =
-    ap length (c.append.ensures.entries ∙ ap (λ l. l ++ entries_of (lister_of c.args.kind) a c.args.shown) c.truncate.ensures.items)
+    ap length (c.append.ensures.entries
+    ∙ ap (λ l. l ++ entries_of (lister_of c.args.kind) a c.args.shown) c.truncate.ensures.items)
     ∙ length-map items (entry_of c.args.shown) in
-    let fits = subst (λ (h : Held). length h.entries + length items ≤ h.room) (sym c.self.view_is) c.requires.room in
-    let whole = parts_length key (joined c.put_rest.new.blocks.used) (joined c.self.inside.blocks.used) c.append.new.entries.items c.put_rest.ensures.entries in
-    let low = min-le_left (vec_capacity c.self.inside.scratch) (HALF * c.self.inside.blocks.count) in
-    let high = min-le_right (vec_capacity c.self.inside.scratch) (HALF * c.self.inside.blocks.count) in (
-      omega (arith, size, fits, whole, low, c.truncate.ensures.capacity, c.append.ensures.room, c.put_rest.ensures.room),
+    let fits =
+    subst (λ (h : Held). length h.entries + length items ≤ h.room)
+    (sym c.self.view_is) c.requires.room in
+    let whole =
+    parts_length key (joined c.put_rest.new.blocks.used) (joined c.self.inside.blocks.used)
+    c.append.new.entries.items c.put_rest.ensures.entries in
+    let low =
+    min-le_left (vec_capacity c.self.inside.scratch) (HALF * c.self.inside.blocks.count) in
+    let high =
+    min-le_right (vec_capacity c.self.inside.scratch) (HALF * c.self.inside.blocks.count) in (
+      omega (
+        arith,
+        size,
+        fits,
+        whole,
+        low,
+        c.truncate.ensures.capacity,
+        c.append.ensures.room,
+        c.put_rest.ensures.room,
+      ),
       omega (arith, size, fits, whole, high, c.put_rest.ensures.count),
     )
 
@@ -55,5 +80,6 @@ returns-clause-entries c =
     let key = sort_key (keyer_of c.args.kind) a in
     let more = entries_of (lister_of c.args.kind) a c.args.shown in
     c.put_rest.ensures.entries
-    ∙ ap (λ l. in_order key (joined c.self.inside.blocks.used ++ l)) (c.append.ensures.entries ∙ ap (λ l. l ++ more) c.truncate.ensures.items)
+    ∙ ap (λ l. in_order key (joined c.self.inside.blocks.used ++ l))
+    (c.append.ensures.entries ∙ ap (λ l. l ++ more) c.truncate.ensures.items)
     ∙ ap (λ (h : Held). in_order key (h.entries ++ more)) c.self.view_is

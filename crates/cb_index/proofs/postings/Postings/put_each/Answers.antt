@@ -1,4 +1,5 @@
-use Rattle.std.proofs.Common.{◌≡◌, ◌∙◌, ◌+◌, ◌++◌, suc, sym, ap, drop, drop-cons, get_or, length, arith}
+use Rattle.std.proofs.Common.{◌≡◌, ◌∙◌, ◌+◌, ◌++◌, suc, sym, ap, drop, drop-cons, get_or, length}
+use Rattle.std.proofs.Common.{arith}
 use Rattle.std.proofs.Math.Nat.{le_trans}
 use Rattle.std.proofs.lemmas.List.{length-append}
 use Rattle.std.proofs.lemmas.List.{length-map}
@@ -21,10 +22,13 @@ put_all-requires-clause-room c =
     let i = c.loop-one.one-index in
     let one = get_or c.args.shown.now i none in
     let later = all_entries lister a (drop (suc i) c.args.shown.now) in
-    let size = parts_same key c.loop-one.self.entries (all_entries lister a (drop i c.args.shown.now))
+    let size =
+    parts_same key c.loop-one.self.entries (all_entries lister a (drop i c.args.shown.now))
     c.args.self.now.entries (all_entries lister a c.args.shown.now) c.loop-one.invariant.same in
-    let next : length (all_entries lister a (drop i c.args.shown.now)) ≡ length (entries_of lister a one ++ later) =
-    ap (λ l. length (all_entries lister a l)) (drop-cons c.args.shown.now i none c.loop-one-test.true) in
+    let next : length (all_entries lister a (drop i c.args.shown.now))
+    ≡ length (entries_of lister a one ++ later) =
+    ap (λ l. length (all_entries lister a l))
+    (drop-cons c.args.shown.now i none c.loop-one-test.true) in
     let parts = length-append (entries_of lister a one) later in
     let count = length-map (listed_of lister a one.version) (entry_of one) in
     omega (arith, size, next, parts, count, c.requires.room, c.loop-one.invariant.room)
@@ -43,11 +47,16 @@ loop-one-preserved c =
     let later = all_entries lister a (drop (suc i) shown) in
     let step : i + 1 ≡ suc i = omega arith in
     record {
-      order = again_in_order key (sort_exact keyer a) c.put_all.new.self.entries (held ++ more) c.put_all.ensures.entries;
-      same = ap (λ n. in_order key (c.put_all.new.self.entries ++ all_entries lister a (drop n shown))) step
+      order =
+          again_in_order key (sort_exact keyer a) c.put_all.new.self.entries
+          (held ++ more) c.put_all.ensures.entries;
+      same =
+          ap (λ n. in_order key (c.put_all.new.self.entries ++ all_entries lister a (drop n shown)))
+          step
           ∙ ap (λ l. in_order key (l ++ later)) c.put_all.ensures.entries
           ∙ order_front key (sort_exact keyer a) held more later
-          ∙ ap (λ l. in_order key (held ++ all_entries lister a l)) (sym (drop-cons shown i none c.loop-one-test.true))
+          ∙ ap (λ l. in_order key (held ++ all_entries lister a l))
+          (sym (drop-cons shown i none c.loop-one-test.true))
           ∙ c.loop-one.invariant.same;
       room = le_trans c.loop-one.invariant.room c.put_all.ensures.room;
     }

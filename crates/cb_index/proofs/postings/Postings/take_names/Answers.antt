@@ -11,15 +11,29 @@ use Rattle.cb_index.proofs.postings.Postings.take_names.Goals as goal
 pub deal-requires-clause-room : goal.deal-requires-clause-room
 deal-requires-clause-room c =
     let items : c.lift.new.entries.items ≡ joined c.self.inside.blocks.used =
-    c.lift.ensures.items ∙ ap (λ l. l ++ joined c.self.inside.blocks.used) c.truncate.ensures.items in
-    let lifted : length c.lift.new.entries.items ≡ length (joined c.self.inside.blocks.used) = ap length items in
-    let kept : length c.as_slice.result.now ≡ length c.retain.new.self.items = ap length c.as_slice.ensures.value in
-    omega (arith, lifted, kept, c.retain.ensures.bound, c.retain.new.self.ok.0, c.lift.new.entries.ok.0, c.self.invariant.1, c.lift.ensures.count)
+    c.lift.ensures.items
+    ∙ ap (λ l. l ++ joined c.self.inside.blocks.used) c.truncate.ensures.items in
+    let lifted : length c.lift.new.entries.items ≡ length (joined c.self.inside.blocks.used) =
+    ap length items in
+    let kept : length c.as_slice.result.now ≡ length c.retain.new.self.items =
+    ap length c.as_slice.ensures.value in
+    omega (
+      arith,
+      lifted,
+      kept,
+      c.retain.ensures.bound,
+      c.retain.new.self.ok.0,
+      c.lift.new.entries.ok.0,
+      c.self.invariant.1,
+      c.lift.ensures.count,
+    )
 
 pub returns-clause-entries : goal.returns-clause-entries
 returns-clause-entries c =
     let stays : Entry → Bool = λ e. not (is_among (names_of c.args.files.now) e.name) in
     c.deal.ensures.entries ∙ c.as_slice.ensures.value
-    ∙ filter_same _ stays _ (λ e r f k. (search (rules, k), search (rules, k))) _ _ c.retain.ensures.filtered
-    ∙ ap (filter stays) (c.lift.ensures.items ∙ ap (λ l. l ++ joined c.self.inside.blocks.used) c.truncate.ensures.items)
+    ∙ filter_same _ stays _ (λ e r f k. (search (rules, k), search (rules, k))) _ _
+    c.retain.ensures.filtered
+    ∙ ap (filter stays) (c.lift.ensures.items
+    ∙ ap (λ l. l ++ joined c.self.inside.blocks.used) c.truncate.ensures.items)
     ∙ ap (λ (h : Held). filter stays h.entries) c.self.view_is

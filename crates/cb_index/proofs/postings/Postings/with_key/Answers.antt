@@ -15,7 +15,9 @@ returns c =
     let bs = c.used-blocks.result.now in
     c.between.ensures
     ∙ key_between keyer a c.prefix-prefix.result c.args.key
-    (before bs c.place_of-from.result.block c.place_of-from.result.at) (before bs c.place_of-to.result.block c.place_of-to.result.at) (joined bs)
-    c.place_of-from.ensures.ahead c.place_of-from.ensures.behind c.place_of-to.ensures.ahead c.place_of-to.ensures.behind
+    (before bs c.place_of-from.result.block c.place_of-from.result.at)
+    (before bs c.place_of-to.result.block c.place_of-to.result.at) (joined bs)
+    c.place_of-from.ensures.ahead c.place_of-from.ensures.behind c.place_of-to.ensures.ahead
+    c.place_of-to.ensures.behind
     ∙ (λ i. filter (has_key keyer a (c.prefix-prefix.ensures i) key)
     ((ap joined c.used-blocks.ensures.value ∙ ap (λ (h : Held). h.entries) c.self.view_is) i))

@@ -1,4 +1,5 @@
-use Rattle.std.proofs.Common.{rules, ◌≡◌, ◌∙◌, ◌<◌, ◌+◌, ◌++◌, [], sym, ap, length, take, drop, get_or, arith}
+use Rattle.std.proofs.Common.{rules, ◌≡◌, ◌∙◌, ◌<◌, ◌+◌, ◌++◌, [], sym, ap, length, take, drop}
+use Rattle.std.proofs.Common.{get_or, arith}
 use Rattle.std.specs.Prelude.{min}
 use Rattle.cb_index.specs.Blocks.{before, joined}
 use Rattle.cb_index.proofs.BlockLemmas.{get_or_any}
@@ -10,7 +11,8 @@ pub returns-then-to-from : goal.returns-then-to-from
 returns-then-to-from c =
     let bs = c.args.blocks.now in
     let low : c.args.to.block < length bs = omega (arith, c.requires.from.0, c.if-to-from.true) in
-    c.whole-then-to-from.ensures ∙ turned_between bs c.args.to.block c.args.to.at c.args.from.block c.args.from.at c.if-to-from.true low c.requires.to.1
+    c.whole-then-to-from.ensures ∙ turned_between bs c.args.to.block c.args.to.at c.args.from.block
+    c.args.from.at c.if-to-from.true low c.requires.to.1
 
 -- in one block
 pub returns-then-from-to : goal.returns-then-from-to
@@ -21,10 +23,12 @@ returns-then-from-to c =
     let t = c.args.to.at in
     let low : k < length bs = search rules in
     let here : c.entries.result.now ≡ get_or bs k [] =
-    c.entries.ensures.value ∙ c.index-blocks-to.is ∙ get_or_any bs k c.index-blocks-to.result [] low in
+    c.entries.ensures.value ∙ c.index-blocks-to.is
+    ∙ get_or_any bs k c.index-blocks-to.result [] low in
     c.parts.ensures
     ∙ ap (λ l. l ++ (joined [] ++ []))
-    (c.split_at-then-from-to.ensures.back ∙ (λ i. drop (c.min.ensures i) (c.split_at.ensures.front i)) ∙ ap (λ b. drop (min f t) (take t b)) here)
+    (c.split_at-then-from-to.ensures.back ∙ (λ i.
+    drop (c.min.ensures i) (c.split_at.ensures.front i)) ∙ ap (λ b. drop (min f t) (take t b)) here)
     ∙ inside_between bs k f t low c.requires.to.1
     ∙ ap (λ n. drop (before bs n f) (take (before bs k t) (joined bs))) (sym c.if-from-to.true)
 
@@ -40,9 +44,11 @@ parts-requires-2 c =
     let first : k < length bs = search rules in
     let less : k < m = omega (arith, c.if-to-from.false, c.if-from-to.false) in
     let start : c.entries-2.result.now ≡ get_or bs k [] =
-    c.entries-2.ensures.value ∙ c.index-blocks-from.is ∙ get_or_any bs k c.index-blocks-from.result [] first in
+    c.entries-2.ensures.value ∙ c.index-blocks-from.is
+    ∙ get_or_any bs k c.index-blocks-from.result [] first in
     let end : c.entries.result.now ≡ get_or bs m [] =
-    c.entries.ensures.value ∙ c.index-blocks-to.is ∙ get_or_any bs m c.index-blocks-to.result [] low in
+    c.entries.ensures.value ∙ c.index-blocks-to.is
+    ∙ get_or_any bs m c.index-blocks-to.result [] low in
     between_fits (before bs k f) (before bs m t) (joined bs) _ _
     ((λ i. (c.split_at-2.ensures.back ∙ ap (drop f) start) i
     ++ (joined ((c.split_at-4.ensures.back ∙ ap (drop (k + 1)) c.split_at-3.ensures.front) i)
@@ -61,9 +67,11 @@ returns c =
     let first : k < length bs = search rules in
     let less : k < m = omega (arith, c.if-to-from.false, c.if-from-to.false) in
     let start : c.entries-2.result.now ≡ get_or bs k [] =
-    c.entries-2.ensures.value ∙ c.index-blocks-from.is ∙ get_or_any bs k c.index-blocks-from.result [] first in
+    c.entries-2.ensures.value ∙ c.index-blocks-from.is
+    ∙ get_or_any bs k c.index-blocks-from.result [] first in
     let end : c.entries.result.now ≡ get_or bs m [] =
-    c.entries.ensures.value ∙ c.index-blocks-to.is ∙ get_or_any bs m c.index-blocks-to.result [] low in
+    c.entries.ensures.value ∙ c.index-blocks-to.is
+    ∙ get_or_any bs m c.index-blocks-to.result [] low in
     c.parts-2.ensures
     ∙ (λ i. (c.split_at-2.ensures.back ∙ ap (drop f) start) i
     ++ (joined ((c.split_at-4.ensures.back ∙ ap (drop (k + 1)) c.split_at-3.ensures.front) i)

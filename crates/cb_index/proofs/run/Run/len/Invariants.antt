@@ -4,4 +4,5 @@ use Rattle.cb_index.specs.steps.Runs.{run_entries}
 use Rattle.cb_index.proofs.run.Run.len.Given as goal
 
 abbrev pub invariant-loop-block : goal.invariant-loop-block
-invariant-loop-block l = l.count + length (joined (drop l.block-index l.blocks)) ≡ length (run_entries l.self)
+invariant-loop-block l =
+    l.count + length (joined (drop l.block-index l.blocks)) ≡ length (run_entries l.self)

@@ -12,7 +12,9 @@ use Rattle.cb_index.proofs.shelf.Shelf.all_defs.Goals as goal
 pub returns : goal.returns
 returns c =
     let s = c.args.self.now in
-    let es = in_order (sort_key (keyer_of DefsByName) s.archive) (all_entries (lister_of DefsByName) s.archive s.shown) in
+    let es =
+    in_order (sort_key (keyer_of DefsByName) s.archive)
+    (all_entries (lister_of DefsByName) s.archive s.shown) in
     let is = c.in_order.ensures in
     is.tags ∙ ap (map (tag_at s.archive)) (all_asked DefsByName s.archive es)
     ∙ rows_by_name s.archive s.shown is.there is.ascending es is.bytes refl

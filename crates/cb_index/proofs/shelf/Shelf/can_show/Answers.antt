@@ -8,4 +8,5 @@ returns-in_default-clause-cannot c = λ up asked-of.
     let room = c.read_room.ensures in
     let asked = subst (λ (s : Shelved). CanShow s c.args.news.now) (sym c.self.view_is) asked-of in
     absurd (⊎_elim (λ n. omega (arith, n, asked.defs, room.defs))
-    (λ rest. ⊎_elim (λ n. omega (arith, n, asked.uses, room.uses)) (λ n. omega (arith, n, asked.calls, room.calls)) rest) c.in_default.ensures)
+    (λ rest. ⊎_elim (λ n. omega (arith, n, asked.uses, room.uses))
+    (λ n. omega (arith, n, asked.calls, room.calls)) rest) c.in_default.ensures)

@@ -10,6 +10,8 @@ use Rattle.cb_index.proofs.shelf.Shelf.defs.Goals as goal
 pub returns : goal.returns
 returns c =
     let s = c.args.self.now in
-    let es = in_order (sort_key (keyer_of DefsByName) s.archive) (all_entries (lister_of DefsByName) s.archive s.shown) in
+    let es =
+    in_order (sort_key (keyer_of DefsByName) s.archive)
+    (all_entries (lister_of DefsByName) s.archive s.shown) in
     let is = c.in_order.ensures in
     is.tags ∙ rows_named s.archive s.shown is.there is.ascending es c.args.name.now refl

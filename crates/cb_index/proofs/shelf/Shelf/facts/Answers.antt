@@ -20,7 +20,9 @@ use Rattle.cb_index.proofs.shelf.Shelf.facts.Goals as goal
 pub asked-requires : goal.asked-requires
 asked-requires c =
     let x = c.index-index.result.now in
-    let is = subst (λ (s : Shelved). IsIndex s.archive s.shown x) (sym c.self.view_is) c.index-index.ensures.index in
+    let is =
+    subst (λ (s : Shelved). IsIndex s.archive s.shown x)
+    (sym c.self.view_is) c.index-index.ensures.index in
     in_its_order x.kind c.self.inside.archive c.self.inside.shown.items x refl is
 
 -- ---- by the index
@@ -31,11 +33,16 @@ returns-then-is_flushed-clause-rows c =
     let kind = c.args.kind in
     let key = c.args.key.now in
     let x = c.index-index.result.now in
-    let is = subst (λ (s : Shelved). IsIndex s.archive s.shown x) (sym c.self.view_is) c.index-index.ensures.index in
-    let held = all_held (Facts kind) s.archive s.shown.items x c.index-index.ensures.kind (c.is_flushed.ensures c.if-is_flushed.true) is in
+    let is =
+    subst (λ (s : Shelved). IsIndex s.archive s.shown x)
+    (sym c.self.view_is) c.index-index.ensures.index in
+    let held =
+    all_held (Facts kind) s.archive s.shown.items x c.index-index.ensures.kind
+    (c.is_flushed.ensures c.if-is_flushed.true) is in
     c.held.ensures.rows
     ∙ ap (facts_in kind s.archive) (c.asked.ensures
-    ∙ ap (λ k. filter (has_key (keyer_of k) s.archive (prefix_of k key) key) x.held) c.index-index.ensures.kind)
+    ∙ ap (λ k. filter (has_key (keyer_of k) s.archive (prefix_of k key) key) x.held)
+    c.index-index.ensures.kind)
     ∙ rows_of_facts kind s.archive key s.shown.items kept.there kept.ascending x.held held
     ∙ ap (λ (v : Shelved). facts_named kind key (files v)) c.self.view_is
 
@@ -46,11 +53,16 @@ returns-then-is_flushed-clause-new c =
     let kind = c.args.kind in
     let key = c.args.key.now in
     let x = c.index-index.result.now in
-    let is = subst (λ (s : Shelved). IsIndex s.archive s.shown x) (sym c.self.view_is) c.index-index.ensures.index in
-    let held = all_held (Facts kind) s.archive s.shown.items x c.index-index.ensures.kind (c.is_flushed.ensures c.if-is_flushed.true) is in
+    let is =
+    subst (λ (s : Shelved). IsIndex s.archive s.shown x)
+    (sym c.self.view_is) c.index-index.ensures.index in
+    let held =
+    all_held (Facts kind) s.archive s.shown.items x c.index-index.ensures.kind
+    (c.is_flushed.ensures c.if-is_flushed.true) is in
     c.held.ensures.new
     ∙ ap (given_in false kind s.archive) (c.asked.ensures
-    ∙ ap (λ k. filter (has_key (keyer_of k) s.archive (prefix_of k key) key) x.held) c.index-index.ensures.kind)
+    ∙ ap (λ k. filter (has_key (keyer_of k) s.archive (prefix_of k key) key) x.held)
+    c.index-index.ensures.kind)
     ∙ facts_new kind s.archive key s.shown.items kept.there kept.ascending x.held held
     ∙ ap (λ (v : Shelved). unlike_in_files kind (file_facts kind key) (files v)) c.self.view_is
 
@@ -61,11 +73,16 @@ returns-then-is_flushed-clause-counted c =
     let kind = c.args.kind in
     let key = c.args.key.now in
     let x = c.index-index.result.now in
-    let is = subst (λ (s : Shelved). IsIndex s.archive s.shown x) (sym c.self.view_is) c.index-index.ensures.index in
-    let held = all_held (Facts kind) s.archive s.shown.items x c.index-index.ensures.kind (c.is_flushed.ensures c.if-is_flushed.true) is in
+    let is =
+    subst (λ (s : Shelved). IsIndex s.archive s.shown x)
+    (sym c.self.view_is) c.index-index.ensures.index in
+    let held =
+    all_held (Facts kind) s.archive s.shown.items x c.index-index.ensures.kind
+    (c.is_flushed.ensures c.if-is_flushed.true) is in
     c.held.ensures.counted
     ∙ ap (sum_by (λ (e : Entry). e.rows)) (c.asked.ensures
-    ∙ ap (λ k. filter (has_key (keyer_of k) s.archive (prefix_of k key) key) x.held) c.index-index.ensures.kind)
+    ∙ ap (λ k. filter (has_key (keyer_of k) s.archive (prefix_of k key) key) x.held)
+    c.index-index.ensures.kind)
     ∙ facts_counted kind s.archive key s.shown.items kept.there kept.ascending x.held held
     ∙ ap (λ (v : Shelved). rows_in_files kind (file_facts kind key) (files v)) c.self.view_is
 
@@ -75,7 +92,8 @@ returns-clause-rows c =
     let s = c.self.inside in
     let kind = c.args.kind in
     let key = c.args.key.now in
-    c.searched.ensures.rows ∙ ap (flat_map (searched_at true kind s.archive key)) c.as_slice.ensures.value
+    c.searched.ensures.rows
+    ∙ ap (flat_map (searched_at true kind s.archive key)) c.as_slice.ensures.value
     ∙ facts_searched kind s.archive key s.shown.items c.self.invariant.0.there
     ∙ ap (λ (v : Shelved). facts_named kind key (files v)) c.self.view_is
 
@@ -84,7 +102,8 @@ returns-clause-new c =
     let s = c.self.inside in
     let kind = c.args.kind in
     let key = c.args.key.now in
-    c.searched.ensures.new ∙ ap (flat_map (searched_at false kind s.archive key)) c.as_slice.ensures.value
+    c.searched.ensures.new
+    ∙ ap (flat_map (searched_at false kind s.archive key)) c.as_slice.ensures.value
     ∙ new_searched kind s.archive key s.shown.items c.self.invariant.0.there
     ∙ ap (λ (v : Shelved). unlike_in_files kind (file_facts kind key) (files v)) c.self.view_is
 
@@ -93,6 +112,7 @@ returns-clause-counted c =
     let s = c.self.inside in
     let kind = c.args.kind in
     let key = c.args.key.now in
-    c.searched.ensures.counted ∙ ap (sum_by (searched_count kind s.archive key)) c.as_slice.ensures.value
+    c.searched.ensures.counted
+    ∙ ap (sum_by (searched_count kind s.archive key)) c.as_slice.ensures.value
     ∙ counted_searched kind s.archive key s.shown.items c.self.invariant.0.there
     ∙ ap (λ (v : Shelved). rows_in_files kind (file_facts kind key) (files v)) c.self.view_is

@@ -14,8 +14,12 @@ use Rattle.cb_index.proofs.shelf.Shelf.hide.Goals as goal
 -- what is shown under the name is in each index
 pub take_from_each-requires : goal.take_from_each-requires
 take_from_each-requires c =
-    let x = c.self.inside in
-    (x.shown.items, c.self.invariant.0.each, under_itself x.archive c.args.name x.shown.items c.in-Some.one (sym c.take_under.ensures.value ∙ c.in-Some.is))
+    let x = c.self.inside in (
+      x.shown.items,
+      c.self.invariant.0.each,
+      under_itself x.archive c.args.name x.shown.items c.in-Some.one
+          (sym c.take_under.ensures.value ∙ c.in-Some.is),
+    )
 
 -- its facts are among those that are counted
 pub without-self-inside-requires : goal.without-self-inside-requires
@@ -24,9 +28,15 @@ without-self-inside-requires c =
     let under = sym c.take_under.ensures.value ∙ c.in-Some.is in
     let are = c.self.invariant.1 in
     record {
-      defs = total_over def_count a c.args.name c.self.inside.shown.items c.in-Some.one _ under c.self.invariant.0.ascending are.defs;
-      uses = total_over use_count a c.args.name c.self.inside.shown.items c.in-Some.one _ under c.self.invariant.0.ascending are.uses;
-      calls = total_over call_count a c.args.name c.self.inside.shown.items c.in-Some.one _ under c.self.invariant.0.ascending are.calls;
+      defs =
+          total_over def_count a c.args.name c.self.inside.shown.items c.in-Some.one _ under
+          c.self.invariant.0.ascending are.defs;
+      uses =
+          total_over use_count a c.args.name c.self.inside.shown.items c.in-Some.one _ under
+          c.self.invariant.0.ascending are.uses;
+      calls =
+          total_over call_count a c.args.name c.self.inside.shown.items c.in-Some.one _ under
+          c.self.invariant.0.ascending are.calls;
     }
 
 -- the indexes are those of what is still shown
@@ -44,9 +54,11 @@ invariant_of-self-2 c =
     let other : Shown → Bool = λ s. not (nat_eq s.name c.args.name) in
     let fewer = length-filter_both other (λ s. not (other s)) (λ s. refl) shown in
     let count = ap length left in (
-      kept_taken a shown c.take_under.new.shown.items x.indexes c.take_from_each.new.indexes c.args.name c.in-Some.one left named itself
+      kept_taken a shown c.take_under.new.shown.items x.indexes c.take_from_each.new.indexes
+          c.args.name c.in-Some.one left named itself
           c.take_from_each.ensures c.self.invariant.0,
-      totals_out a c.args.name shown c.take_under.new.shown.items c.in-Some.one x.totals c.without-self-inside.result under
+      totals_out a c.args.name shown c.take_under.new.shown.items c.in-Some.one x.totals
+          c.without-self-inside.result under
           c.self.invariant.0.ascending left less.defs less.uses less.calls c.self.invariant.1,
       record {
         entries = omega (arith, within.entries, fewer, count);
@@ -54,7 +66,9 @@ invariant_of-self-2 c =
         uses = omega (arith, less.uses, within.uses);
         calls = omega (arith, less.calls, within.calls);
         listed = omega (arith, within.listed, c.take_under.ensures.room);
-        each = rooms_stay (LetsGo a c.in-Some.one) (λ x y way. way.itself) x.room x.indexes c.take_from_each.new.indexes c.take_from_each.ensures within.each;
+        each =
+            rooms_stay (LetsGo a c.in-Some.one) (λ x y way. way.itself) x.room x.indexes
+            c.take_from_each.new.indexes c.take_from_each.ensures within.each;
       },
     )
 
@@ -85,4 +99,5 @@ invariant_of-self c =
 
 pub returns-in-None-clause-shown : goal.returns-in-None-clause-shown
 returns-in-None-clause-shown c =
-    c.take_under.ensures.items ∙ ap (λ (s : Shelved). filter (is_other c.self.inside.archive c.args.name) s.shown) c.self.view_is
+    c.take_under.ensures.items ∙ ap
+    (λ (s : Shelved). filter (is_other c.self.inside.archive c.args.name) s.shown) c.self.view_is

@@ -17,9 +17,13 @@ pub new-requires-clause-few : goal.new-requires-clause-few
 new-requires-clause-few c =
     let s = c.self.inside in
     let kind = def_kind c.args.by_tag_name in
-    let all = length_all (lister_of kind) (count_for kind) (fewer_of kind) s.archive s.shown.items in
-    let within = defs_fit c.args.by_tag_name s.archive s.shown.items _ s.totals s.room s.indexes c.self.invariant.1 c.self.invariant.2 in
-    let same = ap (λ l. length (all_entries (lister_of kind) s.archive l)) c.as_slice-shown.ensures.value in
+    let all =
+    length_all (lister_of kind) (count_for kind) (fewer_of kind) s.archive s.shown.items in
+    let within =
+    defs_fit c.args.by_tag_name s.archive s.shown.items _ s.totals s.room s.indexes
+    c.self.invariant.1 c.self.invariant.2 in
+    let same =
+    ap (λ l. length (all_entries (lister_of kind) s.archive l)) c.as_slice-shown.ensures.value in
     omega (arith, all, within, same, c.read_room.ensures.defs)
 
 pub returns-then-not-is_flushed-clause-tags : goal.returns-then-not-is_flushed-clause-tags
@@ -28,14 +32,17 @@ returns-then-not-is_flushed-clause-tags c =
     let kind = def_kind c.args.by_tag_name in
     let key = option_copied c.args.key in
     ap (map (tag_at s.archive))
-    (c.new.ensures ∙ ap (λ l. to_come kind s.archive key None (all_entries (lister_of kind) s.archive l)) c.as_slice-shown.ensures.value
+    (c.new.ensures ∙ ap (λ l. to_come kind s.archive key None
+    (all_entries (lister_of kind) s.archive l)) c.as_slice-shown.ensures.value
     ∙ asked_first kind s.archive key (all_entries (lister_of kind) s.archive s.shown.items))
     ∙ ap (λ (v : Shelved). asked_tags kind v.archive key v.shown) c.self.view_is
 
 pub asked-requires : goal.asked-requires
 asked-requires c =
     let x = c.index-index.result.now in
-    let is = subst (λ (s : Shelved). IsIndex s.archive s.shown x) (sym c.self.view_is) c.index-index.ensures.index in
+    let is =
+    subst (λ (s : Shelved). IsIndex s.archive s.shown x)
+    (sym c.self.view_is) c.index-index.ensures.index in
     in_its_order x.kind c.self.inside.archive c.self.inside.shown.items x refl is
 
 pub returns-clause-tags : goal.returns-clause-tags
@@ -45,8 +52,12 @@ returns-clause-tags c =
     let key = option_copied c.args.key in
     let x = c.index-index.result.now in
     let same = c.index-index.ensures.kind ∙ c.def_kind.ensures in
-    let is = subst (λ (s : Shelved). IsIndex s.archive s.shown x) (sym c.self.view_is) c.index-index.ensures.index in
-    let held = all_held kind s.archive s.shown.items x same (c.is_flushed.ensures c.if-not-is_flushed.false) is in
+    let is =
+    subst (λ (s : Shelved). IsIndex s.archive s.shown x)
+    (sym c.self.view_is) c.index-index.ensures.index in
+    let held =
+    all_held kind s.archive s.shown.items x same
+    (c.is_flushed.ensures c.if-not-is_flushed.false) is in
     ap (map (tag_at s.archive))
     (c.asked.ensures ∙ (λ i. filter (is_asked (same i) s.archive key) (held i)))
     ∙ ap (λ (v : Shelved). asked_tags kind v.archive key v.shown) c.self.view_is

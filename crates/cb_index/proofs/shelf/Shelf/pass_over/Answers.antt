@@ -16,7 +16,9 @@ pub of_fewer-self-inside-requires : goal.of_fewer-self-inside-requires
 of_fewer-self-inside-requires c =
     let a = c.self.inside.archive in
     let stays : Shown → Bool = λ s. not (is_among (names_of c.args.files.now) s.name) in
-    let is = c.as_slice.ensures.value ∙ filter_same _ stays _ (λ e r f k. (search (rules, k), search (rules, k))) _ _ c.retain.ensures.filtered in
+    let is =
+    c.as_slice.ensures.value ∙ filter_same _ stays _
+    (λ e r f k. (search (rules, k), search (rules, k))) _ _ c.retain.ensures.filtered in
     let are = c.self.invariant.1 in
     record {
       defs = total_left def_count a stays c.self.inside.shown.items _ _ is are.defs;
@@ -32,7 +34,9 @@ invariant_of-self c =
     let shown = x.shown.items in
     let names = names_of c.args.files.now in
     let stays : Shown → Bool = λ s. not (is_among names s.name) in
-    let left = filter_same _ stays _ (λ e r f k. (search (rules, k), search (rules, k))) _ _ c.retain.ensures.filtered in
+    let left =
+    filter_same _ stays _ (λ e r f k. (search (rules, k), search (rules, k))) _ _
+    c.retain.ensures.filtered in
     let are = c.self.invariant.1 in
     let within = c.self.invariant.2 in
     let now = c.of_fewer-self-inside.ensures in
@@ -42,7 +46,8 @@ invariant_of-self c =
     let calls = total_left call_count a stays shown _ _ is are.calls in
     let fewer = length-filter stays shown in
     let count = ap length left in (
-      kept_hidden a shown c.retain.new.self.items x.indexes c.take_names_from_each.new.indexes names left c.take_names_from_each.ensures c.self.invariant.0,
+      kept_hidden a shown c.retain.new.self.items x.indexes c.take_names_from_each.new.indexes names
+          left c.take_names_from_each.ensures c.self.invariant.0,
       record {
         defs = now.defs ∙ ap (total def_count a) c.as_slice.ensures.value;
         uses = now.uses ∙ ap (total use_count a) c.as_slice.ensures.value;
@@ -54,12 +59,15 @@ invariant_of-self c =
         uses = omega (arith, now.uses, uses, within.uses);
         calls = omega (arith, now.calls, calls, within.calls);
         listed = omega (arith, within.listed, c.retain.ensures.capacity);
-        each = rooms_stay (LetsGoAll names) (λ x y way. way.itself) x.room x.indexes c.take_names_from_each.new.indexes c.take_names_from_each.ensures within.each;
+        each =
+            rooms_stay (LetsGoAll names) (λ x y way. way.itself) x.room x.indexes
+            c.take_names_from_each.new.indexes c.take_names_from_each.ensures within.each;
       },
     )
 
 pub returns-clause-shown : goal.returns-clause-shown
 returns-clause-shown c =
     let stays : Shown → Bool = λ s. not (is_among (names_of c.args.files.now) s.name) in
-    filter_same _ stays _ (λ e r f k. (search (rules, k), search (rules, k))) _ _ c.retain.ensures.filtered
+    filter_same _ stays _ (λ e r f k. (search (rules, k), search (rules, k))) _ _
+    c.retain.ensures.filtered
     ∙ ap (λ (s : Shelved). filter stays s.shown) c.self.view_is

@@ -13,4 +13,5 @@ returns-clause-shown c =
     let up = subst (AreAscending a) c.shown-shown.ensures.value c.shown-shown.ensures.ascending in
     let apart : AreApart a (one ∷ []) = (tt, tt) in
     c.show_all.ensures.shown
-    ∙ sym (put_last a c.args.self.now.shown one up (apart_both a c.args.self.now.shown (one ∷ []) up apart c.requires.other))
+    ∙ sym (put_last a c.args.self.now.shown one up
+    (apart_both a c.args.self.now.shown (one ∷ []) up apart c.requires.other))

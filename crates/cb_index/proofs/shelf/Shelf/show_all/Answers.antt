@@ -13,17 +13,21 @@ use Rattle.cb_index.proofs.shelf.Shelf.show_all.Goals as goal
 -- no file name stands twice
 pub put_all_shown-requires : goal.put_all_shown-requires
 put_all_shown-requires c =
-    let asked = subst (λ (s : Shelved). CanShow s c.args.news.now) (sym c.self.view_is) c.requires in
+    let asked =
+    subst (λ (s : Shelved). CanShow s c.args.news.now) (sym c.self.view_is) c.requires in
     let within = c.self.invariant.2 in record {
       ascending = c.self.invariant.0.ascending;
-      apart = apart_both c.self.inside.archive c.self.inside.shown.items c.args.news.now c.self.invariant.0.ascending asked.apart asked.other;
+      apart =
+          apart_both c.self.inside.archive c.self.inside.shown.items c.args.news.now
+          c.self.invariant.0.ascending asked.apart asked.other;
       room = omega (arith, asked.entries, within.listed);
     }
 
 pub put_in_each-requires : goal.put_in_each-requires
 put_in_each-requires c =
     let x = c.self.inside in
-    all_can_take _ c.args.news.now (subst (λ (s : Shelved). CanShow s c.args.news.now) (sym c.self.view_is) c.requires)
+    all_can_take _ c.args.news.now
+    (subst (λ (s : Shelved). CanShow s c.args.news.now) (sym c.self.view_is) c.requires)
     x.room refl x.indexes c.self.invariant.2.each c.self.invariant.0.each
 
 -- the indexes are those of what is shown now
@@ -31,17 +35,21 @@ pub invariant_of-self : goal.invariant_of-self
 invariant_of-self c =
     let x = c.self.inside in
     let a = x.archive in
-    let asked = subst (λ (s : Shelved). CanShow s c.args.news.now) (sym c.self.view_is) c.requires in
+    let asked =
+    subst (λ (s : Shelved). CanShow s c.args.news.now) (sym c.self.view_is) c.requires in
     let are = c.self.invariant.1 in
     let within = c.self.invariant.2 in
     let more = c.with-self-inside.ensures in
     let items = c.put_all_shown.ensures.items in
-    let count = ap length items ∙ length_in_order (shown_name a) (x.shown.items ++ c.args.news.now) in
+    let count =
+    ap length items ∙ length_in_order (shown_name a) (x.shown.items ++ c.args.news.now) in
     let parts = length-append x.shown.items c.args.news.now in (
       subst (λ l. AreKept a l c.put_in_each.new.indexes) (sym items)
-          (kept_each a x.shown.items c.args.news.now asked.apart asked.other c.self.invariant.0.ascending
+          (kept_each a x.shown.items c.args.news.now asked.apart asked.other
+          c.self.invariant.0.ascending
           x.indexes c.put_in_each.new.indexes asked.there c.put_in_each.ensures c.self.invariant.0),
-      totals_each a (shown_name a) x.shown.items c.args.news.now c.put_all_shown.new.shown.items x.totals c.with-self-inside.result
+      totals_each a (shown_name a) x.shown.items c.args.news.now c.put_all_shown.new.shown.items
+          x.totals c.with-self-inside.result
           (record { defs = more.defs; uses = more.uses; calls = more.calls }) items are,
       record {
         entries = omega (arith, count, parts, asked.entries);
@@ -49,11 +57,14 @@ invariant_of-self c =
         uses = omega (arith, asked.uses, are.uses, more.uses);
         calls = omega (arith, asked.calls, are.calls, more.calls);
         listed = omega (arith, within.listed, c.put_all_shown.ensures.room);
-        each = rooms_stay (TakesIn c.args.news.now) (λ x y way. way.itself) x.room x.indexes c.put_in_each.new.indexes c.put_in_each.ensures within.each;
+        each =
+            rooms_stay (TakesIn c.args.news.now) (λ x y way. way.itself) x.room x.indexes
+            c.put_in_each.new.indexes c.put_in_each.ensures within.each;
       },
     )
 
 pub returns-clause-shown : goal.returns-clause-shown
 returns-clause-shown c =
     c.put_all_shown.ensures.items
-    ∙ ap (λ (s : Shelved). in_order (shown_name s.archive) (s.shown ++ c.args.news.now)) c.self.view_is
+    ∙ ap (λ (s : Shelved). in_order (shown_name s.archive) (s.shown ++ c.args.news.now))
+    c.self.view_is

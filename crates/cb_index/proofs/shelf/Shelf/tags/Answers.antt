@@ -12,7 +12,9 @@ use Rattle.cb_index.proofs.shelf.Shelf.tags.Goals as goal
 pub returns : goal.returns
 returns c =
     let s = c.args.self.now in
-    let es = in_order (sort_key (keyer_of DefsByTagName) s.archive) (all_entries (lister_of DefsByTagName) s.archive s.shown) in
+    let es =
+    in_order (sort_key (keyer_of DefsByTagName) s.archive)
+    (all_entries (lister_of DefsByTagName) s.archive s.shown) in
     let is = c.in_order.ensures in
     is.tags ∙ ap (map (tag_at s.archive)) (all_asked DefsByTagName s.archive es)
     ∙ rows_by_tag_name s.archive s.shown is.there is.ascending es is.bytes refl
