@@ -14,12 +14,13 @@ use Rattle.std.proofs.lemmas.Slice.Eq.{bytes_eq-Decides}
 use Rattle.cb_scan.specs.Lines.{line_text}
 use Rattle.cb_index.specs.Counts.{rows_in_files, same_row, unlike, unlike_in_files}
 use Rattle.cb_index.specs.Rows.{Fact, call_in, calls_in, calls_of, file_calls_in, file_calls_of}
-use Rattle.cb_index.specs.Rows.{file_uses_of, use_in, uses_of}
+use Rattle.cb_index.specs.Rows.{file_facts, file_uses_of, use_in, uses_of}
 use Rattle.cb_index.specs.declared.kind.FactKind.{FactKind}
 use Rattle.cb_index.specs.declared.kind.FactKind.TheVariants.{Uses, Callees, Callers}
-use Rattle.cb_desk.specs.Answer.{AnswerRow, distinct, row_eq, unindented}
+use Rattle.cb_desk.specs.Answer.{AnswerRow, distinct, field_rows, row_eq, unindented}
 use Rattle.cb_desk.specs.World.{File, IsAscending}
-use Rattle.cb_desk.specs.steps.Lent.{row_around, row_named}
+use Rattle.cb_desk.specs.steps.Lent.{asked_by, is_named, row_around, row_named, row_shown}
+use Rattle.cb_desk.proofs.AnswerRows.{called-rows, calling-rows, symbol-rows}
 use Rattle.cb_desk.proofs.EqualRows.{row_same}
 use Rattle.cb_desk.proofs.Fresh.{fresh-distinct, fresh-few}
 use Rattle.cb_desk.proofs.TextRowsApart.{not-below}
@@ -181,26 +182,34 @@ agree-callers file f g one other =
     two-columns _ _ _ _ (files-same file f g one other) (texts-same file f g one other)
 
 module _ (p : List ℕ) (files : List File) (up : IsAscending files) where
-  pub uses-distinct : map row_around (unlike_in_files Uses (file_uses_of p) files)
+  uses-distinct : map row_around (unlike_in_files Uses (file_uses_of p) files)
       ≡ distinct (map row_around (uses_of p files))
   unfolding uses_of
   uses-distinct =
       files-distinct Uses row_around (λ f. refl) agree-uses (file_uses_of p)
       (λ file. all-in file (use_in file) (λ u. (refl, refl)) _) files up
 
-  pub callees-distinct : map row_around (unlike_in_files Callees (file_calls_of p) files)
+  callees-distinct : map row_around (unlike_in_files Callees (file_calls_of p) files)
       ≡ distinct (map row_around (calls_of p files))
   unfolding calls_of
   callees-distinct =
       files-distinct Callees row_around (λ f. refl) agree-callees (file_calls_of p)
       (λ file. all-in file (call_in file) (λ c. (refl, refl)) _) files up
 
-  pub callers-distinct : map row_named (unlike_in_files Callers (file_calls_in p) files)
+  callers-distinct : map row_named (unlike_in_files Callers (file_calls_in p) files)
       ≡ distinct (map row_named (calls_in p files))
   unfolding calls_in
   callers-distinct =
       files-distinct Callers row_named (λ f. refl) agree-callers (file_calls_in p)
       (λ file. all-in file (call_in file) (λ c. (refl, refl)) _) files up
+
+  -- by kind: of facts with equal rows only the first has one
+  pub facts-distinct : (kind : FactKind)
+      → map (row_shown (is_named kind)) (unlike_in_files kind (file_facts kind p) files)
+      ≡ distinct (flat_map (field_rows (asked_by kind) p) files)
+  facts-distinct Uses = uses-distinct ∙ ap distinct (symbol-rows p files)
+  facts-distinct Callees = callees-distinct ∙ ap distinct (calling-rows p files)
+  facts-distinct Callers = callers-distinct ∙ ap distinct (called-rows p files)
 
 -- ---- as many rows as an index counts, and few
 pub index-counts : (sort : FactKind) (facts : File → List Fact) (files : List File)

@@ -4,6 +4,9 @@ use Rattle.std.proofs.Common.{length, arith}
 use Rattle.std.specs.List.{flat_map}
 use Rattle.std.proofs.lemmas.List.{length-map}
 use Rattle.cb_scan.specs.Definitions.{facts_of}
+use Rattle.cb_index.specs.declared.kind.FactKind.{FactKind}
+use Rattle.cb_index.specs.declared.kind.FactKind.TheVariants.{Uses, Callees, Callers}
+use Rattle.cb_desk.specs.steps.Lent.{asked_by}
 use Rattle.cb_desk.specs.declared.found.Found.{Found}
 use Rattle.cb_desk.specs.declared.limits.TheConstants.{MOST_BYTES}
 use Rattle.cb_desk.specs.declared.rows.Field.{Field}
@@ -95,17 +98,11 @@ all-few field p each fs valid =
     (λ f. length (field_rows field p f) ≤ most_rows) fs each valid.sizes) in
     omega (arith, count, few)
 
-pub uses-rows-few : (p : List ℕ) (fs : List File) → AreValidFiles fs
-    → length (flat_map (field_rows Symbol p) fs) < 2 ^ 64
-uses-rows-few p fs valid = all-few Symbol p (symbols-few p) fs valid
-
-pub called-rows-few : (p : List ℕ) (fs : List File) → AreValidFiles fs
-    → length (flat_map (field_rows Called p) fs) < 2 ^ 64
-called-rows-few p fs valid = all-few Called p (called-few p) fs valid
-
-pub calling-rows-few : (p : List ℕ) (fs : List File) → AreValidFiles fs
-    → length (flat_map (field_rows Calling p) fs) < 2 ^ 64
-calling-rows-few p fs valid = all-few Calling p (calling-few p) fs valid
+pub fact-rows-few : (kind : FactKind) (p : List ℕ) (fs : List File) → AreValidFiles fs
+    → length (flat_map (field_rows (asked_by kind) p) fs) < 2 ^ 64
+fact-rows-few Uses p fs valid = all-few Symbol p (symbols-few p) fs valid
+fact-rows-few Callees p fs valid = all-few Calling p (calling-few p) fs valid
+fact-rows-few Callers p fs valid = all-few Called p (called-few p) fs valid
 
 pub including-rows-few : (p : List ℕ) (fs : List File) → AreValidFiles fs
     → length (flat_map (field_rows Including p) fs) < 2 ^ 64

@@ -6,6 +6,8 @@ use Rattle.cb_tags.specs.TagLines.{Tag}
 use Rattle.cb_index.specs.Counts.{column}
 use Rattle.cb_index.specs.Rows.{Fact}
 use Rattle.cb_index.specs.Shelved.{ShownFile}
+use Rattle.cb_index.specs.declared.kind.FactKind.{FactKind}
+use Rattle.cb_index.specs.declared.kind.FactKind.TheVariants.{Uses, Callees, Callers}
 use Rattle.cb_index.specs.steps.Includes.{includes_left}
 use Rattle.cb_index.specs.steps.Left.{entries_left, tags_left}
 use Rattle.cb_desk.specs.Answer.{AnswerRow, file_rows, is_header, unindented}
@@ -17,6 +19,8 @@ use Rattle.cb_desk.specs.declared.answers.names.NameRows.{NameRows}
 use Rattle.cb_desk.specs.declared.answers.row_spot.RowSpot.{RowSpot}
 use Rattle.cb_desk.specs.declared.answers.row_spot.SpotText.{SpotText}
 use Rattle.cb_desk.specs.declared.answers.row_spot.SpotText.TheVariants.{LineOf, Whole}
+use Rattle.cb_desk.specs.declared.rows.Field.{Field}
+use Rattle.cb_desk.specs.declared.rows.Field.TheVariants.{Symbol, Called, Calling}
 
 -- a file that is shown, without what is found in it
 abbrev pub without_facts : ShownFile → File
@@ -35,6 +39,18 @@ row_named f = record { file = f.file; function = f.name; line = f.line; text = u
 abbrev pub row_shown : Bool → Fact → AnswerRow
 row_shown true f = row_named f
 row_shown false f = row_around f
+
+-- whether rows of facts of a kind show the own name
+abbrev pub is_named : FactKind → Bool
+is_named Callers = true
+is_named Uses = false
+is_named Callees = false
+
+-- the field that asks for facts of a kind
+abbrev pub asked_by : FactKind → Field
+asked_by Uses = Symbol
+asked_by Callees = Calling
+asked_by Callers = Called
 
 -- the row of a definition
 abbrev pub row_of_tag : Tag → AnswerRow

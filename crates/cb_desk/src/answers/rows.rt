@@ -7,7 +7,7 @@ ghost use Rattle.cb_index.specs.Shelved.{files};
 ghost use Rattle.cb_desk.specs.Answer.{distinct, field_rows};
 ghost use Rattle.cb_desk.specs.Models.{row_of};
 ghost use Rattle.cb_desk.specs.World.{AreValidFiles};
-ghost use Rattle.cb_desk.specs.steps.Lent.{found_left};
+ghost use Rattle.cb_desk.specs.steps.Lent.{asked_by, found_left, is_named};
 
 use crate::answers::distinct::DistinctSpots;
 use crate::answers::fact_rows::FactRows;
@@ -57,13 +57,13 @@ impl<'a, 'p> Rows<'a, 'p> {
                 source: RowSource::Lines(TextRows::new(files, pattern)),
             },
             Field::Symbol => Rows {
-                source: RowSource::Facts(use_rows(shelf, pattern)),
+                source: RowSource::Facts(fact_rows(shelf, FactKind::Uses, pattern)),
             },
             Field::Called => Rows {
-                source: RowSource::Facts(called_rows(shelf, pattern)),
+                source: RowSource::Facts(fact_rows(shelf, FactKind::Callers, pattern)),
             },
             Field::Calling => Rows {
-                source: RowSource::Facts(calling_rows(shelf, pattern)),
+                source: RowSource::Facts(fact_rows(shelf, FactKind::Callees, pattern)),
             },
             _ => Rows {
                 source: RowSource::Others(DistinctSpots::new(found_rows(shelf, field, pattern))),
@@ -106,31 +106,23 @@ impl<'a, 'p> Iterator for Rows<'a, 'p> {
     }
 }
 
-/// The rows of the uses of a name.
-fn use_rows<'a, 'p>(shelf: &'a Shelf, pattern: &'p [u8]) -> FactRows<'a, 'p>
-    requires valid { AreValidFiles (files shelf.now) }
-    ensures { result
-        ≡ distinct (flat_map (field_rows Field.Symbol pattern.now) (files shelf.now)) }
+/// Whether the name of a fact of that kind stands in the function column of its row.
+fn is_named(kind: FactKind) -> bool
+    ensures { result ≡ is_named kind }
 {
-    FactRows::new(shelf.facts(FactKind::Uses, pattern).spots(), false)
+    match kind {
+        FactKind::Callers => true,
+        FactKind::Uses | FactKind::Callees => false,
+    }
 }
 
-/// The rows of the calls that stand in what has that name.
-fn called_rows<'a, 'p>(shelf: &'a Shelf, pattern: &'p [u8]) -> FactRows<'a, 'p>
+/// The rows of the uses or calls of a kind that have a name as their key.
+fn fact_rows<'a, 'p>(shelf: &'a Shelf, kind: FactKind, pattern: &'p [u8]) -> FactRows<'a, 'p>
     requires valid { AreValidFiles (files shelf.now) }
     ensures { result
-        ≡ distinct (flat_map (field_rows Field.Called pattern.now) (files shelf.now)) }
+        ≡ distinct (flat_map (field_rows (asked_by kind) pattern.now) (files shelf.now)) }
 {
-    FactRows::new(shelf.facts(FactKind::Callers, pattern).spots(), true)
-}
-
-/// The rows of the calls of a name.
-fn calling_rows<'a, 'p>(shelf: &'a Shelf, pattern: &'p [u8]) -> FactRows<'a, 'p>
-    requires valid { AreValidFiles (files shelf.now) }
-    ensures { result
-        ≡ distinct (flat_map (field_rows Field.Calling pattern.now) (files shelf.now)) }
-{
-    FactRows::new(shelf.facts(FactKind::Callees, pattern).spots(), false)
+    FactRows::new(shelf.facts(kind, pattern).spots(), is_named(kind))
 }
 
 /// The rows of definitions, includes and names of files, by file and place, equal ones included.
