@@ -34,6 +34,8 @@ pub mod Stages
 pub mod StructureLemmas
 pub mod TypedefLemmas
 pub mod TypedefsWithin
+pub mod WideAttributes
+pub mod WideEnumerators
 pub mod WithinLemmas
 pub mod WordLemmas
 pub mod WordRun
