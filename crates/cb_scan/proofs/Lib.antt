@@ -35,7 +35,10 @@ pub mod StructureLemmas
 pub mod TypedefLemmas
 pub mod TypedefsWithin
 pub mod WideAttributes
+pub mod WideCalls
 pub mod WideEnumerators
+pub mod WideLaws
+pub mod WidePointers
 pub mod WithinLemmas
 pub mod WordLemmas
 pub mod WordRun

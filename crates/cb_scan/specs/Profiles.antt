@@ -1,6 +1,7 @@
 -- What is found in a text by each profile. Macros, uses, includes, ranges and scopes have the same
 -- definitions in both, over the functions that the profile finds.
-use Rattle.std.specs.Prelude.{ℕ, List, [], ◌∷◌, ◌++◌, None, map, if◌then◌else◌}
+use Rattle.std.specs.Prelude.{◌≡◌, ℕ, Bool, true, false, List, [], ◌∷◌, ◌++◌, None, map}
+use Rattle.std.specs.Prelude.{if◌then◌else◌}
 use Rattle.cb_scan.specs.declared.facts.Call.{Call}
 use Rattle.cb_scan.specs.declared.facts.Def.{Def}
 use Rattle.cb_scan.specs.declared.facts.Include.{Include}
@@ -16,11 +17,12 @@ use Rattle.cb_scan.specs.declared.rules.wide.def.WideKind.TheVariants as wide
 use Rattle.cb_scan.specs.rules.Code.{code}
 use Rattle.cb_scan.specs.rules.Functions.{Function, functions}
 use Rattle.cb_scan.specs.rules.Macros.{macros}
-use Rattle.cb_scan.specs.rules.Scope.{scope_among}
+use Rattle.cb_scan.specs.rules.Scope.{name_around, ranges_of, scope_among}
 use Rattle.cb_scan.specs.rules.Uses.{calls_in, includes_with, macro_calls, uses_with}
 use Rattle.cb_scan.specs.rules.wide.Kinds.{functions_of, wide_found}
 use Rattle.cb_scan.specs.Definitions.{definitions_from}
 use Rattle.cb_scan.specs.Order.{call_key, in_order}
+use Rattle.cb_scan.specs.TextFacts.{TextFacts}
 use Rattle.cb_scan.specs.steps.Cut.{pieces}
 
 -- the kinds at one place go in this order
@@ -95,3 +97,34 @@ facts_by profile text ps =
 -- what a profile finds in a text
 abbrev pub facts_in : Profile → List ℕ → ProfileFacts
 facts_in profile text = facts_by profile text (pieces text)
+
+-- ---- what holds of all texts
+
+-- what the standard profile finds, as facts of a profile
+abbrev pub widened_facts : TextFacts → ProfileFacts
+widened_facts f = record {
+  defs = map widened f.defs;
+  uses = f.uses;
+  calls = f.calls;
+  includes = f.includes;
+}
+
+-- a use and an include without their scopes
+abbrev pub use_alone : Use → Use
+use_alone u = record u { scope = None }
+
+abbrev pub include_alone : Include → Include
+include_alone i = record i { scope = None }
+
+-- a variable, an external declaration or a prototype
+abbrev pub is_object : WideKind → Bool
+is_object wide.Variable = true
+is_object wide.External = true
+is_object wide.Prototype = true
+is_object _ = false
+
+-- if the definition is one of these, it lies in the range of no function of the wide profile
+abbrev pub IsBesideFunctions : List ℕ → List Piece → WideDef → Type 0
+IsBesideFunctions text ps d =
+    is_object d.kind ≡ true
+    → name_around (ranges_of text ps (functions_of text ps)) d.name.start ≡ None

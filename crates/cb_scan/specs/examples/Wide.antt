@@ -16,6 +16,7 @@ use Rattle.cb_scan.specs.rules.wide.Bodies.{tag_around}
 use Rattle.cb_scan.specs.rules.wide.Declarations.{declarations_from}
 use Rattle.cb_scan.specs.rules.wide.Levels.{numbered, placed}
 use Rattle.cb_scan.specs.rules.wide.Names.{after_pointer, called_name, from_free_name, is_trailing}
+use Rattle.cb_scan.specs.rules.wide.Names.{last_of, tail_begin}
 use Rattle.cb_scan.specs.rules.wide.Words.{attribute_words, reserved_role, specifier_words}
 use Rattle.cb_scan.specs.rules.wide.Words.{statement_words}
 use Rattle.cb_scan.specs.steps.Cut.{pieces}
@@ -59,5 +60,6 @@ rows text = map (row text) (definitions_by profile.Wide text (pieces text))
 unfoldable pub seeing : Unit {0}
 unfolding expanding attribute_words specifier_words statement_words reserved_role placed numbered
     closing_len outside_attributes tag_around declarations_from called_name after_pointer
-    from_free_name is_trailing in_order put
+    from_free_name is_trailing last_of tail_begin in_order
+    put
 seeing = tt

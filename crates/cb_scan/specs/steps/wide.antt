@@ -1,4 +1,5 @@
 pub mod Ahead
+pub mod Along
 pub mod Attributes
 pub mod Called
 pub mod Declarations

@@ -1,6 +1,6 @@
 -- The name of a part of a declaration, its value left out (ISO C 2011, 6.7.6, found in tokens by
 -- this project's profile).
-use Rattle.std.specs.Prelude.{ℕ, zero, suc, Bool, false, ◌&&◌, ◌||◌, nat_le, not}
+use Rattle.std.specs.Prelude.{ℕ, zero, suc, ◌-◌, Bool, false, ◌&&◌, ◌||◌, nat_le, not}
 use Rattle.std.specs.Prelude.{List, [], ◌∷◌, length, take, drop, reverse, filter, Option, None}
 use Rattle.std.specs.Prelude.{Some, slice_get, if◌then◌else◌}
 use Rattle.std.specs.List.{list_any, range_with_len, take_while}
@@ -47,13 +47,19 @@ closes_and_opens (x ∷ xs) = is_byte close_paren x && begins_with open_paren xs
 abbrev pub words_and_stars : List Numbered → List Numbered
 words_and_stars xs = take_while (λ x. is_word x || is_byte star x) xs
 
+-- the last token
+unfoldable pub last_of : List Numbered → Option WideToken
+last_of [] = None
+last_of (x ∷ []) = Some x.item
+last_of (x ∷ y ∷ xs) = last_of (y ∷ xs)
+
 -- the last of these, if it is a name
 abbrev pub last_name : List Numbered → Option CalledName
 last_name words =
     option_map_or (λ x. if is_wide_name x.role
     then Some (record { name = x; starred = list_any (is_byte star) words })
     else None)
-    (first_of (reverse words)) None
+    (last_of words) None
 
 -- the name that is called in the parentheses whose `(` is directly before
 abbrev pub called_inside : List Numbered → Option CalledName
@@ -98,13 +104,18 @@ precedes b xs k = begins_with b (drop (suc k) xs)
 abbrev pub parts_tail : Numbered → Bool
 parts_tail x = x.item.counted || is_outer_byte star x
 
--- index k is in the tail
-abbrev pub is_in_tail : List Numbered → ℕ → Bool
-is_in_tail xs k = not (list_any parts_tail (drop k xs))
+-- where the tail begins before index k: after the last such token, or at the beginning
+unfoldable pub tail_begin : List Numbered → ℕ → ℕ
+tail_begin xs zero = 0
+tail_begin xs (suc k) = if parts_tail (numbered_at xs k) then suc k else tail_begin xs k
+
+-- the indices in the tail of the first n tokens
+abbrev pub tail_of : List Numbered → ℕ → List ℕ
+tail_of xs n = range_with_len (tail_begin xs n) (n - tail_begin xs n)
 
 -- the indices in the tail
 abbrev pub tail : List Numbered → List ℕ
-tail xs = filter (is_in_tail xs) (range_with_len 0 (length xs))
+tail xs = tail_of xs (length xs)
 
 -- a type is before index k: the part is not the first, or a token is before it that is neither a
 -- specifier nor a string

@@ -78,7 +78,7 @@ abbrev pub function_of : Option CalledName → Option WideToken → Option WideT
 function_of (Some called) name = if called.starred then None else Some called.name
 function_of None name = name
 
-abbrev pub declares : Part → Option WideToken
-declares p =
+abbrev pub function : Part → Option WideToken
+function p =
     if p.has_value then None
     else function_of p.calls.found (uncalled_function p.pointer p.tail.prototype)

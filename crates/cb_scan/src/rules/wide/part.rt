@@ -2,7 +2,7 @@
 ghost use Rattle.std.specs.Prelude.{◌≡◌};
 ghost use Rattle.cb_scan.specs.steps.wide.Parts.{
   begins_value,
-  declares,
+  function,
   is_stray,
   may_declare,
   named,
@@ -93,8 +93,8 @@ impl Part {
     }
 
     /// The name of the function that the part declares.
-    pub(crate) fn declares(&self) -> Option<WideToken>
-        ensures { result ≡ declares self.now }
+    pub(crate) fn function(&self) -> Option<WideToken>
+        ensures { result ≡ function self.now }
     {
         if self.has_value {
             return None;
