@@ -39,6 +39,7 @@ pub mod WideCalls
 pub mod WideEnumerators
 pub mod WideLaws
 pub mod WidePointers
+pub mod WideTails
 pub mod WithinLemmas
 pub mod WordLemmas
 pub mod WordRun

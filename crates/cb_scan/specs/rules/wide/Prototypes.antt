@@ -44,7 +44,7 @@ is_called first xs k =
 -- the name at index k is called with double parentheses and follows a name: it is a macro around
 -- the parameters of that
 abbrev pub wraps_parameters : List Numbered → ℕ → Bool
-wraps_parameters xs k = precedes open_paren xs (suc k) && follows names xs k
+wraps_parameters xs k = follows names xs k && precedes open_paren xs (suc k)
 
 -- the name of a function that is declared by a name called at index k
 abbrev pub called_at : List Numbered → ℕ → WideToken
