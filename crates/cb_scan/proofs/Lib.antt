@@ -34,6 +34,12 @@ pub mod Stages
 pub mod StructureLemmas
 pub mod TypedefLemmas
 pub mod TypedefsWithin
+pub mod WideAttributes
+pub mod WideCalls
+pub mod WideEnumerators
+pub mod WideLaws
+pub mod WidePointers
+pub mod WideTails
 pub mod WithinLemmas
 pub mod WordLemmas
 pub mod WordRun

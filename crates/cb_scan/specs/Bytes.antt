@@ -65,6 +65,10 @@ dot = 46
 abbrev pub slash : ℕ
 slash = 47
 
+-- :
+abbrev pub colon : ℕ
+colon = 58
+
 -- ;
 abbrev pub semicolon : ℕ
 semicolon = 59

@@ -3,6 +3,7 @@ pub mod Definitions
 pub mod Keys
 pub mod Lines
 pub mod Order
+pub mod Profiles
 pub mod TextFacts
 pub mod examples
 pub mod lex

@@ -7,3 +7,8 @@ pub mod Pieces
 pub mod Structures
 pub mod Typedefs
 pub mod Uses
+pub mod Wide
+pub mod WideBodies
+pub mod WideFunctions
+pub mod WidePrototypes
+pub mod WideVariables

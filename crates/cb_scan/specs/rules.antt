@@ -8,3 +8,4 @@ pub mod Scope
 pub mod Structures
 pub mod Typedefs
 pub mod Uses
+pub mod wide

@@ -11,3 +11,4 @@ pub mod Scopes
 pub mod Structures
 pub mod Typedefs
 pub mod Words
+pub mod wide

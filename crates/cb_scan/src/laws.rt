@@ -1,11 +1,20 @@
 //! What holds of every text, as functions that do nothing and whose contracts are the laws.
-ghost use Rattle.std.specs.Prelude.{◌≡◌, ◌↔◌, ℕ, true, List, length};
+ghost use Rattle.std.specs.Prelude.{◌≡◌, ◌↔◌, ℕ, true, List, length, map};
 ghost use Rattle.std.specs.List.{AllByRecursion};
 ghost use Rattle.cb_scan.specs.declared.lex.piece.Piece.{Piece};
+ghost use Rattle.cb_scan.specs.declared.rules.wide.def.Profile.TheVariants.{Standard, Wide};
 ghost use Rattle.cb_scan.specs.lex.Pieces.{IsPieces, Adjoin, LiesIn};
 ghost use Rattle.cb_scan.specs.Definitions.{facts_from, facts_of};
 ghost use Rattle.cb_scan.specs.lex.Lexeme.{IsClosedLiteral};
 ghost use Rattle.cb_scan.specs.Order.{AreInOrder};
+ghost use Rattle.cb_scan.specs.Profiles.{
+  definitions_by,
+  facts_in,
+  include_alone,
+  use_alone,
+  widened_facts,
+  IsBesideFunctions,
+};
 ghost use Rattle.cb_scan.specs.steps.Cut.{pieces};
 ghost use Rattle.cb_scan.specs.steps.Quote.{is_closed};
 
@@ -40,4 +49,24 @@ pub fn closed_strings()
 /// one place go by kind.
 pub fn facts_in_order()
     ensures { (text : List ℕ) → AreInOrder (facts_of text) }
+{}
+
+/// The standard profile finds what a scan finds.
+pub fn standard_profile()
+    ensures { (text : List ℕ) → facts_in Standard text ≡ widened_facts (facts_of text) }
+{}
+
+/// Both profiles find the same uses and includes, their scopes aside.
+pub fn profiles_agree()
+    ensures uses { (text : List ℕ) → map use_alone (facts_in Standard text).uses
+        ≡ map use_alone (facts_in Wide text).uses }
+    ensures includes { (text : List ℕ) → map include_alone (facts_in Standard text).includes
+        ≡ map include_alone (facts_in Wide text).includes }
+{}
+
+/// Variables, external declarations and prototypes of the wide profile lie in the range of no
+/// function.
+pub fn objects_beside_functions()
+    ensures { (text : List ℕ) → AllByRecursion (IsBesideFunctions text (pieces text))
+        (definitions_by Wide text (pieces text)) }
 {}

@@ -8,3 +8,4 @@ pub(crate) mod order;
 pub(crate) mod scope;
 pub(crate) mod structures;
 pub(crate) mod typedefs;
+pub(crate) mod wide;

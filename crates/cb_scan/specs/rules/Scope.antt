@@ -20,9 +20,13 @@ body_end text ts f = if nat_lt f.end (length ts) then (token_at ts f.end).span.e
 abbrev pub function_range : List ℕ → List Token → Function → Range
 function_range text ts f = record { name = f.name.span; end = body_end text ts f }
 
+-- the ranges of some functions
+abbrev pub ranges_of : List ℕ → List Piece → List Function → List Range
+ranges_of text ps fs = map (function_range text (code text ps)) fs
+
 -- the ranges of all functions
 abbrev pub function_ranges : List ℕ → List Piece → List Range
-function_ranges text ps = map (function_range text (code text ps)) (functions (code text ps))
+function_ranges text ps = ranges_of text ps (functions (code text ps))
 
 -- the range of a macro: from the first byte of its name to the place where its logical line ends
 abbrev pub macro_range : ℕ → Macro → Range
@@ -44,8 +48,12 @@ holds place r = nat_le r.name.start place && nat_lt place r.end
 abbrev pub name_around : List Range → ℕ → Option Span
 name_around ranges place = option_map (λ (r : Range). r.name) (find (holds place) ranges)
 
--- the scope of a place: the macro whose range holds it, else the function
-abbrev pub scope : List ℕ → List Piece → ℕ → Option Span
-scope text ps place =
+-- the scope of a place among some functions: the macro whose range holds it, else the function
+abbrev pub scope_among : List ℕ → List Piece → List Function → ℕ → Option Span
+scope_among text ps fs place =
     option_map_or (λ name. Some name) (name_around (macro_ranges text ps) place)
-    (name_around (function_ranges text ps) place)
+    (name_around (ranges_of text ps fs) place)
+
+-- the scope of a place
+abbrev pub scope : List ℕ → List Piece → ℕ → Option Span
+scope text ps place = scope_among text ps (functions (code text ps)) place

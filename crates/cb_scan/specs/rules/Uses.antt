@@ -1,6 +1,6 @@
 -- Uses of names, calls and includes. This is the project's profile.
 use Rattle.std.specs.Prelude.{ℕ, suc, ◌+◌, ◌-◌, Bool, false, ◌&&◌, nat_lt, List, [], ◌∷◌, None}
-use Rattle.std.specs.Prelude.{if◌then◌else◌, filter, map, find}
+use Rattle.std.specs.Prelude.{Option, if◌then◌else◌, filter, map, find}
 use Rattle.std.specs.List.{flat_map, range_with_len}
 use Rattle.std.specs.Option.{option_map_or}
 use Rattle.cb_scan.specs.declared.lex.piece.Piece.{Piece}
@@ -43,11 +43,17 @@ usable line =
 abbrev pub used : List Token → List Token
 used line = filter (λ (t : Token). is_name_token t.role) (usable line)
 
+-- the use that a name is
+abbrev pub use_of : (ℕ → Option Span) → Token → Use
+use_of scope t = record { name = t.span; line = t.line; scope = scope t.span.start }
+
+-- the uses of a text with these scopes, by place
+abbrev pub uses_with : (ℕ → Option Span) → List ℕ → List Piece → List Use
+uses_with scope text ps = map (use_of scope) (flat_map used (logical_lines text ps))
+
 -- the uses of a text, by place
 unfoldable pub uses : List ℕ → List Piece → List Use
-uses text ps =
-    map (λ (t : Token). record { name = t.span; line = t.line; scope = scope text ps t.span.start })
-    (flat_map used (logical_lines text ps))
+uses text ps = uses_with (scope text ps) text ps
 
 -- ---- calls
 
@@ -69,9 +75,13 @@ call_at ts caller k =
 abbrev pub calls_of_function : List Token → Function → List Call
 calls_of_function ts f = flat_map (call_at ts f.name.span) (range_with_len f.body (f.end - f.body))
 
--- the calls in the bodies of functions
+-- the calls in the bodies of some functions
+abbrev pub calls_in : List Token → List Function → List Call
+calls_in ts fs = flat_map (calls_of_function ts) fs
+
+-- the calls in the bodies of all functions
 abbrev pub function_calls : List Token → List Call
-function_calls ts = flat_map (calls_of_function ts) (functions ts)
+function_calls ts = calls_in ts (functions ts)
 
 -- the calls among some tokens
 unfoldable pub calls_among : Span → List Token → List Call
@@ -122,8 +132,12 @@ include_of text (hash ∷ own ∷ []) = []
 include_of text (hash ∷ own ∷ t ∷ rest) =
     if has_kind kind_is_include own.role then header_of text t rest else []
 
+-- the includes of a text with these scopes, by place
+abbrev pub includes_with : (ℕ → Option Span) → List ℕ → List Piece → List Include
+includes_with scope text ps =
+    map (λ (i : Include). record i { scope = scope i.header.start })
+    (flat_map (include_of text) (directives text ps))
+
 -- the includes of a text, by place
 unfoldable pub includes : List ℕ → List Piece → List Include
-includes text ps =
-    map (λ (i : Include). record i { scope = scope text ps i.header.start })
-    (flat_map (include_of text) (directives text ps))
+includes text ps = includes_with (scope text ps) text ps

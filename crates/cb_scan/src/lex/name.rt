@@ -67,7 +67,7 @@ pub(crate) fn is_same(word: &[u8], other: &[u8]) -> bool
     true
 }
 
-fn is_among(words: &[&[u8]], word: &[u8]) -> bool
+pub(crate) fn is_among(words: &[&[u8]], word: &[u8]) -> bool
     ensures { result ≡ list_any (λ w. bytes_eq w.now word.now) words.now }
 {
     words.iter().any(|w| is_same(w, word))

@@ -47,7 +47,7 @@ pub(crate) struct Declaration {
 }
 
 /// The parentheses and brackets that are open after a token.
-fn nesting_after(token: &Token, nesting: u32) -> u32
+pub(crate) fn nesting_after(token: &Token, nesting: u32) -> u32
     requires { nesting + 1 < 2 ^ 32 }
     ensures value { result ≡ nesting_after token.now nesting }
     ensures small { result ≤ nesting + 1 }

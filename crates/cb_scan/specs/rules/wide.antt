@@ -1,0 +1,9 @@
+pub mod Attributes
+pub mod Bodies
+pub mod Declarations
+pub mod Functions
+pub mod Kinds
+pub mod Levels
+pub mod Names
+pub mod Prototypes
+pub mod Words

@@ -1,0 +1,10 @@
+pub mod Ahead
+pub mod Along
+pub mod Attributes
+pub mod Called
+pub mod Declarations
+pub mod Enumerators
+pub mod Openings
+pub mod Parts
+pub mod Pointers
+pub mod Tails

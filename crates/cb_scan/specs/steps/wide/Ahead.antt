@@ -1,0 +1,42 @@
+-- What follows the next token.
+use Rattle.std.specs.Prelude.{ℕ, Bool, false, ◌&&◌, List, [], ◌∷◌}
+use Rattle.cb_scan.specs.declared.rules.wide.token.WideToken.{WideToken}
+use Rattle.cb_scan.specs.rules.wide.Words.{is_sign, is_wide_name, is_wide_word}
+use Rattle.cb_scan.specs.Bytes.{close_paren, open_paren}
+
+-- the first token is the lone byte b
+abbrev pub first_is : ℕ → List WideToken → Bool
+first_is b [] = false
+first_is b (x ∷ xs) = is_sign b x.role
+
+-- the second token is the lone byte b, and the third
+abbrev pub second_is : ℕ → List WideToken → Bool
+second_is b [] = false
+second_is b (x ∷ xs) = first_is b xs
+
+abbrev pub third_is : ℕ → List WideToken → Bool
+third_is b [] = false
+third_is b (x ∷ xs) = second_is b xs
+
+-- the first token is a word, and the second
+abbrev pub first_is_word : List WideToken → Bool
+first_is_word [] = false
+first_is_word (x ∷ xs) = is_wide_word x.role
+
+abbrev pub second_is_word : List WideToken → Bool
+second_is_word [] = false
+second_is_word (x ∷ xs) = first_is_word xs
+
+-- the tokens begin with `(`, a name, `)` and `(`
+abbrev pub encloses_name : List WideToken → Bool
+encloses_name [] = false
+encloses_name (a ∷ []) = false
+encloses_name (a ∷ b ∷ []) = false
+encloses_name (a ∷ b ∷ c ∷ xs) =
+    is_sign open_paren a.role && is_wide_name b.role && is_sign close_paren c.role
+    && first_is open_paren xs
+
+-- the tokens after the first do
+abbrev pub rest_encloses_name : List WideToken → Bool
+rest_encloses_name [] = false
+rest_encloses_name (x ∷ xs) = encloses_name xs

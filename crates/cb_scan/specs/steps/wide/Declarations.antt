@@ -1,0 +1,62 @@
+-- A declaration, a token at a time.
+use Rattle.std.specs.Prelude.{Bool, false, true, ◌&&◌, ◌||◌, ◌==◌, not, List, if◌then◌else◌}
+use Rattle.cb_scan.specs.declared.rules.wide.declaration.Declaration.{Declaration}
+use Rattle.cb_scan.specs.declared.rules.wide.token.WideToken.{WideToken}
+use Rattle.cb_scan.specs.rules.Typedefs.{nesting_after}
+use Rattle.cb_scan.specs.rules.wide.Words.{is_extern_word, is_sign, is_static_word, is_typedef_word}
+use Rattle.cb_scan.specs.steps.wide.Parts.{next_part, part_start}
+use Rattle.cb_scan.specs.Bytes.{close_paren, comma, equals, semicolon}
+
+-- the beginning of a declaration
+abbrev pub declaration_start : Declaration
+declaration_start = record {
+  count = 0;
+  has_equals = false;
+  has_static = false;
+  has_extern = false;
+  has_typedef = false;
+  is_stray = false;
+  closes = false;
+  part = part_start true;
+}
+
+-- a `)` or a brace
+abbrev pub closes : WideToken → Bool
+closes x = is_sign close_paren x.role || x.counted
+
+-- the token begins a declaration of the file anew
+abbrev pub is_over : Declaration → WideToken → Bool
+is_over d x = d.count == 0 && d.closes && (is_static_word x.role || is_extern_word x.role)
+
+-- the token ends a part
+abbrev pub ends_part : Declaration → WideToken → Bool
+ends_part d x = is_sign semicolon x.role || (d.count == 0 && is_sign comma x.role)
+
+-- the part that is open can name something
+abbrev pub may_name : Declaration → Bool
+may_name d = not d.is_stray && not d.part.is_stray
+
+-- after a comma that ends a part
+abbrev pub next_part_of : Declaration → Declaration
+next_part_of d = record d {
+  is_stray = d.is_stray || d.part.is_stray;
+  closes = false;
+  part = part_start false;
+}
+
+-- after a token outside parentheses and brackets, what it tells of the whole declaration
+abbrev pub noted : Declaration → WideToken → Declaration
+noted d x = record d {
+  has_equals = d.has_equals || is_sign equals x.role;
+  has_static = d.has_static || is_static_word x.role;
+  has_extern = d.has_extern || is_extern_word x.role;
+  has_typedef = d.has_typedef || is_typedef_word x.role;
+}
+
+-- after the first token, which ends no part
+abbrev pub grown : Declaration → List WideToken → WideToken → Declaration
+grown d xs x = record (if d.count == 0 then noted d x else d) {
+  part = next_part d.part (d.count == 0) xs x;
+  closes = closes x;
+  count = nesting_after x.token d.count;
+}

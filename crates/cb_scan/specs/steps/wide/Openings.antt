@@ -1,0 +1,34 @@
+-- What a `{` opens, a token at a time.
+use Rattle.std.specs.Prelude.{Option, None, Some, if◌then◌else◌}
+use Rattle.std.specs.Option.{option_map}
+use Rattle.cb_scan.specs.declared.facts.Kind.{Kind}
+use Rattle.cb_scan.specs.declared.rules.wide.def.Tag.{Tag}
+use Rattle.cb_scan.specs.declared.rules.wide.opening.Opening.{Opening}
+use Rattle.cb_scan.specs.declared.rules.wide.token.WideToken.{WideToken}
+use Rattle.cb_scan.specs.rules.wide.Bodies.{body_kind}
+use Rattle.cb_scan.specs.rules.wide.Words.{is_wide_name}
+
+-- after `struct`, `union` or `enum`
+abbrev pub begun : Kind → Option Opening
+begun kind = Some (record { kind = kind; tag = None })
+
+-- after a name
+abbrev pub tagged : WideToken → Opening → Opening
+tagged x o = record o { tag = Some x }
+
+-- after any other token than these three
+abbrev pub after_other : Option Opening → WideToken → Option Opening
+after_other before x = if is_wide_name x.role then option_map (tagged x) before else None
+
+-- after one of them, or another token
+abbrev pub after_kind : Option Kind → Option Opening → WideToken → Option Opening
+after_kind (Some kind) before x = begun kind
+after_kind None before x = after_other before x
+
+-- what a `{` after this token would open
+abbrev pub next_opening : Option Opening → WideToken → Option Opening
+next_opening before x = after_kind (body_kind x.role) before x
+
+-- the tag of the body
+abbrev pub tag_of : Opening → Option Tag
+tag_of o = option_map (λ (x : WideToken). record { kind = o.kind; name = x.token.span }) o.tag

@@ -1,0 +1,14 @@
+//! The wide profile: enumerators, members, variables and prototypes, and the names of functions and
+//! typedefs by the same rules. Nothing scans by it yet.
+pub(crate) mod ahead;
+pub(crate) mod attribute;
+pub(crate) mod called;
+pub(crate) mod declaration;
+pub(crate) mod def;
+pub(crate) mod enumeration;
+pub(crate) mod opening;
+pub(crate) mod part;
+pub(crate) mod pointer;
+pub(crate) mod role;
+pub(crate) mod tail;
+pub(crate) mod token;

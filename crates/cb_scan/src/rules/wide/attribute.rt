@@ -1,0 +1,113 @@
+//! Attributes, which all other rules of the wide profile leave out.
+ghost use Rattle.std.specs.Prelude.{◌≡◌, ◌+◌, ◌<◌, ◌≤◌, ◌^◌};
+ghost use Rattle.cb_scan.specs.rules.wide.Attributes.{
+  begins_attribute,
+  begins_with_literal,
+  ends_attribute,
+};
+ghost use Rattle.cb_scan.specs.steps.wide.Attributes.{
+  inside_after,
+  leaves_out,
+  next_attribute,
+  open_count,
+};
+
+use crate::rules::wide::role::WideRole;
+use crate::rules::wide::token::WideToken;
+
+/// Whether the next token is of an attribute.
+#[derive(Clone, Copy)]
+pub(crate) enum Attribute {
+    Outside,
+    /// The token is the first `(` of one.
+    Begun,
+    /// So many parentheses are open besides the first.
+    Inside(u32),
+}
+
+fn begins_with_literal(ahead: &[WideToken]) -> bool
+    ensures { result ≡ begins_with_literal ahead.now }
+{
+    match ahead {
+        [first, ..] => first.role.is_literal(),
+        [] => false,
+    }
+}
+
+/// An attribute begins: a word and `(`, where the word is one for attributes, or a number or a
+/// string follows.
+fn begins_attribute(ahead: &[WideToken]) -> bool
+    ensures { result ≡ begins_attribute ahead.now }
+{
+    match ahead {
+        [word, paren, after @ ..] => {
+            word.role.is_word()
+                && paren.role.is_sign(b'(')
+                && (word.role.begins_attribute() || begins_with_literal(after))
+        }
+        _ => false,
+    }
+}
+
+/// A `;` or a brace, which no attribute holds.
+fn ends_attribute(role: WideRole) -> bool
+    ensures { result ≡ ends_attribute role }
+{
+    role.is_sign(b';') || role.is_sign(b'{') || role.is_sign(b'}')
+}
+
+/// After a token in the parentheses of an attribute, so many of them open besides the first.
+fn inside_after(more: u32, role: WideRole) -> Attribute
+    requires { more + 1 < 2 ^ 32 }
+    ensures { result ≡ inside_after more role }
+{
+    if role.is_sign(b'(') {
+        Attribute::Inside(more + 1)
+    } else if !role.is_sign(b')') {
+        Attribute::Inside(more)
+    } else if more == 0 {
+        Attribute::Outside
+    } else {
+        Attribute::Inside(more - 1)
+    }
+}
+
+impl Attribute {
+    /// Whether the first of these tokens is left out.
+    pub(crate) fn leaves_out(self, ahead: &[WideToken]) -> bool
+        ensures { result ≡ leaves_out self ahead.now }
+    {
+        match (self, ahead) {
+            (_, []) => false,
+            (Attribute::Outside, _) => begins_attribute(ahead),
+            (Attribute::Begun, _) => true,
+            (Attribute::Inside(_), [first, ..]) => !ends_attribute(first.role),
+        }
+    }
+
+    /// The state after the first of these tokens.
+    pub(crate) fn next(self, ahead: &[WideToken]) -> Attribute
+        requires { open_count self + 1 < 2 ^ 32 }
+        ensures value { result ≡ next_attribute self ahead.now }
+        ensures small { open_count result ≤ open_count self + 1 }
+    {
+        match (self, ahead) {
+            (_, []) => self,
+            (Attribute::Outside, _) => {
+                if begins_attribute(ahead) {
+                    Attribute::Begun
+                } else {
+                    Attribute::Outside
+                }
+            }
+            (Attribute::Begun, _) => Attribute::Inside(0),
+            (Attribute::Inside(more), [first, ..]) => {
+                if ends_attribute(first.role) {
+                    Attribute::Outside
+                } else {
+                    inside_after(more, first.role)
+                }
+            }
+        }
+    }
+}

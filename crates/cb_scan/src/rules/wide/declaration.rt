@@ -1,0 +1,113 @@
+//! A declaration, a token at a time.
+ghost use Rattle.std.specs.Prelude.{◌≡◌, ◌+◌, ◌<◌, ◌≤◌, ◌^◌};
+ghost use Rattle.cb_scan.specs.steps.wide.Declarations.{
+  closes,
+  declaration_start,
+  ends_part,
+  grown,
+  is_over,
+  may_name,
+  next_part_of,
+  noted,
+};
+
+use crate::rules::typedefs::nesting_after;
+use crate::rules::wide::part::Part;
+use crate::rules::wide::role::WideRole;
+use crate::rules::wide::token::WideToken;
+
+/// What is known of a declaration: how many parentheses and brackets are open, what came outside of
+/// them, whether the token before is `)` or a brace, and the part that is open.
+#[derive(Clone, Copy)]
+pub(crate) struct Declaration {
+    pub count: u32,
+    pub has_equals: bool,
+    pub has_static: bool,
+    pub has_extern: bool,
+    pub has_typedef: bool,
+    is_stray: bool,
+    closes: bool,
+    pub part: Part,
+}
+
+/// A `)` or a brace.
+fn closes(item: &WideToken) -> bool
+    ensures { result ≡ closes item.now }
+{
+    item.role.is_sign(b')') || item.counted
+}
+
+impl Declaration {
+    pub(crate) fn new() -> Declaration
+        ensures { result ≡ declaration_start }
+    {
+        Declaration {
+            count: 0,
+            has_equals: false,
+            has_static: false,
+            has_extern: false,
+            has_typedef: false,
+            is_stray: false,
+            closes: false,
+            part: Part::new(true),
+        }
+    }
+
+    /// Whether a declaration of the file begins anew with the token, since a `;` is missing.
+    pub(crate) fn is_over(&self, item: &WideToken) -> bool
+        ensures { result ≡ is_over self.now item.now }
+    {
+        self.count == 0 && self.closes && matches!(item.role, WideRole::Static | WideRole::Extern)
+    }
+
+    /// Whether the token ends a part.
+    pub(crate) fn ends_part(&self, item: &WideToken) -> bool
+        ensures { result ≡ ends_part self.now item.now }
+    {
+        item.role.is_sign(b';') || (self.count == 0 && item.role.is_sign(b','))
+    }
+
+    /// Whether the part that is open can name something.
+    pub(crate) fn may_name(&self) -> bool
+        ensures { result ≡ may_name self.now }
+    {
+        !self.is_stray && !self.part.is_stray
+    }
+
+    /// After a comma that ends a part.
+    pub(crate) fn begin_part(&mut self)
+        ensures { self.new ≡ next_part_of self.old }
+    {
+        self.is_stray = self.is_stray || self.part.is_stray;
+        self.closes = false;
+        self.part = Part::new(false);
+    }
+
+    /// What a token outside parentheses and brackets tells of the whole declaration.
+    fn note(&mut self, item: &WideToken)
+        ensures { self.new ≡ noted self.old item.now }
+    {
+        match item.role {
+            WideRole::Mark(b'=') => self.has_equals = true,
+            WideRole::Static => self.has_static = true,
+            WideRole::Extern => self.has_extern = true,
+            WideRole::Typedef => self.has_typedef = true,
+            _ => {}
+        }
+    }
+
+    /// After the first of these tokens, which ends no part.
+    pub(crate) fn add(&mut self, ahead: &[WideToken], item: &WideToken)
+        requires { self.old.count + 1 < 2 ^ 32 }
+        ensures value { self.new ≡ grown self.old ahead.now item.now }
+        ensures small { self.new.count ≤ self.old.count + 1 }
+    {
+        let is_outer = self.count == 0;
+        if is_outer {
+            self.note(item);
+        }
+        self.part.add(is_outer, ahead, item);
+        self.closes = closes(item);
+        self.count = nesting_after(&item.token, self.count);
+    }
+}
