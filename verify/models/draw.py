@@ -65,6 +65,8 @@ WIDE_LINES = [
     b"int %s(a, %s)", b"int %s;", b"%s *%s;", b"#if %s", b"#else", b"#endif", b"#define %s int %s;",
     b"int %s[] = {", b"  { 1, %s },", b"}, %s = { 2 }, *%s;", b"\treturn 1; }", b"int %s = 1, %s(",
     b"case %s: default: int %s;", b"int a ? %s : 1;", b"return %s;", b"int %s { 1 };", b"const",
+    b"int %s(int), *%s(int a), %s(int b) {", b"int %s(a) int a; *b; {", b"int %s(a) int a;",
+    b"*%s; {", b"int %s[] = { 1 }, (*%s(x))(y) { }, %s;", b"int %s = 1, (W %s)(a) { 1 }, %s;",
 ]
 WIDE_HEAP = [
     b"{", b"{", b"}", b"}", b"\n}", b"(", b"(", b")", b")", b";", b";", b",", b",", b"=", b"=",

@@ -27,7 +27,7 @@ import pathlib
 import re
 import sys
 
-from tags_files import Found, counted, definitions, put_table
+from tags_files import WIDE, Found, counted, definitions, put_table
 
 HERE = pathlib.Path(__file__).resolve().parent
 sys.path.insert(0, str(HERE.parent))
@@ -51,7 +51,6 @@ KINDS = {
     "p": "prototypes",
 }
 SCOPES = "struct", "union", "enum"
-CTAGS = ["--options=NONE", "--language-force=C", "--kinds-C=+px", "--if0=yes", "--fields=+kn"]
 
 
 def modelled(facts, names: list[str], folder: pathlib.Path) -> list[tuple[Found, dict]]:
@@ -67,11 +66,19 @@ def modelled(facts, names: list[str], folder: pathlib.Path) -> list[tuple[Found,
 
 
 def is_in_function(lines: list[str], line: int) -> bool:
-    """Whether the last brace in the first column before a line opens a body."""
+    """Whether the last line before it that has a brace and is not indented opens a body."""
     for text in reversed(lines[: line - 1]):
         if text.startswith(("{", "}")):
             return text.startswith("{")
+        if re.match(r"[^\s#/*].*\{\s*$", text):
+            return not re.search(r"^(typedef|struct|union|enum)\b|=", text)
     return False
+
+
+def is_value_of_enum(lines: list[str], line: int) -> bool:
+    """Whether it lies in the braces after `enum .. =`."""
+    text = "\n".join(lines[max(line - 20, 0) : line])
+    return re.search(r"\benum\b[^;{}]*=\s*\{[^{}]*$", text) is not None
 
 
 def reason(item: Found, by_ctags: bool, near: list[Found], lines: list[str]) -> str:
@@ -91,7 +98,9 @@ def reason(item: Found, by_ctags: bool, near: list[Found], lines: list[str]) -> 
         return "a word with two underscores, likely an attribute"
     if by_ctags and item.kind == "p" and re.match(rf"\s*(\w+\s+)?{name}\s*\(", text):
         return "a macro with arguments, as a prototype"
-    if by_ctags and item.kind in "vxp" and is_in_function(lines, item.line):
+    if by_ctags and item.kind == "e" and is_value_of_enum(lines, item.line):
+        return "a value of an array, taken for an enumerator"
+    if by_ctags and item.kind in "tvxp" and is_in_function(lines, item.line):
         return "likely in a function"
     if re.search(rf"\b[A-Z_]{{3,}}\s*\(.*\b{name}\b", text):
         return "a macro with arguments before the name"
@@ -142,7 +151,7 @@ def main() -> None:
     sizes = c_files(folder, words.without)
     facts = (wide_pass if words.in_pass else wide_model).facts
     of_model = modelled(facts, [*sizes], folder)
-    of_ctags = definitions([words.ctags, *CTAGS], [*sizes], folder)
+    of_ctags = definitions([words.ctags, *WIDE], [*sizes], folder)
     own, other = counted(of_model), counted(of_ctags)
     print(f"{len(sizes)} files with {sum(sizes.values())} bytes")
     put_table(KINDS, own, other, "model")

@@ -8,6 +8,9 @@ import subprocess
 import tempfile
 from typing import NamedTuple
 
+# How ctags is asked for all kinds of the wide profile.
+WIDE = ["--options=NONE", "--language-force=C", "--kinds-C=+px", "--if0=yes", "--fields=+kn"]
+
 
 class Found(NamedTuple):
     kind: str
