@@ -114,12 +114,19 @@ def listing_lines(world, facts=facts):
     return [b"%s %d %s %s\n" % (tag.name, tag.line, tag.file, tag.text) for tag in tags]
 
 
-def found_in(text, digit, pattern):
-    """The function column and line of each row of a field in a text, by place; None is outside."""
+def found_in(text, digit, pattern, facts=facts):
+    """The function column and line of each row of a field in a text, by place; None is outside.
+
+    An external declaration or a prototype, which the wide profile has, is no row of field 1.
+    """
     if digit == b"0":
         return [(use.scope, use.line) for use in facts(text).uses if use.name == pattern]
     if digit == b"1":
-        return [(one.name, one.line) for one in facts(text).definitions if one.name == pattern]
+        return [
+            (one.name, one.line)
+            for one in facts(text).definitions
+            if one.name == pattern and one.kind not in b"xp"
+        ]
     if digit == b"2":
         return [(call.callee, call.line) for call in facts(text).calls if call.caller == pattern]
     if digit == b"3":
@@ -137,7 +144,7 @@ def found_in(text, digit, pattern):
     ]
 
 
-def answer(world, digit, pattern):
+def answer(world, digit, pattern, facts=facts):
     """The rows of a field; of equal ones the first."""
     refuse_if(digit in b"69", "field not in this profile")
     refuse_if(not pattern, "no pattern")
@@ -150,7 +157,7 @@ def answer(world, digit, pattern):
     places = dict.fromkeys(
         (file, function or b"<global>", line)
         for file, text in sorted(world.files.items())
-        for function, line in found_in(text, digit, pattern)
+        for function, line in found_in(text, digit, pattern, facts)
     )  # the text follows from file and line
     return [line_row(*place, cut_lines(world.files[place[0]])[place[2] - 1][0]) for place in places]
 

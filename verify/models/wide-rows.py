@@ -5,9 +5,9 @@
 
 The texts and what is found in them are in `wide-rows.txt`; its head tells the form. For each text
 the definitions of both models (`wide_model.py`, `wide_pass.py`) have to be these by place. The tags
-file in the plain and the extended format and the listing have to be, byte for byte, those that are
-put together here from the definitions by hand. Each difference is told, and the exit status is 1 if
-there is one. The program is not asked: it does not have this profile yet.
+file in the plain and the extended format, the listing and the rows of field 1 have to be, byte for
+byte, those that are put together here from the definitions by hand. Each difference is told, and
+the exit status is 1 if there is one. The program is not asked: it does not have this profile yet.
 """
 
 from __future__ import annotations
@@ -18,7 +18,7 @@ from typing import NamedTuple
 
 import wide_model
 import wide_pass
-from session_model import HEADS, World, extended_lines, listing_lines, plain_lines
+from session_model import HEADS, World, answer, extended_lines, listing_lines, plain_lines
 
 HERE = pathlib.Path(__file__).resolve().parent
 sys.path.insert(0, str(HERE.parent))
@@ -76,6 +76,14 @@ def files_of(text: bytes, rows: list[Row]) -> tuple[bytes, bytes, bytes]:
     return plain_lines, b"".join(HEADS) + others[0], others[1]
 
 
+def rows_of_field_1(text: bytes, rows: list[Row], name: bytes) -> list[bytes]:
+    """The rows of the definitions of a name; equal ones stand once, `x` and `p` are none."""
+    shown = text.split(b"\n")
+    found = [row for row in rows if row.name == name and row.kind not in (b"x", b"p")]
+    lines = dict.fromkeys(row.line for row in found)
+    return [b"%s %s %d %s\n" % (FILE, name, n, shown[n - 1].lstrip(b" \t")) for n in lines]
+
+
 def main() -> int:
     report, number = Report(), 0
     for number, (what, text, rows) in enumerate(cases(), 1):
@@ -93,6 +101,12 @@ def main() -> int:
             expected = files_of(text, rows)
             for form, one, other in zip(("plain", "extended", "listing"), expected, made):
                 report.same(f"{what}: {form} by {model.__name__}", one, other)
+            for name in sorted({row.name for row in rows}):
+                report.same(
+                    f"{what}: field 1 of {name.decode()} by {model.__name__}",
+                    rows_of_field_1(text, rows, name),
+                    answer(world, b"1", name, model.facts),
+                )
     print(f"{number} texts")
     return report.status()
 
