@@ -21,10 +21,12 @@ def says(words: list[str], wanted: str) -> bool:
     return wanted.encode() in done.stdout + done.stderr
 
 
+CLANG = "import clang.cindex; clang.cindex.Index.create(); print('loaded')"
 XCSCOPE = "(progn (require 'xcscope) (princ 'loaded))"
 # What may be needed: how to see that it is there. Each is told by the name of its Debian package.
 NEEDS: dict[str, Callable[[], bool]] = {
     "universal-ctags": lambda: says(["ctags", "--version"], "Universal Ctags"),
+    "python3-clang-14": lambda: says(["/usr/bin/python3", "-c", CLANG], "loaded"),
     "cscope": lambda: says(["cscope", "-V"], "version"),
     "ripgrep": lambda: says(["rg", "--version"], "ripgrep"),
     "vim-nox": lambda: says(["vim", "--version"], "+cscope")

@@ -15,6 +15,7 @@ WRONG_NAMES = [
     b"", b"a", b"c", b".cc", b"a.txt", b"a.C", b"\x7f.c", b"\xe9.c", b"a\t.c", b"x" * 254 + b".c",
 ]
 WORDS = [b"f", b"g", b"ab", b"main", b"F", b"aa", b"if", b"int", b"b_1"]
+WIDE_WORDS = [b"f", b"g", b"h", b"s", b"t", b"x", b"__a", b"__b", b"T", b"M", b"int"]
 LINES = [
     b"int %s(void) {", b"static int %s(int a) {", b"\tint %s(int a) { return a; }",
     b"int %s(void) { } int %s(void) { }", b"}", b"  }", b"\treturn %s(1) + %s(2);",
@@ -39,6 +40,46 @@ HEAP = [
     b"struct", b"enum", b'extern "C"', b"static", b"if", b"\n#define ", b"\n#include ", b"typedef ",
     b"f(", b"g(", b"ab", b" f ", b" g ", b"main(", b"(a)", b") {",
 ]
+# What the wide profile looks at: declarations in lines, and pieces of them.
+WIDE_LINES = [
+    b"enum %s { %s, %s = 3, %s = F(1, x) };", b"enum { KEY(%s), %s(1) %s, %s", b"  %s,", b", %s",
+    b"  %s = 1 << 2,", b"enum %s {", b"} %s;", b"} %s, *%s[2];", b"};", b"\n};", b"} __packed;",
+    b"struct %s { int %s; } __packed %s;", b"typedef struct { int %s; enum %s { %s } %s; } %s;",
+    b"struct __attribute__((packed)) %s {", b"union %s %s {", b"struct {", b"union {",
+    b"struct %s { struct { int %s; union { int %s; } %s; }; struct %s { int %s; } %s; };",
+    b"  unsigned %s : 3, : 0, %s : 2;", b"  uint32_t : 5;", b"  int *%s, %s[N], (*%s)(int, char);",
+    b"  TAILQ_ENTRY(%s) %s;", b"  int %s __aligned(8);", b"  char %s[2] __packed;",
+    b"static int %s, *%s = &%s, %s[2] = { 1, 2 }, (*%s)(int) = %s;", b"static struct %s %s = {",
+    b"  .%s = 1, .%s = { 2 },", b"extern int %s, %s = 1;", b'extern "C" int %s;', b'extern "C" {',
+    b"static int %s __initdata = 1;", b"int __initdata %s;", b"__u32 __%s;", b"int __%s __%s;",
+    b"DEFINE_X(%s)", b"static DEFINE_X(%s);", b"LIST_HEAD(%s, t) %s;", b"MACRO", b"MACRO;",
+    b"int %s(void), *%s(int (*%s)(int));", b"static void %s(char *) ATTR(1);", b"%s(%s);",
+    b"int (*%s(int %s))(int);", b"int (%s) (int %s);", b"extern int %s OF((int %s));",
+    b"int %s __P((int));", b'printflike(1, 2) void %s(char *%s, ...);', b'asm("x");', b"SEC(\"x\")",
+    b'NO_SANITIZE("x") int %s(void) {', b"STACK_OF(X) *%s(int);", b"static STACK_OF(X) *%s = 0;",
+    b"x.%s = 1;", b"for (i = 0; i < N; i++) %s(i);", b"INIT(A) = { 1 } END(A)", b"static int %s;",
+    b"FOO(x) static int %s(void) {", b"OBJECT_DECLARE(%s, %s)", b"G_BEGIN_DECLS",
+    b"typedef void (%s)(int); typedef int (*%s) OF((int));", b"typedef int %s(int), *%s;",
+    b"typedef int (WINAPI *%s)(void);", b"static void (CALL *%s)(int), (CALL %s)(int);",
+    b"int %s(a, b) int a, %s;", b"char *%s, (*%s)();", b"int %s(a) int a; {", b"TEST(%s) {",
+    b"int %s(a, %s)", b"int %s;", b"%s *%s;", b"#if %s", b"#else", b"#endif", b"#define %s int %s;",
+    b"int %s[] = {", b"  { 1, %s },", b"}, %s = { 2 }, *%s;", b"\treturn 1; }", b"int %s = 1, %s(",
+    b"case %s: default: int %s;", b"int a ? %s : 1;", b"return %s;", b"int %s { 1 };", b"const",
+    b"int %s(int), *%s(int a), %s(int b) {", b"int %s(a) int a; *b; {", b"int %s(a) int a;",
+    b"*%s; {", b"int %s[] = { 1 }, (*%s(x))(y) { }, %s;", b"int %s = 1, (W %s)(a) { 1 }, %s;",
+]
+WIDE_HEAP = [
+    b"{", b"{", b"}", b"}", b"\n}", b"(", b"(", b")", b")", b";", b";", b",", b",", b"=", b"=",
+    b"*", b"*", b"[", b"]", b"\n#if 1\n", b"\n#define f g\n", b"/**/", b'"x"', b" struct ",
+    b" struct ", b" union ", b" enum ", b" typedef ", b" static ", b" extern ", b" extern ",
+    b' extern "C" {', b" const ", b" int ", b" int ", b" __attribute__((x)) ", b" asm(", b" F(1",
+    b" F(1) ", b' F("x") ', b" __attribute__(", b" _Alignas ", b" __a ", b" __b ", b" __c(", b" a ",
+    b" a ", b" b ", b" c ", b" d ", b" e ", b" f(", b" g(", b" h(a) ", b" (*", b" (*p)(",
+    b" (W *q)(", b" (W r)(", b" (s)(", b")(", b")(", b"((", b") {", b") {", b" int m;", b" int n,",
+    b", o", b" = {", b" struct t {", b" enum {", b"};", b" f(a, b) int a;", b" f(a) int a; {",
+    b" int x;", b" static int y;", b")\nstatic",
+]
+STRAY = [b":", b".", b"1", b"'c'", b" if ", b" return ", b" sizeof ", b"+", b"?", b"#"]
 WRONG = [
     b"0", b"1", b"2", b"3", b"4", b"5", b"6", b"7", b"8", b"9", b"6a", b"9a", b"r ", b"rr", b"R",
     b"r 1", b"zzz", b" :undo", b":", b": undo", b":Undo", b":undo ", b":redo x", b":pop ",
@@ -101,8 +142,11 @@ class Draw:
         """A line without its end."""
         if self.random.random() < 0.3:
             return bytes(self.random.choices(b"aab \r\t", k=self.random.randrange(9)))
-        line = self.random.choice(LINES)
-        return re.sub(b"%s", lambda _: self.random.choice(WORDS), line)
+        return self.line_of(LINES)
+
+    def line_of(self, lines, words=WORDS):
+        line = self.random.choice(lines)
+        return re.sub(b"%s", lambda _: self.random.choice(words), line)
 
     def heap(self):
         """Tokens in no order."""
@@ -116,6 +160,36 @@ class Draw:
         lines = [self.line() for _ in range(self.random.choice([0, 1, 1, 2, 3, 5, 8, 13, 21]))]
         text = b"".join(line + self.random.choice(ends) for line in lines)
         return text + (self.line() if self.random.random() < 0.3 else b"")
+
+    def wide_file(self):
+        """The bytes of a file with declarations: lines, tokens in no order, or lines broken up."""
+        kind = self.random.random()
+        if kind < 0.4:
+            number = self.random.choice([3, 5, 10, 20, 40, 80])
+            return b"".join(
+                self.random.choices(self.one(WIDE_HEAP, WIDE_HEAP, WIDE_HEAP + STRAY), k=number)
+            )
+        lines = [
+            self.line_of(WIDE_LINES, WIDE_WORDS)
+            if self.random.random() < 0.8
+            else self.line_of(LINES)
+            for _ in range(self.random.choice([1, 2, 3, 5, 8, 13, 21]))
+        ]
+        text = self.one(b"\n", b"\n", b"\r\n", b" ").join(lines)
+        return self.broken(text) if kind < 0.7 else text
+
+    def broken(self, text):
+        """A text in which pieces are left out, doubled, moved or replaced."""
+        pieces = re.findall(rb"\w+|\s+|.", text, re.DOTALL)
+        for _ in range(self.random.choice([1, 1, 2, 4, 8])):
+            if pieces:
+                place = self.random.randrange(len(pieces))
+                piece = pieces.pop(place)
+                more = self.random.choice(WIDE_HEAP + STRAY)
+                pieces[place:place] = self.one([], [], [piece] * 2, [more], [piece, more])
+                if self.random.random() < 0.2:
+                    pieces.insert(self.random.randint(0, len(pieces)), piece)
+        return b"".join(pieces)
 
     def lines_of(self, world):
         """The lines of all files, with a CR of their ends."""

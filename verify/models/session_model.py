@@ -32,6 +32,7 @@ class Tag(NamedTuple):
     text: bytes
     kind: bytes
     local: bool
+    scope: bytes
 
 
 class World(NamedTuple):
@@ -67,12 +68,20 @@ def places_of_text(world, pattern):
     ]
 
 
-def tags_of(world):
+def tags_of(world, facts=facts):
     """All definitions, by file and place."""
     return [
-        Tag(name, file, line, cut_lines(text)[line - 1][0], kind, local)
+        Tag(
+            one.name,
+            file,
+            one.line,
+            cut_lines(text)[one.line - 1][0],
+            one.kind,
+            one.local,
+            one.scope,
+        )
         for file, text in sorted(world.files.items())
-        for name, line, kind, local in facts(text).definitions
+        for one in facts(text).definitions
     ]
 
 
@@ -86,31 +95,38 @@ def address(tag):
     return b"/^" + re.sub(rb"([\\/])", rb"\\\1", tag.text) + b"$/"
 
 
-def plain_lines(world):
-    tags = sorted(tags_of(world), key=lambda tag: (tag_name(tag), tag.file))
+def plain_lines(world, facts=facts):
+    tags = sorted(tags_of(world, facts), key=lambda tag: (tag_name(tag), tag.file))
     return [b"%s\t%s\t%s\n" % (tag_name(tag), tag.file, address(tag)) for tag in tags]
 
 
-def extended_lines(world):
-    tags = sorted(tags_of(world), key=lambda tag: (tag.name, tag.file))
-    return [*HEADS] + [
-        b'%s\t%s\t%s;"\t%s\tline:%d%s\n'
-        % (tag.name, tag.file, address(tag), tag.kind, tag.line, b"\tfile:" if tag.local else b"")
-        for tag in tags
-    ]
+def extended_lines(world, facts=facts):
+    lines = [*HEADS]
+    for tag in sorted(tags_of(world, facts), key=lambda tag: (tag.name, tag.file)):
+        more = b"\t" + tag.scope if tag.scope else b"\tfile:" if tag.local else b""
+        fields = tag.name, tag.file, address(tag), tag.kind, tag.line, more
+        lines.append(b'%s\t%s\t%s;"\t%s\tline:%d%s\n' % fields)
+    return lines
 
 
-def listing_lines(world):
-    tags = sorted(tags_of(world), key=lambda tag: (tag.name, tag.file))
+def listing_lines(world, facts=facts):
+    tags = sorted(tags_of(world, facts), key=lambda tag: (tag.name, tag.file))
     return [b"%s %d %s %s\n" % (tag.name, tag.line, tag.file, tag.text) for tag in tags]
 
 
-def found_in(text, digit, pattern):
-    """The function column and line of each row of a field in a text, by place; None is outside."""
+def found_in(text, digit, pattern, facts=facts):
+    """The function column and line of each row of a field in a text, by place; None is outside.
+
+    An external declaration or a prototype, which the wide profile has, is no row of field 1.
+    """
     if digit == b"0":
         return [(use.scope, use.line) for use in facts(text).uses if use.name == pattern]
     if digit == b"1":
-        return [(one.name, one.line) for one in facts(text).definitions if one.name == pattern]
+        return [
+            (one.name, one.line)
+            for one in facts(text).definitions
+            if one.name == pattern and one.kind not in b"xp"
+        ]
     if digit == b"2":
         return [(call.callee, call.line) for call in facts(text).calls if call.caller == pattern]
     if digit == b"3":
@@ -128,7 +144,7 @@ def found_in(text, digit, pattern):
     ]
 
 
-def answer(world, digit, pattern):
+def answer(world, digit, pattern, facts=facts):
     """The rows of a field; of equal ones the first."""
     refuse_if(digit in b"69", "field not in this profile")
     refuse_if(not pattern, "no pattern")
@@ -141,7 +157,7 @@ def answer(world, digit, pattern):
     places = dict.fromkeys(
         (file, function or b"<global>", line)
         for file, text in sorted(world.files.items())
-        for function, line in found_in(text, digit, pattern)
+        for function, line in found_in(text, digit, pattern, facts)
     )  # the text follows from file and line
     return [line_row(*place, cut_lines(world.files[place[0]])[place[2] - 1][0]) for place in places]
 

@@ -70,6 +70,14 @@ class Token(NamedTuple):
     def is_name(self):
         return self.is_word and self.text not in RESERVED
 
+    @property
+    def is_string(self):
+        return self.text[:1] == b'"'
+
+    @property
+    def is_number(self):
+        return self.text[:1].isdigit() or (len(self.text) > 1 and self.text[:1] == b".")
+
 
 class Line(NamedTuple):
     """A logical line: its tokens, and the place where it ends."""
@@ -133,7 +141,7 @@ class Code:
 
     def is_uncounted(self, index):
         before = self.tokens[max(index - 2, 0) : index]
-        return len(before) == 2 and before[0].text == b"extern" and before[1].text[:1] == b'"'
+        return len(before) == 2 and before[0].text == b"extern" and before[1].is_string
 
     def follows_stop(self, index):
         return index == 0 or index - 1 in self.stop_set
@@ -171,6 +179,12 @@ class Range(NamedTuple):
     local: bool
 
 
+def called_name(head):
+    """The first name of a head that is directly followed by a parenthesis, if there is one."""
+    names = called(head)
+    return head[names[0]] if names else None
+
+
 def segments_before(code, brace):
     """What stands between the stops before a brace, nearest first, down to one that is no `;`."""
     stops = code.stops[: bisect.bisect_left(code.stops, brace)]
@@ -179,7 +193,7 @@ def segments_before(code, brace):
         yield code.tokens[stops[-1] + 1 if stops else 0 : end]
 
 
-def head_name(head):
+def head_name(head, name_of=called_name):
     """The name of the function with this head, if it is one."""
     texts = {token.text for token in head}
     if (
@@ -189,8 +203,7 @@ def head_name(head):
         or not (head[-1].text == b")" or head[-1].is_name)
     ):
         return None
-    names = called(head)
-    return head[names[0]] if names else None
+    return name_of(head)
 
 
 def opening_name(segment):
@@ -222,14 +235,16 @@ def is_declaration(segment):
     )
 
 
-def head_before(code, brace):
-    """The tokens that make a brace begin a body, and the name of the function; else None twice."""
+def head_before(code, brace, kept=list, name_of=called_name):
+    """The tokens that make a brace begin a body, and the name of the function; else None twice.
+
+    The wide profile keeps fewer tokens of a head, and names it otherwise.
+    """
     stops = code.stops[: bisect.bisect_left(code.stops, brace)]
-    last = stops[-1] if stops else -1
-    if last < brace - 1:
-        head = code.tokens[last + 1 : brace]
-        return head, head_name(head)
-    for segment in segments_before(code, brace):
+    head = kept(code.tokens[stops[-1] + 1 if stops else 0 : brace])
+    if head:
+        return head, head_name(head, name_of)
+    for segment in map(kept, segments_before(code, brace)):
         name = opening_name(segment)
         if name is not None:
             return segment, name
@@ -238,10 +253,10 @@ def head_before(code, brace):
     return None, None
 
 
-def functions(code, size):
+def functions(code, size, **how):
     found = []
     for brace in code.opened():
-        head, name = head_before(code, brace)
+        head, name = head_before(code, brace, **how)
         if name is not None:
             last = code.first_after(brace, b"}", 1)
             end = size if last is None else code.tokens[last].end
@@ -339,6 +354,8 @@ class Definition(NamedTuple):
     line: int
     kind: bytes
     local: bool
+    place: int
+    scope: bytes = b""  # the scope field: the wide profile alone has it
 
 
 class Use(NamedTuple):
@@ -397,27 +414,42 @@ def header(text, tokens):
     return (third.end, text[third.end : ends[0]]) if third.text == b"<" and ends else (0, b"")
 
 
+class Parts(NamedTuple):
+    """A text in its directives and its code."""
+
+    text: bytes
+    directives: list
+    code: Code
+
+
+def parts_of(text):
+    lines = logical_lines(text)
+    tokens = [token for line in lines if not line.is_directive for token in line.tokens]
+    return Parts(text, [line for line in lines if line.is_directive], Code(text, tokens))
+
+
 @functools.lru_cache(maxsize=4096)
 def facts(text):
     """All that is found in a text."""
-    lines = logical_lines(text)
+    parts = parts_of(text)
+    named = [(name, b"t", False) for name in typedefs(parts.code)]
+    named += [(name, kind, False) for name, kind in structures(parts.code)]
+    return facts_of(parts, functions(parts.code, len(text)), named, KINDS)
+
+
+def facts_of(parts, own_functions, named, kinds):
+    """All that is found in a text with these functions and other named tokens of its code."""
+    text, directives, code = parts
     feeds = [found.start() for found in re.finditer(b"\n", text)]
 
     def line_of(place):
         return bisect.bisect_left(feeds, place) + 1
 
-    directives = [line for line in lines if line.is_directive]
-    code = Code(text, [token for line in lines if not line.is_directive for token in line.tokens])
-    own_functions = functions(code, len(text))
     own_macros, others = macros(directives)
     scopes = Scopes(own_functions, own_macros)
-
-    named = [(one.name, one.kind, one.local) for one in own_functions + own_macros]
-    named += [(name, b"d", False) for name in others] + [
-        (name, b"t", False) for name in typedefs(code)
-    ]
-    named += [(name, kind, False) for name, kind in structures(code)]
-    named.sort(key=lambda one: (one[0].place, KINDS.index(one[1])))
+    named = named + [(one.name, one.kind, one.local) for one in own_functions + own_macros]
+    named += [(name, b"d", False) for name in others]
+    named.sort(key=lambda one: (one[0].place, kinds.index(one[1])))
 
     used = [token for token in code.tokens if token.is_name]
     for line in directives:
@@ -437,7 +469,10 @@ def facts(text):
     calls.sort(key=lambda call: call[0].place)
     headers = [header(text, line.tokens) for line in directives if line.own_word == b"include"]
     return Facts(
-        [Definition(name.text, line_of(name.place), kind, local) for name, kind, local in named],
+        [
+            Definition(name.text, line_of(name.place), kind, local, name.place, *scope)
+            for name, kind, local, *scope in named
+        ],
         [Use(token.text, line_of(token.place), scopes.at(token.place)) for token in used],
         [Call(token.text, line_of(token.place), caller) for token, caller in calls],
         [Include(name, line_of(place), scopes.at(place)) for place, name in headers if name],

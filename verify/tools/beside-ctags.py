@@ -24,10 +24,9 @@ from __future__ import annotations
 import collections
 import pathlib
 import re
-import subprocess
 import sys
-import tempfile
-from typing import NamedTuple
+
+from tags_files import Found, counted, definitions, put_table
 
 sys.path.insert(0, str(pathlib.Path(__file__).resolve().parents[1]))
 from shared import RESERVED, c_files, words_given, options  # noqa: E402
@@ -43,32 +42,6 @@ KINDS = {
 NEAR = 3  # lines between two names of one declaration
 CPP = re.compile(r"^\s*(class|public|private|template)\b|Q_OBJECT|::")
 CTAGS = ["--options=NONE", "--language-force=C", "--kinds-C=fdtsug", "--if0=yes", "--fields=+kn"]
-
-
-class Found(NamedTuple):
-    kind: str
-    name: str
-    file: str
-    line: int
-
-
-def definitions(words: list, names: list[str], folder: pathlib.Path) -> collections.Counter:
-    """What a program writes to a tags file in the extended format, each as often as it does."""
-    with tempfile.TemporaryDirectory() as place:
-        file = pathlib.Path(place) / "made.tags"
-        subprocess.run(
-            words + ["-f", file] + names, cwd=folder, check=True, stderr=subprocess.DEVNULL
-        )
-        found = collections.Counter()
-        for line in file.read_text("latin-1").split("\n")[:-1]:
-            if line.startswith("!_TAG_"):
-                continue
-            before, _, after = line.rpartition(';"\t')
-            name, source = before.split("\t")[:2]
-            kind, number = re.match(r"(.)\t(?:.*\t)?line:([0-9]+)", after).groups()
-            if not name.startswith("__anon"):
-                found[Found(kind, name, source, int(number))] += 1
-        return found
 
 
 def follows_no_stop(lines: list[str]) -> bool:
@@ -111,19 +84,6 @@ def reason(item: Found, by_ctags: bool, other_side: collections.Counter, lines: 
     return "the typedef is in a body" if by_ctags else "ctags passes over it"
 
 
-def put_table(own: collections.Counter, other: collections.Counter) -> None:
-    print(f"{'kind':<14}{'cbrowse':>9}{'ctags':>9}{'both':>9}{'of ctags':>10}{'of cbrowse':>12}")
-    for kind, word in KINDS.items():
-        mine, its = (
-            collections.Counter({item: n for item, n in found.items() if item.kind == kind})
-            for found in (own, other)
-        )
-        both = sum((mine & its).values())
-        parts = [f"{100 * both / max(1, sum(found.values())):.2f} %" for found in (its, mine)]
-        counts = f"{sum(mine.values()):>9}{sum(its.values()):>9}{both:>9}"
-        print(f"{word:<14}{counts}{parts[0]:>10}{parts[1]:>12}")
-
-
 def main() -> None:
     parser = options(__doc__)
     parser.add_argument("folder", type=pathlib.Path, help="a folder with C files")
@@ -137,10 +97,10 @@ def main() -> None:
     words = words_given(parser)
     folder = words.folder.resolve()
     sizes = c_files(folder, words.without)
-    own = definitions([words.cbrowse, "tags", "--format", "2"], [*sizes], folder)
-    other = definitions([words.ctags, *CTAGS], [*sizes], folder)
+    own = counted(definitions([words.cbrowse, "tags", "--format", "2"], [*sizes], folder))
+    other = counted(definitions([words.ctags, *CTAGS], [*sizes], folder))
     print(f"{len(sizes)} files with {sum(sizes.values())} bytes")
-    put_table(own, other)
+    put_table(KINDS, own, other, "cbrowse")
     texts: dict[str, list[str]] = {}
     for by_ctags, some, others in (True, other - own, own - other), (
         False,
