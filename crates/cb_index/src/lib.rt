@@ -1,46 +1,60 @@
 //! Versions of files and sorted indexes of their facts.
 //!
-//! An [`Archive`] keeps file names and versions, each under a number. A [`Sorted`] keeps entries of
-//! the versions under names in one of five orders. The crate stands on `cb_scan` (facts) and
-//! `cb_tags` (tag names). The layer above uses the contracts of [`Sorted`]: its entries are those
-//! that were put and not taken, in order, and a range has exactly the entries of a key.
+//! An [`Archive`] keeps file names and versions, each under a number. A [`Shelf`] has an archive and
+//! shows some of its versions, each under a file name, with five sorted indexes of what is found in
+//! them. The crate stands on `cb_scan` (facts) and `cb_tags` (tag names). The layer above uses the
+//! contracts of [`Shelf`]: its readers give exactly the facts of the files that are shown.
 #![tactic(auto)]
 
+// What is kept: names and versions, each under a number.
 mod archive;
-mod block;
-mod blocks;
 mod bytes;
-mod counts;
-mod def_search;
+mod room;
+
+// What is shown of it, with how many facts, and what it lends row by row.
 mod entries;
-mod entry;
 mod facts;
 mod includes;
-mod index;
-mod items;
-mod kind;
-mod laid;
-pub mod laws;
-mod links;
 mod listed;
-mod memory;
 mod names;
-mod order;
-mod orders;
-mod place;
-mod postings;
-mod range;
-mod repeats;
-mod room;
-mod row;
 mod rows;
-mod run;
 mod shelf;
-mod sort;
-mod sorted;
-mod table;
 mod tags;
 mod totals;
+
+// An index of one kind: its entries in order, the versions that are pending, and the search that
+// answers until they are in order.
+mod def_search;
+mod entry;
+mod index;
+mod kind;
+mod order;
+mod orders;
+mod postings;
+mod sort;
+
+// Entries kept in blocks, and places in them.
+mod block;
+mod blocks;
+mod place;
+mod run;
+
+// The uses and calls of one key in a version, and those whose rows are equal.
+mod counts;
+mod items;
+mod laid;
+mod links;
+mod repeats;
+mod table;
+
+// An index of rows for its own sake, and the laws of the orders.
+pub mod laws;
+mod range;
+mod row;
+mod sorted;
+
+// The answer where memory is refused.
+mod memory;
 
 pub use archive::{Archive, Version};
 pub use entries::Entries;
