@@ -38,6 +38,8 @@ pub mod WideAttributes
 pub mod WideCalls
 pub mod WideEnumerators
 pub mod WideLaws
+pub mod WideOpenings
+pub mod WideParts
 pub mod WidePointers
 pub mod WideTails
 pub mod WithinLemmas

@@ -13,7 +13,7 @@ use Rattle.cb_scan.specs.steps.wide.Ahead.{first_is, first_is_word}
 use Rattle.cb_scan.specs.steps.wide.Along.{items, pointer_from}
 
 -- what the rules say of the tokens after `(` where `*` follows it, and of the whole part
-pub meant_name : List Numbered → Pointer
+unfoldable pub meant_name : List Numbered → Pointer
 meant_name [] = Sought
 meant_name (x ∷ xs) = Found x.item (begins_with 40 xs)
 

@@ -19,7 +19,7 @@ use Rattle.cb_scan.specs.rules.wide.Prototypes.{begins_in_parentheses, called_at
 use Rattle.cb_scan.specs.rules.wide.Prototypes.{is_called, is_enclosed, tail_prototype}
 use Rattle.cb_scan.specs.rules.wide.Words.{is_keyword, is_sign, is_specifier, is_text, is_underscored}
 use Rattle.cb_scan.specs.rules.wide.Words.{is_wide_name}
-use Rattle.cb_scan.specs.steps.wide.Ahead.{encloses_name, first_is, second_is, third_is}
+use Rattle.cb_scan.specs.steps.wide.Ahead.{encloses_name, first_is, opens_twice}
 use Rattle.cb_scan.specs.steps.wide.Along.{items, tail_from}
 use Rattle.cb_scan.specs.steps.wide.Tails as tails
 use Rattle.cb_scan.specs.steps.wide.Tails.{name_before, next_tail, or_first, outer_tail, passes, tail_start}
@@ -29,7 +29,7 @@ use Rattle.cb_scan.proofs.WidePointers.{same_byte}
 -- ---- small facts
 
 -- a lone byte is that byte
-sign_is : (b : ℕ) (r : WideRole) → is_sign b r ≡ true → r ≡ wide.Mark b
+pub sign_is : (b : ℕ) (r : WideRole) → is_sign b r ≡ true → r ≡ wide.Mark b
 sign_is b (wide.Mark x) is = ap wide.Mark (eqb-true x b is)
 sign_is b wide.Name is = absurd (false≢true is)
 sign_is b wide.Underscored is = absurd (false≢true is)
@@ -47,7 +47,7 @@ sign_is b wide.Str is = absurd (false≢true is)
 sign_is b wide.Number is = absurd (false≢true is)
 sign_is b wide.Character is = absurd (false≢true is)
 
-or_together : (a b c : Bool) → ((a || b) || c) ≡ (a || (b || c))
+pub or_together : (a b c : Bool) → ((a || b) || c) ≡ (a || (b || c))
 or_together true b c = refl
 or_together false b c = refl
 
@@ -70,18 +70,19 @@ at_drop (suc j) [] y ys e = ap (λ l. numbered_at l 0) e
 at_drop zero (x ∷ xs) y ys e = ap (λ l. numbered_at l 0) e
 at_drop (suc j) (x ∷ xs) y ys e = at_drop j xs y ys e
 
-third : (b : ℕ) (x : Numbered) (r : List Numbered) → third_is b (items (x ∷ r)) ≡ begins_with b (drop 1 r)
-third b x [] = refl
-third b x (y ∷ ys) = same_byte b ys
+twice : (x : Numbered) (r : List Numbered)
+    → (begins_with 40 r && begins_with 40 (drop 1 r)) ≡ opens_twice (items (x ∷ r))
+twice x [] = refl
+twice x (y ∷ ys) = ap (λ b. is_byte 40 y && b) (sym (same_byte 40 ys))
 
 no_fourth : (a b c : Bool) → false ≡ (a && b && c && false)
 no_fourth true true true = refl
 no_fourth true true false = refl
 no_fourth true false c = elim c as (λ d. false ≡ (true && false && d && false)) [ true ↦ refl | false ↦ refl ]
 no_fourth false b c = elim b as (λ e. false ≡ (false && e && c && false)) [
-    | true ↦ elim c as (λ d. false ≡ (false && true && d && false)) [ true ↦ refl | false ↦ refl ]
-    | false ↦ elim c as (λ d. false ≡ (false && false && d && false)) [ true ↦ refl | false ↦ refl ]
-  ]
+  | true ↦ elim c as (λ d. false ≡ (false && true && d && false)) [ true ↦ refl | false ↦ refl ]
+  | false ↦ elim c as (λ d. false ≡ (false && false && d && false)) [ true ↦ refl | false ↦ refl ]
+]
 
 enclosed : (xs : List Numbered) → begins_in_parentheses xs ≡ encloses_name (items xs)
 enclosed [] = refl
@@ -308,11 +309,13 @@ module _ (first : Bool) (xs : List Numbered) where
       (cond (is_candidate first xs k && not (is_trailing first xs k)) (Some (at k).item) n)) known.name
 
   -- ---- functions
-  doubled_is : (k : ℕ) → precedes 40 xs (suc k) ≡ third_is 40 (items (onward k))
+  doubled_is : (k : ℕ) → (precedes 40 xs k && precedes 40 xs (suc k)) ≡ opens_twice (items (onward k))
   doubled_is k =
-      ap (begins_with 40) (sym (drop_one (suc k) xs)) ∙ sym (third 40 (at k) (drop (suc k) xs))
+      ap (λ l. precedes 40 xs k && begins_with 40 l) (sym (drop_one (suc k) xs))
+      ∙ twice (at k) (drop (suc k) xs)
 
-  called_is : (k : ℕ) → called_at xs k ≡ name_before (last_at k) (precedes 40 xs (suc k)) (at k).item
+  called_is : (k : ℕ) → called_at xs k
+      ≡ name_before (last_at k) (precedes 40 xs k && precedes 40 xs (suc k)) (at k).item
   unfolding last_at
   called_is zero = refl
   called_is (suc k) = refl
@@ -322,7 +325,7 @@ module _ (first : Bool) (xs : List Numbered) where
   called_name_is k t known =
       called_is k
       ∙ ap (λ b. name_before (last_at k) b (at k).item) (doubled_is k)
-      ∙ ap (λ o. name_before o (third_is 40 (items (onward k))) (at k).item) (sym known.last)
+      ∙ ap (λ o. name_before o (opens_twice (items (onward k))) (at k).item) (sym known.last)
 
   called_of : (o n t p w r y : Bool)
       → (o && n && t && p && not (o && w) && not r && y)

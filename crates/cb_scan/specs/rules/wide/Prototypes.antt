@@ -41,10 +41,11 @@ is_called first xs k =
     && not (begins_in_parentheses (drop (suc k) xs))
     && (k == 0 || follows ends_type xs k)
 
--- the name at index k is called with double parentheses and follows a name: it is a macro around
--- the parameters of that
+-- the token at index k follows a name, and double parentheses follow it: it is a macro around the
+-- parameters of that name
 abbrev pub wraps_parameters : List Numbered → ℕ → Bool
-wraps_parameters xs k = follows names xs k && precedes open_paren xs (suc k)
+wraps_parameters xs k =
+    follows names xs k && (precedes open_paren xs k && precedes open_paren xs (suc k))
 
 -- the name of a function that is declared by a name called at index k
 abbrev pub called_at : List Numbered → ℕ → WideToken

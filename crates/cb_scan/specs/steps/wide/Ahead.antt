@@ -9,14 +9,16 @@ abbrev pub first_is : ℕ → List WideToken → Bool
 first_is b [] = false
 first_is b (x ∷ xs) = is_sign b x.role
 
--- the second token is the lone byte b, and the third
+-- the second token is the lone byte b
 abbrev pub second_is : ℕ → List WideToken → Bool
 second_is b [] = false
 second_is b (x ∷ xs) = first_is b xs
 
-abbrev pub third_is : ℕ → List WideToken → Bool
-third_is b [] = false
-third_is b (x ∷ xs) = second_is b xs
+-- the second token and the third are `(`
+abbrev pub opens_twice : List WideToken → Bool
+opens_twice [] = false
+opens_twice (x ∷ []) = false
+opens_twice (x ∷ y ∷ xs) = is_sign open_paren y.role && first_is open_paren xs
 
 -- the first token is a word, and the second
 abbrev pub first_is_word : List WideToken → Bool

@@ -1,11 +1,11 @@
 -- What a `{` opens, a token at a time.
-use Rattle.std.specs.Prelude.{Option, None, Some, if◌then◌else◌}
+use Rattle.std.specs.Prelude.{List, [], ◌∷◌, length, drop, Option, None, Some, if◌then◌else◌}
 use Rattle.std.specs.Option.{option_map}
 use Rattle.cb_scan.specs.declared.facts.Kind.{Kind}
 use Rattle.cb_scan.specs.declared.rules.wide.def.Tag.{Tag}
 use Rattle.cb_scan.specs.declared.rules.wide.opening.Opening.{Opening}
 use Rattle.cb_scan.specs.declared.rules.wide.token.WideToken.{WideToken}
-use Rattle.cb_scan.specs.rules.wide.Bodies.{body_kind}
+use Rattle.cb_scan.specs.rules.wide.Bodies.{body_kind, first_kind, names_first}
 use Rattle.cb_scan.specs.rules.wide.Words.{is_wide_name}
 
 -- after `struct`, `union` or `enum`
@@ -32,3 +32,18 @@ next_opening before x = after_kind (body_kind x.role) before x
 -- the tag of the body
 abbrev pub tag_of : Opening → Option Tag
 tag_of o = option_map (λ (x : WideToken). record { kind = o.kind; name = x.token.span }) o.tag
+
+-- the first token, if there is one
+abbrev pub first : List WideToken → Option WideToken
+first [] = None
+first (x ∷ xs) = Some x
+
+-- an opening
+abbrev pub the_opening : Kind → Option WideToken → Opening
+the_opening kind tag = record { kind = kind; tag = tag }
+
+-- what a `{` would open after these tokens, the nearest first
+abbrev pub opening_after : List WideToken → Option Opening
+opening_after before =
+    option_map (λ kind. the_opening kind (first (names_first before)))
+    (first_kind (drop (length (names_first before)) before))

@@ -5,7 +5,7 @@ use Rattle.cb_scan.specs.declared.rules.wide.tail.Tail.{Tail}
 use Rattle.cb_scan.specs.declared.rules.wide.token.WideToken.{WideToken}
 use Rattle.cb_scan.specs.rules.wide.Words.{is_keyword, is_sign, is_specifier, is_text}
 use Rattle.cb_scan.specs.rules.wide.Words.{is_underscored, is_wide_name, is_wide_word}
-use Rattle.cb_scan.specs.steps.wide.Ahead.{encloses_name, rest_encloses_name, second_is, third_is}
+use Rattle.cb_scan.specs.steps.wide.Ahead.{encloses_name, opens_twice, rest_encloses_name, second_is}
 use Rattle.cb_scan.specs.Bytes.{close_bracket, open_paren, star}
 
 -- the beginning of a part
@@ -58,7 +58,7 @@ name_before None doubled x = x
 name_before (Some y) doubled x = if is_wide_name y.role && doubled then y else x
 
 abbrev pub declared_by : Tail → List WideToken → WideToken → WideToken
-declared_by t xs x = name_before t.last (third_is open_paren xs) x
+declared_by t xs x = name_before t.last (opens_twice xs) x
 
 -- the function that is declared at the first token
 abbrev pub prototype_at : Tail → List WideToken → Option WideToken

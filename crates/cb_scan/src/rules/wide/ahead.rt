@@ -2,10 +2,10 @@
 ghost use Rattle.std.specs.Prelude.{◌≡◌};
 ghost use Rattle.cb_scan.specs.steps.wide.Ahead.{
   encloses_name,
+  opens_twice,
   rest_encloses_name,
   second_is,
   second_is_word,
-  third_is,
 };
 
 use crate::rules::wide::token::WideToken;
@@ -20,12 +20,12 @@ pub(crate) fn second_is(ahead: &[WideToken], byte: u8) -> bool
     }
 }
 
-/// The third token is the lone byte.
-pub(crate) fn third_is(ahead: &[WideToken], byte: u8) -> bool
-    ensures { result ≡ third_is byte ahead.now }
+/// The second token and the third are `(`.
+pub(crate) fn opens_twice(ahead: &[WideToken]) -> bool
+    ensures { result ≡ opens_twice ahead.now }
 {
     match ahead {
-        [_, _, third, ..] => third.role.is_sign(byte),
+        [_, second, third, ..] => second.role.is_sign(b'(') && third.role.is_sign(b'('),
         _ => false,
     }
 }

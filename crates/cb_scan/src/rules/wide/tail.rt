@@ -16,7 +16,7 @@ ghost use Rattle.cb_scan.specs.steps.wide.Tails.{
   trails,
 };
 
-use crate::rules::wide::ahead::{encloses_name, rest_encloses_name, second_is, third_is};
+use crate::rules::wide::ahead::{encloses_name, opens_twice, rest_encloses_name, second_is};
 use crate::rules::wide::token::WideToken;
 
 /// What is known of the tail of a part: whether a type stands before, the token before, whether a
@@ -106,7 +106,7 @@ impl Tail {
         ensures { result ≡ declared_by self.now ahead.now item.now }
     {
         match &self.last {
-            Some(last) if last.role.is_name() && third_is(ahead, b'(') => *last,
+            Some(last) if last.role.is_name() && opens_twice(ahead) => *last,
             _ => *item,
         }
     }

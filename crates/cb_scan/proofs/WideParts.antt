@@ -1,0 +1,518 @@
+-- The pass finds the names of a part.
+use Rattle.std.proofs.Common.{◌≡◌, ◌∙◌, ℕ, zero, suc, ◌+◌, Bool, true, false, List, [], ◌∷◌, Option, Some}
+use Rattle.std.proofs.Common.{None, refl, sym, ap, arith, length, subst, ⊎_elim}
+use Rattle.std.proofs.lemmas.Bool.{cases_Bool, false≢true}
+use Rattle.std.specs.Prelude.{◌&&◌, ◌||◌, ◌==◌, not, cond, take, if◌then◌else◌}
+use Rattle.std.specs.List.{list_any, prefix_len}
+use Rattle.std.specs.Option.{is_some, option_map, option_map_or}
+use Rattle.cb_scan.specs.declared.rules.wide.called.CalledName.{CalledName}
+use Rattle.cb_scan.specs.declared.rules.wide.called.Calls.{Calls}
+use Rattle.cb_scan.specs.declared.rules.wide.called.Enclosed.{Enclosed}
+use Rattle.cb_scan.specs.declared.rules.wide.part.Part.{Part}
+use Rattle.cb_scan.specs.declared.rules.wide.pointer.Pointer.{Pointer}
+use Rattle.cb_scan.specs.declared.rules.wide.pointer.Pointer.TheVariants.{Nothing, Sought, Found}
+use Rattle.cb_scan.specs.declared.rules.wide.role.WideRole.{WideRole}
+use Rattle.cb_scan.specs.declared.rules.wide.role.WideRole.TheVariants as wide
+use Rattle.cb_scan.specs.declared.rules.wide.tail.Tail.{Tail}
+use Rattle.cb_scan.specs.declared.rules.wide.token.WideToken.{WideToken}
+use Rattle.cb_scan.specs.rules.wide.Declarations as rules
+use Rattle.cb_scan.specs.rules.wide.Declarations.{before_value, begins_value, has_stray, has_value}
+use Rattle.cb_scan.specs.rules.wide.Declarations.{is_stray}
+use Rattle.cb_scan.specs.rules.wide.Levels.{Numbered, is_byte, is_outer}
+use Rattle.cb_scan.specs.rules.wide.Names.{after_pointer, called_name, first_of, from_free_name}
+use Rattle.cb_scan.specs.rules.wide.Names.{part_name, tail_name, uncalled_name}
+use Rattle.cb_scan.specs.rules.wide.Prototypes.{called_pointer, prototype_in, prototype_name}
+use Rattle.cb_scan.specs.rules.wide.Prototypes.{tail_prototype, uncalled_prototype}
+use Rattle.cb_scan.specs.rules.wide.Words.{is_sign, is_specifier, is_text, is_underscored, is_wide_name}
+use Rattle.cb_scan.specs.rules.wide.Words.{is_wide_word}
+use Rattle.cb_scan.specs.steps.wide.Ahead.{encloses_name, first_is, first_is_word, opens_twice}
+use Rattle.cb_scan.specs.steps.wide.Along.{calls_from, items, part_from, pointer_from, tail_from}
+use Rattle.cb_scan.specs.steps.wide.Called.{after_enclosed, enclosed_start, is_more, next_calls}
+use Rattle.cb_scan.specs.steps.wide.Called.{next_enclosed}
+use Rattle.cb_scan.specs.steps.wide.Parts as parts
+use Rattle.cb_scan.specs.steps.wide.Parts.{grown_part, part_start}
+use Rattle.cb_scan.specs.steps.wide.Pointers.{next_pointer}
+use Rattle.cb_scan.specs.steps.wide.Tails as tails
+use Rattle.cb_scan.specs.steps.wide.Tails.{name_before, next_tail, or_first}
+use Rattle.cb_scan.proofs.WideCalls.{calls_are}
+use Rattle.cb_scan.proofs.WidePointers.{meant_name, meant_pointer, pointer_is}
+use Rattle.cb_scan.proofs.WideTails.{or_together, sign_is, tail_function_is, tail_name_is}
+
+-- ---- a value is not looked into
+
+-- a token before the value, and one that begins it
+value_true : (x : Numbered) (xs : List Numbered) → begins_value x ≡ true → before_value (x ∷ xs) ≡ []
+value_true x xs is =
+    ap (λ b. take (cond (not b) (1 + prefix_len (λ x. not (begins_value x)) xs) 0) (x ∷ xs)) is
+
+value_false : (x : Numbered) (xs : List Numbered) → begins_value x ≡ false
+    → before_value (x ∷ xs) ≡ x ∷ before_value xs
+value_false x xs isnt =
+    let one : 1 + prefix_len (λ x. not (begins_value x)) xs ≡ suc (prefix_len (λ x. not (begins_value x)) xs) =
+    omega arith in
+    ap (λ b. take (cond (not b) (1 + prefix_len (λ x. not (begins_value x)) xs) 0) (x ∷ xs)) isnt
+    ∙ ap (λ n. take n (x ∷ xs)) one
+
+-- an `=` or `:` is none of the marks that are looked for, and no word
+value_is_not : (b : ℕ) (x : Numbered) → (61 == b) ≡ false → (58 == b) ≡ false → begins_value x ≡ true
+    → is_byte b x ≡ false
+value_is_not b x equals colon is =
+    by_sign (is_outer x) (is_byte 61 x) (is_byte 58 x) is
+    (λ e. ap (is_sign b) (sign_is 61 x.item.role e) ∙ equals)
+    (λ e. ap (is_sign b) (sign_is 58 x.item.role e) ∙ colon)
+  where
+    by_sign : (o e c : Bool) → ((o && e) || (o && c)) ≡ true → (e ≡ true → is_byte b x ≡ false)
+        → (c ≡ true → is_byte b x ≡ false) → is_byte b x ≡ false
+    by_sign true true c is by_e by_c = by_e refl
+    by_sign true false true is by_e by_c = by_c refl
+    by_sign true false false is by_e by_c = absurd (false≢true is)
+    by_sign false e c is by_e by_c = absurd (false≢true is)
+
+value_is_no_word : (x : Numbered) → begins_value x ≡ true → is_wide_word x.item.role ≡ false
+value_is_no_word x is =
+    by_sign (is_outer x) (is_byte 61 x) (is_byte 58 x) is
+    (λ e. ap is_wide_word (sign_is 61 x.item.role e))
+    (λ e. ap is_wide_word (sign_is 58 x.item.role e))
+  where
+    by_sign : (o e c : Bool) → ((o && e) || (o && c)) ≡ true
+        → (e ≡ true → is_wide_word x.item.role ≡ false) → (c ≡ true → is_wide_word x.item.role ≡ false)
+        → is_wide_word x.item.role ≡ false
+    by_sign true true c is by_e by_c = by_e refl
+    by_sign true false true is by_e by_c = by_c refl
+    by_sign true false false is by_e by_c = absurd (false≢true is)
+    by_sign false e c is by_e by_c = absurd (false≢true is)
+
+-- what is ahead is the same without the value
+first_same : (b : ℕ) (xs : List Numbered) → (61 == b) ≡ false → (58 == b) ≡ false
+    → first_is b (items xs) ≡ first_is b (items (before_value xs))
+first_same b [] equals colon = refl
+first_same b (x ∷ xs) equals colon =
+    ⊎_elim
+    (λ is. value_is_not b x equals colon is ∙ sym (ap (λ l. first_is b (items l)) (value_true x xs is)))
+    (λ isnt. sym (ap (λ l. first_is b (items l)) (value_false x xs isnt)))
+    (cases_Bool (begins_value x))
+
+word_same : (xs : List Numbered) → first_is_word (items xs) ≡ first_is_word (items (before_value xs))
+word_same [] = refl
+word_same (x ∷ xs) =
+    ⊎_elim
+    (λ is. value_is_no_word x is ∙ sym (ap (λ l. first_is_word (items l)) (value_true x xs is)))
+    (λ isnt. sym (ap (λ l. first_is_word (items l)) (value_false x xs isnt)))
+    (cases_Bool (begins_value x))
+
+open_same : (xs : List Numbered) → first_is 40 (items xs) ≡ first_is 40 (items (before_value xs))
+open_same xs = first_same 40 xs refl refl
+
+twice_same : (x : Numbered) (xs : List Numbered)
+    → opens_twice (items (x ∷ xs)) ≡ opens_twice (items (x ∷ before_value xs))
+twice_same x [] = refl
+twice_same x (y ∷ ys) =
+    ⊎_elim
+    (λ is.
+    ap (λ b. b && first_is 40 (items ys)) (value_is_not 40 y refl refl is)
+    ∙ sym (ap (λ l. opens_twice (items (x ∷ l))) (value_true y ys is)))
+    (λ isnt.
+    ap (λ b. is_byte 40 y && b) (open_same ys)
+    ∙ sym (ap (λ l. opens_twice (items (x ∷ l))) (value_false y ys isnt)))
+    (cases_Bool (begins_value y))
+
+no_name : (r : WideRole) → is_wide_word r ≡ false → is_wide_name r ≡ false
+no_name wide.Name is = is
+no_name wide.Underscored is = is
+no_name wide.Struct is = refl
+no_name wide.Union is = refl
+no_name wide.Enum is = refl
+no_name wide.Typedef is = refl
+no_name wide.Extern is = refl
+no_name wide.Static is = refl
+no_name wide.Specifier is = refl
+no_name wide.Attribute is = refl
+no_name wide.Statement is = refl
+no_name wide.Reserved is = refl
+no_name wide.Str is = refl
+no_name wide.Number is = refl
+no_name wide.Character is = refl
+no_name (wide.Mark x) is = refl
+
+second_false : (a c d : Bool) → (a && false && c && d) ≡ false
+second_false true c d = refl
+second_false false c d = refl
+
+third_false : (a b d : Bool) → (a && b && false && d) ≡ false
+third_false true true d = refl
+third_false true false d = refl
+third_false false b d = refl
+
+-- tokens of which the second is no name, or the third no `)`, enclose none
+second_no_name : (a b : WideToken) (xs : List WideToken) → is_wide_name b.role ≡ false
+    → encloses_name (a ∷ b ∷ xs) ≡ false
+second_no_name a b [] is = refl
+second_no_name a b (c ∷ xs) is =
+    ap (λ n. is_sign 40 a.role && n && is_sign 41 c.role && first_is 40 xs) is
+    ∙ second_false (is_sign 40 a.role) (is_sign 41 c.role) (first_is 40 xs)
+
+enclosed_same : (x : Numbered) (xs : List Numbered)
+    → encloses_name (items (x ∷ xs)) ≡ encloses_name (items (x ∷ before_value xs))
+enclosed_same x [] = refl
+enclosed_same x (y ∷ []) =
+    ⊎_elim
+    (λ is. sym (ap (λ l. encloses_name (items (x ∷ l))) (value_true y [] is)))
+    (λ isnt. sym (ap (λ l. encloses_name (items (x ∷ l))) (value_false y [] isnt)))
+    (cases_Bool (begins_value y))
+enclosed_same x (y ∷ z ∷ zs) =
+    ⊎_elim
+    (λ is.
+    second_no_name x.item y.item (items (z ∷ zs)) (no_name y.item.role (value_is_no_word y is))
+    ∙ sym (ap (λ l. encloses_name (items (x ∷ l))) (value_true y (z ∷ zs) is)))
+    (λ isnt.
+    ⊎_elim
+    (λ is.
+    ap (λ b. is_byte 40 x && is_wide_name y.item.role && b && first_is 40 (items zs))
+    (value_is_not 41 z refl refl is)
+    ∙ third_false (is_byte 40 x) (is_wide_name y.item.role) (first_is 40 (items zs))
+    ∙ sym (ap (λ l. encloses_name (items (x ∷ y ∷ l))) (value_true z zs is)))
+    (λ not_z.
+    ap (λ b. is_byte 40 x && is_wide_name y.item.role && is_byte 41 z && b) (open_same zs)
+    ∙ sym (ap (λ l. encloses_name (items (x ∷ y ∷ l))) (value_false z zs not_z)))
+    (cases_Bool (begins_value z))
+    ∙ sym (ap (λ l. encloses_name (items (x ∷ l))) (value_false y (z ∷ zs) isnt)))
+    (cases_Bool (begins_value y))
+
+rest_same : (xs : List Numbered) → encloses_name (items xs) ≡ encloses_name (items (before_value xs))
+rest_same [] = refl
+rest_same (x ∷ xs) =
+    ⊎_elim
+    (λ is. value_encloses xs is ∙ sym (ap (λ l. encloses_name (items l)) (value_true x xs is)))
+    (λ isnt. enclosed_same x xs ∙ sym (ap (λ l. encloses_name (items l)) (value_false x xs isnt)))
+    (cases_Bool (begins_value x))
+  where
+    value_encloses : (xs : List Numbered) → begins_value x ≡ true → encloses_name (items (x ∷ xs)) ≡ false
+    value_encloses [] is = refl
+    value_encloses (y ∷ []) is = refl
+    value_encloses (y ∷ z ∷ zs) is =
+        ap (λ b. b && is_wide_name y.item.role && is_byte 41 z && first_is 40 (items zs))
+        (value_is_not 40 x refl refl is)
+
+-- ---- so each machine goes on the same
+pointer_same : (p : Pointer) (o : Bool) (x : Numbered) (xs : List Numbered)
+    → next_pointer p o (items (x ∷ xs)) x.item ≡ next_pointer p o (items (x ∷ before_value xs)) x.item
+pointer_same Nothing o x xs =
+    ap (λ b. if o && is_byte 40 x && b then Sought else Nothing) (first_same 42 xs refl refl)
+pointer_same Sought o x xs =
+    ap (λ b. if is_wide_name x.item.role && not b then Found x.item (first_is 40 (items xs)) else Sought)
+    (word_same xs)
+    ∙ ap (λ b. if is_wide_name x.item.role && not (first_is_word (items (before_value xs)))
+    then Found x.item b else Sought) (open_same xs)
+pointer_same (Found name called) o x xs = refl
+
+abbrev the_name : WideToken → Bool → CalledName
+the_name name starred = record { name = name; starred = starred }
+
+abbrev calls_of : Option Enclosed → Option CalledName → Calls
+calls_of e f = record { enclosed = e; found = f }
+
+enclosed_next : (e : Option Enclosed) (x : Numbered) (xs : List Numbered)
+    → after_enclosed e (items (x ∷ xs)) x.item ≡ after_enclosed e (items (x ∷ before_value xs)) x.item
+enclosed_next None x xs = refl
+enclosed_next (Some e) x xs =
+    let out : Option CalledName = option_map (λ (name : WideToken).
+    the_name name e.starred) e.last in
+    ap (λ b. if is_wide_word x.item.role || is_byte 42 x
+    then calls_of (Some (next_enclosed e x.item)) None
+    else calls_of None (if is_more e.amount && is_byte 41 x && b then out else None)) (open_same xs)
+
+calls_same : (c : Calls) (o : Bool) (x : Numbered) (xs : List Numbered)
+    → next_calls c o (items (x ∷ xs)) x.item ≡ next_calls c o (items (x ∷ before_value xs)) x.item
+calls_same c o x xs =
+    ap (λ d. if is_some c.found then c
+    else (if o && is_byte 40 x then calls_of (Some enclosed_start) None else d))
+    (enclosed_next c.enclosed x xs)
+
+candidate_same : (t : Tail) (x : Numbered) (xs : List Numbered)
+    → tails.is_candidate t (items (x ∷ xs)) ≡ tails.is_candidate t (items (x ∷ before_value xs))
+candidate_same t x xs =
+    ap (λ b. is_wide_name x.item.role && t.typed && not b && not (tails.is_barred t)) (open_same xs)
+
+called_same : (t : Tail) (x : Numbered) (xs : List Numbered)
+    → tails.is_called t (items (x ∷ xs)) ≡ tails.is_called t (items (x ∷ before_value xs))
+called_same t x xs =
+    ap (λ b. is_wide_name x.item.role && t.typed && b && not (tails.trails t x.item)
+    && not (encloses_name (items xs)) && tails.follows_type t) (open_same xs)
+    ∙ ap (λ b. is_wide_name x.item.role && t.typed && first_is 40 (items (before_value xs))
+    && not (tails.trails t x.item) && not b && tails.follows_type t) (rest_same xs)
+
+declared_same : (t : Tail) (x : Numbered) (xs : List Numbered)
+    → tails.declared_by t (items (x ∷ xs)) x.item
+    ≡ tails.declared_by t (items (x ∷ before_value xs)) x.item
+declared_same t x xs = ap (λ b. name_before t.last b x.item) (twice_same x xs)
+
+second_of : List WideToken → Option WideToken
+second_of [] = None
+second_of (y ∷ ys) = Some y
+
+abbrev by_tests : Bool → Option WideToken → Bool → WideToken → Option WideToken
+by_tests e second c name = cond e second (cond c (Some name) None)
+
+prototype_form : (t : Tail) (x : WideToken) (l : List WideToken)
+    → tails.prototype_at t (x ∷ l)
+    ≡ by_tests (t.typed && encloses_name (x ∷ l)) (second_of l) (tails.is_called t (x ∷ l))
+    (tails.declared_by t (x ∷ l) x)
+unfolding second_of
+prototype_form t x [] =
+    elim (t.typed) as (λ b. by_tests false None (tails.is_called t (x ∷ [])) (tails.declared_by t (x ∷ []) x)
+    ≡ by_tests (b && false) None (tails.is_called t (x ∷ [])) (tails.declared_by t (x ∷ []) x))
+    [ true ↦ refl | false ↦ refl ]
+prototype_form t x (y ∷ ys) = refl
+
+no_second : (b : Bool) (u v r : Option WideToken) → cond (b && false) u r ≡ cond (b && false) v r
+no_second true u v r = refl
+no_second false u v r = refl
+
+second_same : (t : Tail) (x : Numbered) (xs : List Numbered) (r : Option WideToken)
+    → cond (t.typed && encloses_name (items (x ∷ before_value xs))) (second_of (items xs)) r
+    ≡ cond (t.typed && encloses_name (items (x ∷ before_value xs))) (second_of (items (before_value xs))) r
+unfolding second_of
+second_same t x [] r = refl
+second_same t x (y ∷ ys) r =
+    ⊎_elim
+    (λ is. subst (λ l. cond (t.typed && encloses_name (items (x ∷ l))) (Some y.item) r
+    ≡ cond (t.typed && encloses_name (items (x ∷ l))) (second_of (items l)) r) (sym (value_true y ys is))
+    (no_second t.typed (Some y.item) None r))
+    (λ isnt. subst (λ l. cond (t.typed && encloses_name (items (x ∷ l))) (Some y.item) r
+    ≡ cond (t.typed && encloses_name (items (x ∷ l))) (second_of (items l)) r) (sym (value_false y ys isnt)) refl)
+    (cases_Bool (begins_value y))
+
+prototype_same : (t : Tail) (x : Numbered) (xs : List Numbered)
+    → tails.prototype_at t (items (x ∷ xs)) ≡ tails.prototype_at t (items (x ∷ before_value xs))
+prototype_same t x xs =
+    let after = before_value xs in
+    prototype_form t x.item (items xs)
+    ∙ ap (λ e. by_tests (t.typed && e) (second_of (items xs)) (tails.is_called t (items (x ∷ xs)))
+    (tails.declared_by t (items (x ∷ xs)) x.item)) (enclosed_same x xs)
+    ∙ ap (λ c. by_tests (t.typed && encloses_name (items (x ∷ after))) (second_of (items xs)) c
+    (tails.declared_by t (items (x ∷ xs)) x.item)) (called_same t x xs)
+    ∙ ap (λ n. by_tests (t.typed && encloses_name (items (x ∷ after))) (second_of (items xs))
+    (tails.is_called t (items (x ∷ after))) n) (declared_same t x xs)
+    ∙ second_same t x xs (cond (tails.is_called t (items (x ∷ after)))
+    (Some (tails.declared_by t (items (x ∷ after)) x.item)) None)
+    ∙ sym (prototype_form t x.item (items after))
+
+-- the tail after a token outside, by what is known of the token
+abbrev outer_by : Tail → WideToken → Bool → Option WideToken → Tail
+outer_by t x c p = record t {
+  trailed = tails.trails t x || (c && not (is_underscored x.role));
+  name = if c && not (tails.trails t x) then Some x else t.name;
+  prototype = or_first t.prototype p;
+}
+
+tail_same : (t : Tail) (o : Bool) (x : Numbered) (xs : List Numbered)
+    → next_tail t o (items (x ∷ xs)) x.item ≡ next_tail t o (items (x ∷ before_value xs)) x.item
+tail_same t o x xs =
+    let last : Tail → Tail = λ u. record (if tails.is_end o x.item
+    then record t { trailed = x.item.counted; name = None; prototype = None }
+    else (if o then u else record t { trailed = false })) {
+      typed = t.typed || not (is_specifier x.item.role || is_text x.item.role);
+      last = Some x.item;
+    } in
+    ap (λ c. last (outer_by t x.item c (tails.prototype_at t (items (x ∷ xs))))) (candidate_same t x xs)
+    ∙ ap (λ p. last (outer_by t x.item (tails.is_candidate t (items (x ∷ before_value xs))) p))
+    (prototype_same t x xs)
+
+grown_same : (p : Part) (o : Bool) (x : Numbered) (xs : List Numbered)
+    → grown_part p o (items (x ∷ xs)) x.item ≡ grown_part p o (items (x ∷ before_value xs)) x.item
+grown_same p o x xs =
+    let l = items (x ∷ xs) in
+    let m = items (x ∷ before_value xs) in
+    let made : Calls → Pointer → Tail → Part = λ c q t. record p {
+      calls = c;
+      pointer = q;
+      tail = t;
+      is_stray = p.is_stray || parts.is_stray o x.item;
+    } in
+    ap (λ c. made c (next_pointer p.pointer o l x.item) (next_tail p.tail o l x.item)) (calls_same p.calls o x xs)
+    ∙ ap (λ q. made (next_calls p.calls o m x.item) q (next_tail p.tail o l x.item))
+    (pointer_same p.pointer o x xs)
+    ∙ ap (λ t. made (next_calls p.calls o m x.item) (next_pointer p.pointer o m x.item) t)
+    (tail_same p.tail o x xs)
+
+-- ---- the machines along a part
+record Meant (p : Part) (xs : List Numbered) (q : Part) : Type 0 where
+  calls : q.calls ≡ calls_from p.calls (before_value xs)
+  pointer : q.pointer ≡ pointer_from p.pointer (before_value xs)
+  tail : q.tail ≡ tail_from p.tail (before_value xs)
+  has_value : q.has_value ≡ has_value xs
+  is_stray : q.is_stray ≡ (p.is_stray || has_stray xs)
+
+valued : (p : Part) (xs : List Numbered) → p.has_value ≡ true → part_from p xs ≡ p
+unfolding part_from
+valued p [] is = refl
+valued p (x ∷ xs) is =
+    ap (λ b. part_from (if b then p else (if parts.begins_value (is_outer x) x.item
+    then record p { has_value = true } else grown_part p (is_outer x) (items (x ∷ xs)) x.item)) xs) is
+    ∙ valued p xs is
+
+value_same : (x : Numbered) → parts.begins_value (is_outer x) x.item ≡ begins_value x
+value_same x =
+    elim (is_outer x) as (λ o. (o && (is_byte 61 x || is_byte 58 x)) ≡ ((o && is_byte 61 x) || (o && is_byte 58 x)))
+    [ true ↦ refl | false ↦ refl ]
+
+or_nothing : (b : Bool) → b ≡ (b || false)
+or_nothing true = refl
+or_nothing false = refl
+
+-- where the value begins
+at_value : (p : Part) (x : Numbered) (xs : List Numbered) → begins_value x ≡ true
+    → Meant p (x ∷ xs) (record p { has_value = true })
+unfolding calls_from pointer_from tail_from
+at_value p x xs is = record {
+  calls = sym (ap (calls_from p.calls) (value_true x xs is));
+  pointer = sym (ap (pointer_from p.pointer) (value_true x xs is));
+  tail = sym (ap (tail_from p.tail) (value_true x xs is));
+  has_value = sym (ap (λ b. b || list_any begins_value xs) is);
+  is_stray = or_nothing p.is_stray ∙ sym (ap (λ l. p.is_stray || list_any is_stray l) (value_true x xs is));
+}
+
+-- before it
+before : (p : Part) (x : Numbered) (xs : List Numbered) (q : Part) → begins_value x ≡ false
+    → Meant (grown_part p (is_outer x) (items (x ∷ before_value xs)) x.item) xs q → Meant p (x ∷ xs) q
+unfolding calls_from pointer_from tail_from
+before p x xs q isnt m = record {
+  calls = m.calls ∙ sym (ap (calls_from p.calls) (value_false x xs isnt));
+  pointer = m.pointer ∙ sym (ap (pointer_from p.pointer) (value_false x xs isnt));
+  tail = m.tail ∙ sym (ap (tail_from p.tail) (value_false x xs isnt));
+  has_value = m.has_value ∙ sym (ap (λ b. b || list_any begins_value xs) isnt);
+  is_stray = m.is_stray
+      ∙ or_together p.is_stray (is_stray x) (list_any is_stray (before_value xs))
+      ∙ sym (ap (λ l. p.is_stray || list_any is_stray l) (value_false x xs isnt));
+}
+
+meant : (p : Part) (xs : List Numbered) → p.has_value ≡ false → Meant p xs (part_from p xs)
+unfolding part_from calls_from pointer_from tail_from
+meant p [] isnt = record {
+  calls = refl;
+  pointer = refl;
+  tail = refl;
+  has_value = isnt;
+  is_stray = or_nothing p.is_stray;
+}
+meant p (x ∷ xs) none =
+    let grown = grown_part p (is_outer x) (items (x ∷ xs)) x.item in
+    let by : Bool → Bool → Part =
+    λ a b. if a then p else (if b then record p { has_value = true } else grown) in
+    let here : by p.has_value (parts.begins_value (is_outer x) x.item) ≡ by false (begins_value x) =
+    ap (λ a. by a (parts.begins_value (is_outer x) x.item)) none ∙ ap (by false) (value_same x) in
+    subst (λ n. Meant p (x ∷ xs) (part_from n xs)) (sym here)
+    (⊎_elim
+    (λ is. subst (λ b. Meant p (x ∷ xs) (part_from (by false b) xs)) (sym is)
+    (subst (Meant p (x ∷ xs)) (sym (valued (record p { has_value = true }) xs refl)) (at_value p x xs is)))
+    (λ isnt. subst (λ b. Meant p (x ∷ xs) (part_from (by false b) xs)) (sym isnt)
+    (subst (λ g. Meant p (x ∷ xs) (part_from g xs)) (sym (grown_same p (is_outer x) x xs))
+    (before p x xs (part_from (grown_part p (is_outer x) (items (x ∷ before_value xs)) x.item) xs) isnt
+    (meant (grown_part p (is_outer x) (items (x ∷ before_value xs)) x.item) xs none))))
+    (cases_Bool (begins_value x)))
+
+-- ---- its names
+uncalled_is : (o : Option (List Numbered)) (name : Option WideToken)
+    → parts.uncalled (meant_pointer o) name ≡ option_map_or (λ rest. first_of (from_free_name rest)) o name
+unfolding meant_name
+uncalled_is None name = refl
+uncalled_is (Some rest) name =
+    elim (from_free_name rest) as (λ l. parts.uncalled (meant_name l) name ≡ first_of l)
+    [ [] ↦ refl | y ∷ ys ↦ refl ]
+
+named_is : (o : Option CalledName) (name : Option WideToken)
+    → parts.name_of o name ≡ option_map_or (λ called. Some called.name) o name
+named_is None name = refl
+named_is (Some called) name = refl
+
+-- what the free name is that a pointer leads to
+abbrev free : Option (List Numbered) → List Numbered
+free o = option_map_or from_free_name o []
+
+uncalled_function_is : (o : Option (List Numbered)) (name : Option WideToken)
+    → parts.uncalled_function (meant_pointer o) name
+    ≡ option_map_or (λ _. called_pointer (free o)) (first_of (free o)) name
+unfolding meant_name
+uncalled_function_is None name = refl
+uncalled_function_is (Some rest) name =
+    elim (from_free_name rest) as (λ l. parts.uncalled_function (meant_name l) name
+    ≡ option_map_or (λ _. called_pointer l) (first_of l) name)
+    [ [] ↦ refl | y ∷ ys ↦ refl ]
+
+function_is : (o : Option CalledName) (name : Option WideToken)
+    → parts.function_of o name
+    ≡ option_map_or (λ called. if called.starred then None else Some called.name) o name
+function_is None name = refl
+function_is (Some called) name = refl
+
+all_before : (xs : List Numbered) → has_value xs ≡ false → before_value xs ≡ xs
+all_before [] isnt = refl
+all_before (x ∷ xs) isnt =
+    value_false x xs (or_left (begins_value x) (has_value xs) isnt)
+    ∙ ap (λ l. x ∷ l) (all_before xs (or_right (begins_value x) (has_value xs) isnt))
+  where
+    or_left : (a b : Bool) → (a || b) ≡ false → a ≡ false
+    or_left true b is = is
+    or_left false b is = refl
+
+    or_right : (a b : Bool) → (a || b) ≡ false → b ≡ false
+    or_right true b is = absurd (false≢true (sym is))
+    or_right false b is = is
+
+module _ (first : Bool) (xs : List Numbered) (passed : List Numbered) where
+  -- the part as the rules and as the pass have it
+  abbrev given : rules.Part
+  given = record { first = first; tokens = xs; passed = passed }
+
+  abbrev ended : Part
+  ended = part_from (part_start first) xs
+
+  found : Meant (part_start first) xs ended
+  found = meant (part_start first) xs refl
+
+  abbrev own : List Numbered
+  own = before_value xs
+
+  call_is : ended.calls.found ≡ called_name own
+  call_is = ap (λ (c : Calls). c.found) found.calls ∙ calls_are own
+
+  pointer_found : ended.pointer ≡ meant_pointer (after_pointer own)
+  pointer_found = found.pointer ∙ pointer_is own
+
+  pub name_is : parts.named ended ≡ part_name given
+  name_is =
+      ap (λ o. parts.name_of o (parts.uncalled ended.pointer ended.tail.name)) call_is
+      ∙ ap (λ p. parts.name_of (called_name own) (parts.uncalled p ended.tail.name)) pointer_found
+      ∙ ap (λ n. parts.name_of (called_name own) (parts.uncalled (meant_pointer (after_pointer own)) n))
+      (ap (λ (t : Tail). t.name) found.tail ∙ tail_name_is first own)
+      ∙ ap (parts.name_of (called_name own)) (uncalled_is (after_pointer own) (tail_name first own))
+      ∙ named_is (called_name own) (uncalled_name first own)
+
+  function_found : parts.function_of ended.calls.found
+      (parts.uncalled_function ended.pointer ended.tail.prototype) ≡ prototype_in first own
+  function_found =
+      ap (λ o. parts.function_of o (parts.uncalled_function ended.pointer ended.tail.prototype)) call_is
+      ∙ ap (λ p. parts.function_of (called_name own) (parts.uncalled_function p ended.tail.prototype)) pointer_found
+      ∙ ap (λ n. parts.function_of (called_name own) (parts.uncalled_function (meant_pointer (after_pointer own)) n))
+      (ap (λ (t : Tail). t.prototype) found.tail ∙ tail_function_is first own)
+      ∙ ap (parts.function_of (called_name own))
+      (uncalled_function_is (after_pointer own) (tail_prototype first own))
+      ∙ function_is (called_name own) (uncalled_prototype first own)
+
+  pub function_name_is : parts.function ended ≡ prototype_name given
+  function_name_is =
+      ap (λ b. if b then None else parts.function_of ended.calls.found
+      (parts.uncalled_function ended.pointer ended.tail.prototype)) found.has_value
+      ∙ ap (λ n. if has_value xs then None else n) function_found
+      ∙ ⊎_elim
+      (λ is.
+      ap (λ b. if b then None else prototype_in first own) is
+      ∙ sym (ap (λ b. if b then None else prototype_in first xs) is))
+      (λ isnt. ap (λ l. if has_value xs then None else prototype_in first l) (all_before xs isnt))
+      (cases_Bool (has_value xs))
+
+  pub value_is : ended.has_value ≡ has_value xs
+  value_is = found.has_value
+
+  pub stray_is : ended.is_stray ≡ has_stray xs
+  stray_is = found.is_stray
