@@ -4,6 +4,7 @@ pub mod Attributes
 pub mod Called
 pub mod Declarations
 pub mod Enumerators
+pub mod Heads
 pub mod Openings
 pub mod Parts
 pub mod Pointers
