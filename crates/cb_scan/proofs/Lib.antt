@@ -44,6 +44,7 @@ pub mod WideOpenings
 pub mod WideParts
 pub mod WidePointers
 pub mod WideTails
+pub mod WideTokens
 pub mod WithinLemmas
 pub mod WordLemmas
 pub mod WordRun
