@@ -1,10 +1,9 @@
 -- What is ahead of a token matters only up to a mark that no rule looks for.
-use Rattle.std.proofs.Common.{◌≡◌, ◌∙◌, ℕ, zero, suc, ◌+◌, Bool, true, false, List, [], ◌∷◌, Option, Some}
-use Rattle.std.proofs.Common.{None, refl, sym, ap, arith, length, subst, ⊎_elim}
-use Rattle.std.proofs.lemmas.Bool.{cases_Bool, false≢true}
-use Rattle.std.specs.Prelude.{◌&&◌, ◌||◌, ◌==◌, not, cond, take, if◌then◌else◌}
-use Rattle.std.specs.List.{list_any, prefix_len}
-use Rattle.std.specs.Option.{is_some, option_map, option_map_or}
+use Rattle.std.proofs.Common.{◌≡◌, ◌∙◌, ℕ, Bool, true, false, List, [], ◌∷◌, Option, Some}
+use Rattle.std.proofs.Common.{None, refl, sym, ap, subst, ⊎_elim}
+use Rattle.std.proofs.lemmas.Bool.{cases_Bool}
+use Rattle.std.specs.Prelude.{◌&&◌, ◌||◌, not, cond, if◌then◌else◌}
+use Rattle.std.specs.Option.{is_some, option_map}
 use Rattle.cb_scan.specs.declared.rules.wide.called.CalledName.{CalledName}
 use Rattle.cb_scan.specs.declared.rules.wide.called.Calls.{Calls}
 use Rattle.cb_scan.specs.declared.rules.wide.called.Enclosed.{Enclosed}
@@ -15,15 +14,11 @@ use Rattle.cb_scan.specs.declared.rules.wide.role.WideRole.{WideRole}
 use Rattle.cb_scan.specs.declared.rules.wide.role.WideRole.TheVariants as wide
 use Rattle.cb_scan.specs.declared.rules.wide.tail.Tail.{Tail}
 use Rattle.cb_scan.specs.declared.rules.wide.token.WideToken.{WideToken}
-use Rattle.cb_scan.specs.rules.wide.Levels.{Numbered, is_byte, is_outer}
-use Rattle.cb_scan.specs.rules.wide.Names.{after_pointer, called_name, first_of, from_free_name}
-use Rattle.cb_scan.specs.rules.wide.Names.{part_name, tail_name, uncalled_name}
-use Rattle.cb_scan.specs.rules.wide.Prototypes.{called_pointer, prototype_in, prototype_name}
-use Rattle.cb_scan.specs.rules.wide.Prototypes.{tail_prototype, uncalled_prototype}
+use Rattle.cb_scan.specs.rules.wide.Levels.{Numbered, is_byte}
 use Rattle.cb_scan.specs.rules.wide.Words.{is_sign, is_specifier, is_text, is_underscored, is_wide_name}
 use Rattle.cb_scan.specs.rules.wide.Words.{is_wide_word}
 use Rattle.cb_scan.specs.steps.wide.Ahead.{encloses_name, first_is, first_is_word, opens_twice}
-use Rattle.cb_scan.specs.steps.wide.Along.{calls_from, items, part_from, pointer_from, tail_from}
+use Rattle.cb_scan.specs.steps.wide.Along.{items}
 use Rattle.cb_scan.specs.steps.wide.Called.{after_enclosed, enclosed_start, is_more, next_calls}
 use Rattle.cb_scan.specs.steps.wide.Called.{next_enclosed}
 use Rattle.cb_scan.specs.steps.wide.Parts as parts

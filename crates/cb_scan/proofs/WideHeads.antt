@@ -1,9 +1,9 @@
 -- The pass finds the prototype that the head of a function has.
-use Rattle.std.proofs.Common.{◌≡◌, ◌∙◌, ℕ, Bool, true, false, List, [], ◌∷◌, ◌++◌, Option, Some, None, refl}
+use Rattle.std.proofs.Common.{◌≡◌, ◌∙◌, ℕ, Bool, true, false, List, [], ◌∷◌, Option, Some, None, refl}
 use Rattle.std.proofs.Common.{sym, ap, ⊎_elim}
 use Rattle.std.proofs.lemmas.Bool.{cases_Bool}
-use Rattle.std.specs.Prelude.{◌&&◌, ◌==◌, cond, drop, slice_get, if◌then◌else◌}
-use Rattle.std.specs.List.{flat_map, onto_first, slice_split}
+use Rattle.std.specs.Prelude.{◌==◌, cond, drop, slice_get, if◌then◌else◌}
+use Rattle.std.specs.List.{flat_map, onto_first}
 use Rattle.std.specs.Option.{option_to_list}
 use Rattle.cb_scan.specs.declared.rules.wide.head.WideHead.{WideHead}
 use Rattle.cb_scan.specs.declared.rules.wide.part.Part.{Part}

@@ -1,18 +1,13 @@
 -- The pass finds the names of a part.
-use Rattle.std.proofs.Common.{◌≡◌, ◌∙◌, ℕ, zero, suc, ◌+◌, Bool, true, false, List, [], ◌∷◌, Option, Some}
-use Rattle.std.proofs.Common.{None, refl, sym, ap, arith, length, subst, ⊎_elim}
+use Rattle.std.proofs.Common.{◌≡◌, ◌∙◌, ℕ, suc, ◌+◌, Bool, true, false, List, [], ◌∷◌, Option, Some}
+use Rattle.std.proofs.Common.{None, refl, sym, ap, arith, subst, ⊎_elim}
 use Rattle.std.proofs.lemmas.Bool.{cases_Bool, false≢true}
 use Rattle.std.specs.Prelude.{◌&&◌, ◌||◌, ◌==◌, not, cond, take, if◌then◌else◌}
 use Rattle.std.specs.List.{list_any, prefix_len}
-use Rattle.std.specs.Option.{is_some, option_map, option_map_or}
+use Rattle.std.specs.Option.{option_map_or}
 use Rattle.cb_scan.specs.declared.rules.wide.called.CalledName.{CalledName}
 use Rattle.cb_scan.specs.declared.rules.wide.called.Calls.{Calls}
-use Rattle.cb_scan.specs.declared.rules.wide.called.Enclosed.{Enclosed}
 use Rattle.cb_scan.specs.declared.rules.wide.part.Part.{Part}
-use Rattle.cb_scan.specs.declared.rules.wide.pointer.Pointer.{Pointer}
-use Rattle.cb_scan.specs.declared.rules.wide.pointer.Pointer.TheVariants.{Nothing, Sought, Found}
-use Rattle.cb_scan.specs.declared.rules.wide.role.WideRole.{WideRole}
-use Rattle.cb_scan.specs.declared.rules.wide.role.WideRole.TheVariants as wide
 use Rattle.cb_scan.specs.declared.rules.wide.tail.Tail.{Tail}
 use Rattle.cb_scan.specs.declared.rules.wide.token.WideToken.{WideToken}
 use Rattle.cb_scan.specs.rules.wide.Declarations as rules
@@ -23,17 +18,11 @@ use Rattle.cb_scan.specs.rules.wide.Names.{after_pointer, called_name, first_of,
 use Rattle.cb_scan.specs.rules.wide.Names.{part_name, tail_name, uncalled_name}
 use Rattle.cb_scan.specs.rules.wide.Prototypes.{called_pointer, prototype_in, prototype_name}
 use Rattle.cb_scan.specs.rules.wide.Prototypes.{tail_prototype, uncalled_prototype}
-use Rattle.cb_scan.specs.rules.wide.Words.{is_sign, is_specifier, is_text, is_underscored, is_wide_name}
+use Rattle.cb_scan.specs.rules.wide.Words.{is_sign}
 use Rattle.cb_scan.specs.rules.wide.Words.{is_wide_word}
-use Rattle.cb_scan.specs.steps.wide.Ahead.{encloses_name, first_is, first_is_word, opens_twice}
 use Rattle.cb_scan.specs.steps.wide.Along.{calls_from, items, part_from, pointer_from, tail_from}
-use Rattle.cb_scan.specs.steps.wide.Called.{after_enclosed, enclosed_start, is_more, next_calls}
-use Rattle.cb_scan.specs.steps.wide.Called.{next_enclosed}
 use Rattle.cb_scan.specs.steps.wide.Parts as parts
 use Rattle.cb_scan.specs.steps.wide.Parts.{grown_part, part_start}
-use Rattle.cb_scan.specs.steps.wide.Pointers.{next_pointer}
-use Rattle.cb_scan.specs.steps.wide.Tails as tails
-use Rattle.cb_scan.specs.steps.wide.Tails.{name_before, next_tail, or_first}
 use Rattle.cb_scan.proofs.WideAhead.{cut_at, grown_same}
 use Rattle.cb_scan.proofs.WideCalls.{calls_are}
 use Rattle.cb_scan.proofs.WidePointers.{meant_name, meant_pointer, pointer_is}

@@ -7,7 +7,6 @@ use Rattle.std.specs.List.{range_with_len}
 use Rattle.cb_scan.specs.declared.lex.token.Token.{Token}
 use Rattle.cb_scan.specs.declared.rules.functions.Before.{Before}
 use Rattle.cb_scan.specs.declared.rules.functions.Before.TheVariants.{Anything}
-use Rattle.cb_scan.specs.declared.rules.wide.token.WideToken.{WideToken}
 use Rattle.cb_scan.specs.lex.Tokens.{is_str}
 use Rattle.cb_scan.specs.rules.Depth.{follows_linkage, is_open, no_token, token_at}
 use Rattle.cb_scan.specs.rules.wide.Levels.{wide_token, wide_tokens}

@@ -2,7 +2,7 @@
 -- with the name of a prototype. This is the project's profile.
 use Rattle.std.specs.Prelude.{ℕ, Bool, true, false, ◌&&◌, ◌==◌, not, List, [], ◌∷◌, ◌++◌, length}
 use Rattle.std.specs.Prelude.{take, drop, map, Option}
-use Rattle.std.specs.Prelude.{None, slice_get, slice_index_or, if◌then◌else◌}
+use Rattle.std.specs.Prelude.{None, slice_get, if◌then◌else◌}
 use Rattle.std.specs.List.{flat_map, range_with_len, slice_split}
 use Rattle.std.specs.Option.{option_map, option_or, option_to_list}
 use Rattle.cb_scan.specs.declared.lex.token.Token.{Token}
