@@ -56,7 +56,7 @@ head_start_le ts (suc k) =
     [ true ↦ omega arith | false ↦ omega arith ]
 
 -- what is directly before the next token
-linkage_after : (b : Before) (r : Role)
+pub linkage_after : (b : Before) (r : Role)
     → is_after_linkage (if is_extern r then Extern else (if is_str r && is_after_extern b then Linkage else Anything))
     ≡ (is_after_extern b && is_str r)
 linkage_after b (Word Name) = sym (and-false (is_after_extern b))
@@ -74,7 +74,7 @@ linkage_after b Other = sym (and-false (is_after_extern b))
 linkage_after b Str = elim (is_after_extern b) as (λ x. is_after_linkage (if x then Linkage else Anything)
     ≡ (x && true)) [ true ↦ refl | false ↦ refl ]
 
-extern_after : (b : Before) (r : Role)
+pub extern_after : (b : Before) (r : Role)
     → is_after_extern (if is_extern r then Extern else (if is_str r && is_after_extern b then Linkage else Anything))
     ≡ is_extern r
 extern_after b (Word Name) = refl
@@ -92,7 +92,7 @@ extern_after b Other = refl
 extern_after b Str = elim (is_after_extern b) as (λ x. is_after_extern (if x then Linkage else Anything) ≡ false)
     [ true ↦ refl | false ↦ refl ]
 
-follows_after : (ts : List Token) (k : ℕ)
+pub follows_after : (ts : List Token) (k : ℕ)
     → (follows_extern ts k && is_str (token_at ts k).role) ≡ follows_linkage ts (suc k)
 follows_after ts zero = refl
 follows_after ts (suc k) = refl

@@ -34,14 +34,17 @@ pub mod Stages
 pub mod StructureLemmas
 pub mod TypedefLemmas
 pub mod TypedefsWithin
+pub mod WideAhead
 pub mod WideAttributes
 pub mod WideCalls
 pub mod WideEnumerators
+pub mod WideHeads
 pub mod WideLaws
 pub mod WideOpenings
 pub mod WideParts
 pub mod WidePointers
 pub mod WideTails
+pub mod WideTokens
 pub mod WithinLemmas
 pub mod WordLemmas
 pub mod WordRun

@@ -1,12 +1,11 @@
 -- The pass finds the called name of a part.
-use Rattle.std.proofs.Common.{◌≡◌, ◌∙◌, ℕ, zero, suc, ◌+◌, Bool, true, false, List, [], ◌∷◌, Option}
+use Rattle.std.proofs.Common.{◌≡◌, ◌∙◌, suc, ◌+◌, Bool, true, false, List, [], ◌∷◌, Option}
 use Rattle.std.proofs.Common.{Some, None, refl, sym, ap, length, drop, arith, ⊎_elim}
 use Rattle.std.proofs.lemmas.Bool.{cases_Bool, eqb-true, false≢true, le-leb}
 use Rattle.std.specs.Prelude.{◌&&◌, ◌||◌, ◌==◌, cond, nat_le, take, if◌then◌else◌}
 use Rattle.std.specs.List.{list_any, prefix_len}
 use Rattle.std.specs.Option.{option_map, option_map_or, option_or}
-use Rattle.cb_scan.specs.declared.rules.wide.called.Amount.{Amount}
-use Rattle.cb_scan.specs.declared.rules.wide.called.Amount.TheVariants.{Nothing, One, More}
+use Rattle.cb_scan.specs.declared.rules.wide.called.Amount.TheVariants.{More}
 use Rattle.cb_scan.specs.declared.rules.wide.called.CalledName.{CalledName}
 use Rattle.cb_scan.specs.declared.rules.wide.called.Calls.{Calls}
 use Rattle.cb_scan.specs.declared.rules.wide.called.Enclosed.{Enclosed}
@@ -20,7 +19,7 @@ use Rattle.cb_scan.specs.rules.wide.Words.{is_sign, is_wide_name, is_wide_word}
 use Rattle.cb_scan.specs.steps.wide.Ahead.{first_is}
 use Rattle.cb_scan.specs.steps.wide.Along.{calls_from, items}
 use Rattle.cb_scan.specs.steps.wide.Called.{after_enclosed, amount_after, call_of, enclosed_start}
-use Rattle.cb_scan.specs.steps.wide.Called.{is_more, next_calls, next_enclosed, no_calls}
+use Rattle.cb_scan.specs.steps.wide.Called.{is_more, next_enclosed, no_calls}
 use Rattle.cb_scan.proofs.WidePointers.{same_byte}
 
 -- a word or a star

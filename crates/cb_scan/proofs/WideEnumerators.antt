@@ -18,11 +18,11 @@ use Rattle.cb_scan.specs.steps.wide.Enumerators.{next_enumeration}
 use Rattle.cb_scan.specs.steps.wide.Ahead.{second_is}
 
 -- the parts between commas
-abbrev split : List Numbered → List (List Numbered)
+abbrev pub split : List Numbered → List (List Numbered)
 split xs = slice_split (is_outer_byte 44) xs
 
 -- the first part
-abbrev first_part : List (List Numbered) → List Numbered
+abbrev pub first_part : List (List Numbered) → List Numbered
 first_part [] = []
 first_part (s ∷ ss) = s
 
@@ -51,7 +51,7 @@ comma_is_no_name wide.Number is = refl
 comma_is_no_name wide.Character is = refl
 comma_is_no_name (wide.Mark x) is = refl
 
-and_right : (a b : Bool) → (a && b) ≡ true → b ≡ true
+pub and_right : (a b : Bool) → (a && b) ≡ true → b ≡ true
 and_right true b is = is
 and_right false b is = absurd (false≢true is)
 
@@ -78,11 +78,11 @@ second_false true b = refl
 second_false false b = refl
 
 -- a token before some parts
-onto : (m : Numbered) (ss : List (List Numbered)) → onto_first m ss ≡ (m ∷ first_part ss) ∷ drop 1 ss
+pub onto : (m : Numbered) (ss : List (List Numbered)) → onto_first m ss ≡ (m ∷ first_part ss) ∷ drop 1 ss
 onto m [] = refl
 onto m (s ∷ ss) = refl
 
-drop_onto : (m : Numbered) (ss : List (List Numbered)) → drop 1 (onto_first m ss) ≡ drop 1 ss
+pub drop_onto : (m : Numbered) (ss : List (List Numbered)) → drop 1 (onto_first m ss) ≡ drop 1 ss
 drop_onto m [] = refl
 drop_onto m (s ∷ ss) = refl
 

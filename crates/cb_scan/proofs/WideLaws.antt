@@ -1,5 +1,5 @@
 -- What the two profiles share, and where variables and prototypes lie.
-use Rattle.std.proofs.Common.{◌≡◌, ◌∙◌, ℕ, Bool, true, false, List, [], ◌∷◌, ◌++◌, Option, Some}
+use Rattle.std.proofs.Common.{◌≡◌, ◌∙◌, ℕ, true, false, List, [], ◌∷◌, ◌++◌, Option, Some}
 use Rattle.std.proofs.Common.{None, refl, sym, ap, map, subst, ⊎_elim}
 use Rattle.std.proofs.lemmas.Bool.{cases_Bool, false≢true}
 use Rattle.std.specs.Prelude.{cond, filter}
@@ -11,11 +11,9 @@ use Rattle.cb_scan.specs.declared.facts.Kind.TheVariants as kind
 use Rattle.cb_scan.specs.declared.lex.piece.Piece.{Piece}
 use Rattle.cb_scan.specs.declared.lex.piece.Span.{Span}
 use Rattle.cb_scan.specs.declared.lex.token.Token.{Token}
-use Rattle.cb_scan.specs.declared.rules.scope.Range.{Range}
 use Rattle.cb_scan.specs.declared.rules.wide.def.Profile.TheVariants.{Standard, Wide}
 use Rattle.cb_scan.specs.declared.rules.wide.def.Tag.{Tag}
 use Rattle.cb_scan.specs.declared.rules.wide.def.WideDef.{WideDef}
-use Rattle.cb_scan.specs.declared.rules.wide.def.WideKind.{WideKind}
 use Rattle.cb_scan.specs.declared.rules.wide.def.WideKind.TheVariants as wide
 use Rattle.cb_scan.specs.declared.rules.wide.token.WideToken.{WideToken}
 use Rattle.cb_scan.specs.Definitions.{calls, facts_of}
@@ -34,7 +32,6 @@ use Rattle.cb_scan.specs.rules.wide.Kinds.{tag_defs, typedef_of, wide_found, wid
 use Rattle.cb_scan.specs.rules.wide.Levels.{Placed, level_inside}
 use Rattle.cb_scan.specs.rules.wide.Names.{part_name}
 use Rattle.cb_scan.specs.rules.wide.Prototypes.{prototype_name}
-use Rattle.cb_scan.specs.steps.Cut.{pieces}
 use Rattle.cb_scan.proofs.FactsWithin.{all_in_order}
 use Rattle.cb_scan.proofs.WithinLemmas.{all-append}
 

@@ -1,6 +1,6 @@
 -- The pass finds the pointer of a part.
-use Rattle.std.proofs.Common.{◌≡◌, ◌∙◌, Bool, true, false, List, [], ◌∷◌, Option, Some, None, refl}
-use Rattle.std.proofs.Common.{sym, ap}
+use Rattle.std.proofs.Common.{◌≡◌, ◌∙◌, Bool, true, false, List, [], ◌∷◌, Option, Some, refl}
+use Rattle.std.proofs.Common.{ap}
 use Rattle.std.specs.Prelude.{◌&&◌, not, cond}
 use Rattle.std.specs.Option.{option_map_or}
 use Rattle.cb_scan.specs.declared.rules.wide.pointer.Pointer.{Pointer}

@@ -116,7 +116,7 @@ flat_snoc f [] k = append-nil (f k)
 flat_snoc f (j ∷ ks) k =
     ap (λ l. f j ++ l) (flat_snoc f ks k) ∙ sym (append_assoc (f j) (flat_map f ks) (f k))
 
-get_append : (xs ys : List WideToken)
+pub get_append : (xs ys : List WideToken)
     → slice_get (xs ++ ys) 0 ≡ or_first (slice_get xs 0) (slice_get ys 0)
 get_append [] ys = refl
 get_append (x ∷ xs) ys = refl

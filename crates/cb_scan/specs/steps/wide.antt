@@ -4,7 +4,10 @@ pub mod Attributes
 pub mod Called
 pub mod Declarations
 pub mod Enumerators
+pub mod Heads
+pub mod Levels
 pub mod Openings
 pub mod Parts
 pub mod Pointers
 pub mod Tails
+pub mod Tokens

@@ -47,7 +47,7 @@ pub(crate) struct Machine {
 
 /// What is directly before the token after this one.
 #[inline(always)]
-fn before_after(before: Before, token: &Token) -> Before
+pub(crate) fn before_after(before: Before, token: &Token) -> Before
     ensures { result ≡ before_after before token.now }
 {
     if matches!(token.role, Role::Word(WordKind::Extern)) {

@@ -6,6 +6,8 @@ pub(crate) mod called;
 pub(crate) mod declaration;
 pub(crate) mod def;
 pub(crate) mod enumeration;
+pub(crate) mod head;
+pub(crate) mod level;
 pub(crate) mod opening;
 pub(crate) mod part;
 pub(crate) mod pointer;

@@ -1,7 +1,8 @@
 -- The functions of a text by the wide profile: as those of the standard one, without attributes and
 -- with the name of a prototype. This is the project's profile.
-use Rattle.std.specs.Prelude.{ℕ, ◌&&◌, ◌==◌, not, List, [], ◌∷◌, length, take, drop, map, Option}
-use Rattle.std.specs.Prelude.{None, slice_get, slice_index_or, if◌then◌else◌}
+use Rattle.std.specs.Prelude.{ℕ, Bool, true, false, ◌&&◌, ◌==◌, not, List, [], ◌∷◌, ◌++◌, length}
+use Rattle.std.specs.Prelude.{take, drop, map, Option}
+use Rattle.std.specs.Prelude.{None, slice_get, if◌then◌else◌}
 use Rattle.std.specs.List.{flat_map, range_with_len, slice_split}
 use Rattle.std.specs.Option.{option_map, option_or, option_to_list}
 use Rattle.cb_scan.specs.declared.lex.token.Token.{Token}
@@ -28,18 +29,20 @@ plain xs = map (λ (x : WideToken). x.token) xs
 abbrev pub head_parts : List WideToken → List (List Numbered)
 head_parts h = slice_split (is_outer_byte comma) (numbered 0 h)
 
--- the name of the function that part i of a head declares
-abbrev pub head_prototype_at : List (List Numbered) → ℕ → List WideToken
-head_prototype_at parts i =
-    option_to_list
-    (prototype_name (record { first = i == 0; tokens = slice_index_or parts i []; passed = [] }))
+-- the name of the function that a part declares, if it declares one
+abbrev pub declared_by : Bool → List Numbered → List WideToken
+declared_by first part =
+    option_to_list (prototype_name (record { first = first; tokens = part; passed = [] }))
+
+-- the names of the functions that some parts declare, the first of which is the first of all
+abbrev pub declared_names : List (List Numbered) → List WideToken
+declared_names [] = []
+declared_names (part ∷ parts) = declared_by true part ++ flat_map (declared_by false) parts
 
 -- the name of the function that the first part declares which declares one
 abbrev pub head_prototype : List WideToken → Option Token
 head_prototype h =
-    option_map (λ (x : WideToken). x.token)
-    (slice_get
-    (flat_map (head_prototype_at (head_parts h)) (range_with_len 0 (length (head_parts h)))) 0)
+    option_map (λ (x : WideToken). x.token) (slice_get (declared_names (head_parts h)) 0)
 
 -- the name that a head defines: that of a prototype, or else the first called name
 abbrev pub wide_name : List WideToken → Option Token

@@ -1,6 +1,10 @@
 //! Tokens of the code as the wide profile reads them.
+ghost use Rattle.std.specs.Prelude.{◌≡◌, ◌≤◌, length};
+ghost use Rattle.cb_scan.specs.steps.wide.Tokens.{token_after};
+
 use crate::lex::token::Token;
-use crate::rules::wide::role::WideRole;
+use crate::rules::functions::Before;
+use crate::rules::wide::role::{WideRole, wide_role};
 
 /// A token of the code: what it is for the wide profile, and whether it is a `{` that counts.
 #[derive(Clone, Copy)]
@@ -8,4 +12,17 @@ pub(crate) struct WideToken {
     pub token: Token,
     pub role: WideRole,
     pub counted: bool,
+}
+
+/// A token of a text, by what is directly before it.
+pub(crate) fn token_after(text: &[u8], before: Before, token: &Token) -> WideToken
+    requires order { token.now.span.start ≤ token.now.span.end }
+    requires end { token.now.span.end ≤ length text.now }
+    ensures { result ≡ token_after text.now before token.now }
+{
+    WideToken {
+        token: *token,
+        role: wide_role(text, token),
+        counted: token.is_mark(b'{') && !matches!(before, Before::Linkage),
+    }
 }
