@@ -6,11 +6,14 @@
     verify/models/wide-models.py FOLDER                        on the C files of a folder
 
 One looks at whole lists (`wide_model.py`), the other reads a text in one pass (`wide_pass.py`). All
-that they find has to be the same: definitions, uses, calls, includes. Text number n has the seed n.
-Random texts have declarations of all sorts, in lines, broken up, or as mere heaps of pieces. At the
-first difference the text and both lists are shown, and the exit status is 1. Else a line tells how
-many definitions of each kind were found. The program is not asked: it does not have this profile
-yet.
+that they find has to be the same: definitions, uses, calls, includes. In random texts macros, uses
+and includes have to be those of the standard profile too, each name has to stand at its place, and
+no place has two definitions of one kind.
+
+Text number n has the seed n. Random texts have declarations of all sorts, in lines, broken up, or
+as mere heaps of pieces. At the first difference the text and both lists are shown, and the exit
+status is 1. Else a line tells how many definitions of each kind were found. The program is not
+asked: it does not have this profile yet.
 """
 
 from __future__ import annotations
@@ -62,10 +65,9 @@ def broken_law(what: str, text: bytes) -> str:
     for one in wide.definitions:
         if text[one.place : one.place + len(one.name)] != one.name:
             return f"{what}: a name is not at its place: {one} in {text!r}"
-    keys = [(one.place, one.kind) for one in wide.definitions]
-    return f"{what}: two definitions of one kind at a place: {text!r}" * (
-        len(set(keys)) != len(keys)
-    )
+    if len({(one.place, one.kind) for one in wide.definitions}) < len(wide.definitions):
+        return f"{what}: two definitions of one kind at a place: {text!r}"
+    return ""
 
 
 def batch(first: int, number: int) -> tuple[str, collections.Counter]:
