@@ -50,7 +50,8 @@ link() {
 
 new=$(mktemp)
 tags=$(mktemp)
-trap 'rm -f "$new" "$tags"' EXIT
+page=$(mktemp)
+trap 'rm -f "$new" "$tags" "$page"' EXIT
 if [ -f "$dest$made" ]; then cat "$dest$made" >"$new"; fi
 [ -z "$dest" ] || [ "$undo" ] || mkdir -p "$dest"
 companions='cbrowse-cscope cbrowse-graph cbrowse-tree'
@@ -78,7 +79,12 @@ put 644 editors/vim/doc/cbrowse.txt "$vim/doc/cbrowse.txt"
 put 644 "$tags" "$vim/doc/tags"
 link ../../../../../vim/vimfiles/$pack "$share/nvim/site/$pack"
 
-for path in *.md LICENSE-* docs/*.md docs/pictures/* examples/*; do
+# The sources of the crates are not installed, so links to them become plain text.
+for path in *.md docs/*.md; do
+    sed 's|\[\([^]]*\)\]([./]*crates/[^)]*)|\1|g' "$path" >"$page"
+    put 644 "$page" "$share/doc/cbrowse/$path"
+done
+for path in LICENSE-* docs/pictures/* examples/*; do
     put 644 "$path" "$share/doc/cbrowse/$path"
 done
 
