@@ -25,7 +25,7 @@ ghost use Rattle.cb_desk.specs.steps.Edits.{
 use crate::spot::NumberedPlace;
 use std::alloc::{AllocError, Global};
 
-/// A place that is put into a list or taken out of it, after so many places that stay.
+/// A place that is put into a list or taken out of it, after a number of places that stay.
 #[derive(Clone, Copy, Debug)]
 pub(crate) struct Edit {
     pub(crate) kept: usize,
@@ -182,7 +182,7 @@ fn one_edit(alloc: Global, edit: Edit) -> Result<Vec<Edit>, AllocError>
     Ok(edits)
 }
 
-/// The edits that put a place behind all others.
+/// The edits that append a place.
 pub(crate) fn push_edits(
     alloc: Global,
     places: &[NumberedPlace],

@@ -145,7 +145,7 @@ pub(crate) fn renaming_difference(
     }
 }
 
-/// The edits that put a place behind all others.
+/// The edits that append a place.
 pub(crate) fn pushed(
     alloc: Global,
     places: &[NumberedPlace],

@@ -45,7 +45,7 @@ impl PlaceList {
         self.places.as_slice()
     }
 
-    /// Makes room for so many places in all.
+    /// Makes room for `count` places in all.
     pub(crate) fn reserve(&mut self, count: usize) -> Result<(), AllocError>
         ensures value { OnOk result (count ≤ self.new.room) }
         ensures places { self.new.places ≡ self.old.places }
@@ -57,7 +57,7 @@ impl PlaceList {
         Ok(())
     }
 
-    /// Makes room for so many places more.
+    /// Makes room for `more` places more.
     pub(crate) fn reserve_more(&mut self, more: usize) -> Result<(), AllocError>
         ensures value { OnOk result (length self.old.places + more ≤ self.new.room) }
         ensures places { self.new.places ≡ self.old.places }

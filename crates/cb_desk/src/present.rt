@@ -202,7 +202,7 @@ impl Present {
         }
     }
 
-    /// The world of a shelf that shows so many files, each under a name of its own.
+    /// The world of a shelf that shows `count` files, each under a name of its own.
     pub(crate) fn loaded(alloc: Global, shelf: Shelf, count: u32) -> Present
         ensures now { result.now
             ≡ record no_numbers { shown = shelf.shown; names = count; versions = count } }

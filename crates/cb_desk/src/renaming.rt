@@ -53,7 +53,7 @@ fn count_of(places: &[NumberedPlace], name: u32) -> usize
     places.iter().filter(|place| place.name == name).count()
 }
 
-/// A list with its first so many places behind the others is written behind what is there.
+/// Appends a list with its first places moved to its end.
 fn put_rotated(places: &[NumberedPlace], split: usize, into: &mut Vec<NumberedPlace>)
     requires { length into.old.items + length places.now ≤ vec_capacity into.old }
     ensures items { into.new.items

@@ -94,7 +94,7 @@ impl Desk {
         }
     }
 
-    /// The desk of a history, which has counted so many bytes.
+    /// The desk of a history, with the meter that counted its bytes.
     pub(crate) fn over(history: History, meter: Meter) -> Desk
         requires { IsValidTimeline (timeline_in history) }
         ensures timeline { result.timeline ≡ timeline_in history }

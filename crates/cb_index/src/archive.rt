@@ -180,7 +180,7 @@ impl Archive {
         }
     }
 
-    /// Makes room for so many names and versions in all. What is kept stays, also where memory is
+    /// Makes room for that many names and versions in all. What is kept stays, also where memory is
     /// refused.
     pub fn reserve(&mut self, names: u32, versions: u32) -> Result<(), OutOfMemory>
         ensures names { OnOk result (names ≤ self.new.name_room) }
@@ -234,7 +234,7 @@ impl Archive {
         number
     }
 
-    /// Keeps the first versions and names alone, so many of each.
+    /// Keeps only the first `versions` versions and the first `names` names.
     pub fn truncate(&mut self, versions: u32, names: u32)
         ensures texts { self.new.texts ≡ take versions self.old.texts }
         ensures names { self.new.names ≡ take names self.old.names }

@@ -22,7 +22,7 @@ use std::alloc::Global;
 use std::marker::Model;
 
 /// The most entries of a block. Room that nothing is put into costs a page of memory a block, so
-/// blocks are large; what is behind an entry moves when it comes or goes, so they are not larger.
+/// blocks are large; what follows an entry moves when it comes or goes, so they are not larger.
 pub(crate) const SIZE: usize = 4096;
 
 /// So many entries stay in a full block that is split.

@@ -115,7 +115,7 @@ impl Blocks {
         Ok(())
     }
 
-    /// Makes so many blocks in all. What they have stays, also where memory is refused.
+    /// Makes `n` blocks in all. What they have stays, also where memory is refused.
     pub(crate) fn reserve(&mut self, n: usize) -> Result<(), OutOfMemory>
         ensures ok { OnOk result (n ≤ self.new.count) }
         ensures used { self.new.used ≡ self.old.used }
@@ -148,7 +148,7 @@ impl Blocks {
         true
     }
 
-    /// Puts an entry into a full block by halves; not where no block is left.
+    /// Splits a full block in two and puts an entry in; not where no block is left.
     fn put_split(&mut self, place: Place, one: Entry) -> bool
         requires block { place.block < length self.old.used }
         requires place { IsPlace self.old.used place.block place.at }

@@ -9,7 +9,7 @@ use crate::items::{Chain, item_count};
 use crate::kind::FactKind;
 use crate::repeats::is_repeat;
 
-/// How many rows the first item of a key and those behind it that have its key have together: as
+/// How many rows the first item of a key and the later ones that have its key have together: as
 /// many as are no repeats.
 pub(crate) fn row_count(sort: FactKind, version: &Version, item: u32) -> u32
     requires { is_first sort version.now item ≡ true }

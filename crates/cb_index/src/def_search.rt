@@ -52,7 +52,7 @@ pub(crate) struct DefSearch<'a, 'p> {
         < 2 ^ 64 },
 }
 
-/// Whether an entry goes behind the last one, if there is one.
+/// Whether an entry comes after the last one, if there is one.
 fn is_later(kind: IndexKind, archive: &Archive, last: Option<Entry>, entry: Entry) -> bool
     ensures { result ≡ is_later (keyer_of kind) archive.now last entry }
 {

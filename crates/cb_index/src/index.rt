@@ -73,7 +73,7 @@ impl Model for Index {
 }
 
 /// Where the version under the number of a name is likely to be pending: at the end, where the
-/// newest one stands, or where it is found by halves, since most numbers rise.
+/// newest one stands, or where a binary search finds it, since most numbers rise.
 fn likely_place(name: u32, pending: &[Shown]) -> usize {
     if let Some(newest) = pending.last()
         && newest.name == name

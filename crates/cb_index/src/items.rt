@@ -127,7 +127,7 @@ pub(crate) struct Chain<'a> {
 }
 
 impl<'a> Chain<'a> {
-    /// An item and those behind it that have its key.
+    /// An item and the later ones that have its key.
     pub(crate) fn from(sort: FactKind, version: &'a Version, item: u32) -> Chain<'a>
         ensures sort { result.sort ≡ sort }
         ensures version { result.version.now ≡ version.now }

@@ -101,7 +101,7 @@ pub(crate) fn set_each(
     }
 }
 
-/// Makes a list of so many links, in the room that is there.
+/// Makes a list of `count` links, in the room that is there.
 pub(crate) fn fill(links: &mut Vec<Link>, count: usize)
     requires { count ≤ vec_capacity links.old }
     ensures { length links.new.items ≡ count }
@@ -134,7 +134,7 @@ pub(crate) fn lay_in(
     set_each(sort, source, facts, entries, links.as_mut_slice());
 }
 
-/// Puts the entries of all items of a version behind others.
+/// Appends the entries of all items of a version.
 fn append_items(sort: FactKind, version: &Version, number: u32, entries: &mut Vec<Entry>)
     requires { vec_len entries.old + item_count sort version.now ≤ vec_capacity entries.old }
     ensures entries { entries.new.items

@@ -60,7 +60,7 @@ impl Model for Links {
     } };
 }
 
-/// An empty list, with room for so many.
+/// An empty list, with room for `count` links.
 fn room_for<T>(alloc: Global, count: usize) -> Result<Vec<T>, OutOfMemory>
     ensures { IfOk result (λ list. list.items ≡ []) }
 {
@@ -137,7 +137,7 @@ impl Links {
         }
     }
 
-    /// Whether no links of a sort are laid, and there is room for so many.
+    /// Whether no links of a sort are laid, and there is room for `count`.
     pub(crate) fn wants(&self, sort: FactKind, count: usize) -> bool
         ensures { result ≡ true → links_for sort self.now ≡ [] }
     {

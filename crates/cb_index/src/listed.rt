@@ -137,7 +137,7 @@ pub fn put_all_shown(archive: &Archive, news: &[Shown], shown: &mut Vec<Shown>)
     sort_shown(archive, shown.as_mut_slice());
 }
 
-/// Whether a file of this name is shown. It looks by halves.
+/// Whether a file of this name is shown, by binary search.
 pub(crate) fn has_name(archive: &Archive, name: u32, shown: &[Shown]) -> bool
     requires { AreAscending archive.now shown.now }
     ensures { result ≡ list_any (λ (t : Shown). bytes_eq (name_of archive.now name)

@@ -26,7 +26,7 @@ pub(crate) struct Names<'a> {
 }
 
 impl<'a> Names<'a> {
-    /// Whether a number is that of one of the names. It looks by halves.
+    /// Whether a number is that of one of the names, by binary search.
     pub(crate) fn has(&self, number: u32) -> bool
         ensures { result ≡ is_among (names_of self.now.files.now) number }
     {

@@ -150,7 +150,7 @@ pub(crate) fn prefix(kind: IndexKind, key: &[u8]) -> u64
 
 // ---- entries
 
-/// Puts the entries of a version under a name behind others: an item for each key, the first that
+/// Appends the entries of a version under a name: an item for each key, the first that
 /// has it.
 fn append_firsts(kind: FactKind, version: &Version, shown: Shown, entries: &mut Vec<Entry>)
     requires { vec_len entries.old + length (firsts kind version.now) ≤ vec_capacity entries.old }
@@ -231,7 +231,7 @@ pub(crate) fn def_entry(
     }
 }
 
-/// Puts the entries of definitions behind others, with the prefixes of their names or, if so, of
+/// Appends the entries of definitions, with the prefixes of their names or, if so, of
 /// their tag names.
 fn append_defs(by_tag_name: bool, text: &[u8], defs: &[Def], shown: Shown, entries: &mut Vec<Entry>)
     requires room { vec_len entries.old + length defs.now ≤ vec_capacity entries.old }
@@ -259,7 +259,7 @@ pub(crate) fn count(kind: IndexKind, archive: &Archive, version: u32) -> usize
     }
 }
 
-/// Puts the entries of a version under a name behind others, in the room that is there.
+/// Appends the entries of a version under a name, in the room that is there.
 pub(crate) fn append(kind: IndexKind, archive: &Archive, shown: Shown, entries: &mut Vec<Entry>)
     requires { vec_len entries.old + length (listed_of (lister_of kind) archive.now shown.version)
         ≤ vec_capacity entries.old }

@@ -1,4 +1,4 @@
-//! Places of entries, which are looked up by halves.
+//! Places of entries, found by binary search.
 ghost use Rattle.std.specs.Prelude.{◌≡◌, ◌≤◌, true, false, length, take, drop};
 ghost use Rattle.std.specs.List.{AllByRecursion};
 ghost use Rattle.std.specs.List.Sorted.{IsPartitionPoint, IsPartitionedBy};
@@ -16,14 +16,14 @@ use crate::order::compare;
 use crate::orders::compare_key_bytes;
 use std::cmp::Ordering;
 
-/// What parts entries that are in order into those ahead of it and those behind it.
+/// What parts entries that are in order into those before it and those after it.
 #[derive(Clone, Copy)]
 pub(crate) enum Bound<'a> {
-    /// It stands behind an entry and all that go before it.
+    /// It stands after an entry and all that go before it.
     Behind(Entry),
-    /// It stands ahead of the entries of a key, whose prefix is this.
+    /// It stands before the entries of a key, whose prefix is this.
     Before(u64, &'a [u8]),
-    /// It stands behind the entries of a key, whose prefix is this.
+    /// It stands after the entries of a key, whose prefix is this.
     After(u64, &'a [u8]),
 }
 

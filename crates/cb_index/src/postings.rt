@@ -75,7 +75,7 @@ impl Model for Postings {
         × (length (joined s.blocks.used) ≤ HALF * s.blocks.count) };
 }
 
-/// Whether an entry does not go behind another.
+/// Whether an entry does not come after another.
 fn goes_first(kind: IndexKind, archive: &Archive, a: Entry, b: Entry) -> bool
     ensures { result ≡ goes_first (sort_key (keyer_of kind) archive.now) a b }
 {
@@ -101,7 +101,7 @@ fn ascend(kind: IndexKind, archive: &Archive, entries: Run<'_>) -> bool
     true
 }
 
-/// Whether the entries of versions are few beside so many.
+/// Whether the entries of versions are few beside the `held` ones.
 fn are_few(kind: IndexKind, archive: &Archive, shown: &[Shown], held: usize) -> bool {
     let mut left = held / FEW;
     for one in shown {
@@ -114,7 +114,7 @@ fn are_few(kind: IndexKind, archive: &Archive, shown: &[Shown], held: usize) -> 
     true
 }
 
-/// Puts the entries of versions behind others, in the room that is there.
+/// Appends the entries of versions, in the room that is there.
 fn append_each(kind: IndexKind, archive: &Archive, shown: &[Shown], entries: &mut Vec<Entry>)
     requires { length entries.old.items
         + length (all_entries (lister_of kind) archive.now shown.now)
@@ -170,7 +170,7 @@ fn take_one(kind: IndexKind, archive: &Archive, one: Entry, blocks: &mut Blocks)
     });
 }
 
-/// Puts entries behind others, in the room that is there.
+/// Appends entries, in the room that is there.
 fn extend(entries: &mut Vec<Entry>, more: &[Entry])
     requires { length entries.old.items + length more.now ≤ vec_capacity entries.old }
     ensures items { entries.new.items ≡ entries.old.items ++ more.now }
@@ -181,7 +181,7 @@ fn extend(entries: &mut Vec<Entry>, more: &[Entry])
     }
 }
 
-/// Puts all entries behind others, in the room that is there, and empties the blocks.
+/// Appends all entries of the blocks, in the room that is there, and empties these.
 fn lift(blocks: &mut Blocks, entries: &mut Vec<Entry>)
     requires { length entries.old.items + length (joined blocks.old.used)
         ≤ vec_capacity entries.old }
@@ -262,7 +262,7 @@ impl Postings {
         }
     }
 
-    /// Makes room for so many entries in all. What is held stays, also where memory is refused.
+    /// Makes room for `n` entries in all. What is held stays, also where memory is refused.
     pub(crate) fn reserve(&mut self, n: u64) -> Result<(), OutOfMemory>
         ensures ok { OnOk result (n ≤ self.new.room) }
         ensures entries { self.new.entries ≡ self.old.entries }

@@ -44,7 +44,7 @@ pub struct Rows<'a> {
     first: Option<EntryRows<'a>>,
 }
 
-/// The items of an entry: a definition, or a use or a call and those behind it that have its key.
+/// The items of an entry: a definition, or a use or a call and the later ones that have its key.
 fn items_of<'a>(sort: Option<FactKind>, archive: &'a Archive, entry: Entry) -> Items<'a>
     ensures { items_left result ≡ items_at sort archive.now entry }
 {
@@ -57,7 +57,7 @@ fn items_of<'a>(sort: Option<FactKind>, archive: &'a Archive, entry: Entry) -> I
     }
 }
 
-/// The first item, and those behind it.
+/// The first item, and those after it.
 fn next_item<'a>(items: Items<'a>) -> Option<(u32, Items<'a>)>
     ensures { MatchOption result (items_left items.entry ≡ [])
         (λ r. items_left items.entry ≡ r.0 ∷ items_left r.1) }

@@ -120,7 +120,7 @@ fn hash(bytes: &[u8]) -> u64
     mixed(key_prefix(bytes), key_end(bytes), bytes.len() as u64)
 }
 
-/// The place of a key, of a name in the function column and of a line, among so many.
+/// The bucket of a key, a name in the function column and a line, of `count`.
 #[tactic(auto, unfolding(crate::specs::steps::Repeating::place_among))]
 fn place_among(key: &[u8], function: &[u8], line: u32, count: usize) -> usize
     requires { 0 < count }

@@ -217,8 +217,7 @@ impl Shelf {
         self.totals
     }
 
-    /// Makes room for so many of each in all. What is kept and shown stays, also where memory is
-    /// refused.
+    /// Makes that much room in all. What is kept and shown stays, also where memory is refused.
     pub fn reserve(&mut self, room: &Room) -> Result<(), OutOfMemory>
         ensures names { OnOk result (room.now.names ≤ self.new.archive.name_room) }
         ensures versions { OnOk result (room.now.versions ≤ self.new.archive.version_room) }
@@ -273,7 +272,7 @@ impl Shelf {
         self.archive.push_version(version)
     }
 
-    /// Keeps the first versions and names alone, so many of each.
+    /// Keeps only the first `versions` versions and the first `names` names.
     pub fn truncate(&mut self, versions: u32, names: u32)
         requires { AllByRecursion (λ (s : Shown). (s.version < versions) × (s.name < names))
             self.old.shown }

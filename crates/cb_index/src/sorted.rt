@@ -77,7 +77,7 @@ impl<O: RowOrder> Sorted<O> {
         }
     }
 
-    /// Makes room for so many rows in all. What is held stays, also where memory is refused.
+    /// Makes room for `n` rows in all. What is held stays, also where memory is refused.
     pub fn reserve(&mut self, n: u64) -> Result<(), OutOfMemory>
         ensures ok { OnOk result (n ≤ self.new.room) }
         ensures entries { self.new.entries ≡ self.old.entries }

@@ -66,7 +66,7 @@ pub(crate) fn mixed(front: u64, end: u64, count: u64) -> u64
     folded.wrapping_mul(SPREAD) >> 32
 }
 
-/// The place of a key among so many.
+/// The bucket of a key, of `count`.
 #[tactic(auto, unfolding(crate::specs::steps::Table::place_of))]
 fn place_of(key: &[u8], count: usize) -> usize
     requires { 0 < count }
@@ -189,8 +189,8 @@ fn link_item(
     }
 }
 
-/// Sets the links of all items, from the last to the first; false where it gives up, after looking
-/// at so many.
+/// Sets the links of all items, from the last to the first; false where it gives up, after
+/// `looks` looks.
 fn link_each(
     sort: FactKind,
     source: &Source,
@@ -215,7 +215,7 @@ fn link_each(
     true
 }
 
-/// Lays links by a table of the entries of all items, with so many looks at other items of a place;
+/// Lays links by a table of the entries of all items, with `looks` looks at other items of a place;
 /// false, and none are laid, where these are too few or where there is too little room.
 pub(crate) fn lay_in_table(
     sort: FactKind,

@@ -14,7 +14,7 @@ use cb_desk::{Change, Refusal};
 use std::alloc::Global;
 use std::io::BufRead;
 
-/// Reads a block of so many bytes; `None` where the input ends before.
+/// Reads a block of `count` bytes; `None` where the input ends before.
 fn read_block<R: BufRead>(
     alloc: Global,
     count: u32,

@@ -84,7 +84,7 @@ impl<R: BufRead> Feed<R> {
         Ok(first)
     }
 
-    /// Puts the next bytes behind those that are kept, at least one, up to so many in all; `false`
+    /// Appends the next bytes to those that are kept, at least one, up to `count` in all; `false`
     /// at the end of input and ever after. After a fault each further call is a fault.
     pub fn piece(&mut self, count: usize, kept: &mut Vec<u8>) -> Result<bool, ReadFault>
         requires { (length kept.old.items < count) × (count ≤ vec_capacity kept.old) }
@@ -118,7 +118,7 @@ impl<R: BufRead> Feed<R> {
     }
 }
 
-/// Puts the first of these bytes behind those that are kept, up to so many in all. How many.
+/// Appends the first of these bytes to those that are kept, up to `count` in all. How many.
 fn keep_front(bytes: &[u8], count: usize, kept: &mut Vec<u8>) -> usize
     requires { (length kept.old.items < count) × (count ≤ vec_capacity kept.old) }
     ensures taken { result ≡ min (length bytes.now) (count - length kept.old.items) }

@@ -131,7 +131,7 @@ impl Intake {
         }
     }
 
-    /// Keeps a byte of a line, unless no command can have so many.
+    /// Keeps a byte of a line, unless no command is that long.
     fn keep(&mut self, byte: u8)
         ensures kept { length self.old.line.items < MOST_LINE
             → self.new.line.items ≡ self.old.line.items ++ byte ∷ [] }

@@ -50,7 +50,7 @@ pub enum Purpose {
 pub enum Asked<'a> {
     /// An input by itself.
     Whole(Input<'a>),
-    /// A load or a reload of this name, with a block of so many bytes after the line.
+    /// A load or a reload of this name, with a block of that number of bytes after the line.
     Block(Purpose, &'a [u8], u32),
 }
 

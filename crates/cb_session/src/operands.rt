@@ -39,7 +39,7 @@ pub fn prepare(alloc: Global, operands: Operands) -> Result<Session, Ended>
     session_of(alloc, loading, place)
 }
 
-/// The session of so many loads. Memory that is refused here is refused to the last of them.
+/// The session after these loads. Memory that is refused here is refused to the last of them.
 fn session_of(alloc: Global, loading: Loading, count: u32) -> Result<Session, Ended>
     requires { count ≡ length loading.timeline.past }
     ensures { Starts loading count result }

@@ -51,7 +51,7 @@ pub(crate) struct LookBack<'a, 'p> {
     passed: usize,
 }
 
-/// Whether one of the first rows, so many, is equal to a row but for its text.
+/// Whether one of the first `count` rows is equal to a row but for its text.
 fn has_like(rows: FoundRows<'_, '_>, count: usize, row: &RowSpot<'_>) -> bool
     ensures { result ≡ list_any (alike (spot_row row.now)) (take count (found_left rows.entry)) }
 {

@@ -7,7 +7,7 @@ ghost use Rattle.cb_desk.specs.steps.Room.{AreCounted, AreMore, AreTooMany, fact
 use cb_index::{Archive, Shown, Totals, Version};
 use cb_scan::Facts;
 
-/// The facts of a version: one of the first that are kept, so many, or one that is new.
+/// The facts of a version: one of the first `kept`, or one that is new.
 fn facts_at<'a>(
     archive: &'a Archive,
     kept: u32,
@@ -37,7 +37,7 @@ fn with_facts(totals: Totals, facts: &Facts) -> Option<Totals>
 }
 
 /// The totals with the facts of versions added, if they are numbers. A version is one of the first
-/// that are kept, so many, or one that is new.
+/// `kept`, or one that is new.
 pub(crate) fn with_versions(
     archive: &Archive,
     kept: u32,

@@ -48,7 +48,7 @@ pub(crate) fn count_in(archive: &Archive, marks: &[NumberedPlace], name: &[u8]) 
         .count()
 }
 
-/// Where the files begin whose names are not below a name. It looks by halves.
+/// Where the files begin whose names are not below a name, by binary search.
 pub(crate) fn index_for(archive: &Archive, shown: &[Shown], name: &[u8]) -> usize
     requires { AreAscending archive.now shown.now }
     ensures within { result ≤ length shown.now }
@@ -90,7 +90,7 @@ struct Found<'a> {
     marks: &'a [NumberedPlace],
 }
 
-/// The first file that has a mark. Each file of a mark is looked for by halves.
+/// The first file that has a mark. The file of each mark is found by binary search.
 fn first_marked<'a>(
     archive: &Archive,
     files: &'a [Shown],

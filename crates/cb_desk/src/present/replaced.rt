@@ -41,7 +41,7 @@ use cb_scan::{Meter, Source};
 use std::alloc::{AllocError, Global};
 use std::cmp::Ordering;
 
-/// Where the marks begin whose file names are not below a name. It looks by halves.
+/// Where the marks begin whose file names are not below a name, by binary search.
 fn start_of(archive: &Archive, marks: &[NumberedPlace], name: &[u8]) -> usize
     requires { AreAscending (places_in archive.now marks.now) }
     ensures within { result ≤ length marks.now }
@@ -74,7 +74,7 @@ pub(crate) struct Replacing<'a> {
 }
 
 impl<'a> Replacing<'a> {
-    /// The marks of the file of that name, which stand one after another. It looks by halves.
+    /// The marks of the file of that name, which follow one another, by binary search.
     fn marks_of(self, name: &[u8]) -> &'a [NumberedPlace]
         ensures lines { map (λ m. m.line) result.now
             ≡ marked_lines name.now (places_in self.entry.archive.now self.entry.marks.now) }

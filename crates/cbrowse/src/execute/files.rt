@@ -41,8 +41,8 @@ fn path_of(alloc: Global, folder: &str, name: &str) -> Result<String, AllocError
     Ok(path)
 }
 
-/// The bytes that are left, at most `MOST_READ`. There is room for so many of them, and for one
-/// more that would show that there are more, before the first is read.
+/// The bytes that are left, at most `MOST_READ`. There is room for as many, and for one more that
+/// would show that there are more, before the first is read.
 fn read_whole<F: Read + Drop>(alloc: Global, file: F, size: u64) -> io::Result<Vec<u8>>
     ensures { IfOk result (λ bytes.
         IfSome (F.remaining file) (λ left. bytes.items ≡ take most_read left)) }
@@ -69,7 +69,7 @@ fn read_operand<R: Files + AllocGlobal>(rt: &R, folder: &str, name: &str) -> io:
     Ok(Operand { name, bytes })
 }
 
-/// Reads files in order, behind none. The first that cannot be read ends it.
+/// Reads files in order. The first that cannot be read ends it.
 pub(crate) fn read_operands<R: Files + AllocGlobal>(
     rt: &R,
     folder: &str,
