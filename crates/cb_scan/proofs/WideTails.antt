@@ -51,7 +51,7 @@ pub or_together : (a b c : Bool) → ((a || b) || c) ≡ (a || (b || c))
 or_together true b c = refl
 or_together false b c = refl
 
-any_last : (p : Numbered → Bool) (xs : List Numbered) (x : Numbered)
+pub any_last : (p : Numbered → Bool) (xs : List Numbered) (x : Numbered)
     → list_any p (xs ++ x ∷ []) ≡ (list_any p xs || p x)
 any_last p [] x = elim (p x) as (λ b. (b || false) ≡ (false || b)) [ true ↦ refl | false ↦ refl ]
 any_last p (y ∷ xs) x =
