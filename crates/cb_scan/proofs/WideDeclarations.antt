@@ -1,6 +1,6 @@
 -- The pass finds what the parts of a declaration give.
-use Rattle.std.proofs.Common.{◌≡◌, ◌∙◌, ℕ, zero, suc, ◌+◌, ◌-◌, Bool, true, false, List, [], ◌∷◌, ◌++◌}
-use Rattle.std.proofs.Common.{Option, Some, None, refl, sym, ap, length, arith, append_assoc, map, ⊎_elim}
+use Rattle.std.proofs.Common.{◌≡◌, ◌∙◌, ℕ, suc, ◌-◌, Bool, true, false, List, [], ◌∷◌, ◌++◌}
+use Rattle.std.proofs.Common.{refl, sym, ap, length, arith, append_assoc, map, ⊎_elim}
 use Rattle.std.proofs.lemmas.Bool.{cases_Bool, false≢true}
 use Rattle.std.proofs.lemmas.List.{append-nil, map-append}
 use Rattle.std.specs.Prelude.{◌&&◌, ◌||◌, ◌==◌, not, cond, drop, take, if◌then◌else◌}
@@ -25,7 +25,7 @@ use Rattle.cb_scan.specs.steps.wide.Declarations.{may_name, next_part_of, noted}
 use Rattle.cb_scan.specs.steps.wide.Parts as parts
 use Rattle.cb_scan.specs.steps.wide.Parts.{function, grown_part, named, next_part, part_start}
 use Rattle.cb_scan.proofs.WideAhead.{cut_at, grown_same}
-use Rattle.cb_scan.proofs.WideEnumerators.{and_right, drop_onto, first_part, onto}
+use Rattle.cb_scan.proofs.WideEnumerators.{and_right, first_part, onto}
 use Rattle.cb_scan.proofs.WideHeads.{items_are}
 use Rattle.cb_scan.proofs.WideNaming.{is_empty, naming_is, parts_beyond}
 use Rattle.cb_scan.proofs.WideParts.{function_name_is, name_is, stray_is, value_is}
