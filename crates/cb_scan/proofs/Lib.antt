@@ -41,6 +41,7 @@ pub mod WideDeclarations
 pub mod WideEnumerators
 pub mod WideHeads
 pub mod WideLaws
+pub mod WideMembers
 pub mod WideNaming
 pub mod WideOpenings
 pub mod WideParts

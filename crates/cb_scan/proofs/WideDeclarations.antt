@@ -132,7 +132,7 @@ givens p y t s e (q ∷ r ∷ qs) =
 
 -- ---- the pass along a declaration
 
-part_same : (p : Part) (m : Numbered) (n : ℕ) (xs : List WideToken)
+pub part_same : (p : Part) (m : Numbered) (n : ℕ) (xs : List WideToken)
     → next_part p (is_outer m) (m.item ∷ xs) m.item
     ≡ next_part p (is_outer m) (items (m ∷ cut_at ends_part (numbered n xs))) m.item
 part_same p m n xs =

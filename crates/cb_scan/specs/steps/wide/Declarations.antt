@@ -91,3 +91,15 @@ given_from d (x ∷ xs) =
     if ends_part d x
     then (if may_name d then given d ∷ [] else []) ++ given_from (next_part_of d x) xs
     else given_from (grown d (x ∷ xs) x) xs
+
+-- after a token that ends a part on the level of a structure or union: a `;` ends the declaration
+abbrev pub next_member : Declaration → WideToken → Declaration
+next_member d x = if is_sign semicolon x.role then declaration_start else next_part_of d x
+
+-- what the parts give that end on that level, from a state on
+unfoldable pub members_from : Declaration → List WideToken → List Given
+members_from d [] = []
+members_from d (x ∷ xs) =
+    if ends_part d x
+    then (if may_name d then given d ∷ [] else []) ++ members_from (next_member d x) xs
+    else members_from (grown d (x ∷ xs) x) xs
