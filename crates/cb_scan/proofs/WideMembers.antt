@@ -1,8 +1,8 @@
 -- The pass finds what the parts give on the level of a structure or union.
 use Rattle.std.proofs.Common.{◌≡◌, ◌∙◌, ℕ, zero, suc, ◌+◌, ◌-◌, ◌≤◌, Bool, true, false, List, [], ◌∷◌, ◌++◌}
-use Rattle.std.proofs.Common.{refl, sym, ap, length, arith, add-one, append_assoc, drop, map, subst, ⊎_elim}
+use Rattle.std.proofs.Common.{refl, sym, ap, length, arith, add-one, append_assoc, drop, map, ⊎_elim}
 use Rattle.std.proofs.lemmas.Bool.{cases_Bool}
-use Rattle.std.proofs.lemmas.List.{append-nil, drop_more, map-append}
+use Rattle.std.proofs.lemmas.List.{append-nil, map-append}
 use Rattle.std.specs.Prelude.{◌&&◌, ◌||◌, ◌==◌, cond, find, take, unwrap_or, Some, if◌then◌else◌}
 use Rattle.std.specs.List.{flat_map, range_with_len}
 use Rattle.cb_scan.specs.declared.rules.wide.declaration.Declaration.{Declaration}
