@@ -63,8 +63,8 @@ grown d xs x = record (if d.count == 0 then noted d x else d) {
   count = nesting_after x.token d.count;
 }
 
--- what a part gives: its name, the function that it declares, whether its declaration has `typedef`,
--- `static` or `extern` up to its end, and whether it has a value
+-- what a part gives: its name, the function that it declares, whether its declaration has
+-- `typedef`, `static` or `extern` up to its end, and whether it has a value
 pub record Given : Type 0 where
   pub name : Option WideToken
   pub function : Option WideToken
