@@ -37,9 +37,12 @@ pub mod TypedefsWithin
 pub mod WideAhead
 pub mod WideAttributes
 pub mod WideCalls
+pub mod WideDeclarations
 pub mod WideEnumerators
 pub mod WideHeads
 pub mod WideLaws
+pub mod WideMembers
+pub mod WideNaming
 pub mod WideOpenings
 pub mod WideParts
 pub mod WidePointers

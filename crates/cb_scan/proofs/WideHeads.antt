@@ -63,7 +63,7 @@ first_is (x ∷ xs) =
     ∙ sym (ap (λ b. cond b [] (x ∷ cut_at comma xs)) isnt))
     (cases_Bool (comma x))
 
-items_are : (n : ℕ) (xs : List WideToken) → items (numbered n xs) ≡ xs
+pub items_are : (n : ℕ) (xs : List WideToken) → items (numbered n xs) ≡ xs
 unfolding numbered
 items_are n [] = refl
 items_are n (x ∷ xs) = ap (λ l. x ∷ l) (items_are (nesting_after x.token n) xs)

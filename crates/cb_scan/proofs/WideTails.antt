@@ -51,19 +51,19 @@ pub or_together : (a b c : Bool) → ((a || b) || c) ≡ (a || (b || c))
 or_together true b c = refl
 or_together false b c = refl
 
-any_last : (p : Numbered → Bool) (xs : List Numbered) (x : Numbered)
+pub any_last : (p : Numbered → Bool) (xs : List Numbered) (x : Numbered)
     → list_any p (xs ++ x ∷ []) ≡ (list_any p xs || p x)
 any_last p [] x = elim (p x) as (λ b. (b || false) ≡ (false || b)) [ true ↦ refl | false ↦ refl ]
 any_last p (y ∷ xs) x =
     ap (λ b. p y || b) (any_last p xs x) ∙ sym (or_together (p y) (list_any p xs) (p x))
 
-drop_one : (j : ℕ) (xs : List Numbered) → drop 1 (drop j xs) ≡ drop (suc j) xs
+pub drop_one : (j : ℕ) (xs : List Numbered) → drop 1 (drop j xs) ≡ drop (suc j) xs
 drop_one zero [] = refl
 drop_one (suc j) [] = refl
 drop_one zero (x ∷ xs) = refl
 drop_one (suc j) (x ∷ xs) = drop_one j xs
 
-at_drop : (j : ℕ) (xs : List Numbered) (y : Numbered) (ys : List Numbered) → drop j xs ≡ y ∷ ys
+pub at_drop : (j : ℕ) (xs : List Numbered) (y : Numbered) (ys : List Numbered) → drop j xs ≡ y ∷ ys
     → numbered_at xs j ≡ y
 at_drop zero [] y ys e = ap (λ l. numbered_at l 0) e
 at_drop (suc j) [] y ys e = ap (λ l. numbered_at l 0) e

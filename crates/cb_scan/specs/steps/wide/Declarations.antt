@@ -1,10 +1,11 @@
 -- A declaration, a token at a time.
-use Rattle.std.specs.Prelude.{Bool, false, true, ◌&&◌, ◌||◌, ◌==◌, not, List, if◌then◌else◌}
+use Rattle.std.specs.Prelude.{Bool, false, true, ◌&&◌, ◌||◌, ◌==◌, not, List, [], ◌∷◌, ◌++◌}
+use Rattle.std.specs.Prelude.{Option, if◌then◌else◌}
 use Rattle.cb_scan.specs.declared.rules.wide.declaration.Declaration.{Declaration}
 use Rattle.cb_scan.specs.declared.rules.wide.token.WideToken.{WideToken}
 use Rattle.cb_scan.specs.rules.Typedefs.{nesting_after}
 use Rattle.cb_scan.specs.rules.wide.Words.{is_extern_word, is_sign, is_static_word, is_typedef_word}
-use Rattle.cb_scan.specs.steps.wide.Parts.{next_part, part_start}
+use Rattle.cb_scan.specs.steps.wide.Parts.{function, named, next_part, part_start}
 use Rattle.cb_scan.specs.Bytes.{close_paren, comma, equals, semicolon}
 
 -- the beginning of a declaration
@@ -36,9 +37,10 @@ ends_part d x = is_sign semicolon x.role || (d.count == 0 && is_sign comma x.rol
 abbrev pub may_name : Declaration → Bool
 may_name d = not d.is_stray && not d.part.is_stray
 
--- after a comma that ends a part
-abbrev pub next_part_of : Declaration → Declaration
-next_part_of d = record d {
+-- after a token that ends a part
+abbrev pub next_part_of : Declaration → WideToken → Declaration
+next_part_of d x = record d {
+  count = nesting_after x.token d.count;
   is_stray = d.is_stray || d.part.is_stray;
   closes = false;
   part = part_start false;
@@ -60,3 +62,44 @@ grown d xs x = record (if d.count == 0 then noted d x else d) {
   closes = closes x;
   count = nesting_after x.token d.count;
 }
+
+-- what a part gives: its name, the function that it declares, whether its declaration has
+-- `typedef`, `static` or `extern` up to its end, and whether it has a value
+pub record Given : Type 0 where
+  pub name : Option WideToken
+  pub function : Option WideToken
+  pub of_type : Bool
+  pub of_static : Bool
+  pub of_extern : Bool
+  pub valued : Bool
+
+-- what the part gives that ends here
+abbrev pub given : Declaration → Given
+given d = record {
+  name = named d.part;
+  function = function d.part;
+  of_type = d.has_typedef;
+  of_static = d.has_static;
+  of_extern = d.has_extern;
+  valued = d.part.has_value;
+}
+
+-- what the parts give that end in the tokens of one declaration, from a state on
+unfoldable pub given_from : Declaration → List WideToken → List Given
+given_from d [] = []
+given_from d (x ∷ xs) =
+    if ends_part d x
+    then (if may_name d then given d ∷ [] else []) ++ given_from (next_part_of d x) xs
+    else given_from (grown d (x ∷ xs) x) xs
+
+-- after a token that ends a part on the level of a structure or union: a `;` ends the declaration
+abbrev pub next_member : Declaration → WideToken → Declaration
+next_member d x = if is_sign semicolon x.role then declaration_start else next_part_of d x
+
+-- what the parts give that end on that level, from a state on
+unfoldable pub members_from : Declaration → List WideToken → List Given
+members_from d [] = []
+members_from d (x ∷ xs) =
+    if ends_part d x
+    then (if may_name d then given d ∷ [] else []) ++ members_from (next_member d x) xs
+    else members_from (grown d (x ∷ xs) x) xs

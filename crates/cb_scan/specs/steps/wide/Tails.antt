@@ -5,7 +5,8 @@ use Rattle.cb_scan.specs.declared.rules.wide.tail.Tail.{Tail}
 use Rattle.cb_scan.specs.declared.rules.wide.token.WideToken.{WideToken}
 use Rattle.cb_scan.specs.rules.wide.Words.{is_keyword, is_sign, is_specifier, is_text}
 use Rattle.cb_scan.specs.rules.wide.Words.{is_underscored, is_wide_name, is_wide_word}
-use Rattle.cb_scan.specs.steps.wide.Ahead.{encloses_name, opens_twice, rest_encloses_name, second_is}
+use Rattle.cb_scan.specs.steps.wide.Ahead.{encloses_name, opens_twice, rest_encloses_name}
+use Rattle.cb_scan.specs.steps.wide.Ahead.{second_is}
 use Rattle.cb_scan.specs.Bytes.{close_bracket, open_paren, star}
 
 -- the beginning of a part

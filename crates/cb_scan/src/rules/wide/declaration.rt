@@ -74,13 +74,16 @@ impl Declaration {
         !self.is_stray && !self.part.is_stray
     }
 
-    /// After a comma that ends a part.
-    pub(crate) fn begin_part(&mut self)
-        ensures { self.new ≡ next_part_of self.old }
+    /// After a token that ends a part.
+    pub(crate) fn begin_part(&mut self, item: &WideToken)
+        requires { self.old.count + 1 < 2 ^ 32 }
+        ensures value { self.new ≡ next_part_of self.old item.now }
+        ensures small { self.new.count ≤ self.old.count + 1 }
     {
         self.is_stray = self.is_stray || self.part.is_stray;
         self.closes = false;
         self.part = Part::new(false);
+        self.count = nesting_after(&item.token, self.count);
     }
 
     /// What a token outside parentheses and brackets tells of the whole declaration.
