@@ -81,7 +81,7 @@ impl Declaration {
         ensures small { self.new.count ≤ self.old.count + 1 }
     {
         self.is_stray = self.is_stray || self.part.is_stray;
-        self.closes = false;
+        self.closes = closes(item);
         self.part = Part::new(false);
         self.count = nesting_after(&item.token, self.count);
     }
