@@ -37,6 +37,7 @@ pub mod TypedefsWithin
 pub mod WideAhead
 pub mod WideAttributes
 pub mod WideCalls
+pub mod WideCuts
 pub mod WideDeclarations
 pub mod WideEnumerators
 pub mod WideHeads

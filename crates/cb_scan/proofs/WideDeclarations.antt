@@ -40,7 +40,7 @@ ends x = is_outer_byte 44 x || is_byte 59 x
 abbrev split : List Numbered → List (List Numbered)
 split xs = slice_split ends_part xs
 
-end_is_not : (b : ℕ) (x : Numbered) → (44 == b) ≡ false → (59 == b) ≡ false → ends_part x ≡ true
+pub end_is_not : (b : ℕ) (x : Numbered) → (44 == b) ≡ false → (59 == b) ≡ false → ends_part x ≡ true
     → is_byte b x ≡ false
 end_is_not b x comma semicolon is =
     by_sign (is_outer_byte 44 x) (is_byte 59 x) is
@@ -143,7 +143,7 @@ part_same p m n xs =
     (λ x is. end_is_not 42 x refl refl is) end_is_no_word p (is_outer m) m (numbered n xs))
 
 -- the same test, written in another order
-ends_same : (d : Declaration) (x : WideToken)
+pub ends_same : (d : Declaration) (x : WideToken)
     → steps.ends_part d x ≡ ends_part (record { item = x; count = d.count })
 ends_same d x = by_tests (is_sign 59 x.role) (d.count == 0 && is_sign 44 x.role)
   where
