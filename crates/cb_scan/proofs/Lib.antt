@@ -40,6 +40,7 @@ pub mod WideCalls
 pub mod WideCuts
 pub mod WideDeclarations
 pub mod WideEnumerators
+pub mod WideFile
 pub mod WideHeads
 pub mod WideLaws
 pub mod WideMembers

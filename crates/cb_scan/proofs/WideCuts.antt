@@ -172,7 +172,7 @@ after_same d x l r =
     ]
 
 -- the list is not empty, and a new declaration begins with its first token
-over_next : (Known → WideToken → Bool) → Known → List WideToken → Bool
+abbrev pub over_next : (Known → WideToken → Bool) → Known → List WideToken → Bool
 over_next over s [] = false
 over_next over s (x ∷ xs) = over s x
 
@@ -189,7 +189,7 @@ flat_named (p ∷ ps) =
     ∙ sym (map-append of_part (naming_parts (numbered 0 p)) (flat_map naming_parts (map (numbered 0) ps)))
 
 -- an `=` is among one more
-equals_more : (ds : List Numbered) (k : ℕ) (y : Numbered) (ys : List Numbered) → drop k ds ≡ y ∷ ys
+pub equals_more : (ds : List Numbered) (k : ℕ) (y : Numbered) (ys : List Numbered) → drop k ds ≡ y ∷ ys
     → has_outer_equals ds (suc k) ≡ (has_outer_equals ds k || is_outer_byte 61 y)
 equals_more [] k y ys left = absurd (false≢true (ap is_nil (sym left ∙ drop-nil k)))
   where
@@ -291,14 +291,19 @@ module _ (over : Known → WideToken → Bool) (last : Known → WideToken → B
   pieces_of (suc fuel) [] = []
   pieces_of (suc fuel) (x ∷ xs) = upto start (x ∷ xs) ∷ pieces_of fuel (beyond start (x ∷ xs))
 
-  -- ---- the pass
+  -- ---- a pass that agrees with the tests, and a rule that does
   module _ (pass : Declaration → List WideToken → List Given)
       (none : (d : Declaration) → pass d [] ≡ [])
       (anew : (d : Declaration) (x : WideToken) (xs : List WideToken) → over (known d) x ≡ true
           → pass d (x ∷ xs) ≡ pass declaration_start (x ∷ xs))
       (on : (d : Declaration) (x : WideToken) (xs : List WideToken) → over (known d) x ≡ false
           → pass d (x ∷ xs) ≡ here d x
-          ++ pass (if last (known d) x then declaration_start else after d (x ∷ xs) x) xs) where
+          ++ pass (if last (known d) x then declaration_start else after d (x ∷ xs) x) xs)
+      (ends : List Numbered → ℕ → Bool)
+      (rule : (ds : List Numbered) (k : ℕ) (s : Known) (x : WideToken) (xs : List WideToken)
+          → drop k ds ≡ numbered s.count (x ∷ xs) → has_outer_equals ds k ≡ s.has_equals
+          → ends ds (suc k) ≡ (last s x || over_next over (next s x) xs)) where
+    -- what the pass gives
     first : (d : Declaration) (xs : List WideToken)
         → pass d xs ≡ given_from d (upto (known d) xs) ++ pass declaration_start (beyond (known d) xs)
     unfolding upto beyond given_from
@@ -348,13 +353,9 @@ module _ (over : Known → WideToken → Bool) (last : Known → WideToken → B
         ∙ ap (λ g. g ++ pass declaration_start r) (given_is l)
         ∙ ap (λ g. named_in l ++ g) (passed fuel r short)
 
-  -- ---- the rules
-  module _ (ends : List Numbered → ℕ → Bool)
-      (rule : (ds : List Numbered) (k : ℕ) (s : Known) (x : WideToken) (xs : List WideToken)
-          → drop k ds ≡ numbered s.count (x ∷ xs) → has_outer_equals ds k ≡ s.has_equals
-          → ends ds (suc k) ≡ (last s x || over_next over (next s x) xs)) where
+    -- where the rule ends a declaration
     over_none : (s : Known) (xs : List WideToken) → over_next over s xs ≡ true → len s xs ≡ 0
-    unfolding len over_next
+    unfolding len
     over_none s [] is = refl
     over_none s (x ∷ xs) is = ap (λ o. cond o 0 (cond (last s x) 1 (suc (len (next s x) xs)))) is
 
@@ -363,7 +364,7 @@ module _ (over : Known → WideToken → Bool) (last : Known → WideToken → B
         → over_next over s xs ≡ false
         → unwrap_or (find (ends ds) (range_with_len (suc k) (length (numbered s.count xs))))
         (k + length (numbered s.count xs)) ≡ k + len s xs
-    unfolding len over_next numbered
+    unfolding len numbered
     search ds k s [] left equal new = refl
     search ds k s (x ∷ xs) left equal new =
         let y : Numbered = record { item = x; count = s.count } in
@@ -395,7 +396,6 @@ module _ (over : Known → WideToken → Bool) (last : Known → WideToken → B
 
     len_is : (x : WideToken) (xs : List WideToken)
         → declaration_len ends (numbered 0 (x ∷ xs)) ≡ len start (x ∷ xs)
-    unfolding over_next
     len_is x xs =
         let ds = numbered 0 (x ∷ xs) in
         let from : length ds ≡ 0 + length ds = omega arith in
@@ -416,3 +416,10 @@ module _ (over : Known → WideToken → Bool) (last : Known → WideToken → B
         ∙ ap (λ l. l ∷ declarations_from ends fuel (drop (len start ts) ts)) (take_is start ts)
         ∙ ap (λ l. numbered 0 (upto start ts) ∷ declarations_from ends fuel l) (drop_is start ts)
         ∙ ap (λ l. numbered 0 (upto start ts) ∷ l) (declared fuel (beyond start ts))
+
+    pub level_is : (level : List WideToken) → pass declaration_start level
+        ≡ map of_part (flat_map naming_parts (declarations_from ends (length level) level))
+    level_is level =
+        passed (length level) level (omega arith)
+        ∙ flat_named (pieces_of (length level) level)
+        ∙ sym (ap (λ l. map of_part (flat_map naming_parts l)) (declared (length level) level))
