@@ -1,9 +1,10 @@
 -- A pass over a level that cuts it into declarations finds what their parts give.
-use Rattle.std.proofs.Common.{◌≡◌, ◌∙◌, ℕ, zero, suc, ◌+◌, ◌-◌, ◌≤◌, Bool, true, false, List, [], ◌∷◌, ◌++◌}
+use Rattle.std.proofs.Common.{◌≡◌, ◌∙◌, ℕ, zero, suc, ◌+◌, ◌≤◌, Bool, true, false, List, [], ◌∷◌, ◌++◌}
 use Rattle.std.proofs.Common.{refl, sym, ap, length, arith, add-one, append_assoc, drop, map, subst}
 use Rattle.std.proofs.Common.{⊎_elim}
 use Rattle.std.proofs.Math.Seq.{drop-nil}
-use Rattle.std.proofs.lemmas.Bool.{cases_Bool, false≢true}
+use Rattle.std.proofs.lemmas.Bool.{cases_Bool, false≢true, or_parts}
+use Rattle.std.proofs.Math.Bool.{or-false}
 use Rattle.std.proofs.lemmas.List.{append-nil, map-append}
 use Rattle.std.specs.Prelude.{◌&&◌, ◌||◌, ◌==◌, cond, find, take, unwrap_or, Some, if◌then◌else◌}
 use Rattle.std.specs.List.{flat_map, list_any, range_with_len}
@@ -22,7 +23,7 @@ use Rattle.cb_scan.specs.steps.wide.Declarations.{may_name, next_part_of, noted}
 use Rattle.cb_scan.specs.steps.wide.Parts.{next_part}
 use Rattle.cb_scan.proofs.WideAhead.{cut_at}
 use Rattle.cb_scan.proofs.WideDeclarations.{end_is_not, ends_same, given_is, of_part, part_same}
-use Rattle.cb_scan.proofs.WideTails.{at_drop, drop_one, or_together}
+use Rattle.cb_scan.proofs.WideTails.{drop_one, or_together}
 
 -- ---- a token of a declaration
 
@@ -129,18 +130,10 @@ nothing d [] none = refl
 nothing d (x ∷ xs) none =
     let m : Numbered = record { item = x; count = d.count } in
     let later = list_any ends_part (numbered (nesting_after x.token d.count) xs) in
-    let on : steps.ends_part d x ≡ false = ends_same d x ∙ or_left (ends_part m) later none in
+    let on : steps.ends_part d x ≡ false = ends_same d x ∙ (or_parts (ends_part m) later none).0 in
     ap (λ b. if b then (if may_name d then given d ∷ [] else []) ++ given_from (next_part_of d x) xs
     else given_from (grown d (x ∷ xs) x) xs) on
-    ∙ nothing (grown d (x ∷ xs) x) xs (or_right (ends_part m) later none)
-  where
-    or_left : (a b : Bool) → (a || b) ≡ false → a ≡ false
-    or_left true b is = is
-    or_left false b is = refl
-
-    or_right : (a b : Bool) → (a || b) ≡ false → b ≡ false
-    or_right true b is = absurd (false≢true (sym is))
-    or_right false b is = is
+    ∙ nothing (grown d (x ∷ xs) x) xs ((or_parts (ends_part m) later none).1)
 
 grown_same : (d : Declaration) (x : WideToken) (l r : List WideToken)
     → list_any ends_part (numbered (nesting_after x.token d.count) l) ≡ true
@@ -197,11 +190,7 @@ equals_more [] k y ys left = absurd (false≢true (ap is_nil (sym left ∙ drop-
     is_nil [] = true
     is_nil (z ∷ zs) = false
 equals_more (d ∷ ds) zero y ys left =
-    or_false (is_outer_byte 61 d) ∙ ap (is_outer_byte 61) (ap (λ l. numbered_at l 0) left)
-  where
-    or_false : (b : Bool) → (b || false) ≡ b
-    or_false true = refl
-    or_false false = refl
+    or-false (is_outer_byte 61 d) ∙ ap (is_outer_byte 61) (ap (λ l. numbered_at l 0) left)
 equals_more (d ∷ ds) (suc k) y ys left =
     ap (λ b. is_outer_byte 61 d || b) (equals_more ds k y ys left)
     ∙ sym (or_together (is_outer_byte 61 d) (has_outer_equals ds k) (is_outer_byte 61 y))

@@ -1,5 +1,5 @@
 -- The pass finds what the parts give on the level of a structure or union.
-use Rattle.std.proofs.Common.{◌≡◌, ◌∙◌, ℕ, suc, ◌-◌, Bool, true, false, List, [], ◌∷◌, ◌++◌, refl, sym, ap}
+use Rattle.std.proofs.Common.{◌≡◌, ◌∙◌, ℕ, suc, ◌-◌, Bool, true, false, List, [], ◌∷◌, ◌++◌, refl, ap}
 use Rattle.std.proofs.Common.{arith, drop, map}
 use Rattle.std.proofs.lemmas.Bool.{false≢true}
 use Rattle.std.specs.Prelude.{◌&&◌, ◌||◌, ◌==◌, if◌then◌else◌}
@@ -10,7 +10,6 @@ use Rattle.cb_scan.specs.rules.wide.Declarations.{body_declarations, ends_at_sem
 use Rattle.cb_scan.specs.rules.wide.Declarations.{naming_parts}
 use Rattle.cb_scan.specs.rules.wide.Levels.{Numbered, is_byte, numbered, numbered_at}
 use Rattle.cb_scan.specs.rules.wide.Words.{is_sign}
-use Rattle.cb_scan.specs.steps.wide.Declarations as steps
 use Rattle.cb_scan.specs.steps.wide.Declarations.{Given, declaration_start, given, grown, may_name}
 use Rattle.cb_scan.specs.steps.wide.Declarations.{members_from, next_part_of}
 use Rattle.cb_scan.proofs.WideCuts.{Known, after, here, known, level_is, next, over_next}

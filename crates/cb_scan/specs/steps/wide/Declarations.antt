@@ -106,6 +106,8 @@ members_from d (x ∷ xs) =
     then (if may_name d then given d ∷ [] else []) ++ members_from (next_member d x) xs
     else members_from (grown d (x ∷ xs) x) xs
 
+-- ---- the level of the file
+
 -- a `{` that does not count
 abbrev pub is_linkage : WideToken → Bool
 is_linkage x = is_sign open_brace x.role && not x.counted
@@ -118,17 +120,17 @@ is_block bs x = x.counted && not (opens_body bs x.token.span.start)
 abbrev pub is_end_without_value : List Body → WideToken → Bool
 is_end_without_value bs x = is_sign close_brace x.role || is_block bs x
 
--- a declaration of the file ends with the token after which it is in this state
+-- a declaration of the file ends with the token that leaves it in this state
 abbrev pub is_end : List Body → Declaration → WideToken → Bool
 is_end bs d x =
     is_sign semicolon x.role || is_linkage x || (not d.has_equals && is_end_without_value bs x)
 
--- the state before a token of the file: a declaration begins with it if it begins one anew
-abbrev pub before : Declaration → WideToken → Declaration
-before d x = if is_over d x then declaration_start else d
+-- the state in which a token of the file is read: a declaration begins with it if it begins anew
+abbrev pub before_in_file : Declaration → WideToken → Declaration
+before_in_file d x = if is_over d x then declaration_start else d
 
--- the state after a token of the file, where this is that of the declaration that it belongs to:
--- the next one begins if the token ends it
+-- after a token that leaves a declaration of the file in this state: the next one begins if the
+-- token ends it
 abbrev pub next_in_file : List Body → Declaration → WideToken → Declaration
 next_in_file bs d x = if is_end bs d x then declaration_start else d
 
@@ -137,7 +139,7 @@ next_in_file bs d x = if is_end bs d x then declaration_start else d
 unfoldable pub file_from : List Body → Declaration → List WideToken → List Given
 file_from bs d [] = []
 file_from bs d (x ∷ xs) =
-    let e = before d x in
+    let e = before_in_file d x in
     if ends_part e x
     then (if may_name e then given e ∷ [] else [])
         ++ file_from bs (next_in_file bs (next_part_of e x) x) xs
