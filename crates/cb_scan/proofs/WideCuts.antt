@@ -1,7 +1,7 @@
 -- A pass over a level that cuts it into declarations finds what their parts give.
-use Rattle.std.proofs.Common.{◌≡◌, ◌∙◌, ℕ, zero, suc, ◌+◌, ◌≤◌, Bool, true, false, List, [], ◌∷◌, ◌++◌}
-use Rattle.std.proofs.Common.{refl, sym, ap, length, arith, add-one, append_assoc, drop, map, subst}
-use Rattle.std.proofs.Common.{⊎_elim}
+use Rattle.std.proofs.Common.{◌≡◌, ◌∙◌, ℕ, zero, suc, ◌+◌, ◌≤◌, Bool, true, false, List, [], ◌∷◌}
+use Rattle.std.proofs.Common.{◌++◌, refl, sym, ap, length, arith, add-one, append_assoc, drop, map}
+use Rattle.std.proofs.Common.{subst, ⊎_elim}
 use Rattle.std.proofs.Math.Seq.{drop-nil}
 use Rattle.std.proofs.lemmas.Bool.{cases_Bool, false≢true, or_parts}
 use Rattle.std.proofs.Math.Bool.{or-false}
@@ -14,12 +14,13 @@ use Rattle.cb_scan.specs.declared.rules.wide.token.WideToken.{WideToken}
 use Rattle.cb_scan.specs.rules.Typedefs.{nesting_after}
 use Rattle.cb_scan.specs.rules.wide.Declarations.{declaration_len, declarations_from, ends_part}
 use Rattle.cb_scan.specs.rules.wide.Declarations.{has_outer_equals, naming_parts}
-use Rattle.cb_scan.specs.rules.wide.Levels.{Numbered, is_outer, is_outer_byte, numbered, numbered_at}
+use Rattle.cb_scan.specs.rules.wide.Levels.{Numbered, is_outer, is_outer_byte, numbered}
+use Rattle.cb_scan.specs.rules.wide.Levels.{numbered_at}
 use Rattle.cb_scan.specs.rules.wide.Words.{is_sign}
 use Rattle.cb_scan.specs.steps.wide.Along.{items}
 use Rattle.cb_scan.specs.steps.wide.Declarations as steps
-use Rattle.cb_scan.specs.steps.wide.Declarations.{Given, closes, declaration_start, given, given_from, grown}
-use Rattle.cb_scan.specs.steps.wide.Declarations.{may_name, next_part_of, noted}
+use Rattle.cb_scan.specs.steps.wide.Declarations.{Given, closes, declaration_start, given}
+use Rattle.cb_scan.specs.steps.wide.Declarations.{given_from, grown, may_name, next_part_of, noted}
 use Rattle.cb_scan.specs.steps.wide.Parts.{next_part}
 use Rattle.cb_scan.proofs.WideAhead.{cut_at}
 use Rattle.cb_scan.proofs.WideDeclarations.{end_is_not, ends_same, given_is, of_part, part_same}
@@ -43,7 +44,8 @@ one d x xs =
     elim (steps.ends_part d x) as (λ b.
     (if b then named ++ given_from (next_part_of d x) xs else given_from (grown d (x ∷ xs) x) xs)
     ≡ (if b then named else [])
-    ++ given_from (if b then next_part_of d x else grown d (x ∷ xs) x) xs) [ true ↦ refl | false ↦ refl ]
+    ++ given_from (if b then next_part_of d x else grown d (x ∷ xs) x) xs)
+    [ true ↦ refl | false ↦ refl ]
 
 -- ---- what a state knows
 
@@ -99,7 +101,8 @@ known_after d xs x =
     (if b then next_part_of d x else grown d xs x).count ≡ nesting_after x.token d.count)
     [ true ↦ refl | false ↦ refl ] in
     let close : (after d xs x).closes ≡ closes x =
-    elim (steps.ends_part d x) as (λ b. (if b then next_part_of d x else grown d xs x).closes ≡ closes x)
+    elim (steps.ends_part d x) as (λ b.
+    (if b then next_part_of d x else grown d xs x).closes ≡ closes x)
     [ true ↦ refl | false ↦ refl ] in
     λ i. record { count = count i; has_equals = equals_after d xs x i; closes = close i }
 
@@ -155,12 +158,15 @@ after_same : (d : Declaration) (x : WideToken) (l r : List WideToken)
     → given_from (after d (x ∷ (l ++ r)) x) l ≡ given_from (after d (x ∷ l) x) l
 after_same d x l r =
     let n = nesting_after x.token d.count in
-    let by : Bool → Declaration → List Given = λ b g. given_from (if b then next_part_of d x else g) l in
-    elim (steps.ends_part d x) as (λ b. by b (grown d (x ∷ (l ++ r)) x) ≡ by b (grown d (x ∷ l) x)) [
+    let far = grown d (x ∷ (l ++ r)) x in
+    let near = grown d (x ∷ l) x in
+    elim (steps.ends_part d x) as (λ b.
+    given_from (if b then next_part_of d x else far) l
+    ≡ given_from (if b then next_part_of d x else near) l) [
       | true ↦ refl
       | false ↦ ⊎_elim
           (λ is. ap (λ g. given_from g l) (grown_same d x l r is))
-          (λ none. nothing (grown d (x ∷ (l ++ r)) x) l none ∙ sym (nothing (grown d (x ∷ l) x) l none))
+          (λ none. nothing far l none ∙ sym (nothing near l none))
           (cases_Bool (list_any ends_part (numbered n l)))
     ]
 
@@ -178,11 +184,13 @@ flat_named : (ps : List (List WideToken))
 unfolding named_in
 flat_named [] = refl
 flat_named (p ∷ ps) =
+    let parts = flat_map naming_parts (map (numbered 0) ps) in
     ap (λ l. named_in p ++ l) (flat_named ps)
-    ∙ sym (map-append of_part (naming_parts (numbered 0 p)) (flat_map naming_parts (map (numbered 0) ps)))
+    ∙ sym (map-append of_part (naming_parts (numbered 0 p)) parts)
 
 -- an `=` is among one more
-pub equals_more : (ds : List Numbered) (k : ℕ) (y : Numbered) (ys : List Numbered) → drop k ds ≡ y ∷ ys
+pub equals_more : (ds : List Numbered) (k : ℕ) (y : Numbered) (ys : List Numbered)
+    → drop k ds ≡ y ∷ ys
     → has_outer_equals ds (suc k) ≡ (has_outer_equals ds k || is_outer_byte 61 y)
 equals_more [] k y ys left = absurd (false≢true (ap is_nil (sym left ∙ drop-nil k)))
   where
@@ -195,8 +203,9 @@ equals_more (d ∷ ds) (suc k) y ys left =
     ap (λ b. is_outer_byte 61 d || b) (equals_more ds k y ys left)
     ∙ sym (or_together (is_outer_byte 61 d) (has_outer_equals ds k) (is_outer_byte 61 y))
 
--- ---- a pass by two tests: whether a declaration is over before a token, and whether a token is its
--- last
+-- ---- a pass by two tests
+
+-- whether a declaration is over before a token, and whether a token is its last
 module _ (over : Known → WideToken → Bool) (last : Known → WideToken → Bool)
     (begun : (x : WideToken) → over start x ≡ false) where
   -- the tokens of the first declaration, from a state on, those beyond it, and how many it has
@@ -261,17 +270,18 @@ module _ (over : Known → WideToken → Bool) (last : Known → WideToken → B
       elim (over s x) as (λ o.
       length (cond o (x ∷ xs) (cond (last s x) xs (beyond (next s x) xs))) ≤ suc (length xs)) [
         | true ↦ omega arith
-        | false ↦ elim (last s x) as (λ e. length (cond e xs (beyond (next s x) xs)) ≤ suc (length xs))
+        | false ↦ elim (last s x) as (λ e.
+            length (cond e xs (beyond (next s x) xs)) ≤ suc (length xs))
             [ true ↦ omega arith | false ↦ omega arith ]
       ]
 
   beyond_less : (x : WideToken) (xs : List WideToken) → length (beyond start (x ∷ xs)) ≤ length xs
   unfolding beyond
   beyond_less x xs =
+      let r = beyond (next start x) xs in
       let less = beyond_short (next start x) xs in
-      subst (λ o. length (cond o (x ∷ xs) (cond (last start x) xs (beyond (next start x) xs))) ≤ length xs)
-      (sym (begun x))
-      (elim (last start x) as (λ e. length (cond e xs (beyond (next start x) xs)) ≤ length xs)
+      subst (λ o. length (cond o (x ∷ xs) (cond (last start x) xs r)) ≤ length xs) (sym (begun x))
+      (elim (last start x) as (λ e. length (cond e xs r) ≤ length xs)
       [ true ↦ omega arith | false ↦ less ])
 
   -- the declarations of a level
@@ -293,38 +303,44 @@ module _ (over : Known → WideToken → Bool) (last : Known → WideToken → B
           → drop k ds ≡ numbered s.count (x ∷ xs) → has_outer_equals ds k ≡ s.has_equals
           → ends ds (suc k) ≡ (last s x || over_next over (next s x) xs)) where
     -- what the pass gives
+    whole : Declaration → WideToken → List WideToken → Bool → List Given
+    whole d x xs o =
+        let s = known d in
+        given_from d (cond o [] (cond (last s x) (x ∷ []) (x ∷ upto (next s x) xs)))
+        ++ pass declaration_start (cond o (x ∷ xs) (cond (last s x) xs (beyond (next s x) xs)))
+
     first : (d : Declaration) (xs : List WideToken)
-        → pass d xs ≡ given_from d (upto (known d) xs) ++ pass declaration_start (beyond (known d) xs)
-    unfolding upto beyond given_from
+        → pass d xs
+        ≡ given_from d (upto (known d) xs) ++ pass declaration_start (beyond (known d) xs)
+    unfolding upto beyond given_from whole
     first d [] = none d ∙ sym (none declaration_start)
     first d (x ∷ xs) =
         let s = known d in
+        let a = after d (x ∷ xs) x in
         let l = upto (next s x) xs in
         let r = beyond (next s x) xs in
         let rest = pass declaration_start r in
-        let whole : Bool → List Given = λ o.
-        given_from d (cond o [] (cond (last s x) (x ∷ []) (x ∷ l)))
-        ++ pass declaration_start (cond o (x ∷ xs) (cond (last s x) xs r)) in
         let ended : Bool → List Given = λ e.
         given_from d (cond e (x ∷ []) (x ∷ l)) ++ pass declaration_start (cond e xs r) in
-        let ahead : Declaration → List Given = λ a. given_from a l in
         ⊎_elim
-        (λ is. anew d x xs is ∙ sym (ap whole is))
+        (λ is. anew d x xs is ∙ sym (ap (whole d x xs) is))
         (λ isnt.
         on d x xs isnt
         ∙ elim (last s x) as (λ e.
-        here d x ++ pass (if e then declaration_start else after d (x ∷ xs) x) xs ≡ ended e) [
-          | true ↦ ap (λ g. g ++ pass declaration_start xs) (sym (append-nil (here d x)) ∙ sym (one d x []))
+        here d x ++ pass (if e then declaration_start else a) xs ≡ ended e) [
+          | true ↦ ap (λ g. g ++ pass declaration_start xs)
+              (sym (append-nil (here d x)) ∙ sym (one d x []))
           | false ↦
-              ap (λ g. here d x ++ g) (first (after d (x ∷ xs) x) xs
-              ∙ ap (λ t. given_from (after d (x ∷ xs) x) (upto t xs) ++ pass declaration_start (beyond t xs))
+              ap (λ g. here d x ++ g) (first a xs
+              ∙ ap (λ t. given_from a (upto t xs) ++ pass declaration_start (beyond t xs))
               (known_after d (x ∷ xs) x)
-              ∙ ap (λ g. g ++ rest) (ap (λ ts. ahead (after d (x ∷ ts) x)) (parted (next s x) xs)
+              ∙ ap (λ g. g ++ rest)
+              (ap (λ ts. given_from (after d (x ∷ ts) x) l) (parted (next s x) xs)
               ∙ after_same d x l r))
-              ∙ sym (append_assoc (here d x) (ahead (after d (x ∷ l) x)) rest)
+              ∙ sym (append_assoc (here d x) (given_from (after d (x ∷ l) x) l) rest)
               ∙ ap (λ g. g ++ rest) (sym (one d x l))
         ]
-        ∙ sym (ap whole isnt))
+        ∙ sym (ap (whole d x xs) isnt))
         (cases_Bool (over s x))
 
     passed : (fuel : ℕ) (xs : List WideToken) → length xs ≤ fuel
@@ -374,7 +390,8 @@ module _ (over : Known → WideToken → Bool) (last : Known → WideToken → B
               (λ is. ap by is ∙ found ∙ sym (ap (λ n. k + suc n) (over_none t xs is)))
               (λ isnt.
               ap by isnt
-              ∙ ap (λ j. unwrap_or (find (ends ds) (range_with_len j (length ys))) (k + suc (length ys)))
+              ∙ ap (λ j.
+              unwrap_or (find (ends ds) (range_with_len j (length ys))) (k + suc (length ys)))
               (add-one (suc k))
               ∙ ap (unwrap_or (find (ends ds) (range_with_len (suc (suc k)) (length ys)))) long
               ∙ search ds (suc k) t xs follows equals isnt

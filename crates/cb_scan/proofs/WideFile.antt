@@ -1,6 +1,6 @@
 -- The pass finds what the parts give on the level of the file.
-use Rattle.std.proofs.Common.{◌≡◌, ◌∙◌, ℕ, zero, suc, ◌-◌, Bool, true, false, List, [], ◌∷◌, ◌++◌, refl, sym, ap}
-use Rattle.std.proofs.Common.{arith, drop, map}
+use Rattle.std.proofs.Common.{◌≡◌, ◌∙◌, ℕ, zero, suc, ◌-◌, Bool, true, false, List, [], ◌∷◌, ◌++◌}
+use Rattle.std.proofs.Common.{refl, sym, ap, arith, drop, map}
 use Rattle.std.specs.Prelude.{◌&&◌, ◌||◌, ◌==◌, not, if◌then◌else◌}
 use Rattle.std.specs.List.{flat_map}
 use Rattle.cb_scan.specs.declared.rules.wide.declaration.Declaration.{Declaration}
@@ -13,11 +13,11 @@ use Rattle.cb_scan.specs.rules.wide.Levels.{Numbered, is_byte, is_outer, numbere
 use Rattle.cb_scan.specs.rules.wide.Levels.{no_wide_token}
 use Rattle.cb_scan.specs.rules.wide.Words.{is_extern_word, is_sign, is_static_word}
 use Rattle.cb_scan.specs.steps.wide.Declarations as steps
-use Rattle.cb_scan.specs.steps.wide.Declarations.{Given, closes, declaration_start, file_from, given, grown}
-use Rattle.cb_scan.specs.steps.wide.Declarations.{is_end_without_value, is_linkage, is_over, may_name}
-use Rattle.cb_scan.specs.steps.wide.Declarations.{next_in_file, next_part_of}
-use Rattle.cb_scan.proofs.WideCuts.{Known, after, equals_more, here, known, known_after, level_is, next}
-use Rattle.cb_scan.proofs.WideCuts.{over_next}
+use Rattle.cb_scan.specs.steps.wide.Declarations.{Given, closes, declaration_start, file_from}
+use Rattle.cb_scan.specs.steps.wide.Declarations.{given, grown, is_end_without_value, is_linkage}
+use Rattle.cb_scan.specs.steps.wide.Declarations.{is_over, may_name, next_in_file, next_part_of}
+use Rattle.cb_scan.proofs.WideCuts.{Known, after, equals_more, here, known, known_after, level_is}
+use Rattle.cb_scan.proofs.WideCuts.{next, over_next}
 use Rattle.cb_scan.proofs.WideDeclarations.{of_part}
 use Rattle.cb_scan.proofs.WideTails.{at_drop, drop_one}
 
@@ -49,32 +49,37 @@ module _ (bs : List Body) where
   last s x = ended x (next s x).has_equals
 
   -- ---- the pass
+  onward : Declaration → WideToken → List WideToken → List Given
+  onward d x xs = file_from bs (next_in_file bs d x) xs
+
   from : Declaration → WideToken → List WideToken → List Given
   from e x xs =
       if steps.ends_part e x
-      then (if may_name e then given e ∷ [] else []) ++ file_from bs (next_in_file bs (next_part_of e x) x) xs
-      else file_from bs (next_in_file bs (grown e (x ∷ xs) x) x) xs
+      then (if may_name e then given e ∷ [] else []) ++ onward (next_part_of e x) x xs
+      else onward (grown e (x ∷ xs) x) x xs
 
   anew : (d : Declaration) (x : WideToken) (xs : List WideToken) → over (known d) x ≡ true
       → file_from bs d (x ∷ xs) ≡ file_from bs declaration_start (x ∷ xs)
-  unfolding file_from from
+  unfolding file_from from onward
   anew d x xs is = ap (λ b. from (if b then declaration_start else d) x xs) is
 
   on : (d : Declaration) (x : WideToken) (xs : List WideToken) → over (known d) x ≡ false
       → file_from bs d (x ∷ xs) ≡ here d x
       ++ file_from bs (if last (known d) x then declaration_start else after d (x ∷ xs) x) xs
-  unfolding file_from from
+  unfolding file_from from onward
   on d x xs isnt =
       let named : List Given = if may_name d then given d ∷ [] else [] in
+      let p = next_part_of d x in
       let g = grown d (x ∷ xs) x in
+      let a = after d (x ∷ xs) x in
       ap (λ b. from (if b then declaration_start else d) x xs) isnt
       ∙ elim (steps.ends_part d x) as (λ b.
-      (if b then named ++ file_from bs (next_in_file bs (next_part_of d x) x) xs
-      else file_from bs (next_in_file bs g x) xs)
-      ≡ (if b then named else []) ++ file_from bs (next_in_file bs (if b then next_part_of d x else g) x) xs)
+      (if b then named ++ onward p x xs else onward g x xs)
+      ≡ (if b then named else []) ++ onward (if b then p else g) x xs)
       [ true ↦ refl | false ↦ refl ]
-      ∙ ap (λ (s : Known). here d x ++ file_from bs (if ended x s.has_equals then declaration_start
-      else after d (x ∷ xs) x) xs) (known_after d (x ∷ xs) x)
+      ∙ ap (λ (s : Known).
+      here d x ++ file_from bs (if ended x s.has_equals then declaration_start else a) xs)
+      (known_after d (x ∷ xs) x)
 
   -- ---- the rule
   begins_same : (x : WideToken) (n : ℕ) (z : Numbered)
@@ -115,7 +120,8 @@ module _ (bs : List Body) where
       let y : Numbered = record { item = x; count = s.count } in
       let ys = numbered (next s x).count xs in
       let before : suc k - 1 ≡ k = omega arith in
-      let at : numbered_at ds (suc k - 1) ≡ y = ap (numbered_at ds) before ∙ at_drop k ds y ys left in
+      let at : numbered_at ds (suc k - 1) ≡ y =
+      ap (numbered_at ds) before ∙ at_drop k ds y ys left in
       let equals : has_outer_equals ds (suc k) ≡ (next s x).has_equals =
       equals_more ds k y ys left ∙ ap (λ b. b || (s.count == 0 && is_sign 61 x.role)) equal in
       let follows : drop (suc k) ds ≡ ys = sym (drop_one k ds) ∙ ap (drop 1) left in
@@ -132,4 +138,5 @@ pub file_is : (bs : List Body) (level : List WideToken)
     → file_from bs declaration_start level
     ≡ map of_part (flat_map naming_parts (file_declarations bs level))
 file_is bs =
-    level_is over (last bs) (λ x. refl) (file_from bs) (none bs) (anew bs) (on bs) (ends_in_file bs) (rule bs)
+    level_is over (last bs) (λ x. refl) (file_from bs) (none bs) (anew bs) (on bs)
+    (ends_in_file bs) (rule bs)

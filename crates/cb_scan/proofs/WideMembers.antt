@@ -1,13 +1,13 @@
 -- The pass finds what the parts give on the level of a structure or union.
-use Rattle.std.proofs.Common.{◌≡◌, ◌∙◌, ℕ, suc, ◌-◌, Bool, true, false, List, [], ◌∷◌, ◌++◌, refl, ap}
-use Rattle.std.proofs.Common.{arith, drop, map}
+use Rattle.std.proofs.Common.{◌≡◌, ◌∙◌, ℕ, suc, ◌-◌, Bool, true, false, List, [], ◌∷◌, ◌++◌, refl}
+use Rattle.std.proofs.Common.{ap, arith, drop, map}
 use Rattle.std.proofs.lemmas.Bool.{false≢true}
 use Rattle.std.specs.Prelude.{◌&&◌, ◌||◌, ◌==◌, if◌then◌else◌}
 use Rattle.std.specs.List.{flat_map}
 use Rattle.cb_scan.specs.declared.rules.wide.declaration.Declaration.{Declaration}
 use Rattle.cb_scan.specs.declared.rules.wide.token.WideToken.{WideToken}
-use Rattle.cb_scan.specs.rules.wide.Declarations.{body_declarations, ends_at_semicolon, has_outer_equals}
-use Rattle.cb_scan.specs.rules.wide.Declarations.{naming_parts}
+use Rattle.cb_scan.specs.rules.wide.Declarations.{body_declarations, ends_at_semicolon}
+use Rattle.cb_scan.specs.rules.wide.Declarations.{has_outer_equals, naming_parts}
 use Rattle.cb_scan.specs.rules.wide.Levels.{Numbered, is_byte, numbered, numbered_at}
 use Rattle.cb_scan.specs.rules.wide.Words.{is_sign}
 use Rattle.cb_scan.specs.steps.wide.Declarations.{Given, declaration_start, given, grown, may_name}
@@ -39,7 +39,8 @@ on d x xs _ =
     (if b || c then named ++ members_from (if b then declaration_start else next_part_of d x) xs
     else members_from g xs)
     ≡ (if b || c then named else [])
-    ++ members_from (if b then declaration_start else (if b || c then next_part_of d x else g)) xs) [
+    ++ members_from
+    (if b then declaration_start else (if b || c then next_part_of d x else g)) xs) [
       | true ↦ refl
       | false ↦ elim c as (λ e.
           (if e then named ++ members_from (next_part_of d x) xs else members_from g xs)
@@ -65,7 +66,8 @@ rule ds k s x xs left _ =
 
 -- the pass over a level
 pub members_are : (level : List WideToken)
-    → members_from declaration_start level ≡ map of_part (flat_map naming_parts (body_declarations level))
+    → members_from declaration_start level
+    ≡ map of_part (flat_map naming_parts (body_declarations level))
 members_are =
     level_is over last (λ x. refl) members_from none (λ d x xs is. absurd (false≢true is)) on
     ends_at_semicolon rule
