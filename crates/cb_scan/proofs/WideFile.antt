@@ -14,7 +14,7 @@ use Rattle.cb_scan.specs.rules.wide.Levels.{no_wide_token}
 use Rattle.cb_scan.specs.rules.wide.Words.{is_extern_word, is_sign, is_static_word}
 use Rattle.cb_scan.specs.steps.wide.Declarations as steps
 use Rattle.cb_scan.specs.steps.wide.Declarations.{Given, closes, declaration_start, file_from}
-use Rattle.cb_scan.specs.steps.wide.Declarations.{given, grown, is_end_without_value, is_linkage}
+use Rattle.cb_scan.specs.steps.wide.Declarations.{given, grown, is_block, is_linkage}
 use Rattle.cb_scan.specs.steps.wide.Declarations.{is_over, may_name, next_in_file, next_part_of}
 use Rattle.cb_scan.proofs.WideCuts.{Known, after, equals_more, here, known, known_after, level_is}
 use Rattle.cb_scan.proofs.WideCuts.{next, over_next}
@@ -42,15 +42,18 @@ at_none (suc j) (d ∷ ds) left = at_none j ds left
 
 module _ (bs : List Body) where
   -- where a token is its last
+  abbrev ends_without_value : WideToken → Bool
+  ends_without_value x = is_sign 125 x.role || is_block bs x
+
   abbrev ended : WideToken → Bool → Bool
-  ended x equals = is_sign 59 x.role || is_linkage x || (not equals && is_end_without_value bs x)
+  ended x equals = is_sign 59 x.role || is_linkage x || (not equals && ends_without_value x)
 
   abbrev last : Known → WideToken → Bool
   last s x = ended x (next s x).has_equals
 
   -- ---- the pass
   onward : Declaration → WideToken → List WideToken → List Given
-  onward d x xs = file_from bs (next_in_file bs d x) xs
+  onward d x xs = file_from bs (next_in_file d (is_block bs x) x) xs
 
   from : Declaration → WideToken → List WideToken → List Given
   from e x xs =
@@ -131,7 +134,7 @@ module _ (bs : List Body) where
       ∙ ap (λ e. ends y e (begins_anew y (numbered_at ds (suc k)))) equals
       ∙ ap (ends y (next s x).has_equals) (begins_next ds (suc k) s x xs follows)
       ∙ together (is_sign 59 x.role) (is_linkage x)
-      (not (next s x).has_equals && is_end_without_value bs x) (over_next over (next s x) xs)
+      (not (next s x).has_equals && ends_without_value x) (over_next over (next s x) xs)
 
 -- the pass over the level of the file
 pub file_is : (bs : List Body) (level : List WideToken)

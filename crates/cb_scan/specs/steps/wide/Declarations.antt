@@ -112,27 +112,25 @@ members_from d (x ∷ xs) =
 abbrev pub is_linkage : WideToken → Bool
 is_linkage x = is_sign open_brace x.role && not x.counted
 
--- a brace that is no body of a structure, union or enumeration
+-- a brace that is no body of a structure, union or enumeration: a block
 abbrev pub is_block : List Body → WideToken → Bool
 is_block bs x = x.counted && not (opens_body bs x.token.span.start)
 
--- a `}`, or the body of a function: a declaration ends with it, unless it has a value
-abbrev pub is_end_without_value : List Body → WideToken → Bool
-is_end_without_value bs x = is_sign close_brace x.role || is_block bs x
-
--- a declaration of the file ends with the token that leaves it in this state
-abbrev pub is_end : List Body → Declaration → WideToken → Bool
-is_end bs d x =
-    is_sign semicolon x.role || is_linkage x || (not d.has_equals && is_end_without_value bs x)
+-- a declaration of the file ends with the token that leaves it in this state: a `;`, a `{` that
+-- does not count, or where it has no value, a `}` or a block
+abbrev pub is_end : Declaration → Bool → WideToken → Bool
+is_end d block x =
+    is_sign semicolon x.role || is_linkage x
+    || (not d.has_equals && (is_sign close_brace x.role || block))
 
 -- the state in which a token of the file is read: a declaration begins with it if it begins anew
 abbrev pub before_in_file : Declaration → WideToken → Declaration
 before_in_file d x = if is_over d x then declaration_start else d
 
--- after a token that leaves a declaration of the file in this state: the next one begins if the
--- token ends it
-abbrev pub next_in_file : List Body → Declaration → WideToken → Declaration
-next_in_file bs d x = if is_end bs d x then declaration_start else d
+-- after a token that leaves a declaration of the file in this state, and is a block or none: if it
+-- ends the declaration, the next one begins
+abbrev pub next_in_file : Declaration → Bool → WideToken → Declaration
+next_in_file d block x = if is_end d block x then declaration_start else d
 
 -- what the parts give that end on the level of the file, from a state on, where these are the
 -- bodies
@@ -142,5 +140,5 @@ file_from bs d (x ∷ xs) =
     let e = before_in_file d x in
     if ends_part e x
     then (if may_name e then given e ∷ [] else [])
-        ++ file_from bs (next_in_file bs (next_part_of e x) x) xs
-    else file_from bs (next_in_file bs (grown e (x ∷ xs) x) x) xs
+        ++ file_from bs (next_in_file (next_part_of e x) (is_block bs x) x) xs
+    else file_from bs (next_in_file (grown e (x ∷ xs) x) (is_block bs x) x) xs
