@@ -36,6 +36,7 @@ here d x = if steps.ends_part d x then (if may_name d then given d ∷ [] else [
 abbrev pub after : Declaration → List WideToken → WideToken → Declaration
 after d xs x = if steps.ends_part d x then next_part_of d x else grown d xs x
 
+-- one step of the pass over a declaration
 one : (d : Declaration) (x : WideToken) (xs : List WideToken)
     → given_from d (x ∷ xs) ≡ here d x ++ given_from (after d (x ∷ xs) x) xs
 unfolding given_from
@@ -69,6 +70,7 @@ next s x = record {
   closes = closes x;
 }
 
+-- a token that ends a part is no `=`
 equals_after : (d : Declaration) (xs : List WideToken) (x : WideToken)
     → (after d xs x).has_equals ≡ (d.has_equals || (d.count == 0 && is_sign 61 x.role))
 equals_after d xs x =
@@ -93,6 +95,7 @@ equals_after d xs x =
     noted_equals true = refl
     noted_equals false = or_none d.has_equals false
 
+-- the state after a token knows what follows from the state before
 pub known_after : (d : Declaration) (xs : List WideToken) (x : WideToken)
     → known (after d xs x) ≡ next (known d) x
 known_after d xs x =
@@ -205,7 +208,8 @@ equals_more (d ∷ ds) (suc k) y ys left =
 
 -- ---- a pass by two tests
 
--- whether a declaration is over before a token, and whether a token is its last
+-- whether a declaration is over before a token, and whether a token is its last; no declaration is
+-- over before its first token
 module _ (over : Known → WideToken → Bool) (last : Known → WideToken → Bool)
     (begun : (x : WideToken) → over start x ≡ false) where
   -- the tokens of the first declaration, from a state on, those beyond it, and how many it has
@@ -290,25 +294,30 @@ module _ (over : Known → WideToken → Bool) (last : Known → WideToken → B
   pieces_of (suc fuel) [] = []
   pieces_of (suc fuel) (x ∷ xs) = upto start (x ∷ xs) ∷ pieces_of fuel (beyond start (x ∷ xs))
 
-  -- ---- a pass that agrees with the tests, and a rule that does
+  -- ---- a pass and a rule that agree with the tests
+
+  -- the pass gives what a token gives, and begins anew where a declaration ends; the rule tells how
+  -- many tokens end a declaration
   module _ (pass : Declaration → List WideToken → List Given)
       (none : (d : Declaration) → pass d [] ≡ [])
       (anew : (d : Declaration) (x : WideToken) (xs : List WideToken) → over (known d) x ≡ true
-          → pass d (x ∷ xs) ≡ pass declaration_start (x ∷ xs))
+      → pass d (x ∷ xs) ≡ pass declaration_start (x ∷ xs))
       (on : (d : Declaration) (x : WideToken) (xs : List WideToken) → over (known d) x ≡ false
-          → pass d (x ∷ xs) ≡ here d x
-          ++ pass (if last (known d) x then declaration_start else after d (x ∷ xs) x) xs)
+      → pass d (x ∷ xs) ≡ here d x
+      ++ pass (if last (known d) x then declaration_start else after d (x ∷ xs) x) xs)
       (ends : List Numbered → ℕ → Bool)
       (rule : (ds : List Numbered) (k : ℕ) (s : Known) (x : WideToken) (xs : List WideToken)
-          → drop k ds ≡ numbered s.count (x ∷ xs) → has_outer_equals ds k ≡ s.has_equals
-          → ends ds (suc k) ≡ (last s x || over_next over (next s x) xs)) where
-    -- what the pass gives
+      → drop k ds ≡ numbered s.count (x ∷ xs) → has_outer_equals ds k ≡ s.has_equals
+      → ends ds (suc k) ≡ (last s x || over_next over (next s x) xs)) where
+    -- what the first declaration gives and what those after it do, where the test before the token
+    -- says this
     whole : Declaration → WideToken → List WideToken → Bool → List Given
     whole d x xs o =
         let s = known d in
         given_from d (cond o [] (cond (last s x) (x ∷ []) (x ∷ upto (next s x) xs)))
         ++ pass declaration_start (cond o (x ∷ xs) (cond (last s x) xs (beyond (next s x) xs)))
 
+    -- the pass up to the end of the first declaration
     first : (d : Declaration) (xs : List WideToken)
         → pass d xs
         ≡ given_from d (upto (known d) xs) ++ pass declaration_start (beyond (known d) xs)
@@ -343,6 +352,7 @@ module _ (over : Known → WideToken → Bool) (last : Known → WideToken → B
         ∙ sym (ap (whole d x xs) isnt))
         (cases_Bool (over s x))
 
+    -- the pass over all declarations
     passed : (fuel : ℕ) (xs : List WideToken) → length xs ≤ fuel
         → pass declaration_start xs ≡ flat_map named_in (pieces_of fuel xs)
     unfolding pieces_of named_in
@@ -358,12 +368,13 @@ module _ (over : Known → WideToken → Bool) (last : Known → WideToken → B
         ∙ ap (λ g. g ++ pass declaration_start r) (given_is l)
         ∙ ap (λ g. named_in l ++ g) (passed fuel r short)
 
-    -- where the rule ends a declaration
+    -- a declaration that is over takes no token
     over_none : (s : Known) (xs : List WideToken) → over_next over s xs ≡ true → len s xs ≡ 0
     unfolding len
     over_none s [] is = refl
     over_none s (x ∷ xs) is = ap (λ o. cond o 0 (cond (last s x) 1 (suc (len (next s x) xs)))) is
 
+    -- the rule ends the first declaration where the tests do, k tokens of it being passed
     search : (ds : List Numbered) (k : ℕ) (s : Known) (xs : List WideToken)
         → drop k ds ≡ numbered s.count xs → has_outer_equals ds k ≡ s.has_equals
         → over_next over s xs ≡ false
@@ -410,6 +421,7 @@ module _ (over : Known → WideToken → Bool) (last : Known → WideToken → B
         ∙ search ds 0 start (x ∷ xs) refl refl (begun x)
         ∙ to
 
+    -- the declarations of the rule
     declared : (fuel : ℕ) (xs : List WideToken)
         → declarations_from ends fuel xs ≡ map (numbered 0) (pieces_of fuel xs)
     unfolding declarations_from pieces_of
@@ -423,6 +435,7 @@ module _ (over : Known → WideToken → Bool) (last : Known → WideToken → B
         ∙ ap (λ l. numbered 0 (upto start ts) ∷ declarations_from ends fuel l) (drop_is start ts)
         ∙ ap (λ l. numbered 0 (upto start ts) ∷ l) (declared fuel (beyond start ts))
 
+    -- the pass over a level
     pub level_is : (level : List WideToken) → pass declaration_start level
         ≡ map of_part (flat_map naming_parts (declarations_from ends (length level) level))
     level_is level =

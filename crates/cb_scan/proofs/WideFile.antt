@@ -21,10 +21,11 @@ use Rattle.cb_scan.proofs.WideCuts.{next, over_next}
 use Rattle.cb_scan.proofs.WideDeclarations.{of_part}
 use Rattle.cb_scan.proofs.WideTails.{at_drop, drop_one}
 
--- where a declaration of the file is over before a token
+-- `static` or `extern`
 abbrev begins : WideToken → Bool
 begins x = is_static_word x.role || is_extern_word x.role
 
+-- a declaration of the file is over before a token
 abbrev over : Known → WideToken → Bool
 over s x = s.count == 0 && s.closes && begins x
 
@@ -32,7 +33,7 @@ none : (bs : List Body) (d : Declaration) → file_from bs d [] ≡ []
 unfolding file_from
 none bs d = refl
 
--- behind the end there is no token
+-- there is no token at the end
 at_none : (j : ℕ) (ds : List Numbered) → drop j ds ≡ []
     → numbered_at ds j ≡ (record { item = no_wide_token; count = 0 })
 at_none zero [] left = refl
@@ -41,7 +42,7 @@ at_none zero (d ∷ ds) left = ap (λ l. numbered_at l 0) left
 at_none (suc j) (d ∷ ds) left = at_none j ds left
 
 module _ (bs : List Body) where
-  -- where a token is its last
+  -- a token is its last
   abbrev ends_without_value : WideToken → Bool
   ends_without_value x = is_sign 125 x.role || is_block bs x
 
@@ -52,6 +53,8 @@ module _ (bs : List Body) where
   last s x = ended x (next s x).has_equals
 
   -- ---- the pass
+
+  -- after a token that leaves a declaration in this state; the token itself
   onward : Declaration → WideToken → List WideToken → List Given
   onward d x xs = file_from bs (next_in_file d (is_block bs x) x) xs
 

@@ -140,5 +140,5 @@ file_from bs d (x ∷ xs) =
     let e = before_in_file d x in
     if ends_part e x
     then (if may_name e then given e ∷ [] else [])
-        ++ file_from bs (next_in_file (next_part_of e x) (is_block bs x) x) xs
+    ++ file_from bs (next_in_file (next_part_of e x) (is_block bs x) x) xs
     else file_from bs (next_in_file (grown e (x ∷ xs) x) (is_block bs x) x) xs
