@@ -47,6 +47,7 @@ pub mod WideMembers
 pub mod WideNaming
 pub mod WideOpenings
 pub mod WideParts
+pub mod WideSeen
 pub mod WidePointers
 pub mod WideTails
 pub mod WideTokens
