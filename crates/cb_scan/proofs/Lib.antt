@@ -37,6 +37,7 @@ pub mod TypedefsWithin
 pub mod WideAhead
 pub mod WideAttributes
 pub mod WideCalls
+pub mod WideContents
 pub mod WideCuts
 pub mod WideDeclarations
 pub mod WideEnumerators
@@ -48,6 +49,7 @@ pub mod WideNaming
 pub mod WideOpenings
 pub mod WideParts
 pub mod WideSeen
+pub mod WideStack
 pub mod WidePointers
 pub mod WideTails
 pub mod WideTokens
