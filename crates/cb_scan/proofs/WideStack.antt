@@ -181,3 +181,230 @@ ahead_same p n around (x ∷ xs) less below rise =
     last_true : (a b : Bool) → b ≡ true → (a || b) ≡ true
     last_true true b is = refl
     last_true false b is = is
+
+-- ---- the levels that are open
+
+-- a `{` and the level that it makes
+pub record Open : Type 0 where
+  pub place : ℕ
+  pub level : Level
+
+abbrev pub places : List Open → List ℕ
+places os = map (λ (o : Open). o.place) os
+
+abbrev pub levels : List Open → List Level
+levels os = map (λ (o : Open). o.level) os
+
+-- what a level defines in some tokens
+abbrev pub content : List Placed → Open → List WideDef
+content ps o = level_defs o.level (level_inside o.place ps)
+
+-- the innermost goes on
+abbrev goes_on : List Open → List WideToken → WideToken → List Open
+goes_on [] xs x = []
+goes_on (o ∷ os) xs x = record { place = o.place; level = next_level o.level xs x } ∷ os
+
+-- the level that a token opens
+abbrev pub opened_here : Option Opening → List Open → WideToken → List Open
+opened_here o os x =
+    if x.counted then record { place = x.token.span.start; level = opened o (tag_inside (levels os)) } ∷ []
+    else []
+
+-- those that are open after it
+abbrev pub next_opens : Option Opening → List Open → List WideToken → WideToken → List Open
+next_opens o os xs x =
+    if x.counted then
+      record { place = x.token.span.start; level = opened o (tag_inside (levels os)) } ∷ goes_on os xs x
+    else (if is_sign 125 x.role then (if x.token.starts_line then [] else drop 1 os) else goes_on os xs x)
+
+-- the levels that are opened from a state on
+pub opens_from : Option Opening → List Open → List WideToken → List Open
+opens_from o os [] = []
+opens_from o os (x ∷ xs) =
+    opened_here o os x ++ opens_from (next_opening o x) (next_opens o os (x ∷ xs) x) xs
+
+goes_on_levels : (os : List Open) (xs : List WideToken) (x : WideToken)
+    → levels (goes_on os xs x) ≡ first_goes_on (levels os) xs x
+goes_on_levels [] xs x = refl
+goes_on_levels (o ∷ os) xs x = refl
+
+goes_on_places : (os : List Open) (xs : List WideToken) (x : WideToken) → places (goes_on os xs x) ≡ places os
+goes_on_places [] xs x = refl
+goes_on_places (o ∷ os) xs x = refl
+
+drop_map : {X Y : Type 0} (f : X → Y) (xs : List X) → map f (drop 1 xs) ≡ drop 1 (map f xs)
+drop_map f [] = refl
+drop_map f (x ∷ xs) = refl
+
+module _ (o : Option Opening) (os : List Open) (xs : List WideToken) (x : WideToken) where
+  next_are_levels : levels (next_opens o os xs x) ≡ next_levels o (levels os) xs x
+  next_are_levels =
+      elim (x.counted) as (λ b. levels (cond b (record {
+        place = x.token.span.start;
+        level = opened o (tag_inside (levels os));
+      } ∷ goes_on os xs x)
+      (if is_sign 125 x.role then (if x.token.starts_line then [] else drop 1 os) else goes_on os xs x))
+      ≡ cond b (opened o (tag_inside (levels os)) ∷ first_goes_on (levels os) xs x)
+      (if is_sign 125 x.role then closed_by x (levels os) else first_goes_on (levels os) xs x)) [
+        | true ↦ ap (λ l. opened o (tag_inside (levels os)) ∷ l) (goes_on_levels os xs x)
+        | false ↦ elim (is_sign 125 x.role) as (λ b.
+            levels (cond b (if x.token.starts_line then [] else drop 1 os) (goes_on os xs x))
+            ≡ cond b (closed_by x (levels os)) (first_goes_on (levels os) xs x)) [
+              | true ↦ elim (x.token.starts_line) as (λ b. levels (cond b [] (drop 1 os))
+                  ≡ cond b [] (drop 1 (levels os)))
+                  [ true ↦ refl | false ↦ drop_map (λ (o : Open). o.level) os ]
+              | false ↦ goes_on_levels os xs x
+            ]
+      ]
+
+  next_are_places : places (next_opens o os xs x) ≡ around_after x (places os)
+  next_are_places =
+      elim (x.counted) as (λ b. places (cond b (record {
+        place = x.token.span.start;
+        level = opened o (tag_inside (levels os));
+      } ∷ goes_on os xs x)
+      (if is_sign 125 x.role then (if x.token.starts_line then [] else drop 1 os) else goes_on os xs x))
+      ≡ cond b (x.token.span.start ∷ places os)
+      (if is_sign 125 x.role then (if x.token.starts_line then [] else drop 1 (places os)) else places os)) [
+        | true ↦ ap (λ l. x.token.span.start ∷ l) (goes_on_places os xs x)
+        | false ↦ elim (is_sign 125 x.role) as (λ b.
+            places (cond b (if x.token.starts_line then [] else drop 1 os) (goes_on os xs x))
+            ≡ cond b (if x.token.starts_line then [] else drop 1 (places os)) (places os)) [
+              | true ↦ elim (x.token.starts_line) as (λ b. places (cond b [] (drop 1 os))
+                  ≡ cond b [] (drop 1 (places os)))
+                  [ true ↦ refl | false ↦ drop_map (λ (o : Open). o.place) os ]
+              | false ↦ goes_on_places os xs x
+            ]
+      ]
+
+below_rest : (n : ℕ) (ps : List ℕ) → Below n ps → Below n (drop 1 ps)
+below_rest n [] is = tt
+below_rest n (p ∷ ps) is = below_more p n ps (omega (arith, is.0)) is.1
+
+-- those that are open after a token lie before what is to come
+below_after : (x : WideToken) (n : ℕ) (around : List ℕ) → n ≤ x.token.span.start → Below n around
+    → Below (suc x.token.span.start) (around_after x around)
+below_after x n around le below =
+    let more : Below (suc x.token.span.start) around = below_more n (suc x.token.span.start) around (omega arith) below in
+    elim (x.counted) as (λ b. Below (suc x.token.span.start) (cond b (x.token.span.start ∷ around)
+    (if is_sign 125 x.role then (if x.token.starts_line then [] else drop 1 around) else around))) [
+      | true ↦ (omega arith, below_more n x.token.span.start around le below)
+      | false ↦ elim (is_sign 125 x.role) as (λ b. Below (suc x.token.span.start)
+          (cond b (if x.token.starts_line then [] else drop 1 around) around)) [
+            | true ↦ elim (x.token.starts_line) as (λ b. Below (suc x.token.span.start) (cond b [] (drop 1 around)))
+                [ true ↦ tt | false ↦ below_rest (suc x.token.span.start) around more ]
+            | false ↦ more
+          ]
+    ]
+
+-- ---- what they define, by one token more
+
+-- nothing is in a level of no tokens
+empty_content : (os : List Open) → flat_map (content []) os ≡ []
+unfolding level_defs
+empty_content [] = refl
+empty_content (o ∷ os) = empty_content os
+
+-- the levels that are opened hold nothing of what was before
+same_later : (n : ℕ) (ps qs : List Placed) → ((p : ℕ) → n ≤ p → level_inside p ps ≡ level_inside p qs)
+    → (o : Option Opening) (os : List Open) (xs : List WideToken) → Rise n xs
+    → flat_map (content ps) (opens_from o os xs) ≡ flat_map (content qs) (opens_from o os xs)
+unfolding opens_from
+same_later n ps qs same o os [] rise = refl
+same_later n ps qs same o os (x ∷ xs) rise =
+    let le = rise.0 in
+    let later = opens_from (next_opening o x) (next_opens o os (x ∷ xs) x) xs in
+    let rest : flat_map (content ps) later ≡ flat_map (content qs) later =
+    same_later (suc x.token.span.start) ps qs (λ p above. same p (omega arith)) (next_opening o x)
+    (next_opens o os (x ∷ xs) x) xs rise.1.1 in
+    elim (x.counted) as (λ b. flat_map (content ps) (cond b (record {
+      place = x.token.span.start;
+      level = opened o (tag_inside (levels os));
+    } ∷ []) [] ++ later)
+    ≡ flat_map (content qs) (cond b (record {
+      place = x.token.span.start;
+      level = opened o (tag_inside (levels os));
+    } ∷ []) [] ++ later)) [
+      | true ↦ ap (λ l. level_defs (opened o (tag_inside (levels os))) l ++ flat_map (content ps) later)
+          (same x.token.span.start le)
+          ∙ ap (λ l. level_defs (opened o (tag_inside (levels os))) (level_inside x.token.span.start qs) ++ l) rest
+      | false ↦ rest
+    ]
+
+-- levels that are open before a place hold the same in two lists that agree there
+same_before : (n : ℕ) (ps qs : List Placed) → ((p : ℕ) → p < n → level_inside p ps ≡ level_inside p qs)
+    → (os : List Open) → Below n (places os) → flat_map (content ps) os ≡ flat_map (content qs) os
+same_before n ps qs same [] below = refl
+same_before n ps qs same (o ∷ os) below =
+    let less = below.0 in
+    ap (λ l. level_defs o.level l ++ flat_map (content ps) os) (same o.place below.0)
+    ∙ ap (λ l. content qs o ++ l)
+    (same_before o.place ps qs (λ p lower. same p (omega arith)) os below.1)
+
+-- a level that is closed holds nothing more
+closed_content : (n : ℕ) (around : List ℕ) (xs : List WideToken) → Rise n xs
+    → (os : List Open) → Below n (places os) → ((p : ℕ) → p < n → Apart p around)
+    → flat_map (content (placed around xs)) os ≡ []
+unfolding level_defs
+closed_content n around xs rise [] below apart = refl
+closed_content n around xs rise (o ∷ os) below apart =
+    let less = below.0 in
+    ap (λ l. level_defs o.level l ++ flat_map (content (placed around xs)) os)
+    (none_inside o.place n around xs less (apart o.place less) rise)
+    ∙ closed_content n around xs rise os (below_more o.place n (places os) (omega arith) below.1) apart
+
+-- ---- one token
+
+module _ (x : WideToken) (xs : List WideToken) (n : ℕ) (rise : Rise n (x ∷ xs)) where
+  -- a token of the innermost level that is no `}`
+  on_level : (os : List Open) → Below n (places os) → is_sign 125 x.role ≡ false
+      → flat_map (content (placed (places os) (x ∷ xs))) os
+      ≡ defined_by (levels os) (x ∷ xs) x
+      ++ flat_map (content (placed (around_after x (places os)) xs)) (goes_on os (x ∷ xs) x)
+  unfolding placed level_defs
+  on_level [] below stays = refl
+  on_level (o ∷ os) below stays =
+      let le = rise.0 in
+      let less = below.0 in
+      let around = places os in
+      let after = around_after x (o.place ∷ around) in
+      let ps = placed after xs in
+      let inner = level_inside o.place ps in
+      let later : List Placed → List WideDef = λ l. flat_map (content l) os in
+      let whole : List Placed = record { item = x; around = o.place ∷ around } ∷ ps in
+      let alike : seen (x ∷ inner) ≡ seen (x ∷ xs) = ahead in
+      ap (λ l. level_defs o.level l ++ later whole) (kept_inside o.place x around ps stays)
+      ∙ ap (λ l. (level_out o.level (x ∷ inner) x
+      ++ level_defs (next_level o.level (x ∷ inner) x) inner) ++ l)
+      (same_before o.place whole ps
+      (λ p lower. more_inside p x (o.place ∷ around) ps (not_equal_back o.place p lower)) os below.1)
+      ∙ ap (λ l. (l ++ level_defs (next_level o.level (x ∷ inner) x) inner) ++ later ps)
+      (out_seen o.level x inner ∙ ap (λ l. level_out o.level l x) alike ∙ sym (out_seen o.level x xs))
+      ∙ ap (λ l. (level_out o.level (x ∷ xs) x ++ level_defs l inner) ++ later ps)
+      (next_seen o.level x inner ∙ ap (λ l. next_level o.level l x) alike ∙ sym (next_seen o.level x xs))
+      ∙ append_assoc (level_out o.level (x ∷ xs) x)
+      (level_defs (next_level o.level (x ∷ xs) x) inner) (later ps)
+      ∙ ap (λ b. cond b [] (level_out o.level (x ∷ xs) x)
+      ++ (level_defs (next_level o.level (x ∷ xs) x) inner ++ later ps)) (sym stays)
+    where
+      ahead : seen (x ∷ level_inside o.place (placed (around_after x (o.place ∷ places os)) xs)) ≡ seen (x ∷ xs)
+      ahead =
+          let le = rise.0 in
+          let less = below.0 in
+          ⊎_elim
+          (λ is. ap (λ b. x ∷ cond b []
+          (up_to_mark (level_inside o.place (placed (around_after x (o.place ∷ places os)) xs)))) is
+          ∙ ap (λ b. x ∷ cond b [] (up_to_mark xs)) (sym is))
+          (λ isnt.
+          let uncounted : x.counted ≡ false = false_from_ne_true x.counted
+          (λ e. absurd (false≢true (sym isnt ∙ ap ends_attribute (rise.1.0 e)))) in
+          let same : around_after x (o.place ∷ places os) ≡ o.place ∷ places os =
+          ap (λ b. cond b (x.token.span.start ∷ o.place ∷ places os)
+          (cond (is_sign 125 x.role) (if x.token.starts_line then [] else places os) (o.place ∷ places os))) uncounted
+          ∙ ap (λ b. cond b (if x.token.starts_line then [] else places os) (o.place ∷ places os)) stays in
+          ap (λ b. x ∷ cond b []
+          (up_to_mark (level_inside o.place (placed (around_after x (o.place ∷ places os)) xs)))) isnt
+          ∙ ap (λ a. x ∷ up_to_mark (level_inside o.place (placed a xs))) same
+          ∙ ap (λ l. x ∷ l) (ahead_same o.place (suc x.token.span.start) (places os) xs (omega arith) below.1 rise.1.1)
+          ∙ ap (λ b. x ∷ cond b [] (up_to_mark xs)) (sym isnt))
+          (cases_Bool (ends_attribute x.role))
