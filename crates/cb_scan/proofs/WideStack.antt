@@ -408,3 +408,146 @@ module _ (x : WideToken) (xs : List WideToken) (n : ℕ) (rise : Rise n (x ∷ x
           ∙ ap (λ l. x ∷ l) (ahead_same o.place (suc x.token.span.start) (places os) xs (omega arith) below.1 rise.1.1)
           ∙ ap (λ b. x ∷ cond b [] (up_to_mark xs)) (sym isnt))
           (cases_Bool (ends_attribute x.role))
+
+  -- a `}`, which closes the innermost or all
+  at_close : (os : List Open) → Below n (places os) → x.counted ≡ false → is_sign 125 x.role ≡ true
+      → flat_map (content (placed (places os) (x ∷ xs))) os
+      ≡ flat_map (content (placed (around_after x (places os)) xs))
+      (if x.token.starts_line then [] else drop 1 os)
+  unfolding placed level_defs
+  at_close [] below uncounted closes =
+      elim (x.token.starts_line) as (λ b.
+      [] ≡ flat_map (content (placed (around_after x []) xs)) (cond b [] []))
+      [ true ↦ refl | false ↦ refl ]
+  at_close (o ∷ os) below uncounted closes =
+      let le = rise.0 in
+      let less = below.0 in
+      let around = places os in
+      let ps = placed (around_after x (o.place ∷ around)) xs in
+      let whole : List Placed = record { item = x; around = o.place ∷ around } ∷ ps in
+      let left : around_after x (o.place ∷ around) ≡ (if x.token.starts_line then [] else around) =
+      ap (λ b. cond b (x.token.span.start ∷ o.place ∷ around)
+      (cond (is_sign 125 x.role) (if x.token.starts_line then [] else around) (o.place ∷ around))) uncounted
+      ∙ ap (λ b. cond b (if x.token.starts_line then [] else around) (o.place ∷ around)) closes in
+      same_before n whole ps
+      (λ p lower. closed_inside p x (o.place ∷ around) ps (ap (λ b. b && true) closes)) (o ∷ os) below
+      ∙ ap (λ a. flat_map (content (placed a xs)) (o ∷ os)) left
+      ∙ elim (x.token.starts_line) as (λ b.
+      flat_map (content (placed (cond b [] around) xs)) (o ∷ os)
+      ≡ flat_map (content (placed (cond b [] around) xs)) (cond b [] os)) [
+        | true ↦ closed_content (suc x.token.span.start) [] xs rise.1.1 (o ∷ os)
+            (below_more n (suc x.token.span.start) (places (o ∷ os)) (omega arith) below) (λ p lower. tt)
+        | false ↦ ap (λ l. level_defs o.level l ++ flat_map (content (placed around xs)) os)
+            (none_inside o.place (suc x.token.span.start) around xs (omega arith)
+            (apart_above o.place o.place around (omega arith) below.1) rise.1.1)
+      ]
+      ∙ sym (ap (λ a. flat_map (content (placed a xs)) (if x.token.starts_line then [] else os)) left)
+
+  nothing_defined : (os : List Open) → is_sign 125 x.role ≡ true → defined_by (levels os) (x ∷ xs) x ≡ []
+  nothing_defined [] closes = refl
+  nothing_defined (o ∷ os) closes = ap (λ b. cond b [] (level_out o.level (x ∷ xs) x)) closes
+
+-- ---- all tokens
+
+-- what one token defines, and what it opens, in their places
+arranged : (d g m l c : List WideDef) → IsPermutation c ((m ++ g) ++ l)
+    → IsPermutation (d ++ c) ((d ++ g) ++ (m ++ l))
+arranged d g m l c is =
+    subst (IsPermutation (d ++ c)) (ap (λ z. d ++ z) (append_assoc g m l) ∙ sym (append_assoc d g (m ++ l)))
+    (IsPermutation-trans (d ++ c) (d ++ ((m ++ g) ++ l)) (d ++ ((g ++ m) ++ l))
+    (IsPermutation-append_right d c ((m ++ g) ++ l) is)
+    (IsPermutation-append_right d ((m ++ g) ++ l) ((g ++ m) ++ l)
+    (IsPermutation-append_left l (m ++ g) (g ++ m) (IsPermutation-append_comm m g))))
+
+pub stack_is : (o : Option Opening) (os : List Open) (n : ℕ) (xs : List WideToken)
+    → Rise n xs → Below n (places os)
+    → IsPermutation (contents_from o (levels os) xs)
+    (flat_map (content (placed (places os) xs)) os
+    ++ flat_map (content (placed (places os) xs)) (opens_from o os xs))
+unfolding placed contents_from opens_from
+stack_is o os n [] rise below =
+    subst (IsPermutation []) (sym (ap (λ l. l ++ []) (empty_content os))) (IsPermutation-refl [])
+stack_is o os n (x ∷ xs) rise below =
+    let le = rise.0 in
+    let o′ = next_opening o x in
+    let os′ = next_opens o os (x ∷ xs) x in
+    let after = around_after x (places os) in
+    let ps = placed after xs in
+    let whole : List Placed = record { item = x; around = places os } ∷ ps in
+    let here = defined_by (levels os) (x ∷ xs) x in
+    let rest = contents_from o′ (next_levels o (levels os) (x ∷ xs) x) xs in
+    let opens = opens_from o′ os′ xs in
+    let later = flat_map (content ps) opens in
+    let after_is : places os′ ≡ after = next_are_places o os (x ∷ xs) x in
+    let outside : (p : ℕ) → n ≤ p → level_inside p whole ≡ level_inside p ps =
+    λ p above. more_inside p x (places os) ps
+    (outside_of p (places os) (apart_above n p (places os) above below)) in
+    let later_is : flat_map (content whole) opens ≡ later =
+    same_later (suc x.token.span.start) whole ps (λ p above. outside p (omega arith)) o′ os′ xs rise.1.1 in
+    let known : IsPermutation rest (flat_map (content ps) os′ ++ later) =
+    subst (λ ls. IsPermutation (contents_from o′ ls xs) (flat_map (content ps) os′ ++ later))
+    (next_are_levels o os (x ∷ xs) x)
+    (subst (λ a. IsPermutation (contents_from o′ (levels os′) xs)
+    (flat_map (content (placed a xs)) os′ ++ flat_map (content (placed a xs)) opens)) after_is
+    (stack_is o′ os′ (suc x.token.span.start) xs rise.1.1
+    (subst (Below (suc x.token.span.start)) (sym after_is) (below_after x n (places os) le below)))) in
+    ⊎_elim
+    (λ counted.
+    let new : Open = record { place = x.token.span.start; level = opened o (tag_inside (levels os)) } in
+    let going = goes_on os (x ∷ xs) x in
+    let other = if is_sign 125 x.role then (if x.token.starts_line then [] else drop 1 os) else going in
+    let os_are : os′ ≡ new ∷ going = ap (λ b. cond b (new ∷ going) other) counted in
+    subst (λ l. IsPermutation (here ++ rest) (l ++ flat_map (content whole) (opened_here o os x ++ opens)))
+    (sym (on_level x xs n rise os below (counted_opens x rise.1.0 counted)))
+    (subst (λ h. IsPermutation (here ++ rest)
+    ((here ++ flat_map (content ps) going) ++ flat_map (content whole) (h ++ opens)))
+    (sym (ap (λ b. cond b (new ∷ []) []) counted))
+    (subst (λ l. IsPermutation (here ++ rest)
+    ((here ++ flat_map (content ps) going) ++ (level_defs new.level l ++ flat_map (content whole) opens)))
+    (sym (outside x.token.span.start le))
+    (subst (λ l. IsPermutation (here ++ rest)
+    ((here ++ flat_map (content ps) going) ++ (content ps new ++ l))) (sym later_is)
+    (arranged here (flat_map (content ps) going) (content ps new) later rest
+    (subst (λ l. IsPermutation rest (flat_map (content ps) l ++ later)) os_are known))))))
+    (λ uncounted. ⊎_elim
+    (λ closes.
+    let closed_ = if x.token.starts_line then [] else drop 1 os in
+    let os_are : os′ ≡ closed_ =
+    ap (λ b. cond b (record {
+      place = x.token.span.start;
+      level = opened o (tag_inside (levels os));
+    } ∷ goes_on os (x ∷ xs) x) (cond (is_sign 125 x.role) closed_ (goes_on os (x ∷ xs) x))) uncounted
+    ∙ ap (λ b. cond b closed_ (goes_on os (x ∷ xs) x)) closes in
+    subst (λ l. IsPermutation (here ++ rest) (l ++ flat_map (content whole) (opened_here o os x ++ opens)))
+    (sym (at_close x xs n rise os below uncounted closes))
+    (subst (λ h. IsPermutation (here ++ rest)
+    (flat_map (content ps) closed_ ++ flat_map (content whole) (h ++ opens)))
+    (sym (ap (λ b. cond b (record {
+      place = x.token.span.start;
+      level = opened o (tag_inside (levels os));
+    } ∷ []) []) uncounted))
+    (subst (λ l. IsPermutation (here ++ rest) (flat_map (content ps) closed_ ++ l)) (sym later_is)
+    (subst (λ h. IsPermutation (h ++ rest) (flat_map (content ps) closed_ ++ later))
+    (sym (nothing_defined x xs n rise os closes))
+    (subst (λ l. IsPermutation rest (flat_map (content ps) l ++ later)) os_are known)))))
+    (λ stays.
+    let going = goes_on os (x ∷ xs) x in
+    let os_are : os′ ≡ going =
+    ap (λ b. cond b (record {
+      place = x.token.span.start;
+      level = opened o (tag_inside (levels os));
+    } ∷ going) (cond (is_sign 125 x.role) (if x.token.starts_line then [] else drop 1 os) going)) uncounted
+    ∙ ap (λ b. cond b (if x.token.starts_line then [] else drop 1 os) going) stays in
+    subst (λ l. IsPermutation (here ++ rest) (l ++ flat_map (content whole) (opened_here o os x ++ opens)))
+    (sym (on_level x xs n rise os below stays))
+    (subst (λ h. IsPermutation (here ++ rest)
+    ((here ++ flat_map (content ps) going) ++ flat_map (content whole) (h ++ opens)))
+    (sym (ap (λ b. cond b (record {
+      place = x.token.span.start;
+      level = opened o (tag_inside (levels os));
+    } ∷ []) []) uncounted))
+    (subst (λ l. IsPermutation (here ++ rest) ((here ++ flat_map (content ps) going) ++ l)) (sym later_is)
+    (arranged here (flat_map (content ps) going) [] later rest
+    (subst (λ l. IsPermutation rest (flat_map (content ps) l ++ later)) os_are known)))))
+    (cases_Bool (is_sign 125 x.role)))
+    (cases_Bool x.counted)
