@@ -36,6 +36,7 @@ pub mod TypedefLemmas
 pub mod TypedefsWithin
 pub mod WideAhead
 pub mod WideAttributes
+pub mod WideBodies
 pub mod WideCalls
 pub mod WideContents
 pub mod WideCuts

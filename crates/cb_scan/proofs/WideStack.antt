@@ -200,7 +200,7 @@ abbrev pub content : List Placed → Open → List WideDef
 content ps o = level_defs o.level (level_inside o.place ps)
 
 -- the innermost goes on
-abbrev goes_on : List Open → List WideToken → WideToken → List Open
+abbrev pub goes_on : List Open → List WideToken → WideToken → List Open
 goes_on [] xs x = []
 goes_on (o ∷ os) xs x = record { place = o.place; level = next_level o.level xs x } ∷ os
 
@@ -237,7 +237,7 @@ drop_map f [] = refl
 drop_map f (x ∷ xs) = refl
 
 module _ (o : Option Opening) (os : List Open) (xs : List WideToken) (x : WideToken) where
-  next_are_levels : levels (next_opens o os xs x) ≡ next_levels o (levels os) xs x
+  pub next_are_levels : levels (next_opens o os xs x) ≡ next_levels o (levels os) xs x
   next_are_levels =
       elim (x.counted) as (λ b. levels (cond b (record {
         place = x.token.span.start;
@@ -257,7 +257,7 @@ module _ (o : Option Opening) (os : List Open) (xs : List WideToken) (x : WideTo
             ]
       ]
 
-  next_are_places : places (next_opens o os xs x) ≡ around_after x (places os)
+  pub next_are_places : places (next_opens o os xs x) ≡ around_after x (places os)
   next_are_places =
       elim (x.counted) as (λ b. places (cond b (record {
         place = x.token.span.start;
