@@ -4,6 +4,7 @@ use Rattle.std.proofs.Common.{refl, sym, ap, subst, arith, add-one, append_assoc
 use Rattle.std.proofs.Common.{Option, Some, None}
 use Rattle.std.proofs.lemmas.Bool.{cases_Bool, eq-eqb, eqb-true, false_from_ne_true}
 use Rattle.std.proofs.lemmas.List.{append-nil, reverse-append}
+use Rattle.std.proofs.lemmas.List.Concat.{flat_map-append}
 use Rattle.std.proofs.lemmas.List.Folds.{find-append}
 use Rattle.std.specs.Prelude.{◌==◌, cond, find, reverse, slice_index_or, take, if◌then◌else◌}
 use Rattle.std.specs.List.{flat_map, range_with_len}
@@ -13,6 +14,7 @@ use Rattle.cb_scan.specs.declared.facts.Kind.{Kind}
 use Rattle.cb_scan.specs.declared.lex.token.Token.{Token}
 use Rattle.cb_scan.specs.declared.rules.wide.def.Tag.{Tag}
 use Rattle.cb_scan.specs.declared.rules.wide.def.WideDef.{WideDef}
+use Rattle.cb_scan.specs.declared.rules.wide.def.WideKind.TheVariants as wide
 use Rattle.cb_scan.specs.declared.rules.wide.level.Level.{Level}
 use Rattle.cb_scan.specs.declared.rules.wide.level.Level.TheVariants.{Block, Enumerators, Members}
 use Rattle.cb_scan.specs.declared.rules.wide.opening.Opening.{Opening}
@@ -20,8 +22,11 @@ use Rattle.cb_scan.specs.declared.rules.wide.token.WideToken.{WideToken}
 use Rattle.cb_scan.specs.rules.wide.Bodies.{Body, before, bodies, body_after, body_at, body_in, first_kind}
 use Rattle.cb_scan.specs.rules.wide.Bodies.{first_token, is_enumeration, names_first, placed_at, tag_around}
 use Rattle.cb_scan.specs.rules.wide.Bodies as rules
-use Rattle.cb_scan.specs.rules.wide.Kinds.{content_defs}
+use Rattle.cb_scan.specs.rules.wide.Bodies.{enumerators}
+use Rattle.cb_scan.specs.rules.wide.Declarations.{body_declarations, naming_parts}
+use Rattle.cb_scan.specs.rules.wide.Kinds.{content_defs, def_in, enumerator_defs, member_defs, member_of}
 use Rattle.cb_scan.specs.rules.wide.Levels.{Placed, around_after, level_inside, placed}
+use Rattle.cb_scan.specs.rules.wide.Words.{is_sign}
 use Rattle.cb_scan.specs.steps.wide.Contents.{contents_from, level_defs, next_level, tag_inside}
 use Rattle.cb_scan.specs.steps.wide.Declarations.{declaration_start}
 use Rattle.cb_scan.specs.steps.wide.Enumerators.{enumeration_start}
@@ -30,6 +35,7 @@ use Rattle.cb_scan.specs.steps.wide.Openings as openings
 use Rattle.cb_scan.specs.steps.wide.Openings.{first, next_opening, opening_after, the_opening}
 use Rattle.cb_scan.proofs.WideContents.{enumerators_of_level, members_of_level}
 use Rattle.cb_scan.proofs.WideOpenings.{opening_next}
+use Rattle.cb_scan.proofs.WideStack.{goes_on_places}
 use Rattle.cb_scan.proofs.WideStack.{Below, Open, Rise, content, goes_on, levels, next_opens, opened_here}
 use Rattle.cb_scan.proofs.WideStack.{next_are_places, opens_from, places, stack_is}
 
@@ -208,3 +214,125 @@ tag_opened bs around p names (Some k) is found =
     ]
     ∙ ap (λ o. option_map_or (λ (b : Body). if is_enumeration b.kind then None
     else option_map_or (λ tag. Some tag) (rules.tag_of b) (tag_around bs p.around)) o None) (sym found)
+
+-- ---- what a body defines
+
+block_defs : (xs : List WideToken) → level_defs Block xs ≡ []
+unfolding level_defs
+block_defs [] = refl
+block_defs (x ∷ xs) = block_defs xs
+
+module _ (bs : List Body) (ps : List Placed) (around : Option Tag) (p : Placed) (names : List WideToken)
+    (is : around ≡ tag_around bs p.around) where
+  abbrev inner : List WideToken
+  inner = level_inside p.item.token.span.start ps
+
+  new_content : (k : Option Kind) → body_in bs p.item.token.span.start ≡ body_of_kind p names k
+      → level_defs (opened (option_map (λ kind. the_opening kind (first names)) k) around) inner
+      ≡ flat_map (content_defs bs ps) (rules.body_of p names k)
+  new_content None found = block_defs inner
+  new_content (Some k) found =
+      let own = openings.tag_of (the_opening k (first names)) in
+      let body : Body = record {
+        kind = k;
+        tag = first_token names;
+        place = p.item.token.span.start;
+        around = p.around;
+      } in
+      let made : Bool → Level = λ b.
+      cond b (Enumerators own enumeration_start) (Members (or_around own around) declaration_start) in
+      let said : Bool → List WideDef = λ b. cond b (enumerator_defs ps body) (member_defs bs ps body) in
+      ⊎_elim
+      (λ enum.
+      ap (λ b. level_defs (made b) inner) enum
+      ∙ enumerators_of_level own inner
+      ∙ ap (λ t. map (def_in wide.Enumerator t) (enumerators inner)) (first_is names k)
+      ∙ sym (append-nil (enumerator_defs ps body))
+      ∙ sym (ap (λ b. said b ++ []) enum))
+      (λ other.
+      let tag : or_around own around ≡ tag_around bs (p.item.token.span.start ∷ p.around) =
+      sym (ap (λ b. member_tag (made b)) other) ∙ tag_opened bs around p names (Some k) is found in
+      ap (λ b. level_defs (made b) inner) other
+      ∙ members_of_level (or_around own around) inner
+      ∙ ap (λ t. flat_map (member_of t) (flat_map naming_parts (body_declarations inner))) tag
+      ∙ sym (append-nil (member_defs bs ps body))
+      ∙ sym (ap (λ b. said b ++ []) other))
+      (cases_Bool (is_enumeration k))
+
+-- ---- all bodies
+
+module _ (bs : List Body) (ps : List Placed) where
+  contents_are : (past : List Body) (before : List WideToken) (os : List Open) (n : ℕ) (xs : List WideToken)
+      → bs ≡ past ++ bodies_from before (placed (places os) xs)
+      → ((place : ℕ) → n ≤ place → body_in past place ≡ None) → Rise n xs → Tagged bs os
+      → flat_map (content ps) (opens_from (opening_after before) os xs)
+      ≡ flat_map (content_defs bs ps) (bodies_from before (placed (places os) xs))
+  unfolding bodies_from placed opens_from
+  contents_are past before os n [] all none rise tagged = refl
+  contents_are past before os n (x ∷ xs) all none rise tagged =
+      let le = rise.0 in
+      let o = opening_after before in
+      let os′ = next_opens o os (x ∷ xs) x in
+      let after = around_after x (places os) in
+      let p : Placed = record { item = x; around = places os } in
+      let here = body_here before p in
+      let future = bodies_from (x ∷ before) (placed after xs) in
+      let after_is : places os′ ≡ after = next_are_places o os (x ∷ xs) x in
+      let names = names_first before in
+      let kind = first_kind (drop (length names) before) in
+      let inside = inside_is bs os tagged in
+      let found : x.counted ≡ true → body_in bs x.token.span.start ≡ body_of_kind p names kind = λ counted.
+      ap (λ l. body_in l x.token.span.start) all
+      ∙ find-append (λ (b : Body). b.place == x.token.span.start) past (here ++ future)
+      ∙ ap (λ f. option_or f (body_in (here ++ future) x.token.span.start)) (none x.token.span.start le)
+      ∙ ap (λ b. body_in (cond b (body_after p before) [] ++ future) x.token.span.start) counted
+      ∙ by_place p names kind future
+      (none_to_come x.token.span.start (suc x.token.span.start) (x ∷ before) after xs (omega arith) rise.1.1) in
+      let new : Open = record { place = x.token.span.start; level = opened o (tag_inside (levels os)) } in
+      let tagged′ : Tagged bs os′ = elim (x.counted) as (λ b.
+      (b ≡ true → body_in bs x.token.span.start ≡ body_of_kind p names kind)
+      → Tagged bs (cond b (new ∷ goes_on os (x ∷ xs) x)
+      (if is_sign 125 x.role then (if x.token.starts_line then [] else drop 1 os) else goes_on os (x ∷ xs) x))) [
+        | true ↦ λ f. (
+            tag_opened bs (tag_inside (levels os)) p names kind inside (f refl)
+                ∙ ap (λ a. tag_around bs (x.token.span.start ∷ a)) (sym (goes_on_places os (x ∷ xs) x)),
+            tagged_on bs os (x ∷ xs) x tagged,
+          )
+        | false ↦ λ f. elim (is_sign 125 x.role) as (λ b. Tagged bs
+            (cond b (if x.token.starts_line then [] else drop 1 os) (goes_on os (x ∷ xs) x))) [
+              | true ↦ elim (x.token.starts_line) as (λ b. Tagged bs (cond b [] (drop 1 os)))
+                  [ true ↦ tt | false ↦ tagged_rest bs os tagged ]
+              | false ↦ tagged_on bs os (x ∷ xs) x tagged
+            ]
+      ] found in
+      let rest : flat_map (content ps) (opens_from (next_opening o x) os′ xs)
+      ≡ flat_map (content_defs bs ps) future =
+      ap (λ z. flat_map (content ps) (opens_from z os′ xs)) (opening_next x before)
+      ∙ contents_are (past ++ here) (x ∷ before) os′ (suc x.token.span.start) xs
+      (all ∙ sym (append_assoc past here future)
+      ∙ ap (λ a. (past ++ here) ++ bodies_from (x ∷ before) (placed a xs)) (sym after_is))
+      (λ place above. none_of_both place past here (none place (omega arith))
+      (here_not_at before p place (unequal x.token.span.start place (omega arith))))
+      rise.1.1 tagged′
+      ∙ ap (λ a. flat_map (content_defs bs ps) (bodies_from (x ∷ before) (placed a xs))) after_is in
+      elim (x.counted) as (λ b. (b ≡ true → body_in bs x.token.span.start ≡ body_of_kind p names kind)
+      → flat_map (content ps) (cond b (new ∷ []) [] ++ opens_from (next_opening o x) os′ xs)
+      ≡ flat_map (content_defs bs ps) (cond b (body_after p before) [] ++ future)) [
+        | true ↦ λ f.
+            ap (λ l. l ++ flat_map (content ps) (opens_from (next_opening o x) os′ xs))
+            (new_content bs ps (tag_inside (levels os)) p names inside kind (f refl))
+            ∙ ap (λ l. flat_map (content_defs bs ps) (body_after p before) ++ l) rest
+            ∙ sym (flat_map-append (content_defs bs ps) (body_after p before) future)
+        | false ↦ λ f. rest
+      ] found
+
+-- ---- the pass over all levels
+pub contents_of_all : (xs : List WideToken) → Rise 0 xs
+    → IsPermutation (contents_from None [] xs)
+    (flat_map (content_defs (bodies (placed [] xs)) (placed [] xs)) (bodies (placed [] xs)))
+contents_of_all xs rise =
+    let ps = placed [] xs in
+    subst (IsPermutation (contents_from None [] xs))
+    (contents_are (bodies ps) ps [] [] [] 0 xs (bodies_are ps) (λ place above. refl) rise tt
+    ∙ ap (flat_map (content_defs (bodies ps) ps)) (sym (bodies_are ps)))
+    (stack_is None [] 0 xs rise tt)

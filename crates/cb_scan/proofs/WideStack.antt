@@ -218,7 +218,7 @@ next_opens o os xs x =
     else (if is_sign 125 x.role then (if x.token.starts_line then [] else drop 1 os) else goes_on os xs x)
 
 -- the levels that are opened from a state on
-pub opens_from : Option Opening → List Open → List WideToken → List Open
+unfoldable pub opens_from : Option Opening → List Open → List WideToken → List Open
 opens_from o os [] = []
 opens_from o os (x ∷ xs) =
     opened_here o os x ++ opens_from (next_opening o x) (next_opens o os (x ∷ xs) x) xs
@@ -228,7 +228,7 @@ goes_on_levels : (os : List Open) (xs : List WideToken) (x : WideToken)
 goes_on_levels [] xs x = refl
 goes_on_levels (o ∷ os) xs x = refl
 
-goes_on_places : (os : List Open) (xs : List WideToken) (x : WideToken) → places (goes_on os xs x) ≡ places os
+pub goes_on_places : (os : List Open) (xs : List WideToken) (x : WideToken) → places (goes_on os xs x) ≡ places os
 goes_on_places [] xs x = refl
 goes_on_places (o ∷ os) xs x = refl
 
