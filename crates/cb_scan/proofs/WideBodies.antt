@@ -6,10 +6,10 @@ use Rattle.std.proofs.lemmas.Bool.{cases_Bool, eq-eqb, eqb-true, false_from_ne_t
 use Rattle.std.proofs.lemmas.List.{append-nil, reverse-append}
 use Rattle.std.proofs.lemmas.List.Concat.{flat_map-append}
 use Rattle.std.proofs.lemmas.List.Folds.{find-append}
-use Rattle.std.specs.Prelude.{◌==◌, cond, find, reverse, slice_index_or, take, if◌then◌else◌}
+use Rattle.std.specs.Prelude.{◌||◌, ◌==◌, cond, find, reverse, slice_index_or, take, if◌then◌else◌}
 use Rattle.std.specs.List.{flat_map, range_with_len}
 use Rattle.std.specs.List.Sorted.{IsPermutation}
-use Rattle.std.specs.Option.{option_map, option_map_or, option_or}
+use Rattle.std.specs.Option.{is_some, option_map, option_map_or, option_or}
 use Rattle.cb_scan.specs.declared.facts.Kind.{Kind}
 use Rattle.cb_scan.specs.declared.lex.token.Token.{Token}
 use Rattle.cb_scan.specs.declared.rules.wide.def.Tag.{Tag}
@@ -22,9 +22,10 @@ use Rattle.cb_scan.specs.declared.rules.wide.token.WideToken.{WideToken}
 use Rattle.cb_scan.specs.rules.wide.Bodies.{Body, before, bodies, body_after, body_at, body_in, first_kind}
 use Rattle.cb_scan.specs.rules.wide.Bodies.{first_token, is_enumeration, names_first, placed_at, tag_around}
 use Rattle.cb_scan.specs.rules.wide.Bodies as rules
-use Rattle.cb_scan.specs.rules.wide.Bodies.{enumerators}
+use Rattle.cb_scan.specs.rules.wide.Bodies.{enumerators, opens_body}
 use Rattle.cb_scan.specs.rules.wide.Declarations.{body_declarations, naming_parts}
 use Rattle.cb_scan.specs.rules.wide.Kinds.{content_defs, def_in, enumerator_defs, member_defs, member_of}
+use Rattle.cb_scan.specs.rules.wide.Kinds.{tag_defs}
 use Rattle.cb_scan.specs.rules.wide.Levels.{Placed, around_after, level_inside, placed}
 use Rattle.cb_scan.specs.rules.wide.Words.{is_sign}
 use Rattle.cb_scan.specs.steps.wide.Contents.{contents_from, level_defs, next_level, tag_inside}
@@ -32,7 +33,8 @@ use Rattle.cb_scan.specs.steps.wide.Declarations.{declaration_start}
 use Rattle.cb_scan.specs.steps.wide.Enumerators.{enumeration_start}
 use Rattle.cb_scan.specs.steps.wide.Levels.{member_tag, opened, or_around}
 use Rattle.cb_scan.specs.steps.wide.Openings as openings
-use Rattle.cb_scan.specs.steps.wide.Openings.{first, next_opening, opening_after, the_opening}
+use Rattle.cb_scan.specs.steps.wide.Openings.{first, next_opening, opening_after, opening_tag, tags_from}
+use Rattle.cb_scan.specs.steps.wide.Openings.{the_opening}
 use Rattle.cb_scan.proofs.WideContents.{enumerators_of_level, members_of_level}
 use Rattle.cb_scan.proofs.WideOpenings.{opening_next}
 use Rattle.cb_scan.proofs.WideStack.{goes_on_places}
@@ -215,6 +217,28 @@ tag_opened bs around p names (Some k) is found =
     ∙ ap (λ o. option_map_or (λ (b : Body). if is_enumeration b.kind then None
     else option_map_or (λ tag. Some tag) (rules.tag_of b) (tag_around bs p.around)) o None) (sym found)
 
+-- the body that a token opens is the one in its place
+pub found_here : (bs past : List Body) (before : List WideToken) (around : List ℕ) (n : ℕ) (x : WideToken)
+    (xs : List WideToken)
+    → bs ≡ past ++ (body_here before (record { item = x; around = around })
+    ++ bodies_from (x ∷ before) (placed (around_after x around) xs))
+    → ((place : ℕ) → n ≤ place → body_in past place ≡ None) → Rise n (x ∷ xs) → x.counted ≡ true
+    → body_in bs x.token.span.start ≡ body_opened before (record { item = x; around = around })
+found_here bs past before around n x xs all none rise counted =
+    let le = rise.0 in
+    let p : Placed = record { item = x; around = around } in
+    let after = around_after x around in
+    let future = bodies_from (x ∷ before) (placed after xs) in
+    let names = names_first before in
+    let kind = first_kind (drop (length names) before) in
+    ap (λ l. body_in l x.token.span.start) all
+    ∙ find-append (λ (b : Body). b.place == x.token.span.start) past (body_here before p ++ future)
+    ∙ ap (λ f. option_or f (body_in (body_here before p ++ future) x.token.span.start))
+    (none x.token.span.start le)
+    ∙ ap (λ b. body_in (cond b (body_after p before) [] ++ future) x.token.span.start) counted
+    ∙ by_place p names kind future
+    (none_to_come x.token.span.start (suc x.token.span.start) (x ∷ before) after xs (omega arith) rise.1.1)
+
 -- ---- what a body defines
 
 block_defs : (xs : List WideToken) → level_defs Block xs ≡ []
@@ -281,13 +305,8 @@ module _ (bs : List Body) (ps : List Placed) where
       let names = names_first before in
       let kind = first_kind (drop (length names) before) in
       let inside = inside_is bs os tagged in
-      let found : x.counted ≡ true → body_in bs x.token.span.start ≡ body_of_kind p names kind = λ counted.
-      ap (λ l. body_in l x.token.span.start) all
-      ∙ find-append (λ (b : Body). b.place == x.token.span.start) past (here ++ future)
-      ∙ ap (λ f. option_or f (body_in (here ++ future) x.token.span.start)) (none x.token.span.start le)
-      ∙ ap (λ b. body_in (cond b (body_after p before) [] ++ future) x.token.span.start) counted
-      ∙ by_place p names kind future
-      (none_to_come x.token.span.start (suc x.token.span.start) (x ∷ before) after xs (omega arith) rise.1.1) in
+      let found : x.counted ≡ true → body_in bs x.token.span.start ≡ body_opened before p =
+      found_here bs past before (places os) n x xs all none rise in
       let new : Open = record { place = x.token.span.start; level = opened o (tag_inside (levels os)) } in
       let tagged′ : Tagged bs os′ = elim (x.counted) as (λ b.
       (b ≡ true → body_in bs x.token.span.start ≡ body_of_kind p names kind)
@@ -325,6 +344,87 @@ module _ (bs : List Body) (ps : List Placed) where
             ∙ sym (flat_map-append (content_defs bs ps) (body_after p before) future)
         | false ↦ λ f. rest
       ] found
+
+-- ---- what a `{` opens
+
+-- the pass and the rules agree on which braces open bodies, from a state on
+abbrev pub Opens : List Body → Option Opening → List WideToken → Type 0
+Opens bs o [] = Unit {0}
+Opens bs o (x ∷ xs) =
+    (x.counted ≡ true → opens_body bs x.token.span.start ≡ is_some o) × Opens bs (next_opening o x) xs
+
+any_is_found : (bs : List Body) (place : ℕ) → opens_body bs place ≡ is_some (body_in bs place)
+any_is_found [] place = refl
+any_is_found (b ∷ bs) place =
+    elim (b.place == place) as (λ e. (e || opens_body bs place) ≡ is_some (cond e (Some b) (body_in bs place)))
+    [ true ↦ refl | false ↦ any_is_found bs place ]
+
+some_kind : (p : Placed) (names : List WideToken) (k : Option Kind) → is_some (body_of_kind p names k)
+    ≡ is_some (option_map (λ kind. the_opening kind (first names)) k)
+some_kind p names None = refl
+some_kind p names (Some k) = refl
+
+module _ (bs : List Body) where
+  opens_are : (past : List Body) (before : List WideToken) (around : List ℕ) (n : ℕ) (xs : List WideToken)
+      → bs ≡ past ++ bodies_from before (placed around xs)
+      → ((place : ℕ) → n ≤ place → body_in past place ≡ None) → Rise n xs
+      → Opens bs (opening_after before) xs
+  unfolding bodies_from placed
+  opens_are past before around n [] all none rise = tt
+  opens_are past before around n (x ∷ xs) all none rise =
+      let le = rise.0 in
+      let p : Placed = record { item = x; around = around } in
+      let after = around_after x around in
+      let here = body_here before p in
+      let names = names_first before in
+      (
+        (λ counted. any_is_found bs x.token.span.start
+            ∙ ap is_some (found_here bs past before around n x xs all none rise counted)
+            ∙ some_kind p names (first_kind (drop (length names) before))),
+        subst (λ o. Opens bs o xs) (sym (opening_next x before))
+            (opens_are (past ++ here) (x ∷ before) after (suc x.token.span.start) xs
+            (all ∙ sym (append_assoc past here (bodies_from (x ∷ before) (placed after xs))))
+            (λ place above. none_of_both place past here (none place (omega arith))
+            (here_not_at before p place (unequal x.token.span.start place (omega arith))))
+            rise.1.1),
+      )
+
+pub opens_of_all : (xs : List WideToken) → Rise 0 xs → Opens (bodies (placed [] xs)) None xs
+opens_of_all xs rise =
+    let ps = placed [] xs in
+    opens_are (bodies ps) [] [] [] 0 xs (bodies_are ps) (λ place above. refl) rise
+
+-- ---- tags
+tag_here : (p : Placed) (names : List WideToken) (k : Option Kind)
+    → flat_map tag_defs (rules.body_of p names k)
+    ≡ opening_tag (option_map (λ kind. the_opening kind (first names)) k)
+tag_here p names None = refl
+tag_here p [] (Some k) = refl
+tag_here p (x ∷ names) (Some k) = refl
+
+tags_are : (before : List WideToken) (around : List ℕ) (xs : List WideToken)
+    → flat_map tag_defs (bodies_from before (placed around xs)) ≡ tags_from (opening_after before) xs
+unfolding bodies_from placed tags_from
+tags_are before around [] = refl
+tags_are before around (x ∷ xs) =
+    let p : Placed = record { item = x; around = around } in
+    let names = names_first before in
+    let future = bodies_from (x ∷ before) (placed (around_after x around) xs) in
+    let rest : flat_map tag_defs future ≡ tags_from (next_opening (opening_after before) x) xs =
+    tags_are (x ∷ before) (around_after x around) xs
+    ∙ ap (λ o. tags_from o xs) (sym (opening_next x before)) in
+    elim (x.counted) as (λ b. flat_map tag_defs (cond b (body_after p before) [] ++ future)
+    ≡ cond b (opening_tag (opening_after before)) []
+    ++ tags_from (next_opening (opening_after before) x) xs) [
+      | true ↦ flat_map-append tag_defs (body_after p before) future
+          ∙ ap (λ l. l ++ flat_map tag_defs future) (tag_here p names (first_kind (drop (length names) before)))
+          ∙ ap (λ l. opening_tag (opening_after before) ++ l) rest
+      | false ↦ rest
+    ]
+
+pub tags_of_all : (xs : List WideToken)
+    → flat_map tag_defs (bodies (placed [] xs)) ≡ tags_from None xs
+tags_of_all xs = ap (flat_map tag_defs) (bodies_are (placed [] xs)) ∙ tags_are [] [] xs
 
 -- ---- the pass over all levels
 pub contents_of_all : (xs : List WideToken) → Rise 0 xs
