@@ -48,6 +48,7 @@ pub mod WideNaming
 pub mod WideOpenings
 pub mod WideParts
 pub mod WidePointers
+pub mod WideRuns
 pub mod WideTails
 pub mod WideTokens
 pub mod WithinLemmas

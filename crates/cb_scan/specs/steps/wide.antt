@@ -4,6 +4,7 @@ pub mod Attributes
 pub mod Called
 pub mod Declarations
 pub mod Enumerators
+pub mod Functions
 pub mod Heads
 pub mod Levels
 pub mod Openings
