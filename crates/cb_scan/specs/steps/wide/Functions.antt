@@ -30,8 +30,8 @@ start = record { depth = 0; head = empty_head; parts = head_start; old = None }
 -- ---- the function that a `{` opens
 
 -- the head is that of a function
-abbrev pub may_define : Head → Bool
-may_define h = not h.begins_with_typedef && not h.has_equals && may_end h.last
+abbrev pub defines : Head → Bool
+defines h = not h.begins_with_typedef && not h.has_equals && may_end h.last
 
 -- the name that the head defines: that of a prototype, or else the first called name
 abbrev pub head_name : WideMachine → Option Token
@@ -40,7 +40,7 @@ head_name m = option_or (option_map (λ (x : WideToken). x.token) (declared m.pa
 -- the function that the head defines
 abbrev pub defined : WideMachine → Option Def
 defined m =
-    if may_define m.head then option_map (def_of m.head.has_static) (head_name m) else None
+    if defines m.head then option_map (def_of m.head.has_static) (head_name m) else None
 
 -- the function that a `{` opens here: that of the head, or where it is empty one in the old style
 abbrev pub function_here : WideMachine → Option Def
