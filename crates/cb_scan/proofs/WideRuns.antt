@@ -1,8 +1,7 @@
 -- Attributes in tokens up to a `;` or a brace, whatever is beyond.
 use Rattle.std.proofs.Common.{◌≡◌, ◌∙◌, ℕ, zero, suc, ◌≤◌, Bool, true, false, List, [], ◌∷◌, ◌++◌}
-use Rattle.std.proofs.Common.{refl, sym, ap, arith, length}
-use Rattle.std.proofs.lemmas.Bool.{false≢true}
-use Rattle.std.proofs.Math.Bool.{and-false, or-false}
+use Rattle.std.proofs.Common.{refl, sym, ap, arith, length, ⊎_elim}
+use Rattle.std.proofs.lemmas.Bool.{cases_Bool, false≢true}
 use Rattle.std.specs.Prelude.{◌&&◌, ◌||◌, ◌==◌, ◌-◌, if◌then◌else◌}
 use Rattle.std.specs.List.{AllByRecursion}
 use Rattle.cb_scan.specs.declared.rules.wide.role.WideRole.{WideRole}
@@ -14,8 +13,25 @@ use Rattle.cb_scan.specs.rules.wide.Attributes.{ends_attribute, outside_attribut
 use Rattle.cb_scan.specs.rules.wide.Attributes.{without_attributes}
 use Rattle.cb_scan.specs.rules.wide.Words.{is_attribute_word, is_literal, is_sign, is_wide_word}
 use Rattle.cb_scan.proofs.WideAttributes.{end_begins_none}
+use Rattle.cb_scan.proofs.WideTails.{sign_is}
 
--- what ends an attribute is no literal
+-- what ends an attribute is no other byte
+pub end_is_no_sign : (b : ℕ) (r : WideRole) → (59 == b) ≡ false → (123 == b) ≡ false
+    → (125 == b) ≡ false → ends_attribute r ≡ true → is_sign b r ≡ false
+end_is_no_sign b r semicolon open_brace close_brace is =
+    ⊎_elim
+    (λ e. ap (is_sign b) (sign_is 59 r e) ∙ semicolon)
+    (λ no_semicolon.
+    ⊎_elim
+    (λ e. ap (is_sign b) (sign_is 123 r e) ∙ open_brace)
+    (λ no_open.
+    let last : is_sign 125 r ≡ true =
+    sym (λ i. no_semicolon i || no_open i || is_sign 125 r) ∙ is in
+    ap (is_sign b) (sign_is 125 r last) ∙ close_brace)
+    (cases_Bool (is_sign 123 r)))
+    (cases_Bool (is_sign 59 r))
+
+-- and no literal
 end_is_no_literal : (r : WideRole) → ends_attribute r ≡ true → is_literal r ≡ false
 end_is_no_literal wide.Name is = refl
 end_is_no_literal wide.Underscored is = refl
@@ -93,37 +109,12 @@ module _ (q : WideToken) (rest : List WideToken) (ends : ends_attribute q.role �
       else (if is_sign 41 x.role then (if n == 0 then 1 else suc (closing_same (n - 1) s i))
       else suc (closing_same n s i)))
 
-  -- the token is no `(`
-  ends_is_no_open : is_sign 40 q.role ≡ false
-  ends_is_no_open = by_role q.role ends
-    where
-      by_byte : (b : ℕ) → ((b == 59) || (b == 123) || (b == 125)) ≡ true → (b == 40) ≡ false
-      by_byte b is = grind arith
-
-      by_role : (r : WideRole) → ends_attribute r ≡ true → is_sign 40 r ≡ false
-      by_role wide.Name is = refl
-      by_role wide.Underscored is = refl
-      by_role wide.Struct is = refl
-      by_role wide.Union is = refl
-      by_role wide.Enum is = refl
-      by_role wide.Typedef is = refl
-      by_role wide.Extern is = refl
-      by_role wide.Static is = refl
-      by_role wide.Specifier is = refl
-      by_role wide.Attribute is = refl
-      by_role wide.Statement is = refl
-      by_role wide.Reserved is = refl
-      by_role wide.Str is = refl
-      by_role wide.Number is = refl
-      by_role wide.Character is = refl
-      by_role (wide.Mark b) is = by_byte b is
-
   -- the same attributes begin in the run
   begins_same : (x : WideToken) (s : List WideToken)
       → begins_attribute (x ∷ (s ++ q ∷ rest)) ≡ begins_attribute (x ∷ s)
   begins_same x [] =
       ap (λ o. is_wide_word x.role && o && (is_attribute_word x.role || begins_with_literal rest))
-      ends_is_no_open
+      (end_is_no_sign 40 q.role refl refl refl ends)
       ∙ second_false (is_wide_word x.role)
       (is_attribute_word x.role || begins_with_literal rest)
   begins_same x (y ∷ []) =
