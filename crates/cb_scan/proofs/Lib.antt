@@ -49,6 +49,7 @@ pub mod WideOpenings
 pub mod WideParts
 pub mod WidePointers
 pub mod WideRuns
+pub mod WideSegments
 pub mod WideTails
 pub mod WideTokens
 pub mod WithinLemmas
