@@ -41,6 +41,7 @@ pub mod WideCuts
 pub mod WideDeclarations
 pub mod WideEnumerators
 pub mod WideFile
+pub mod WideFunctions
 pub mod WideHeads
 pub mod WideLaws
 pub mod WideMembers
