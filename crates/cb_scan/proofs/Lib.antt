@@ -43,6 +43,7 @@ pub mod WideCuts
 pub mod WideDeclarations
 pub mod WideEnumerators
 pub mod WideFile
+pub mod WideFunctions
 pub mod WideHeads
 pub mod WideLaws
 pub mod WideMembers
@@ -52,6 +53,8 @@ pub mod WideParts
 pub mod WideSeen
 pub mod WideStack
 pub mod WidePointers
+pub mod WideRuns
+pub mod WideSegments
 pub mod WideTails
 pub mod WideTokens
 pub mod WithinLemmas

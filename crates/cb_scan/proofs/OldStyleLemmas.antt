@@ -10,7 +10,7 @@ use Rattle.cb_scan.specs.declared.lex.token.Token.{Token}
 use Rattle.cb_scan.specs.rules.Depth.{is_stop, token_at}
 use Rattle.cb_scan.specs.rules.Heads.{called_name, head, signed}
 use Rattle.cb_scan.specs.rules.OldStyle.{is_declaration, is_opening, nearest_opening, old_signature}
-use Rattle.cb_scan.specs.rules.OldStyle.{segments, semicolons_before, signature_of, stops_before}
+use Rattle.cb_scan.specs.rules.OldStyle.{semicolons_before, signature_of, stops_before}
 use Rattle.cb_scan.specs.lex.Tokens.{is_mark}
 use Rattle.cb_scan.specs.steps.Heads.{add, empty_head, next_opened}
 use Rattle.cb_scan.proofs.HeadLemmas.{declares_of, opened_of, opens_of, signature_def}
@@ -104,23 +104,35 @@ next_is h ss =
     ∙ ap (λ o. option_map signature_def (option_map_or (λ s. signed s (called_name s)) o None))
     (sym (nearest_cons h ss))
 
+-- one token more, by the segments before each `;`
+pub opened_along : (h : ℕ → List Token) (ts : List Token) (k : ℕ)
+    → (if is_stop ts k then (if is_mark 59 (token_at ts k).role
+    then next_opened (fold add empty_head (h k))
+    (option_map signature_def (signature_of (map h (semicolons_before ts k)))) else None)
+    else option_map signature_def (signature_of (map h (semicolons_before ts k))))
+    ≡ option_map signature_def (signature_of (map h (semicolons_before ts (suc k))))
+opened_along h ts k =
+    let before = map h (semicolons_before ts k) in
+    elim (is_stop ts k) as (λ b. (if b then (if is_mark 59 (token_at ts k).role
+    then next_opened (fold add empty_head (h k)) (option_map signature_def (signature_of before)) else None)
+    else option_map signature_def (signature_of before))
+    ≡ option_map signature_def (signature_of (map h
+    (cond b (cond (is_mark 59 (token_at ts k).role) (k ∷ semicolons_before ts k) [])
+    (semicolons_before ts k))))) [
+      | true ↦ elim (is_mark 59 (token_at ts k).role) as (λ b. (if b
+          then next_opened (fold add empty_head (h k)) (option_map signature_def (signature_of before))
+          else None)
+          ≡ option_map signature_def (signature_of (map h (cond b (k ∷ semicolons_before ts k) [])))) [
+            | true ↦ next_is (h k) before
+            | false ↦ refl
+          ]
+      | false ↦ refl
+    ]
+    ∙ ap (λ js. option_map signature_def (signature_of (map h js))) (sym (semicolons_next ts k))
+
 -- one token more
 pub opened_next : (ts : List Token) (k : ℕ)
     → (if is_stop ts k then (if is_mark 59 (token_at ts k).role
     then next_opened (fold add empty_head (head ts k)) (option_map signature_def (old_signature ts k)) else None)
     else option_map signature_def (old_signature ts k)) ≡ option_map signature_def (old_signature ts (suc k))
-opened_next ts k =
-    elim (is_stop ts k) as (λ b. (if b then (if is_mark 59 (token_at ts k).role
-    then next_opened (fold add empty_head (head ts k)) (option_map signature_def (old_signature ts k)) else None)
-    else option_map signature_def (old_signature ts k))
-    ≡ option_map signature_def (signature_of (map (head ts)
-    (cond b (cond (is_mark 59 (token_at ts k).role) (k ∷ semicolons_before ts k) []) (semicolons_before ts k))))) [
-      | true ↦ elim (is_mark 59 (token_at ts k).role) as (λ b. (if b
-          then next_opened (fold add empty_head (head ts k)) (option_map signature_def (old_signature ts k)) else None)
-          ≡ option_map signature_def (signature_of (map (head ts) (cond b (k ∷ semicolons_before ts k) [])))) [
-            | true ↦ next_is (head ts k) (segments ts k)
-            | false ↦ refl
-          ]
-      | false ↦ refl
-    ]
-    ∙ ap (λ js. option_map signature_def (signature_of (map (head ts) js))) (sym (semicolons_next ts k))
+opened_next ts k = opened_along (head ts) ts k

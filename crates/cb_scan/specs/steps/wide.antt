@@ -5,6 +5,7 @@ pub mod Called
 pub mod Contents
 pub mod Declarations
 pub mod Enumerators
+pub mod Functions
 pub mod Heads
 pub mod Levels
 pub mod Openings
