@@ -57,6 +57,7 @@ pub mod WideRuns
 pub mod WideSegments
 pub mod WideTails
 pub mod WideTokens
+pub mod Windows
 pub mod WithinLemmas
 pub mod WordLemmas
 pub mod WordRun

@@ -14,3 +14,4 @@ pub(crate) mod pointer;
 pub(crate) mod role;
 pub(crate) mod tail;
 pub(crate) mod token;
+pub(crate) mod window;
