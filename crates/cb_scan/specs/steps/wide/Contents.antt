@@ -1,5 +1,6 @@
 -- What the bodies of structures, unions and enumerations define, a token at a time.
-use Rattle.std.specs.Prelude.{Bool, List, [], ◌∷◌, ◌++◌, drop, Option, None, if◌then◌else◌}
+use Rattle.std.specs.Prelude.{ℕ, Bool, List, [], ◌∷◌, ◌++◌, drop, max, Option, None}
+use Rattle.std.specs.Prelude.{if◌then◌else◌}
 use Rattle.std.specs.Option.{option_map_or}
 use Rattle.cb_scan.specs.declared.rules.wide.declaration.Declaration.{Declaration}
 use Rattle.cb_scan.specs.declared.rules.wide.def.Tag.{Tag}
@@ -50,7 +51,18 @@ unfoldable pub level_defs : Level → List WideToken → List WideDef
 level_defs l [] = []
 level_defs l (x ∷ xs) = level_out l (x ∷ xs) x ++ level_defs (next_level l (x ∷ xs) x) xs
 
+-- how many parentheses and brackets are open in a level
+abbrev pub count_of : Level → ℕ
+count_of (Members tag d) = d.count
+count_of (Enumerators tag e) = e.count
+count_of Block = 0
+
 -- ---- the levels that are open, the innermost first
+
+-- how many parentheses and brackets are open at most in one of them
+abbrev pub most_open : List Level → ℕ
+most_open [] = 0
+most_open (l ∷ ls) = max (count_of l) (most_open ls)
 
 -- what the innermost defines at the first of these tokens; a `}` is not of it
 abbrev pub defined_by : List Level → List WideToken → WideToken → List WideDef
