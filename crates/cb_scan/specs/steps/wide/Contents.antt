@@ -1,6 +1,6 @@
 -- What the bodies of structures, unions and enumerations define, a token at a time.
-use Rattle.std.specs.Prelude.{ℕ, Bool, List, [], ◌∷◌, ◌++◌, drop, max, Option, None}
-use Rattle.std.specs.Prelude.{if◌then◌else◌}
+use Rattle.std.specs.Prelude.{◌≡◌, ℕ, Bool, true, false, List, [], ◌∷◌, ◌++◌, drop, max, reverse}
+use Rattle.std.specs.Prelude.{Option, Some, None, if◌then◌else◌}
 use Rattle.std.specs.Option.{option_map_or}
 use Rattle.cb_scan.specs.declared.rules.wide.declaration.Declaration.{Declaration}
 use Rattle.cb_scan.specs.declared.rules.wide.def.Tag.{Tag}
@@ -95,3 +95,18 @@ contents_from o ls [] = []
 contents_from o ls (x ∷ xs) =
     defined_by ls (x ∷ xs) x
     ++ contents_from (next_opening o x) (next_levels o ls (x ∷ xs) x) xs
+
+-- the innermost level is a block
+abbrev pub are_in_block : List Level → Bool
+are_in_block (Block ∷ ls) = true
+are_in_block _ = false
+
+-- the levels, where the innermost is kept apart
+abbrev pub levels_of : Option Level → List Level → List Level
+levels_of None around = []
+levels_of (Some l) around = l ∷ reverse around
+
+-- there are levels around only where there is an innermost one
+abbrev pub AreAround : Option Level → List Level → Type 0
+AreAround None around = around ≡ []
+AreAround (Some l) around = Unit {0}
