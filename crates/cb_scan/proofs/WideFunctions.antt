@@ -1,6 +1,6 @@
 -- The pass over the tokens without attributes finds the functions of the wide profile.
 use Rattle.std.proofs.Common.{◌≡◌, ◌∙◌, ℕ, zero, suc, ◌+◌, ◌-◌, ◌≤◌, ◌<◌, Bool, true, false, List}
-use Rattle.std.proofs.Common.{[], ◌∷◌, ◌++◌, Option, Some, None, refl, sym, ap, subst, fold, arith}
+use Rattle.std.proofs.Common.{[], ◌∷◌, ◌++◌, Option, None, refl, sym, ap, subst, fold, arith}
 use Rattle.std.proofs.Common.{length, take, drop, map, ⊎_elim, add-one, zero-add, append_assoc}
 use Rattle.std.proofs.lemmas.Bool.{cases_Bool, eqb-true, false≢true, or_parts}
 use Rattle.std.proofs.lemmas.List.{append-nil, drop-append-le, drop_all, map-append}
@@ -18,20 +18,19 @@ use Rattle.cb_scan.specs.declared.rules.heads.Head.{Head}
 use Rattle.cb_scan.specs.declared.rules.wide.role.WideRole.{WideRole}
 use Rattle.cb_scan.specs.declared.rules.wide.role.WideRole.TheVariants as wide
 use Rattle.cb_scan.specs.declared.rules.wide.token.WideToken.{WideToken}
-use Rattle.cb_scan.specs.lex.Lexeme.{first_is}
 use Rattle.cb_scan.specs.lex.Tokens.{bytes_of, is_mark}
 use Rattle.cb_scan.specs.rules.Depth.{closes, depth, depth_after, follows_linkage, head_start}
-use Rattle.cb_scan.specs.rules.Depth.{is_counted, is_open, is_stop, is_uncounted, token_at}
+use Rattle.cb_scan.specs.rules.Depth.{is_counted, is_open, is_stop, token_at}
 use Rattle.cb_scan.specs.Definitions.{function_def}
 use Rattle.cb_scan.specs.rules.Functions.{function_from}
-use Rattle.cb_scan.specs.rules.Heads.{called_name, may_define, signed}
+use Rattle.cb_scan.specs.rules.Heads.{may_define, signed}
 use Rattle.cb_scan.specs.rules.OldStyle.{semicolons_before, signature_of}
 use Rattle.cb_scan.specs.rules.wide.Attributes.{ends_attribute, without_attributes}
 use Rattle.cb_scan.specs.rules.wide.Bodies.{Body, opens_body}
-use Rattle.cb_scan.specs.rules.wide.Functions.{head_prototype, plain, signature_from, wide_function_at}
-use Rattle.cb_scan.specs.rules.wide.Functions.{wide_functions, wide_head, wide_name, wide_signature}
+use Rattle.cb_scan.specs.rules.wide.Functions.{plain, signature_from, wide_function_at}
+use Rattle.cb_scan.specs.rules.wide.Functions.{wide_functions, wide_head, wide_signature}
 use Rattle.cb_scan.specs.rules.wide.Levels.{wide_token, wide_tokens}
-use Rattle.cb_scan.specs.rules.wide.Words.{attribute_words, is_among, is_sign, name_role}
+use Rattle.cb_scan.specs.rules.wide.Words.{attribute_words, is_among, is_sign}
 use Rattle.cb_scan.specs.rules.wide.Words.{reserved_role, role_from, specifier_words}
 use Rattle.cb_scan.specs.rules.wide.Words.{statement_words, wide_role}
 use Rattle.cb_scan.specs.steps.Heads.{add, empty_head, next_opened}
@@ -132,7 +131,8 @@ here_is (x ∷ xs) segments =
     let token : WideToken → Token = λ y. y.token in
     let name = option_or (option_map token (declared (head_from heads.head_start h)))
     (fold add empty_head (plain h)).called in
-    ap (λ b. if b then old else steps.defined state) (last_stays (add empty_head x.token) (plain xs) refl)
+    ap (λ b. if b then old else steps.defined state)
+    (last_stays (add empty_head x.token) (plain xs) refl)
     ∙ named_of (plain h) name
     ∙ (λ i. option_map signature_def (signed (plain h) (if may_define (plain h)
     then option_or (option_map token (head_is h i)) (called_is (plain h) i) else None)))
@@ -415,7 +415,8 @@ module _ (text : List ℕ) (ts : List Token) (bs : List Body) where
         by_stop true false stop semicolon = refl
         by_stop false c stop semicolon = refl
 
-    module _ (ends : ends_attribute (item k).role ≡ true) (flat : (depth ts (suc k) == 0) ≡ true) where
+    module _ (ends : ends_attribute (item k).role ≡ true)
+        (flat : (depth ts (suc k) == 0) ≡ true) where
       stop : is_stop ts k ≡ true
       unfolding depth
       stop = stop_by (is_mark 59 token.role) (is_mark 123 token.role) (is_mark 125 token.role)
@@ -429,7 +430,8 @@ module _ (text : List ℕ) (ts : List Token) (bs : List Body) where
       none_taken : [] ≡ drop (head_start ts (suc k)) (take (suc k) all)
       unfolding head_start
       none_taken =
-          let short : length (take (suc k) all) ≤ suc k = omega (arith, taken_length (suc k) within) in
+          let short : length (take (suc k) all) ≤ suc k =
+          omega (arith, taken_length (suc k) within) in
           sym (ap (λ b. drop (if b then suc k else head_start ts k) (take (suc k) all)) stop
           ∙ drop_all (suc k) (take (suc k) all) short)
 

@@ -1,11 +1,10 @@
 -- The pass for functions along tokens among which there is no `;` and no brace.
-use Rattle.std.proofs.Common.{◌≡◌, ◌∙◌, ℕ, Bool, true, false, List, [], ◌∷◌, ◌++◌, Option, None}
+use Rattle.std.proofs.Common.{◌≡◌, ◌∙◌, ℕ, Bool, true, false, List, [], ◌∷◌, ◌++◌, None}
 use Rattle.std.proofs.Common.{refl, sym, ap, fold, ◌+◌, ◌-◌, ⊎_elim}
 use Rattle.std.proofs.lemmas.Bool.{cases_Bool}
 use Rattle.std.specs.Prelude.{◌&&◌, ◌||◌, ◌==◌, cond, not, if◌then◌else◌}
 use Rattle.std.specs.List.{AllByRecursion}
 use Rattle.std.specs.Option.{option_to_list}
-use Rattle.cb_scan.specs.declared.facts.Def.{Def}
 use Rattle.cb_scan.specs.declared.rules.wide.head.WideHead.{WideHead}
 use Rattle.cb_scan.specs.declared.rules.wide.part.Part.{Part}
 use Rattle.cb_scan.specs.declared.rules.wide.token.WideToken.{WideToken}
@@ -160,7 +159,7 @@ module _ (bs : List Body) (q : WideToken) (rest : List WideToken)
   flat m [] all is = refl
   flat m (x ∷ s) all is =
       let xs = s ++ q ∷ rest in
-      let n : WideMachine = record m { head = add m.head x.token; parts = next_head m.parts (x ∷ s) x } in
+      let n = headed m (x ∷ s) x in
       ap (λ l. l ++ functions_from bs (next m (x ∷ xs) x) xs) (none_found bs m x all.0)
       ∙ ap (λ n. functions_from bs n xs) (next_inner m (x ∷ xs) x all.0
       ∙ ap (λ b. if b then headed m (x ∷ xs) x else m) is
