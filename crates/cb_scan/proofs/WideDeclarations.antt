@@ -22,11 +22,10 @@ use Rattle.cb_scan.specs.steps.wide.Along.{items, part_from}
 use Rattle.cb_scan.specs.steps.wide.Declarations as steps
 use Rattle.cb_scan.specs.steps.wide.Declarations.{Given, declaration_start, given, given_from, grown}
 use Rattle.cb_scan.specs.steps.wide.Declarations.{may_name, next_part_of, noted}
-use Rattle.cb_scan.specs.steps.wide.Parts as parts
-use Rattle.cb_scan.specs.steps.wide.Parts.{function, grown_part, named, next_part, part_start}
+use Rattle.cb_scan.specs.steps.wide.Parts.{function, named, next_part, part_start}
 use Rattle.cb_scan.proofs.WideAhead.{cut_at}
 use Rattle.cb_scan.proofs.WideEnumerators.{and_right, first_part, onto}
-use Rattle.cb_scan.proofs.WideHeads.{items_are, part_until}
+use Rattle.cb_scan.proofs.WideHeads.{part_until}
 use Rattle.cb_scan.proofs.WideNaming.{is_empty, naming_is, parts_beyond}
 use Rattle.cb_scan.proofs.WideParts.{function_name_is, name_is, stray_is, value_is}
 use Rattle.cb_scan.proofs.WideTails.{any_last, or_together, sign_is}
@@ -136,8 +135,8 @@ pub part_same : (p : Part) (m : Numbered) (n : ℕ) (xs : List WideToken)
     → next_part p (is_outer m) (m.item ∷ xs) m.item
     ≡ next_part p (is_outer m) (items (m ∷ cut_at ends_part (numbered n xs))) m.item
 part_same =
-    part_until ends_part (λ x is. end_is_not 40 x refl refl is) (λ x is. end_is_not 41 x refl refl is)
-    (λ x is. end_is_not 42 x refl refl is) end_is_no_word
+    part_until ends_part (λ x is. end_is_not 40 x refl refl is)
+    (λ x is. end_is_not 41 x refl refl is) (λ x is. end_is_not 42 x refl refl is) end_is_no_word
 
 -- the same test, written in another order
 pub ends_same : (d : Declaration) (x : WideToken)

@@ -1,9 +1,10 @@
 -- The pass over the tokens without attributes finds the functions of the wide profile.
 use Rattle.std.proofs.Common.{◌≡◌, ◌∙◌, ℕ, zero, suc, ◌+◌, ◌-◌, ◌≤◌, ◌<◌, Bool, true, false, List}
-use Rattle.std.proofs.Common.{[], ◌∷◌, ◌++◌, Option, Some, None, refl, sym, ap, subst, fold, arith}
+use Rattle.std.proofs.Common.{[], ◌∷◌, ◌++◌, Option, None, refl, sym, ap, subst, fold, arith}
 use Rattle.std.proofs.Common.{length, take, drop, map, ⊎_elim, add-one, zero-add, append_assoc}
 use Rattle.std.proofs.lemmas.Bool.{cases_Bool, eqb-true, false≢true, or_parts}
 use Rattle.std.proofs.lemmas.List.{append-nil, drop-append-le, drop_all, map-append}
+use Rattle.std.proofs.lemmas.List.Concat.{flat_map-append}
 use Rattle.std.proofs.lemmas.List.FromFn.{length-map-range_with_len, map-range_with_len_more}
 use Rattle.std.proofs.lemmas.List.FromFn.{take-map-range_with_len}
 use Rattle.std.specs.Prelude.{◌&&◌, ◌||◌, ◌==◌, cond, not, if◌then◌else◌}
@@ -18,26 +19,26 @@ use Rattle.cb_scan.specs.declared.rules.heads.Head.{Head}
 use Rattle.cb_scan.specs.declared.rules.wide.role.WideRole.{WideRole}
 use Rattle.cb_scan.specs.declared.rules.wide.role.WideRole.TheVariants as wide
 use Rattle.cb_scan.specs.declared.rules.wide.token.WideToken.{WideToken}
-use Rattle.cb_scan.specs.lex.Lexeme.{first_is}
 use Rattle.cb_scan.specs.lex.Tokens.{bytes_of, is_mark}
 use Rattle.cb_scan.specs.rules.Depth.{closes, depth, depth_after, follows_linkage, head_start}
-use Rattle.cb_scan.specs.rules.Depth.{is_counted, is_open, is_stop, is_uncounted, token_at}
+use Rattle.cb_scan.specs.rules.Depth.{is_counted, is_open, is_stop, token_at}
 use Rattle.cb_scan.specs.Definitions.{function_def}
 use Rattle.cb_scan.specs.rules.Functions.{function_from}
-use Rattle.cb_scan.specs.rules.Heads.{called_name, may_define, signed}
+use Rattle.cb_scan.specs.rules.Heads.{Signature, may_define, signed}
 use Rattle.cb_scan.specs.rules.OldStyle.{semicolons_before, signature_of}
 use Rattle.cb_scan.specs.rules.wide.Attributes.{ends_attribute, without_attributes}
 use Rattle.cb_scan.specs.rules.wide.Bodies.{Body, opens_body}
-use Rattle.cb_scan.specs.rules.wide.Functions.{head_prototype, plain, signature_from, wide_function_at}
-use Rattle.cb_scan.specs.rules.wide.Functions.{wide_functions, wide_head, wide_name, wide_signature}
+use Rattle.cb_scan.specs.rules.wide.Functions.{plain, signature_from, wide_function_at}
+use Rattle.cb_scan.specs.rules.wide.Functions.{wide_functions, wide_head, wide_signature}
 use Rattle.cb_scan.specs.rules.wide.Levels.{wide_token, wide_tokens}
-use Rattle.cb_scan.specs.rules.wide.Words.{attribute_words, is_among, is_sign, name_role}
+use Rattle.cb_scan.specs.rules.wide.Words.{attribute_words, is_among, is_sign}
 use Rattle.cb_scan.specs.rules.wide.Words.{reserved_role, role_from, specifier_words}
 use Rattle.cb_scan.specs.rules.wide.Words.{statement_words, wide_role}
 use Rattle.cb_scan.specs.steps.Heads.{add, empty_head, next_opened}
 use Rattle.cb_scan.specs.steps.wide.Declarations.{is_block}
 use Rattle.cb_scan.specs.steps.wide.Functions as steps
 use Rattle.cb_scan.specs.steps.wide.Functions.{WideMachine, found, function_here, functions_from}
+use Rattle.cb_scan.specs.steps.wide.Functions.{opened, opened_from}
 use Rattle.cb_scan.specs.steps.wide.Functions.{grown, next, next_depth, start, stopped, stops}
 use Rattle.cb_scan.specs.steps.wide.Heads as heads
 use Rattle.cb_scan.specs.steps.wide.Heads.{declared, head_from}
@@ -132,10 +133,36 @@ here_is (x ∷ xs) segments =
     let token : WideToken → Token = λ y. y.token in
     let name = option_or (option_map token (declared (head_from heads.head_start h)))
     (fold add empty_head (plain h)).called in
-    ap (λ b. if b then old else steps.defined state) (last_stays (add empty_head x.token) (plain xs) refl)
+    ap (λ b. if b then old else steps.defined state)
+    (last_stays (add empty_head x.token) (plain xs) refl)
     ∙ named_of (plain h) name
     ∙ (λ i. option_map signature_def (signed (plain h) (if may_define (plain h)
     then option_or (option_map token (head_is h i)) (called_is (plain h) i) else None)))
+
+-- ---- functions and what is opened
+
+found_opened : (bs : List Body) (m : WideMachine) (x : WideToken)
+    → option_to_list (found m (is_block bs x)) ≡ flat_map option_to_list (opened bs m x)
+found_opened bs m x = by_tests x.counted (m.depth == 0) (not (opens_body bs x.token.span.start))
+  where
+    by_tests : (c flat b : Bool)
+        → option_to_list (if (c && b) && flat then function_here m else None)
+        ≡ flat_map option_to_list
+        (if c && flat then (if (c && b) && flat then function_here m else None) ∷ [] else [])
+    by_tests true true b = sym (append-nil _)
+    by_tests true false true = refl
+    by_tests true false false = refl
+    by_tests false flat b = refl
+
+-- the functions are what is opened
+functions_opened : (bs : List Body) (m : WideMachine) (xs : List WideToken)
+    → functions_from bs m xs ≡ flat_map option_to_list (opened_from bs m xs)
+unfolding functions_from opened_from
+functions_opened bs m [] = refl
+functions_opened bs m (x ∷ xs) =
+    (λ i. found_opened bs m x i ++ functions_opened bs (next m (x ∷ xs) x) xs i)
+    ∙ sym (flat_map-append option_to_list (opened bs m x)
+    (opened_from bs (next m (x ∷ xs) x) xs))
 
 -- ---- stops
 
@@ -184,6 +211,16 @@ module _ (text : List ℕ) (ts : List Token) (bs : List Body) where
   -- the function in the old style that is open before token k
   abbrev old_at : ℕ → Option Def
   old_at k = option_map signature_def (signature_of (map head_at (semicolons_before ts k)))
+
+  -- what names the function whose `{` token k is, if that is no body
+  abbrev pub named_at : ℕ → Option Signature
+  named_at k = if not (opens_body bs (token_at ts k).span.start) then wide_signature ts all k
+      else None
+
+  -- what token k opens, if it is a `{` that counts outside all braces
+  abbrev pub opened_at : ℕ → List (Option Def)
+  opened_at k = if is_counted ts k && depth ts k == 0
+      then option_map signature_def (named_at k) ∷ [] else []
 
   is_sign_of : (b k : ℕ) → is_sign b (item k).role ≡ is_mark b (token_at ts k).role
   is_sign_of b k = sign_of text b (token_at ts k)
@@ -266,11 +303,10 @@ module _ (text : List ℕ) (ts : List Token) (bs : List Body) where
         else (if no_close_mark i then (if (token_at ts k).starts_line then 0 else depth ts k - 1)
         else depth ts k)
 
-    none_here : wide_function_at ts all bs k ≡ []
+    none_here : opened_at k ≡ []
     none_here =
         ap (λ b. if (b && not (follows_linkage ts k)) && depth ts k == 0
-        && not (opens_body bs (token_at ts k).span.start)
-        then function_from ts k (wide_signature ts all k) else []) no_open_mark
+        then option_map signature_def (named_at k) ∷ [] else []) no_open_mark
 
     same_old : old_at (suc k) ≡ old_at k
     same_old =
@@ -353,23 +389,22 @@ module _ (text : List ℕ) (ts : List Token) (bs : List Body) where
           }))
           ∙ here_is (wide_head ts all k) (map head_at (semicolons_before ts k))
 
-    -- the function whose `{` the token is
-    found_here : option_to_list (found before (is_block bs (item k)))
-        ≡ map function_def (wide_function_at ts all bs k)
-    found_here =
-        (λ i. option_to_list (if (is_counted ts k && not (opens_body bs token.span.start))
-        && depth_kept i == 0 then function_here before else None))
+    -- what the token opens
+    opened_here : opened bs before (item k) ≡ opened_at k
+    opened_here =
+        (λ i. if is_counted ts k && depth_kept i == 0
+        then (if (is_counted ts k && not (opens_body bs token.span.start)) && depth_kept i == 0
+        then function_here before else None) ∷ [] else [])
         ∙ by_tests (is_counted ts k) (depth ts k == 0) (not (opens_body bs token.span.start)) refl
       where
         by_tests : (c flat b : Bool) → (depth ts k == 0) ≡ flat
-            → option_to_list (if (c && b) && flat then function_here before else None)
-            ≡ map function_def
-            (if c && flat && b then function_from ts k (wide_signature ts all k) else [])
-        by_tests true true true is =
-            ap option_to_list (function_before is) ∙ def_from ts k (wide_signature ts all k)
+            → (if c && flat then (if (c && b) && flat then function_here before else None) ∷ []
+            else [])
+            ≡ (if c && flat
+            then option_map signature_def (if b then wide_signature ts all k else None) ∷ [] else [])
+        by_tests true true true is = ap (λ o. o ∷ []) (function_before is)
         by_tests true true false is = refl
-        by_tests true false true is = refl
-        by_tests true false false is = refl
+        by_tests true false b is = refl
         by_tests false flat b is = refl
 
     depth_next : next_depth before (item k) ≡ depth ts (suc k)
@@ -415,7 +450,8 @@ module _ (text : List ℕ) (ts : List Token) (bs : List Body) where
         by_stop true false stop semicolon = refl
         by_stop false c stop semicolon = refl
 
-    module _ (ends : ends_attribute (item k).role ≡ true) (flat : (depth ts (suc k) == 0) ≡ true) where
+    module _ (ends : ends_attribute (item k).role ≡ true)
+        (flat : (depth ts (suc k) == 0) ≡ true) where
       stop : is_stop ts k ≡ true
       unfolding depth
       stop = stop_by (is_mark 59 token.role) (is_mark 123 token.role) (is_mark 125 token.role)
@@ -429,7 +465,8 @@ module _ (text : List ℕ) (ts : List Token) (bs : List Body) where
       none_taken : [] ≡ drop (head_start ts (suc k)) (take (suc k) all)
       unfolding head_start
       none_taken =
-          let short : length (take (suc k) all) ≤ suc k = omega (arith, taken_length (suc k) within) in
+          let short : length (take (suc k) all) ≤ suc k =
+          omega (arith, taken_length (suc k) within) in
           sym (ap (λ b. drop (if b then suc k else head_start ts k) (take (suc k) all)) stop
           ∙ drop_all (suc k) (take (suc k) all) short)
 
@@ -449,40 +486,72 @@ module _ (text : List ℕ) (ts : List Token) (bs : List Body) where
 
   -- from token k on, where a segment is open
   from : (n k : ℕ) (s : List WideToken) (m : WideMachine) → k + n ≡ length ts → Holds k s m
-      → functions_from bs m (without_attributes (s ++ map item (range_with_len k n)))
-      ≡ map function_def (flat_map (wide_function_at ts all bs) (range_with_len k n))
-  unfolding functions_from
+      → opened_from bs m (without_attributes (s ++ map item (range_with_len k n)))
+      ≡ flat_map opened_at (range_with_len k n)
+  unfolding opened_from
   from zero k s m end here =
-      ap (λ l. functions_from bs m (without_attributes l)) (append-nil s)
+      ap (λ l. opened_from bs m (without_attributes l)) (append-nil s)
       ∙ none_in bs m (without_attributes s) (kept_all IsInner 0 s here.inner)
   from (suc n) k s m end here =
       let within : k < length ts = omega arith in
       let more : (k + 1) + n ≡ length ts = omega arith in
       let rest = map item (range_with_len (k + 1) n) in
       let bare = without_attributes rest in
-      let later = flat_map (wide_function_at ts all bs) (range_with_len (k + 1) n) in
+      let later = flat_map opened_at (range_with_len (k + 1) n) in
       ⊎_elim
       (λ ends.
       let b = before k s m within here in
       let a = next b (item k ∷ bare) (item k) in
       let here_next : Holds (k + 1) [] a =
       subst (λ j. Holds j [] a) (sym (add-one k)) (anew k s m within here (item k ∷ bare) ends) in
-      ap (functions_from bs m) (run_is (item k) rest ends s)
+      ap (opened_from bs m) (run_is (item k) rest ends s)
       ∙ along bs (item k) bare ends m (without_attributes s) (kept_all IsInner 0 s here.inner)
-      ∙ ap (λ l. l ++ functions_from bs a bare) (found_here k s m within here)
-      ∙ ap (λ l. map function_def (wide_function_at ts all bs k) ++ l)
-      (from n (k + 1) [] a more here_next)
-      ∙ sym (map-append function_def (wide_function_at ts all bs k) later))
+      ∙ ap (λ l. l ++ opened_from bs a bare) (opened_here k s m within here)
+      ∙ ap (λ l. opened_at k ++ l) (from n (k + 1) [] a more here_next))
       (λ goes_on.
       let s_next = s ++ item k ∷ [] in
       let here_next : Holds (k + 1) s_next m =
       subst (λ j. Holds j s_next m) (sym (add-one k)) (one_more k within goes_on s m here) in
-      ap (λ l. functions_from bs m (without_attributes l)) (sym (append_assoc s (item k ∷ []) rest))
+      ap (λ l. opened_from bs m (without_attributes l)) (sym (append_assoc s (item k ∷ []) rest))
       ∙ from n (k + 1) s_next m more here_next
-      ∙ ap (λ l. map function_def (l ++ later)) (sym (none_here k within goes_on)))
+      ∙ ap (λ l. l ++ later) (sym (none_here k within goes_on)))
       (cases_Bool (ends_attribute (item k).role))
+
+  -- what each `{` opens that counts outside all braces
+  pub opened_are : opened_from bs start (without_attributes all)
+      ≡ flat_map opened_at (range_with_len 0 (length ts))
+  opened_are = from (length ts) 0 [] start (zero-add (length ts)) holds_at_start
+
+  -- ---- the functions among it
+
+  functions_at : (k : ℕ)
+      → flat_map option_to_list (opened_at k) ≡ map function_def (wide_function_at ts all bs k)
+  functions_at k =
+      by_tests (is_counted ts k && depth ts k == 0) (not (opens_body bs (token_at ts k).span.start))
+    where
+      by_tests : (c b : Bool)
+          → flat_map option_to_list (if c
+          then option_map signature_def (if b then wide_signature ts all k else None) ∷ [] else [])
+          ≡ map function_def
+          (if c && b then function_from ts k (wide_signature ts all k) else [])
+      by_tests true true = append-nil _ ∙ def_from ts k (wide_signature ts all k)
+      by_tests true false = refl
+      by_tests false b = refl
+
+  functions_among : (ks : List ℕ)
+      → flat_map option_to_list (flat_map opened_at ks)
+      ≡ map function_def (flat_map (wide_function_at ts all bs) ks)
+  functions_among [] = refl
+  functions_among (k ∷ ks) =
+      flat_map-append option_to_list (opened_at k) (flat_map opened_at ks)
+      ∙ (λ i. functions_at k i ++ functions_among ks i)
+      ∙ sym (map-append function_def (wide_function_at ts all bs k)
+      (flat_map (wide_function_at ts all bs) ks))
 
   -- the pass over the code
   pub functions_are : functions_from bs start (without_attributes all)
       ≡ map function_def (wide_functions ts all bs)
-  functions_are = from (length ts) 0 [] start (zero-add (length ts)) holds_at_start
+  functions_are =
+      functions_opened bs start (without_attributes all)
+      ∙ ap (flat_map option_to_list) opened_are
+      ∙ functions_among (range_with_len 0 (length ts))

@@ -1,25 +1,24 @@
 -- The pass for functions along tokens among which there is no `;` and no brace.
-use Rattle.std.proofs.Common.{◌≡◌, ◌∙◌, ℕ, Bool, true, false, List, [], ◌∷◌, ◌++◌, Option, None}
+use Rattle.std.proofs.Common.{◌≡◌, ◌∙◌, ℕ, Bool, true, false, List, [], ◌∷◌, ◌++◌, None}
 use Rattle.std.proofs.Common.{refl, sym, ap, fold, ◌+◌, ◌-◌, ⊎_elim}
 use Rattle.std.proofs.lemmas.Bool.{cases_Bool}
 use Rattle.std.specs.Prelude.{◌&&◌, ◌||◌, ◌==◌, cond, not, if◌then◌else◌}
 use Rattle.std.specs.List.{AllByRecursion}
 use Rattle.std.specs.Option.{option_to_list}
-use Rattle.cb_scan.specs.declared.facts.Def.{Def}
 use Rattle.cb_scan.specs.declared.rules.wide.head.WideHead.{WideHead}
 use Rattle.cb_scan.specs.declared.rules.wide.part.Part.{Part}
 use Rattle.cb_scan.specs.declared.rules.wide.token.WideToken.{WideToken}
 use Rattle.cb_scan.specs.lex.Tokens.{is_mark}
 use Rattle.cb_scan.specs.rules.Typedefs.{nesting_after}
 use Rattle.cb_scan.specs.rules.wide.Attributes.{ends_attribute}
-use Rattle.cb_scan.specs.rules.wide.Bodies.{Body, opens_body}
+use Rattle.cb_scan.specs.rules.wide.Bodies.{Body}
 use Rattle.cb_scan.specs.rules.wide.Functions.{plain}
 use Rattle.cb_scan.specs.rules.wide.Levels.{Numbered, is_outer, numbered}
 use Rattle.cb_scan.specs.rules.wide.Words.{is_sign}
 use Rattle.cb_scan.specs.steps.Heads.{add}
 use Rattle.cb_scan.specs.steps.wide.Along.{items}
 use Rattle.cb_scan.specs.steps.wide.Declarations.{is_block}
-use Rattle.cb_scan.specs.steps.wide.Functions.{WideMachine, found, function_here, functions_from}
+use Rattle.cb_scan.specs.steps.wide.Functions.{WideMachine, found, opened, opened_from}
 use Rattle.cb_scan.specs.steps.wide.Functions.{headed, next, next_depth, stopped, stops}
 use Rattle.cb_scan.specs.steps.wide.Heads.{declared, head_from, next_head}
 use Rattle.cb_scan.specs.steps.wide.Parts.{next_part, part_start}
@@ -96,13 +95,11 @@ module _ (q : WideToken) (rest : List WideToken) (last : ends_attribute q.role �
 
 -- ---- the machine
 
--- a token of the segment opens no function
-none_found : (bs : List Body) (m : WideMachine) (x : WideToken) → IsInner x
-    → option_to_list (found m (is_block bs x)) ≡ []
-none_found bs m x inner =
-    ap (λ c. option_to_list
-    (if (c && not (opens_body bs x.token.span.start)) && m.depth == 0 then function_here m
-    else None)) inner.uncounted
+-- a token of the segment opens nothing
+none_opened : (bs : List Body) (m : WideMachine) (x : WideToken) → IsInner x
+    → opened bs m x ≡ []
+none_opened bs m x inner =
+    ap (λ c. if c && m.depth == 0 then found m (is_block bs x) ∷ [] else []) inner.uncounted
 
 -- and is of the head at depth 0
 next_inner : (m : WideMachine) (xs : List WideToken) (x : WideToken) → IsInner x
@@ -129,13 +126,13 @@ headed_all m s = record m { head = fold add m.head (plain s); parts = head_from 
 abbrev pub after : WideMachine → List WideToken → WideMachine
 after m s = if m.depth == 0 then headed_all m s else m
 
--- no function begins in a segment
+-- a segment opens nothing
 pub none_in : (bs : List Body) (m : WideMachine) (s : List WideToken) → AllByRecursion IsInner s
-    → functions_from bs m s ≡ []
-unfolding functions_from
+    → opened_from bs m s ≡ []
+unfolding opened_from
 none_in bs m [] all = refl
 none_in bs m (x ∷ s) all =
-    ap (λ l. l ++ functions_from bs (next m (x ∷ s) x) s) (none_found bs m x all.0)
+    ap (λ l. l ++ opened_from bs (next m (x ∷ s) x) s) (none_opened bs m x all.0)
     ∙ none_in bs (next m (x ∷ s) x) s all.1
 
 -- the pass along a segment, up to its end
@@ -143,37 +140,37 @@ module _ (bs : List Body) (q : WideToken) (rest : List WideToken)
     (last : ends_attribute q.role ≡ true) where
   deep : (m : WideMachine) (s : List WideToken) → AllByRecursion IsInner s
       → (m.depth == 0) ≡ false
-      → functions_from bs m (s ++ q ∷ rest) ≡ functions_from bs m (q ∷ rest)
-  unfolding functions_from
+      → opened_from bs m (s ++ q ∷ rest) ≡ opened_from bs m (q ∷ rest)
+  unfolding opened_from
   deep m [] all isnt = refl
   deep m (x ∷ s) all isnt =
       let xs = s ++ q ∷ rest in
-      ap (λ l. l ++ functions_from bs (next m (x ∷ xs) x) xs) (none_found bs m x all.0)
-      ∙ ap (λ n. functions_from bs n xs) (next_inner m (x ∷ xs) x all.0
+      ap (λ l. l ++ opened_from bs (next m (x ∷ xs) x) xs) (none_opened bs m x all.0)
+      ∙ ap (λ n. opened_from bs n xs) (next_inner m (x ∷ xs) x all.0
       ∙ ap (λ b. if b then headed m (x ∷ xs) x else m) isnt)
       ∙ deep m s all.1 isnt
 
   flat : (m : WideMachine) (s : List WideToken) → AllByRecursion IsInner s
       → (m.depth == 0) ≡ true
-      → functions_from bs m (s ++ q ∷ rest) ≡ functions_from bs (headed_all m s) (q ∷ rest)
-  unfolding functions_from head_from
+      → opened_from bs m (s ++ q ∷ rest) ≡ opened_from bs (headed_all m s) (q ∷ rest)
+  unfolding opened_from head_from
   flat m [] all is = refl
   flat m (x ∷ s) all is =
       let xs = s ++ q ∷ rest in
-      let n : WideMachine = record m { head = add m.head x.token; parts = next_head m.parts (x ∷ s) x } in
-      ap (λ l. l ++ functions_from bs (next m (x ∷ xs) x) xs) (none_found bs m x all.0)
-      ∙ ap (λ n. functions_from bs n xs) (next_inner m (x ∷ xs) x all.0
+      let n = headed m (x ∷ s) x in
+      ap (λ l. l ++ opened_from bs (next m (x ∷ xs) x) xs) (none_opened bs m x all.0)
+      ∙ ap (λ n. opened_from bs n xs) (next_inner m (x ∷ xs) x all.0
       ∙ ap (λ b. if b then headed m (x ∷ xs) x else m) is
       ∙ ap (λ h. record m { head = add m.head x.token; parts = h })
       (head_same q rest last m.parts x s all.1))
       ∙ flat n s all.1 is
 
   pub along : (m : WideMachine) (s : List WideToken) → AllByRecursion IsInner s
-      → functions_from bs m (s ++ q ∷ rest) ≡ functions_from bs (after m s) (q ∷ rest)
+      → opened_from bs m (s ++ q ∷ rest) ≡ opened_from bs (after m s) (q ∷ rest)
   along m s all =
       ⊎_elim
       (λ is. flat m s all is
-      ∙ ap (λ b. functions_from bs (if b then headed_all m s else m) (q ∷ rest)) (sym is))
+      ∙ ap (λ b. opened_from bs (if b then headed_all m s else m) (q ∷ rest)) (sym is))
       (λ isnt. deep m s all isnt
-      ∙ ap (λ b. functions_from bs (if b then headed_all m s else m) (q ∷ rest)) (sym isnt))
+      ∙ ap (λ b. opened_from bs (if b then headed_all m s else m) (q ∷ rest)) (sym isnt))
       (cases_Bool (m.depth == 0))

@@ -90,8 +90,19 @@ grown m xs x =
 abbrev pub next : WideMachine → List WideToken → WideToken → WideMachine
 next m xs x = if stops m x then stopped m x else grown m xs x
 
--- the functions of the tokens from a state on, where these are the bodies
+-- ---- all tokens, where these are the bodies
+
+-- the functions of the tokens from a state on
 unfoldable pub functions_from : List Body → WideMachine → List WideToken → List Def
 functions_from bs m [] = []
 functions_from bs m (x ∷ xs) =
     option_to_list (found m (is_block bs x)) ++ functions_from bs (next m (x ∷ xs) x) xs
+
+-- what the token opens, if it is a `{` that counts outside all braces: a function or none
+abbrev pub opened : List Body → WideMachine → WideToken → List (Option Def)
+opened bs m x = if x.counted && m.depth == 0 then found m (is_block bs x) ∷ [] else []
+
+-- what each of them opens from a state on
+unfoldable pub opened_from : List Body → WideMachine → List WideToken → List (Option Def)
+opened_from bs m [] = []
+opened_from bs m (x ∷ xs) = opened bs m x ++ opened_from bs (next m (x ∷ xs) x) xs
