@@ -9,6 +9,7 @@ pub(crate) mod enumeration;
 pub(crate) mod head;
 pub(crate) mod level;
 pub(crate) mod levels;
+pub(crate) mod machine;
 pub(crate) mod opening;
 pub(crate) mod part;
 pub(crate) mod pointer;

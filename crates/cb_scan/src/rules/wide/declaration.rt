@@ -43,7 +43,7 @@ fn closes(item: &WideToken) -> bool
 }
 
 /// A `{` that does not count.
-fn is_linkage(item: &WideToken) -> bool
+pub(crate) fn is_linkage(item: &WideToken) -> bool
     ensures { result ≡ is_linkage item.now }
 {
     item.role.is_sign(b'{') && !item.counted
