@@ -8,6 +8,7 @@ pub mod Enumerators
 pub mod Functions
 pub mod Heads
 pub mod Levels
+pub mod Objects
 pub mod Openings
 pub mod Parts
 pub mod Pointers
