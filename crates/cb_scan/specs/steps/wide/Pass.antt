@@ -1,7 +1,7 @@
 -- The pass of the wide profile over the tokens that are of no attribute.
-use Rattle.std.specs.Prelude.{◌≡◌, ℕ, ◌+◌, Bool, false, ◌&&◌, ◌==◌, List, [], ◌∷◌, ◌++◌, max, Option}
+use Rattle.std.specs.Prelude.{ℕ, Bool, ◌&&◌, ◌==◌, List, [], ◌∷◌, ◌++◌, max, Option}
 use Rattle.std.specs.Prelude.{None, Some, if◌then◌else◌}
-use Rattle.std.specs.Option.{is_none, option_map, option_map_or, option_to_list}
+use Rattle.std.specs.Option.{is_none, option_map, option_to_list}
 use Rattle.cb_scan.specs.declared.facts.Def.{Def}
 use Rattle.cb_scan.specs.declared.lex.piece.Span.{Span}
 use Rattle.cb_scan.specs.declared.rules.scope.Range.{Range}
