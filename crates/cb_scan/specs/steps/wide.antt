@@ -14,5 +14,6 @@ pub mod Openings
 pub mod Parts
 pub mod Pass
 pub mod Pointers
+pub mod Sights
 pub mod Tails
 pub mod Tokens
