@@ -25,6 +25,7 @@ pub mod Literals
 pub mod MacroLines
 pub mod Merging
 pub mod OldStyleLemmas
+pub mod OpenBodies
 pub mod OrderLemmas
 pub mod PieceLists
 pub mod Prefixes
