@@ -50,6 +50,7 @@ pub mod WideNaming
 pub mod WideOpenings
 pub mod WideParts
 pub mod WidePointers
+pub mod WideRanges
 pub mod WideRuns
 pub mod WideSegments
 pub mod WideTails

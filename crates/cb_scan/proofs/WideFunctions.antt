@@ -198,10 +198,10 @@ stop_by true false false l s d is flat = ap (λ b. b || false || false) flat
 stop_by false false false l s d is flat = absurd (false≢true is)
 
 module _ (text : List ℕ) (ts : List Token) (bs : List Body) where
-  abbrev all : List WideToken
+  abbrev pub all : List WideToken
   all = wide_tokens text ts
 
-  abbrev item : ℕ → WideToken
+  abbrev pub item : ℕ → WideToken
   item k = wide_token text ts k
 
   -- the head before token k
@@ -222,7 +222,7 @@ module _ (text : List ℕ) (ts : List Token) (bs : List Body) where
   opened_at k = if is_counted ts k && depth ts k == 0
       then option_map signature_def (named_at k) ∷ [] else []
 
-  is_sign_of : (b k : ℕ) → is_sign b (item k).role ≡ is_mark b (token_at ts k).role
+  pub is_sign_of : (b k : ℕ) → is_sign b (item k).role ≡ is_mark b (token_at ts k).role
   is_sign_of b k = sign_of text b (token_at ts k)
 
   -- ---- the tokens up to one

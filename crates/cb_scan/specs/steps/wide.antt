@@ -10,5 +10,6 @@ pub mod Levels
 pub mod Openings
 pub mod Parts
 pub mod Pointers
+pub mod Ranges
 pub mod Tails
 pub mod Tokens
