@@ -23,11 +23,17 @@ use Rattle.cb_scan.specs.lex.Tokens.{is_mark, is_name_token}
 use Rattle.cb_scan.specs.rules.Uses.{call_at, call_of, calls_of_function, is_call}
 use Rattle.cb_scan.specs.steps.Functions.{call_before, range_to}
 use Rattle.cb_scan.proofs.Bodies.{close_step, close_end, close_bound, only_mark, and_left, and_right}
-use Rattle.cb_scan.proofs.Bodies.{either, stays_deep, place_of}
+use Rattle.cb_scan.proofs.Bodies.{def_name, either, stays_deep, place_of}
+use Rattle.cb_scan.proofs.HeadLemmas.{signature_def}
 
 -- the place of the name that a signature gives
 abbrev pub name_span : Signature → Span
 name_span s = s.name.span
+
+pub same_name : (o : Option Signature)
+    → option_map def_name (option_map signature_def o) ≡ option_map name_span o
+same_name None = refl
+same_name (Some s) = refl
 
 -- the token directly before token k
 abbrev pub token_before : List Token → ℕ → Option Token

@@ -22,20 +22,12 @@ use Rattle.cb_scan.specs.steps.wide.Functions.{opened_from, start}
 use Rattle.cb_scan.specs.steps.wide.Ranges.{Inside, called, calls_from, closed, entered}
 use Rattle.cb_scan.specs.steps.wide.Ranges.{later_opened, next, next_body, next_depth, next_opened}
 use Rattle.cb_scan.specs.steps.wide.Ranges.{outside, ranges_from}
+use Rattle.cb_scan.proofs.Bodies.{def_name}
 use Rattle.cb_scan.proofs.HeadLemmas.{signature_def}
 use Rattle.cb_scan.proofs.OpenBodies.{body_at, called_at, calls_after, calls_whole, closed_at}
 use Rattle.cb_scan.proofs.OpenBodies.{function_named, name_span, ranges_after, ranges_whole}
-use Rattle.cb_scan.proofs.OpenBodies.{token_before}
+use Rattle.cb_scan.proofs.OpenBodies.{same_name, token_before}
 use Rattle.cb_scan.proofs.WideFunctions.{all, is_sign_of, item, named_at, opened_are, opened_at}
-
--- the name of a definition
-abbrev def_name : Def → Span
-def_name d = d.name
-
-same_name : (o : Option Signature)
-    → option_map def_name (option_map signature_def o) ≡ option_map name_span o
-same_name None = refl
-same_name (Some s) = refl
 
 module _ (text : List ℕ) (ts : List Token) (bs : List Body) where
   -- what names the function whose `{` token k is, if one is
