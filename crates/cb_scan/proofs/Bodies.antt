@@ -1,27 +1,18 @@
 -- Where bodies end, and what is known of the depth in them.
 use Rattle.std.proofs.Common.{◌≡◌, ◌∙◌, ℕ, zero, suc, ◌+◌, ◌-◌, ◌<◌, ◌≤◌, Bool, true, false, List}
-use Rattle.std.proofs.Common.{[], Option, Some, None, refl, sym, ap, length, map, arith, add-one}
+use Rattle.std.proofs.Common.{[], Option, Some, None, refl, sym, ap, length, arith, add-one}
 use Rattle.std.proofs.Common.{inl, inr, ⊎_elim}
 use Rattle.std.proofs.lemmas.Bool.{false≢true, true≢false, eqb-true, eq-eqb}
 use Rattle.std.specs.Prelude.{◌⊎◌, ◌||◌, ◌&&◌, ◌==◌, if◌then◌else◌, cond, find, nat_lt, unwrap_or}
-use Rattle.std.specs.List.{flat_map, range_with_len}
-use Rattle.std.specs.Option.{MatchOption, option_to_list, option_map}
-use Rattle.cb_scan.specs.declared.facts.Call.{Call}
+use Rattle.std.specs.List.{range_with_len}
 use Rattle.cb_scan.specs.declared.facts.Def.{Def}
-use Rattle.cb_scan.specs.declared.rules.functions.Machine.{Machine}
 use Rattle.cb_scan.specs.declared.lex.piece.Span.{Span}
 use Rattle.cb_scan.specs.declared.lex.token.Token.{Token}
 use Rattle.cb_scan.specs.declared.lex.token.Role.{Role}
 use Rattle.cb_scan.specs.declared.lex.token.Role.TheVariants.{Word, Mark, Str, Other}
 use Rattle.cb_scan.specs.rules.Depth.{depth, is_counted, closes, is_stop, token_at}
-use Rattle.cb_scan.specs.Definitions.{function_def}
 use Rattle.cb_scan.specs.rules.Functions.{close_from, function_at, function_from, signature}
-use Rattle.cb_scan.specs.rules.Heads.{Signature}
-use Rattle.cb_scan.specs.rules.Scope.{function_range}
 use Rattle.cb_scan.specs.lex.Tokens.{is_mark, is_name_token}
-use Rattle.cb_scan.specs.rules.Uses.{call_at, calls_of_function}
-use Rattle.cb_scan.specs.steps.Functions.{range_to}
-use Rattle.cb_scan.proofs.FunctionLemmas.{IsAt}
 
 -- the token directly before token k, unless it is a stop
 abbrev pub last_at : List Token → ℕ → Option Token

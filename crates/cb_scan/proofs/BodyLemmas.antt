@@ -17,13 +17,14 @@ use Rattle.cb_scan.specs.rules.Scope.{function_range}
 use Rattle.cb_scan.specs.lex.Tokens.{is_mark}
 use Rattle.cb_scan.specs.rules.Uses.{call_of, calls_of_function, function_calls}
 use Rattle.cb_scan.specs.steps.Functions.{call_before, called, calls_from, closed, found, grown}
-use Rattle.cb_scan.specs.steps.Functions.{next, next_body, next_depth, range_to, ranges_from, start}
+use Rattle.cb_scan.specs.steps.Functions.{next, next_body, range_to, ranges_from, start}
 use Rattle.cb_scan.specs.steps.Heads.{empty_head}
 use Rattle.cb_scan.proofs.Bodies.{def_name, last_at, no_name}
 use Rattle.cb_scan.proofs.FunctionLemmas.{IsAt, depth_next, found_as, last_grown, step, stops_is}
 use Rattle.cb_scan.proofs.OpenBodies.{body_at, called_at, calls_after, calls_whole, closed_at}
 use Rattle.cb_scan.proofs.OpenBodies.{function_named, name_span, ranges_after, ranges_whole}
-use Rattle.cb_scan.proofs.OpenBodies.{same_name, token_before}
+use Rattle.cb_scan.proofs.OpenBodies.{same_name}
+use Rattle.cb_scan.proofs.OpenCalls.{token_before}
 
 -- a stop is no name, so that it is no call
 told_before : (ts : List Token) (k : ℕ) (o : Option Span)
@@ -37,8 +38,10 @@ told_before ts (suc k) (Some caller) = by_stop (is_stop ts k) refl
         → option_to_list (call_before (Some caller) (if b then None else Some (token_at ts k))
         (token_at ts (suc k)))
         ≡ option_to_list (call_before (Some caller) (Some (token_at ts k)) (token_at ts (suc k)))
-    by_stop true is = sym (ap (λ n. option_to_list
-        (cond (n && is_mark 40 (token_at ts (suc k)).role) (Some (call_of caller (token_at ts k))) None))
+    by_stop true is =
+        let call = Some (call_of caller (token_at ts k)) in
+        let opens = is_mark 40 (token_at ts (suc k)).role in
+        sym (ap (λ n. option_to_list (cond (n && opens) call None))
         (no_name (token_at ts k).role _ _ _ is))
     by_stop false is = refl
 

@@ -237,7 +237,8 @@ names_rise_from ts k (suc n) r =
         ++ map function_name (flat_map (function_at ts) (range_with_len (k + 1) n)))
     by_cases false is later =
         subst (λ fs. Rising (map function_name fs
-        ++ map function_name (flat_map (function_at ts) (range_with_len (k + 1) n)))) (sym (none_here ts k is)) later
+        ++ map function_name (flat_map (function_at ts) (range_with_len (k + 1) n))))
+        (sym (none_here ts k is)) later
     by_cases true is later =
         let parts : Rising (take k ts) × Rising (drop k ts) × Before (take k ts) (drop k ts) =
         rising-split (take k ts) (drop k ts) (subst Rising (sym (take-append-drop k ts)) r) in

@@ -26,6 +26,7 @@ pub mod MacroLines
 pub mod Merging
 pub mod OldStyleLemmas
 pub mod OpenBodies
+pub mod OpenCalls
 pub mod OrderLemmas
 pub mod PieceLists
 pub mod Prefixes
@@ -53,6 +54,7 @@ pub mod WidePointers
 pub mod WideRanges
 pub mod WideRuns
 pub mod WideSegments
+pub mod WideSigns
 pub mod WideTails
 pub mod WideTokens
 pub mod WithinLemmas

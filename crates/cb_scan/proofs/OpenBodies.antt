@@ -1,30 +1,33 @@
 -- The body that is open before a token, its range and the calls in it, whatever names the functions
 -- of the code.
-use Rattle.std.proofs.Common.{◌≡◌, ◌∙◌, ℕ, zero, suc, ◌+◌, ◌-◌, ◌<◌, ◌≤◌, Bool, true, false, List}
-use Rattle.std.proofs.Common.{[], ◌∷◌, ◌++◌, Option, Some, None, refl, sym, ap, subst, length, map}
+use Rattle.std.proofs.Common.{◌≡◌, ◌∙◌, ℕ, zero, suc, ◌+◌, ◌<◌, ◌≤◌, Bool, true, false, List}
+use Rattle.std.proofs.Common.{[], ◌++◌, Option, Some, None, refl, sym, ap, length, map}
 use Rattle.std.proofs.Common.{arith, lt-ltb, add-one, zero-add, ⊎_elim, append_assoc}
 use Rattle.std.proofs.lemmas.Bool.{true≢false, cases_Bool, eqb-true, false_from_ne_true, ltb-true}
-use Rattle.std.proofs.lemmas.List.{append-nil, get_or_past, map-append}
+use Rattle.std.proofs.lemmas.List.{append-nil, map-append}
 use Rattle.std.proofs.Math.Bool.{and-false}
 use Rattle.std.proofs.lemmas.List.Concat.{flat_map-append}
-use Rattle.std.specs.Prelude.{◌&&◌, ◌==◌, not, if◌then◌else◌, cond, nat_lt}
+use Rattle.std.specs.Prelude.{◌&&◌, ◌==◌, not, if◌then◌else◌, nat_lt}
 use Rattle.std.specs.List.{flat_map, range_with_len}
-use Rattle.std.specs.Option.{MatchOption, option_to_list, option_map}
+use Rattle.std.specs.Option.{option_to_list, option_map}
 use Rattle.cb_scan.specs.declared.facts.Call.{Call}
 use Rattle.cb_scan.specs.declared.lex.piece.Span.{Span}
 use Rattle.cb_scan.specs.declared.rules.scope.Range.{Range}
 use Rattle.cb_scan.specs.declared.lex.token.Token.{Token}
 use Rattle.cb_scan.specs.rules.Depth.{depth, depth_after, follows_linkage, is_counted}
-use Rattle.cb_scan.specs.rules.Depth.{closes, token_at, no_token}
+use Rattle.cb_scan.specs.rules.Depth.{closes, token_at}
 use Rattle.cb_scan.specs.rules.Functions.{Function, close_from, function_from}
 use Rattle.cb_scan.specs.rules.Heads.{Signature}
 use Rattle.cb_scan.specs.rules.Scope.{function_range}
-use Rattle.cb_scan.specs.lex.Tokens.{is_mark, is_name_token}
-use Rattle.cb_scan.specs.rules.Uses.{call_at, call_of, calls_of_function, is_call}
+use Rattle.cb_scan.specs.lex.Tokens.{is_mark}
+use Rattle.cb_scan.specs.rules.Uses.{call_at, calls_of_function}
 use Rattle.cb_scan.specs.steps.Functions.{call_before, range_to}
-use Rattle.cb_scan.proofs.Bodies.{close_step, close_end, close_bound, only_mark, and_left, and_right}
+use Rattle.cb_scan.proofs.Bodies.{and_left, and_right, close_end, close_step}
+use Rattle.cb_scan.proofs.Bodies.{only_mark}
 use Rattle.cb_scan.proofs.Bodies.{def_name, either, stays_deep, place_of}
 use Rattle.cb_scan.proofs.HeadLemmas.{signature_def}
+use Rattle.cb_scan.proofs.OpenCalls.{call_told, depth_zero, no_call_before, open_calls, open_end}
+use Rattle.cb_scan.proofs.OpenCalls.{open_past, open_step, pending, token_before}
 
 -- the place of the name that a signature gives
 abbrev pub name_span : Signature → Span
@@ -34,91 +37,6 @@ pub same_name : (o : Option Signature)
     → option_map def_name (option_map signature_def o) ≡ option_map name_span o
 same_name None = refl
 same_name (Some s) = refl
-
--- the token directly before token k
-abbrev pub token_before : List Token → ℕ → Option Token
-token_before ts zero = None
-token_before ts (suc k) = Some (token_at ts k)
-
--- the calls of an open body from token k on, the last of which the next token tells
-abbrev pub open_calls : List Token → ℕ → Span → List Call
-open_calls ts k caller = flat_map (call_at ts caller) (range_with_len k (close_from ts (suc k) - k))
-
--- the calls that are still to come of the body that is open before token k
-abbrev pub pending : List Token → ℕ → Option Span → List Call
-pending ts zero body = []
-pending ts (suc k) body = flat_map (open_calls ts k) (option_to_list body)
-
--- ---- the calls of an open body
-
--- the next token tells whether a token is a call
-call_told : (ts : List Token) (k : ℕ) (caller : Span)
-    → option_to_list (call_before (Some caller) (Some (token_at ts k)) (token_at ts (suc k)))
-    ≡ call_at ts caller k
-call_told ts k caller = one (is_call (token_at ts k) (token_at ts (suc k)))
-  where
-    one : (b : Bool) → option_to_list (cond b (Some (call_of caller (token_at ts k))) None)
-        ≡ cond b (call_of caller (token_at ts k) ∷ []) []
-    one true = refl
-    one false = refl
-
--- no token after the last one calls it
-no_call_at_end : (ts : List Token) (k : ℕ) (caller : Span) → length ts ≤ suc k
-    → call_at ts caller k ≡ []
-no_call_at_end ts k caller past =
-    let none : is_mark 40 (token_at ts (suc k)).role ≡ false =
-    ap (λ (u : Token). is_mark 40 u.role) (get_or_past ts (suc k) no_token past) in
-    ap (λ b. cond (is_name_token (token_at ts k).role && b) (call_of caller (token_at ts k) ∷ []) [])
-    none
-    ∙ ap (λ b. cond b (call_of caller (token_at ts k) ∷ []) [])
-    (and-false (is_name_token (token_at ts k).role))
-
--- the calls of an open body, one token on
-open_step : (ts : List Token) (k : ℕ) (caller : Span) → suc k < length ts
-    → closes ts (suc k) ≡ false
-    → open_calls ts k caller ≡ call_at ts caller k ++ open_calls ts (suc k) caller
-open_step ts k caller within goes_on =
-    let later : close_from ts (suc k) ≡ close_from ts (suc (suc k)) =
-    close_step ts (suc k) within
-    ∙ ap (λ b. if b then suc k else close_from ts (suc (suc k))) goes_on in
-    let bound : suc (suc k) ≤ close_from ts (suc (suc k)) =
-    close_bound ts (length ts - suc (suc k)) (suc (suc k)) refl (omega arith) in
-    let more : close_from ts (suc k) - k ≡ suc (close_from ts (suc (suc k)) - suc k) = omega arith in
-    ap (λ n. flat_map (call_at ts caller) (range_with_len k n)) more
-    ∙ ap (λ j. call_at ts caller k
-    ++ flat_map (call_at ts caller) (range_with_len j (close_from ts (suc (suc k)) - suc k)))
-    (add-one k)
-
-open_end : (ts : List Token) (k : ℕ) (caller : Span) → suc k < length ts
-    → closes ts (suc k) ≡ true → open_calls ts k caller ≡ []
-open_end ts k caller within ends =
-    let here_ends : close_from ts (suc k) ≡ suc k =
-    close_step ts (suc k) within
-    ∙ ap (λ b. if b then suc k else close_from ts (suc (suc k))) ends in
-    let one : close_from ts (suc k) - k ≡ 1 = omega arith in
-    let shut : is_mark 40 (token_at ts (suc k)).role ≡ false =
-    only_mark (token_at ts (suc k)).role 125 40 refl (and_left _ _ ends) in
-    ap (λ n. flat_map (call_at ts caller) (range_with_len k n)) one
-    ∙ append-nil _
-    ∙ ap (λ b. cond (is_name_token (token_at ts k).role && b) (call_of caller (token_at ts k) ∷ []) [])
-    shut
-    ∙ ap (λ b. cond b (call_of caller (token_at ts k) ∷ []) [])
-    (and-false (is_name_token (token_at ts k).role))
-
-open_past : (ts : List Token) (k : ℕ) (caller : Span) → length ts ≤ suc k
-    → open_calls ts k caller ≡ []
-open_past ts k caller past =
-    ap (λ e. flat_map (call_at ts caller) (range_with_len k (e - k))) (close_end ts (suc k) past)
-    ∙ few (length ts - k) (omega arith)
-  where
-    few : (n : ℕ) → n ≤ 1 → flat_map (call_at ts caller) (range_with_len k n) ≡ []
-    few zero small = refl
-    few (suc zero) small = append-nil _ ∙ no_call_at_end ts k caller past
-    few (suc (suc n)) small = absurd (omega arith)
-
-depth_zero : (ts : List Token) → depth ts 0 ≡ 0
-unfolding depth
-depth_zero ts = refl
 
 -- ---- the signature of the function whose `{` a token is, if one is
 
@@ -257,7 +175,8 @@ module _ (text : List ℕ) (ts : List Token) (named : ℕ → Option Signature)
       → option_to_list (closed_at k) ++ open_range (close_from ts (suc k)) (body_at (suc k))
       ≡ open_range (close_from ts k) (body_at k) ++ map (function_range text ts) (function_named k)
   range_step k within =
-      ⊎_elim ends (λ goes_on. ⊎_elim (outside goes_on) (inside goes_on) (cases_Bool (depth ts k == 0)))
+      ⊎_elim ends
+      (λ goes_on. ⊎_elim (outside goes_on) (inside goes_on) (cases_Bool (depth ts k == 0)))
       (cases_Bool (closes ts k))
     where
       end : ℕ
@@ -297,8 +216,8 @@ module _ (text : List ℕ) (ts : List Token) (named : ℕ → Option Signature)
       outside goes_on flat =
           (λ i. closing (goes_on i) ++ open_range (close_from ts (suc k)) (body_outside k flat i))
           ∙ sym (ranges_here k)
-          ∙ ap (λ o. open_range (close_from ts k) o ++ map (function_range text ts) (function_named k))
-          (sym (no_body k flat))
+          ∙ ap (λ o. open_range (close_from ts k) o
+          ++ map (function_range text ts) (function_named k)) (sym (no_body k flat))
 
       inside : closes ts k ≡ false → (depth ts k == 0) ≡ false
           → option_to_list (closed_at k) ++ open_range (close_from ts (suc k)) (body_at (suc k))
@@ -408,11 +327,8 @@ module _ (text : List ℕ) (ts : List Token) (named : ℕ → Option Signature)
           told_at_end (Some caller) ends =
               let shut : is_mark 40 (token_at ts (suc j)).role ≡ false =
               only_mark (token_at ts (suc j)).role 125 40 refl (and_left _ _ ends) in
-              let name = is_name_token (token_at ts j).role in
-              let call : Bool → List Call = λ b. cond b (call_of caller (token_at ts j) ∷ []) [] in
               call_told ts j caller
-              ∙ ap (λ b. call (name && b)) shut
-              ∙ ap call (and-false name)
+              ∙ no_call_before ts j caller shut
               ∙ sym (append-nil _ ∙ open_end ts j caller within ends)
 
           told_inside : (o : Option Span) → closes ts (suc j) ≡ false

@@ -2,7 +2,7 @@
 use Rattle.std.proofs.Common.{◌≡◌, ◌∙◌, ℕ, zero, suc, ◌+◌, ◌-◌, ◌≤◌, ◌<◌, Bool, true, false, List}
 use Rattle.std.proofs.Common.{[], ◌∷◌, ◌++◌, Option, None, refl, sym, ap, subst, fold, arith}
 use Rattle.std.proofs.Common.{length, take, drop, map, ⊎_elim, add-one, zero-add, append_assoc}
-use Rattle.std.proofs.lemmas.Bool.{cases_Bool, eqb-true, false≢true, or_parts}
+use Rattle.std.proofs.lemmas.Bool.{cases_Bool, eqb-true, false≢true}
 use Rattle.std.proofs.lemmas.List.{append-nil, drop-append-le, drop_all, map-append}
 use Rattle.std.proofs.lemmas.List.Concat.{flat_map-append}
 use Rattle.std.proofs.lemmas.List.FromFn.{length-map-range_with_len, map-range_with_len_more}
@@ -12,14 +12,10 @@ use Rattle.std.specs.List.{AllByRecursion, flat_map, range_with_len}
 use Rattle.std.specs.Option.{is_none, option_map, option_or, option_to_list}
 use Rattle.cb_scan.specs.declared.facts.Def.{Def}
 use Rattle.cb_scan.specs.declared.lex.token.Role.{Role}
-use Rattle.cb_scan.specs.declared.lex.token.Role.TheVariants.{Word, Mark, Str, Other}
 use Rattle.cb_scan.specs.declared.lex.token.Token.{Token}
-use Rattle.cb_scan.specs.declared.lex.token.WordKind.TheVariants as kind
 use Rattle.cb_scan.specs.declared.rules.heads.Head.{Head}
-use Rattle.cb_scan.specs.declared.rules.wide.role.WideRole.{WideRole}
-use Rattle.cb_scan.specs.declared.rules.wide.role.WideRole.TheVariants as wide
 use Rattle.cb_scan.specs.declared.rules.wide.token.WideToken.{WideToken}
-use Rattle.cb_scan.specs.lex.Tokens.{bytes_of, is_mark}
+use Rattle.cb_scan.specs.lex.Tokens.{is_mark}
 use Rattle.cb_scan.specs.rules.Depth.{closes, depth, depth_after, follows_linkage, head_start}
 use Rattle.cb_scan.specs.rules.Depth.{is_counted, is_open, is_stop, token_at}
 use Rattle.cb_scan.specs.Definitions.{function_def}
@@ -31,9 +27,7 @@ use Rattle.cb_scan.specs.rules.wide.Bodies.{Body, opens_body}
 use Rattle.cb_scan.specs.rules.wide.Functions.{plain, signature_from, wide_function_at}
 use Rattle.cb_scan.specs.rules.wide.Functions.{wide_functions, wide_head, wide_signature}
 use Rattle.cb_scan.specs.rules.wide.Levels.{wide_token, wide_tokens}
-use Rattle.cb_scan.specs.rules.wide.Words.{attribute_words, is_among, is_sign}
-use Rattle.cb_scan.specs.rules.wide.Words.{reserved_role, role_from, specifier_words}
-use Rattle.cb_scan.specs.rules.wide.Words.{statement_words, wide_role}
+use Rattle.cb_scan.specs.rules.wide.Words.{is_sign}
 use Rattle.cb_scan.specs.steps.Heads.{add, empty_head, next_opened}
 use Rattle.cb_scan.specs.steps.wide.Declarations.{is_block}
 use Rattle.cb_scan.specs.steps.wide.Functions as steps
@@ -48,57 +42,8 @@ use Rattle.cb_scan.proofs.OldStyleLemmas.{opened_along, semicolons_next}
 use Rattle.cb_scan.proofs.WideHeads.{head_is}
 use Rattle.cb_scan.proofs.WideRuns.{kept_all, run_is}
 use Rattle.cb_scan.proofs.WideSegments.{IsInner, after, along, headed_all, none_in}
+use Rattle.cb_scan.proofs.WideSigns.{no_signs, sign_of}
 use Rattle.cb_scan.proofs.WithinLemmas.{all-append}
-
--- ---- a token
-
-by_underscores : (b : ℕ) (u : Bool)
-    → is_sign b (if u then wide.Underscored else wide.Name) ≡ false
-by_underscores b true = refl
-by_underscores b false = refl
-
-by_words : (b : ℕ) (s t a : Bool)
-    → is_sign b (if s then wide.Specifier else (if t then wide.Statement
-    else (if a then wide.Attribute else wide.Reserved))) ≡ false
-by_words b true t a = refl
-by_words b false true a = refl
-by_words b false false true = refl
-by_words b false false false = refl
-
-by_apostrophe : (b : ℕ) (c : Bool)
-    → is_sign b (if c then wide.Character else wide.Number) ≡ false
-by_apostrophe b true = refl
-by_apostrophe b false = refl
-
--- its role is that of a lone byte where the token is one
-sign_from : (b : ℕ) (r : Role) (bytes : List ℕ) → is_sign b (role_from r bytes) ≡ is_mark b r
-unfolding reserved_role
-sign_from b (Word kind.Name) bytes = by_underscores b _
-sign_from b (Word kind.Define) bytes = by_underscores b _
-sign_from b (Word kind.Include) bytes = by_underscores b _
-sign_from b (Word kind.Typedef) bytes = refl
-sign_from b (Word kind.Extern) bytes = refl
-sign_from b (Word kind.Static) bytes = refl
-sign_from b (Word kind.Struct) bytes = refl
-sign_from b (Word kind.Union) bytes = refl
-sign_from b (Word kind.Enum) bytes = refl
-sign_from b (Word kind.Reserved) bytes =
-    by_words b (is_among specifier_words bytes) (is_among statement_words bytes)
-    (is_among attribute_words bytes)
-sign_from b (Mark x) bytes = refl
-sign_from b Str bytes = refl
-sign_from b Other bytes = by_apostrophe b _
-
-sign_of : (text : List ℕ) (b : ℕ) (t : Token) → is_sign b (wide_role text t) ≡ is_mark b t.role
-sign_of text b t = sign_from b t.role (bytes_of text t.span)
-
--- what ends no attribute is no `;` and no brace
-no_signs : (r : WideRole) → ends_attribute r ≡ false
-    → (is_sign 59 r ≡ false) × (is_sign 123 r ≡ false) × (is_sign 125 r ≡ false)
-no_signs r isnt =
-    let all_three = or_parts (is_sign 59 r || is_sign 123 r) (is_sign 125 r) isnt in
-    let first_two = or_parts (is_sign 59 r) (is_sign 123 r) all_three.0 in
-    (first_two.0, first_two.1, all_three.1)
 
 -- ---- what a head defines
 
@@ -401,7 +346,8 @@ module _ (text : List ℕ) (ts : List Token) (bs : List Body) where
             → (if c && flat then (if (c && b) && flat then function_here before else None) ∷ []
             else [])
             ≡ (if c && flat
-            then option_map signature_def (if b then wide_signature ts all k else None) ∷ [] else [])
+            then option_map signature_def (if b then wide_signature ts all k else None) ∷ []
+            else [])
         by_tests true true true is = ap (λ o. o ∷ []) (function_before is)
         by_tests true true false is = refl
         by_tests true false b is = refl

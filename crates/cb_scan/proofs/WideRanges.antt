@@ -1,13 +1,12 @@
 -- The pass over all tokens of the code finds the ranges of the functions of the wide profile and
 -- the calls in their bodies.
 use Rattle.std.proofs.Common.{◌≡◌, ◌∙◌, ℕ, zero, suc, ◌+◌, Bool, true, false, List, [], ◌∷◌, ◌++◌}
-use Rattle.std.proofs.Common.{Option, Some, None, refl, sym, ap, subst, arith, length, drop, map}
-use Rattle.std.proofs.Common.{add-one, zero-add}
+use Rattle.std.proofs.Common.{Option, None, refl, sym, ap, subst, length, drop, map}
+use Rattle.std.proofs.Common.{add-one}
 use Rattle.std.specs.Prelude.{◌&&◌, ◌==◌, not, if◌then◌else◌}
 use Rattle.std.specs.List.{flat_map, range_with_len}
 use Rattle.std.specs.Option.{option_map, option_to_list}
 use Rattle.cb_scan.specs.declared.facts.Def.{Def}
-use Rattle.cb_scan.specs.declared.lex.piece.Span.{Span}
 use Rattle.cb_scan.specs.declared.lex.token.Token.{Token}
 use Rattle.cb_scan.specs.rules.Depth.{depth, depth_after, is_counted, token_at}
 use Rattle.cb_scan.specs.rules.Functions.{function_from}
@@ -26,7 +25,8 @@ use Rattle.cb_scan.proofs.Bodies.{def_name}
 use Rattle.cb_scan.proofs.HeadLemmas.{signature_def}
 use Rattle.cb_scan.proofs.OpenBodies.{body_at, called_at, calls_after, calls_whole, closed_at}
 use Rattle.cb_scan.proofs.OpenBodies.{function_named, name_span, ranges_after, ranges_whole}
-use Rattle.cb_scan.proofs.OpenBodies.{same_name, token_before}
+use Rattle.cb_scan.proofs.OpenBodies.{same_name}
+use Rattle.cb_scan.proofs.OpenCalls.{token_before}
 use Rattle.cb_scan.proofs.WideFunctions.{all, is_sign_of, item, named_at, opened_are, opened_at}
 
 module _ (text : List ℕ) (ts : List Token) (bs : List Body) where
@@ -126,7 +126,8 @@ module _ (text : List ℕ) (ts : List Token) (bs : List Body) where
       (map (item text ts bs) (range_with_len k n))
       ≡ ranges_after text ts names none n k
   unfolding ranges_from ranges_after
-  ranges_rest zero k i here = ap (λ o. option_to_list (option_map (range_to (length text)) o)) here.body_is
+  ranges_rest zero k i here =
+      ap (λ o. option_to_list (option_map (range_to (length text)) o)) here.body_is
   ranges_rest (suc n) k i here =
       let later = opened_rest n (k + 1) in
       let on = next i (next_opened (opened_at text ts bs k ++ later)) (item text ts bs k) in

@@ -1,10 +1,9 @@
 -- The pass for functions along tokens among which there is no `;` and no brace.
-use Rattle.std.proofs.Common.{◌≡◌, ◌∙◌, ℕ, Bool, true, false, List, [], ◌∷◌, ◌++◌, None}
+use Rattle.std.proofs.Common.{◌≡◌, ◌∙◌, ℕ, Bool, true, false, List, [], ◌∷◌, ◌++◌}
 use Rattle.std.proofs.Common.{refl, sym, ap, fold, ◌+◌, ◌-◌, ⊎_elim}
 use Rattle.std.proofs.lemmas.Bool.{cases_Bool}
 use Rattle.std.specs.Prelude.{◌&&◌, ◌||◌, ◌==◌, cond, not, if◌then◌else◌}
 use Rattle.std.specs.List.{AllByRecursion}
-use Rattle.std.specs.Option.{option_to_list}
 use Rattle.cb_scan.specs.declared.rules.wide.head.WideHead.{WideHead}
 use Rattle.cb_scan.specs.declared.rules.wide.part.Part.{Part}
 use Rattle.cb_scan.specs.declared.rules.wide.token.WideToken.{WideToken}
