@@ -38,7 +38,9 @@ pub mod TypedefLemmas
 pub mod TypedefsWithin
 pub mod WideAhead
 pub mod WideAttributes
+pub mod WideBodies
 pub mod WideCalls
+pub mod WideContents
 pub mod WideCuts
 pub mod WideDeclarations
 pub mod WideEnumerators
@@ -50,6 +52,8 @@ pub mod WideMembers
 pub mod WideNaming
 pub mod WideOpenings
 pub mod WideParts
+pub mod WideSeen
+pub mod WideStack
 pub mod WidePointers
 pub mod WideRanges
 pub mod WideRuns
@@ -57,6 +61,7 @@ pub mod WideSegments
 pub mod WideSigns
 pub mod WideTails
 pub mod WideTokens
+pub mod Windows
 pub mod WithinLemmas
 pub mod WordLemmas
 pub mod WordRun

@@ -14,6 +14,7 @@ use Rattle.cb_scan.specs.declared.facts.Def.{Def}
 use Rattle.cb_scan.specs.declared.lex.token.Role.{Role}
 use Rattle.cb_scan.specs.declared.lex.token.Token.{Token}
 use Rattle.cb_scan.specs.declared.rules.heads.Head.{Head}
+use Rattle.cb_scan.specs.declared.rules.wide.machine.WideMachine.{WideMachine}
 use Rattle.cb_scan.specs.declared.rules.wide.token.WideToken.{WideToken}
 use Rattle.cb_scan.specs.lex.Tokens.{is_mark}
 use Rattle.cb_scan.specs.rules.Depth.{closes, depth, depth_after, follows_linkage, head_start}
@@ -31,7 +32,7 @@ use Rattle.cb_scan.specs.rules.wide.Words.{is_sign}
 use Rattle.cb_scan.specs.steps.Heads.{add, empty_head, next_opened}
 use Rattle.cb_scan.specs.steps.wide.Declarations.{is_block}
 use Rattle.cb_scan.specs.steps.wide.Functions as steps
-use Rattle.cb_scan.specs.steps.wide.Functions.{WideMachine, found, function_here, functions_from}
+use Rattle.cb_scan.specs.steps.wide.Functions.{found, function_here, functions_from}
 use Rattle.cb_scan.specs.steps.wide.Functions.{opened, opened_from}
 use Rattle.cb_scan.specs.steps.wide.Functions.{grown, next, next_depth, start, stopped, stops}
 use Rattle.cb_scan.specs.steps.wide.Heads as heads
@@ -58,7 +59,7 @@ here_by old h = function_here (record {
   depth = 0;
   head = fold add empty_head (plain h);
   parts = head_from heads.head_start h;
-  old = old;
+  opened = old;
 })
 
 here_is : (h : List WideToken) (segments : List (List Token))
@@ -73,7 +74,7 @@ here_is (x ∷ xs) segments =
       depth = 0;
       head = fold add empty_head (plain h);
       parts = head_from heads.head_start h;
-      old = old;
+      opened = old;
     } in
     let token : WideToken → Token = λ y. y.token in
     let name = option_or (option_map token (declared (head_from heads.head_start h)))
@@ -194,7 +195,7 @@ module _ (text : List ℕ) (ts : List Token) (bs : List Body) where
     segment_is : (depth ts k == 0) ≡ true → s ≡ drop (head_start ts k) (take k all)
     head_is : (depth ts k == 0) ≡ true → m.head ≡ empty_head
     parts_is : (depth ts k == 0) ≡ true → m.parts ≡ heads.head_start
-    old_is : m.old ≡ old_at k
+    old_is : m.opened ≡ old_at k
 
   holds_at_start : Holds 0 [] start
   unfolding depth head_start
@@ -301,9 +302,9 @@ module _ (text : List ℕ) (ts : List Token) (bs : List Body) where
         (λ b. (if b then headed_all m (without_attributes s) else m).depth ≡ m.depth)
         [ true ↦ refl | false ↦ refl ] ∙ here.depth_is
 
-    old_kept : before.old ≡ old_at k
+    old_kept : before.opened ≡ old_at k
     old_kept = elim (m.depth == 0) as
-        (λ b. (if b then headed_all m (without_attributes s) else m).old ≡ m.old)
+        (λ b. (if b then headed_all m (without_attributes s) else m).opened ≡ m.opened)
         [ true ↦ refl | false ↦ refl ] ∙ here.old_is
 
     module _ (flat : (depth ts k == 0) ≡ true) where
@@ -330,7 +331,7 @@ module _ (text : List ℕ) (ts : List Token) (bs : List Body) where
             depth = before.depth;
             head = head_before i;
             parts = parts_before i;
-            old = old_kept i;
+            opened = old_kept i;
           }))
           ∙ here_is (wide_head ts all k) (map head_at (semicolons_before ts k))
 
@@ -369,17 +370,17 @@ module _ (text : List ℕ) (ts : List Token) (bs : List Body) where
         (λ b. (if b then stopped before (item k) else grown before ys (item k)).depth
         ≡ next_depth before (item k)) [ true ↦ refl | false ↦ refl ] ∙ depth_next
 
-    old_grown : (ys : List WideToken) → (grown before ys (item k)).old ≡ before.old
+    old_grown : (ys : List WideToken) → (grown before ys (item k)).opened ≡ before.opened
     old_grown ys = elim (before.depth == 0) as
         (λ b. (record (if b then steps.headed before ys (item k) else before) {
           depth = next_depth before (item k);
-        }).old ≡ before.old) [ true ↦ refl | false ↦ refl ]
+        }).opened ≡ before.opened) [ true ↦ refl | false ↦ refl ]
 
-    old_after : (ys : List WideToken) → (next before ys (item k)).old ≡ old_at (suc k)
+    old_after : (ys : List WideToken) → (next before ys (item k)).opened ≡ old_at (suc k)
     old_after ys =
         elim (stops before (item k)) as
-        (λ b. (if b then stopped before (item k) else grown before ys (item k)).old
-        ≡ (if b then steps.next_old before (item k) else before.old))
+        (λ b. (if b then stopped before (item k) else grown before ys (item k)).opened
+        ≡ (if b then steps.next_old before (item k) else before.opened))
         [ true ↦ refl | false ↦ old_grown ys ]
         ∙ (λ i. if stops_is i
         then (if is_sign_of 59 k i then next_opened before.head (old_kept i) else None)

@@ -6,6 +6,7 @@ use Rattle.std.specs.Prelude.{◌&&◌, ◌||◌, ◌==◌, cond, not, if◌then
 use Rattle.std.specs.List.{AllByRecursion}
 use Rattle.cb_scan.specs.declared.rules.wide.head.WideHead.{WideHead}
 use Rattle.cb_scan.specs.declared.rules.wide.part.Part.{Part}
+use Rattle.cb_scan.specs.declared.rules.wide.machine.WideMachine.{WideMachine}
 use Rattle.cb_scan.specs.declared.rules.wide.token.WideToken.{WideToken}
 use Rattle.cb_scan.specs.lex.Tokens.{is_mark}
 use Rattle.cb_scan.specs.rules.Typedefs.{nesting_after}
@@ -17,7 +18,7 @@ use Rattle.cb_scan.specs.rules.wide.Words.{is_sign}
 use Rattle.cb_scan.specs.steps.Heads.{add}
 use Rattle.cb_scan.specs.steps.wide.Along.{items}
 use Rattle.cb_scan.specs.steps.wide.Declarations.{is_block}
-use Rattle.cb_scan.specs.steps.wide.Functions.{WideMachine, found, opened, opened_from}
+use Rattle.cb_scan.specs.steps.wide.Functions.{found, opened, opened_from}
 use Rattle.cb_scan.specs.steps.wide.Functions.{headed, next, next_depth, stopped, stops}
 use Rattle.cb_scan.specs.steps.wide.Heads.{declared, head_from, next_head}
 use Rattle.cb_scan.specs.steps.wide.Parts.{next_part, part_start}

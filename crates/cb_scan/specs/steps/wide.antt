@@ -2,6 +2,7 @@ pub mod Ahead
 pub mod Along
 pub mod Attributes
 pub mod Called
+pub mod Contents
 pub mod Declarations
 pub mod Enumerators
 pub mod Functions

@@ -1,37 +1,24 @@
 -- The functions of the wide profile, a token at a time. Attributes are left out.
-use Rattle.std.specs.Prelude.{ℕ, Bool, ◌&&◌, ◌||◌, ◌==◌, not, List, [], ◌∷◌, ◌++◌, Option, None}
+use Rattle.std.specs.Prelude.{ℕ, Bool, ◌&&◌, ◌||◌, ◌==◌, List, [], ◌∷◌, ◌++◌, Option, None}
 use Rattle.std.specs.Prelude.{if◌then◌else◌}
 use Rattle.std.specs.Option.{is_none, option_map, option_or, option_to_list}
 use Rattle.cb_scan.specs.declared.facts.Def.{Def}
 use Rattle.cb_scan.specs.declared.lex.token.Token.{Token}
-use Rattle.cb_scan.specs.declared.rules.heads.Head.{Head}
-use Rattle.cb_scan.specs.declared.rules.wide.head.WideHead.{WideHead}
+use Rattle.cb_scan.specs.declared.rules.wide.machine.WideMachine.{WideMachine}
 use Rattle.cb_scan.specs.declared.rules.wide.token.WideToken.{WideToken}
 use Rattle.cb_scan.specs.rules.Depth.{depth_after}
 use Rattle.cb_scan.specs.rules.wide.Bodies.{Body}
 use Rattle.cb_scan.specs.rules.wide.Words.{is_sign}
-use Rattle.cb_scan.specs.steps.Heads.{add, def_of, empty_head, may_end, next_opened}
+use Rattle.cb_scan.specs.steps.Heads.{add, def_of, defines, empty_head, next_opened}
 use Rattle.cb_scan.specs.steps.wide.Declarations.{is_block, is_linkage}
 use Rattle.cb_scan.specs.steps.wide.Heads.{declared, head_start, next_head}
 use Rattle.cb_scan.specs.Bytes.{close_brace, semicolon}
 
--- what is known before a token: the depth, the head so far and its parts, and the function in the
--- old style that is open
-pub record WideMachine : Type 0 where
-  pub depth : ℕ
-  pub head : Head
-  pub parts : WideHead
-  pub old : Option Def
-
 -- the beginning of the code
 abbrev pub start : WideMachine
-start = record { depth = 0; head = empty_head; parts = head_start; old = None }
+start = record { depth = 0; head = empty_head; parts = head_start; opened = None }
 
 -- ---- the function that a `{` opens
-
--- the head is that of a function
-abbrev pub defines : Head → Bool
-defines h = not h.begins_with_typedef && not h.has_equals && may_end h.last
 
 -- the name that the head defines: that of a prototype, or else the first called name
 abbrev pub head_name : WideMachine → Option Token
@@ -44,7 +31,7 @@ defined m =
 
 -- the function that a `{` opens here: that of the head, or where it is empty one in the old style
 abbrev pub function_here : WideMachine → Option Def
-function_here m = if is_none m.head.last then m.old else defined m
+function_here m = if is_none m.head.last then m.opened else defined m
 
 -- the function whose `{` is the token, where it is said whether the token is a block
 abbrev pub found : WideMachine → Bool → Option Def
@@ -65,7 +52,7 @@ stops m x =
 
 -- the function in the old style that is open after a stop
 abbrev pub next_old : WideMachine → WideToken → Option Def
-next_old m x = if is_sign semicolon x.role then next_opened m.head m.old else None
+next_old m x = if is_sign semicolon x.role then next_opened m.head m.opened else None
 
 -- after a stop
 abbrev pub stopped : WideMachine → WideToken → WideMachine
@@ -73,7 +60,7 @@ stopped m x = record {
   depth = next_depth m x;
   head = empty_head;
   parts = head_start;
-  old = next_old m x;
+  opened = next_old m x;
 }
 
 -- after the first token, where it is a token of the head
