@@ -8,8 +8,11 @@ pub mod Enumerators
 pub mod Functions
 pub mod Heads
 pub mod Levels
+pub mod Lists
+pub mod Objects
 pub mod Openings
 pub mod Parts
+pub mod Pass
 pub mod Pointers
 pub mod Ranges
 pub mod Tails
