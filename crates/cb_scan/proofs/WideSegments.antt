@@ -1,6 +1,6 @@
 -- The pass for functions along tokens among which there is no `;` and no brace.
 use Rattle.std.proofs.Common.{◌≡◌, ◌∙◌, ℕ, Bool, true, false, List, [], ◌∷◌, ◌++◌}
-use Rattle.std.proofs.Common.{refl, sym, ap, fold, ◌+◌, ◌-◌, ⊎_elim}
+use Rattle.std.proofs.Common.{refl, sym, ap, subst, fold, ◌+◌, ◌-◌, ⊎_elim}
 use Rattle.std.proofs.lemmas.Bool.{cases_Bool}
 use Rattle.std.specs.Prelude.{◌&&◌, ◌||◌, ◌==◌, cond, not, if◌then◌else◌}
 use Rattle.std.specs.List.{AllByRecursion}
@@ -126,51 +126,82 @@ headed_all m s = record m { head = fold add m.head (plain s); parts = head_from 
 abbrev pub after : WideMachine → List WideToken → WideMachine
 after m s = if m.depth == 0 then headed_all m s else m
 
+-- no depth is changed in it
+same_depth : (m : WideMachine) (xs : List WideToken) (x : WideToken) → IsInner x
+    → (next m xs x).depth ≡ m.depth
+same_depth m xs x inner =
+    ap (λ (n : WideMachine). n.depth) (next_inner m xs x inner)
+    ∙ elim (m.depth == 0) as (λ b. (if b then headed m xs x else m).depth ≡ m.depth)
+    [ true ↦ refl | false ↦ refl ]
+
+-- a pass to which the tokens of a segment add nothing, at depths of some kind
+module _ {X : Type 0} (pass : WideMachine → List WideToken → X) (Fine : ℕ → Type 0)
+    (empty : X) (at_end : (m : WideMachine) → pass m [] ≡ empty)
+    (step : (m : WideMachine) (x : WideToken) (xs : List WideToken) → IsInner x → Fine m.depth
+    → pass m (x ∷ xs) ≡ pass (next m (x ∷ xs) x) xs) where
+  -- along a segment that is the last
+  pub to_end : (m : WideMachine) (s : List WideToken) → AllByRecursion IsInner s → Fine m.depth
+      → pass m s ≡ empty
+  to_end m [] all fine = at_end m
+  to_end m (x ∷ s) all fine =
+      step m x s all.0 fine
+      ∙ to_end (next m (x ∷ s) x) s all.1 (subst Fine (sym (same_depth m (x ∷ s) x all.0)) fine)
+
+  -- along a segment up to its end
+  module _ (q : WideToken) (rest : List WideToken) (last : ends_attribute q.role ≡ true) where
+    deep : (m : WideMachine) (s : List WideToken) → AllByRecursion IsInner s → Fine m.depth
+        → (m.depth == 0) ≡ false → pass m (s ++ q ∷ rest) ≡ pass m (q ∷ rest)
+    deep m [] all fine isnt = refl
+    deep m (x ∷ s) all fine isnt =
+        let xs = s ++ q ∷ rest in
+        step m x xs all.0 fine
+        ∙ ap (λ n. pass n xs) (next_inner m (x ∷ xs) x all.0
+        ∙ ap (λ b. if b then headed m (x ∷ xs) x else m) isnt)
+        ∙ deep m s all.1 fine isnt
+
+    flat : (m : WideMachine) (s : List WideToken) → AllByRecursion IsInner s → Fine m.depth
+        → (m.depth == 0) ≡ true → pass m (s ++ q ∷ rest) ≡ pass (headed_all m s) (q ∷ rest)
+    unfolding head_from
+    flat m [] all fine is = refl
+    flat m (x ∷ s) all fine is =
+        let xs = s ++ q ∷ rest in
+        step m x xs all.0 fine
+        ∙ ap (λ n. pass n xs) (next_inner m (x ∷ xs) x all.0
+        ∙ ap (λ b. if b then headed m (x ∷ xs) x else m) is
+        ∙ ap (λ h. record m { head = add m.head x.token; parts = h })
+        (head_same q rest last m.parts x s all.1))
+        ∙ flat (headed m (x ∷ s) x) s all.1 fine is
+
+    pub to_mark : (m : WideMachine) (s : List WideToken) → AllByRecursion IsInner s
+        → Fine m.depth → pass m (s ++ q ∷ rest) ≡ pass (after m s) (q ∷ rest)
+    to_mark m s all fine =
+        ⊎_elim
+        (λ is. flat m s all fine is
+        ∙ ap (λ b. pass (if b then headed_all m s else m) (q ∷ rest)) (sym is))
+        (λ isnt. deep m s all fine isnt
+        ∙ ap (λ b. pass (if b then headed_all m s else m) (q ∷ rest)) (sym isnt))
+        (cases_Bool (m.depth == 0))
+
 -- a segment opens nothing
-pub none_in : (bs : List Body) (m : WideMachine) (s : List WideToken) → AllByRecursion IsInner s
-    → opened_from bs m s ≡ []
-unfolding opened_from
-none_in bs m [] all = refl
-none_in bs m (x ∷ s) all =
-    ap (λ l. l ++ opened_from bs (next m (x ∷ s) x) s) (none_opened bs m x all.0)
-    ∙ none_in bs (next m (x ∷ s) x) s all.1
-
--- the pass along a segment, up to its end
-module _ (bs : List Body) (q : WideToken) (rest : List WideToken)
-    (last : ends_attribute q.role ≡ true) where
-  deep : (m : WideMachine) (s : List WideToken) → AllByRecursion IsInner s
-      → (m.depth == 0) ≡ false
-      → opened_from bs m (s ++ q ∷ rest) ≡ opened_from bs m (q ∷ rest)
+module _ (bs : List Body) where
+  opens_nothing : (m : WideMachine) (x : WideToken) (xs : List WideToken) → IsInner x
+      → Unit {0} → opened_from bs m (x ∷ xs) ≡ opened_from bs (next m (x ∷ xs) x) xs
   unfolding opened_from
-  deep m [] all isnt = refl
-  deep m (x ∷ s) all isnt =
-      let xs = s ++ q ∷ rest in
-      ap (λ l. l ++ opened_from bs (next m (x ∷ xs) x) xs) (none_opened bs m x all.0)
-      ∙ ap (λ n. opened_from bs n xs) (next_inner m (x ∷ xs) x all.0
-      ∙ ap (λ b. if b then headed m (x ∷ xs) x else m) isnt)
-      ∙ deep m s all.1 isnt
+  opens_nothing m x xs inner fine =
+      ap (λ l. l ++ opened_from bs (next m (x ∷ xs) x) xs) (none_opened bs m x inner)
 
-  flat : (m : WideMachine) (s : List WideToken) → AllByRecursion IsInner s
-      → (m.depth == 0) ≡ true
-      → opened_from bs m (s ++ q ∷ rest) ≡ opened_from bs (headed_all m s) (q ∷ rest)
-  unfolding opened_from head_from
-  flat m [] all is = refl
-  flat m (x ∷ s) all is =
-      let xs = s ++ q ∷ rest in
-      let n = headed m (x ∷ s) x in
-      ap (λ l. l ++ opened_from bs (next m (x ∷ xs) x) xs) (none_opened bs m x all.0)
-      ∙ ap (λ n. opened_from bs n xs) (next_inner m (x ∷ xs) x all.0
-      ∙ ap (λ b. if b then headed m (x ∷ xs) x else m) is
-      ∙ ap (λ h. record m { head = add m.head x.token; parts = h })
-      (head_same q rest last m.parts x s all.1))
-      ∙ flat n s all.1 is
+  opens_none_at_end : (m : WideMachine) → opened_from bs m [] ≡ []
+  unfolding opened_from
+  opens_none_at_end m = refl
 
-  pub along : (m : WideMachine) (s : List WideToken) → AllByRecursion IsInner s
+  pub none_in : (m : WideMachine) (s : List WideToken) → AllByRecursion IsInner s
+      → opened_from bs m s ≡ []
+  none_in m s all =
+      to_end (opened_from bs) (λ d. Unit {0}) [] opens_none_at_end opens_nothing m s all tt
+
+  pub along : (q : WideToken) (rest : List WideToken) → ends_attribute q.role ≡ true
+      → (m : WideMachine) (s : List WideToken) → AllByRecursion IsInner s
       → opened_from bs m (s ++ q ∷ rest) ≡ opened_from bs (after m s) (q ∷ rest)
-  along m s all =
-      ⊎_elim
-      (λ is. flat m s all is
-      ∙ ap (λ b. opened_from bs (if b then headed_all m s else m) (q ∷ rest)) (sym is))
-      (λ isnt. deep m s all isnt
-      ∙ ap (λ b. opened_from bs (if b then headed_all m s else m) (q ∷ rest)) (sym isnt))
-      (cases_Bool (m.depth == 0))
+  along q rest last m s all =
+      to_mark (opened_from bs) (λ d. Unit {0}) [] opens_none_at_end opens_nothing q rest last m s
+      all tt
