@@ -38,6 +38,7 @@ pub mod TypedefLemmas
 pub mod TypedefsWithin
 pub mod WideAhead
 pub mod WideAttributes
+pub mod WideBareRanges
 pub mod WideBodies
 pub mod WideCalls
 pub mod WideContents

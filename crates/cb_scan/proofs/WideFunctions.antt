@@ -42,7 +42,8 @@ use Rattle.cb_scan.proofs.HeadLemmas.{called_is, named_of, signature_def}
 use Rattle.cb_scan.proofs.OldStyleLemmas.{opened_along, semicolons_next}
 use Rattle.cb_scan.proofs.WideHeads.{head_is}
 use Rattle.cb_scan.proofs.WideRuns.{kept_all, run_is}
-use Rattle.cb_scan.proofs.WideSegments.{IsInner, after, along, headed_all, none_in}
+use Rattle.cb_scan.proofs.WideSegments.{IsInner, after, after_depth, along, depth_next_is}
+use Rattle.cb_scan.proofs.WideSegments.{headed_all, none_in}
 use Rattle.cb_scan.proofs.WideSigns.{no_signs, sign_of}
 use Rattle.cb_scan.proofs.WithinLemmas.{all-append}
 
@@ -210,7 +211,7 @@ module _ (text : List ℕ) (ts : List Token) (bs : List Body) where
 
   -- ---- a token of a segment
 
-  module _ (k : ℕ) (within : k < length ts) (goes_on : ends_attribute (item k).role ≡ false) where
+  module _ (k : ℕ) (goes_on : ends_attribute (item k).role ≡ false) where
     abbrev role : Role
     role = (token_at ts k).role
 
@@ -229,7 +230,7 @@ module _ (text : List ℕ) (ts : List Token) (bs : List Body) where
     no_close_mark : is_mark 125 role ≡ false
     no_close_mark = sym (is_sign_of 125 k) ∙ no_close
 
-    is_inner : IsInner (item k)
+    pub is_inner : IsInner (item k)
     is_inner = record {
       no_semicolon = no_semicolon;
       no_open = no_open;
@@ -261,26 +262,27 @@ module _ (text : List ℕ) (ts : List Token) (bs : List Body) where
         ∙ ap (λ b. cond b (cond (is_mark 59 role) (k ∷ semicolons_before ts k) [])
         (semicolons_before ts k)) no_stop)
 
-    segment_more : drop (head_start ts (suc k)) (take (suc k) all)
+    segment_more : k < length ts → drop (head_start ts (suc k)) (take (suc k) all)
         ≡ drop (head_start ts k) (take k all) ++ item k ∷ []
     unfolding head_start
-    segment_more =
+    segment_more within =
         let long : head_start ts k ≤ length (take k all) =
         omega (arith, head_start_le ts k, taken_length k (omega arith)) in
         ap (λ b. drop (if b then suc k else head_start ts k) (take (suc k) all)) no_stop
         ∙ ap (drop (head_start ts k)) (taken_more k within)
         ∙ drop-append-le (head_start ts k) (take k all) (item k ∷ []) long
 
-    one_more : (s : List WideToken) (m : WideMachine) → Holds k s m
+    one_more : k < length ts → (s : List WideToken) (m : WideMachine) → Holds k s m
         → Holds (suc k) (s ++ item k ∷ []) m
-    one_more s m here =
+    one_more within s m here =
         let before : (depth ts (suc k) == 0) ≡ true → (depth ts k == 0) ≡ true =
         λ flat. ap (λ d. d == 0) (sym same_depth) ∙ flat in
         record {
           inner = all-append IsInner s (item k ∷ []) here.inner (is_inner, tt);
           depth_is = here.depth_is ∙ sym same_depth;
           segment_is = λ flat.
-              ap (λ l. l ++ item k ∷ []) (here.segment_is (before flat)) ∙ sym segment_more;
+              ap (λ l. l ++ item k ∷ []) (here.segment_is (before flat))
+              ∙ sym (segment_more within);
           head_is = λ flat. here.head_is (before flat);
           parts_is = λ flat. here.parts_is (before flat);
           old_is = here.old_is ∙ sym same_old;
@@ -298,9 +300,7 @@ module _ (text : List ℕ) (ts : List Token) (bs : List Body) where
     before = after m (without_attributes s)
 
     depth_kept : before.depth ≡ depth ts k
-    depth_kept = elim (m.depth == 0) as
-        (λ b. (if b then headed_all m (without_attributes s) else m).depth ≡ m.depth)
-        [ true ↦ refl | false ↦ refl ] ∙ here.depth_is
+    depth_kept = after_depth m (without_attributes s) ∙ here.depth_is
 
     old_kept : before.opened ≡ old_at k
     old_kept = elim (m.depth == 0) as
@@ -366,9 +366,7 @@ module _ (text : List ℕ) (ts : List Token) (bs : List Body) where
         (uncounted_is (is_open ts k) (follows_linkage ts k))
 
     depth_after_it : (ys : List WideToken) → (next before ys (item k)).depth ≡ depth ts (suc k)
-    depth_after_it ys = elim (stops before (item k)) as
-        (λ b. (if b then stopped before (item k) else grown before ys (item k)).depth
-        ≡ next_depth before (item k)) [ true ↦ refl | false ↦ refl ] ∙ depth_next
+    depth_after_it ys = depth_next_is before ys (item k) ∙ depth_next
 
     old_grown : (ys : List WideToken) → (grown before ys (item k)).opened ≡ before.opened
     old_grown ys = elim (before.depth == 0) as
@@ -458,10 +456,10 @@ module _ (text : List ℕ) (ts : List Token) (bs : List Body) where
       (λ goes_on.
       let s_next = s ++ item k ∷ [] in
       let here_next : Holds (k + 1) s_next m =
-      subst (λ j. Holds j s_next m) (sym (add-one k)) (one_more k within goes_on s m here) in
+      subst (λ j. Holds j s_next m) (sym (add-one k)) (one_more k goes_on within s m here) in
       ap (λ l. opened_from bs m (without_attributes l)) (sym (append_assoc s (item k ∷ []) rest))
       ∙ from n (k + 1) s_next m more here_next
-      ∙ ap (λ l. l ++ later) (sym (none_here k within goes_on)))
+      ∙ ap (λ l. l ++ later) (sym (none_here k goes_on)))
       (cases_Bool (ends_attribute (item k).role))
 
   -- what each `{` opens that counts outside all braces

@@ -9,6 +9,7 @@ use Rattle.cb_scan.specs.declared.rules.wide.part.Part.{Part}
 use Rattle.cb_scan.specs.declared.rules.wide.machine.WideMachine.{WideMachine}
 use Rattle.cb_scan.specs.declared.rules.wide.token.WideToken.{WideToken}
 use Rattle.cb_scan.specs.lex.Tokens.{is_mark}
+use Rattle.cb_scan.specs.rules.Depth.{depth_after}
 use Rattle.cb_scan.specs.rules.Typedefs.{nesting_after}
 use Rattle.cb_scan.specs.rules.wide.Attributes.{ends_attribute}
 use Rattle.cb_scan.specs.rules.wide.Bodies.{Body}
@@ -19,7 +20,7 @@ use Rattle.cb_scan.specs.steps.Heads.{add}
 use Rattle.cb_scan.specs.steps.wide.Along.{items}
 use Rattle.cb_scan.specs.steps.wide.Declarations.{is_block}
 use Rattle.cb_scan.specs.steps.wide.Functions.{found, opened, opened_from}
-use Rattle.cb_scan.specs.steps.wide.Functions.{headed, next, next_depth, stopped, stops}
+use Rattle.cb_scan.specs.steps.wide.Functions.{grown, headed, next, next_depth, stopped, stops}
 use Rattle.cb_scan.specs.steps.wide.Heads.{declared, head_from, next_head}
 use Rattle.cb_scan.specs.steps.wide.Parts.{next_part, part_start}
 use Rattle.cb_scan.proofs.WideAhead.{cut_at}
@@ -101,7 +102,13 @@ none_opened : (bs : List Body) (m : WideMachine) (x : WideToken) → IsInner x
 none_opened bs m x inner =
     ap (λ c. if c && m.depth == 0 then found m (is_block bs x) ∷ [] else []) inner.uncounted
 
--- and is of the head at depth 0
+-- nor is the depth another after it
+pub depth_inner : (d : ℕ) (x : WideToken) → IsInner x → depth_after x.counted x.token d ≡ d
+depth_inner d x inner =
+    (λ i. if inner.uncounted i then d + 1
+    else (if inner.no_mark i then (if x.token.starts_line then 0 else d - 1) else d))
+
+-- it is of the head at depth 0
 next_inner : (m : WideMachine) (xs : List WideToken) (x : WideToken) → IsInner x
     → next m xs x ≡ (if m.depth == 0 then headed m xs x else m)
 next_inner m xs x inner =
@@ -109,12 +116,10 @@ next_inner m xs x inner =
     (λ i. (inner.no_semicolon i && m.depth == 0)
     || (inner.no_close i && next_depth m x == 0)
     || (inner.no_open i && not x.counted)) in
-    let same : next_depth m x ≡ m.depth =
-    (λ i. if inner.uncounted i then m.depth + 1
-    else (if inner.no_mark i then (if x.token.starts_line then 0 else m.depth - 1)
-    else m.depth)) in
     (λ i. if no_stop i then stopped m x
-    else record (if m.depth == 0 then headed m xs x else m) { depth = same i })
+    else record (if m.depth == 0 then headed m xs x else m) {
+      depth = depth_inner m.depth x inner i;
+    })
     ∙ elim (m.depth == 0) as (λ b. record (if b then headed m xs x else m) { depth = m.depth }
     ≡ (if b then headed m xs x else m)) [ true ↦ refl | false ↦ refl ]
 
@@ -126,13 +131,17 @@ headed_all m s = record m { head = fold add m.head (plain s); parts = head_from 
 abbrev pub after : WideMachine → List WideToken → WideMachine
 after m s = if m.depth == 0 then headed_all m s else m
 
--- no depth is changed in it
-same_depth : (m : WideMachine) (xs : List WideToken) (x : WideToken) → IsInner x
-    → (next m xs x).depth ≡ m.depth
-same_depth m xs x inner =
-    ap (λ (n : WideMachine). n.depth) (next_inner m xs x inner)
-    ∙ elim (m.depth == 0) as (λ b. (if b then headed m xs x else m).depth ≡ m.depth)
+-- the depth after any token
+pub depth_next_is : (m : WideMachine) (xs : List WideToken) (x : WideToken)
+    → (next m xs x).depth ≡ next_depth m x
+depth_next_is m xs x = elim (stops m x) as
+    (λ b. (if b then stopped m x else grown m xs x).depth ≡ next_depth m x)
     [ true ↦ refl | false ↦ refl ]
+
+-- after a segment it is as before
+pub after_depth : (m : WideMachine) (s : List WideToken) → (after m s).depth ≡ m.depth
+after_depth m s = elim (m.depth == 0) as
+    (λ b. (if b then headed_all m s else m).depth ≡ m.depth) [ true ↦ refl | false ↦ refl ]
 
 -- a pass to which the tokens of a segment add nothing, at depths of some kind
 module _ {X : Type 0} (pass : WideMachine → List WideToken → X) (Fine : ℕ → Type 0)
@@ -145,7 +154,8 @@ module _ {X : Type 0} (pass : WideMachine → List WideToken → X) (Fine : ℕ 
   to_end m [] all fine = at_end m
   to_end m (x ∷ s) all fine =
       step m x s all.0 fine
-      ∙ to_end (next m (x ∷ s) x) s all.1 (subst Fine (sym (same_depth m (x ∷ s) x all.0)) fine)
+      ∙ to_end (next m (x ∷ s) x) s all.1
+      (subst Fine (sym (depth_next_is m (x ∷ s) x ∙ depth_inner m.depth x all.0)) fine)
 
   -- along a segment up to its end
   module _ (q : WideToken) (rest : List WideToken) (last : ends_attribute q.role ≡ true) where
