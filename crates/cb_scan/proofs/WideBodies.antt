@@ -6,7 +6,7 @@ use Rattle.std.proofs.lemmas.Bool.{cases_Bool, eq-eqb, eqb-true, false_from_ne_t
 use Rattle.std.proofs.lemmas.List.{append-nil, reverse-append}
 use Rattle.std.proofs.lemmas.List.Concat.{flat_map-append}
 use Rattle.std.proofs.lemmas.List.Folds.{find-append}
-use Rattle.std.specs.Prelude.{◌||◌, ◌==◌, cond, find, reverse, slice_index_or, take, if◌then◌else◌}
+use Rattle.std.specs.Prelude.{◌||◌, ◌==◌, cond, reverse, take, if◌then◌else◌}
 use Rattle.std.specs.List.{flat_map, range_with_len}
 use Rattle.std.specs.List.Sorted.{IsPermutation}
 use Rattle.std.specs.Option.{is_some, option_map, option_map_or, option_or}
@@ -38,7 +38,7 @@ use Rattle.cb_scan.specs.steps.wide.Openings.{the_opening}
 use Rattle.cb_scan.proofs.WideContents.{enumerators_of_level, members_of_level}
 use Rattle.cb_scan.proofs.WideOpenings.{opening_next}
 use Rattle.cb_scan.proofs.WideStack.{goes_on_places}
-use Rattle.cb_scan.proofs.WideStack.{Below, Open, Rise, content, goes_on, levels, next_opens, opened_here}
+use Rattle.cb_scan.proofs.WideStack.{Open, Rise, content, goes_on, levels, next_opens}
 use Rattle.cb_scan.proofs.WideStack.{next_are_places, opens_from, places, stack_is}
 
 -- ---- bodies, one token after the other
@@ -313,10 +313,10 @@ module _ (bs : List Body) (ps : List Placed) where
       → Tagged bs (cond b (new ∷ goes_on os (x ∷ xs) x)
       (if is_sign 125 x.role then (if x.token.starts_line then [] else drop 1 os) else goes_on os (x ∷ xs) x))) [
         | true ↦ λ f. (
-            tag_opened bs (tag_inside (levels os)) p names kind inside (f refl)
-                ∙ ap (λ a. tag_around bs (x.token.span.start ∷ a)) (sym (goes_on_places os (x ∷ xs) x)),
-            tagged_on bs os (x ∷ xs) x tagged,
-          )
+          tag_opened bs (tag_inside (levels os)) p names kind inside (f refl)
+              ∙ ap (λ a. tag_around bs (x.token.span.start ∷ a)) (sym (goes_on_places os (x ∷ xs) x)),
+          tagged_on bs os (x ∷ xs) x tagged,
+        )
         | false ↦ λ f. elim (is_sign 125 x.role) as (λ b. Tagged bs
             (cond b (if x.token.starts_line then [] else drop 1 os) (goes_on os (x ∷ xs) x))) [
               | true ↦ elim (x.token.starts_line) as (λ b. Tagged bs (cond b [] (drop 1 os)))
@@ -376,8 +376,7 @@ module _ (bs : List Body) where
       let p : Placed = record { item = x; around = around } in
       let after = around_after x around in
       let here = body_here before p in
-      let names = names_first before in
-      (
+      let names = names_first before in (
         (λ counted. any_is_found bs x.token.span.start
             ∙ ap is_some (found_here bs past before around n x xs all none rise counted)
             ∙ some_kind p names (first_kind (drop (length names) before))),

@@ -4,7 +4,6 @@ use Rattle.std.specs.Prelude.{cond, if◌then◌else◌}
 use Rattle.std.specs.List.{flat_map}
 use Rattle.cb_scan.specs.declared.rules.wide.declaration.Declaration.{Declaration}
 use Rattle.cb_scan.specs.declared.rules.wide.def.Tag.{Tag}
-use Rattle.cb_scan.specs.declared.rules.wide.def.WideDef.{WideDef}
 use Rattle.cb_scan.specs.declared.rules.wide.def.WideKind.TheVariants as wide
 use Rattle.cb_scan.specs.declared.rules.wide.enumeration.Enumeration.{Enumeration}
 use Rattle.cb_scan.specs.declared.rules.wide.level.Level.TheVariants.{Enumerators, Members}

@@ -14,7 +14,7 @@ use Rattle.cb_scan.specs.declared.rules.wide.token.WideToken.{WideToken}
 use Rattle.cb_scan.specs.rules.Typedefs.{nesting_after}
 use Rattle.cb_scan.specs.rules.wide.Attributes.{ends_attribute}
 use Rattle.cb_scan.specs.rules.wide.Kinds.{def_in}
-use Rattle.cb_scan.specs.rules.wide.Levels.{Numbered, is_byte, numbered}
+use Rattle.cb_scan.specs.rules.wide.Levels.{Numbered, numbered}
 use Rattle.cb_scan.specs.rules.wide.Words.{is_sign, is_wide_name, is_wide_word}
 use Rattle.cb_scan.specs.steps.wide.Ahead.{first_is, seen, up_to_mark}
 use Rattle.cb_scan.specs.steps.wide.Along.{items}

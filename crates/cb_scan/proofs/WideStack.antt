@@ -1,5 +1,5 @@
 -- The pass along all levels finds what each of them defines.
-use Rattle.std.proofs.Common.{◌≡◌, ◌∙◌, ℕ, zero, suc, ◌<◌, ◌≤◌, Bool, true, false, List, [], ◌∷◌, ◌++◌}
+use Rattle.std.proofs.Common.{◌≡◌, ◌∙◌, ℕ, suc, ◌<◌, ◌≤◌, Bool, true, false, List, [], ◌∷◌, ◌++◌}
 use Rattle.std.proofs.Common.{refl, sym, ap, subst, arith, append_assoc, drop, map, ⊎_elim, Option}
 use Rattle.std.proofs.lemmas.Bool.{cases_Bool, eq-eqb, eqb-true, false≢true, false_from_ne_true}
 use Rattle.std.proofs.lemmas.List.Sorted.{IsPermutation-append_comm, IsPermutation-append_left}
@@ -13,7 +13,7 @@ use Rattle.cb_scan.specs.declared.rules.wide.opening.Opening.{Opening}
 use Rattle.cb_scan.specs.declared.rules.wide.role.WideRole.TheVariants as wide
 use Rattle.cb_scan.specs.declared.rules.wide.token.WideToken.{WideToken}
 use Rattle.cb_scan.specs.rules.wide.Attributes.{ends_attribute}
-use Rattle.cb_scan.specs.rules.wide.Levels.{Placed, around_after, closes_brace, is_inside, is_outside}
+use Rattle.cb_scan.specs.rules.wide.Levels.{Placed, around_after, closes_brace, is_inside}
 use Rattle.cb_scan.specs.rules.wide.Levels.{level_inside, placed}
 use Rattle.cb_scan.specs.rules.wide.Words.{is_sign}
 use Rattle.cb_scan.specs.steps.wide.Ahead.{seen, up_to_mark}
@@ -214,7 +214,7 @@ opened_here o os x =
 abbrev pub next_opens : Option Opening → List Open → List WideToken → WideToken → List Open
 next_opens o os xs x =
     if x.counted then
-      record { place = x.token.span.start; level = opened o (tag_inside (levels os)) } ∷ goes_on os xs x
+    record { place = x.token.span.start; level = opened o (tag_inside (levels os)) } ∷ goes_on os xs x
     else (if is_sign 125 x.role then (if x.token.starts_line then [] else drop 1 os) else goes_on os xs x)
 
 -- the levels that are opened from a state on

@@ -3,8 +3,8 @@ use crate::devices::{Broken, Short};
 use crate::ended::put_end;
 use crate::escapes::put_line;
 use crate::failed::Failed;
-use cb_session::{Ended, Fault, Feed, Limits, Operand, Operands, run};
-use cb_tags::Sink;
+use cb_session::{Ended, Fault, Limits, Operand, Operands, run};
+use cb_tags::{Feed, Sink};
 use std::alloc::Global;
 use std::io::{BufRead, Write};
 

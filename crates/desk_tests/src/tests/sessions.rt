@@ -1,8 +1,8 @@
 //! What a session scans, by the meter of its desk. Bytes are counted by hand.
 use super::inputs::WIDE;
 use super::meters::NINE_LINES;
-use cb_session::{Feed, Operand, Operands, Session, prepare};
-use cb_tags::Sink;
+use cb_session::{Operand, Operands, Session, prepare};
+use cb_tags::{Feed, Sink};
 use std::alloc::{AllocError, Global};
 use std::process::Abort;
 

@@ -1,6 +1,6 @@
 -- Variables, external declarations and prototypes, which lie in no function, a token at a time.
-use Rattle.std.specs.Prelude.{ℕ, Bool, false, nat_le, nat_lt, not, List, [], ◌∷◌, ◌++◌, find, filter}
-use Rattle.std.specs.Prelude.{reverse, Option, None, if◌then◌else◌, ◌&&◌}
+use Rattle.std.specs.Prelude.{ℕ, Bool, false, nat_le, nat_lt, not, List, [], ◌∷◌, find, filter}
+use Rattle.std.specs.Prelude.{reverse, if◌then◌else◌, ◌&&◌}
 use Rattle.std.specs.Option.{option_map_or, option_or}
 use Rattle.cb_scan.specs.declared.rules.scope.Range.{Range}
 use Rattle.cb_scan.specs.declared.rules.wide.def.WideDef.{WideDef}

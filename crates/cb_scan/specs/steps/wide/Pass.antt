@@ -1,7 +1,7 @@
 -- The pass of the wide profile over the tokens that are of no attribute.
-use Rattle.std.specs.Prelude.{◌≡◌, ℕ, ◌+◌, Bool, false, ◌&&◌, ◌==◌, List, [], ◌∷◌, ◌++◌, max, Option}
+use Rattle.std.specs.Prelude.{ℕ, Bool, ◌&&◌, ◌==◌, List, [], ◌∷◌, ◌++◌, max, Option}
 use Rattle.std.specs.Prelude.{None, Some, if◌then◌else◌}
-use Rattle.std.specs.Option.{is_none, option_map, option_map_or, option_to_list}
+use Rattle.std.specs.Option.{is_none, option_map, option_to_list}
 use Rattle.cb_scan.specs.declared.facts.Def.{Def}
 use Rattle.cb_scan.specs.declared.lex.piece.Span.{Span}
 use Rattle.cb_scan.specs.declared.rules.scope.Range.{Range}
@@ -12,9 +12,10 @@ use Rattle.cb_scan.specs.declared.rules.wide.token.WideToken.{WideToken}
 use Rattle.cb_scan.specs.rules.wide.Words.{is_sign}
 use Rattle.cb_scan.specs.steps.Functions.{range_to}
 use Rattle.cb_scan.specs.steps.wide.Contents.{defined_by, most_open, next_levels}
-use Rattle.cb_scan.specs.steps.wide.Declarations.{Given, before_in_file, ends_part, given, grown}
+use Rattle.cb_scan.specs.steps.wide.Declarations.{Given, before_in_file, declaration_start}
+use Rattle.cb_scan.specs.steps.wide.Declarations.{ends_part, given, grown}
 use Rattle.cb_scan.specs.steps.wide.Declarations.{may_name, next_in_file, next_part_of}
-use Rattle.cb_scan.specs.steps.wide.Functions.{found, next, next_depth}
+use Rattle.cb_scan.specs.steps.wide.Functions.{found, next, next_depth, start}
 use Rattle.cb_scan.specs.steps.wide.Lists.{Lists}
 use Rattle.cb_scan.specs.steps.wide.Objects.{dropped_from, kept_outside, object_given, typedef_given}
 use Rattle.cb_scan.specs.steps.wide.Openings.{next_opening, tag_out}
@@ -42,6 +43,16 @@ typedefs_of [] = []
 typedefs_of (g ∷ gs) = typedef_given g ++ typedefs_of gs
 
 -- ---- the state
+
+-- the beginning of the code
+abbrev pub pass_start : Pass
+pass_start = record {
+  opening = None;
+  machine = start;
+  file = declaration_start;
+  body = None;
+  levels = [];
+}
 
 -- the token is a brace that opens no body
 abbrev pub is_block : Pass → WideToken → Bool

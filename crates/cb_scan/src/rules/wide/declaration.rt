@@ -61,7 +61,8 @@ impl Declaration {
 
     /// Begins a declaration of the file if the token begins one anew.
     pub(crate) fn begin_in_file(&mut self, item: &WideToken)
-        ensures { self.new ≡ before_in_file self.old item.now }
+        ensures value { self.new ≡ before_in_file self.old item.now }
+        ensures small { self.new.count ≤ self.old.count }
     {
         if self.is_over(item) {
             *self = Declaration::new();
@@ -70,7 +71,8 @@ impl Declaration {
 
     /// Begins the next declaration of the file if the token ends this one.
     pub(crate) fn end_in_file(&mut self, is_block: bool, item: &WideToken)
-        ensures { self.new ≡ next_in_file self.old is_block item.now }
+        ensures value { self.new ≡ next_in_file self.old is_block item.now }
+        ensures small { self.new.count ≤ self.old.count }
     {
         if self.is_end(is_block, item) {
             *self = Declaration::new();

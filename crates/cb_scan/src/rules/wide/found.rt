@@ -76,11 +76,7 @@ fn object_given(declaration: &Declaration) -> Option<WideDef>
         return None;
     }
     match declaration.part.function() {
-        Some(name) => Some(def_of(
-            WideKind::Prototype,
-            declaration.has_static,
-            &name.token,
-        )),
+        Some(name) => Some(def_of(WideKind::Prototype, declaration.has_static, &name.token)),
         None => match declaration.part.named() {
             Some(name) => Some(def_of(
                 variable_kind(declaration),

@@ -98,7 +98,8 @@ impl Level {
 
 /// The body that an opening begins, where members around have this tag.
 fn opened_body(opening: &Opening, around: Option<Tag>) -> Level
-    ensures { result ≡ opened_body opening.now around }
+    ensures value { result ≡ opened_body opening.now around }
+    ensures empty { count_of result ≡ 0 }
 {
     let own = opening.tag_of();
     match (opening.kind, own) {
@@ -110,7 +111,8 @@ fn opened_body(opening: &Opening, around: Option<Tag>) -> Level
 
 /// The level that a `{` makes, where members around have this tag.
 pub(crate) fn opened(opening: Option<Opening>, around: Option<Tag>) -> Level
-    ensures { result ≡ opened opening around }
+    ensures value { result ≡ opened opening around }
+    ensures empty { count_of result ≡ 0 }
 {
     match opening {
         Some(opening) => opened_body(&opening, around),

@@ -86,7 +86,8 @@ impl WideMachine {
         }
     }
 
-    fn next_depth(&self, item: &WideToken) -> u32
+    /// The depth after the token.
+    pub(crate) fn next_depth(&self, item: &WideToken) -> u32
         requires { self.now.depth + 1 < 2 ^ 32 }
         ensures value { result ≡ next_depth self.now item.now }
         ensures small { result ≤ self.now.depth + 1 }

@@ -1,5 +1,5 @@
 -- Objects that are given up, one after the other.
-use Rattle.std.proofs.Common.{◌≡◌, ◌∙◌, sym, ap}
+use Rattle.std.proofs.Common.{◌∙◌, sym, ap}
 use Rattle.cb_scan.specs.steps.wide.Objects.{dropped_from, reaches}
 use Rattle.cb_scan.proofs.WideObjects.{popped, stays}
 use Rattle.cb_scan.proofs.rules.wide.objects.Objects.drop_from.Goals as goal
