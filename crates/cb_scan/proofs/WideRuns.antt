@@ -1,57 +1,20 @@
 -- Attributes in tokens up to a `;` or a brace, whatever is beyond.
-use Rattle.std.proofs.Common.{◌≡◌, ◌∙◌, ℕ, zero, suc, ◌≤◌, Bool, true, false, List, [], ◌∷◌, ◌++◌}
-use Rattle.std.proofs.Common.{refl, sym, ap, arith, length, ⊎_elim}
-use Rattle.std.proofs.lemmas.Bool.{cases_Bool, false≢true}
-use Rattle.std.specs.Prelude.{◌&&◌, ◌||◌, ◌==◌, not, if◌then◌else◌}
+use Rattle.std.proofs.Common.{◌≡◌, ◌∙◌, ℕ, zero, suc, Bool, true, false, List, [], ◌∷◌, ◌++◌}
+use Rattle.std.proofs.Common.{refl, sym, ap}
+use Rattle.std.specs.Prelude.{◌&&◌, ◌||◌, not, if◌then◌else◌}
 use Rattle.std.specs.List.{AllByRecursion}
 use Rattle.cb_scan.specs.declared.rules.wide.attribute.Attribute.{Attribute}
-use Rattle.cb_scan.specs.declared.rules.wide.attribute.Attribute.TheVariants.{Begun, Inside, Outside}
-use Rattle.cb_scan.specs.declared.rules.wide.role.WideRole.{WideRole}
-use Rattle.cb_scan.specs.declared.rules.wide.role.WideRole.TheVariants as wide
+use Rattle.cb_scan.specs.declared.rules.wide.attribute.Attribute.TheVariants.{Begun, Inside}
+use Rattle.cb_scan.specs.declared.rules.wide.attribute.Attribute.TheVariants.{Outside}
 use Rattle.cb_scan.specs.declared.rules.wide.token.WideToken.{WideToken}
 use Rattle.cb_scan.specs.rules.wide.Attributes.{attribute_len, begins_attribute}
-use Rattle.cb_scan.specs.rules.wide.Attributes.{begins_with_literal, closing_len}
+use Rattle.cb_scan.specs.rules.wide.Attributes.{begins_with_literal}
 use Rattle.cb_scan.specs.rules.wide.Attributes.{ends_attribute, outside_attributes}
 use Rattle.cb_scan.specs.rules.wide.Attributes.{without_attributes}
 use Rattle.cb_scan.specs.rules.wide.Words.{is_attribute_word, is_literal, is_sign, is_wide_word}
 use Rattle.cb_scan.specs.steps.wide.Attributes.{inside_after, kept_from, leaves_out, next_attribute}
 use Rattle.cb_scan.proofs.WideAttributes.{end_begins_none, kept_from_start}
-use Rattle.cb_scan.proofs.WideTails.{sign_is}
-
--- what ends an attribute is no other byte
-pub end_is_no_sign : (b : ℕ) (r : WideRole) → (59 == b) ≡ false → (123 == b) ≡ false
-    → (125 == b) ≡ false → ends_attribute r ≡ true → is_sign b r ≡ false
-end_is_no_sign b r semicolon open_brace close_brace is =
-    ⊎_elim
-    (λ e. ap (is_sign b) (sign_is 59 r e) ∙ semicolon)
-    (λ no_semicolon.
-    ⊎_elim
-    (λ e. ap (is_sign b) (sign_is 123 r e) ∙ open_brace)
-    (λ no_open.
-    let last : is_sign 125 r ≡ true =
-    sym (λ i. no_semicolon i || no_open i || is_sign 125 r) ∙ is in
-    ap (is_sign b) (sign_is 125 r last) ∙ close_brace)
-    (cases_Bool (is_sign 123 r)))
-    (cases_Bool (is_sign 59 r))
-
--- and no literal
-end_is_no_literal : (r : WideRole) → ends_attribute r ≡ true → is_literal r ≡ false
-end_is_no_literal wide.Name is = refl
-end_is_no_literal wide.Underscored is = refl
-end_is_no_literal wide.Struct is = refl
-end_is_no_literal wide.Union is = refl
-end_is_no_literal wide.Enum is = refl
-end_is_no_literal wide.Typedef is = refl
-end_is_no_literal wide.Extern is = refl
-end_is_no_literal wide.Static is = refl
-end_is_no_literal wide.Specifier is = refl
-end_is_no_literal wide.Attribute is = refl
-end_is_no_literal wide.Statement is = refl
-end_is_no_literal wide.Reserved is = refl
-end_is_no_literal wide.Str is = absurd (false≢true is)
-end_is_no_literal wide.Number is = absurd (false≢true is)
-end_is_no_literal wide.Character is = refl
-end_is_no_literal (wide.Mark x) is = refl
+use Rattle.cb_scan.proofs.WideSeen.{mark_fails, mark_is_not}
 
 -- every token of a run keeps what it had
 pub kept_all : (P : WideToken → Type 0) (n : ℕ) (s : List WideToken) → AllByRecursion P s
@@ -77,12 +40,12 @@ module _ (q : WideToken) (rest : List WideToken) (ends : ends_attribute q.role �
       → begins_attribute (x ∷ (s ++ q ∷ rest)) ≡ begins_attribute (x ∷ s)
   begins_same x [] =
       ap (λ o. is_wide_word x.role && o && (is_attribute_word x.role || begins_with_literal rest))
-      (end_is_no_sign 40 q.role refl refl refl ends)
+      (mark_is_not 40 q.role refl refl refl ends)
       ∙ second_false (is_wide_word x.role)
       (is_attribute_word x.role || begins_with_literal rest)
   begins_same x (y ∷ []) =
       ap (λ l. is_wide_word x.role && is_sign 40 y.role && (is_attribute_word x.role || l))
-      (end_is_no_literal q.role ends)
+      (mark_fails is_literal q.role refl refl refl ends)
   begins_same x (y ∷ z ∷ s) = refl
 
   -- no state sees beyond the token

@@ -1,8 +1,8 @@
 -- The pass for functions along tokens among which there is no `;` and no brace.
-use Rattle.std.proofs.Common.{◌≡◌, ◌∙◌, ℕ, Bool, true, false, List, [], ◌∷◌, ◌++◌}
+use Rattle.std.proofs.Common.{◌≡◌, ◌∙◌, ℕ, true, false, List, [], ◌∷◌, ◌++◌}
 use Rattle.std.proofs.Common.{refl, sym, ap, subst, fold, ◌+◌, ◌-◌, ⊎_elim}
 use Rattle.std.proofs.lemmas.Bool.{cases_Bool}
-use Rattle.std.specs.Prelude.{◌&&◌, ◌||◌, ◌==◌, cond, not, if◌then◌else◌}
+use Rattle.std.specs.Prelude.{◌&&◌, ◌||◌, ◌==◌, not, if◌then◌else◌}
 use Rattle.std.specs.List.{AllByRecursion}
 use Rattle.cb_scan.specs.declared.rules.wide.head.WideHead.{WideHead}
 use Rattle.cb_scan.specs.declared.rules.wide.part.Part.{Part}
@@ -14,19 +14,15 @@ use Rattle.cb_scan.specs.rules.Typedefs.{nesting_after}
 use Rattle.cb_scan.specs.rules.wide.Attributes.{ends_attribute}
 use Rattle.cb_scan.specs.rules.wide.Bodies.{Body}
 use Rattle.cb_scan.specs.rules.wide.Functions.{plain}
-use Rattle.cb_scan.specs.rules.wide.Levels.{Numbered, is_outer, numbered}
 use Rattle.cb_scan.specs.rules.wide.Words.{is_sign}
 use Rattle.cb_scan.specs.steps.Heads.{add}
-use Rattle.cb_scan.specs.steps.wide.Along.{items}
+use Rattle.cb_scan.specs.steps.wide.Ahead.{seen, up_to_mark}
 use Rattle.cb_scan.specs.steps.wide.Declarations.{is_block}
 use Rattle.cb_scan.specs.steps.wide.Functions.{found, opened, opened_from}
 use Rattle.cb_scan.specs.steps.wide.Functions.{grown, headed, next, next_depth, stopped, stops}
 use Rattle.cb_scan.specs.steps.wide.Heads.{declared, head_from, next_head}
-use Rattle.cb_scan.specs.steps.wide.Parts.{next_part, part_start}
-use Rattle.cb_scan.proofs.WideAhead.{cut_at}
-use Rattle.cb_scan.proofs.WideAttributes.{end_is_no_word}
-use Rattle.cb_scan.proofs.WideHeads.{part_until}
-use Rattle.cb_scan.proofs.WideRuns.{end_is_no_sign}
+use Rattle.cb_scan.specs.steps.wide.Parts.{part_start}
+use Rattle.cb_scan.proofs.WideSeen.{part_seen}
 
 -- a token that is no `;` and no brace
 pub record IsInner (x : WideToken) : Type 0 where
@@ -40,59 +36,55 @@ pub record IsInner (x : WideToken) : Type 0 where
 ends_none : (x : WideToken) → IsInner x → ends_attribute x.role ≡ false
 ends_none x inner = λ i. inner.no_semicolon i || inner.no_open i || inner.no_close i
 
--- ---- the parts of the head
+-- ---- what is ahead
 
--- a `;` or a brace
-abbrev ends : Numbered → Bool
-ends x = ends_attribute x.item.role
+-- the head and the machine look no further than the next `;` or brace
+pub head_seen : (h : WideHead) (x : WideToken) (xs : List WideToken)
+    → next_head h (x ∷ xs) x ≡ next_head h (seen (x ∷ xs)) x
+head_seen h x xs =
+    let with : Part → WideHead = λ p.
+    if h.count == 0 && is_sign 44 x.role
+    then record {
+      count = nesting_after x.token h.count;
+      part = part_start false;
+      found = declared h;
+    }
+    else record h { part = p; count = nesting_after x.token h.count } in
+    ap with (part_seen h.part (h.count == 0) x xs)
 
-part_same : (p : Part) (m : Numbered) (n : ℕ) (xs : List WideToken)
-    → next_part p (is_outer m) (m.item ∷ xs) m.item
-    ≡ next_part p (is_outer m) (items (m ∷ cut_at ends (numbered n xs))) m.item
-part_same =
-    part_until ends (λ x is. end_is_no_sign 40 x.item.role refl refl refl is)
-    (λ x is. end_is_no_sign 41 x.item.role refl refl refl is)
-    (λ x is. end_is_no_sign 42 x.item.role refl refl refl is)
-    (λ x is. end_is_no_word x.item.role is)
+pub machine_seen : (m : WideMachine) (x : WideToken) (xs : List WideToken)
+    → next m (x ∷ xs) x ≡ next m (seen (x ∷ xs)) x
+machine_seen m x xs =
+    let with : WideHead → WideMachine = λ h.
+    if stops m x then stopped m x
+    else record (if m.depth == 0 then record m { head = add m.head x.token; parts = h } else m) {
+      depth = next_depth m x;
+    } in
+    ap with (head_seen m.parts x xs)
 
--- the segment up to its end
-cut_all : (n : ℕ) (s : List WideToken) → AllByRecursion IsInner s
-    → cut_at ends (numbered n s) ≡ numbered n s
-unfolding numbered
-cut_all n [] all = refl
-cut_all n (x ∷ s) all =
-    let m : Numbered = record { item = x; count = n } in
-    let more = nesting_after x.token n in
-    ap (λ b. cond b [] (m ∷ cut_at ends (numbered more s))) (ends_none x all.0)
-    ∙ ap (λ l. m ∷ l) (cut_all more s all.1)
+-- a segment is all that is ahead in it
+seen_all : (s : List WideToken) → AllByRecursion IsInner s → up_to_mark s ≡ s
+seen_all [] all = refl
+seen_all (x ∷ s) all =
+    ap (λ b. if b then [] else x ∷ up_to_mark s) (ends_none x all.0)
+    ∙ ap (λ l. x ∷ l) (seen_all s all.1)
 
 module _ (q : WideToken) (rest : List WideToken) (last : ends_attribute q.role ≡ true) where
-  cut_before : (n : ℕ) (s : List WideToken) → AllByRecursion IsInner s
-      → cut_at ends (numbered n (s ++ q ∷ rest)) ≡ numbered n s
-  unfolding numbered
-  cut_before n [] all =
-      let m : Numbered = record { item = q; count = n } in
-      ap (λ b. cond b [] (m ∷ cut_at ends (numbered (nesting_after q.token n) rest))) last
-  cut_before n (x ∷ s) all =
-      let m : Numbered = record { item = x; count = n } in
-      let more = nesting_after x.token n in
-      ap (λ b. cond b [] (m ∷ cut_at ends (numbered more (s ++ q ∷ rest)))) (ends_none x all.0)
-      ∙ ap (λ l. m ∷ l) (cut_before more s all.1)
+  seen_before : (s : List WideToken) → AllByRecursion IsInner s
+      → up_to_mark (s ++ q ∷ rest) ≡ s
+  seen_before [] all = ap (λ b. if b then [] else q ∷ up_to_mark rest) last
+  seen_before (x ∷ s) all =
+      ap (λ b. if b then [] else x ∷ up_to_mark (s ++ q ∷ rest)) (ends_none x all.0)
+      ∙ ap (λ l. x ∷ l) (seen_before s all.1)
 
   -- the head reads no further than the segment
   head_same : (h : WideHead) (x : WideToken) (s : List WideToken) → AllByRecursion IsInner s
       → next_head h (x ∷ (s ++ q ∷ rest)) x ≡ next_head h (x ∷ s) x
   head_same h x s all =
-      let m : Numbered = record { item = x; count = h.count } in
-      let n = nesting_after x.token h.count in
-      let with : Part → WideHead = λ p.
-      if h.count == 0 && is_sign 44 x.role
-      then record { count = n; part = part_start false; found = declared h }
-      else record h { part = p; count = n } in
-      ap with (part_same h.part m n (s ++ q ∷ rest)
-      ∙ ap (λ c. next_part h.part (is_outer m) (items (m ∷ c)) x)
-      (cut_before n s all ∙ sym (cut_all n s all))
-      ∙ sym (part_same h.part m n s))
+      head_seen h x (s ++ q ∷ rest)
+      ∙ ap (λ l. next_head h (x ∷ (if ends_attribute x.role then [] else l)) x)
+      (seen_before s all ∙ sym (seen_all s all))
+      ∙ sym (head_seen h x s)
 
 -- ---- the machine
 

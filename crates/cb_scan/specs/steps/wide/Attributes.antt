@@ -1,5 +1,5 @@
 -- Attributes left out, a token at a time.
-use Rattle.std.specs.Prelude.{ℕ, zero, suc, Bool, true, false, not, List, [], ◌∷◌}
+use Rattle.std.specs.Prelude.{ℕ, zero, suc, Bool, false, not, List, [], ◌∷◌}
 use Rattle.std.specs.Prelude.{if◌then◌else◌}
 use Rattle.cb_scan.specs.declared.rules.wide.attribute.Attribute.{Attribute}
 use Rattle.cb_scan.specs.declared.rules.wide.attribute.Attribute.TheVariants.{Begun, Inside}
