@@ -1,39 +1,23 @@
--- What the pass knows of the body that it is in.
--- their bodies.
+-- Where bodies end, and what is known of the depth in them.
 use Rattle.std.proofs.Common.{◌≡◌, ◌∙◌, ℕ, zero, suc, ◌+◌, ◌-◌, ◌<◌, ◌≤◌, Bool, true, false, List}
-use Rattle.std.proofs.Common.{[], Option, Some, None, refl, sym, ap, length, map, arith, add-one}
+use Rattle.std.proofs.Common.{[], Option, Some, None, refl, sym, ap, length, arith, add-one}
 use Rattle.std.proofs.Common.{inl, inr, ⊎_elim}
 use Rattle.std.proofs.lemmas.Bool.{false≢true, true≢false, eqb-true, eq-eqb}
 use Rattle.std.specs.Prelude.{◌⊎◌, ◌||◌, ◌&&◌, ◌==◌, if◌then◌else◌, cond, find, nat_lt, unwrap_or}
-use Rattle.std.specs.List.{flat_map, range_with_len}
-use Rattle.std.specs.Option.{MatchOption, option_to_list, option_map}
-use Rattle.cb_scan.specs.declared.facts.Call.{Call}
+use Rattle.std.specs.List.{range_with_len}
 use Rattle.cb_scan.specs.declared.facts.Def.{Def}
-use Rattle.cb_scan.specs.declared.rules.functions.Machine.{Machine}
 use Rattle.cb_scan.specs.declared.lex.piece.Span.{Span}
 use Rattle.cb_scan.specs.declared.lex.token.Token.{Token}
 use Rattle.cb_scan.specs.declared.lex.token.Role.{Role}
 use Rattle.cb_scan.specs.declared.lex.token.Role.TheVariants.{Word, Mark, Str, Other}
 use Rattle.cb_scan.specs.rules.Depth.{depth, is_counted, closes, is_stop, token_at}
-use Rattle.cb_scan.specs.Definitions.{function_def}
 use Rattle.cb_scan.specs.rules.Functions.{close_from, function_at, function_from, signature}
-use Rattle.cb_scan.specs.rules.Heads.{Signature}
-use Rattle.cb_scan.specs.rules.Scope.{function_range}
 use Rattle.cb_scan.specs.lex.Tokens.{is_mark, is_name_token}
-use Rattle.cb_scan.specs.rules.Uses.{call_at, calls_of_function}
-use Rattle.cb_scan.specs.steps.Functions.{range_to}
-use Rattle.cb_scan.proofs.FunctionLemmas.{IsAt}
 
 -- the token directly before token k, unless it is a stop
 abbrev pub last_at : List Token → ℕ → Option Token
 last_at ts zero = None
 last_at ts (suc k) = if is_stop ts k then None else Some (token_at ts k)
-
--- what the state before token k knows besides
-pub record InBody (ts : List Token) (k : ℕ) (m : Machine) : Type 0 where
-  pub at : IsAt ts k m
-  pub last_is : m.head.last ≡ last_at ts k
-  pub deep : MatchOption m.body (Unit {0}) (λ _. 0 < depth ts k)
 
 -- where a body ends that is open before token k
 pub close_step : (ts : List Token) (k : ℕ) → k < length ts
@@ -105,51 +89,14 @@ stays_deep false true false d deep open_ =
 abbrev pub place_of : List ℕ → List Token → ℕ → ℕ
 place_of text ts j = if nat_lt j (length ts) then (token_at ts j).span.end else length text
 
--- the calls of an open body from token k on, the last of which the next token tells
-abbrev pub open_calls : List Token → ℕ → Span → List Call
-open_calls ts k caller = flat_map (call_at ts caller) (range_with_len k (close_from ts (suc k) - k))
-
--- the calls that are still to come of the body that is open before token k
-abbrev pub pending : List Token → ℕ → Option Span → List Call
-pending ts zero body = []
-pending ts (suc k) body = flat_map (open_calls ts k) (option_to_list body)
-
 -- the name of a definition
 abbrev pub def_name : Def → Span
 def_name d = d.name
 
--- the range and the calls of the function whose `{` is token k, by its name alone
-module _ (text : List ℕ) (ts : List Token) (k : ℕ) where
-  pub ranges_here : map (function_range text ts) (function_at ts k)
-      ≡ map (range_to (place_of text ts (close_from ts (suc k)))) (map def_name (map function_def (function_at ts k)))
-  ranges_here = by_cases (is_counted ts k && depth ts k == 0) (signature ts k)
-    where
-      by_cases : (b : Bool) (o : Option Signature)
-          → map (function_range text ts) (cond b (function_from ts k o) [])
-          ≡ map (range_to (place_of text ts (close_from ts (suc k))))
-          (map def_name (map function_def (cond b (function_from ts k o) [])))
-      by_cases true (Some name) = refl
-      by_cases true None = refl
-      by_cases false o = refl
-
-  pub calls_here : flat_map (calls_of_function ts) (function_at ts k)
-      ≡ flat_map (open_calls ts k) (map def_name (map function_def (function_at ts k)))
-  calls_here = by_cases (is_counted ts k && depth ts k == 0) (signature ts k)
-    where
-      by_cases : (b : Bool) (o : Option Signature)
-          → flat_map (calls_of_function ts) (cond b (function_from ts k o) [])
-          ≡ flat_map (open_calls ts k) (map def_name (map function_def (cond b (function_from ts k o) [])))
-      by_cases true (Some name) = refl
-      by_cases true None = refl
-      by_cases false o = refl
-
-  pub none_here : (is_counted ts k && depth ts k == 0) ≡ false → function_at ts k ≡ []
-  none_here closed_ = ap (λ b. cond b (function_from ts k (signature ts k)) []) closed_
-
--- the names that are found
-pub found_names : (o : Option Def) → map def_name (option_to_list o) ≡ option_to_list (option_map def_name o)
-found_names None = refl
-found_names (Some d) = refl
+-- no function begins where a `{` does not count or is in braces
+pub none_here : (ts : List Token) (k : ℕ) → (is_counted ts k && depth ts k == 0) ≡ false
+    → function_at ts k ≡ []
+none_here ts k shut = ap (λ b. cond b (function_from ts k (signature ts k)) []) shut
 
 -- the same on both ways
 pub either : (b : Bool) (o : Option Span) → (if b then o else o) ≡ o

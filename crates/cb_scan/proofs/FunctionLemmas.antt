@@ -215,19 +215,31 @@ module _ (ts : List Token) (k : ℕ) (m : Machine) (at : IsAt ts k m) where
       ≡ option_map signature_def (if b then old_signature ts k else signed (head ts k) (defined_name (head ts k))))
       [ true ↦ refl | false ↦ refl ]
 
-  -- the definition of the function whose `{` is the token
-  pub found_is : option_to_list (found m (token_at ts k)) ≡ map function_def (function_at ts k)
-  found_is =
-      (λ i. option_to_list (if (is_mark 123 (token_at ts k).role && not (at.linkage_is i)) && at.depth_is i == 0
-      then function_here m else None))
+  -- the function whose `{` is the token, by its signature
+  pub found_as : found m (token_at ts k)
+      ≡ option_map signature_def
+      (if is_counted ts k && depth ts k == 0 then signature ts k else None)
+  found_as =
+      (λ i. if (is_mark 123 (token_at ts k).role && not (at.linkage_is i)) && at.depth_is i == 0
+      then function_here m else None)
       ∙ by_depth (is_counted ts k) (depth ts k == 0) refl
     where
       by_depth : (c flat : Bool) → (depth ts k == 0) ≡ flat
-          → option_to_list (if c && flat then function_here m else None)
-          ≡ map function_def (if c && flat then function_from ts k (signature ts k) else [])
-      by_depth true true is = ap option_to_list (here_is is) ∙ def_from ts k (signature ts k)
+          → (if c && flat then function_here m else None)
+          ≡ option_map signature_def (if c && flat then signature ts k else None)
+      by_depth true true is = here_is is
       by_depth true false is = refl
       by_depth false flat is = refl
+
+  -- its definition
+  pub found_is : option_to_list (found m (token_at ts k)) ≡ map function_def (function_at ts k)
+  found_is =
+      ap option_to_list found_as
+      ∙ def_from ts k (if is_counted ts k && depth ts k == 0 then signature ts k else None)
+      ∙ elim (is_counted ts k && depth ts k == 0) as
+      (λ b. map function_def (function_from ts k (if b then signature ts k else None))
+      ≡ map function_def (if b then function_from ts k (signature ts k) else []))
+      [ true ↦ refl | false ↦ refl ]
 
 -- the pass from token k on finds the functions from there on
 from : (ts : List Token) (k : ℕ) (m : Machine) (rest : List Token) → drop k ts ≡ rest → IsAt ts k m

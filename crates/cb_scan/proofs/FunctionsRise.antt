@@ -153,7 +153,7 @@ later_names P ts a k (suc n) behind new all =
         (false_from_ne_true (depth ts k == 0)
         (λ e. let none : depth ts k ≡ 0 = eqb-true (depth ts k) 0 e in absurd (omega arith)))
         ∙ and-false (is_counted ts k) in
-        subst (λ fs. AllByRecursion P (map function_name fs)) (sym (none_here [] ts k shut)) tt
+        subst (λ fs. AllByRecursion P (map function_name fs)) (sym (none_here ts k shut)) tt
 
 pub all_implied : {X : Type 0} (P Q : X → Type 0) → ((x : X) → P x → Q x) → (xs : List X) → AllByRecursion P xs
     → AllByRecursion Q xs
@@ -237,7 +237,8 @@ names_rise_from ts k (suc n) r =
         ++ map function_name (flat_map (function_at ts) (range_with_len (k + 1) n)))
     by_cases false is later =
         subst (λ fs. Rising (map function_name fs
-        ++ map function_name (flat_map (function_at ts) (range_with_len (k + 1) n)))) (sym (none_here [] ts k is)) later
+        ++ map function_name (flat_map (function_at ts) (range_with_len (k + 1) n))))
+        (sym (none_here ts k is)) later
     by_cases true is later =
         let parts : Rising (take k ts) × Rising (drop k ts) × Before (take k ts) (drop k ts) =
         rising-split (take k ts) (drop k ts) (subst Rising (sym (take-append-drop k ts)) r) in

@@ -25,6 +25,8 @@ pub mod Literals
 pub mod MacroLines
 pub mod Merging
 pub mod OldStyleLemmas
+pub mod OpenBodies
+pub mod OpenCalls
 pub mod OrderLemmas
 pub mod PieceLists
 pub mod Prefixes
@@ -36,6 +38,7 @@ pub mod TypedefLemmas
 pub mod TypedefsWithin
 pub mod WideAhead
 pub mod WideAttributes
+pub mod WideBareRanges
 pub mod WideBodies
 pub mod WideCalls
 pub mod WideContents
@@ -54,8 +57,10 @@ pub mod WideParts
 pub mod WideSeen
 pub mod WideStack
 pub mod WidePointers
+pub mod WideRanges
 pub mod WideRuns
 pub mod WideSegments
+pub mod WideSigns
 pub mod WideTails
 pub mod WideTokens
 pub mod Windows

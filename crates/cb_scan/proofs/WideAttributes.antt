@@ -11,6 +11,7 @@ use Rattle.cb_scan.specs.rules.wide.Attributes.{begins_attribute, begins_with_li
 use Rattle.cb_scan.specs.rules.wide.Attributes.{ends_attribute, outside_attributes, without_attributes}
 use Rattle.cb_scan.specs.rules.wide.Words.{is_attribute_word, is_sign, is_wide_word}
 use Rattle.cb_scan.specs.steps.wide.Attributes.{closed_after, inside_after, kept_from}
+use Rattle.cb_scan.proofs.WideTails.{sign_is}
 
 -- what ends an attribute is no word
 pub end_is_no_word : (r : WideRole) → ends_attribute r ≡ true → is_wide_word r ≡ false
@@ -38,6 +39,17 @@ end_begins_none x [] is = refl
 end_begins_none x (y ∷ xs) is =
     ap (λ b. b && is_sign 40 y.role && (is_attribute_word x.role || begins_with_literal xs))
     (end_is_no_word x.role is)
+
+-- the `(` of an attribute ends none
+begins_by_open : (x y : WideToken) (xs : List WideToken) → begins_attribute (x ∷ y ∷ xs) ≡ true
+    → ends_attribute y.role ≡ false
+begins_by_open x y xs is =
+    ap ends_attribute (sign_is 40 y.role (by_parts (is_wide_word x.role) (is_sign 40 y.role) _ is))
+  where
+    by_parts : (a b c : Bool) → (a && b && c) ≡ true → b ≡ true
+    by_parts true true c is = refl
+    by_parts true false c is = absurd (false≢true is)
+    by_parts false b c is = absurd (false≢true is)
 
 -- what is kept outside of attributes, and inside
 record Kept (xs : List WideToken) : Type 0 where
@@ -112,14 +124,21 @@ step_outside : (x y : WideToken) (xs : List WideToken) → Kept (y ∷ xs) → K
     → kept_from Outside (x ∷ y ∷ xs) ≡ outside_attributes 0 (x ∷ y ∷ xs)
 unfolding kept_from outside_attributes
 step_outside x y xs next all =
-    elim (begins_attribute (x ∷ y ∷ xs)) as (λ b.
-    (if b then kept_from (if b then Begun else Outside) (y ∷ xs)
-    else x ∷ kept_from (if b then Begun else Outside) (y ∷ xs))
-    ≡ (if b then outside_attributes (suc (closing_len 0 xs)) (y ∷ xs)
-    else x ∷ outside_attributes 0 (y ∷ xs))) [
-      | true ↦ all.inside 0
-      | false ↦ ap (λ l. x ∷ l) next.outside
-    ]
+    let kept : Bool → List WideToken = λ b.
+    if b then kept_from (if b then Begun else Outside) (y ∷ xs)
+    else x ∷ kept_from (if b then Begun else Outside) (y ∷ xs) in
+    let outside : Bool → List WideToken = λ b.
+    if b then outside_attributes (suc (closing_len 0 xs)) (y ∷ xs)
+    else x ∷ outside_attributes 0 (y ∷ xs) in
+    ⊎_elim
+    (λ is.
+    ap kept is
+    ∙ ap (λ e. if not e then kept_from (if e then Outside else Inside 0) xs
+    else y ∷ kept_from (if e then Outside else Inside 0) xs) (begins_by_open x y xs is)
+    ∙ all.inside 0
+    ∙ sym (ap outside is))
+    (λ isnt. ap kept isnt ∙ ap (λ l. x ∷ l) next.outside ∙ sym (ap outside isnt))
+    (cases_Bool (begins_attribute (x ∷ y ∷ xs)))
 
 kept : (xs : List WideToken) → Kept xs
 unfolding kept_from outside_attributes closing_len

@@ -2,7 +2,7 @@
 use Rattle.std.proofs.Common.{◌≡◌, ◌∙◌, ℕ, zero, suc, ◌+◌, ◌-◌, ◌≤◌, ◌<◌, Bool, true, false, List}
 use Rattle.std.proofs.Common.{[], ◌∷◌, ◌++◌, Option, None, refl, sym, ap, subst, fold, arith}
 use Rattle.std.proofs.Common.{length, take, drop, map, ⊎_elim, add-one, zero-add, append_assoc}
-use Rattle.std.proofs.lemmas.Bool.{cases_Bool, eqb-true, false≢true, or_parts}
+use Rattle.std.proofs.lemmas.Bool.{cases_Bool, eqb-true, false≢true}
 use Rattle.std.proofs.lemmas.List.{append-nil, drop-append-le, drop_all, map-append}
 use Rattle.std.proofs.lemmas.List.Concat.{flat_map-append}
 use Rattle.std.proofs.lemmas.List.FromFn.{length-map-range_with_len, map-range_with_len_more}
@@ -12,15 +12,11 @@ use Rattle.std.specs.List.{AllByRecursion, flat_map, range_with_len}
 use Rattle.std.specs.Option.{is_none, option_map, option_or, option_to_list}
 use Rattle.cb_scan.specs.declared.facts.Def.{Def}
 use Rattle.cb_scan.specs.declared.lex.token.Role.{Role}
-use Rattle.cb_scan.specs.declared.lex.token.Role.TheVariants.{Word, Mark, Str, Other}
 use Rattle.cb_scan.specs.declared.lex.token.Token.{Token}
-use Rattle.cb_scan.specs.declared.lex.token.WordKind.TheVariants as kind
 use Rattle.cb_scan.specs.declared.rules.heads.Head.{Head}
-use Rattle.cb_scan.specs.declared.rules.wide.role.WideRole.{WideRole}
-use Rattle.cb_scan.specs.declared.rules.wide.role.WideRole.TheVariants as wide
 use Rattle.cb_scan.specs.declared.rules.wide.machine.WideMachine.{WideMachine}
 use Rattle.cb_scan.specs.declared.rules.wide.token.WideToken.{WideToken}
-use Rattle.cb_scan.specs.lex.Tokens.{bytes_of, is_mark}
+use Rattle.cb_scan.specs.lex.Tokens.{is_mark}
 use Rattle.cb_scan.specs.rules.Depth.{closes, depth, depth_after, follows_linkage, head_start}
 use Rattle.cb_scan.specs.rules.Depth.{is_counted, is_open, is_stop, token_at}
 use Rattle.cb_scan.specs.Definitions.{function_def}
@@ -32,9 +28,7 @@ use Rattle.cb_scan.specs.rules.wide.Bodies.{Body, opens_body}
 use Rattle.cb_scan.specs.rules.wide.Functions.{plain, signature_from, wide_function_at}
 use Rattle.cb_scan.specs.rules.wide.Functions.{wide_functions, wide_head, wide_signature}
 use Rattle.cb_scan.specs.rules.wide.Levels.{wide_token, wide_tokens}
-use Rattle.cb_scan.specs.rules.wide.Words.{attribute_words, is_among, is_sign}
-use Rattle.cb_scan.specs.rules.wide.Words.{reserved_role, role_from, specifier_words}
-use Rattle.cb_scan.specs.rules.wide.Words.{statement_words, wide_role}
+use Rattle.cb_scan.specs.rules.wide.Words.{is_sign}
 use Rattle.cb_scan.specs.steps.Heads.{add, empty_head, next_opened}
 use Rattle.cb_scan.specs.steps.wide.Declarations.{is_block}
 use Rattle.cb_scan.specs.steps.wide.Functions as steps
@@ -48,58 +42,10 @@ use Rattle.cb_scan.proofs.HeadLemmas.{called_is, named_of, signature_def}
 use Rattle.cb_scan.proofs.OldStyleLemmas.{opened_along, semicolons_next}
 use Rattle.cb_scan.proofs.WideHeads.{head_is}
 use Rattle.cb_scan.proofs.WideRuns.{kept_all, run_is}
-use Rattle.cb_scan.proofs.WideSegments.{IsInner, after, along, headed_all, none_in}
+use Rattle.cb_scan.proofs.WideSegments.{IsInner, after, after_depth, along, depth_next_is}
+use Rattle.cb_scan.proofs.WideSegments.{headed_all, none_in}
+use Rattle.cb_scan.proofs.WideSigns.{no_signs, sign_of}
 use Rattle.cb_scan.proofs.WithinLemmas.{all-append}
-
--- ---- a token
-
-by_underscores : (b : ℕ) (u : Bool)
-    → is_sign b (if u then wide.Underscored else wide.Name) ≡ false
-by_underscores b true = refl
-by_underscores b false = refl
-
-by_words : (b : ℕ) (s t a : Bool)
-    → is_sign b (if s then wide.Specifier else (if t then wide.Statement
-    else (if a then wide.Attribute else wide.Reserved))) ≡ false
-by_words b true t a = refl
-by_words b false true a = refl
-by_words b false false true = refl
-by_words b false false false = refl
-
-by_apostrophe : (b : ℕ) (c : Bool)
-    → is_sign b (if c then wide.Character else wide.Number) ≡ false
-by_apostrophe b true = refl
-by_apostrophe b false = refl
-
--- its role is that of a lone byte where the token is one
-sign_from : (b : ℕ) (r : Role) (bytes : List ℕ) → is_sign b (role_from r bytes) ≡ is_mark b r
-unfolding reserved_role
-sign_from b (Word kind.Name) bytes = by_underscores b _
-sign_from b (Word kind.Define) bytes = by_underscores b _
-sign_from b (Word kind.Include) bytes = by_underscores b _
-sign_from b (Word kind.Typedef) bytes = refl
-sign_from b (Word kind.Extern) bytes = refl
-sign_from b (Word kind.Static) bytes = refl
-sign_from b (Word kind.Struct) bytes = refl
-sign_from b (Word kind.Union) bytes = refl
-sign_from b (Word kind.Enum) bytes = refl
-sign_from b (Word kind.Reserved) bytes =
-    by_words b (is_among specifier_words bytes) (is_among statement_words bytes)
-    (is_among attribute_words bytes)
-sign_from b (Mark x) bytes = refl
-sign_from b Str bytes = refl
-sign_from b Other bytes = by_apostrophe b _
-
-sign_of : (text : List ℕ) (b : ℕ) (t : Token) → is_sign b (wide_role text t) ≡ is_mark b t.role
-sign_of text b t = sign_from b t.role (bytes_of text t.span)
-
--- what ends no attribute is no `;` and no brace
-no_signs : (r : WideRole) → ends_attribute r ≡ false
-    → (is_sign 59 r ≡ false) × (is_sign 123 r ≡ false) × (is_sign 125 r ≡ false)
-no_signs r isnt =
-    let all_three = or_parts (is_sign 59 r || is_sign 123 r) (is_sign 125 r) isnt in
-    let first_two = or_parts (is_sign 59 r) (is_sign 123 r) all_three.0 in
-    (first_two.0, first_two.1, all_three.1)
 
 -- ---- what a head defines
 
@@ -199,10 +145,10 @@ stop_by true false false l s d is flat = ap (λ b. b || false || false) flat
 stop_by false false false l s d is flat = absurd (false≢true is)
 
 module _ (text : List ℕ) (ts : List Token) (bs : List Body) where
-  abbrev all : List WideToken
+  abbrev pub all : List WideToken
   all = wide_tokens text ts
 
-  abbrev item : ℕ → WideToken
+  abbrev pub item : ℕ → WideToken
   item k = wide_token text ts k
 
   -- the head before token k
@@ -223,7 +169,7 @@ module _ (text : List ℕ) (ts : List Token) (bs : List Body) where
   opened_at k = if is_counted ts k && depth ts k == 0
       then option_map signature_def (named_at k) ∷ [] else []
 
-  is_sign_of : (b k : ℕ) → is_sign b (item k).role ≡ is_mark b (token_at ts k).role
+  pub is_sign_of : (b k : ℕ) → is_sign b (item k).role ≡ is_mark b (token_at ts k).role
   is_sign_of b k = sign_of text b (token_at ts k)
 
   -- ---- the tokens up to one
@@ -265,7 +211,7 @@ module _ (text : List ℕ) (ts : List Token) (bs : List Body) where
 
   -- ---- a token of a segment
 
-  module _ (k : ℕ) (within : k < length ts) (goes_on : ends_attribute (item k).role ≡ false) where
+  module _ (k : ℕ) (goes_on : ends_attribute (item k).role ≡ false) where
     abbrev role : Role
     role = (token_at ts k).role
 
@@ -284,7 +230,7 @@ module _ (text : List ℕ) (ts : List Token) (bs : List Body) where
     no_close_mark : is_mark 125 role ≡ false
     no_close_mark = sym (is_sign_of 125 k) ∙ no_close
 
-    is_inner : IsInner (item k)
+    pub is_inner : IsInner (item k)
     is_inner = record {
       no_semicolon = no_semicolon;
       no_open = no_open;
@@ -316,26 +262,27 @@ module _ (text : List ℕ) (ts : List Token) (bs : List Body) where
         ∙ ap (λ b. cond b (cond (is_mark 59 role) (k ∷ semicolons_before ts k) [])
         (semicolons_before ts k)) no_stop)
 
-    segment_more : drop (head_start ts (suc k)) (take (suc k) all)
+    segment_more : k < length ts → drop (head_start ts (suc k)) (take (suc k) all)
         ≡ drop (head_start ts k) (take k all) ++ item k ∷ []
     unfolding head_start
-    segment_more =
+    segment_more within =
         let long : head_start ts k ≤ length (take k all) =
         omega (arith, head_start_le ts k, taken_length k (omega arith)) in
         ap (λ b. drop (if b then suc k else head_start ts k) (take (suc k) all)) no_stop
         ∙ ap (drop (head_start ts k)) (taken_more k within)
         ∙ drop-append-le (head_start ts k) (take k all) (item k ∷ []) long
 
-    one_more : (s : List WideToken) (m : WideMachine) → Holds k s m
+    one_more : k < length ts → (s : List WideToken) (m : WideMachine) → Holds k s m
         → Holds (suc k) (s ++ item k ∷ []) m
-    one_more s m here =
+    one_more within s m here =
         let before : (depth ts (suc k) == 0) ≡ true → (depth ts k == 0) ≡ true =
         λ flat. ap (λ d. d == 0) (sym same_depth) ∙ flat in
         record {
           inner = all-append IsInner s (item k ∷ []) here.inner (is_inner, tt);
           depth_is = here.depth_is ∙ sym same_depth;
           segment_is = λ flat.
-              ap (λ l. l ++ item k ∷ []) (here.segment_is (before flat)) ∙ sym segment_more;
+              ap (λ l. l ++ item k ∷ []) (here.segment_is (before flat))
+              ∙ sym (segment_more within);
           head_is = λ flat. here.head_is (before flat);
           parts_is = λ flat. here.parts_is (before flat);
           old_is = here.old_is ∙ sym same_old;
@@ -353,9 +300,7 @@ module _ (text : List ℕ) (ts : List Token) (bs : List Body) where
     before = after m (without_attributes s)
 
     depth_kept : before.depth ≡ depth ts k
-    depth_kept = elim (m.depth == 0) as
-        (λ b. (if b then headed_all m (without_attributes s) else m).depth ≡ m.depth)
-        [ true ↦ refl | false ↦ refl ] ∙ here.depth_is
+    depth_kept = after_depth m (without_attributes s) ∙ here.depth_is
 
     old_kept : before.opened ≡ old_at k
     old_kept = elim (m.depth == 0) as
@@ -402,7 +347,8 @@ module _ (text : List ℕ) (ts : List Token) (bs : List Body) where
             → (if c && flat then (if (c && b) && flat then function_here before else None) ∷ []
             else [])
             ≡ (if c && flat
-            then option_map signature_def (if b then wide_signature ts all k else None) ∷ [] else [])
+            then option_map signature_def (if b then wide_signature ts all k else None) ∷ []
+            else [])
         by_tests true true true is = ap (λ o. o ∷ []) (function_before is)
         by_tests true true false is = refl
         by_tests true false b is = refl
@@ -420,9 +366,7 @@ module _ (text : List ℕ) (ts : List Token) (bs : List Body) where
         (uncounted_is (is_open ts k) (follows_linkage ts k))
 
     depth_after_it : (ys : List WideToken) → (next before ys (item k)).depth ≡ depth ts (suc k)
-    depth_after_it ys = elim (stops before (item k)) as
-        (λ b. (if b then stopped before (item k) else grown before ys (item k)).depth
-        ≡ next_depth before (item k)) [ true ↦ refl | false ↦ refl ] ∙ depth_next
+    depth_after_it ys = depth_next_is before ys (item k) ∙ depth_next
 
     old_grown : (ys : List WideToken) → (grown before ys (item k)).opened ≡ before.opened
     old_grown ys = elim (before.depth == 0) as
@@ -512,10 +456,10 @@ module _ (text : List ℕ) (ts : List Token) (bs : List Body) where
       (λ goes_on.
       let s_next = s ++ item k ∷ [] in
       let here_next : Holds (k + 1) s_next m =
-      subst (λ j. Holds j s_next m) (sym (add-one k)) (one_more k within goes_on s m here) in
+      subst (λ j. Holds j s_next m) (sym (add-one k)) (one_more k goes_on within s m here) in
       ap (λ l. opened_from bs m (without_attributes l)) (sym (append_assoc s (item k ∷ []) rest))
       ∙ from n (k + 1) s_next m more here_next
-      ∙ ap (λ l. l ++ later) (sym (none_here k within goes_on)))
+      ∙ ap (λ l. l ++ later) (sym (none_here k goes_on)))
       (cases_Bool (ends_attribute (item k).role))
 
   -- what each `{` opens that counts outside all braces

@@ -79,7 +79,7 @@ first_same b s o c (x ∷ xs) =
     (cases_Bool (ends_attribute x.role))
 
 -- ---- a part, and what is made of it
-part_seen : (p : Part) (o : Bool) (x : WideToken) (xs : List WideToken)
+pub part_seen : (p : Part) (o : Bool) (x : WideToken) (xs : List WideToken)
     → next_part p o (x ∷ xs) x ≡ next_part p o (seen (x ∷ xs)) x
 part_seen p o x xs =
     let m : Numbered = record { item = x; count = 0 } in

@@ -14,6 +14,7 @@ pub mod Openings
 pub mod Parts
 pub mod Pass
 pub mod Pointers
+pub mod Ranges
 pub mod Sights
 pub mod Tails
 pub mod Tokens

@@ -1,5 +1,5 @@
 -- Attributes left out, a token at a time.
-use Rattle.std.specs.Prelude.{ℕ, zero, suc, Bool, true, false, not, List, [], ◌∷◌}
+use Rattle.std.specs.Prelude.{ℕ, zero, suc, Bool, false, not, List, [], ◌∷◌}
 use Rattle.std.specs.Prelude.{if◌then◌else◌}
 use Rattle.cb_scan.specs.declared.rules.wide.attribute.Attribute.{Attribute}
 use Rattle.cb_scan.specs.declared.rules.wide.attribute.Attribute.TheVariants.{Begun, Inside}
@@ -26,14 +26,14 @@ inside_after n role =
 abbrev pub leaves_out : Attribute → List WideToken → Bool
 leaves_out a [] = false
 leaves_out Outside (x ∷ xs) = begins_attribute (x ∷ xs)
-leaves_out Begun (x ∷ xs) = true
+leaves_out Begun (x ∷ xs) = not (ends_attribute x.role)
 leaves_out (Inside n) (x ∷ xs) = not (ends_attribute x.role)
 
 -- the state after the first token
 abbrev pub next_attribute : Attribute → List WideToken → Attribute
 next_attribute a [] = a
 next_attribute Outside (x ∷ xs) = if begins_attribute (x ∷ xs) then Begun else Outside
-next_attribute Begun (x ∷ xs) = Inside 0
+next_attribute Begun (x ∷ xs) = if ends_attribute x.role then Outside else Inside 0
 next_attribute (Inside n) (x ∷ xs) =
     if ends_attribute x.role then Outside else inside_after n x.role
 

@@ -80,8 +80,7 @@ impl Attribute {
         match (self, ahead) {
             (_, []) => false,
             (Attribute::Outside, _) => begins_attribute(ahead),
-            (Attribute::Begun, _) => true,
-            (Attribute::Inside(_), [first, ..]) => !ends_attribute(first.role),
+            (_, [first, ..]) => !ends_attribute(first.role),
         }
     }
 
@@ -100,14 +99,9 @@ impl Attribute {
                     Attribute::Outside
                 }
             }
+            (_, [first, ..]) if ends_attribute(first.role) => Attribute::Outside,
             (Attribute::Begun, _) => Attribute::Inside(0),
-            (Attribute::Inside(more), [first, ..]) => {
-                if ends_attribute(first.role) {
-                    Attribute::Outside
-                } else {
-                    inside_after(more, first.role)
-                }
-            }
+            (Attribute::Inside(more), [first, ..]) => inside_after(more, first.role),
         }
     }
 }
