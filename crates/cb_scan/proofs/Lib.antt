@@ -56,6 +56,7 @@ pub mod WideOpenings
 pub mod WideParts
 pub mod WidePointers
 pub mod WideRanges
+pub mod WideReading
 pub mod WideRuns
 pub mod WideSeen
 pub mod WideSegments
