@@ -46,6 +46,7 @@ pub mod WideCuts
 pub mod WideDeclarations
 pub mod WideEnumerators
 pub mod WideFile
+pub mod WideFive
 pub mod WideFunctions
 pub mod WideHeads
 pub mod WideLaws
@@ -56,6 +57,7 @@ pub mod WideOpenings
 pub mod WideParts
 pub mod WideSeen
 pub mod WideStack
+pub mod WidePass
 pub mod WidePointers
 pub mod WideRanges
 pub mod WideRuns
