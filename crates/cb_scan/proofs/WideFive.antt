@@ -1,5 +1,6 @@
 -- The pass over the bare tokens looks at five tokens at most.
-use Rattle.std.proofs.Common.{◌≡◌, Bool, true, false, List, [], ◌∷◌, ◌++◌, Option, None, Some, refl, ap}
+use Rattle.std.proofs.Common.{◌≡◌, Bool, true, false, List, [], ◌∷◌, ◌++◌, Option, None, Some}
+use Rattle.std.proofs.Common.{refl, ap}
 use Rattle.std.specs.Prelude.{◌&&◌, ◌||◌, ◌==◌, if◌then◌else◌}
 use Rattle.std.specs.Option.{is_some}
 use Rattle.cb_scan.specs.declared.rules.wide.called.Calls.{Calls}
@@ -30,7 +31,7 @@ use Rattle.cb_scan.specs.steps.wide.Heads.{declared, next_head}
 use Rattle.cb_scan.specs.steps.wide.Levels.{opened}
 use Rattle.cb_scan.specs.steps.wide.Lists.{Lists}
 use Rattle.cb_scan.specs.steps.wide.Openings.{tag_out}
-use Rattle.cb_scan.specs.steps.wide.Parts.{begins_value, grown_part, is_stray, next_part, part_start}
+use Rattle.cb_scan.specs.steps.wide.Parts.{begins_value, is_stray, next_part, part_start}
 use Rattle.cb_scan.specs.steps.wide.Pass.{is_block, next_lists, next_of_file, next_pass, parts_here}
 use Rattle.cb_scan.specs.steps.wide.Pass.{typedefs_of}
 use Rattle.cb_scan.specs.steps.wide.Pointers.{next_pointer}

@@ -4,12 +4,10 @@ use Rattle.std.proofs.Common.{None, refl, sym, ap, length, map, append_assoc}
 use Rattle.std.proofs.lemmas.List.{append-nil}
 use Rattle.std.specs.Prelude.{◌&&◌, ◌==◌, not, if◌then◌else◌}
 use Rattle.std.specs.Option.{is_none, is_some, option_map, option_to_list}
-use Rattle.cb_scan.specs.declared.lex.piece.Span.{Span}
 use Rattle.cb_scan.specs.declared.lex.token.Token.{Token}
 use Rattle.cb_scan.specs.declared.rules.wide.declaration.Declaration.{Declaration}
 use Rattle.cb_scan.specs.declared.rules.wide.def.WideDef.{WideDef}
 use Rattle.cb_scan.specs.declared.rules.wide.level.Level.{Level}
-use Rattle.cb_scan.specs.declared.rules.wide.machine.WideMachine.{WideMachine}
 use Rattle.cb_scan.specs.declared.rules.wide.opening.Opening.{Opening}
 use Rattle.cb_scan.specs.declared.rules.wide.pass.Pass.{Pass}
 use Rattle.cb_scan.specs.declared.rules.wide.token.WideToken.{WideToken}
@@ -28,7 +26,7 @@ use Rattle.cb_scan.specs.steps.wide.Functions as functions
 use Rattle.cb_scan.specs.steps.wide.Functions.{found, functions_from}
 use Rattle.cb_scan.specs.steps.wide.Levels.{opened}
 use Rattle.cb_scan.specs.steps.wide.Lists.{Lists}
-use Rattle.cb_scan.specs.steps.wide.Pass.{function_found, is_block, lists_from, next_file, next_lists}
+use Rattle.cb_scan.specs.steps.wide.Pass.{function_found, is_block, lists_from, next_lists}
 use Rattle.cb_scan.specs.steps.wide.Openings.{tag_out}
 use Rattle.cb_scan.specs.steps.wide.Pass.{next_of_file, next_pass, parts_here, pass_start}
 use Rattle.cb_scan.specs.steps.wide.Pass.{range_closed, typedefs_of}
