@@ -55,14 +55,15 @@ pub mod WideNaming
 pub mod WideObjects
 pub mod WideOpenings
 pub mod WideParts
-pub mod WideSeen
-pub mod WideStack
 pub mod WidePass
 pub mod WidePointers
 pub mod WideRanges
 pub mod WideRuns
+pub mod WideSeen
 pub mod WideSegments
+pub mod WideSights
 pub mod WideSigns
+pub mod WideStack
 pub mod WideTails
 pub mod WideTokens
 pub mod Windows

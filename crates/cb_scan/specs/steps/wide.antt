@@ -15,5 +15,6 @@ pub mod Parts
 pub mod Pass
 pub mod Pointers
 pub mod Ranges
+pub mod Sights
 pub mod Tails
 pub mod Tokens

@@ -17,6 +17,7 @@ pub(crate) mod part;
 pub(crate) mod pass;
 pub(crate) mod pointer;
 pub(crate) mod role;
+pub(crate) mod sight;
 pub(crate) mod tail;
 pub(crate) mod token;
 pub(crate) mod window;
