@@ -15,6 +15,7 @@ pub mod Parts
 pub mod Pass
 pub mod Pointers
 pub mod Ranges
+pub mod Reading
 pub mod Sights
 pub mod Tails
 pub mod Tokens

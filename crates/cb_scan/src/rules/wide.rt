@@ -16,6 +16,7 @@ pub(crate) mod opening;
 pub(crate) mod part;
 pub(crate) mod pass;
 pub(crate) mod pointer;
+pub(crate) mod reader;
 pub(crate) mod role;
 pub(crate) mod sight;
 pub(crate) mod tail;

@@ -121,8 +121,21 @@ next_lists l p xs x = record {
       (objects_of l.ranges (parts_here p x) ++ l.objects);
 }
 
--- what is found from a state on
-unfoldable pub lists_from : Lists → Pass → List WideToken → Lists
-lists_from l p [] = l
-lists_from l p (x ∷ xs) =
-    lists_from (next_lists l p (x ∷ xs) x) (next_pass p (x ∷ xs) x) xs
+-- ---- both
+
+-- a state, and what is found so far
+pub record Taken : Type 0 where
+  pub pass : Pass
+  pub lists : Lists
+
+-- after the first of these tokens
+abbrev pub take_first : Taken → List WideToken → WideToken → Taken
+take_first t xs x = record {
+  pass = next_pass t.pass xs x;
+  lists = next_lists t.lists t.pass xs x;
+}
+
+-- after all of them
+unfoldable pub take_all : Taken → List WideToken → Taken
+take_all t [] = t
+take_all t (x ∷ xs) = take_all (take_first t (x ∷ xs) x) xs

@@ -50,7 +50,7 @@ fn begins_attribute(ahead: &[WideToken]) -> bool
 }
 
 /// A `;` or a brace, which no attribute holds.
-fn ends_attribute(role: WideRole) -> bool
+pub(crate) fn ends_attribute(role: WideRole) -> bool
     ensures { result ≡ ends_attribute role }
 {
     role.is_sign(b';') || role.is_sign(b'{') || role.is_sign(b'}')
