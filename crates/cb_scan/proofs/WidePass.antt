@@ -26,10 +26,10 @@ use Rattle.cb_scan.specs.steps.wide.Functions as functions
 use Rattle.cb_scan.specs.steps.wide.Functions.{found, functions_from}
 use Rattle.cb_scan.specs.steps.wide.Levels.{opened}
 use Rattle.cb_scan.specs.steps.wide.Lists.{Lists}
-use Rattle.cb_scan.specs.steps.wide.Pass.{function_found, is_block, lists_from, next_lists}
+use Rattle.cb_scan.specs.steps.wide.Pass.{Taken, function_found, is_block, next_lists, take_all}
 use Rattle.cb_scan.specs.steps.wide.Openings.{tag_out}
 use Rattle.cb_scan.specs.steps.wide.Pass.{next_of_file, next_pass, parts_here, pass_start}
-use Rattle.cb_scan.specs.steps.wide.Pass.{range_closed, typedefs_of}
+use Rattle.cb_scan.specs.steps.wide.Pass.{range_closed, take_first, typedefs_of}
 use Rattle.cb_scan.proofs.Bodies.{def_name}
 use Rattle.cb_scan.proofs.WideBareRanges.{bare_ranges_are, ranges_along}
 use Rattle.cb_scan.proofs.WideBodies.{Opens}
@@ -77,11 +77,6 @@ lists_seen l p x xs =
 
 -- ---- what is gathered
 
--- the state after some tokens
-unfoldable pub pass_from : Pass → List WideToken → Pass
-pass_from p [] = p
-pass_from p (x ∷ xs) = pass_from (next_pass p (x ∷ xs) x) xs
-
 -- a brace is a block by what it would open
 block_is : (bs : List Body) (o : Option Opening) (x : WideToken)
     → (x.counted ≡ true → opens_body bs x.token.span.start ≡ is_some o)
@@ -98,31 +93,34 @@ block_is bs o x same = by_count x.counted same
     by_count false same = refl
 
 module _ (bs : List Body) where
-  functions_gathered : (xs : List WideToken) (l : Lists) (p : Pass) → Opens bs p.opening xs
-      → (lists_from l p xs).functions ≡ l.functions ++ functions_from bs p.machine xs
-  unfolding lists_from functions_from
-  functions_gathered [] l p same = sym (append-nil l.functions)
-  functions_gathered (x ∷ xs) l p same =
+  functions_gathered : (xs : List WideToken) (t : Taken) → Opens bs t.pass.opening xs
+      → (take_all t xs).lists.functions
+      ≡ t.lists.functions ++ functions_from bs t.pass.machine xs
+  unfolding take_all functions_from
+  functions_gathered [] t same = sym (append-nil t.lists.functions)
+  functions_gathered (x ∷ xs) t same =
+      let p = t.pass in
       let q = next_pass p (x ∷ xs) x in
-      functions_gathered xs (next_lists l p (x ∷ xs) x) q same.1
-      ∙ append_assoc l.functions (option_to_list (function_found p x))
+      functions_gathered xs (take_first t (x ∷ xs) x) same.1
+      ∙ append_assoc t.lists.functions (option_to_list (function_found p x))
       (functions_from bs q.machine xs)
-      ∙ (λ i. l.functions ++ (option_to_list (found p.machine (block_is bs p.opening x same.0 i))
+      ∙ (λ i. t.lists.functions
+      ++ (option_to_list (found p.machine (block_is bs p.opening x same.0 i))
       ++ functions_from bs q.machine xs))
 
-  ranges_gathered : (end : ℕ) (xs : List WideToken) (l : Lists) (p : Pass)
-      → Opens bs p.opening xs
-      → (lists_from l p xs).ranges
-      ++ option_to_list (option_map (range_to end) (pass_from p xs).body)
-      ≡ l.ranges ++ ranges_along bs end p.body p.machine xs
-  unfolding lists_from pass_from ranges_along
-  ranges_gathered end [] l p same = refl
-  ranges_gathered end (x ∷ xs) l p same =
+  ranges_gathered : (end : ℕ) (xs : List WideToken) (t : Taken) → Opens bs t.pass.opening xs
+      → (take_all t xs).lists.ranges
+      ++ option_to_list (option_map (range_to end) (take_all t xs).pass.body)
+      ≡ t.lists.ranges ++ ranges_along bs end t.pass.body t.pass.machine xs
+  unfolding take_all ranges_along
+  ranges_gathered end [] t same = refl
+  ranges_gathered end (x ∷ xs) t same =
+      let p = t.pass in
       let q = next_pass p (x ∷ xs) x in
-      ranges_gathered end xs (next_lists l p (x ∷ xs) x) q same.1
-      ∙ append_assoc l.ranges (option_to_list (range_closed p x))
+      ranges_gathered end xs (take_first t (x ∷ xs) x) same.1
+      ∙ append_assoc t.lists.ranges (option_to_list (range_closed p x))
       (ranges_along bs end q.body q.machine xs)
-      ∙ (λ i. l.ranges ++ (option_to_list (range_closed p x)
+      ∙ (λ i. t.lists.ranges ++ (option_to_list (range_closed p x)
       ++ ranges_along bs end (if p.machine.depth == 0
       then option_map def_name (found p.machine (block_is bs p.opening x same.0 i))
       else (if functions.next_depth p.machine x == 0 then None else p.body)) q.machine xs))
@@ -131,19 +129,23 @@ module _ (bs : List Body) where
 
 module _ (text : List ℕ) (ts : List Token) (bs : List Body) (l : Lists)
     (same : Opens bs None (without_attributes (all text ts bs))) where
-  abbrev bare : List WideToken
-  bare = without_attributes (all text ts bs)
+  -- the pass at the end of the code
+  abbrev taken : Taken
+  taken =
+      take_all (record { pass = pass_start; lists = l }) (without_attributes (all text ts bs))
 
   -- its functions and their ranges, of which one may end with the text
-  pub pass_functions : (lists_from l pass_start bare).functions
+  pub pass_functions : taken.lists.functions
       ≡ l.functions ++ map function_def (wide_functions ts (all text ts bs) bs)
   pass_functions =
-      functions_gathered bs bare l pass_start same
+      functions_gathered bs (without_attributes (all text ts bs))
+      (record { pass = pass_start; lists = l }) same
       ∙ ap (λ fs. l.functions ++ fs) (functions_are text ts bs)
 
-  pub pass_ranges : (lists_from l pass_start bare).ranges
-      ++ option_to_list (option_map (range_to (length text)) (pass_from pass_start bare).body)
+  pub pass_ranges : taken.lists.ranges
+      ++ option_to_list (option_map (range_to (length text)) taken.pass.body)
       ≡ l.ranges ++ map (function_range text ts) (wide_functions ts (all text ts bs) bs)
   pass_ranges =
-      ranges_gathered bs (length text) bare l pass_start same
+      ranges_gathered bs (length text) (without_attributes (all text ts bs))
+      (record { pass = pass_start; lists = l }) same
       ∙ ap (λ rs. l.ranges ++ rs) (bare_ranges_are text ts bs)
