@@ -39,6 +39,7 @@ pub mod TypedefsWithin
 pub mod WideAhead
 pub mod WideAttributes
 pub mod WideBareRanges
+pub mod WideBlocks
 pub mod WideBodies
 pub mod WideCalls
 pub mod WideContents
