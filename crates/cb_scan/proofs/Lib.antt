@@ -59,6 +59,7 @@ pub mod WideParts
 pub mod WidePass
 pub mod WidePointers
 pub mod WideRanges
+pub mod WideReading
 pub mod WideRuns
 pub mod WideSeen
 pub mod WideSegments

@@ -13,9 +13,14 @@ use Rattle.cb_scan.specs.rules.wide.Attributes.{ends_attribute}
 use Rattle.cb_scan.specs.steps.Functions.{before_after}
 use Rattle.cb_scan.specs.steps.wide.Attributes.{kept_from, leaves_out, next_attribute, open_count}
 use Rattle.cb_scan.specs.steps.wide.Contents.{are_in_block}
+use Rattle.cb_scan.specs.steps.wide.Lists.{Lists}
 use Rattle.cb_scan.specs.steps.wide.Pass.{Taken, take_all, take_first}
 use Rattle.cb_scan.specs.steps.wide.Sights.{look, open_in_phase, sight_opening, sight_start}
 use Rattle.cb_scan.specs.steps.wide.Tokens.{token_after}
+
+-- a state, and what is found so far
+abbrev pub the_taken : Pass → Lists → Taken
+the_taken pass lists = record { pass = pass; lists = lists }
 
 -- ---- the tokens that are held back
 

@@ -1,13 +1,14 @@
 //! The pass of the wide profile over all tokens of the code. Tokens that may be of an attribute, or
 //! ahead of which more is to be seen, are held back.
-ghost use Rattle.std.specs.Prelude.{◌≡◌, ◌+◌, ◌<◌, ◌≤◌, ◌^◌, ◌++◌, [], length, true, IfOk};
+ghost use Rattle.std.specs.Prelude.{◌≡◌, ◌+◌, ◌<◌, ◌≤◌, ◌^◌, ◌++◌, ◌∷◌, [], drop, length, true, IfOk};
 ghost use Rattle.cb_scan.specs.rules.wide.Attributes.{ends_attribute};
 ghost use Rattle.cb_scan.specs.steps.wide.Attributes.{kept_from, open_count};
 ghost use Rattle.cb_scan.specs.steps.wide.Contents.{are_in_block};
-ghost use Rattle.cb_scan.specs.steps.wide.Pass.{most_in, take_all, Taken};
+ghost use Rattle.cb_scan.specs.steps.wide.Pass.{most_in, take_all, take_first};
 ghost use Rattle.cb_scan.specs.steps.wide.Reading.{
   all_taken,
   emptied,
+  first_taken,
   held,
   held_len,
   most_left_out,
@@ -22,6 +23,7 @@ ghost use Rattle.cb_scan.specs.steps.wide.Reading.{
   taken_if_full,
   taken_next,
   taken_on,
+  the_taken,
   turned,
 };
 
@@ -95,5 +97,120 @@ impl Reader {
         if self.raw.ahead().len() == 3 {
             self.settle();
         }
+    }
+
+    /// Leaves out or keeps all of them, where nothing that is to come is seen from them.
+    fn release(&mut self)
+        requires raw { length self.old.raw ≤ 2 }
+        requires bare { length self.old.bare ≤ 4 }
+        requires small { open_count self.old.attribute + 2 < 2 ^ 32 }
+        ensures value { self.new ≡ released self.old }
+        ensures more { length self.new.bare ≤ held_len self.old }
+    {
+        'settled: while !self.raw.ahead().is_empty() {
+            self.settle();
+        }
+        self.attribute = Attribute::Outside;
+    }
+
+    /// Takes all that are of no attribute.
+    fn take_bare(&mut self, pass: &mut Pass, found: &mut Found) -> Result<(), AllocError>
+        requires { most_in pass.old + length self.old.bare < 2 ^ 32 }
+        ensures reader { IfOk result (λ _. self.new ≡ record self.old { bare = [] }) }
+        ensures taken { IfOk result
+            (λ _. the_taken pass.new found.new
+            ≡ take_all (the_taken pass.old found.old) self.old.bare) }
+        ensures small { IfOk result (λ _. most_in pass.new ≤ most_in pass.old + length self.old.bare) }
+    {
+        'taken: while let [item, ..] = self.bare.ahead() {
+            pass.take(found, self.bare.ahead(), item)?;
+            self.bare.pop();
+        }
+        Ok(())
+    }
+
+    /// Takes the first of them.
+    fn take_first(&mut self, pass: &mut Pass, found: &mut Found) -> Result<(), AllocError>
+        requires some { 1 ≤ length self.old.bare }
+        requires small { most_in pass.old + 1 < 2 ^ 32 }
+        ensures reader { IfOk result
+            (λ _. self.new ≡ record self.old { bare = drop 1 self.old.bare }) }
+        ensures taken { IfOk result
+            (λ _. the_taken pass.new found.new
+            ≡ first_taken (the_taken pass.old found.old) self.old.bare) }
+        ensures small { IfOk result (λ _. most_in pass.new ≤ most_in pass.old + 1) }
+    {
+        if let [item, ..] = self.bare.ahead() {
+            pass.take(found, self.bare.ahead(), item)?;
+        }
+        self.bare.pop();
+        Ok(())
+    }
+
+    /// One more token, which is no brace and no `;`, outside of blocks.
+    fn read(
+        &mut self,
+        pass: &mut Pass,
+        found: &mut Found,
+        item: &WideToken,
+    ) -> Result<(), AllocError>
+        requires raw { length self.old.raw ≤ 2 }
+        requires bare { length self.old.bare ≤ 4 }
+        requires small { most_in pass.old + held_len self.old + 1 < 2 ^ 32 }
+        requires left_out { open_count self.old.attribute + 1 < 2 ^ 32 }
+        ensures reader { IfOk result (λ _. self.new ≡ emptied (held self.old item.now)) }
+        ensures taken { IfOk result
+            (λ _. the_taken pass.new found.new
+            ≡ taken_if_full (held self.old item.now) (the_taken pass.old found.old)) }
+        ensures small { IfOk result
+            (λ _. most_in pass.new + held_len self.new
+            ≤ most_in pass.old + held_len self.old + 1) }
+        ensures left_out { IfOk result
+            (λ _. open_count self.new.attribute ≤ open_count self.old.attribute + 1) }
+        ensures raw { IfOk result (λ _. length self.new.raw ≤ 2) }
+        ensures bare { IfOk result (λ _. length self.new.bare ≤ 4) }
+    {
+        self.hold(item);
+        if self.bare.ahead().len() == 5 {
+            self.take_first(pass, found)?;
+        }
+        Ok(())
+    }
+
+    /// A brace or a `;`, before which all that is held back is taken.
+    fn turn(
+        &mut self,
+        pass: &mut Pass,
+        found: &mut Found,
+        in_block: bool,
+        item: &WideToken,
+    ) -> Result<(), AllocError>
+        requires raw { length self.old.raw ≤ 2 }
+        requires bare { length self.old.bare ≤ 4 }
+        requires small { most_in pass.old + held_len self.old + 1 < 2 ^ 32 }
+        requires left_out { open_count self.old.attribute + 2 < 2 ^ 32 }
+        ensures reader { IfOk result (λ _. self.new ≡ turned in_block self.old) }
+        ensures taken { IfOk result
+            (λ _. the_taken pass.new found.new
+            ≡ take_first (all_taken in_block self.old (the_taken pass.old found.old))
+            (item.now ∷ []) item.now) }
+        ensures small { IfOk result
+            (λ _. most_in pass.new + held_len self.new
+            ≤ most_in pass.old + held_len self.old + 1) }
+        ensures left_out { IfOk result
+            (λ _. open_count self.new.attribute ≤ open_count self.old.attribute) }
+        ensures raw { IfOk result (λ _. length self.new.raw ≤ 2) }
+        ensures bare { IfOk result (λ _. length self.new.bare ≤ 4) }
+    {
+        if in_block {
+            pass.opening = self.sight.opening();
+        } else {
+            self.release();
+            self.take_bare(pass, found)?;
+        }
+        let ahead = [*item];
+        pass.take(found, &ahead, item)?;
+        self.sight = Sight::new();
+        Ok(())
     }
 }
