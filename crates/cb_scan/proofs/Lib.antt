@@ -68,6 +68,7 @@ pub mod WideSigns
 pub mod WideStack
 pub mod WideTails
 pub mod WideTokens
+pub mod WideWhole
 pub mod Windows
 pub mod WithinLemmas
 pub mod WordLemmas
