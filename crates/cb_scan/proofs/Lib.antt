@@ -39,6 +39,7 @@ pub mod TypedefsWithin
 pub mod WideAhead
 pub mod WideAttributes
 pub mod WideBareRanges
+pub mod WideBlocks
 pub mod WideBodies
 pub mod WideCalls
 pub mod WideContents
@@ -46,6 +47,7 @@ pub mod WideCuts
 pub mod WideDeclarations
 pub mod WideEnumerators
 pub mod WideFile
+pub mod WideFive
 pub mod WideFunctions
 pub mod WideHeads
 pub mod WideLaws
@@ -54,6 +56,7 @@ pub mod WideNaming
 pub mod WideObjects
 pub mod WideOpenings
 pub mod WideParts
+pub mod WidePass
 pub mod WidePointers
 pub mod WideRanges
 pub mod WideReading
@@ -65,6 +68,7 @@ pub mod WideSigns
 pub mod WideStack
 pub mod WideTails
 pub mod WideTokens
+pub mod WideWhole
 pub mod Windows
 pub mod WithinLemmas
 pub mod WordLemmas

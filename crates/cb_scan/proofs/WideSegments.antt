@@ -101,7 +101,7 @@ depth_inner d x inner =
     else (if inner.no_mark i then (if x.token.starts_line then 0 else d - 1) else d))
 
 -- it is of the head at depth 0
-next_inner : (m : WideMachine) (xs : List WideToken) (x : WideToken) → IsInner x
+pub next_inner : (m : WideMachine) (xs : List WideToken) (x : WideToken) → IsInner x
     → next m xs x ≡ (if m.depth == 0 then headed m xs x else m)
 next_inner m xs x inner =
     let no_stop : stops m x ≡ false =

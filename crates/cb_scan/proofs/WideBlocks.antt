@@ -1,0 +1,169 @@
+-- Inside a block the pass over the bare tokens finds nothing up to the next `;` or brace.
+use Rattle.std.proofs.Common.{◌≡◌, ◌∙◌, ℕ, suc, ◌+◌, ◌-◌, Bool, true, false, List, [], ◌∷◌, ◌++◌}
+use Rattle.std.proofs.Common.{Option, None, Some, refl, sym, ap, arith, drop, length, append_assoc}
+use Rattle.std.proofs.lemmas.Bool.{eqb-true, false_from_ne_true, false≢true}
+use Rattle.std.proofs.lemmas.List.{append-nil}
+use Rattle.std.specs.Prelude.{◌&&◌, ◌==◌, not, if◌then◌else◌}
+use Rattle.std.specs.List.{AllByRecursion}
+use Rattle.std.specs.Option.{is_none, option_map, option_to_list}
+use Rattle.cb_scan.specs.declared.facts.Def.{Def}
+use Rattle.cb_scan.specs.declared.rules.scope.Range.{Range}
+use Rattle.cb_scan.specs.declared.rules.wide.def.WideDef.{WideDef}
+use Rattle.cb_scan.specs.declared.rules.wide.level.Level.{Level}
+use Rattle.cb_scan.specs.declared.rules.wide.level.Level.TheVariants.{Block, Enumerators, Members}
+use Rattle.cb_scan.specs.declared.rules.wide.machine.WideMachine.{WideMachine}
+use Rattle.cb_scan.specs.declared.rules.wide.opening.Opening.{Opening}
+use Rattle.cb_scan.specs.declared.rules.wide.pass.Pass.{Pass}
+use Rattle.cb_scan.specs.declared.rules.wide.token.WideToken.{WideToken}
+use Rattle.cb_scan.specs.lex.Tokens.{is_mark}
+use Rattle.cb_scan.specs.rules.wide.Words.{is_sign}
+use Rattle.cb_scan.specs.steps.Functions.{range_to}
+use Rattle.cb_scan.specs.steps.wide.Contents.{are_in_block, closed_by, defined_by, first_goes_on}
+use Rattle.cb_scan.specs.steps.wide.Contents.{next_level, next_levels, tag_inside}
+use Rattle.cb_scan.specs.steps.wide.Declarations.{before_in_file}
+use Rattle.cb_scan.specs.steps.wide.Functions as functions
+use Rattle.cb_scan.specs.steps.wide.Functions.{found, function_here, headed}
+use Rattle.cb_scan.specs.steps.wide.Levels.{opened}
+use Rattle.cb_scan.specs.steps.wide.Lists.{Lists}
+use Rattle.cb_scan.specs.steps.wide.Openings.{next_opening, opening_tag, tag_out}
+use Rattle.cb_scan.specs.steps.wide.Pass.{Taken, function_found, is_block, next_body, next_file}
+use Rattle.cb_scan.specs.steps.wide.Pass.{next_lists, next_of_file, next_pass, objects_of, part_at}
+use Rattle.cb_scan.specs.steps.wide.Pass.{parts_here, range_closed, take_all, take_first}
+use Rattle.cb_scan.specs.steps.wide.Pass.{typedefs_of, without_head}
+use Rattle.cb_scan.specs.steps.wide.Reading.{opened_by}
+use Rattle.cb_scan.specs.steps.wide.Sights.{opening_along}
+use Rattle.cb_scan.proofs.WideSegments.{IsInner, depth_inner, depth_next_is, next_inner}
+
+-- ---- how deep in braces
+
+-- a token is a `}` by its role where it is one
+abbrev pub IsRead : WideToken → Type 0
+IsRead x = is_sign 125 x.role ≡ is_mark 125 x.token.role
+
+-- there is a level for each brace that is open
+abbrev pub IsDeep : Pass → Type 0
+IsDeep p = p.machine.depth ≡ length p.levels
+
+goes_on_length : (ls : List Level) (xs : List WideToken) (x : WideToken)
+    → length (first_goes_on ls xs x) ≡ length ls
+goes_on_length [] xs x = refl
+goes_on_length (l ∷ ls) xs x = refl
+
+drop_length : (ls : List Level) → length (drop 1 ls) ≡ length ls - 1
+drop_length [] = omega arith
+drop_length (l ∷ ls) = omega arith
+
+pub deep_next : (p : Pass) (xs : List WideToken) (x : WideToken) → IsRead x → IsDeep p
+    → IsDeep (next_pass p xs x)
+deep_next p xs x read deep =
+    depth_next_is p.machine xs x
+    ∙ (λ i. if x.counted then deep i + 1
+    else (if sym read i then (if x.token.starts_line then 0 else deep i - 1) else deep i))
+    ∙ by_tests x.counted (is_sign 125 x.role) x.token.starts_line
+  where
+    by_tests : (c b s : Bool)
+        → (if c then length p.levels + 1
+        else (if b then (if s then 0 else length p.levels - 1) else length p.levels))
+        ≡ length (if c then opened p.opening (tag_inside p.levels) ∷ first_goes_on p.levels xs x
+        else (if b then (if s then [] else drop 1 p.levels) else first_goes_on p.levels xs x))
+    by_tests true b s =
+        let same = goes_on_length p.levels xs x in
+        let one : length p.levels + 1 ≡ suc (length (first_goes_on p.levels xs x)) =
+        omega (arith, same) in one
+    by_tests false true true = refl
+    by_tests false true false = sym (drop_length p.levels)
+    by_tests false false s = sym (goes_on_length p.levels xs x)
+
+-- ---- a token inside a block
+
+in_block_deep : (ls : List Level) → are_in_block ls ≡ true → (length ls == 0) ≡ false
+in_block_deep [] is = absurd (false≢true is)
+in_block_deep (l ∷ ls) is = false_from_ne_true (suc (length ls) == 0)
+    (λ e. let none : suc (length ls) ≡ 0 = eqb-true (suc (length ls)) 0 e in absurd (omega arith))
+
+-- such a level goes on as it is
+kept_levels : (ls : List Level) (xs : List WideToken) (x : WideToken) → are_in_block ls ≡ true
+    → first_goes_on ls xs x ≡ ls
+kept_levels [] xs x is = refl
+kept_levels (Block ∷ ls) xs x is = refl
+kept_levels (Members tag d ∷ ls) xs x is = absurd (false≢true is)
+kept_levels (Enumerators tag e ∷ ls) xs x is = absurd (false≢true is)
+
+none_defined : (ls : List Level) (xs : List WideToken) (x : WideToken) → are_in_block ls ≡ true
+    → is_sign 125 x.role ≡ false → defined_by ls xs x ≡ []
+none_defined [] xs x is no_close = refl
+none_defined (Block ∷ ls) xs x is no_close = ap (λ b. if b then [] else []) no_close
+none_defined (Members tag d ∷ ls) xs x is no_close = absurd (false≢true is)
+none_defined (Enumerators tag e ∷ ls) xs x is no_close = absurd (false≢true is)
+
+module _ (p : Pass) (x : WideToken) (xs : List WideToken) (inner : IsInner x)
+    (block : are_in_block p.levels ≡ true) (deep : IsDeep p) where
+  below : (p.machine.depth == 0) ≡ false
+  below = ap (λ d. d == 0) deep ∙ in_block_deep p.levels block
+
+  pass_in_block : next_pass p xs x ≡ record p { opening = next_opening p.opening x }
+  pass_in_block =
+      let machine : functions.next p.machine xs x ≡ p.machine =
+      next_inner p.machine xs x inner ∙ ap (λ b. if b then headed p.machine xs x else p.machine) below in
+      let file : next_file p xs x ≡ p.file =
+      ap (λ b. if b then next_of_file (before_in_file p.file x) (is_block p x) xs x else p.file)
+      below in
+      let goes_on : (functions.next_depth p.machine x == 0) ≡ false =
+      ap (λ d. d == 0) (depth_inner p.machine.depth x inner) ∙ below in
+      let body : next_body p x ≡ p.body =
+      (λ i. if below i then option_map (λ (d : Def). d.name) (function_found p x)
+      else (if goes_on i then None else p.body)) in
+      let levels : next_levels p.opening p.levels xs x ≡ p.levels =
+      (λ i. if inner.uncounted i
+      then opened p.opening (tag_inside p.levels) ∷ first_goes_on p.levels xs x
+      else (if inner.no_close i then closed_by x p.levels else first_goes_on p.levels xs x))
+      ∙ kept_levels p.levels xs x block in
+      λ i. record {
+        opening = next_opening p.opening x;
+        machine = machine i;
+        file = file i;
+        body = body i;
+        levels = levels i;
+      }
+
+  lists_in_block : (l : Lists) → next_lists l p xs x ≡ l
+  lists_in_block l =
+      let none_found : function_found p x ≡ None =
+      (λ i. if (inner.uncounted i && is_none p.opening) && p.machine.depth == 0
+      then function_here p.machine else None) in
+      let none_closed : range_closed p x ≡ None =
+      (λ i. if inner.no_close i && functions.next_depth p.machine x == 0
+      then option_map (range_to x.token.span.end) p.body else None) in
+      let no_parts : parts_here p x ≡ [] =
+      ap (λ b. if b then part_at (before_in_file p.file x) x else []) below in
+      let no_tag : tag_out p.opening x ≡ [] =
+      ap (λ b. if b then opening_tag p.opening else []) inner.uncounted in
+      let functions_same : l.functions ++ option_to_list (function_found p x) ≡ l.functions =
+      ap (λ o. l.functions ++ option_to_list o) none_found ∙ append-nil l.functions in
+      let ranges_same : l.ranges ++ option_to_list (range_closed p x) ≡ l.ranges =
+      ap (λ o. l.ranges ++ option_to_list o) none_closed ∙ append-nil l.ranges in
+      let defs_same :
+      ((l.defs ++ typedefs_of (parts_here p x)) ++ tag_out p.opening x) ++ defined_by p.levels xs x
+      ≡ l.defs =
+      (λ i. ((l.defs ++ typedefs_of (no_parts i)) ++ no_tag i)
+      ++ none_defined p.levels xs x block inner.no_close i)
+      ∙ append-nil _ ∙ append-nil _ ∙ append-nil l.defs in
+      λ i. record {
+        functions = functions_same i;
+        ranges = ranges_same i;
+        defs = defs_same i;
+        objects = without_head (none_found i) (objects_of l.ranges (no_parts i) ++ l.objects);
+      }
+
+-- the tokens up to the next `;` or brace change what a `{` would open and nothing else
+pub in_block : (t : Taken) (s : List WideToken) → AllByRecursion IsInner s
+    → are_in_block t.pass.levels ≡ true → IsDeep t.pass
+    → take_all t s ≡ opened_by (opening_along t.pass.opening s) t
+unfolding take_all opening_along
+in_block t [] all block deep = refl
+in_block t (x ∷ s) all block deep =
+    (λ i. take_all (record {
+      pass = pass_in_block t.pass x (x ∷ s) all.0 block deep i;
+      lists = lists_in_block t.pass x (x ∷ s) all.0 block deep t.lists i;
+    }) s)
+    ∙ in_block (opened_by (next_opening t.pass.opening x) t) s all.1 block deep
