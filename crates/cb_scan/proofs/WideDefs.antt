@@ -201,3 +201,100 @@ module _ (bs : List Body) where
           ∙ sym (file_step bs d x level)
       by_place (place ∷ around) n rise after after_is e block block_is d e_is =
           ap (λ a. file_from bs d (file_level (placed a xs))) after_is
+
+-- ---- types, tags, enumerators and members
+
+swapped : (a b c : List WideDef) → IsPermutation (a ++ (b ++ c)) (b ++ (a ++ c))
+swapped a b c =
+    subst (λ l. IsPermutation l (b ++ (a ++ c))) (append_assoc a b c)
+    (subst (IsPermutation ((a ++ b) ++ c)) (append_assoc b a c)
+    (IsPermutation-append_left c (a ++ b) (b ++ a) (IsPermutation-append_comm a b)))
+
+-- what one token gives, and what the others give, list by list
+sorted_out : (d t g c ts gs cs : List WideDef)
+    → IsPermutation ((((d ++ t) ++ g) ++ c) ++ (ts ++ (gs ++ cs))) (d ++ ((t ++ ts) ++ ((g ++ gs) ++ (c ++ cs))))
+sorted_out d t g c ts gs cs =
+    let rest = gs ++ cs in
+    let from : (((d ++ t) ++ g) ++ c) ++ (ts ++ rest) ≡ d ++ (t ++ (g ++ (c ++ (ts ++ rest)))) =
+    append_assoc ((d ++ t) ++ g) c (ts ++ rest)
+    ∙ append_assoc (d ++ t) g (c ++ (ts ++ rest))
+    ∙ append_assoc d t (g ++ (c ++ (ts ++ rest))) in
+    let to : d ++ (t ++ (ts ++ (g ++ (gs ++ (c ++ cs))))) ≡ d ++ ((t ++ ts) ++ ((g ++ gs) ++ (c ++ cs))) =
+    ap (λ l. d ++ l) (sym (append_assoc t ts (g ++ (gs ++ (c ++ cs))))
+    ∙ ap (λ l. (t ++ ts) ++ l) (sym (append_assoc g gs (c ++ cs)))) in
+    subst (λ l. IsPermutation l (d ++ ((t ++ ts) ++ ((g ++ gs) ++ (c ++ cs))))) (sym from)
+    (subst (IsPermutation (d ++ (t ++ (g ++ (c ++ (ts ++ rest)))))) to
+    (IsPermutation-append_right d _ _ (IsPermutation-append_right t _ _
+    (IsPermutation-trans (g ++ (c ++ (ts ++ rest))) (g ++ (ts ++ (c ++ rest))) (ts ++ (g ++ (gs ++ (c ++ cs))))
+    (IsPermutation-append_right g _ _ (swapped c ts rest))
+    (IsPermutation-trans (g ++ (ts ++ (c ++ rest))) (ts ++ (g ++ (c ++ rest))) (ts ++ (g ++ (gs ++ (c ++ cs))))
+    (swapped g ts (c ++ rest))
+    (IsPermutation-append_right ts _ _ (IsPermutation-append_right g _ _ (swapped c gs cs))))))))
+
+typedefs_are : (gs : List Given) → typedefs_of gs ≡ flat_map typedef_given gs
+typedefs_are [] = refl
+typedefs_are (g ∷ gs) = ap (λ l. typedef_given g ++ l) (typedefs_are gs)
+
+-- what is given of types, tags and bodies from a state on
+abbrev defs_along : Pass → List WideToken → List WideDef
+defs_along p xs =
+    flat_map typedef_given (parts_from p xs)
+    ++ (tags_from p.opening xs ++ contents_from p.opening p.levels xs)
+
+pub defs_gathered : (xs : List WideToken) (t : Taken)
+    → IsPermutation (take_all t xs).lists.defs (t.lists.defs ++ defs_along t.pass xs)
+unfolding take_all parts_from tags_from contents_from
+defs_gathered [] t =
+    subst (IsPermutation t.lists.defs) (sym (append-nil t.lists.defs)) (IsPermutation-refl t.lists.defs)
+defs_gathered (x ∷ xs) t =
+    let p = t.pass in
+    let q = next_pass p (x ∷ xs) x in
+    let types = flat_map typedef_given (parts_from q xs) in
+    let tags = tags_from q.opening xs in
+    let contents = contents_from q.opening q.levels xs in
+    let here = typedefs_of (parts_here p x) in
+    let types_are : here ++ types ≡ flat_map typedef_given (parts_here p x ++ parts_from q xs) =
+    ap (λ l. l ++ types) (typedefs_are (parts_here p x))
+    ∙ sym (flat_map-append typedef_given (parts_here p x) (parts_from q xs)) in
+    subst (λ l. IsPermutation (take_all (take_first t (x ∷ xs) x) xs).lists.defs
+    (t.lists.defs ++ (l ++ ((tag_out p.opening x ++ tags) ++ (defined_by p.levels (x ∷ xs) x ++ contents)))))
+    types_are
+    (IsPermutation-trans (take_all (take_first t (x ∷ xs) x) xs).lists.defs _ _
+    (defs_gathered xs (take_first t (x ∷ xs) x))
+    (sorted_out t.lists.defs here (tag_out p.opening x) (defined_by p.levels (x ∷ xs) x) types tags contents))
+
+given_typedefs : (ps : List rules.Part) → flat_map typedef_given (map of_part ps) ≡ flat_map typedef_of ps
+given_typedefs [] = refl
+given_typedefs (p ∷ ps) = ap (λ l. typedef_of p ++ l) (given_typedefs ps)
+
+-- the beginning of the code
+abbrev pub at_start : Taken
+at_start = record {
+  pass = pass_start;
+  lists = record { functions = []; ranges = []; defs = []; objects = [] };
+}
+
+module _ (xs : List WideToken) (rise : Rise 0 xs) (read : AllByRecursion IsRead xs) where
+  abbrev ps : List Placed
+  ps = placed [] xs
+
+  abbrev bs : List Body
+  bs = bodies ps
+
+  pub parts_of_all : parts_from pass_start xs ≡ map of_part (file_parts bs ps)
+  parts_of_all =
+      parts_are bs pass_start [] 0 xs refl (opens_of_all xs rise) rise read
+      ∙ file_is bs (file_level ps)
+
+  pub defs_of_all : IsPermutation (take_all at_start xs).lists.defs
+      (flat_map typedef_of (file_parts bs ps) ++ (flat_map tag_defs bs ++ flat_map (content_defs bs ps) bs))
+  defs_of_all =
+      IsPermutation-trans (take_all at_start xs).lists.defs _ _ (defs_gathered xs at_start)
+      (subst (λ l. IsPermutation (flat_map typedef_given (parts_from pass_start xs)
+      ++ (tags_from None xs ++ contents_from None [] xs))
+      (l ++ (flat_map tag_defs bs ++ flat_map (content_defs bs ps) bs)))
+      (ap (flat_map typedef_given) parts_of_all ∙ given_typedefs (file_parts bs ps))
+      (IsPermutation-append_right (flat_map typedef_given (parts_from pass_start xs)) _ _
+      (subst (λ l. IsPermutation (tags_from None xs ++ contents_from None [] xs)
+      (l ++ flat_map (content_defs bs ps) bs)) (sym (tags_of_all xs))
+      (IsPermutation-append_right (tags_from None xs) _ _ (contents_of_all xs rise)))))
