@@ -54,7 +54,6 @@ pub mod WideHeads
 pub mod WideLaws
 pub mod WideMembers
 pub mod WideNaming
-pub mod WideObjects
 pub mod WideOpenings
 pub mod WideParts
 pub mod WidePass
