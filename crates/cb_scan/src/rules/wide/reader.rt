@@ -213,4 +213,118 @@ impl Reader {
         self.sight = Sight::new();
         Ok(())
     }
+
+    /// Any other token.
+    fn go_on(
+        &mut self,
+        pass: &mut Pass,
+        found: &mut Found,
+        in_block: bool,
+        item: &WideToken,
+    ) -> Result<(), AllocError>
+        requires raw { length self.old.raw ≤ 2 }
+        requires bare { length self.old.bare ≤ 4 }
+        requires small { most_in pass.old + held_len self.old + 1 < 2 ^ 32 }
+        requires left_out { most_left_out self.old + 1 < 2 ^ 32 }
+        ensures reader { IfOk result (λ _. self.new ≡ read_on in_block self.old item.now) }
+        ensures taken { IfOk result
+            (λ _. the_taken pass.new found.new
+            ≡ taken_on in_block self.old (the_taken pass.old found.old) item.now) }
+        ensures small { IfOk result
+            (λ _. most_in pass.new + held_len self.new
+            ≤ most_in pass.old + held_len self.old + 1) }
+        ensures left_out { IfOk result
+            (λ _. most_left_out self.new ≤ most_left_out self.old + 1) }
+        ensures raw { IfOk result (λ _. length self.new.raw ≤ 2) }
+        ensures bare { IfOk result (λ _. length self.new.bare ≤ 4) }
+    {
+        if in_block {
+            self.sight.look(item);
+            Ok(())
+        } else {
+            self.read(pass, found, item)
+        }
+    }
+
+    /// A token, as the pass reads it.
+    fn next(
+        &mut self,
+        pass: &mut Pass,
+        found: &mut Found,
+        in_block: bool,
+        item: &WideToken,
+    ) -> Result<(), AllocError>
+        requires raw { length self.old.raw ≤ 2 }
+        requires bare { length self.old.bare ≤ 4 }
+        requires small { most_in pass.old + held_len self.old + 1 < 2 ^ 32 }
+        requires left_out { most_left_out self.old + 2 < 2 ^ 32 }
+        ensures reader { IfOk result (λ _. self.new ≡ read_next in_block self.old item.now) }
+        ensures taken { IfOk result
+            (λ _. the_taken pass.new found.new
+            ≡ taken_next in_block self.old (the_taken pass.old found.old) item.now) }
+        ensures small { IfOk result
+            (λ _. most_in pass.new + held_len self.new
+            ≤ most_in pass.old + held_len self.old + 1) }
+        ensures left_out { IfOk result
+            (λ _. most_left_out self.new ≤ most_left_out self.old + 1) }
+        ensures raw { IfOk result (λ _. length self.new.raw ≤ 2) }
+        ensures bare { IfOk result (λ _. length self.new.bare ≤ 4) }
+    {
+        if ends_attribute(item.role) {
+            self.turn(pass, found, in_block, item)
+        } else {
+            self.go_on(pass, found, in_block, item)
+        }
+    }
+
+    /// A token of the code.
+    pub(crate) fn add(
+        &mut self,
+        pass: &mut Pass,
+        found: &mut Found,
+        text: &[u8],
+        token: &Token,
+    ) -> Result<(), AllocError>
+        requires order { token.now.span.start ≤ token.now.span.end }
+        requires end { token.now.span.end ≤ length text.now }
+        requires raw { length self.old.raw ≤ 2 }
+        requires bare { length self.old.bare ≤ 4 }
+        requires small { most_in pass.old + held_len self.old + 1 < 2 ^ 32 }
+        requires left_out { most_left_out self.old + 2 < 2 ^ 32 }
+        ensures reader { IfOk result (λ _. self.new
+            ≡ reader_after text.now self.old (the_taken pass.old found.old) token.now) }
+        ensures taken { IfOk result
+            (λ _. the_taken pass.new found.new
+            ≡ taken_after text.now self.old (the_taken pass.old found.old) token.now) }
+        ensures small { IfOk result
+            (λ _. most_in pass.new + held_len self.new
+            ≤ most_in pass.old + held_len self.old + 1) }
+        ensures left_out { IfOk result
+            (λ _. most_left_out self.new ≤ most_left_out self.old + 1) }
+        ensures raw { IfOk result (λ _. length self.new.raw ≤ 2) }
+        ensures bare { IfOk result (λ _. length self.new.bare ≤ 4) }
+    {
+        let item = token_after(text, self.before, token);
+        let in_block = pass.levels.are_in_block();
+        self.before = before_after(self.before, token);
+        self.next(pass, found, in_block, &item)?;
+        Ok(())
+    }
+
+    /// The end of the code.
+    pub(crate) fn finish(&mut self, pass: &mut Pass, found: &mut Found) -> Result<(), AllocError>
+        requires raw { length self.old.raw ≤ 2 }
+        requires bare { length self.old.bare ≤ 4 }
+        requires small { most_in pass.old + held_len self.old + 1 < 2 ^ 32 }
+        requires left_out { most_left_out self.old + 2 < 2 ^ 32 }
+        ensures { IfOk result
+            (λ _. the_taken pass.new found.new
+            ≡ taken_at_end self.old (the_taken pass.old found.old)) }
+    {
+        if !pass.levels.are_in_block() {
+            self.release();
+            self.take_bare(pass, found)?;
+        }
+        Ok(())
+    }
 }
