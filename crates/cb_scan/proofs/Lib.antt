@@ -45,6 +45,7 @@ pub mod WideCalls
 pub mod WideContents
 pub mod WideCuts
 pub mod WideDeclarations
+pub mod WideDefs
 pub mod WideEnumerators
 pub mod WideFile
 pub mod WideFive

@@ -78,7 +78,7 @@ lists_seen l p x xs =
 -- ---- what is gathered
 
 -- a brace is a block by what it would open
-block_is : (bs : List Body) (o : Option Opening) (x : WideToken)
+pub block_is : (bs : List Body) (o : Option Opening) (x : WideToken)
     → (x.counted ≡ true → opens_body bs x.token.span.start ≡ is_some o)
     → (x.counted && is_none o) ≡ declarations.is_block bs x
 block_is bs o x same = by_count x.counted same
