@@ -51,6 +51,7 @@ pub mod WideFile
 pub mod WideFive
 pub mod WideFunctions
 pub mod WideHeads
+pub mod WideHeld
 pub mod WideLaws
 pub mod WideMembers
 pub mod WideNaming
@@ -67,6 +68,7 @@ pub mod WideSights
 pub mod WideSigns
 pub mod WideStack
 pub mod WideTails
+pub mod WideTaken
 pub mod WideTokens
 pub mod WideWhole
 pub mod Windows

@@ -1,26 +1,22 @@
 -- Inside a block the pass over the bare tokens finds nothing up to the next `;` or brace.
-use Rattle.std.proofs.Common.{◌≡◌, ◌∙◌, ℕ, suc, ◌+◌, ◌-◌, Bool, true, false, List, [], ◌∷◌, ◌++◌}
-use Rattle.std.proofs.Common.{Option, None, Some, refl, sym, ap, arith, drop, length, append_assoc}
+use Rattle.std.proofs.Common.{◌≡◌, ◌∙◌, suc, ◌+◌, ◌-◌, Bool, true, false, List, [], ◌∷◌, ◌++◌}
+use Rattle.std.proofs.Common.{None, refl, sym, ap, arith, drop, length}
 use Rattle.std.proofs.lemmas.Bool.{eqb-true, false_from_ne_true, false≢true}
 use Rattle.std.proofs.lemmas.List.{append-nil}
-use Rattle.std.specs.Prelude.{◌&&◌, ◌==◌, not, if◌then◌else◌}
+use Rattle.std.specs.Prelude.{◌&&◌, ◌==◌, if◌then◌else◌}
 use Rattle.std.specs.List.{AllByRecursion}
 use Rattle.std.specs.Option.{is_none, option_map, option_to_list}
 use Rattle.std.specs.List.{flat_map}
 use Rattle.cb_scan.specs.declared.facts.Def.{Def}
-use Rattle.cb_scan.specs.declared.rules.scope.Range.{Range}
-use Rattle.cb_scan.specs.declared.rules.wide.def.WideDef.{WideDef}
 use Rattle.cb_scan.specs.declared.rules.wide.level.Level.{Level}
 use Rattle.cb_scan.specs.declared.rules.wide.level.Level.TheVariants.{Block, Enumerators, Members}
-use Rattle.cb_scan.specs.declared.rules.wide.machine.WideMachine.{WideMachine}
-use Rattle.cb_scan.specs.declared.rules.wide.opening.Opening.{Opening}
 use Rattle.cb_scan.specs.declared.rules.wide.pass.Pass.{Pass}
 use Rattle.cb_scan.specs.declared.rules.wide.token.WideToken.{WideToken}
 use Rattle.cb_scan.specs.lex.Tokens.{is_mark}
 use Rattle.cb_scan.specs.rules.wide.Words.{is_sign}
 use Rattle.cb_scan.specs.steps.Functions.{range_to}
 use Rattle.cb_scan.specs.steps.wide.Contents.{are_in_block, closed_by, defined_by, first_goes_on}
-use Rattle.cb_scan.specs.steps.wide.Contents.{next_level, next_levels, tag_inside}
+use Rattle.cb_scan.specs.steps.wide.Contents.{next_levels, tag_inside}
 use Rattle.cb_scan.specs.steps.wide.Declarations.{before_in_file}
 use Rattle.cb_scan.specs.steps.wide.Functions as functions
 use Rattle.cb_scan.specs.steps.wide.Functions.{found, function_here, headed}
@@ -30,7 +26,7 @@ use Rattle.cb_scan.specs.steps.wide.Lists.{Lists}
 use Rattle.cb_scan.specs.steps.wide.Openings.{next_opening, opening_tag, tag_out}
 use Rattle.cb_scan.specs.steps.wide.Pass.{Taken, function_found, is_block, next_body, next_file}
 use Rattle.cb_scan.specs.steps.wide.Pass.{next_lists, next_of_file, next_pass, part_at}
-use Rattle.cb_scan.specs.steps.wide.Pass.{parts_here, range_closed, take_all, take_first}
+use Rattle.cb_scan.specs.steps.wide.Pass.{parts_here, range_closed, take_all}
 use Rattle.cb_scan.specs.steps.wide.Reading.{opened_by}
 use Rattle.cb_scan.specs.steps.wide.Sights.{opening_along}
 use Rattle.cb_scan.proofs.WideSegments.{IsInner, depth_inner, depth_next_is, next_inner}
@@ -105,7 +101,8 @@ module _ (p : Pass) (x : WideToken) (xs : List WideToken) (inner : IsInner x)
   pass_in_block : next_pass p xs x ≡ record p { opening = next_opening p.opening x }
   pass_in_block =
       let machine : functions.next p.machine xs x ≡ p.machine =
-      next_inner p.machine xs x inner ∙ ap (λ b. if b then headed p.machine xs x else p.machine) below in
+      next_inner p.machine xs x inner
+      ∙ ap (λ b. if b then headed p.machine xs x else p.machine) below in
       let file : next_file p xs x ≡ p.file =
       ap (λ b. if b then next_of_file (before_in_file p.file x) (is_block p x) xs x else p.file)
       below in

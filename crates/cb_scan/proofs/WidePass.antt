@@ -28,8 +28,8 @@ use Rattle.cb_scan.specs.steps.wide.Functions.{found, functions_from}
 use Rattle.cb_scan.specs.steps.wide.Levels.{opened}
 use Rattle.cb_scan.specs.steps.wide.Givens.{object_given, typedef_given}
 use Rattle.cb_scan.specs.steps.wide.Lists.{Lists}
-use Rattle.cb_scan.specs.steps.wide.Pass.{Taken, function_found, is_block, next_lists, take_all}
 use Rattle.cb_scan.specs.steps.wide.Openings.{tag_out}
+use Rattle.cb_scan.specs.steps.wide.Pass.{Taken, function_found, is_block, next_lists, take_all}
 use Rattle.cb_scan.specs.steps.wide.Pass.{next_of_file, next_pass, parts_here, pass_start}
 use Rattle.cb_scan.specs.steps.wide.Pass.{range_closed, take_first}
 use Rattle.cb_scan.proofs.Bodies.{def_name}

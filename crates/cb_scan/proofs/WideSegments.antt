@@ -33,7 +33,7 @@ pub record IsInner (x : WideToken) : Type 0 where
   pub uncounted : x.counted ≡ false
 
 -- it ends no attribute
-ends_none : (x : WideToken) → IsInner x → ends_attribute x.role ≡ false
+pub ends_none : (x : WideToken) → IsInner x → ends_attribute x.role ≡ false
 ends_none x inner = λ i. inner.no_semicolon i || inner.no_open i || inner.no_close i
 
 -- ---- what is ahead
