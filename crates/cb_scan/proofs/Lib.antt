@@ -54,6 +54,7 @@ pub mod WideHeads
 pub mod WideHeld
 pub mod WideLaws
 pub mod WideMembers
+pub mod WideNames
 pub mod WideNaming
 pub mod WideOpenings
 pub mod WideParts
