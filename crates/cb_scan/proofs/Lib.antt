@@ -52,6 +52,7 @@ pub mod WideFive
 pub mod WideFunctions
 pub mod WideHeads
 pub mod WideHeld
+pub mod WideInduction
 pub mod WideLaws
 pub mod WideMembers
 pub mod WideNames
