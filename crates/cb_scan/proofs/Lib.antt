@@ -16,6 +16,7 @@ pub mod GatherLemmas
 pub mod HeadLemmas
 pub mod InOrder
 pub mod IncludeLines
+pub mod KeptInOrder
 pub mod KeyOrder
 pub mod Lengths
 pub mod LineLemmas
@@ -50,6 +51,7 @@ pub mod WideEnumerators
 pub mod WideFile
 pub mod WideFive
 pub mod WideFunctions
+pub mod WideFunctionsRise
 pub mod WideHeads
 pub mod WideHeld
 pub mod WideInduction
@@ -63,6 +65,7 @@ pub mod WidePass
 pub mod WidePointers
 pub mod WideRanges
 pub mod WideReading
+pub mod WideRise
 pub mod WideRuns
 pub mod WideSeen
 pub mod WideSegments
