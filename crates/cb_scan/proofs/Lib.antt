@@ -60,6 +60,7 @@ pub mod WideMembers
 pub mod WideNames
 pub mod WideNaming
 pub mod WideOpenings
+pub mod WideOrder
 pub mod WideParts
 pub mod WidePass
 pub mod WidePointers
