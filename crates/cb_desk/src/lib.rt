@@ -7,6 +7,7 @@
 #![tactic(auto)]
 
 mod answers;
+mod bounds;
 mod change;
 mod edits;
 mod found;
@@ -31,6 +32,7 @@ mod state;
 mod tags;
 
 pub use answers::{Files, Rows, TagRows};
+pub use bounds::Bounds;
 pub use change::Change;
 pub use loading::Loading;
 pub use places::Places;
