@@ -34,6 +34,7 @@ mod tags;
 pub use answers::{Files, Rows, TagRows};
 pub use bounds::Bounds;
 pub use change::Change;
+pub use limits::{MOST_BYTES, MOST_FILES};
 pub use loading::Loading;
 pub use places::Places;
 pub use refusal::Refusal;
