@@ -22,7 +22,7 @@ class Case(NamedTuple):
     files: list[tuple[bytes, bytes]]
     exchanges: list[Exchange]
     end: str  # empty where the input ends at a prompt
-    bounds: tuple[int, ...] = ()  # the most files, and the most bytes of each; empty for the standard
+    bounds: tuple[int, ...] = ()  # the most files and bytes of each, where they are not the usual
 
 
 def plain(line: str) -> bytes:

@@ -70,7 +70,10 @@ PROGRAM = [
         [b"find", b"--max-files=1", b"1", b"add", b"a.c", b"n.c"],
         (b"", b"cbrowse: n.c: too many files\n", 1),
     ),
-    ([b"find", b"4", b"a", b"n.c", b"--max-file-bytes", b"12"], output(b"n.c <unknown> 1 int a = -x;")),
+    (
+        [b"find", b"4", b"a", b"n.c", b"--max-file-bytes", b"12"],
+        output(b"n.c <unknown> 1 int a = -x;"),
+    ),
     (
         [b"find", b"4", b"a", b"n.c", b"--max-file-bytes", b"11"],
         (b"", b"cbrowse: n.c: too large\n", 1),
