@@ -19,7 +19,7 @@ ghost use Rattle.cb_index.specs.declared.entry.Entry.{Entry};
 ghost use Rattle.cb_index.specs.steps.ToCome.{GoesOn, earlier, first_of, is_asked, is_later};
 ghost use Rattle.cb_index.specs.steps.ToCome.{to_come};
 
-use crate::archive::{Archive, Version};
+use crate::archive::Archive;
 use crate::entry::{Entry, Shown};
 use crate::kind::IndexKind;
 use crate::order::compare;

@@ -125,7 +125,7 @@ flat_before x y false true l d goes_on flat =
     absurd (true≢false (sym (some_true x ((if l then 0 else d - 1) == 0) y flat) ∙ goes_on))
 
 -- a `;` that is a stop is at depth 0
-flat_at_semicolon : (r : Role) (a b c : Bool)
+pub flat_at_semicolon : (r : Role) (a b c : Bool)
     → ((is_mark 59 r && a) || (is_mark 125 r && b) || (is_mark 123 r && c)) ≡ true → is_mark 59 r ≡ true → a ≡ true
 flat_at_semicolon (Word w) a b c stop semi = absurd (false≢true semi)
 flat_at_semicolon Str a b c stop semi = absurd (false≢true semi)
@@ -140,6 +140,12 @@ pub last_grown : (m : Machine) (t : Token) → (grown m t).last ≡ Some t
 last_grown m t = elim (m.depth == 0) as
     (λ b. (if b then add m.head t else record m.head { last = Some t }).last ≡ Some t)
     [ true ↦ refl | false ↦ refl ]
+
+-- the definition of the function of a signature
+pub def_from : (ts : List Token) (k : ℕ) (o : Option Signature)
+    → option_to_list (option_map signature_def o) ≡ map function_def (function_from ts k o)
+def_from ts k None = refl
+def_from ts k (Some s) = refl
 
 module _ (ts : List Token) (k : ℕ) (m : Machine) (at : IsAt ts k m) where
   pub depth_next : next_depth m (token_at ts k) ≡ depth ts (suc k)
@@ -216,15 +222,10 @@ module _ (ts : List Token) (k : ℕ) (m : Machine) (at : IsAt ts k m) where
       then function_here m else None))
       ∙ by_depth (is_counted ts k) (depth ts k == 0) refl
     where
-      one : (o : Option Signature)
-          → option_to_list (option_map signature_def o) ≡ map function_def (function_from ts k o)
-      one None = refl
-      one (Some s) = refl
-
       by_depth : (c flat : Bool) → (depth ts k == 0) ≡ flat
           → option_to_list (if c && flat then function_here m else None)
           ≡ map function_def (if c && flat then function_from ts k (signature ts k) else [])
-      by_depth true true is = ap option_to_list (here_is is) ∙ one (signature ts k)
+      by_depth true true is = ap option_to_list (here_is is) ∙ def_from ts k (signature ts k)
       by_depth true false is = refl
       by_depth false flat is = refl
 

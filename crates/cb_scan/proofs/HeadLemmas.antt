@@ -165,14 +165,30 @@ pub opened_of : (h : List Token)
 opened_of h = (λ i. option_map (def_of (static_is h i)) (called_of empty_head None h refl refl i))
     ∙ by_name h (called_name h)
 
+-- the called name
+pub called_is : (h : List Token) → (fold add empty_head h).called ≡ called_name h
+called_is h = called_of empty_head None h refl refl
+
+-- a head that is a function's, by a name
+pub named_of : (h : List Token) (o : Option Token)
+    → (if not (fold add empty_head h).begins_with_typedef && not (fold add empty_head h).has_equals
+    && may_end (fold add empty_head h).last
+    then option_map (def_of (fold add empty_head h).has_static) o else None)
+    ≡ option_map signature_def (signed h (if may_define h then o else None))
+named_of h o =
+    (λ i. if not (typedef_of h i) && not (equals_of empty_head h i)
+    && (ap may_end (last_of empty_head h) ∙ ends_of h) i
+    then option_map (def_of (static_is h i)) o else None)
+    ∙ ap (λ (d : Option Def). if may_define h then d else None) (by_name h o)
+    ∙ elim (may_define h) as (λ b. (if b then option_map signature_def (signed h o) else None)
+    ≡ option_map signature_def (signed h (if b then o else None))) [ true ↦ refl | false ↦ refl ]
+
 -- what a head defines
 pub defined_of : (h : List Token)
     → defined (fold add empty_head h) ≡ option_map signature_def (signed h (defined_name h))
 defined_of h =
-    (λ i. if not (typedef_of h i) && not (equals_of empty_head h i)
-    && (ap may_end (last_of empty_head h) ∙ ends_of h) i then opened_of h i else None)
-    ∙ elim (may_define h) as (λ b. (if b then option_map signature_def (signed h (called_name h)) else None)
-    ≡ option_map signature_def (signed h (if b then called_name h else None))) [ true ↦ refl | false ↦ refl ]
+    named_of h (fold add empty_head h).called
+    ∙ ap (λ o. option_map signature_def (signed h (if may_define h then o else None))) (called_is h)
 
 -- whether tokens open a function in the old style, and whether they are a declaration
 pub opens_of : (h : List Token) → opens (fold add empty_head h) ≡ is_opening h

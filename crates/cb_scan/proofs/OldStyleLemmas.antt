@@ -1,16 +1,18 @@
 -- The segments before a token, a token at a time.
 use Rattle.std.proofs.Common.{◌≡◌, ◌∙◌, ◌+◌, ℕ, zero, suc, Bool, true, false, List, [], ◌∷◌, ◌++◌}
-use Rattle.std.proofs.Common.{Some, None, refl, sym, ap, subst, fold, map, take, zero-add, arith}
+use Rattle.std.proofs.Common.{Option, Some, None, refl, sym, ap, subst, fold, map, take, zero-add}
+use Rattle.std.proofs.Common.{arith}
 use Rattle.std.proofs.lemmas.List.{reverse-append}
 use Rattle.std.proofs.lemmas.List.Elements.{filter-append}
 use Rattle.std.specs.Prelude.{◌||◌, cond, filter, find, if◌then◌else◌, not, reverse}
 use Rattle.std.specs.List.{AllByRecursion, prefix_len, range_with_len, take_while}
 use Rattle.std.specs.Option.{option_map, option_map_or}
+use Rattle.cb_scan.specs.declared.facts.Def.{Def}
 use Rattle.cb_scan.specs.declared.lex.token.Token.{Token}
 use Rattle.cb_scan.specs.rules.Depth.{is_stop, token_at}
 use Rattle.cb_scan.specs.rules.Heads.{called_name, head, signed}
 use Rattle.cb_scan.specs.rules.OldStyle.{is_declaration, is_opening, nearest_opening, old_signature}
-use Rattle.cb_scan.specs.rules.OldStyle.{segments, semicolons_before, signature_of, stops_before}
+use Rattle.cb_scan.specs.rules.OldStyle.{semicolons_before, signature_of, stops_before}
 use Rattle.cb_scan.specs.lex.Tokens.{is_mark}
 use Rattle.cb_scan.specs.steps.Heads.{add, empty_head, next_opened}
 use Rattle.cb_scan.proofs.HeadLemmas.{declares_of, opened_of, opens_of, signature_def}
@@ -104,23 +106,32 @@ next_is h ss =
     ∙ ap (λ o. option_map signature_def (option_map_or (λ s. signed s (called_name s)) o None))
     (sym (nearest_cons h ss))
 
+-- one token more, by the segments before each `;`
+pub opened_along : (h : ℕ → List Token) (ts : List Token) (k : ℕ)
+    → (if is_stop ts k then (if is_mark 59 (token_at ts k).role
+    then next_opened (fold add empty_head (h k))
+    (option_map signature_def (signature_of (map h (semicolons_before ts k)))) else None)
+    else option_map signature_def (signature_of (map h (semicolons_before ts k))))
+    ≡ option_map signature_def (signature_of (map h (semicolons_before ts (suc k))))
+opened_along h ts k =
+    let given : List ℕ → Option Def = λ js. option_map signature_def (signature_of (map h js)) in
+    let before = semicolons_before ts k in
+    let opened = next_opened (fold add empty_head (h k)) (given before) in
+    elim (is_stop ts k) as (λ b.
+    (if b then (if is_mark 59 (token_at ts k).role then opened else None) else given before)
+    ≡ given (cond b (cond (is_mark 59 (token_at ts k).role) (k ∷ before) []) before)) [
+      | true ↦ elim (is_mark 59 (token_at ts k).role) as
+          (λ b. (if b then opened else None) ≡ given (cond b (k ∷ before) []))
+          [ true ↦ next_is (h k) (map h before) | false ↦ refl ]
+      | false ↦ refl
+    ]
+    ∙ ap given (sym (semicolons_next ts k))
+
 -- one token more
 pub opened_next : (ts : List Token) (k : ℕ)
     → (if is_stop ts k then (if is_mark 59 (token_at ts k).role
-    then next_opened (fold add empty_head (head ts k)) (option_map signature_def (old_signature ts k)) else None)
-    else option_map signature_def (old_signature ts k)) ≡ option_map signature_def (old_signature ts (suc k))
-opened_next ts k =
-    elim (is_stop ts k) as (λ b. (if b then (if is_mark 59 (token_at ts k).role
-    then next_opened (fold add empty_head (head ts k)) (option_map signature_def (old_signature ts k)) else None)
+    then next_opened (fold add empty_head (head ts k))
+    (option_map signature_def (old_signature ts k)) else None)
     else option_map signature_def (old_signature ts k))
-    ≡ option_map signature_def (signature_of (map (head ts)
-    (cond b (cond (is_mark 59 (token_at ts k).role) (k ∷ semicolons_before ts k) []) (semicolons_before ts k))))) [
-      | true ↦ elim (is_mark 59 (token_at ts k).role) as (λ b. (if b
-          then next_opened (fold add empty_head (head ts k)) (option_map signature_def (old_signature ts k)) else None)
-          ≡ option_map signature_def (signature_of (map (head ts) (cond b (k ∷ semicolons_before ts k) [])))) [
-            | true ↦ next_is (head ts k) (segments ts k)
-            | false ↦ refl
-          ]
-      | false ↦ refl
-    ]
-    ∙ ap (λ js. option_map signature_def (signature_of (map (head ts) js))) (sym (semicolons_next ts k))
+    ≡ option_map signature_def (old_signature ts (suc k))
+opened_next ts k = opened_along (head ts) ts k

@@ -49,6 +49,10 @@ second_false : (a c d : Bool) → (a && false && c && d) ≡ false
 second_false true c d = refl
 second_false false c d = refl
 
+middle_false : (a b : Bool) → (a && false && b) ≡ false
+middle_false true b = refl
+middle_false false b = refl
+
 third_false : (a b d : Bool) → (a && b && false && d) ≡ false
 third_false true true d = refl
 third_false true false d = refl
@@ -178,20 +182,20 @@ module _ (stop : Numbered → Bool)
       ∙ sym (ap (λ l. encloses_name (items (x ∷ l))) (cut_false y (z ∷ zs) isnt)))
       (cases_Bool (stop y))
 
+  stop_encloses : (x : Numbered) (xs : List Numbered) → stop x ≡ true
+      → encloses_name (items (x ∷ xs)) ≡ false
+  stop_encloses x [] is = refl
+  stop_encloses x (y ∷ []) is = refl
+  stop_encloses x (y ∷ z ∷ zs) is =
+      ap (λ b. b && is_wide_name y.item.role && is_byte 41 z && first_is 40 (items zs)) (no_open x is)
+
   rest_same : (xs : List Numbered) → encloses_name (items xs) ≡ encloses_name (items (cut xs))
   rest_same [] = refl
   rest_same (x ∷ xs) =
       ⊎_elim
-      (λ is. stop_encloses xs is ∙ sym (ap (λ l. encloses_name (items l)) (cut_true x xs is)))
+      (λ is. stop_encloses x xs is ∙ sym (ap (λ l. encloses_name (items l)) (cut_true x xs is)))
       (λ isnt. enclosed_same x xs ∙ sym (ap (λ l. encloses_name (items l)) (cut_false x xs isnt)))
       (cases_Bool (stop x))
-    where
-      stop_encloses : (xs : List Numbered) → stop x ≡ true → encloses_name (items (x ∷ xs)) ≡ false
-      stop_encloses [] is = refl
-      stop_encloses (y ∷ []) is = refl
-      stop_encloses (y ∷ z ∷ zs) is =
-          ap (λ b. b && is_wide_name y.item.role && is_byte 41 z && first_is 40 (items zs))
-          (no_open x is)
 
   -- ---- so each machine goes on the same
   pointer_same : (p : Pointer) (o : Bool) (x : Numbered) (xs : List Numbered)
@@ -298,3 +302,96 @@ module _ (stop : Numbered → Bool)
       (pointer_same p.pointer o x xs)
       ∙ ap (λ t. made (next_calls p.calls o m x.item) (next_pointer p.pointer o m x.item) t)
       (tail_same p.tail o x xs)
+
+  -- ---- at such a mark nothing that is ahead matters
+  module _ (x : Numbered) (is : stop x ≡ true) where
+    pointer_alone : (p : Pointer) (o : Bool) (xs : List Numbered)
+        → next_pointer p o (items (x ∷ xs)) x.item ≡ next_pointer p o (items (x ∷ [])) x.item
+    pointer_alone Nothing o xs =
+        let by : Bool → Pointer = λ b. if b then Sought else Nothing in
+        ap by (ap (λ b. o && b && first_is 42 (items xs)) (no_open x is)
+        ∙ middle_false o (first_is 42 (items xs))
+        ∙ sym (ap (λ b. o && b && false) (no_open x is) ∙ middle_false o false))
+    pointer_alone Sought o xs =
+        ap (λ b. if b && not (first_is_word (items xs)) then Found x.item (first_is 40 (items xs)) else Sought)
+        (no_name x.item.role (no_word x is))
+        ∙ sym (ap (λ b. if b && true then Found x.item false else Sought)
+        (no_name x.item.role (no_word x is)))
+    pointer_alone (Found name called) o xs = refl
+
+    enclosed_alone : (e : Option Enclosed) (xs : List Numbered)
+        → after_enclosed e (items (x ∷ xs)) x.item ≡ after_enclosed e (items (x ∷ [])) x.item
+    enclosed_alone None xs = refl
+    enclosed_alone (Some e) xs =
+        let out : Option CalledName = option_map (λ (name : WideToken).
+        the_name name e.starred) e.last in
+        let by : Bool → Calls = λ b.
+        if is_wide_word x.item.role || is_byte 42 x
+        then calls_of (Some (next_enclosed e x.item)) None
+        else calls_of None (if b then out else None) in
+        ap by (ap (λ b. is_more e.amount && b && first_is 40 (items xs)) (no_close x is)
+        ∙ middle_false (is_more e.amount) (first_is 40 (items xs))
+        ∙ sym (ap (λ b. is_more e.amount && b && false) (no_close x is)
+        ∙ middle_false (is_more e.amount) false))
+
+    calls_alone : (c : Calls) (o : Bool) (xs : List Numbered)
+        → next_calls c o (items (x ∷ xs)) x.item ≡ next_calls c o (items (x ∷ [])) x.item
+    calls_alone c o xs =
+        ap (λ d. if is_some c.found then c
+        else (if o && is_byte 40 x then calls_of (Some enclosed_start) None else d))
+        (enclosed_alone c.enclosed xs)
+
+    no_candidate : (t : Tail) (xs : List Numbered) → tails.is_candidate t (items (x ∷ xs)) ≡ false
+    no_candidate t xs =
+        ap (λ b. b && t.typed && not (first_is 40 (items xs)) && not (tails.is_barred t))
+        (no_name x.item.role (no_word x is))
+
+    no_called : (t : Tail) (xs : List Numbered) → tails.is_called t (items (x ∷ xs)) ≡ false
+    no_called t xs =
+        ap (λ b. b && t.typed && first_is 40 (items xs) && not (tails.trails t x.item)
+        && not (encloses_name (items xs)) && tails.follows_type t)
+        (no_name x.item.role (no_word x is))
+
+    none : (b : Bool) (u : Option WideToken) → cond (b && false) u None ≡ None
+    none true u = refl
+    none false u = refl
+
+    no_prototype : (t : Tail) (xs : List Numbered) → tails.prototype_at t (items (x ∷ xs)) ≡ None
+    no_prototype t xs =
+        let name = tails.declared_by t (items (x ∷ xs)) x.item in
+        prototype_form t x.item (items xs)
+        ∙ ap (λ e. by_tests (t.typed && e) (second_of (items xs)) (tails.is_called t (items (x ∷ xs))) name)
+        (stop_encloses x xs is)
+        ∙ ap (λ c. by_tests (t.typed && false) (second_of (items xs)) c name) (no_called t xs)
+        ∙ none t.typed (second_of (items xs))
+
+    tail_alone : (t : Tail) (o : Bool) (xs : List Numbered)
+        → next_tail t o (items (x ∷ xs)) x.item ≡ next_tail t o (items (x ∷ [])) x.item
+    tail_alone t o xs =
+        let last : Tail → Tail = λ u. record (if tails.is_end o x.item
+        then record t { trailed = x.item.counted; name = None; prototype = None }
+        else (if o then u else record t { trailed = false })) {
+          typed = t.typed || not (is_specifier x.item.role || is_text x.item.role);
+          last = Some x.item;
+        } in
+        ap (λ c. last (outer_by t x.item c (tails.prototype_at t (items (x ∷ xs))))) (no_candidate t xs)
+        ∙ ap (λ p. last (outer_by t x.item false p)) (no_prototype t xs)
+        ∙ sym (ap (λ c. last (outer_by t x.item c (tails.prototype_at t (items (x ∷ []))))) (no_candidate t [])
+        ∙ ap (λ p. last (outer_by t x.item false p)) (no_prototype t []))
+
+    pub grown_alone : (p : Part) (o : Bool) (xs : List Numbered)
+        → grown_part p o (items (x ∷ xs)) x.item ≡ grown_part p o (items (x ∷ [])) x.item
+    grown_alone p o xs =
+        let l = items (x ∷ xs) in
+        let m = items (x ∷ []) in
+        let made : Calls → Pointer → Tail → Part = λ c q t. record p {
+          calls = c;
+          pointer = q;
+          tail = t;
+          is_stray = p.is_stray || parts.is_stray o x.item;
+        } in
+        ap (λ c. made c (next_pointer p.pointer o l x.item) (next_tail p.tail o l x.item)) (calls_alone p.calls o xs)
+        ∙ ap (λ q. made (next_calls p.calls o m x.item) q (next_tail p.tail o l x.item))
+        (pointer_alone p.pointer o xs)
+        ∙ ap (λ t. made (next_calls p.calls o m x.item) (next_pointer p.pointer o m x.item) t)
+        (tail_alone p.tail o xs)

@@ -13,7 +13,7 @@ use Rattle.cb_scan.specs.rules.wide.Words.{is_attribute_word, is_sign, is_wide_w
 use Rattle.cb_scan.specs.steps.wide.Attributes.{closed_after, inside_after, kept_from}
 
 -- what ends an attribute is no word
-end_is_no_word : (r : WideRole) → ends_attribute r ≡ true → is_wide_word r ≡ false
+pub end_is_no_word : (r : WideRole) → ends_attribute r ≡ true → is_wide_word r ≡ false
 end_is_no_word wide.Name is = absurd (false≢true is)
 end_is_no_word wide.Underscored is = absurd (false≢true is)
 end_is_no_word wide.Struct is = absurd (false≢true is)
@@ -32,7 +32,7 @@ end_is_no_word wide.Character is = refl
 end_is_no_word (wide.Mark x) is = refl
 
 -- and begins none
-end_begins_none : (x : WideToken) (xs : List WideToken) → ends_attribute x.role ≡ true
+pub end_begins_none : (x : WideToken) (xs : List WideToken) → ends_attribute x.role ≡ true
     → begins_attribute (x ∷ xs) ≡ false
 end_begins_none x [] is = refl
 end_begins_none x (y ∷ xs) is =

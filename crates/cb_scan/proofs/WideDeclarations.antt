@@ -22,11 +22,10 @@ use Rattle.cb_scan.specs.steps.wide.Along.{items, part_from}
 use Rattle.cb_scan.specs.steps.wide.Declarations as steps
 use Rattle.cb_scan.specs.steps.wide.Declarations.{Given, declaration_start, given, given_from, grown}
 use Rattle.cb_scan.specs.steps.wide.Declarations.{may_name, next_part_of, noted}
-use Rattle.cb_scan.specs.steps.wide.Parts as parts
-use Rattle.cb_scan.specs.steps.wide.Parts.{function, grown_part, named, next_part, part_start}
-use Rattle.cb_scan.proofs.WideAhead.{cut_at, grown_same}
+use Rattle.cb_scan.specs.steps.wide.Parts.{function, named, next_part, part_start}
+use Rattle.cb_scan.proofs.WideAhead.{cut_at}
 use Rattle.cb_scan.proofs.WideEnumerators.{and_right, first_part, onto}
-use Rattle.cb_scan.proofs.WideHeads.{items_are}
+use Rattle.cb_scan.proofs.WideHeads.{part_until}
 use Rattle.cb_scan.proofs.WideNaming.{is_empty, naming_is, parts_beyond}
 use Rattle.cb_scan.proofs.WideParts.{function_name_is, name_is, stray_is, value_is}
 use Rattle.cb_scan.proofs.WideTails.{any_last, or_together, sign_is}
@@ -40,7 +39,7 @@ ends x = is_outer_byte 44 x || is_byte 59 x
 abbrev split : List Numbered → List (List Numbered)
 split xs = slice_split ends_part xs
 
-end_is_not : (b : ℕ) (x : Numbered) → (44 == b) ≡ false → (59 == b) ≡ false → ends_part x ≡ true
+pub end_is_not : (b : ℕ) (x : Numbered) → (44 == b) ≡ false → (59 == b) ≡ false → ends_part x ≡ true
     → is_byte b x ≡ false
 end_is_not b x comma semicolon is =
     by_sign (is_outer_byte 44 x) (is_byte 59 x) is
@@ -135,15 +134,12 @@ givens p y t s e (q ∷ r ∷ qs) =
 pub part_same : (p : Part) (m : Numbered) (n : ℕ) (xs : List WideToken)
     → next_part p (is_outer m) (m.item ∷ xs) m.item
     ≡ next_part p (is_outer m) (items (m ∷ cut_at ends_part (numbered n xs))) m.item
-part_same p m n xs =
-    let by : Part → Part = λ g. if p.has_value then p
-    else (if parts.begins_value (is_outer m) m.item then record p { has_value = true } else g) in
-    ap (λ l. by (grown_part p (is_outer m) (m.item ∷ l) m.item)) (sym (items_are n xs))
-    ∙ ap by (grown_same ends_part (λ x is. end_is_not 40 x refl refl is) (λ x is. end_is_not 41 x refl refl is)
-    (λ x is. end_is_not 42 x refl refl is) end_is_no_word p (is_outer m) m (numbered n xs))
+part_same =
+    part_until ends_part (λ x is. end_is_not 40 x refl refl is)
+    (λ x is. end_is_not 41 x refl refl is) (λ x is. end_is_not 42 x refl refl is) end_is_no_word
 
 -- the same test, written in another order
-ends_same : (d : Declaration) (x : WideToken)
+pub ends_same : (d : Declaration) (x : WideToken)
     → steps.ends_part d x ≡ ends_part (record { item = x; count = d.count })
 ends_same d x = by_tests (is_sign 59 x.role) (d.count == 0 && is_sign 44 x.role)
   where

@@ -68,6 +68,21 @@ unfolding numbered
 items_are n [] = refl
 items_are n (x ∷ xs) = ap (λ l. x ∷ l) (items_are (nesting_after x.token n) xs)
 
+-- a part reads no further than a token that no rule looks for
+module _ (stop : Numbered → Bool)
+    (no_open : (x : Numbered) → stop x ≡ true → is_byte 40 x ≡ false)
+    (no_close : (x : Numbered) → stop x ≡ true → is_byte 41 x ≡ false)
+    (no_star : (x : Numbered) → stop x ≡ true → is_byte 42 x ≡ false)
+    (no_word : (x : Numbered) → stop x ≡ true → is_wide_word x.item.role ≡ false) where
+  pub part_until : (p : Part) (m : Numbered) (n : ℕ) (xs : List WideToken)
+      → next_part p (is_outer m) (m.item ∷ xs) m.item
+      ≡ next_part p (is_outer m) (items (m ∷ cut_at stop (numbered n xs))) m.item
+  part_until p m n xs =
+      let by : Part → Part = λ g. if p.has_value then p
+      else (if parts.begins_value (is_outer m) m.item then record p { has_value = true } else g) in
+      ap (λ l. by (grown_part p (is_outer m) (m.item ∷ l) m.item)) (sym (items_are n xs))
+      ∙ ap by (grown_same stop no_open no_close no_star no_word p (is_outer m) m (numbered n xs))
+
 -- ---- along a head
 
 -- the first function of parts that are not the first
@@ -91,12 +106,9 @@ meant h ns =
 part_same : (p : Part) (m : Numbered) (n : ℕ) (xs : List WideToken)
     → next_part p (is_outer m) (m.item ∷ xs) m.item
     ≡ next_part p (is_outer m) (items (m ∷ cut_at comma (numbered n xs))) m.item
-part_same p m n xs =
-    let by : Part → Part = λ g. if p.has_value then p
-    else (if parts.begins_value (is_outer m) m.item then record p { has_value = true } else g) in
-    ap (λ l. by (grown_part p (is_outer m) (m.item ∷ l) m.item)) (sym (items_are n xs))
-    ∙ ap by (grown_same comma (λ x is. comma_is_not 40 x refl is) (λ x is. comma_is_not 41 x refl is)
-    (λ x is. comma_is_not 42 x refl is) comma_is_no_word p (is_outer m) m (numbered n xs))
+part_same =
+    part_until comma (λ x is. comma_is_not 40 x refl is) (λ x is. comma_is_not 41 x refl is)
+    (λ x is. comma_is_not 42 x refl is) comma_is_no_word
 
 after_comma : (h : WideHead) (x : WideToken) (xs : List WideToken) (ns : List Numbered)
     → or_first (declared h) (or_first (function (part_from (part_start false) (cut_at comma ns)))

@@ -10,7 +10,7 @@ use Rattle.cb_session.specs.declared.input.Fault.TheVariants.{Read, Write, Memor
 use Rattle.cb_session.specs.declared.input.Fault.TheVariants.{ManyLines}
 use Rattle.cb_session.specs.declared.line.Purpose.{Purpose}
 use Rattle.cb_session.specs.declared.line.Purpose.TheVariants.{Load, Reload}
-use Rattle.cb_session.specs.Devices.{Reader}
+use Rattle.cb_tags.specs.Readers.{Reader}
 use Rattle.cb_session.specs.Inputs.{First, change_with, with_block}
 use Rattle.cb_session.specs.Reading.{Reads, has_block}
 use Rattle.cb_session.specs.Requests.{Request, block, change, refused}

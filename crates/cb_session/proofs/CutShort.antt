@@ -3,19 +3,19 @@ use Rattle.std.proofs.Common.{◌≡◌, ℕ, suc, Bool, List, [], ◌∷◌, �
 use Rattle.std.proofs.Common.{◌∙◌, subst, append_assoc, append-nil}
 use Rattle.std.specs.Io.KnownBytes.{Appends}
 use Rattle.std.proofs.KnownBytes.{Appends-trans, Appends-nil}
-use Rattle.cb_session.specs.declared.feed.Stage.{Stage}
-use Rattle.cb_session.specs.declared.feed.Stage.TheVariants.{Ended, Failed}
+use Rattle.cb_tags.specs.declared.feed.Stage.{Stage}
+use Rattle.cb_tags.specs.declared.feed.Stage.TheVariants.{Ended, Failed}
 use Rattle.cb_session.specs.declared.input.Ended.TheVariants.{Fault as EndedBy}
 use Rattle.cb_session.specs.declared.input.Fault.{Fault as Reason}
 use Rattle.cb_session.specs.declared.input.Fault.TheVariants.{Read}
-use Rattle.cb_session.specs.Devices.{Reader, HasRead}
+use Rattle.cb_tags.specs.Readers.{Reader, HasRead}
 use Rattle.cb_session.specs.Inputs.{HoldWhole, IsWhole, ending_of, first, inputs}
 use Rattle.cb_session.specs.Output.{exchange, output, prompt}
 use Rattle.cb_session.specs.Requests.{Request}
 use Rattle.cb_session.specs.Serving.{IsCutShort}
 use Rattle.cb_session.specs.States.{LeadTo, State}
 use Rattle.cb_session.specs.steps.Rounds.{ReadsRound}
-use Rattle.cb_session.proofs.Follows.{HasRead-nothing, HasRead-trans, Some-same}
+use Rattle.cb_tags.proofs.Follows.{HasRead-nothing, HasRead-trans, Some-same}
 use Rattle.cb_session.proofs.Rounds.{inputs-on, led-cons, led-nil}
 use Rattle.cb_tags.specs.Writers.{Writer}
 

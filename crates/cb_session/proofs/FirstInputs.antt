@@ -7,13 +7,13 @@ use Rattle.cb_session.specs.declared.input.Input.{Input}
 use Rattle.cb_session.specs.declared.intake.LineRead.TheVariants.{End, Line, Long}
 use Rattle.cb_desk.specs.declared.refusal.Refusal.TheVariants.{LineTooLong}
 use Rattle.cb_session.specs.Commands.{short_line}
-use Rattle.cb_session.specs.Devices.{Reader, WhateverFollows, leaving}
+use Rattle.cb_tags.specs.Readers.{Reader, WhateverFollows, leaving}
 use Rattle.cb_session.specs.Inputs.{First, first, with_block}
 use Rattle.cb_session.specs.Reading.{Reads}
 use Rattle.cb_session.specs.Requests.{Request, LineRequest, whole, quit, refused}
 use Rattle.cb_session.specs.steps.Lines.{ReadsLine}
 use Rattle.cb_session.proofs.Blocks.{IsRead}
-use Rattle.cb_session.proofs.Follows.{Some-same, Follows-then}
+use Rattle.cb_tags.proofs.Follows.{Some-same, Follows-then}
 
 IsRead-same : (f : First) (rest : List ℕ) (asked : Request) (new : Reader)
     → f ≡ record { request = asked; rest = rest } → new.bytes ≡ Some rest → IsRead f asked new

@@ -1,7 +1,6 @@
 pub mod Blocks
 pub mod CutShort
 pub mod FirstInputs
-pub mod Follows
 pub mod Loading
 pub mod Outcomes
 pub mod Patterns

@@ -10,7 +10,7 @@ use Rattle.cb_session.specs.declared.input.Fault.{Fault as Reason}
 use Rattle.cb_session.specs.declared.input.Fault.TheVariants.{Read, Write, Memory, LongLine}
 use Rattle.cb_session.specs.declared.input.Fault.TheVariants.{ManyLines}
 use Rattle.cb_tags.specs.Writers.{Writer}
-use Rattle.cb_session.specs.Devices.{Reader, WhateverFollows}
+use Rattle.cb_tags.specs.Readers.{Reader, WhateverFollows}
 use Rattle.cb_session.specs.Inputs.{First, first, ending_of, is_cut}
 use Rattle.cb_session.specs.Reading.{IsReadFault, IsUnread, Reads}
 use Rattle.cb_session.specs.Requests.{Request, query, change, undo, redo, rebuild, tags_file}
@@ -21,7 +21,7 @@ use Rattle.cb_session.specs.Output.{prompt, outcome, exchange}
 use Rattle.cb_session.specs.States.{Leads, State}
 use Rattle.cb_tags.specs.Writing.{AppendsPrefix}
 use Rattle.cb_session.proofs.Blocks.{IsRead}
-use Rattle.cb_session.proofs.Follows.{Follows-nothing, Follows-so}
+use Rattle.cb_tags.proofs.Follows.{Follows-nothing, Follows-so}
 use Rattle.cb_tags.proofs.Prefixes.{AppendsPrefix-more, AppendsPrefix-after, AppendsPrefix-whole}
 
 -- a whole text with the ending that is meant

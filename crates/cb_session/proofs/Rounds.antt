@@ -10,7 +10,7 @@ use Rattle.cb_session.specs.declared.input.Fault.TheVariants.{Read, Write, Memor
 use Rattle.cb_session.specs.declared.input.Fault.TheVariants.{ManyLines}
 use Rattle.cb_desk.specs.Timeline.{Timeline}
 use Rattle.cb_tags.specs.Writers.{Writer}
-use Rattle.cb_session.specs.Devices.{Reader, WhateverFollows, leaving}
+use Rattle.cb_tags.specs.Readers.{Reader, WhateverFollows, leaving}
 use Rattle.cb_session.specs.Inputs.{First, Inputs, first, inputs, ending_of, begin_with}
 use Rattle.cb_session.specs.Requests.{Request}
 use Rattle.cb_session.specs.Serving.{FirstLeadTo, HandsOn, IsCutShort, IsLeft, Leaves, LeavesRun}
@@ -18,7 +18,7 @@ use Rattle.cb_session.specs.Serving.{LeavesSession}
 use Rattle.cb_session.specs.States.{LeadTo, Leads, State}
 use Rattle.cb_session.specs.steps.Rounds.{EndsRound, LeavesRound, is_unread}
 use Rattle.cb_session.specs.Output.{outcome, exchange, output}
-use Rattle.cb_session.proofs.Follows.{Some-same, Follows-nothing, Follows-so, Follows-then}
+use Rattle.cb_tags.proofs.Follows.{Some-same, Follows-nothing, Follows-so, Follows-then}
 use Rattle.cb_tags.specs.Writing.{AppendsPrefix}
 use Rattle.cb_tags.proofs.Prefixes.{AppendsPrefix-more, AppendsPrefix-after, AppendsPrefix-whole}
 

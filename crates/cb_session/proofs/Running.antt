@@ -3,12 +3,12 @@ use Rattle.std.proofs.Common.{◌≡◌, ℕ, List, Some, Ok, Err, refl}
 use Rattle.cb_desk.specs.World.{File, WorldBounds}
 use Rattle.cb_session.specs.declared.input.Ended.{Ended}
 use Rattle.cb_session.specs.declared.input.Ended.TheVariants.{Done, Cut, Fault, Operand}
-use Rattle.cb_session.specs.Devices.{Reader, WhateverFollows}
+use Rattle.cb_tags.specs.Readers.{Reader, WhateverFollows}
 use Rattle.cb_session.specs.Inputs.{inputs}
 use Rattle.cb_session.specs.Operands.{LoadsAll, Prepares, Runs}
 use Rattle.cb_session.specs.Serving.{LeavesSession}
 use Rattle.cb_session.specs.States.{State}
-use Rattle.cb_session.proofs.Follows.{Follows-nothing, Follows-so}
+use Rattle.cb_tags.proofs.Follows.{Follows-nothing, Follows-so}
 use Rattle.cb_session.proofs.Rounds.{session_run}
 use Rattle.cb_tags.specs.Writers.{Writer}
 

@@ -10,19 +10,19 @@ use Rattle.std.proofs.lemmas.List.{take_all, drop_all, take-append-le, length-ap
 use Rattle.std.proofs.Math.Seq.{take-append_seam, take-length, drop-append_seam, drop-append-add}
 use Rattle.std.specs.Io.KnownBytes.{Consumes, IsAtEnd}
 use Rattle.cb_desk.specs.declared.refusal.Refusal.TheVariants.{LineTooLong}
-use Rattle.cb_session.specs.declared.feed.ReadFault.{ReadFault}
-use Rattle.cb_session.specs.declared.feed.Stage.TheVariants.{Failed}
+use Rattle.cb_tags.specs.declared.feed.ReadFault.{ReadFault}
+use Rattle.cb_tags.specs.declared.feed.Stage.TheVariants.{Failed}
 use Rattle.cb_session.specs.declared.input.Fault.{Fault}
 use Rattle.cb_session.specs.declared.input.Fault.TheVariants.{LongLine, Read}
 use Rattle.cb_session.specs.declared.intake.LineRead.{LineRead}
 use Rattle.cb_session.specs.declared.intake.LineRead.TheVariants.{End, Line, Long}
 use Rattle.cb_session.specs.declared.limits.TheConstants.{MOST_LINE}
-use Rattle.cb_session.specs.Devices.{Reader, GivesByte, HasRead, WhateverFollows, leaving}
+use Rattle.cb_tags.specs.Readers.{Reader, GivesByte, HasRead, WhateverFollows, leaving}
 use Rattle.cb_session.specs.Commands.{short_line}
 use Rattle.cb_session.specs.Inputs.{is_line_feed, first, with_block, line_asks}
 use Rattle.cb_session.specs.Requests.{whole, refused, overlong}
 use Rattle.cb_session.specs.steps.Lines.{ReadsLine, line_of_length}
-use Rattle.cb_session.proofs.Follows.{HasRead-nothing, HasRead-trans, Follows-ended, Follows-failed}
+use Rattle.cb_tags.proofs.Follows.{HasRead-nothing, HasRead-trans, Follows-ended, Follows-failed}
 
 -- no line feed is among the bytes
 abbrev pub IsPlain : List ℕ → Type 0

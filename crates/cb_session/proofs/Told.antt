@@ -6,7 +6,7 @@ use Rattle.cb_session.specs.declared.input.Fault.{Fault as Reason}
 use Rattle.cb_session.specs.declared.input.Fault.TheVariants.{Read, Write, Memory, LongLine}
 use Rattle.cb_session.specs.declared.input.Fault.TheVariants.{ManyLines}
 use Rattle.cb_tags.specs.Writers.{Writer}
-use Rattle.cb_session.specs.Devices.{Reader, HoldsOut}
+use Rattle.cb_tags.specs.Readers.{Reader, HoldsOut}
 use Rattle.cb_session.specs.Serving.{Tells, fault_of}
 use Rattle.cb_session.specs.steps.Rounds.{is_unread}
 

@@ -5,9 +5,9 @@ use Rattle.std.proofs.Common.{nat_lt, append_assoc}
 use Rattle.std.specs.Prelude.{IfErr}
 use Rattle.std.proofs.lemmas.List.{drop_all, length-append, take-append-drop}
 use Rattle.cb_desk.specs.declared.refusal.Refusal.TheVariants.{InputEnded}
-use Rattle.cb_session.specs.declared.feed.ReadFault.{ReadFault}
-use Rattle.cb_session.specs.declared.feed.Stage.{Stage}
-use Rattle.cb_session.specs.declared.feed.Stage.TheVariants.{Ended, Failed}
+use Rattle.cb_tags.specs.declared.feed.ReadFault.{ReadFault}
+use Rattle.cb_tags.specs.declared.feed.Stage.{Stage}
+use Rattle.cb_tags.specs.declared.feed.Stage.TheVariants.{Ended, Failed}
 use Rattle.cb_session.specs.declared.input.Fault.{Fault}
 use Rattle.cb_session.specs.declared.input.Fault.TheVariants.{Read}
 use Rattle.cb_session.specs.declared.input.Input.{Input}
@@ -15,12 +15,12 @@ use Rattle.cb_session.specs.declared.intake.LineRead.{LineRead}
 use Rattle.cb_session.specs.declared.intake.LineRead.TheVariants.{Line}
 use Rattle.cb_session.specs.declared.line.Purpose.{Purpose}
 use Rattle.cb_session.specs.Commands.{short_line}
-use Rattle.cb_session.specs.Devices.{Reader, GivesByte, WhateverFollows}
+use Rattle.cb_tags.specs.Readers.{Reader, GivesByte, WhateverFollows}
 use Rattle.cb_session.specs.Inputs.{First, HoldNone, change_with, first, line_asks, with_block}
 use Rattle.cb_session.specs.Reading.{IsReadFault, IsUnread}
 use Rattle.cb_session.specs.Requests.{LineRequest, block, change, refused, whole}
 use Rattle.cb_session.specs.steps.Lines.{ReadsLine, StopsBefore}
-use Rattle.cb_session.proofs.Follows.{HasRead-fault, HasRead-stop, HasRead-trans, Some-same}
+use Rattle.cb_tags.proofs.Follows.{HasRead-fault, HasRead-stop, HasRead-trans, Some-same}
 use Rattle.cb_session.proofs.Streams.{IsPlain-push, Seen, last_line}
 
 some_bytes : (xs : List ℕ) (x : ℕ) → xs ++ x ∷ [] ≢ []

@@ -1,5 +1,4 @@
 pub mod Commands
-pub mod Devices
 pub mod Inputs
 pub mod Models
 pub mod Operands

@@ -9,7 +9,7 @@ use Rattle.cb_desk.specs.Desk.{bytes_in, counted}
 use Rattle.cb_desk.specs.World.{File, WorldBounds}
 use Rattle.cb_desk.specs.Step.{load}
 use Rattle.cb_desk.specs.Timeline.{Timeline, new_timeline, changed}
-use Rattle.cb_session.specs.Devices.{Reader}
+use Rattle.cb_tags.specs.Readers.{Reader}
 use Rattle.cb_session.specs.Inputs.{inputs}
 use Rattle.cb_session.specs.Serving.{LeavesRun}
 use Rattle.cb_session.specs.States.{State}

@@ -1,12 +1,12 @@
 -- What reading an input does to a reader.
 use Rattle.std.specs.Prelude.{◌≡◌, List, ℕ, Bool, true, false, Some, Result, Ok, Err, IsTrue}
 use Rattle.cb_desk.specs.Step.{load, reload}
-use Rattle.cb_session.specs.declared.feed.Stage.TheVariants.{Failed}
+use Rattle.cb_tags.specs.declared.feed.Stage.TheVariants.{Failed}
 use Rattle.cb_session.specs.declared.input.Fault.{Fault}
 use Rattle.cb_session.specs.declared.input.Fault.TheVariants.{Read, Write, Memory, LongLine}
 use Rattle.cb_session.specs.declared.input.Fault.TheVariants.{ManyLines}
 use Rattle.cb_session.specs.declared.input.Input.{Input}
-use Rattle.cb_session.specs.Devices.{Reader, HasRead, HoldsOut}
+use Rattle.cb_tags.specs.Readers.{Reader, HasRead, HoldsOut}
 use Rattle.cb_session.specs.Inputs.{First, HoldNone, is_cut}
 use Rattle.cb_session.specs.Models.{request_of}
 use Rattle.cb_session.specs.Requests.{Request, change, refused, overlong}

@@ -1,13 +1,13 @@
 -- What a run leaves.
 use Rattle.std.specs.Prelude.{◌≡◌, ◌++◌, ℕ, Bool, true, false, List, Option, None, Some, Result}
 use Rattle.std.specs.Io.KnownBytes.{Appends}
-use Rattle.cb_session.specs.declared.feed.Stage.TheVariants.{Failed}
+use Rattle.cb_tags.specs.declared.feed.Stage.TheVariants.{Failed}
 use Rattle.cb_session.specs.declared.input.Ended.{Ended}
 use Rattle.cb_session.specs.declared.input.Ended.TheVariants.{Fault, Operand}
 use Rattle.cb_session.specs.declared.input.Fault.TheVariants.{Read, Write, Memory, LongLine}
 use Rattle.cb_session.specs.declared.input.Fault.{Fault as Reason}
 use Rattle.cb_tags.specs.Writers.{Writer}
-use Rattle.cb_session.specs.Devices.{Reader, HasRead, HoldsOut, WhateverFollows}
+use Rattle.cb_tags.specs.Readers.{Reader, HasRead, HoldsOut, WhateverFollows}
 use Rattle.cb_session.specs.Inputs.{HoldWhole, Inputs, inputs}
 use Rattle.cb_session.specs.Output.{outcome, output, prompt}
 use Rattle.cb_session.specs.Requests.{Request}

@@ -1,6 +1,6 @@
 //! The block of a `:load` or a `:reload`.
 ghost use Rattle.std.specs.Prelude.{◌≡◌, List, ℕ, Some, IfOk, IfErr};
-ghost use Rattle.cb_session.specs.Devices.{HoldsOut, WhateverFollows};
+ghost use Rattle.cb_tags.specs.Readers.{HoldsOut, WhateverFollows};
 ghost use Rattle.cb_desk.specs.Models.{step_of};
 ghost use Rattle.cb_session.specs.Inputs.{change_with, with_block};
 ghost use Rattle.cb_session.specs.Models.{request_of, HasPattern};
@@ -9,8 +9,9 @@ ghost use Rattle.cb_session.specs.Requests.{block};
 ghost use Rattle.cb_session.specs.steps.Lines.{ReadsBlock, StopsBefore};
 
 use crate::line::Purpose;
-use crate::{Command, Fault, Feed, Input};
+use crate::{Command, Fault, Input};
 use cb_desk::{Change, Refusal};
+use cb_tags::Feed;
 use std::alloc::Global;
 use std::io::BufRead;
 

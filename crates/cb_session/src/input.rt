@@ -4,9 +4,8 @@ ghost use Rattle.cb_session.specs.Inputs.{is_cut, ending_of};
 ghost use Rattle.cb_session.specs.Models.{request_of, going_of};
 ghost use Rattle.cb_session.specs.steps.Rounds.{is_unread};
 
-use crate::ReadFault;
 use cb_desk::{Change, Field, Format, Refusal};
-use cb_tags::WriteFault;
+use cb_tags::{ReadFault, WriteFault};
 
 /// What is read at a prompt.
 #[derive(Debug, Drop)]

@@ -20,8 +20,9 @@ ghost use Rattle.cb_session.specs.steps.Lines.{line_of_length};
 use crate::block::read_change;
 use crate::limits::MOST_LINE;
 use crate::line::{Asked, line_asks};
-use crate::{Fault, Feed, Input, Limits};
+use crate::{Fault, Input, Limits};
 use cb_desk::Refusal;
+use cb_tags::Feed;
 use std::alloc::{AllocError, Global};
 use std::io::BufRead;
 
@@ -60,7 +61,7 @@ impl Intake {
     ghost use Rattle.cb_session.specs.Models.{request_of, HasPattern};
     ghost use Rattle.cb_session.specs.Reading.{Reads, IsReadFault, IsUnread};
     ghost use Rattle.cb_session.specs.steps.Lines.{ReadsLine};
-    ghost use Rattle.cb_session.specs.Devices.{HoldsOut, WhateverFollows};
+    ghost use Rattle.cb_tags.specs.Readers.{HoldsOut, WhateverFollows};
 
     /// An intake with room for one line.
     pub fn new(alloc: Global) -> Result<Intake, OutOfMemory>

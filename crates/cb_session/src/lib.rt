@@ -2,13 +2,12 @@
 //!
 //! A session reads commands from a feed, moves a desk and writes replies to a sink. It stands on
 //! `cb_desk` (the files, their past, the answers), `cb_scan` (their texts), `cb_tags` (tag lines,
-//! the sink) and `itoa` (numbers in replies). The layer above uses the contracts of [`run`],
-//! [`prepare`] and [`Session::serve`]: what is written is the output of a run over the bytes of the
-//! input.
+//! the feed and the sink) and `itoa` (numbers in replies). The layer above uses the contracts of
+//! [`run`], [`prepare`] and [`Session::serve`]: what is written is the output of a run over the
+//! bytes of the input.
 #![tactic(auto)]
 
 mod block;
-mod feed;
 mod input;
 mod intake;
 pub mod laws;
@@ -21,7 +20,6 @@ mod reply;
 mod state;
 mod tags;
 
-pub use feed::{Feed, ReadFault};
 pub use input::{Command, Ended, Fault, Going, Input};
 pub use intake::{Intake, OutOfMemory};
 pub use limits::Limits;

@@ -1,13 +1,13 @@
 //! Files that are loaded before a run.
 ghost use Rattle.std.specs.Prelude.{◌≡◌, List, ℕ, Some, length, map};
-ghost use Rattle.cb_session.specs.Devices.{WhateverFollows};
+ghost use Rattle.cb_tags.specs.Readers.{WhateverFollows};
 ghost use Rattle.cb_session.specs.Serving.{HandsOn, HasFailed, IfFault, Tells, fault_of};
 ghost use Rattle.cb_session.specs.Operands.{file_of_operand, Prepares, Runs};
 ghost use Rattle.cb_session.specs.steps.Starts.{Starts};
 
-use crate::{Ended, Feed, Limits, Session};
+use crate::{Ended, Limits, Session};
 use cb_desk::{Bounds, Loading, Refusal};
-use cb_tags::Sink;
+use cb_tags::{Feed, Sink};
 use std::alloc::Global;
 use std::io::{BufRead, Write};
 

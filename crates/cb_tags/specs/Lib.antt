@@ -1,5 +1,6 @@
 pub mod Addresses
 pub mod Names
+pub mod Readers
 pub mod TagLineExamples
 pub mod TagLines
 pub mod TagNames

@@ -1,5 +1,5 @@
-//! The form of a tags file: its lines, their addresses and the names that they have, and the sink
-//! that takes them.
+//! The form of a tags file: its lines, their addresses and the names that they have; the feed and
+//! the sink, which take bytes in and out.
 //!
 //! It stands on `cb_scan` (sources, kinds of definitions), `itoa` (line numbers) and, in proofs
 //! alone, `bstr` (lines). No call takes memory.
@@ -9,6 +9,7 @@
 #![tactic(auto)]
 
 mod address;
+mod feed;
 pub mod laws;
 mod name;
 mod row;
@@ -17,6 +18,7 @@ mod tag_name;
 mod text;
 
 pub use address::{Address, read_address};
+pub use feed::{Feed, ReadFault};
 pub use name::is_file_name;
 pub use row::{TagRow, put_extended, put_heads, put_listing, put_plain};
 pub use sink::{Sink, WriteFault};

@@ -12,7 +12,7 @@ use Rattle.std.specs.declared.io.Error.{Error}
 use Rattle.std.specs.declared.vec.IntoIter.{IntoIter}
 use Rattle.std.specs.declared.vec.Vec.{Vec}
 use Rattle.std.specs.Vec.Iter.{into_iter_items, into_iter_steps}
-use Rattle.cb_session.specs.Devices.{Reader}
+use Rattle.cb_tags.specs.Readers.{Reader}
 use Rattle.cb_tags.specs.Writers.{Writer}
 use Rattle.cb_words.specs.declared.job.Usage.{Usage}
 use Rattle.cbrowse.specs.Endings.{EndsJob, EndsProcess, EndsUsage, TakesWords}

@@ -30,9 +30,9 @@ use crate::execute::files::{TagsFile, make_file, read_operands};
 use crate::execute::finish::{Finish, bounds_of, conclude, files_of, most_line_bytes};
 use cb_desk::{Bounds, Desk, Field, Format, TagRows};
 use cb_session::{
-    Ended, Fault, Feed, Limits, Session, prepare, put_answer, put_listing_file, put_tags_file,
+    Ended, Fault, Limits, Session, prepare, put_answer, put_listing_file, put_tags_file,
 };
-use cb_tags::Sink;
+use cb_tags::{Feed, Sink};
 use cb_words::{Job, Usage, job_of};
 pub(crate) use finish::refuse;
 use std::alloc::{AllocError, Global};

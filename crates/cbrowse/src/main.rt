@@ -3,8 +3,7 @@
 
 mod execute;
 
-use cb_session::Feed;
-use cb_tags::Sink;
+use cb_tags::{Feed, Sink};
 use cb_words::Usage;
 use std::env;
 use std::io::{self, BufReader, BufWriter};

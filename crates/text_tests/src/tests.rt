@@ -1,3 +1,4 @@
+mod feeds;
 mod long;
 mod names;
 mod sources;

@@ -4,8 +4,8 @@ use crate::ended::put_end;
 use crate::escapes::put_line;
 use crate::failed::Failed;
 use cb_desk::Bounds;
-use cb_session::{Ended, Fault, Feed, Limits, Operand, Operands, run};
-use cb_tags::Sink;
+use cb_session::{Ended, Fault, Limits, Operand, Operands, run};
+use cb_tags::{Feed, Sink};
 use std::alloc::Global;
 use std::io::{BufRead, Write};
 

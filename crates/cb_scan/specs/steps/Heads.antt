@@ -75,10 +75,13 @@ def_of local name = record {
 abbrev pub opened : Head → Option Def
 opened h = option_map (def_of h.has_static) h.called
 
+-- the head is that of a function
+abbrev pub defines : Head → Bool
+defines h = not h.begins_with_typedef && not h.has_equals && may_end h.last
+
 -- the function that the head defines
 abbrev pub defined : Head → Option Def
-defined h = if not h.begins_with_typedef && not h.has_equals && may_end h.last then opened h
-    else None
+defined h = if defines h then opened h else None
 
 -- the list of names is whole
 abbrev pub is_whole : Listing → Bool

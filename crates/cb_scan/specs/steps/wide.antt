@@ -2,12 +2,17 @@ pub mod Ahead
 pub mod Along
 pub mod Attributes
 pub mod Called
+pub mod Contents
 pub mod Declarations
 pub mod Enumerators
+pub mod Functions
 pub mod Heads
 pub mod Levels
+pub mod Lists
+pub mod Objects
 pub mod Openings
 pub mod Parts
+pub mod Pass
 pub mod Pointers
 pub mod Tails
 pub mod Tokens

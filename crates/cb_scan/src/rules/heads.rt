@@ -9,6 +9,7 @@ ghost use Rattle.cb_scan.specs.steps.Heads.{
   declares,
   def_of,
   defined,
+  defines,
   empty_head,
   listing_after,
   next_opened,
@@ -44,7 +45,7 @@ pub(crate) struct Head {
     begins_with_typedef: bool,
     has_equals: bool,
     pub(crate) has_static: bool,
-    called: Option<Token>,
+    pub(crate) called: Option<Token>,
     listing: Listing,
 }
 
@@ -83,7 +84,7 @@ fn listing_after(listing: Listing, last: &Option<Token>, token: &Token) -> Listi
 }
 
 /// A function of that name as a definition.
-fn def_of(local: bool, name: Token) -> Def
+pub(crate) fn def_of(local: bool, name: Token) -> Def
     ensures { result ≡ def_of local name }
 {
     Def {
@@ -146,18 +147,26 @@ impl Head {
         self.last = Some(*token);
     }
 
+    /// The tokens are the head of a function.
+    pub(crate) fn defines(&self) -> bool
+        ensures { result ≡ defines self.now }
+    {
+        match self.last {
+            Some(last) => {
+                !self.begins_with_typedef
+                    && !self.has_equals
+                    && (last.is_mark(b')') || last.is_name())
+            }
+            None => false,
+        }
+    }
+
     /// The function that the head defines, if it is that of one.
     pub(crate) fn defined(&self) -> Option<Def>
         ensures { result ≡ defined self.now }
     {
-        match (self.last, self.called) {
-            (Some(last), Some(name))
-                if !self.begins_with_typedef
-                    && !self.has_equals
-                    && (last.is_mark(b')') || last.is_name()) => Some(def_of(
-                self.has_static,
-                name,
-            )),
+        match self.called {
+            Some(name) if self.defines() => Some(def_of(self.has_static, name)),
             _ => None,
         }
     }

@@ -2,7 +2,7 @@
 use Rattle.std.specs.Prelude.{◌≡◌, ℕ, ◌≤◌, ◌<◌, List, [], length, take, drop, Option, None, Some}
 use Rattle.std.specs.Prelude.{Result, Ok, Err, Vec, nat_le, if◌then◌else◌}
 use Rattle.cb_desk.specs.declared.refusal.Refusal.TheVariants.{LineTooLong}
-use Rattle.cb_session.specs.declared.feed.Stage.TheVariants.{Failed}
+use Rattle.cb_tags.specs.declared.feed.Stage.TheVariants.{Failed}
 use Rattle.cb_session.specs.declared.input.Fault.{Fault}
 use Rattle.cb_session.specs.declared.input.Fault.TheVariants.{Read, Memory, LongLine}
 use Rattle.cb_session.specs.declared.intake.LineRead.{LineRead}
@@ -11,7 +11,7 @@ use Rattle.cb_session.specs.declared.limits.TheConstants.{MOST_LINE}
 use Rattle.cb_session.specs.Commands.{short_line}
 use Rattle.cb_session.specs.Inputs.{first, with_block}
 use Rattle.cb_session.specs.Requests.{refused, quit, overlong}
-use Rattle.cb_session.specs.Devices.{Reader, HasRead}
+use Rattle.cb_tags.specs.Readers.{Reader, HasRead}
 
 -- a line of so many bytes, which a command may have or not
 abbrev pub line_of_length : ℕ → LineRead

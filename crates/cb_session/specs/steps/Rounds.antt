@@ -8,8 +8,8 @@ use Rattle.cb_session.specs.declared.input.Ended.TheVariants.{Fault}
 use Rattle.cb_session.specs.declared.input.Fault.{Fault as Reason}
 use Rattle.cb_session.specs.declared.input.Fault.TheVariants.{Read, Write, Memory}
 use Rattle.cb_session.specs.Requests.{Request}
-use Rattle.cb_session.specs.declared.feed.Stage.TheVariants.{Failed}
-use Rattle.cb_session.specs.Devices.{Reader, WhateverFollows}
+use Rattle.cb_tags.specs.declared.feed.Stage.TheVariants.{Failed}
+use Rattle.cb_tags.specs.Readers.{Reader, WhateverFollows}
 use Rattle.cb_session.specs.Inputs.{First, ending_of, first}
 use Rattle.cb_session.specs.Reading.{IsUnread}
 use Rattle.cb_session.specs.Serving.{Leaves}

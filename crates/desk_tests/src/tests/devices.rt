@@ -1,8 +1,8 @@
 //! Runs over readers and writers that fail.
 use super::inputs::WIDE;
 use cb_desk::Bounds;
-use cb_session::{Ended, Fault, Feed, Session};
-use cb_tags::Sink;
+use cb_session::{Ended, Fault, Session};
+use cb_tags::{Feed, Sink};
 use std::alloc::Global;
 use std::io::{self, BufRead, ErrorKind, Read, Write};
 use std::process::Abort;

@@ -2,8 +2,8 @@
 use super::inputs::WIDE;
 use super::meters::NINE_LINES;
 use cb_desk::Bounds;
-use cb_session::{Feed, Operand, Operands, Session, prepare};
-use cb_tags::Sink;
+use cb_session::{Operand, Operands, Session, prepare};
+use cb_tags::{Feed, Sink};
 use std::alloc::{AllocError, Global};
 use std::process::Abort;
 

@@ -1,6 +1,7 @@
 -- What follows the next token.
-use Rattle.std.specs.Prelude.{ℕ, Bool, false, ◌&&◌, List, [], ◌∷◌}
+use Rattle.std.specs.Prelude.{ℕ, Bool, false, ◌&&◌, List, [], ◌∷◌, if◌then◌else◌}
 use Rattle.cb_scan.specs.declared.rules.wide.token.WideToken.{WideToken}
+use Rattle.cb_scan.specs.rules.wide.Attributes.{ends_attribute}
 use Rattle.cb_scan.specs.rules.wide.Words.{is_sign, is_wide_name, is_wide_word}
 use Rattle.cb_scan.specs.Bytes.{close_paren, open_paren}
 
@@ -42,3 +43,13 @@ encloses_name (a ∷ b ∷ c ∷ xs) =
 abbrev pub rest_encloses_name : List WideToken → Bool
 rest_encloses_name [] = false
 rest_encloses_name (x ∷ xs) = encloses_name xs
+
+-- the tokens up to the first brace or `;`
+abbrev pub up_to_mark : List WideToken → List WideToken
+up_to_mark [] = []
+up_to_mark (x ∷ xs) = if ends_attribute x.role then [] else x ∷ up_to_mark xs
+
+-- what is seen from the first token: it alone, if it is one of these, and else those up to the next
+abbrev pub seen : List WideToken → List WideToken
+seen [] = []
+seen (x ∷ xs) = x ∷ (if ends_attribute x.role then [] else up_to_mark xs)

@@ -4,9 +4,11 @@ use Rattle.std.specs.Prelude.{Option, if◌then◌else◌}
 use Rattle.cb_scan.specs.declared.rules.wide.declaration.Declaration.{Declaration}
 use Rattle.cb_scan.specs.declared.rules.wide.token.WideToken.{WideToken}
 use Rattle.cb_scan.specs.rules.Typedefs.{nesting_after}
+use Rattle.cb_scan.specs.rules.wide.Bodies.{Body, opens_body}
 use Rattle.cb_scan.specs.rules.wide.Words.{is_extern_word, is_sign, is_static_word, is_typedef_word}
 use Rattle.cb_scan.specs.steps.wide.Parts.{function, named, next_part, part_start}
-use Rattle.cb_scan.specs.Bytes.{close_paren, comma, equals, semicolon}
+use Rattle.cb_scan.specs.Bytes.{close_brace, close_paren, comma, equals, open_brace}
+use Rattle.cb_scan.specs.Bytes.{semicolon}
 
 -- the beginning of a declaration
 abbrev pub declaration_start : Declaration
@@ -42,7 +44,7 @@ abbrev pub next_part_of : Declaration → WideToken → Declaration
 next_part_of d x = record d {
   count = nesting_after x.token d.count;
   is_stray = d.is_stray || d.part.is_stray;
-  closes = false;
+  closes = closes x;
   part = part_start false;
 }
 
@@ -103,3 +105,40 @@ members_from d (x ∷ xs) =
     if ends_part d x
     then (if may_name d then given d ∷ [] else []) ++ members_from (next_member d x) xs
     else members_from (grown d (x ∷ xs) x) xs
+
+-- ---- the level of the file
+
+-- a `{` that does not count
+abbrev pub is_linkage : WideToken → Bool
+is_linkage x = is_sign open_brace x.role && not x.counted
+
+-- a brace that is no body of a structure, union or enumeration: a block
+abbrev pub is_block : List Body → WideToken → Bool
+is_block bs x = x.counted && not (opens_body bs x.token.span.start)
+
+-- a declaration of the file ends with the token that leaves it in this state: a `;`, a `{` that
+-- does not count, or where it has no value, a `}` or a block
+abbrev pub is_end : Declaration → Bool → WideToken → Bool
+is_end d block x =
+    is_sign semicolon x.role || is_linkage x
+    || (not d.has_equals && (is_sign close_brace x.role || block))
+
+-- the state in which a token of the file is read: a declaration begins with it if it begins anew
+abbrev pub before_in_file : Declaration → WideToken → Declaration
+before_in_file d x = if is_over d x then declaration_start else d
+
+-- after a token that leaves a declaration of the file in this state, and is a block or none: if it
+-- ends the declaration, the next one begins
+abbrev pub next_in_file : Declaration → Bool → WideToken → Declaration
+next_in_file d block x = if is_end d block x then declaration_start else d
+
+-- what the parts give that end on the level of the file, from a state on, where these are the
+-- bodies
+unfoldable pub file_from : List Body → Declaration → List WideToken → List Given
+file_from bs d [] = []
+file_from bs d (x ∷ xs) =
+    let e = before_in_file d x in
+    if ends_part e x
+    then (if may_name e then given e ∷ [] else [])
+    ++ file_from bs (next_in_file (next_part_of e x) (is_block bs x) x) xs
+    else file_from bs (next_in_file (grown e (x ∷ xs) x) (is_block bs x) x) xs

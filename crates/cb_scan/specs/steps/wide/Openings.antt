@@ -1,11 +1,14 @@
 -- What a `{` opens, a token at a time.
-use Rattle.std.specs.Prelude.{List, [], ◌∷◌, length, drop, Option, None, Some, if◌then◌else◌}
-use Rattle.std.specs.Option.{option_map}
+use Rattle.std.specs.Prelude.{false, List, [], ◌∷◌, ◌++◌, length, drop, Option, None, Some}
+use Rattle.std.specs.Prelude.{if◌then◌else◌}
+use Rattle.std.specs.Option.{option_map, option_map_or}
 use Rattle.cb_scan.specs.declared.facts.Kind.{Kind}
 use Rattle.cb_scan.specs.declared.rules.wide.def.Tag.{Tag}
+use Rattle.cb_scan.specs.declared.rules.wide.def.WideDef.{WideDef}
 use Rattle.cb_scan.specs.declared.rules.wide.opening.Opening.{Opening}
 use Rattle.cb_scan.specs.declared.rules.wide.token.WideToken.{WideToken}
 use Rattle.cb_scan.specs.rules.wide.Bodies.{body_kind, first_kind, names_first}
+use Rattle.cb_scan.specs.rules.wide.Kinds.{def_of, kind_of_tag}
 use Rattle.cb_scan.specs.rules.wide.Words.{is_wide_name}
 
 -- after `struct`, `union` or `enum`
@@ -47,3 +50,20 @@ abbrev pub opening_after : List WideToken → Option Opening
 opening_after before =
     option_map (λ kind. the_opening kind (first (names_first before)))
     (first_kind (drop (length (names_first before)) before))
+
+-- ---- the tags of bodies
+
+-- the tag of an opening, as a definition
+abbrev pub opening_tag : Option Opening → List WideDef
+opening_tag None = []
+opening_tag (Some o) =
+    option_map_or (λ (x : WideToken). def_of (kind_of_tag o.kind) false x.token ∷ []) o.tag []
+
+-- the tag of the body that a token opens
+abbrev pub tag_out : Option Opening → WideToken → List WideDef
+tag_out o x = if x.counted then opening_tag o else []
+
+-- the tags from a state on
+unfoldable pub tags_from : Option Opening → List WideToken → List WideDef
+tags_from o [] = []
+tags_from o (x ∷ xs) = tag_out o x ++ tags_from (next_opening o x) xs

@@ -1,12 +1,17 @@
 //! A declaration, a token at a time.
 ghost use Rattle.std.specs.Prelude.{◌≡◌, ◌+◌, ◌<◌, ◌≤◌, ◌^◌};
 ghost use Rattle.cb_scan.specs.steps.wide.Declarations.{
+  before_in_file,
   closes,
   declaration_start,
   ends_part,
   grown,
+  is_end,
+  is_linkage,
   is_over,
   may_name,
+  next_in_file,
+  next_member,
   next_part_of,
   noted,
 };
@@ -37,7 +42,43 @@ fn closes(item: &WideToken) -> bool
     item.role.is_sign(b')') || item.counted
 }
 
+/// A `{` that does not count.
+pub(crate) fn is_linkage(item: &WideToken) -> bool
+    ensures { result ≡ is_linkage item.now }
+{
+    item.role.is_sign(b'{') && !item.counted
+}
+
 impl Declaration {
+    /// Whether a declaration of the file ends with the token that left it so.
+    pub(crate) fn is_end(&self, is_block: bool, item: &WideToken) -> bool
+        ensures { result ≡ is_end self.now is_block item.now }
+    {
+        item.role.is_sign(b';')
+            || is_linkage(item)
+            || (!self.has_equals && (item.role.is_sign(b'}') || is_block))
+    }
+
+    /// Begins a declaration of the file if the token begins one anew.
+    pub(crate) fn begin_in_file(&mut self, item: &WideToken)
+        ensures value { self.new ≡ before_in_file self.old item.now }
+        ensures small { self.new.count ≤ self.old.count }
+    {
+        if self.is_over(item) {
+            *self = Declaration::new();
+        }
+    }
+
+    /// Begins the next declaration of the file if the token ends this one.
+    pub(crate) fn end_in_file(&mut self, is_block: bool, item: &WideToken)
+        ensures value { self.new ≡ next_in_file self.old is_block item.now }
+        ensures small { self.new.count ≤ self.old.count }
+    {
+        if self.is_end(is_block, item) {
+            *self = Declaration::new();
+        }
+    }
+
     pub(crate) fn new() -> Declaration
         ensures { result ≡ declaration_start }
     {
@@ -81,9 +122,22 @@ impl Declaration {
         ensures small { self.new.count ≤ self.old.count + 1 }
     {
         self.is_stray = self.is_stray || self.part.is_stray;
-        self.closes = false;
+        self.closes = closes(item);
         self.part = Part::new(false);
         self.count = nesting_after(&item.token, self.count);
+    }
+
+    /// The same on the level of a structure or union, where a `;` ends the declaration.
+    pub(crate) fn begin_member(&mut self, item: &WideToken)
+        requires { self.old.count + 1 < 2 ^ 32 }
+        ensures value { self.new ≡ next_member self.old item.now }
+        ensures small { self.new.count ≤ self.old.count + 1 }
+    {
+        if item.role.is_sign(b';') {
+            *self = Declaration::new();
+        } else {
+            self.begin_part(item);
+        }
     }
 
     /// What a token outside parentheses and brackets tells of the whole declaration.

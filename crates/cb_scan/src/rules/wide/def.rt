@@ -1,6 +1,10 @@
 //! Definitions of the wide profile.
+ghost use Rattle.std.specs.Prelude.{◌≡◌};
+ghost use Rattle.cb_scan.specs.rules.wide.Kinds.{def_in, def_of, kind_of_tag};
+
 use crate::facts::Kind;
 use crate::lex::piece::Span;
+use crate::lex::token::Token;
 
 /// By which rules a text is scanned.
 #[derive(Clone, Copy)]
@@ -43,4 +47,41 @@ pub(crate) struct WideDef {
     pub line: u32,
     pub local: bool,
     pub tag: Option<Tag>,
+}
+
+/// The definition of a name, without the tag around it.
+pub(crate) fn def_of(kind: WideKind, local: bool, name: &Token) -> WideDef
+    ensures { result ≡ def_of kind local name.now }
+{
+    WideDef {
+        name: name.span,
+        kind,
+        line: name.line,
+        local,
+        tag: None,
+    }
+}
+
+/// The same with a tag.
+pub(crate) fn def_in(kind: WideKind, tag: Option<Tag>, name: &Token) -> WideDef
+    ensures { result ≡ def_in kind tag name.now }
+{
+    WideDef {
+        name: name.span,
+        kind,
+        line: name.line,
+        local: false,
+        tag,
+    }
+}
+
+/// The kind of a tag.
+pub(crate) fn kind_of_tag(kind: Kind) -> WideKind
+    ensures { result ≡ kind_of_tag kind }
+{
+    match kind {
+        Kind::Union => WideKind::Union,
+        Kind::Enum => WideKind::Enum,
+        Kind::Struct | Kind::Function | Kind::Macro | Kind::Typedef => WideKind::Struct,
+    }
 }

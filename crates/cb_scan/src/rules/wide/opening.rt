@@ -1,9 +1,10 @@
 //! What a `{` opens: the body of a structure, union or enumeration, or a block.
 ghost use Rattle.std.specs.Prelude.{◌≡◌};
-ghost use Rattle.cb_scan.specs.steps.wide.Openings.{begun, next_opening, tag_of};
+ghost use Rattle.std.specs.Option.{option_to_list};
+ghost use Rattle.cb_scan.specs.steps.wide.Openings.{begun, next_opening, opening_tag, tag_of};
 
 use crate::facts::Kind;
-use crate::rules::wide::def::Tag;
+use crate::rules::wide::def::{Tag, WideDef, def_of, kind_of_tag};
 use crate::rules::wide::role::WideRole;
 use crate::rules::wide::token::WideToken;
 
@@ -48,5 +49,18 @@ impl Opening {
             }),
             None => None,
         }
+    }
+}
+
+/// The tag of an opening, as a definition.
+pub(crate) fn opening_tag(opening: &Option<Opening>) -> Option<WideDef>
+    ensures { option_to_list result ≡ opening_tag opening.now }
+{
+    match opening {
+        Some(opening) => match &opening.tag {
+            Some(name) => Some(def_of(kind_of_tag(opening.kind), false, &name.token)),
+            None => None,
+        },
+        None => None,
     }
 }

@@ -1,5 +1,5 @@
 use Rattle.std.proofs.Common.{length, ap, arith}
-use Rattle.cb_session.proofs.Follows.{Follows-nothing}
+use Rattle.cb_tags.proofs.Follows.{Follows-nothing}
 use Rattle.cb_session.proofs.Streams.{ReadsBlock-whole, ReadsBlock-cut, Follows-block}
 use Rattle.cb_session.proofs.Streams.{Follows-block_end}
 use Rattle.cb_session.proofs.block.read_block.Goals as goal

@@ -1,5 +1,5 @@
 use Rattle.std.proofs.Common.{◌≤◌, ◌-◌, length, vec_capacity}
-use Rattle.cb_session.specs.Devices.{HasRead, HoldsOut}
+use Rattle.cb_tags.specs.Readers.{HasRead, HoldsOut}
 use Rattle.cb_session.proofs.block.read_block.Given as goal
 
 abbrev pub invariant-pieces : goal.invariant-pieces

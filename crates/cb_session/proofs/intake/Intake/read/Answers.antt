@@ -2,7 +2,7 @@ use Rattle.std.proofs.Common.{◌≡◌, ◌∙◌, Err, ap, rules, sym}
 use Rattle.cb_session.specs.Commands.{short_line}
 use Rattle.cb_session.proofs.FirstInputs.{Reads-end, Reads-long, Reads-no_line, Reads-whole}
 use Rattle.cb_session.proofs.FirstInputs.{Follows-with_block}
-use Rattle.cb_session.proofs.Follows.{Follows-so}
+use Rattle.cb_tags.proofs.Follows.{Follows-so}
 use Rattle.cb_session.proofs.Patterns.{HasPattern-whole}
 use Rattle.cb_session.proofs.Unread.{Unread-change}
 use Rattle.cb_session.proofs.intake.Intake.read.Goals as goal

@@ -1,6 +1,6 @@
 use Rattle.std.proofs.Common.{◌≡◌, ◌∷◌, [], arith, subst}
-use Rattle.cb_session.specs.Devices.{HasRead}
-use Rattle.cb_session.proofs.Follows.{HasRead-byte}
+use Rattle.cb_tags.specs.Readers.{HasRead}
+use Rattle.cb_tags.proofs.Follows.{HasRead-byte}
 use Rattle.cb_session.proofs.Streams.{Seen, Seen-more, ReadsLine-line_feed, ReadsLine-end}
 use Rattle.cb_session.proofs.Streams.{ReadsLine-none, first_overlong, Follows-line_feed}
 use Rattle.cb_session.proofs.Streams.{Follows-line_end, Follows-line_failed, Follows-no_line}

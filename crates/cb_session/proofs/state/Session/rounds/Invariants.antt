@@ -1,5 +1,5 @@
 use Rattle.std.proofs.Common.{◌≡◌, ◌-◌, List, ℕ, Some, None}
-use Rattle.cb_session.specs.Devices.{WhateverFollows}
+use Rattle.cb_tags.specs.Readers.{WhateverFollows}
 use Rattle.cb_session.specs.Serving.{Tells}
 use Rattle.cb_session.proofs.CutShort.{Answered}
 use Rattle.cb_session.proofs.Rounds.{Rounds}

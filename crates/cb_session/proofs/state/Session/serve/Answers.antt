@@ -2,7 +2,7 @@ use Rattle.std.proofs.Common.{◌∙◌, refl, rules, sym}
 use Rattle.cb_session.specs.declared.input.Ended.TheVariants.{Fault}
 use Rattle.cb_session.specs.declared.input.Fault.TheVariants.{Write}
 use Rattle.cb_session.specs.Inputs.{inputs}
-use Rattle.cb_session.proofs.Follows.{Follows-so}
+use Rattle.cb_tags.proofs.Follows.{Follows-so}
 use Rattle.cb_session.proofs.Rounds.{HandsOn-flushed, HandsOn-unread, LeavesSession-flushed}
 use Rattle.cb_session.proofs.Rounds.{LeavesSession-unflushed, not_cut_short}
 use Rattle.cb_session.proofs.Told.{Tells-held}

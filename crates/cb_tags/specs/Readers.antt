@@ -2,9 +2,9 @@
 use Rattle.std.specs.Prelude.{◌≡◌, ◌≢◌, ◌<◌, ◌≤◌, ℕ, Bool, true, false, List, [], ◌∷◌, ◌++◌, length}
 use Rattle.std.specs.Prelude.{Option, None, Some, Result, Ok, Err}
 use Rattle.std.specs.Io.KnownBytes.{Consumes, Keeps, IsAtEnd}
-use Rattle.cb_session.specs.declared.feed.ReadFault.{ReadFault}
-use Rattle.cb_session.specs.declared.feed.Stage.{Stage}
-use Rattle.cb_session.specs.declared.feed.Stage.TheVariants.{Open, Ended, Failed}
+use Rattle.cb_tags.specs.declared.feed.ReadFault.{ReadFault}
+use Rattle.cb_tags.specs.declared.feed.Stage.{Stage}
+use Rattle.cb_tags.specs.declared.feed.Stage.TheVariants.{Open, Ended, Failed}
 
 -- a reader: the bytes that it has left, where it tells them, and how far it is
 pub record Reader : Type 0 where

@@ -12,7 +12,7 @@ ghost use Rattle.std.specs.Prelude.{
   take,
   vec_capacity,
 };
-ghost use Rattle.cb_session.specs.Devices.{GivesByte, GivesPiece};
+ghost use Rattle.cb_tags.specs.Readers.{GivesByte, GivesPiece};
 
 use std::io::BufRead;
 use std::marker::Model;
@@ -40,7 +40,7 @@ pub struct Feed<R: BufRead> {
 }
 
 impl<R: BufRead> Model for Feed<R> {
-    ghost use Rattle.cb_session.specs.Devices.{Reader, left_at};
+    ghost use Rattle.cb_tags.specs.Readers.{Reader, left_at};
 
     ghost Value = { Reader };
 

@@ -3,11 +3,11 @@ use Rattle.std.proofs.Common.{◌≡◌, ℕ, List, [], ◌∷◌, ◌++◌, Opt
 use Rattle.std.proofs.Common.{ap, ◌∙◌, subst, append_assoc, append-nil}
 use Rattle.std.specs.Io.KnownBytes.{Consumes, IsAtEnd}
 use Rattle.std.proofs.KnownBytes.{Consumes-nil, Consumes-trans, Consumes-kept}
-use Rattle.cb_session.specs.declared.feed.ReadFault.{ReadFault}
-use Rattle.cb_session.specs.declared.feed.Stage.{Stage}
-use Rattle.cb_session.specs.declared.feed.Stage.TheVariants.{Open, Ended, Failed}
-use Rattle.cb_session.specs.Devices.{Reader, GivesByte, HasRead, MayFollow, WhateverFollows}
-use Rattle.cb_session.specs.Devices.{leaving}
+use Rattle.cb_tags.specs.declared.feed.ReadFault.{ReadFault}
+use Rattle.cb_tags.specs.declared.feed.Stage.{Stage}
+use Rattle.cb_tags.specs.declared.feed.Stage.TheVariants.{Open, Ended, Failed}
+use Rattle.cb_tags.specs.Readers.{Reader, GivesByte, HasRead, MayFollow, WhateverFollows}
+use Rattle.cb_tags.specs.Readers.{leaving}
 
 -- bytes that are known twice are the same
 pub Some-same : (xs ys : List ℕ) → Some xs ≡ Some ys → xs ≡ ys

@@ -1,0 +1,128 @@
+-- The pass of the wide profile over the tokens that are of no attribute.
+use Rattle.std.specs.Prelude.{ℕ, Bool, ◌&&◌, ◌==◌, List, [], ◌∷◌, ◌++◌, max, Option}
+use Rattle.std.specs.Prelude.{None, Some, if◌then◌else◌}
+use Rattle.std.specs.Option.{is_none, option_map, option_to_list}
+use Rattle.cb_scan.specs.declared.facts.Def.{Def}
+use Rattle.cb_scan.specs.declared.lex.piece.Span.{Span}
+use Rattle.cb_scan.specs.declared.rules.scope.Range.{Range}
+use Rattle.cb_scan.specs.declared.rules.wide.declaration.Declaration.{Declaration}
+use Rattle.cb_scan.specs.declared.rules.wide.def.WideDef.{WideDef}
+use Rattle.cb_scan.specs.declared.rules.wide.pass.Pass.{Pass}
+use Rattle.cb_scan.specs.declared.rules.wide.token.WideToken.{WideToken}
+use Rattle.cb_scan.specs.rules.wide.Words.{is_sign}
+use Rattle.cb_scan.specs.steps.Functions.{range_to}
+use Rattle.cb_scan.specs.steps.wide.Contents.{defined_by, most_open, next_levels}
+use Rattle.cb_scan.specs.steps.wide.Declarations.{Given, before_in_file, declaration_start}
+use Rattle.cb_scan.specs.steps.wide.Declarations.{ends_part, given, grown}
+use Rattle.cb_scan.specs.steps.wide.Declarations.{may_name, next_in_file, next_part_of}
+use Rattle.cb_scan.specs.steps.wide.Functions.{found, next, next_depth, start}
+use Rattle.cb_scan.specs.steps.wide.Lists.{Lists}
+use Rattle.cb_scan.specs.steps.wide.Objects.{dropped_from, kept_outside, object_given, typedef_given}
+use Rattle.cb_scan.specs.steps.wide.Openings.{next_opening, tag_out}
+use Rattle.cb_scan.specs.Bytes.{close_brace}
+
+-- ---- the level of the file
+
+-- the part that ends at a token, if one does that can name something
+abbrev pub part_at : Declaration → WideToken → List Given
+part_at d x = if ends_part d x && may_name d then given d ∷ [] else []
+
+-- a declaration of the file after the first of these tokens, which is a block or none
+abbrev pub next_of_file : Declaration → Bool → List WideToken → WideToken → Declaration
+next_of_file d block xs x =
+    next_in_file (if ends_part d x then next_part_of d x else grown d xs x) block x
+
+-- what the parts give besides types, where functions have had these ranges
+abbrev pub objects_of : List Range → List Given → List WideDef
+objects_of ranges [] = []
+objects_of ranges (g ∷ gs) = kept_outside ranges (object_given g) ++ objects_of ranges gs
+
+-- the types that they give
+abbrev pub typedefs_of : List Given → List WideDef
+typedefs_of [] = []
+typedefs_of (g ∷ gs) = typedef_given g ++ typedefs_of gs
+
+-- ---- the state
+
+-- the beginning of the code
+abbrev pub pass_start : Pass
+pass_start = record {
+  opening = None;
+  machine = start;
+  file = declaration_start;
+  body = None;
+  levels = [];
+}
+
+-- the token is a brace that opens no body
+abbrev pub is_block : Pass → WideToken → Bool
+is_block p x = x.counted && is_none p.opening
+
+-- no brace is open
+abbrev pub is_in_file : Pass → Bool
+is_in_file p = p.machine.depth == 0
+
+-- the function whose `{` is the token, if one is
+abbrev pub function_found : Pass → WideToken → Option Def
+function_found p x = found p.machine (is_block p x)
+
+-- the parts of the file that end at the token
+abbrev pub parts_here : Pass → WideToken → List Given
+parts_here p x = if is_in_file p then part_at (before_in_file p.file x) x else []
+
+-- the declaration of the file after the first of these tokens
+abbrev pub next_file : Pass → List WideToken → WideToken → Declaration
+next_file p xs x =
+    if is_in_file p then next_of_file (before_in_file p.file x) (is_block p x) xs x else p.file
+
+-- the name of the function whose body the next token is in
+abbrev pub next_body : Pass → WideToken → Option Span
+next_body p x =
+    if is_in_file p then option_map (λ (d : Def). d.name) (function_found p x)
+    else (if next_depth p.machine x == 0 then None else p.body)
+
+-- the range of the function whose body the token ends, if it ends one
+abbrev pub range_closed : Pass → WideToken → Option Range
+range_closed p x =
+    if is_sign close_brace x.role && next_depth p.machine x == 0
+    then option_map (range_to x.token.span.end) p.body
+    else None
+
+-- the state after the first of these tokens
+abbrev pub next_pass : Pass → List WideToken → WideToken → Pass
+next_pass p xs x = record {
+  opening = next_opening p.opening x;
+  machine = next p.machine xs x;
+  file = next_file p xs x;
+  body = next_body p x;
+  levels = next_levels p.opening p.levels xs x;
+}
+
+-- how many braces, parentheses and brackets are open at most
+abbrev pub most_in : Pass → ℕ
+most_in p =
+    max (max p.machine.depth p.machine.parts.count) (max p.file.count (most_open p.levels))
+
+-- ---- what is found
+
+-- the objects without those of the head of a function that is found
+abbrev pub without_head : Option Def → List WideDef → List WideDef
+without_head None ds = ds
+without_head (Some f) ds = dropped_from f.name.start ds
+
+-- what is found with the first of these tokens
+abbrev pub next_lists : Lists → Pass → List WideToken → WideToken → Lists
+next_lists l p xs x = record {
+  functions = l.functions ++ option_to_list (function_found p x);
+  ranges = l.ranges ++ option_to_list (range_closed p x);
+  defs = ((l.defs ++ typedefs_of (parts_here p x)) ++ tag_out p.opening x)
+      ++ defined_by p.levels xs x;
+  objects = without_head (function_found p x)
+      (objects_of l.ranges (parts_here p x) ++ l.objects);
+}
+
+-- what is found from a state on
+unfoldable pub lists_from : Lists → Pass → List WideToken → Lists
+lists_from l p [] = l
+lists_from l p (x ∷ xs) =
+    lists_from (next_lists l p (x ∷ xs) x) (next_pass p (x ∷ xs) x) xs

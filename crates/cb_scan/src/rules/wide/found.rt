@@ -1,0 +1,162 @@
+//! What the pass of the wide profile gathers.
+ghost use Rattle.std.specs.Prelude.{◌≡◌, ◌++◌, [], IfOk};
+ghost use Rattle.std.specs.Option.{option_to_list};
+ghost use Rattle.cb_scan.specs.steps.wide.Declarations.{given};
+ghost use Rattle.cb_scan.specs.steps.wide.Objects.{
+  object_given,
+  typedef_given,
+  variable_kind,
+};
+ghost use Rattle.cb_scan.specs.steps.wide.Pass.{objects_of, part_at, typedefs_of, without_head};
+
+use crate::facts::Def;
+use crate::rules::scope::Range;
+use crate::rules::wide::declaration::Declaration;
+use crate::rules::wide::def::{WideDef, WideKind, def_of};
+use crate::rules::wide::objects::{Objects, is_in_last};
+use crate::rules::wide::token::WideToken;
+use std::alloc::{AllocError, Global};
+use std::marker::Model;
+
+/// Functions and their ranges; types, tags, enumerators and members; variables, external
+/// declarations and prototypes.
+#[derive(Drop)]
+pub(crate) struct Found {
+    pub functions: Vec<Def>,
+    pub ranges: Vec<Range>,
+    pub defs: Vec<WideDef>,
+    pub objects: Objects,
+}
+
+impl Model for Found {
+    ghost use Rattle.cb_scan.specs.steps.wide.Lists.{Lists};
+
+    ghost Value = { Lists };
+
+    ghost view = { λ f. record {
+      functions = f.functions.items;
+      ranges = f.ranges.items;
+      defs = f.defs.items;
+      objects = f.objects;
+    } };
+}
+
+/// The type that the part gives which ends here.
+fn typedef_given(declaration: &Declaration) -> Option<WideDef>
+    ensures { option_to_list result ≡ typedef_given (given declaration.now) }
+{
+    if !declaration.has_typedef {
+        return None;
+    }
+    match declaration.part.named() {
+        Some(name) => Some(def_of(WideKind::Typedef, false, &name.token)),
+        None => match declaration.part.function() {
+            Some(name) => Some(def_of(WideKind::Typedef, false, &name.token)),
+            None => None,
+        },
+    }
+}
+
+/// A variable, or an external declaration: of `extern` and without a value.
+fn variable_kind(declaration: &Declaration) -> WideKind
+    ensures { result ≡ variable_kind (given declaration.now) }
+{
+    if declaration.has_extern && !declaration.part.has_value {
+        WideKind::External
+    } else {
+        WideKind::Variable
+    }
+}
+
+/// The prototype that the part gives which ends here, or else the variable that it names.
+fn object_given(declaration: &Declaration) -> Option<WideDef>
+    ensures { option_to_list result ≡ object_given (given declaration.now) }
+{
+    if declaration.has_typedef {
+        return None;
+    }
+    match declaration.part.function() {
+        Some(name) => Some(def_of(WideKind::Prototype, declaration.has_static, &name.token)),
+        None => match declaration.part.named() {
+            Some(name) => Some(def_of(
+                variable_kind(declaration),
+                declaration.has_static,
+                &name.token,
+            )),
+            None => None,
+        },
+    }
+}
+
+impl Found {
+    pub(crate) fn new(alloc: Global) -> Found
+        ensures { result ≡ record { functions = []; ranges = []; defs = []; objects = [] } }
+    {
+        Found {
+            functions: Vec::new(alloc),
+            ranges: Vec::new(alloc),
+            defs: Vec::new(alloc),
+            objects: Objects::new(alloc),
+        }
+    }
+
+    /// One more definition, if there is one.
+    pub(crate) fn define(&mut self, def: Option<WideDef>) -> Result<(), AllocError>
+        ensures { IfOk result
+            (λ _. self.new ≡ record self.old { defs = self.old.defs ++ option_to_list def }) }
+    {
+        if let Some(def) = def {
+            self.defs.push(def)?;
+        }
+        Ok(())
+    }
+
+    /// The part of the file that ends at a token, if one does.
+    pub(crate) fn end_part(
+        &mut self,
+        declaration: &Declaration,
+        item: &WideToken,
+    ) -> Result<(), AllocError>
+        ensures { IfOk result (λ _. self.new ≡ record self.old {
+          defs = self.old.defs ++ typedefs_of (part_at declaration.now item.now);
+          objects = objects_of self.old.ranges (part_at declaration.now item.now)
+              ++ self.old.objects;
+        }) }
+    {
+        if !declaration.ends_part(item) || !declaration.may_name() {
+            return Ok(());
+        }
+        self.define(typedef_given(declaration))?;
+        if let Some(def) = object_given(declaration) {
+            if !is_in_last(self.ranges.as_slice(), def.name.start) {
+                self.objects.push(def)?;
+            }
+        }
+        Ok(())
+    }
+
+    /// A function, whose head goes on with no object.
+    pub(crate) fn begin_function(&mut self, def: Option<Def>) -> Result<(), AllocError>
+        ensures { IfOk result (λ _. self.new ≡ record self.old {
+          functions = self.old.functions ++ option_to_list def;
+          objects = without_head def self.old.objects;
+        }) }
+    {
+        if let Some(def) = def {
+            self.functions.push(def)?;
+            self.objects.drop_from(def.name.start);
+        }
+        Ok(())
+    }
+
+    /// The range of a function that ends, if one does.
+    pub(crate) fn end_function(&mut self, range: Option<Range>) -> Result<(), AllocError>
+        ensures { IfOk result
+            (λ _. self.new ≡ record self.old { ranges = self.old.ranges ++ option_to_list range }) }
+    {
+        if let Some(range) = range {
+            self.ranges.push(range)?;
+        }
+        Ok(())
+    }
+}

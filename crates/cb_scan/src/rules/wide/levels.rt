@@ -1,0 +1,109 @@
+//! The levels that are open, the innermost first.
+ghost use Rattle.std.specs.Prelude.{◌≡◌, ◌+◌, ◌<◌, ◌≤◌, ◌^◌, ◌∷◌, [], IfOk};
+ghost use Rattle.std.specs.Option.{option_to_list};
+ghost use Rattle.cb_scan.specs.steps.wide.Contents.{
+  are_in_block,
+  closed_by,
+  defined_by,
+  first_goes_on,
+  most_open,
+  tag_inside,
+};
+
+use crate::rules::wide::def::{Tag, WideDef};
+use crate::rules::wide::level::Level;
+use crate::rules::wide::token::WideToken;
+use std::alloc::{AllocError, Global};
+use std::marker::Model;
+
+/// The innermost level, and those around it, the outermost first.
+#[derive(Drop)]
+pub(crate) struct Levels {
+    first: Option<Level>,
+    around: Vec<Level>,
+}
+
+impl Model for Levels {
+    ghost use Rattle.std.specs.Prelude.{List};
+    ghost use Rattle.cb_scan.specs.declared.rules.wide.level.Level.{Level};
+    ghost use Rattle.cb_scan.specs.steps.wide.Contents.{AreAround, levels_of};
+
+    ghost Value = { List Level };
+
+    ghost view = { λ l. levels_of l.first l.around.items };
+
+    ghost invariant = { λ l. AreAround l.first l.around.items };
+}
+
+impl Levels {
+    pub(crate) fn new(alloc: Global) -> Levels
+        ensures { result ≡ [] }
+    {
+        Levels {
+            first: None,
+            around: Vec::new(alloc),
+        }
+    }
+
+    /// The innermost level is a block.
+    #[inline(always)]
+    pub(crate) fn are_in_block(&self) -> bool
+        ensures { result ≡ are_in_block self.now }
+    {
+        matches!(self.first, Some(Level::Block))
+    }
+
+    /// The tag around members that are directly inside.
+    pub(crate) fn tag_inside(&self) -> Option<Tag>
+        ensures { result ≡ tag_inside self.now }
+    {
+        match &self.first {
+            Some(level) => level.member_tag(),
+            None => None,
+        }
+    }
+
+    /// After a `{` that makes a level.
+    pub(crate) fn open(&mut self, level: Level) -> Result<(), AllocError>
+        ensures { IfOk result (λ _. self.new ≡ level ∷ self.old) }
+    {
+        if let Some(around) = self.first {
+            self.around.push(around)?;
+        }
+        self.first = Some(level);
+        Ok(())
+    }
+
+    /// After a `}`: one in the first column closes all.
+    pub(crate) fn close(&mut self, item: &WideToken)
+        ensures { self.new ≡ closed_by item.now self.old }
+    {
+        if item.token.starts_line {
+            self.first = None;
+            self.around.clear();
+        } else {
+            self.first = self.around.pop();
+        }
+    }
+
+    /// What the innermost level defines at the first of these tokens.
+    pub(crate) fn found(&self, ahead: &[WideToken], item: &WideToken) -> Option<WideDef>
+        ensures { option_to_list result ≡ defined_by self.now ahead.now item.now }
+    {
+        match &self.first {
+            Some(level) if !item.role.is_sign(b'}') => level.found(ahead, item),
+            _ => None,
+        }
+    }
+
+    /// After the first of these tokens, which is of the innermost level.
+    pub(crate) fn add(&mut self, ahead: &[WideToken], item: &WideToken)
+        requires { most_open self.old + 1 < 2 ^ 32 }
+        ensures value { self.new ≡ first_goes_on self.old ahead.now item.now }
+        ensures small { most_open self.new ≤ most_open self.old + 1 }
+    {
+        if let Some(level) = &mut self.first {
+            level.add(ahead, item);
+        }
+    }
+}

@@ -1,0 +1,206 @@
+//! The pass of the wide profile over the tokens that are of no attribute.
+ghost use Rattle.std.specs.Prelude.{◌≡◌, ◌+◌, ◌<◌, ◌≤◌, ◌^◌, ◌++◌, IfOk};
+ghost use Rattle.cb_scan.specs.steps.wide.Contents.{most_open, next_levels};
+ghost use Rattle.cb_scan.specs.steps.wide.Pass.{
+  function_found,
+  is_block,
+  is_in_file,
+  most_in,
+  next_body,
+  next_file,
+  next_lists,
+  next_of_file,
+  next_pass,
+  objects_of,
+  parts_here,
+  pass_start,
+  range_closed,
+  typedefs_of,
+};
+
+use crate::facts::Def;
+use crate::lex::piece::Span;
+use crate::rules::scope::Range;
+use crate::rules::wide::declaration::Declaration;
+use crate::rules::wide::found::Found;
+use crate::rules::wide::level::opened;
+use crate::rules::wide::levels::Levels;
+use crate::rules::wide::machine::WideMachine;
+use crate::rules::wide::opening::{Opening, next_opening, opening_tag};
+use crate::rules::wide::token::WideToken;
+use std::alloc::{AllocError, Global};
+
+/// What is known before a token: what a `{` would open, the functions, the declaration of the file,
+/// the name of the function whose body the token is in, and the levels that are open.
+#[derive(Drop)]
+pub(crate) struct Pass {
+    pub opening: Option<Opening>,
+    pub machine: WideMachine,
+    pub file: Declaration,
+    pub body: Option<Span>,
+    pub levels: Levels,
+}
+
+impl Declaration {
+    /// On the level of the file, after the first of these tokens, which is a block or none.
+    fn next_of_file(&mut self, is_block: bool, ahead: &[WideToken], item: &WideToken)
+        requires { self.old.count + 1 < 2 ^ 32 }
+        ensures value { self.new ≡ next_of_file self.old is_block ahead.now item.now }
+        ensures small { self.new.count ≤ self.old.count + 1 }
+    {
+        if self.ends_part(item) {
+            self.begin_part(item);
+        } else {
+            self.add(ahead, item);
+        }
+        self.end_in_file(is_block, item);
+    }
+}
+
+impl Pass {
+    /// The beginning of the code.
+    pub(crate) fn new(alloc: Global) -> Pass
+        ensures { result ≡ pass_start }
+    {
+        Pass {
+            opening: None,
+            machine: WideMachine::new(),
+            file: Declaration::new(),
+            body: None,
+            levels: Levels::new(alloc),
+        }
+    }
+
+    /// No brace is open.
+    fn is_in_file(&self) -> bool
+        ensures { result ≡ is_in_file self.now }
+    {
+        self.machine.depth == 0
+    }
+
+    /// The token is a brace that opens no body.
+    fn is_block(&self, item: &WideToken) -> bool
+        ensures { result ≡ is_block self.now item.now }
+    {
+        item.counted && self.opening.is_none()
+    }
+
+    /// The function whose `{` the token is, if one is.
+    fn function_found(&self, item: &WideToken) -> Option<Def>
+        ensures { result ≡ function_found self.now item.now }
+    {
+        self.machine.found(self.is_block(item))
+    }
+
+    /// The name of the function whose body the next token is in.
+    fn next_body(&self, item: &WideToken) -> Option<Span>
+        requires { self.now.machine.depth + 1 < 2 ^ 32 }
+        ensures { result ≡ next_body self.now item.now }
+    {
+        if self.is_in_file() {
+            return match self.function_found(item) {
+                Some(def) => Some(def.name),
+                None => None,
+            };
+        }
+        if self.machine.next_depth(item) == 0 {
+            None
+        } else {
+            self.body
+        }
+    }
+
+    /// The range of the function whose body the token ends, if it ends one.
+    fn range_closed(&self, item: &WideToken) -> Option<Range>
+        requires { self.now.machine.depth + 1 < 2 ^ 32 }
+        ensures { result ≡ range_closed self.now item.now }
+    {
+        let name = self.body?;
+        if item.role.is_sign(b'}') && self.machine.next_depth(item) == 0 {
+            Some(Range {
+                name,
+                end: item.token.span.end,
+            })
+        } else {
+            None
+        }
+    }
+
+    /// The declaration of the file goes on, and gives what its part names that ends here.
+    fn in_file(
+        &mut self,
+        found: &mut Found,
+        ahead: &[WideToken],
+        item: &WideToken,
+    ) -> Result<(), AllocError>
+        requires { self.old.file.count + 1 < 2 ^ 32 }
+        ensures file { IfOk result
+            (λ _. self.new ≡ record self.old { file = next_file self.old ahead.now item.now }) }
+        ensures small { IfOk result (λ _. self.new.file.count ≤ self.old.file.count + 1) }
+        ensures found { IfOk result (λ _. found.new ≡ record found.old {
+          defs = found.old.defs ++ typedefs_of (parts_here self.old item.now);
+          objects = objects_of found.old.ranges (parts_here self.old item.now)
+              ++ found.old.objects;
+        }) }
+    {
+        if !self.is_in_file() {
+            return Ok(());
+        }
+        let is_block = self.is_block(item);
+        self.file.begin_in_file(item);
+        found.end_part(&self.file, item)?;
+        self.file.next_of_file(is_block, ahead, item);
+        Ok(())
+    }
+
+    /// The levels after the first of these tokens.
+    fn go_on(&mut self, ahead: &[WideToken], item: &WideToken) -> Result<(), AllocError>
+        requires { most_open self.old.levels + 1 < 2 ^ 32 }
+        ensures levels { IfOk result (λ _. self.new ≡ record self.old {
+          levels = next_levels self.old.opening self.old.levels ahead.now item.now;
+        }) }
+        ensures small { IfOk result
+            (λ _. most_open self.new.levels ≤ most_open self.old.levels + 1) }
+    {
+        if item.counted {
+            let level = opened(self.opening, self.levels.tag_inside());
+            self.levels.add(ahead, item);
+            self.levels.open(level)?;
+        } else if item.role.is_sign(b'}') {
+            self.levels.close(item);
+        } else {
+            self.levels.add(ahead, item);
+        }
+        Ok(())
+    }
+
+    /// Takes the first of these tokens.
+    pub(crate) fn take(
+        &mut self,
+        found: &mut Found,
+        ahead: &[WideToken],
+        item: &WideToken,
+    ) -> Result<(), AllocError>
+        requires { most_in self.old + 1 < 2 ^ 32 }
+        ensures pass { IfOk result (λ _. self.new ≡ next_pass self.old ahead.now item.now) }
+        ensures small { IfOk result (λ _. most_in self.new ≤ most_in self.old + 1) }
+        ensures found { IfOk result
+            (λ _. found.new ≡ next_lists found.old self.old ahead.now item.now) }
+    {
+        let body = self.next_body(item);
+        let function = self.function_found(item);
+        let range = self.range_closed(item);
+        self.in_file(found, ahead, item)?;
+        if item.counted {
+            found.define(opening_tag(&self.opening))?;
+        }
+        found.define(self.levels.found(ahead, item))?;
+        found.begin_function(function)?;
+        found.end_function(range)?;
+        self.go_on(ahead, item)?;
+        self.machine.next(ahead, item);
+        self.body = body;
+        self.opening = next_opening(self.opening, item);
+        Ok(())
+    }
+}
