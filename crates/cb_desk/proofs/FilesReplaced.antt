@@ -95,7 +95,8 @@ module _ (a : Archived) (marks : List NumberedPlace) (old new : List ℕ) where
 
     abbrev has_large : List Shown → Bool
     has_large ss =
-        list_any (is_too_large most) (map (replaced_file old new (places_in a marks)) (files_of a ss))
+        list_any (is_too_large most)
+        (map (replaced_file old new (places_in a marks)) (files_of a ss))
 
     pub large_changed : (ss : List Shown)
         → AllByRecursion (λ (f : File). length f.bytes ≤ most) (files_of a ss)
@@ -112,7 +113,8 @@ module _ (a : Archived) (marks : List NumberedPlace) (old new : List ℕ) where
         by_test true e rest = ap (λ b. is_large s || b) rest
         by_test false e rest =
             let still : is_large s ≡ false =
-            ap (is_too_large most) (unmarked_then s e) ∙ not_large most (length (file_of a s).bytes) small.0 in
+            ap (is_too_large most) (unmarked_then s e)
+            ∙ not_large most (length (file_of a s).bytes) small.0 in
             rest ∙ ap (λ b. b || has_large ss) (sym still)
 
 -- the files of a world in numbers

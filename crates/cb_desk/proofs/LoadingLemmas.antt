@@ -45,7 +45,8 @@ use Rattle.cb_desk.proofs.WalkLemmas.{kept_back, nothing_recorded, past_length, 
 use Rattle.cb_desk.proofs.WalkLemmas.{redo_recorded}
 
 -- what is loaded is there
-pub all_there : (bounds : WorldBounds) (a : Archived) (hidden shown : List Shown) (records : List Turn)
+pub all_there : (bounds : WorldBounds) (a : Archived) (hidden shown : List Shown)
+    (records : List Turn)
     → AreLoaded bounds a hidden shown records
     → AllByRecursion (IsThere a) shown
 all_there bounds a hidden shown records is =
@@ -66,7 +67,8 @@ none_loaded bounds small a hidden shown records names texts none is_shown is_rec
       files = refl;
       ascending = tt;
       recorded = nothing_recorded bounds small (loads_recorded bounds a [] []).kept
-          (λ i. record (no_numbers bounds) { names = length (names i); versions = length (texts i) }) names
+          (λ i. record (no_numbers bounds)
+          { names = length (names i); versions = length (texts i) }) names
           texts;
     } in
     subst (λ ss. AreLoaded bounds a hidden ss records) (sym is_shown)
@@ -77,20 +79,23 @@ empty_list [] none = refl
 empty_list (x ∷ xs) none = absurd (omega (arith, none))
 
 -- as many are loaded as there are changes
-loaded_length : (bounds : WorldBounds) (a : Archived) (hidden shown : List Shown) (records : List Turn)
+loaded_length : (bounds : WorldBounds) (a : Archived) (hidden shown : List Shown)
+    (records : List Turn)
     → AreLoaded bounds a hidden shown records
     → length shown ≡ length (timeline_in (loads_recorded bounds a shown records)).past
 loaded_length bounds a hidden shown records is =
     is.files ∙ sym (past_length (loads_recorded bounds a shown records) (omega arith))
 
-pub some_past : (bounds : WorldBounds) (a : Archived) (hidden shown : List Shown) (records : List Turn)
+pub some_past : (bounds : WorldBounds) (a : Archived) (hidden shown : List Shown)
+    (records : List Turn)
     → AreLoaded bounds a hidden shown records → shown ≢ []
     → (timeline_in (loads_recorded bounds a shown records)).past ≡ [] → ⊥
 some_past bounds a hidden shown records is some none =
     some (empty_list shown (loaded_length bounds a hidden shown records is ∙ ap length none))
 
 -- each of them is shown once
-pub shown_turns : (bounds : WorldBounds) (a : Archived) (hidden shown : List Shown) (records : List Turn)
+pub shown_turns : (bounds : WorldBounds) (a : Archived) (hidden shown : List Shown)
+    (records : List Turn)
     → AreLoaded bounds a hidden shown records
     → (old new : ℕ) → new ≡ counted old (length shown)
     → new ≡ counted old (length (timeline_in (loads_recorded bounds a shown records)).past)
@@ -169,7 +174,8 @@ shown_as_loaded s shown none up =
     ∙ settled (shown_name s.archive) shown (ascending_sorted s.archive shown up)
 
 -- ---- an archive with other room
-module _ (bounds : WorldBounds) (a b : Archived) (names : b.names ≡ a.names) (texts : b.texts ≡ a.texts)
+module _ (bounds : WorldBounds) (a b : Archived) (names : b.names ≡ a.names)
+    (texts : b.texts ≡ a.texts)
     (shown : List Shown) (records : List Turn)
     (is : IsRecorded (loads_recorded bounds a shown records)) where
   abbrev before : Kept
@@ -177,7 +183,8 @@ module _ (bounds : WorldBounds) (a b : Archived) (names : b.names ≡ a.names) (
 
   same_now : loaded_numbers bounds b shown ≡ loaded_numbers bounds a shown
   same_now = λ i.
-      record (loaded_numbers bounds a shown) { names = length (names i); versions = length (texts i) }
+      record (loaded_numbers bounds a shown)
+      { names = length (names i); versions = length (texts i) }
 
   same_rooms : KeepsRooms (just_room a shown) (just_room b shown)
   same_rooms = record {
@@ -200,7 +207,8 @@ module _ (bounds : WorldBounds) (a b : Archived) (names : b.names ≡ a.names) (
       same_timeline before (loads_recorded bounds b shown records).kept records
       (length records) same_now names texts same_rooms is
 
-pub roomier : (bounds : WorldBounds) (a b : Archived) (hidden shown : List Shown) (records : List Turn) → b.names ≡ a.names
+pub roomier : (bounds : WorldBounds) (a b : Archived) (hidden shown : List Shown)
+    (records : List Turn) → b.names ≡ a.names
     → b.texts ≡ a.texts
     → AreLoaded bounds a hidden shown records → AreLoaded bounds b hidden shown records
 roomier bounds a b hidden shown records names texts is = record {
@@ -244,7 +252,8 @@ turn_back u count named kept is =
     })
 
 -- ---- a world that shows what is loaded
-module _ (bounds : WorldBounds) (a : Archived) (hidden shown : List Shown) (records : List Turn) (k : Kept)
+module _ (bounds : WorldBounds) (a : Archived) (hidden shown : List Shown) (records : List Turn)
+    (k : Kept)
     (is : AreLoaded bounds a hidden shown records)
     (now : k.now ≡ loaded_numbers bounds a shown) (names : k.archive.names ≡ a.names)
     (texts : k.archive.texts ≡ a.texts)
@@ -277,7 +286,8 @@ rooms_kept a s shown r texts has files defs uses calls =
     }
 
 -- ---- one file more
-module _ (bounds : WorldBounds) (a b : Archived) (hidden shown : List Shown) (records : List Turn) (name text : List ℕ)
+module _ (bounds : WorldBounds) (a b : Archived) (hidden shown : List Shown) (records : List Turn)
+    (name text : List ℕ)
     (is : AreLoaded bounds a hidden shown records)
     (names : b.names ≡ a.names ++ name ∷ []) (texts : b.texts ≡ a.texts ++ text ∷ [])
     (fresh : has_file (files_of a shown) name ≡ false)
@@ -516,7 +526,8 @@ module _ (bounds : WorldBounds) (a b : Archived) (hidden shown : List Shown) (re
       → u ≡ turned to_new k.now
       → timeline_in (loads_recorded bounds b then (records ++ u ∷ [])) ≡ moved_on (timeline_in h) v
   one_more_timeline_as then u is_then is_u =
-      (λ i. timeline_in (loads_recorded bounds b (is_then i) (records ++ is_u i ∷ []))) ∙ one_more_timeline
+      (λ i. timeline_in (loads_recorded bounds b (is_then i) (records ++ is_u i ∷ [])))
+      ∙ one_more_timeline
 
   pub one_more : (then : List Shown) (u : Turn) → then ≡ shown_then → u ≡ turned to_new k.now
       → AreLoaded bounds b hidden then (records ++ u ∷ [])
@@ -536,7 +547,9 @@ module _ (bounds : WorldBounds) (a b : Archived) (hidden shown : List Shown) (re
         ascending =
             subst (AreAscending b) (sym is_then)
             (ascending_in_order b (shown ++ new ∷ []) apart_then);
-        recorded = subst (λ t. IsRecorded (loads_recorded bounds b then (records ++ t ∷ []))) (sym is_u)
-            (subst (λ l. IsRecorded (loads_recorded bounds b l (records ++ turned to_new k.now ∷ [])))
+        recorded = subst (λ t. IsRecorded (loads_recorded bounds b then (records ++ t ∷ [])))
+            (sym is_u)
+            (subst (λ l. IsRecorded (loads_recorded bounds b l
+            (records ++ turned to_new k.now ∷ [])))
             (sym is_then) one_more_recorded);
       }

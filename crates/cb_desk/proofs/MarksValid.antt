@@ -295,7 +295,8 @@ module _ (old new : List ℕ) (marks : List Place) where
   names-kept [] all = tt
   names-kept (f ∷ files) all = (all.0, names-kept files all.1)
 
-  sizes-kept : (b : WorldBounds) (files : List File) → list_any (is_too_large b.file_bytes) files ≡ false
+  sizes-kept : (b : WorldBounds) (files : List File)
+      → list_any (is_too_large b.file_bytes) files ≡ false
       → AllByRecursion (λ (f : File). length f.bytes ≤ b.file_bytes) files
   sizes-kept b [] none = tt
   sizes-kept b (f ∷ files) none =

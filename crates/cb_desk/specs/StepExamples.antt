@@ -179,7 +179,8 @@ two_files = record (empty_world three_short) { files = a ∷ b ∷ [] }
 -- a file of 20 bytes is one, and the third; one of 21 bytes is too large, and so is a text of 21
 -- bytes in the place of another
 pub loaded_at_bounds : step two_files (load (codes "c.c") (codes "int c(void) { a(); }"))
-    ≡ Ok (record two_files { files = a ∷ b ∷ file (codes "c.c") (codes "int c(void) { a(); }") ∷ [] })
+    ≡ Ok (record two_files
+    { files = a ∷ b ∷ file (codes "c.c") (codes "int c(void) { a(); }") ∷ [] })
 unfolding step
 loaded_at_bounds = refl
 

@@ -56,7 +56,8 @@ impl Model for Loading {
     ghost Value = { Loaded };
 
     ghost view = { λ l. record {
-      timeline = timeline_in (loads_recorded l.bounds l.shelf.archive l.shown.items l.records.items);
+      timeline = timeline_in
+          (loads_recorded l.bounds l.shelf.archive l.shown.items l.records.items);
       meter = l.meter;
       turns = l.shelf.turns;
     } };

@@ -63,8 +63,9 @@ use std::alloc::{AllocError, Global};
 use std::marker::Model;
 use std::mem;
 
-/// The bounds, what is shown of an archive, the wanted text, the marks by file and line, the frames, bottom
-/// first; and how many names and versions of the archive this world and those before it use.
+/// The bounds, what is shown of an archive, the wanted text, the marks by file and line, the
+/// frames, bottom first; and how many names and versions of the archive this world and those before
+/// it use.
 #[derive(Drop)]
 pub(crate) struct Present {
     bounds: Bounds,

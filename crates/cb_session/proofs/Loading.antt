@@ -124,7 +124,8 @@ last_of_all place t u f (g ∷ fs) end is (first_loaded {u = v} made rest) n e =
 last_of_all place t u f fs end is (first_refused why) n e = cc
 last_of_all place t u f fs end is (memory_refused would) n e = cc
 
-last_refused : (b : WorldBounds) (u : Timeline) (all : List File) (n : ℕ) → Loads 0 (new_timeline b) all (Ok u)
+last_refused : (b : WorldBounds) (u : Timeline) (all : List File) (n : ℕ)
+    → Loads 0 (new_timeline b) all (Ok u)
     → n + 1 ≡ length u.past
     → Loads 0 (new_timeline b) all (Err (record { place = n; why = OutOfMemory }))
 last_refused b u [] n loads long =
@@ -159,8 +160,10 @@ no_files : (fs : List File) → length fs ≡ 0 → fs ≡ []
 no_files [] none = refl
 no_files (f ∷ fs) none = absurd (omega (arith, none))
 
-pub starts_all : (b : WorldBounds) (l : Loaded) (place : ℕ) (all left : List File) (r : Result State Ended)
-    → Goes place (new_timeline b) l.timeline all left → length left ≡ 0 → place ≡ length l.timeline.past
+pub starts_all : (b : WorldBounds) (l : Loaded) (place : ℕ) (all left : List File)
+    (r : Result State Ended)
+    → Goes place (new_timeline b) l.timeline all left → length left ≡ 0
+    → place ≡ length l.timeline.past
     → counted l.meter (bytes_in left) ≡ counted 0 (bytes_in all)
     → l.meter ≤ 2 ^ 64 - 1 → l.turns ≡ 0
     → Starts l place r → Prepares b all r
@@ -183,7 +186,9 @@ starts_all b l place all left (Err (StoppedAt at why)) goes none placed scanned 
     last_refused b l.timeline all
     at (ends place (new_timeline b) l.timeline l.timeline all left goes none refl)
     (omega (arith, last, placed)) in
-    subst (λ w. Loads 0 (new_timeline b) all (Err (record { place = at; why = w }))) (sym is.1) loads
+    subst (λ w. Loads 0 (new_timeline b) all (Err (record { place = at; why = w }))) (sym is.1)
+    loads
 starts_all b l place all left (Err Done) goes none placed scanned fits hidden is = absurd is
 starts_all b l place all left (Err Cut) goes none placed scanned fits hidden is = absurd is
-starts_all b l place all left (Err (Fault fault)) goes none placed scanned fits hidden is = absurd is
+starts_all b l place all left (Err (Fault fault)) goes none placed scanned fits hidden is =
+    absurd is

@@ -110,7 +110,8 @@ command-patterned limit word rest =
     let words = words_in rest in
     IsPatterned-choice (bytes_eq word (codes "r")) _ _ (alone-patterned rebuild words tt)
     (IsPatterned-choice (bytes_eq word (codes ":load")) _ _ (load_words-patterned limit Load words)
-    (IsPatterned-choice (bytes_eq word (codes ":reload")) _ _ (load_words-patterned limit Reload words)
+    (IsPatterned-choice (bytes_eq word (codes ":reload")) _ _
+    (load_words-patterned limit Reload words)
     (IsPatterned-choice (bytes_eq word (codes ":drop")) (whole (drop_words words)) _
     (drop_words-patterned words)
     (IsPatterned-choice (bytes_eq word (codes ":rename")) (whole (rename_words words)) _

@@ -53,11 +53,13 @@ output_is_replayed b refusals k (e ∷ es) =
     let m = first_refusal refusals in
     let first = exchange m (timeline_of b k) e in
     ap (λ t. first ++ output (later_refusals refusals) t es) (request-replayed b m k e)
-    ∙ ap (λ l. first ++ l) (output_is_replayed b (later_refusals refusals) (kept_by_request b m k e) es)
+    ∙ ap (λ l. first ++ l) (output_is_replayed b (later_refusals refusals)
+    (kept_by_request b m k e) es)
 
 -- an accepted load
 load-replayed : (b : WorldBounds) (k : Kept) (f : File) (u : Timeline)
-    → changed (timeline_of b k) (load f.name f.bytes) ≡ Ok u → u ≡ timeline_of b (kept_by b k (load_of f))
+    → changed (timeline_of b k) (load f.name f.bytes) ≡ Ok u
+    → u ≡ timeline_of b (kept_by b k (load_of f))
 load-replayed b k f u is = ap (or_stays (timeline_of b k)) (sym is) ∙ moves-replayed b k (load_of f)
 
 same-Ok : (a b : Timeline) (r : Result Timeline RefusedOperand) → r ≡ Ok a → r ≡ Ok b → a ≡ b

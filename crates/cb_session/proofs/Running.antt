@@ -13,7 +13,8 @@ use Rattle.cb_session.proofs.Rounds.{session_run}
 use Rattle.cb_tags.specs.Writers.{Writer}
 
 -- the operands were loaded
-pub Follows-loaded : (b : WorldBounds) (files : List File) (lines limit : ℕ) (t : State) (feed after : Reader)
+pub Follows-loaded : (b : WorldBounds) (files : List File) (lines limit : ℕ) (t : State)
+    (feed after : Reader)
     (old new : Writer) (ended : Ended) (next : State) → LoadsAll b files (Ok t)
     → WhateverFollows feed after
     (λ bytes at. LeavesSession (inputs lines limit bytes) t next at old new ended)
@@ -26,7 +27,8 @@ Follows-loaded b files lines limit t feed after old new ended next loads s =
     (Ok t, loads, session_run (inputs lines limit bytes) t next at old new ended run))
 
 -- an operand was refused
-pub Runs-refused : (b : WorldBounds) (files : List File) (lines limit : ℕ) (bytes : List ℕ) (at : Reader)
+pub Runs-refused : (b : WorldBounds) (files : List File) (lines limit : ℕ)
+    (bytes : List ℕ) (at : Reader)
     (out : Writer) (ended : Ended) → Prepares b files (Err ended)
     → at.bytes ≡ Some bytes → Runs b files lines limit bytes at out out ended
 Runs-refused b files lines limit bytes at out (Operand place why) p known =
@@ -35,7 +37,8 @@ Runs-refused b files lines limit bytes at out Done p known = absurd p
 Runs-refused b files lines limit bytes at out Cut p known = absurd p
 Runs-refused b files lines limit bytes at out (Fault fault) p known = absurd p
 
-pub Follows-refused : (b : WorldBounds) (files : List File) (lines limit : ℕ) (feed : Reader) (out : Writer)
+pub Follows-refused : (b : WorldBounds) (files : List File) (lines limit : ℕ)
+    (feed : Reader) (out : Writer)
     (ended : Ended) → Prepares b files (Err ended)
     → WhateverFollows feed feed (λ bytes at. Runs b files lines limit bytes at out out ended)
 Follows-refused b files lines limit feed out ended p =

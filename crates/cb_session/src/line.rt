@@ -349,7 +349,7 @@ fn command_line(limit: u64, line: &[u8]) -> Asked<'_>
     command(limit, word, rest)
 }
 
-/// What a line of at most 4,096 bytes asks for, where a run allows at most `limit` bytes in a block.
+/// What a line of at most 4,096 bytes asks for, where a run allows `limit` bytes in a block.
 pub fn line_asks(limit: u64, line: &[u8]) -> Asked<'_>
     ensures { line_request_of result ≡ short_line limit line.now }
 {

@@ -21,8 +21,9 @@ pub struct Operand {
 /// Files that are to be loaded, in order.
 pub type Operands = Vec<Operand>;
 
-/// A session within these bounds in which the operands are loaded, each as a change that can be taken back. The first
-/// refusal ends it; memory that is refused when all are there is refused to the last one.
+/// A session within these bounds in which the operands are loaded, each as a change that can be
+/// taken back. The first refusal ends it; memory that is refused when all are there is refused to
+/// the last one.
 pub fn prepare(alloc: Global, bounds: Bounds, operands: Operands) -> Result<Session, Ended>
     ensures { Prepares bounds (map file_of_operand operands.items) result }
 {

@@ -1,7 +1,7 @@
 -- What the program does: the files of a job are read and loaded, and then the job is done.
-use Rattle.std.specs.Prelude.{◌≡◌, ◌≢◌, ◌⊎◌, ◌||◌, ℕ, ◌<◌, ◌+◌, Bool, true, false, not, nat_eq, List}
-use Rattle.std.specs.Prelude.{[], IsTrue, length, take, Option, None, Some, Result, Ok, Err, codes}
-use Rattle.std.specs.Prelude.{map, string_bytes}
+use Rattle.std.specs.Prelude.{◌≡◌, ◌≢◌, ◌⊎◌, ◌||◌, ℕ, ◌<◌, ◌+◌, Bool, true, false, not, nat_eq}
+use Rattle.std.specs.Prelude.{List, [], IsTrue, length, take, Option, None, Some, Result, Ok, Err}
+use Rattle.std.specs.Prelude.{codes, map, string_bytes}
 use Rattle.std.specs.Fs.{metadata_len, new_options, with_create, with_truncate, with_write}
 use Rattle.std.specs.List.{ends_with, flat_map}
 use Rattle.std.specs.Str.{bytes_eq}

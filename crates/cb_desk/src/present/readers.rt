@@ -64,7 +64,8 @@ impl Present {
     /// The rows that answer a question; equal ones once.
     pub(crate) fn rows<'a, 'p>(&'a self, field: Field, pattern: &'p [u8]) -> Rows<'a, 'p>
         requires some { pattern.now ≢ [] }
-        requires valid { AreValidFiles widest_bounds (files_of self.now.archive self.now.now.shown) }
+        requires valid { AreValidFiles widest_bounds
+            (files_of self.now.archive self.now.now.shown) }
         ensures { result ≡ answer (world_in self.now.archive self.now.now) field pattern.now }
     {
         Rows::new(&self.shelf, field, pattern)

@@ -103,7 +103,8 @@ impl<'a> Replacing<'a> {
     /// Whether a file would have too many bytes.
     fn is_large(self, file: Shown) -> bool
         requires { IsThere self.archive.now file }
-        ensures { result ≡ is_too_large self.entry.most (file_then self.entry.archive.now self.entry.marks.now
+        ensures { result ≡ is_too_large self.entry.most
+            (file_then self.entry.archive.now self.entry.marks.now
             self.entry.old.now self.entry.new.now file) }
     {
         let marks = self.marks_of(self.archive.name(file.name));

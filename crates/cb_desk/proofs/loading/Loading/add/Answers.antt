@@ -24,7 +24,8 @@ invariant_of-self c =
       c.make_room.ensures.same_list,
       c.make_room.ensures.same_records,
     )
-    (roomier c.self.inside.bounds c.self.inside.shelf.archive c.make_room.new.shelf.archive c.self.inside.shelf.shown
+    (roomier c.self.inside.bounds c.self.inside.shelf.archive c.make_room.new.shelf.archive
+    c.self.inside.shelf.shown
     c.self.inside.shown.items c.self.inside.records.items
     c.make_room.ensures.same_names c.make_room.ensures.same_texts c.self.invariant)
 
@@ -34,7 +35,8 @@ returns-in_err-make_room-clause-timeline c =
     c.from_residual-in_err-make_room.ensures.0
     ((λ i. timeline_in (loads_recorded c.self.inside.bounds c.make_room.new.shelf.archive
     (c.make_room.ensures.same_list i) (c.make_room.ensures.same_records i)))
-    ∙ roomier_timeline c.self.inside.bounds c.self.inside.shelf.archive c.make_room.new.shelf.archive
+    ∙ roomier_timeline c.self.inside.bounds c.self.inside.shelf.archive
+    c.make_room.new.shelf.archive
     c.make_room.ensures.same_names c.make_room.ensures.same_texts
     c.self.inside.shown.items c.self.inside.records.items c.self.invariant.recorded
     ∙ ap (λ (l : Loaded). l.timeline) c.self.view_is)
@@ -62,11 +64,13 @@ put_all_shown-requires-clause-ascending c =
     subst (λ (l : Loaded). IsValidWorld (after l.timeline.present name text))
     (sym c.self.view_is) c.requires.valid in
     let few =
-    subst (λ n. n < c.self.inside.bounds.history) (past_length (loads_recorded c.self.inside.bounds a shown records) (omega arith))
+    subst (λ n. n < c.self.inside.bounds.history)
+    (past_length (loads_recorded c.self.inside.bounds a shown records) (omega arith))
     (subst (λ (l : Loaded). length l.timeline.past < l.timeline.present.bounds.history)
     (sym c.self.view_is) c.requires.few) in
     rw (c.archive.ensures, c.make_room.ensures.same_list)
-    (ascending_before c.self.inside.bounds a b c.self.inside.shelf.shown shown records name text is names
+    (ascending_before c.self.inside.bounds a b c.self.inside.shelf.shown shown records
+    name text is names
     texts fresh valid few)
 
 pub put_all_shown-requires-clause-apart : goal.put_all_shown-requires-clause-apart
@@ -91,7 +95,8 @@ put_all_shown-requires-clause-apart c =
     subst (λ (l : Loaded). IsValidWorld (after l.timeline.present name text))
     (sym c.self.view_is) c.requires.valid in
     let few =
-    subst (λ n. n < c.self.inside.bounds.history) (past_length (loads_recorded c.self.inside.bounds a shown records) (omega arith))
+    subst (λ n. n < c.self.inside.bounds.history)
+    (past_length (loads_recorded c.self.inside.bounds a shown records) (omega arith))
     (subst (λ (l : Loaded). length l.timeline.past < l.timeline.present.bounds.history)
     (sym c.self.view_is) c.requires.few) in
     let named : c.len-count.result ≡ length a.names = search rules in
@@ -126,7 +131,8 @@ invariant_of-self-2 c =
     subst (λ (l : Loaded). IsValidWorld (after l.timeline.present name text))
     (sym c.self.view_is) c.requires.valid in
     let few =
-    subst (λ n. n < c.self.inside.bounds.history) (past_length (loads_recorded c.self.inside.bounds a shown records) (omega arith))
+    subst (λ n. n < c.self.inside.bounds.history)
+    (past_length (loads_recorded c.self.inside.bounds a shown records) (omega arith))
     (subst (λ (l : Loaded). length l.timeline.past < l.timeline.present.bounds.history)
     (sym c.self.view_is) c.requires.few) in
     let named : c.len-count.result ≡ length a.names = search rules in
@@ -168,7 +174,8 @@ invariant_of-self-2 c =
     let pushed : c.push_reserved.new.self.items ≡ records ++ u ∷ [] =
     c.push_reserved.ensures.items ∙ ap (λ l. l ++ u ∷ []) c.make_room.ensures.same_records in
     rw (hidden, pushed)
-    (one_more c.self.inside.bounds a b c.self.inside.shelf.shown shown records name text is names texts
+    (one_more c.self.inside.bounds a b c.self.inside.shelf.shown shown records
+    name text is names texts
     fresh valid few _ u list
     (turn_back u c.len-count.result named kept turn))
 
@@ -194,7 +201,8 @@ returns-clause-timeline c =
     subst (λ (l : Loaded). IsValidWorld (after l.timeline.present name text))
     (sym c.self.view_is) c.requires.valid in
     let few =
-    subst (λ n. n < c.self.inside.bounds.history) (past_length (loads_recorded c.self.inside.bounds a shown records) (omega arith))
+    subst (λ n. n < c.self.inside.bounds.history)
+    (past_length (loads_recorded c.self.inside.bounds a shown records) (omega arith))
     (subst (λ (l : Loaded). length l.timeline.past < l.timeline.present.bounds.history)
     (sym c.self.view_is) c.requires.few) in
     let named : c.len-count.result ≡ length a.names = search rules in
@@ -234,7 +242,8 @@ returns-clause-timeline c =
     let pushed : c.push_reserved.new.self.items ≡ records ++ u ∷ [] =
     c.push_reserved.ensures.items ∙ ap (λ l. l ++ u ∷ []) c.make_room.ensures.same_records in
     rw (pushed)
-    (one_more_timeline_as c.self.inside.bounds a b c.self.inside.shelf.shown shown records name text is names texts
+    (one_more_timeline_as c.self.inside.bounds a b c.self.inside.shelf.shown shown records
+    name text is names texts
     fresh valid few _ u list
     (turn_back u c.len-count.result named kept turn)
     ∙ ap (λ (l : Loaded). moved_on l.timeline (after l.timeline.present name text)) c.self.view_is)

@@ -14,7 +14,8 @@ use Rattle.cb_desk.proofs.loading.Loading.load.Goals as goal
 pub load_refusal-requires-clause-there : goal.load_refusal-requires-clause-there
 load_refusal-requires-clause-there c =
     rw (c.archive-archive.ensures, c.as_slice-shown.ensures.value)
-    (all_there c.self.inside.bounds c.self.inside.shelf.archive c.self.inside.shelf.shown c.self.inside.shown.items
+    (all_there c.self.inside.bounds c.self.inside.shelf.archive c.self.inside.shelf.shown
+    c.self.inside.shown.items
     c.self.inside.records.items c.self.invariant)
 
 pub returns-in-Some-clause-timeline : goal.returns-in-Some-clause-timeline
@@ -119,7 +120,8 @@ add-requires-clause-valid c =
 
 pub add-requires-clause-few : goal.add-requires-clause-few
 add-requires-clause-few c =
-    subst (λ (l : Loaded). length l.timeline.past < l.timeline.present.bounds.history) (sym c.self.view_is)
+    subst (λ (l : Loaded). length l.timeline.past < l.timeline.present.bounds.history)
+    (sym c.self.view_is)
     (below_most _ _ (sym c.is_full.ensures ∙ c.if-is_full.false))
 
 pub returns-in_err-add-clause-timeline : goal.returns-in_err-add-clause-timeline

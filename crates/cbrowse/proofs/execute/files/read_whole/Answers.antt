@@ -7,5 +7,6 @@ pub returns : goal.returns
 returns g c =
     read_all g.F.Read.remaining c.take.result c.args.file c.in_ok-bytes.bytes.items
     c.read_to_end.new.buf.items (most_read c.args.bounds)
-    (c.take.ensures.limit ∙ c.most_read-most.ensures.value) c.take.ensures.inner c.in_ok-bytes.ensures.items
+    (c.take.ensures.limit ∙ c.most_read-most.ensures.value) c.take.ensures.inner
+    c.in_ok-bytes.ensures.items
     c.in_ok-read_to_end.ensures.bytes

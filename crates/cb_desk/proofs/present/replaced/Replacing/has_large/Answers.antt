@@ -26,9 +26,11 @@ returns-then-is_large c =
     let old = c.args.self.old.now in
     let new = c.args.self.new.now in
     let split : c.loop-file.file-iterator ≡ c.in-Some.file ∷ c.next.new.self = search rules in
-    let large : is_too_large c.args.self.most (file_then a marks old new c.in-Some.file) ≡ true = search rules in
+    let large : is_too_large c.args.self.most (file_then a marks old new c.in-Some.file) ≡ true =
+    search rules in
     sym (ap (λ ss. list_any (is_too_large c.args.self.most) (files_then a marks old new ss)) split
-    ∙ ap (λ b. b || list_any (is_too_large c.args.self.most) (files_then a marks old new c.next.new.self)) large)
+    ∙ ap (λ b. b || list_any (is_too_large c.args.self.most)
+    (files_then a marks old new c.next.new.self)) large)
     ∙ sym c.loop-file.invariant.same
     ∙ large_changed a marks old new c.args.self.most c.args.shown.now c.requires.small
 
