@@ -22,6 +22,7 @@ class Case(NamedTuple):
     files: list[tuple[bytes, bytes]]
     exchanges: list[Exchange]
     end: str  # empty where the input ends at a prompt
+    bounds: tuple[int, ...] = ()  # the most files and bytes of each, where they are not the usual
 
 
 def plain(line: str) -> bytes:
@@ -43,12 +44,14 @@ def plain(line: str) -> bytes:
 def case_of(lines: list[str]) -> Case:
     files: list[tuple[bytes, bytes]] = []
     exchanges: list[Exchange] = []
-    end = ""
+    end, bounds = "", ()
     for line in lines[1:]:
         word, _, rest = line.partition(" ")
         if line == "at each byte" or word in ("", "#", "limits"):
             continue
-        if word in ("file", "with"):
+        if word == "bounds":
+            bounds = tuple(map(int, rest.split()))
+        elif word in ("file", "with"):
             files.append((rest.encode(), (DATA / rest).read_bytes() if word == "with" else b""))
         elif word == "end":
             end = rest
@@ -60,7 +63,7 @@ def case_of(lines: list[str]) -> Case:
             files[-1] = (files[-1][0], files[-1][1] + plain(rest))
         else:
             exchanges[-1] = exchanges[-1]._replace(reply=exchanges[-1].reply + plain(line))
-    return Case(lines[0].removeprefix("== "), files, exchanges, end)
+    return Case(lines[0].removeprefix("== "), files, exchanges, end, bounds)
 
 
 def cases_of(name: str) -> list[Case]:

@@ -95,13 +95,15 @@ Options:
 HELP_LINE = b"""\
 Reads commands from standard input and writes their replies
 
-Usage: cbrowse line [FILE]...
+Usage: cbrowse line [OPTIONS] [FILE]...
 
 Arguments:
   [FILE]...  C source to load first
 
 Options:
-  -h, --help  Print help
+      --max-files <N>       Most files, 1 to 1048576 [default: 4096]
+      --max-file-bytes <N>  Most bytes of a file, 1 to 268435456 [default: 1000000]
+  -h, --help                Print help
 
 Example: cbrowse line a.c
 """
@@ -114,18 +116,20 @@ Arguments:
   <FILE>...  C source to write the tags of
 
 Options:
-  -x                     Write a listing to standard output instead
-  -f <TAGSFILE>          Tags file to write, - for standard output [default: tags]
-      --format <FORMAT>  Format of the tags file: 1 for POSIX ctags, 2 with extension fields \
+  -x                        Write a listing to standard output instead
+  -f <TAGSFILE>             Tags file to write, - for standard output [default: tags]
+      --format <FORMAT>     Format of the tags file: 1 for POSIX ctags, 2 with extension fields \
 [default: 1] [possible values: 1, 2]
-  -h, --help             Print help
+      --max-files <N>       Most files, 1 to 1048576 [default: 4096]
+      --max-file-bytes <N>  Most bytes of a file, 1 to 268435456 [default: 1000000]
+  -h, --help                Print help
 
 Example: cbrowse tags a.c
 """
 HELP_FIND = b"""\
 Writes the rows that answer one question about C sources
 
-Usage: cbrowse find <NUM> <PATTERN> <FILE>...
+Usage: cbrowse find [OPTIONS] <NUM> <PATTERN> <FILE>...
 
 Arguments:
   <NUM>      Field of the search: 0 uses of a name, 1 its definitions, 2 calls in a function, \
@@ -134,7 +138,9 @@ Arguments:
   <FILE>...  C source to search
 
 Options:
-  -h, --help  Print help
+      --max-files <N>       Most files, 1 to 1048576 [default: 4096]
+      --max-file-bytes <N>  Most bytes of a file, 1 to 268435456 [default: 1000000]
+  -h, --help                Print help
 
 Example: cbrowse find 1 main a.c
 """
@@ -173,6 +179,7 @@ def help_of(words: list[str], said: bytes) -> Row:
     return Row(words, b"", said, 0)
 
 
+BIG_ROW = b"big.c <unknown> 1 \n"
 NO_FIELD, NO_PATTERN = b"field not in this profile", b"no pattern"
 LACKS = b"the following required arguments were not provided:\n"
 ROWS = [
@@ -190,6 +197,28 @@ ROWS = [
         b">> cscope: refused: line too long\n>> cscope: refused: nothing to undo\n>> ",
     ),
     line(b"a" * 1_000_001, b">> ", b"cbrowse: line over 1000000 bytes\n", 1),
+    line(
+        b":load b.c 1000001\n:undo\n",
+        b">> cscope: refused: bad count\n>> cscope: refused: nothing to undo\n>> ",
+    ),
+    # bounds of other sizes: a line is as long as the largest file, and never shorter by default
+    line(
+        b":load b.c 1000001\n" + b"\n" * 1_000_001 + b"7b.c\n",
+        b">> cscope: done\n>> cscope: 1 lines\nb.c <unknown> 1 <unknown>\n>> ",
+        files=("--max-file-bytes", "1000001"),
+    ),
+    line(
+        b"a" * 1_000_001 + b"\n" + b"a" * 1_000_002,
+        b">> cscope: refused: line too long\n>> ",
+        b"cbrowse: line over 1000001 bytes\n",
+        1,
+        files=("--max-file-bytes=1000001",),
+    ),
+    line(
+        b":load b.c 31\nint f(void) {\n\treturn 1 + 2;\n}\n:load n.h 0\n",
+        b">> cscope: refused: too large\n>> cscope: refused: too many files\n>> ",
+        files=("--max-file-bytes", "30", "--max-files", "1", "m.c"),
+    ),
     line(
         b"1add\n:undo\n1add\n1Mb\n",
         b">> cscope: 1 lines\na.c add 4 static int add(int a, int b) {\n>> cscope: done\n"
@@ -233,6 +262,22 @@ ROWS = [
     refused(["find", "1", "f", "a.c", "a.c"], b"a.c: file exists"),
     refused(["find", "1", "f", "a.txt", "none.c"], b"none.c: cannot be read"),
     refused(["find", "1", "f", "a.c", "a.txt"], b"a.txt: bad name"),
+    # other bounds
+    Row(["find", "4", "--max-file-bytes", "1000002", " ", "big.c"], BIG_ROW),
+    Row(["find", "7", "x", "n.c", "m.c", "--max-files", "2", "--max-file-bytes=17"]),
+    refused(["find", "7", "x", "n.c", "m.c", "--max-files", "1"], b"m.c: too many files"),
+    refused(["find", "7", "x", "n.c", "m.c", "--max-file-bytes", "16"], b"m.c: too large"),
+    refused(["tags", "--max-files", "1", "n.c", "m.c"], b"m.c: too many files"),
+    *(
+        wrong([*words, option, value, "a.c"], b"invalid value '%s' for " % value.encode())
+        for words in (["line"], ["find", "1", "f"], ["tags"])
+        for option, most in (("--max-files", 1_048_576), ("--max-file-bytes", 268_435_456))
+        for value in ("0", str(most + 1), "x", "1e3")
+    ),
+    *(
+        Row([*words, "--max-files", "1048576", "--max-file-bytes", "268435456", "none.h"])
+        for words in (["find", "1", "f"], ["tags", "-f", "-"])
+    ),
     # files that cannot be read or loaded, or written
     refused(["tags", "a.c", "a.c"], b"a.c: file exists"),
     refused(["tags", "a.c", "a.txt", "a.c"], b"a.txt: bad name"),

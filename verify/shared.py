@@ -11,7 +11,8 @@ import subprocess
 from typing import Iterable, Optional, Sequence
 
 TOP = pathlib.Path(__file__).resolve().parent.parent
-MOST_BYTES = 1_000_000  # of a file
+MOST_BYTES = 1_000_000  # of a file, where nothing else is said
+LARGEST = 268_435_456  # the most bytes of a file that can be said
 MOST_FILES = 4096  # of a session
 RESERVED = frozenset(
     """
@@ -140,6 +141,11 @@ class Place:
         path = self.folder / name
         path.parent.mkdir(parents=True, exist_ok=True)
         path.write_text(text)
+
+    def put_large(self, name: str) -> None:
+        """A file of one byte more than cbrowse takes, of bytes 0 that take no room on the disk."""
+        self.put(name, "")
+        os.truncate(self.folder / name, LARGEST + 1)
 
     def settings(self, **more: object) -> dict[str, str]:
         """The environment in which it runs."""

@@ -7,8 +7,14 @@ _cbrowse() {
         if [ "$COMP_CWORD" -gt 1 ]; then name="$name ${COMP_WORDS[1]}" at=2; fi ;;
     esac
     case "$name $before" in
+    "cbrowse line --max-files") kind=none ;;
+    "cbrowse line --max-file-bytes") kind=none ;;
+    "cbrowse find --max-files") kind=none ;;
+    "cbrowse find --max-file-bytes") kind=none ;;
     "cbrowse tags -f") kind=files ;;
     "cbrowse tags --format") words='1 2' ;;
+    "cbrowse tags --max-files") kind=none ;;
+    "cbrowse tags --max-file-bytes") kind=none ;;
     "cbrowse-tree -f") kind=files ;;
     "cbrowse-tree --format") words='1 2' ;;
     "cbrowse-tree -L") kind=files ;;
@@ -38,9 +44,9 @@ _cbrowse() {
         case $word in
         -*) case $name in
         'cbrowse') words='-h --help -V --version' ;;
-        'cbrowse line') words='-h --help' ;;
-        'cbrowse find') words='-h --help' ;;
-        'cbrowse tags') words='-x -f --format -h --help' ;;
+        'cbrowse line') words='--max-files --max-file-bytes -h --help' ;;
+        'cbrowse find') words='--max-files --max-file-bytes -h --help' ;;
+        'cbrowse tags') words='-x -f --format --max-files --max-file-bytes -h --help' ;;
         'cbrowse help') words='' ;;
         'cbrowse-tree') words='-f --format -x -L --questions --exclude -j --all --force --verbose --no-progress -S --sshloginfile --transfer -h --help --version' ;;
         'cbrowse-tree find') words='-f --format -x -L --questions --exclude -j --all --force --verbose --no-progress -S --sshloginfile --transfer -h --help --version' ;;

@@ -185,14 +185,14 @@ def failures(plan: Plan) -> None:
         " | call writefile([''], printf('odd/a %d.c', i)) | endfor"
     )
     plan.add(odd)
-    plan.add("call writefile([repeat(' ', 1000001)], 'odd/large.h')")
+    plan.add("call system('truncate -s 268435457 odd/large.h')")
     said = "cbrowse: left out: 500 bad name, 1 too large; :CbrowseLeftOut lists them"
     plan.add("CbrowseRefresh", said)
     plan.add("CbrowseStart", said)
     plan.add("CbrowseLeftOut | let left = len(getqflist()) | cclose | echo left", "501")
     plan.ask("Callers", "3", "add")
-    plan.add("cclose | silent edit odd/large.h | silent write", None)
-    plan.add("silent edit odd/large.h | silent write | messages clear")
+    plan.add("cclose | silent edit odd/a\\ 1.c | silent write", None)
+    plan.add("silent edit odd/a\\ 1.c | silent write | messages clear")
     plan.add(
         "edit c.h | cd odd | CbrowseStart *.x",
         "cbrowse: no C files are here; :cd to their folder, or name them after :CbrowseStart",

@@ -35,8 +35,7 @@ import sys
 import tempfile
 
 from draw import NAMES, Draw
-from session_model import FIELDS, MOST_BYTES, MOST_CHANGES, MOST_FILES
-from session_model import Outcome, Session, World, find
+from session_model import FIELDS, MOST_CHANGES, Bounds, Outcome, Session, World, find
 from text_model import cut_lines
 from worked_runs import FOLDER, PROGRAM
 
@@ -65,10 +64,17 @@ def operands_of(draw):
     return [(name, texts[name]) for name in names]
 
 
+def bounds_of(draw):
+    """The standard bounds, or narrow ones."""
+    if draw.random.random() < 0.9:
+        return Bounds()
+    return Bounds(draw.random.choice([1, 2, 3]), draw.random.choice([1, 20, 200, 2_000]))
+
+
 def random_session(seed):
     """The operands, the input and the model of a session after it."""
     draw = Draw(seed)
-    operands, model, data = operands_of(draw), Session(), b""
+    operands, model, data = operands_of(draw), Session(bounds_of(draw)), b""
     for name, text in operands:
         model.operand(name, text)
     left = draw.random.randint(5, 40)
@@ -92,13 +98,13 @@ def limit_sessions():
         (b"a.c", b"a\n")
     ], b"5a\n" + rounds + b":mark 1\n:marks\n5a\n:undo\n:mark 1\n:undo\n:undo\n:marks\n"
     yield [], b"".join(
-        b":load f%d.c 0\n" % n for n in range(MOST_FILES + 1)
+        b":load f%d.c 0\n" % n for n in range(Bounds().files + 1)
     ) + b":drop f7.c\n:load g.h 0\n:load h.h 0\n"
     many = b"a\n" * 200_000 + b"b" * 600_000
     yield [
         (b"a.c", many)
     ], b"5a\n:markall\n:to ccccc\n:to cc\n:marks\n4cc\n:undo\n:marks\n:mark 7\n:to\n4b\n"
-    full = b"a" * (MOST_BYTES - 1)
+    full = b"a" * (Bounds().file_bytes - 1)
     yield [
         (b"a.c", full),
         (b"b.c", b"a\n" * 9),
@@ -113,8 +119,8 @@ def limit_sessions():
     yield [(b"a.c", headers), (b"b.c", headers)], b"8a.h\n8sys/a.h\n1a\n3b\n2a\n7.c\nr\n"
 
 
-def modelled(operands, data):
-    model = Session()
+def modelled(operands, data, bounds=Bounds()):
+    model = Session(bounds)
     for name, text in operands:
         model.operand(name, text)
     model.feed(data)
@@ -143,7 +149,7 @@ def random_search(seed):
         names.insert(draw.random.randint(0, len(names)), draw.one(b"a.txt", b"a.C", names[0]))
         files[b"a.txt"] = files[b"a.C"] = b"int f;\n"
     if draw.random.random() < 0.02:
-        files[draw.random.choice([*files])] = b"a" * (MOST_BYTES + 1)
+        files[draw.random.choice([*files])] = b"a" * (Bounds().file_bytes + 1)
     if draw.random.random() < 0.03:
         names = []
     words = draw.one(
@@ -156,6 +162,10 @@ def random_search(seed):
         words.insert(
             draw.random.randint(0, len(words)), draw.one(b"-z", b"--all", b"-h", b"--help")
         )
+    elif draw.random.random() < 0.1:
+        option = draw.one(b"--max-files", b"--max-file-bytes")
+        value = draw.one(b"0", b"1", b"2", b"200", b"+3", b"", b"x", b"1048576", b"1048577")
+        words[:0] = draw.one([option, value], [option + b"=" + value])
     return words, files
 
 
@@ -177,9 +187,8 @@ def run(cbrowse, words, files, data):
 def compare(cbrowse, what, operands, data, model):
     """Runs a session and compares it with the model's."""
     expected = Outcome(bytes(model.out), model.ended, 1 if model.ended else 0)
-    compare_run(
-        cbrowse, what, [b"line", *(name for name, _ in operands)], dict(operands), data, expected
-    )
+    words = [b"line", *model.present.bounds.words(), *(name for name, _ in operands)]
+    compare_run(cbrowse, what, words, dict(operands), data, expected)
 
 
 def compare_run(cbrowse, what, words, files, data, expected):
@@ -252,10 +261,11 @@ def batch_of_searches(cbrowse, first, number):
 
 def check_worked(cbrowse):
     worked = [case for case in all_cases() if not case.end]
-    for what, operands, exchanges, _ in worked:
+    for what, operands, exchanges, _, given in worked:
+        bounds = Bounds(*given)
         data = b"".join(exchange.command for exchange in exchanges)
         output = b"".join(PROMPT + exchange.reply for exchange in exchanges) + PROMPT
-        model = modelled(operands, data)
+        model = modelled(operands, data, bounds)
         if bytes(model.out) != output:
             raise Difference(
                 f"the model differs from the worked session '{what}':"
@@ -266,7 +276,7 @@ def check_worked(cbrowse):
             f"the worked session '{what}'",
             operands,
             data,
-            modelled(operands, data),
+            modelled(operands, data, bounds),
         )
     runs = [(words, Outcome(*outcome)) for words, outcome in PROGRAM]
     for words, expected in runs:

@@ -11,12 +11,31 @@ from typing import NamedTuple, Optional
 
 from text_model import cut_lines, facts, replaced
 
-MOST_BYTES, MOST_FILES, MOST_LINE, MOST_CHANGES = 1_000_000, 4_096, 4_096, 65_536
+MOST_LINE, MOST_CHANGES = 4_096, 65_536
 PROMPT, DONE = b">> ", b"cscope: done\n"
 HEADS = (
     b'!_TAG_FILE_FORMAT\t2\t/extended format; --format=1 will not append ;" to lines/\n',
     b"!_TAG_FILE_SORTED\t1\t/0=unsorted, 1=sorted, 2=foldcase/\n",
 )
+
+
+class Bounds(NamedTuple):
+    """The most files of a session, and the most bytes of each."""
+
+    files: int = 4_096
+    file_bytes: int = 1_000_000
+
+    def words(self):
+        """The options that give them."""
+        given = [b"--max-files", b"%d" % self.files, b"--max-file-bytes", b"%d" % self.file_bytes]
+        return given if self != Bounds() else []
+
+    def longest_line(self):
+        """The most bytes of a line of input, and of a block."""
+        return max(1_000_000, self.file_bytes)
+
+
+WIDEST = Bounds(1_048_576, 268_435_456)
 
 
 class Refused(Exception):
@@ -42,6 +61,7 @@ class World(NamedTuple):
     wanted: Optional[bytes] = None
     marks: tuple = ()
     frames: tuple = ()  # the top of the stack is the last
+    bounds: Bounds = Bounds()  # no change has an effect on them
 
 
 # ---- rows and tag lines
@@ -177,14 +197,14 @@ def refuse_if(applies, text):
 def load(world, name, text):
     refuse_if(not is_file_name(name), "bad name")
     refuse_if(name in world.files, "file exists")
-    refuse_if(len(text) > MOST_BYTES, "too large")
-    refuse_if(len(world.files) >= MOST_FILES, "too many files")
+    refuse_if(len(text) > world.bounds.file_bytes, "too large")
+    refuse_if(len(world.files) >= world.bounds.files, "too many files")
     return world._replace(files={**world.files, name: text})
 
 
 def reload(world, name, text):
     refuse_if(name not in world.files, "no such file")
-    refuse_if(len(text) > MOST_BYTES, "too large")
+    refuse_if(len(text) > world.bounds.file_bytes, "too large")
     gone = drop(world, name)
     return gone._replace(files={**gone.files, name: text})
 
@@ -237,9 +257,9 @@ def change_text(world, text):
     for file in {name for name, _ in world.marks}:
         numbers = {line for name, line in world.marks if name == file}
         files[file] = replaced(files[file], world.wanted, text, numbers)
-        refuse_if(len(files[file]) > MOST_BYTES, "too large")
+        refuse_if(len(files[file]) > world.bounds.file_bytes, "too large")
     there = tuple(place for place in world.frames if place[1] <= len(cut_lines(files[place[0]])))
-    return World(files, frames=there)
+    return World(files, frames=there, bounds=world.bounds)
 
 
 def push(world, name, number):
@@ -275,8 +295,8 @@ def lines_reply(lines):
 class Session:
     """A session: its worlds, its output and, once it has ended, the line on standard error."""
 
-    def __init__(self):
-        self.past, self.present, self.future = [], World({}), []
+    def __init__(self, bounds=Bounds()):
+        self.past, self.present, self.future = [], World({}, bounds=bounds), []
         self.out, self.ended = bytearray(), None
 
     def change(self, step, *details):
@@ -323,8 +343,10 @@ class Session:
     def block_size(self, line):
         """How many bytes of a block belong to a line."""
         found = re.fullmatch(rb":(?:re)?load [^ ]* ([0-9]{1,9})", line, re.DOTALL)
-        fits = found is not None and len(line) <= MOST_LINE and int(found[1]) <= MOST_BYTES
-        return int(found[1]) if fits else 0
+        if found is None or len(line) > MOST_LINE:
+            return 0
+        size = int(found[1])
+        return size if size <= self.present.bounds.longest_line() else 0
 
     def reply(self, line, block):
         try:
@@ -373,7 +395,7 @@ class Session:
         """A change that brings a block."""
         name, count = words_in(rest, b"", b"")
         size = number_of(count)
-        refuse_if(size > MOST_BYTES, "bad count")
+        refuse_if(size > self.present.bounds.longest_line(), "bad count")
         if len(block) < size:
             self.ended = b"cbrowse: input ended\n"
             raise Refused("input ended")
@@ -422,6 +444,31 @@ def is_text(word):
     return word.decode("utf-8", "ignore").encode() == word
 
 
+def bound_in(word, most):
+    """The number that a word writes, or 0 where it writes none from 1 to the most."""
+    number = int(word) if re.fullmatch(rb"\+?[0-9]+", word) else 0
+    return number if number <= most else 0
+
+
+def without_bounds(words):
+    """The words without the options of bounds, and the bounds; none where they are wrong."""
+    left, given = [], {}
+    options = {b"--max-files": 0, b"--max-file-bytes": 1}
+    while words and words[0] != b"--":
+        name, equals, value = words[0].partition(b"=")
+        if name not in options:
+            left.append(words[0])
+            words = words[1:]
+            continue
+        if not equals:
+            value, words = (words[1], words[1:]) if len(words) > 1 else (b"", words)
+        place = options[name]
+        given[place] = 0 if place in given else bound_in(value, WIDEST[place])
+        words = words[1:]
+    bounds = Bounds(*(given.get(place, usual) for place, usual in enumerate(Bounds())))
+    return left + words, bounds if all(bounds) else None
+
+
 def plain_words(words):
     """The words that are no options, and the outcome where one is: help, or wrong words."""
     end = words.index(b"--") if b"--" in words else len(words)
@@ -433,12 +480,12 @@ def plain_words(words):
     return words[:end] + words[end + 1 :], None
 
 
-def loaded(operands, files):
+def loaded(operands, files, bounds):
     """A session with the files of the command line, or the outcome where one is refused."""
     for name in operands:
         if name not in files:
             return None, Outcome(b"", b"cbrowse: %s: cannot be read\n" % told(name), 1)
-    session = Session()
+    session = Session(bounds)
     for name in operands:
         session.operand(name, files[name])
         if session.ended is not None:
@@ -448,9 +495,12 @@ def loaded(operands, files):
 
 def find(words, files):
     """`cbrowse find` and the words after it, in a folder with these files."""
+    words, bounds = without_bounds(words)
     plain, failed = plain_words(words)
     if failed:
         return failed
+    if bounds is None:
+        return WRONG_WORDS
     if len(plain) < 3:
         return WRONG_WORDS
     number, pattern, *operands = plain
@@ -458,5 +508,5 @@ def find(words, files):
         return Outcome(b"", b"cbrowse: field not in this profile\n", 2)
     if not pattern:
         return Outcome(b"", b"cbrowse: no pattern\n", 2)
-    session, failed = loaded(operands, files)
+    session, failed = loaded(operands, files, bounds)
     return failed or Outcome(b"".join(answer(session.present, number, pattern)))

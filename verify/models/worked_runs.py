@@ -62,6 +62,28 @@ PROGRAM = [
     ([b"find", b"1", b"x", b"a.c", b"a.txt"], (b"", b"cbrowse: a.txt: bad name\n", 1)),
     ([b"find", b"1", b"x", b"a.c", b"a.c"], (b"", b"cbrowse: a.c: file exists\n", 1)),
     ([b"tags", b"a.c", b"a.c"], (b"", b"cbrowse: a.c: file exists\n", 1)),
+    (
+        [b"find", b"--max-files", b"1", b"1", b"add", b"a.c"],
+        output(b"a.c add 4 static int add(int a, int b) {"),
+    ),
+    (
+        [b"find", b"--max-files=1", b"1", b"add", b"a.c", b"n.c"],
+        (b"", b"cbrowse: n.c: too many files\n", 1),
+    ),
+    (
+        [b"find", b"4", b"a", b"n.c", b"--max-file-bytes", b"12"],
+        output(b"n.c <unknown> 1 int a = -x;"),
+    ),
+    (
+        [b"find", b"4", b"a", b"n.c", b"--max-file-bytes", b"11"],
+        (b"", b"cbrowse: n.c: too large\n", 1),
+    ),
+    ([b"find", b"--max-files", b"0", b"1", b"add", b"a.c"], WRONG_WORDS),
+    ([b"find", b"--max-files", b"1048576", b"1", b"none", b"a.c"], output()),
+    ([b"find", b"--max-files", b"1048577", b"1", b"add", b"a.c"], WRONG_WORDS),
+    ([b"find", b"--max-file-bytes", b"268435456", b"1", b"none", b"a.c"], output()),
+    ([b"tags", b"--max-file-bytes", b"268435457", b"a.c"], WRONG_WORDS),
+    ([b"tags", b"--max-files", b"1", b"a.c", b"n.c"], (b"", b"cbrowse: n.c: too many files\n", 1)),
     ([b"find", b"4", b"-x", b"n.c"], WRONG_WORDS),
     ([b"find", b"1", b"x"], WRONG_WORDS),
     ([b"find"], WRONG_WORDS),

@@ -71,7 +71,7 @@ def long_list(place: Place) -> None:
 def odd_names(place: Place) -> None:
     for name in "a.c", "a b.c", "\u00e9.c", "c.h":
         place.put(f"odd/{name}")
-    place.put("odd/large.c", " " * 1_000_001)
+    place.put_large("odd/large.c")
     (place.folder / "odd/d.c").mkdir()
     said = left(2, "with a bad name", 1, "too large or not there to read")
     status, _, heard = place.run("-b", below="odd")

@@ -189,7 +189,7 @@ def names_given(place: Place) -> None:
         status=1,
         said=left.format("not named .c or .h: x"),
     )
-    place.put("given/large.c", " " * 1_000_001)
+    place.put_large("given/large.c")
     takes(
         "a large file that is named",
         files("large.c", "y/d.c"),
@@ -228,7 +228,7 @@ def odd_names(place: Place) -> None:
         "-x/a.c",
     ):
         place.put(name, text)
-    place.put("odd/large.c", " " * 1_000_001)
+    place.put_large("odd/large.c")
     status, _, said = place.run("-f", "odd.tags", "odd")
     lines = (place.folder / "odd.tags").read_text().splitlines()
     told = [

@@ -124,6 +124,7 @@ module _ (a b : Archived) (n v : ℕ) (agree : Agree a b n v) where
     pub world_same : world_in b w ≡ world_in a w
     world_same =
         λ i. record {
+          bounds = w.bounds;
           files = files_same w.shown below_shown i;
           wanted = w.wanted;
           marks = places_same w.marks (below_places w.marks there.marks) i;

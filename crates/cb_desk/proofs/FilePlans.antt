@@ -143,7 +143,13 @@ module _ (k : Kept) (p : Planned) (kept : IsKept k.rooms k.archive k.now)
         (λ (s : Shown). (s.name < p.turn.names) × (s.version < p.turn.versions))
         (λ s is. (omega (arith, is.0, names), omega (arith, is.1, versions))) k.now.shown all_below
 
-    pub file_leads : LeadsTo k p (record { files = fs; wanted = next; marks = ms; frames = gs }) a
+    pub file_leads : LeadsTo k p (record {
+      bounds = k.now.bounds;
+      files = fs;
+      wanted = next;
+      marks = ms;
+      frames = gs;
+    }) a
     file_leads = record {
       turn = record {
         hides_rise = hides.rise;
@@ -169,6 +175,7 @@ module _ (k : Kept) (p : Planned) (kept : IsKept k.rooms k.archive k.now)
         versions = omega (arith, versions, text_count);
       };
       world = λ i. record {
+        bounds = k.now.bounds;
         files = files_are i;
         wanted = wanted i;
         marks = (ap (map (place_in a)) are_marks.on ∙ marks_are) i;

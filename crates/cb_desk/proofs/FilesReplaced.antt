@@ -9,7 +9,6 @@ use Rattle.cb_index.specs.Archived.{Archived}
 use Rattle.cb_index.specs.Files.{file_of, files_of}
 use Rattle.cb_index.specs.declared.entry.Shown.{Shown}
 use Rattle.cb_desk.specs.declared.spot.NumberedPlace.{NumberedPlace}
-use Rattle.cb_desk.specs.declared.limits.TheConstants.{MOST_BYTES}
 use Rattle.cb_desk.specs.Desk.{is_marked, new_texts}
 use Rattle.cb_desk.specs.Marks.{is_too_large, marked_lines, replaced_file, replaced_files}
 use Rattle.cb_desk.specs.Places.{is_in}
@@ -61,8 +60,8 @@ unmarked_file old new marks f none =
     ap (λ ns. record f { bytes = replaced_text old new ns f.bytes }) (none_in f.name marks none)
     ∙ ap (λ bs. record f { bytes = bs }) (unmarked_text old new f.bytes)
 
-not_large : (n : ℕ) → n ≤ MOST_BYTES → nat_lt MOST_BYTES n ≡ false
-not_large n small = grind (arith, small)
+not_large : (most n : ℕ) → n ≤ most → nat_lt most n ≡ false
+not_large most n small = grind (arith, small)
 
 -- ---- in numbers
 module _ (a : Archived) (marks : List NumberedPlace) (old new : List ℕ) where
@@ -90,30 +89,33 @@ module _ (a : Archived) (marks : List NumberedPlace) (old new : List ℕ) where
   unmarked_then s hasnt = unmarked_file old new (places_in a marks) (file_of a s) hasnt
 
   -- a file without a mark is not too large then, since it is not now
-  abbrev is_large : Shown → Bool
-  is_large s = is_too_large (file_then a marks old new s)
+  module _ (most : ℕ) where
+    abbrev is_large : Shown → Bool
+    is_large s = is_too_large most (file_then a marks old new s)
 
-  abbrev has_large : List Shown → Bool
-  has_large ss =
-      list_any is_too_large (map (replaced_file old new (places_in a marks)) (files_of a ss))
+    abbrev has_large : List Shown → Bool
+    has_large ss =
+        list_any (is_too_large most)
+        (map (replaced_file old new (places_in a marks)) (files_of a ss))
 
-  pub large_changed : (ss : List Shown)
-      → AllByRecursion (λ (f : File). length f.bytes ≤ MOST_BYTES) (files_of a ss)
-      → list_any is_too_large (files_changed a marks old new ss) ≡ has_large ss
-  large_changed [] small = refl
-  large_changed (s ∷ ss) small = by_test (has_mark a marks s) refl (large_changed ss small.1)
-    where
-      by_test : (has : Bool) → has_mark a marks s ≡ has
-          → list_any is_too_large (files_changed a marks old new ss) ≡ has_large ss
-          → list_any is_too_large
-          (map (file_then a marks old new)
-          (cond has (s ∷ filter (has_mark a marks) ss) (filter (has_mark a marks) ss)))
-          ≡ is_large s || has_large ss
-      by_test true e rest = ap (λ b. is_large s || b) rest
-      by_test false e rest =
-          let still : is_large s ≡ false =
-          ap is_too_large (unmarked_then s e) ∙ not_large (length (file_of a s).bytes) small.0 in
-          rest ∙ ap (λ b. b || has_large ss) (sym still)
+    pub large_changed : (ss : List Shown)
+        → AllByRecursion (λ (f : File). length f.bytes ≤ most) (files_of a ss)
+        → list_any (is_too_large most) (files_changed a marks old new ss) ≡ has_large ss
+    large_changed [] small = refl
+    large_changed (s ∷ ss) small = by_test (has_mark a marks s) refl (large_changed ss small.1)
+      where
+        by_test : (has : Bool) → has_mark a marks s ≡ has
+            → list_any (is_too_large most) (files_changed a marks old new ss) ≡ has_large ss
+            → list_any (is_too_large most)
+            (map (file_then a marks old new)
+            (cond has (s ∷ filter (has_mark a marks) ss) (filter (has_mark a marks) ss)))
+            ≡ is_large s || has_large ss
+        by_test true e rest = ap (λ b. is_large s || b) rest
+        by_test false e rest =
+            let still : is_large s ≡ false =
+            ap (is_too_large most) (unmarked_then s e)
+            ∙ not_large most (length (file_of a s).bytes) small.0 in
+            rest ∙ ap (λ b. b || has_large ss) (sym still)
 
 -- the files of a world in numbers
 pub world_replaced : (a : Archived) (w : Numbered) (old new : List ℕ)

@@ -22,13 +22,12 @@ use Rattle.cb_index.proofs.AscendLemmas.{ascending_sorted}
 use Rattle.cb_index.proofs.ListedLemmas.{ascending_apart, ascending_in_order}
 use Rattle.cb_index.proofs.TotalLemmas.{same_total, total_append, total_in_order, total_more}
 use Rattle.cb_tags.specs.Names.{is_file_name}
-use Rattle.cb_desk.specs.declared.limits.TheConstants.{MOST_CHANGES}
 use Rattle.cb_desk.specs.declared.refusal.Refusal.{Refusal}
 use Rattle.cb_desk.specs.declared.refusal.Refusal.TheVariants.{BadName, FileExists}
 use Rattle.cb_desk.specs.Desk.{counted}
 use Rattle.cb_desk.specs.Files.{load_refusal, loaded}
 use Rattle.cb_desk.specs.Timeline.{moved_on, redone}
-use Rattle.cb_desk.specs.World.{IsValidWorld, World, has_file}
+use Rattle.cb_desk.specs.World.{AreBounds, IsValidWorld, World, WorldBounds, has_file}
 use Rattle.cb_desk.specs.steps.Edits.{each}
 use Rattle.cb_desk.specs.steps.Loading.{AreLoaded, HasRoomToShow, just_room, loaded_numbers}
 use Rattle.cb_desk.specs.steps.Loading.{loads_recorded}
@@ -46,59 +45,65 @@ use Rattle.cb_desk.proofs.WalkLemmas.{kept_back, nothing_recorded, past_length, 
 use Rattle.cb_desk.proofs.WalkLemmas.{redo_recorded}
 
 -- what is loaded is there
-pub all_there : (a : Archived) (hidden shown : List Shown) (records : List Turn)
-    → AreLoaded a hidden shown records
+pub all_there : (bounds : WorldBounds) (a : Archived) (hidden shown : List Shown)
+    (records : List Turn)
+    → AreLoaded bounds a hidden shown records
     → AllByRecursion (IsThere a) shown
-all_there a hidden shown records is =
-    let h = loads_recorded a shown records in
+all_there bounds a hidden shown records is =
+    let h = loads_recorded bounds a shown records in
     (kept_back h.kept.rooms h.kept.archive h.kept.now (turns_back h) is.recorded.back).there.shown
 
 -- ---- nothing is loaded
-pub none_loaded : (a : Archived) (hidden shown : List Shown) (records : List Turn) → a.names ≡ []
+pub none_loaded : (bounds : WorldBounds) → AreBounds bounds → (a : Archived)
+    (hidden shown : List Shown) (records : List Turn) → a.names ≡ []
     → a.texts ≡ [] → hidden ≡ [] → shown ≡ [] → records ≡ []
-    → AreLoaded a hidden shown records
+    → AreLoaded bounds a hidden shown records
 unfolding AreOrdered
-none_loaded a hidden shown records names texts none is_shown is_records =
-    let base : AreLoaded a hidden [] [] = record {
+none_loaded bounds small a hidden shown records names texts none is_shown is_records =
+    let base : AreLoaded bounds a hidden [] [] = record {
       hidden = none;
       names = ap length names;
       versions = ap length texts;
       files = refl;
       ascending = tt;
-      recorded = nothing_recorded (loads_recorded a [] []).kept
-          (λ i. record no_numbers { names = length (names i); versions = length (texts i) }) names
+      recorded = nothing_recorded bounds small (loads_recorded bounds a [] []).kept
+          (λ i. record (no_numbers bounds)
+          { names = length (names i); versions = length (texts i) }) names
           texts;
     } in
-    subst (λ ss. AreLoaded a hidden ss records) (sym is_shown)
-    (subst (λ rs. AreLoaded a hidden [] rs) (sym is_records) base)
+    subst (λ ss. AreLoaded bounds a hidden ss records) (sym is_shown)
+    (subst (λ rs. AreLoaded bounds a hidden [] rs) (sym is_records) base)
 
 empty_list : {X : Type 0} (xs : List X) → length xs ≡ 0 → xs ≡ []
 empty_list [] none = refl
 empty_list (x ∷ xs) none = absurd (omega (arith, none))
 
 -- as many are loaded as there are changes
-loaded_length : (a : Archived) (hidden shown : List Shown) (records : List Turn)
-    → AreLoaded a hidden shown records
-    → length shown ≡ length (timeline_in (loads_recorded a shown records)).past
-loaded_length a hidden shown records is =
-    is.files ∙ sym (past_length (loads_recorded a shown records) (omega arith))
+loaded_length : (bounds : WorldBounds) (a : Archived) (hidden shown : List Shown)
+    (records : List Turn)
+    → AreLoaded bounds a hidden shown records
+    → length shown ≡ length (timeline_in (loads_recorded bounds a shown records)).past
+loaded_length bounds a hidden shown records is =
+    is.files ∙ sym (past_length (loads_recorded bounds a shown records) (omega arith))
 
-pub some_past : (a : Archived) (hidden shown : List Shown) (records : List Turn)
-    → AreLoaded a hidden shown records → shown ≢ []
-    → (timeline_in (loads_recorded a shown records)).past ≡ [] → ⊥
-some_past a hidden shown records is some none =
-    some (empty_list shown (loaded_length a hidden shown records is ∙ ap length none))
+pub some_past : (bounds : WorldBounds) (a : Archived) (hidden shown : List Shown)
+    (records : List Turn)
+    → AreLoaded bounds a hidden shown records → shown ≢ []
+    → (timeline_in (loads_recorded bounds a shown records)).past ≡ [] → ⊥
+some_past bounds a hidden shown records is some none =
+    some (empty_list shown (loaded_length bounds a hidden shown records is ∙ ap length none))
 
 -- each of them is shown once
-pub shown_turns : (a : Archived) (hidden shown : List Shown) (records : List Turn)
-    → AreLoaded a hidden shown records
+pub shown_turns : (bounds : WorldBounds) (a : Archived) (hidden shown : List Shown)
+    (records : List Turn)
+    → AreLoaded bounds a hidden shown records
     → (old new : ℕ) → new ≡ counted old (length shown)
-    → new ≡ counted old (length (timeline_in (loads_recorded a shown records)).past)
-shown_turns a hidden shown records is old new turned =
-    turned ∙ ap (counted old) (loaded_length a hidden shown records is)
+    → new ≡ counted old (length (timeline_in (loads_recorded bounds a shown records)).past)
+shown_turns bounds a hidden shown records is old new turned =
+    turned ∙ ap (counted old) (loaded_length bounds a hidden shown records is)
 
-pub below_most : (n : ℕ) → nat_le MOST_CHANGES n ≡ false → n < MOST_CHANGES
-below_most n few = grind (arith, few)
+pub below_most : (most n : ℕ) → nat_le most n ≡ false → n < most
+below_most most n few = grind (arith, few)
 
 -- what a refused growth leaves
 pub refused_with : {X : Type 0} (P : X → Type 0) (B : Type 0) (r : Result X AllocError) → IsErr r
@@ -169,15 +174,17 @@ shown_as_loaded s shown none up =
     ∙ settled (shown_name s.archive) shown (ascending_sorted s.archive shown up)
 
 -- ---- an archive with other room
-module _ (a b : Archived) (names : b.names ≡ a.names) (texts : b.texts ≡ a.texts)
+module _ (bounds : WorldBounds) (a b : Archived) (names : b.names ≡ a.names)
+    (texts : b.texts ≡ a.texts)
     (shown : List Shown) (records : List Turn)
-    (is : IsRecorded (loads_recorded a shown records)) where
+    (is : IsRecorded (loads_recorded bounds a shown records)) where
   abbrev before : Kept
-  before = (loads_recorded a shown records).kept
+  before = (loads_recorded bounds a shown records).kept
 
-  same_now : loaded_numbers b shown ≡ loaded_numbers a shown
+  same_now : loaded_numbers bounds b shown ≡ loaded_numbers bounds a shown
   same_now = λ i.
-      record (loaded_numbers a shown) { names = length (names i); versions = length (texts i) }
+      record (loaded_numbers bounds a shown)
+      { names = length (names i); versions = length (texts i) }
 
   same_rooms : KeepsRooms (just_room a shown) (just_room b shown)
   same_rooms = record {
@@ -189,27 +196,28 @@ module _ (a b : Archived) (names : b.names ≡ a.names) (texts : b.texts ≡ a.t
     frames = omega arith;
   }
 
-  pub roomier_recorded : IsRecorded (loads_recorded b shown records)
+  pub roomier_recorded : IsRecorded (loads_recorded bounds b shown records)
   roomier_recorded =
-      same_recorded before (loads_recorded b shown records).kept records
+      same_recorded before (loads_recorded bounds b shown records).kept records
       (length records) same_now names texts same_rooms is
 
-  pub roomier_timeline : timeline_in (loads_recorded b shown records)
-      ≡ timeline_in (loads_recorded a shown records)
+  pub roomier_timeline : timeline_in (loads_recorded bounds b shown records)
+      ≡ timeline_in (loads_recorded bounds a shown records)
   roomier_timeline =
-      same_timeline before (loads_recorded b shown records).kept records
+      same_timeline before (loads_recorded bounds b shown records).kept records
       (length records) same_now names texts same_rooms is
 
-pub roomier : (a b : Archived) (hidden shown : List Shown) (records : List Turn) → b.names ≡ a.names
+pub roomier : (bounds : WorldBounds) (a b : Archived) (hidden shown : List Shown)
+    (records : List Turn) → b.names ≡ a.names
     → b.texts ≡ a.texts
-    → AreLoaded a hidden shown records → AreLoaded b hidden shown records
-roomier a b hidden shown records names texts is = record {
+    → AreLoaded bounds a hidden shown records → AreLoaded bounds b hidden shown records
+roomier bounds a b hidden shown records names texts is = record {
   hidden = is.hidden;
   names = ap length names ∙ is.names;
   versions = ap length texts ∙ is.versions;
   files = is.files;
   ascending = subst (λ ns. AreAscending (record a { names = ns }) shown) (sym names) is.ascending;
-  recorded = roomier_recorded a b names texts shown records is.recorded;
+  recorded = roomier_recorded bounds a b names texts shown records is.recorded;
 }
 
 -- the record that takes a load back
@@ -244,20 +252,21 @@ turn_back u count named kept is =
     })
 
 -- ---- a world that shows what is loaded
-module _ (a : Archived) (hidden shown : List Shown) (records : List Turn) (k : Kept)
-    (is : AreLoaded a hidden shown records)
-    (now : k.now ≡ loaded_numbers a shown) (names : k.archive.names ≡ a.names)
+module _ (bounds : WorldBounds) (a : Archived) (hidden shown : List Shown) (records : List Turn)
+    (k : Kept)
+    (is : AreLoaded bounds a hidden shown records)
+    (now : k.now ≡ loaded_numbers bounds a shown) (names : k.archive.names ≡ a.names)
     (texts : k.archive.texts ≡ a.texts)
     (rooms : KeepsRooms (just_room a shown) k.rooms) where
   pub shown_recorded : IsRecorded (record { kept = k; records = records; done = length records })
   shown_recorded =
-      same_recorded (loads_recorded a shown records).kept k records
+      same_recorded (loads_recorded bounds a shown records).kept k records
       (length records) now names texts rooms is.recorded
 
   pub shown_timeline : timeline_in (record { kept = k; records = records; done = length records })
-      ≡ timeline_in (loads_recorded a shown records)
+      ≡ timeline_in (loads_recorded bounds a shown records)
   shown_timeline =
-      same_timeline (loads_recorded a shown records).kept k records
+      same_timeline (loads_recorded bounds a shown records).kept k records
       (length records) now names texts rooms is.recorded
 
 pub rooms_kept : (a : Archived) (s : Shelved) (shown : List Shown) (r : Rooms)
@@ -277,14 +286,15 @@ rooms_kept a s shown r texts has files defs uses calls =
     }
 
 -- ---- one file more
-module _ (a b : Archived) (hidden shown : List Shown) (records : List Turn) (name text : List ℕ)
-    (is : AreLoaded a hidden shown records)
+module _ (bounds : WorldBounds) (a b : Archived) (hidden shown : List Shown) (records : List Turn)
+    (name text : List ℕ)
+    (is : AreLoaded bounds a hidden shown records)
     (names : b.names ≡ a.names ++ name ∷ []) (texts : b.texts ≡ a.texts ++ text ∷ [])
     (fresh : has_file (files_of a shown) name ≡ false)
-    (valid : IsValidWorld (loaded (world_in a (loaded_numbers a shown)) name text))
-    (few : length records < MOST_CHANGES) where
+    (valid : IsValidWorld (loaded (world_in a (loaded_numbers bounds a shown)) name text))
+    (few : length records < bounds.history) where
   abbrev h : Recorded
-  h = loads_recorded a shown records
+  h = loads_recorded bounds a shown records
 
   abbrev k : Kept
   k = h.kept
@@ -307,7 +317,7 @@ module _ (a b : Archived) (hidden shown : List Shown) (records : List Turn) (nam
   p = record { names = name ∷ []; texts = text ∷ []; turn = to_new }
 
   abbrev v : World
-  v = loaded (world_in a (loaded_numbers a shown)) name text
+  v = loaded (world_in a (loaded_numbers bounds a shown)) name text
 
   abbrev pub shown_then : List Shown
   shown_then = in_order (shown_name b) (shown ++ new ∷ [])
@@ -430,9 +440,9 @@ module _ (a b : Archived) (hidden shown : List Shown) (records : List Turn) (nam
   roomy_plan = plan_moved k roomy p v refl refl refl plan
 
   short : length (timeline_in
-      (record { kept = roomy; records = records; done = length records })).past < MOST_CHANGES
+      (record { kept = roomy; records = records; done = length records })).past < bounds.history
   short =
-      subst (λ n. n < MOST_CHANGES) (sym (past_length
+      subst (λ n. n < bounds.history) (sym (past_length
       (record { kept = roomy; records = records; done = length records }) (omega arith))) few
 
   next : IsRecorded (record { kept = kept; records = planned; done = length records })
@@ -458,15 +468,15 @@ module _ (a b : Archived) (hidden shown : List Shown) (records : List Turn) (nam
       ∙ get_or-append_seam records to_new [] to_new)
 
   abbrev kept_then : Kept
-  kept_then = (loads_recorded b shown_then (records ++ turned to_new k.now ∷ [])).kept
+  kept_then = (loads_recorded bounds b shown_then (records ++ turned to_new k.now ∷ [])).kept
 
-  now_then : loaded_numbers b shown_then ≡ other b to_new k.now
+  now_then : loaded_numbers bounds b shown_then ≡ other b to_new k.now
   now_then =
       let n : length b.names ≡ length a.names + 1 =
       ap length names ∙ length-append a.names (name ∷ []) in
       let m : length b.texts ≡ length a.texts + 1 =
       ap length texts ∙ length-append a.texts (text ∷ []) in
-      λ i. record (loaded_numbers b shown_then) {
+      λ i. record (loaded_numbers bounds b shown_then) {
         shown = in_order (shown_name b) (sym (without_none shown) i ++ new ∷ []);
         names = n i;
         versions = m i;
@@ -485,7 +495,7 @@ module _ (a b : Archived) (hidden shown : List Shown) (records : List Turn) (nam
     done = length records + 1;
   }
 
-  gone_is : gone ≡ loads_recorded b shown_then (records ++ turned to_new k.now ∷ [])
+  gone_is : gone ≡ loads_recorded bounds b shown_then (records ++ turned to_new k.now ∷ [])
   gone_is =
       let n : length records + 1 ≡ length (records ++ turned to_new k.now ∷ []) =
       sym (length-append records (turned to_new k.now ∷ [])) in
@@ -498,13 +508,13 @@ module _ (a b : Archived) (hidden shown : List Shown) (records : List Turn) (nam
       (turned to_new k.now) refl now_then refl all_rooms next
 
   pub one_more_recorded : IsRecorded
-      (loads_recorded b shown_then (records ++ turned to_new k.now ∷ []))
+      (loads_recorded bounds b shown_then (records ++ turned to_new k.now ∷ []))
   one_more_recorded =
       subst IsRecorded gone_is
       (redo_recorded kept planned (length records) to_new within at_end kept_then
       (turned to_new k.now) refl now_then refl all_rooms next)
 
-  pub one_more_timeline : timeline_in (loads_recorded b shown_then
+  pub one_more_timeline : timeline_in (loads_recorded bounds b shown_then
       (records ++ turned to_new k.now ∷ [])) ≡ moved_on (timeline_in h) v
   one_more_timeline =
       ap timeline_in (sym gone_is)
@@ -514,12 +524,13 @@ module _ (a b : Archived) (hidden shown : List Shown) (records : List Turn) (nam
 
   pub one_more_timeline_as : (then : List Shown) (u : Turn) → then ≡ shown_then
       → u ≡ turned to_new k.now
-      → timeline_in (loads_recorded b then (records ++ u ∷ [])) ≡ moved_on (timeline_in h) v
+      → timeline_in (loads_recorded bounds b then (records ++ u ∷ [])) ≡ moved_on (timeline_in h) v
   one_more_timeline_as then u is_then is_u =
-      (λ i. timeline_in (loads_recorded b (is_then i) (records ++ is_u i ∷ []))) ∙ one_more_timeline
+      (λ i. timeline_in (loads_recorded bounds b (is_then i) (records ++ is_u i ∷ [])))
+      ∙ one_more_timeline
 
   pub one_more : (then : List Shown) (u : Turn) → then ≡ shown_then → u ≡ turned to_new k.now
-      → AreLoaded b hidden then (records ++ u ∷ [])
+      → AreLoaded bounds b hidden then (records ++ u ∷ [])
   one_more then u is_then is_u =
       let n = ap length names ∙ length-append a.names (name ∷ []) in
       let m = ap length texts ∙ length-append a.texts (text ∷ []) in
@@ -536,7 +547,9 @@ module _ (a b : Archived) (hidden shown : List Shown) (records : List Turn) (nam
         ascending =
             subst (AreAscending b) (sym is_then)
             (ascending_in_order b (shown ++ new ∷ []) apart_then);
-        recorded = subst (λ t. IsRecorded (loads_recorded b then (records ++ t ∷ []))) (sym is_u)
-            (subst (λ l. IsRecorded (loads_recorded b l (records ++ turned to_new k.now ∷ [])))
+        recorded = subst (λ t. IsRecorded (loads_recorded bounds b then (records ++ t ∷ [])))
+            (sym is_u)
+            (subst (λ l. IsRecorded (loads_recorded bounds b l
+            (records ++ turned to_new k.now ∷ [])))
             (sym is_then) one_more_recorded);
       }

@@ -11,7 +11,6 @@ use Rattle.std.proofs.lemmas.Slice.Eq.{bytes_eq-Decides}
 use Rattle.cb_scan.specs.Lines.{IsLineOf, lines, line_text}
 use Rattle.cb_scan.specs.Order.{put, in_order}
 use Rattle.cb_tags.specs.Names.{is_file_name}
-use Rattle.cb_desk.specs.declared.limits.TheConstants.{MOST_BYTES}
 use Rattle.cb_desk.specs.Files.{with_file, without_file}
 use Rattle.cb_desk.specs.Marks.{toggled, replaced_file, is_too_large}
 use Rattle.cb_desk.specs.Places.{is_in, same_place, is_place_of, without_places, renamed_place}
@@ -19,7 +18,7 @@ use Rattle.cb_desk.specs.Places.{renamed_places}
 use Rattle.cb_desk.specs.Search.{holds, lines_with}
 use Rattle.cb_desk.specs.World.{File, Place, has_file, text_of_file, place_key, IsAscending}
 use Rattle.cb_desk.specs.World.{AreAscending, IsPlaceOf, IsMarkIn, AreMarksFor, AreValidMarks}
-use Rattle.cb_desk.specs.World.{AreValidFiles}
+use Rattle.cb_desk.specs.World.{AreValidFiles, WorldBounds}
 use Rattle.cb_desk.specs.steps.Held.{held_in, held_places}
 use Rattle.cb_desk.specs.steps.Named.{file_named}
 use Rattle.cb_desk.proofs.Placed.{by_name}
@@ -296,14 +295,16 @@ module _ (old new : List ℕ) (marks : List Place) where
   names-kept [] all = tt
   names-kept (f ∷ files) all = (all.0, names-kept files all.1)
 
-  sizes-kept : (files : List File) → list_any is_too_large files ≡ false
-      → AllByRecursion (λ (f : File). length f.bytes ≤ MOST_BYTES) files
-  sizes-kept [] none = tt
-  sizes-kept (f ∷ files) none =
-      (elim (is_too_large f) as (λ b. is_too_large f ≡ b → b || list_any is_too_large files ≡ false
-      → AllByRecursion (λ (f : File). length f.bytes ≤ MOST_BYTES) (f ∷ files)) [
+  sizes-kept : (b : WorldBounds) (files : List File)
+      → list_any (is_too_large b.file_bytes) files ≡ false
+      → AllByRecursion (λ (f : File). length f.bytes ≤ b.file_bytes) files
+  sizes-kept b [] none = tt
+  sizes-kept b (f ∷ files) none =
+      (elim (is_too_large b.file_bytes f) as (λ x. is_too_large b.file_bytes f ≡ x
+      → x || list_any (is_too_large b.file_bytes) files ≡ false
+      → AllByRecursion (λ (f : File). length f.bytes ≤ b.file_bytes) (f ∷ files)) [
         | true ↦ λ h k. cc
-        | false ↦ λ h k. (grind (arith, h), sizes-kept files k)
+        | false ↦ λ h k. (grind (arith, h), sizes-kept b files k)
       ]) refl none
 
   below-kept : (f : File) (files : List File) → AllByRecursion (λ g. by_name f g ≡ Less) files
@@ -317,11 +318,12 @@ module _ (old new : List ℕ) (marks : List Place) where
   ascending-kept (f ∷ files) up = (below-kept f files up.0, ascending-kept files up.1)
 
   -- files stay valid where none has become too large
-  pub replaced-valid : (files : List File) → AreValidFiles files
-      → list_any is_too_large (map changed files) ≡ false → AreValidFiles (map changed files)
-  replaced-valid files valid small = record {
+  pub replaced-valid : (b : WorldBounds) (files : List File) → AreValidFiles b files
+      → list_any (is_too_large b.file_bytes) (map changed files) ≡ false
+      → AreValidFiles b (map changed files)
+  replaced-valid b files valid small = record {
     names = names-kept files valid.names;
-    sizes = sizes-kept (map changed files) small;
+    sizes = sizes-kept b (map changed files) small;
     count =
         let count = valid.count in let same = length-map files changed in
         omega (arith, count, same);

@@ -2,15 +2,15 @@
 use Rattle.std.proofs.Common.{◌≡◌, ◌∙◌, sym, ap, refl, subst, ◌<◌, Bool, true, false, cond, List}
 use Rattle.std.proofs.Common.{[], ◌∷◌, length, arith, Result, Ok, Err, Option, Some, None, nat_le}
 use Rattle.std.specs.List.{AllByRecursion}
-use Rattle.cb_desk.specs.declared.limits.TheConstants.{MOST_CHANGES}
 use Rattle.cb_desk.specs.declared.refusal.Refusal.{Refusal}
 use Rattle.cb_desk.specs.declared.refusal.Refusal.TheVariants.{HistoryFull, OutOfMemory}
-use Rattle.cb_desk.specs.World.{World, IsValidWorld}
+use Rattle.cb_desk.specs.World.{World, WorldBounds, IsValidWorld}
 use Rattle.cb_desk.specs.Step.{Step, refusal_of, after, step}
 use Rattle.cb_desk.specs.Timeline.{Timeline, IsValidTimeline, moved_on, advanced, changed, back_to}
-use Rattle.cb_desk.specs.Timeline.{undone, on_to, redone, Changes, Moves}
+use Rattle.cb_desk.specs.Timeline.{IsValidBeside, undone, on_to, redone, Changes, Moves}
 use Rattle.cb_desk.specs.Laws.{UndoTakesBack, RedoTakesBack}
-use Rattle.cb_desk.proofs.StepsValid.{step_keeps_valid}
+use Rattle.cb_desk.proofs.StepsValid.{step-bounds, step_keeps_valid}
+use Rattle.cb_desk.proofs.Valid.{all-along}
 
 same-Ok : (a b : Timeline) (r : Result Timeline Refusal) → r ≡ Ok a → r ≡ Ok b → a ≡ b
 same-Ok a b r e h = cc
@@ -20,7 +20,7 @@ accepted w = Ok w
 
 -- an accepted change: the step was accepted, and the old present joins the past
 pub record Advances (t u : Timeline) (w : World) : Type 0 where
-  pub short : length t.past < MOST_CHANGES
+  pub short : length t.past < t.present.bounds.history
   pub is : u ≡ moved_on t w
 
 pub advanced-Ok : (t u : Timeline) (r : Result World Refusal) → advanced t r ≡ Ok u
@@ -28,7 +28,8 @@ pub advanced-Ok : (t u : Timeline) (r : Result World Refusal) → advanced t r �
 advanced-Ok t u (Err e) h = cc
 advanced-Ok t u (Ok w) h =
     let Q : Type 0 = (v : World) × (accepted w ≡ Ok v) × Advances t u v in
-    (elim (nat_le MOST_CHANGES (length t.past)) as (λ b. nat_le MOST_CHANGES (length t.past) ≡ b
+    (elim (nat_le t.present.bounds.history (length t.past)) as
+    (λ b. nat_le t.present.bounds.history (length t.past) ≡ b
     → cond b (Err HistoryFull) (Ok (moved_on t w)) ≡ Ok u → Q) [
       | true ↦ λ full k. cc
       | false ↦ λ full k. (w, refl, record { short = grind arith; is = cc })
@@ -65,14 +66,21 @@ redo_takes_back = record {
   redo = λ t u h. undo-redone t.future t u refl h;
 }
 
+-- valid beside a world, and beside one with the same bounds
+beside : (v w : World) → v.bounds ≡ w.bounds → (ws : List World)
+    → AllByRecursion (IsValidBeside v) ws → AllByRecursion (IsValidBeside w) ws
+beside v w same ws all =
+    all-along (IsValidBeside v) (IsValidBeside w) ws (λ x is. (is.0, is.1 ∙ same)) all
+
 -- a change of a valid timeline to a valid world
 pub moved_on-valid : (t : Timeline) (w : World) → IsValidTimeline t → IsValidWorld w
-    → length t.past < MOST_CHANGES → IsValidTimeline (moved_on t w)
-moved_on-valid t w valid next short = record {
-  before = (valid.now, valid.before);
+    → w.bounds ≡ t.present.bounds → length t.past < t.present.bounds.history
+    → IsValidTimeline (moved_on t w)
+moved_on-valid t w valid next same short = record {
+  before = ((valid.now, sym same), beside t.present w (sym same) t.past valid.before);
   now = next;
   later = tt;
-  bounded = omega (arith, short);
+  bounded = let e = ap (λ (b : WorldBounds). b.history) same in omega (arith, short, e);
 }
 
 pub change_keeps_valid : (t u : Timeline) (s : Step) → IsValidTimeline t → changed t s ≡ Ok u
@@ -81,7 +89,8 @@ unfolding changed
 change_keeps_valid t u s valid h =
     let found = advanced-Ok t u (step t.present s) h in
     rw found.2.is (moved_on-valid t found.0 valid
-    (step_keeps_valid t.present found.0 s valid.now found.1) found.2.short)
+    (step_keeps_valid t.present found.0 s valid.now found.1)
+    (step-bounds t.present found.0 s found.1) found.2.short)
 
 back-valid : (past : List World) (t u : Timeline) → t.past ≡ past → IsValidTimeline t
     → back_to past t ≡ Ok u → IsValidTimeline u
@@ -89,15 +98,17 @@ back-valid [] t u e valid h = cc
 back-valid (w ∷ ws) t u e valid h =
     let is : record { past = ws; present = w; future = t.present ∷ t.future } ≡ u =
     same-Ok _ u (back_to (w ∷ ws) t) refl h in
-    let worlds : AllByRecursion IsValidWorld (w ∷ ws) =
-    subst (AllByRecursion IsValidWorld) e valid.before in
+    let worlds : AllByRecursion (IsValidBeside t.present) (w ∷ ws) =
+    subst (AllByRecursion (IsValidBeside t.present)) e valid.before in
+    let same = sym worlds.0.1 in
     subst IsValidTimeline is (record {
-      before = worlds.1;
-      now = worlds.0;
-      later = (valid.now, valid.later);
+      before = beside t.present w same ws worlds.1;
+      now = worlds.0.0;
+      later = ((valid.now, same), beside t.present w same t.future valid.later);
       bounded =
           let bounded = valid.bounded in let long : length t.past ≡ length (w ∷ ws) = ap length e in
-          omega (arith, bounded, long);
+          let most = ap (λ (b : WorldBounds). b.history) same in
+          omega (arith, bounded, long, most);
     })
 
 pub undo_keeps_valid : (t u : Timeline) → IsValidTimeline t → undone t ≡ Ok u → IsValidTimeline u
@@ -110,15 +121,17 @@ on-valid [] t u e valid h = cc
 on-valid (w ∷ ws) t u e valid h =
     let is : record { past = t.present ∷ t.past; present = w; future = ws } ≡ u =
     same-Ok _ u (on_to (w ∷ ws) t) refl h in
-    let worlds : AllByRecursion IsValidWorld (w ∷ ws) =
-    subst (AllByRecursion IsValidWorld) e valid.later in
+    let worlds : AllByRecursion (IsValidBeside t.present) (w ∷ ws) =
+    subst (AllByRecursion (IsValidBeside t.present)) e valid.later in
+    let same = sym worlds.0.1 in
     subst IsValidTimeline is (record {
-      before = (valid.now, valid.before);
-      now = worlds.0;
-      later = worlds.1;
+      before = ((valid.now, same), beside t.present w same t.past valid.before);
+      now = worlds.0.0;
+      later = beside t.present w same ws worlds.1;
       bounded =
           let bounded = valid.bounded in let long : length t.future ≡ length (w ∷ ws) =
-          ap length e in omega (arith, bounded, long);
+          ap length e in let most = ap (λ (b : WorldBounds). b.history) same in
+          omega (arith, bounded, long, most);
     })
 
 pub redo_keeps_valid : (t u : Timeline) → IsValidTimeline t → redone t ≡ Ok u → IsValidTimeline u
@@ -157,7 +170,7 @@ module _ (t : Timeline) (s : Step) (present : World) (same : present ≡ t.prese
         step_keeps_valid t.present w s (subst IsValidWorld same valid)
         (accepted-step ∙ rw (is, same) refl)
 
-    module _ (b : Bool) (is : b ≡ nat_le MOST_CHANGES (length t.past)) where
+    module _ (b : Bool) (is : b ≡ nat_le t.present.bounds.history (length t.past)) where
       -- the past is full
       pub full : b ≡ true → Changes s t t (Err HistoryFull)
       unfolding changed

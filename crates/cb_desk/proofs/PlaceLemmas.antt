@@ -16,7 +16,6 @@ use Rattle.cb_scan.proofs.FactsWithin.{facts_lie}
 use Rattle.cb_scan.proofs.LineTable.{lines-few}
 use Rattle.cb_tags.specs.Names.{is_file_name}
 use Rattle.cb_desk.specs.Answer.{defines}
-use Rattle.cb_desk.specs.declared.limits.TheConstants.{MOST_BYTES}
 use Rattle.cb_desk.specs.World.{File, Place, is_named, has_file, text_of_file, IsAscending}
 use Rattle.cb_desk.specs.World.{IsPlaceOf}
 use Rattle.cb_desk.specs.Files.{is_before, with_file, without_file}
@@ -156,14 +155,14 @@ text-without files gone name other =
     text-kept (λ f. not (is_named gone f)) name
     (λ f e. rw (same-name f.name name e, other) refl) files
 
-pub text-small : (files : List File) (name : List ℕ)
-    → AllByRecursion (λ (f : File). length f.bytes ≤ MOST_BYTES) files
-    → length (text_of_file files name) ≤ MOST_BYTES
+pub text-small : (most : ℕ) (files : List File) (name : List ℕ)
+    → AllByRecursion (λ (f : File). length f.bytes ≤ most) files
+    → length (text_of_file files name) ≤ most
 unfolding text_of_file
-text-small [] name all = omega arith
-text-small (f ∷ files) name all =
-    elim (is_named name f) as (λ b. length (cond b f.bytes (text_of_file files name)) ≤ MOST_BYTES)
-    [ true ↦ all.0 | false ↦ text-small files name all.1 ]
+text-small most [] name all = omega arith
+text-small most (f ∷ files) name all =
+    elim (is_named name f) as (λ b. length (cond b f.bytes (text_of_file files name)) ≤ most)
+    [ true ↦ all.0 | false ↦ text-small most files name all.1 ]
 
 -- ---- places
 -- a place's file is there

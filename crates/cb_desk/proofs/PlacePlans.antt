@@ -181,6 +181,7 @@ module _ (k : Kept) (p : Planned) (wanted : Option (Option (List ℕ))) (marks f
         versions = agree.text_count;
       };
       world = λ i. record {
+        bounds = k.now.bounds;
         files =
             (ap (files_of a) shown_same
             ∙ files_same k.archive a k.now.names k.now.versions agree k.now.shown all_below) i;

@@ -3,7 +3,6 @@ use Rattle.std.proofs.Common.{◌≡◌, ◌∙◌, ◌≤◌, ◌<◌, ℕ, tru
 use Rattle.std.proofs.Common.{ap, subst, length, take, drop, reverse, arith, length-append}
 use Rattle.std.proofs.Common.{length-take-le}
 use Rattle.std.proofs.Math.Seq.{take-append_seam, drop-append_seam}
-use Rattle.cb_desk.specs.declared.limits.TheConstants.{MOST_CHANGES}
 use Rattle.std.proofs.lemmas.Bool.{true≢false}
 use Rattle.std.specs.Prelude.{Result, Ok, Err, IsErr, MatchResult, is_err}
 use Rattle.std.specs.declared.alloc.AllocError.{AllocError}
@@ -68,7 +67,7 @@ module _ (k l : Kept) (records : List Turn) (done : ℕ) (p : Planned)
         })
 
     pub next_recorded : HasRoomFor k.rooms k.archive k.now p → IsValidWorld v
-        → length (timeline_in from).past < MOST_CHANGES → IsRecorded to
+        → length (timeline_in from).past < k.now.bounds.history → IsRecorded to
     unfolding LeadsOn
     next_recorded fits valid short =
         let back : LeadsBack l.rooms l.archive k.now (turns_back from) =
@@ -98,7 +97,7 @@ module _ (k l : Kept) (records : List Turn) (done : ℕ) (p : Planned)
           valid = subst IsValidTimeline (sym next_is) (record {
             before = is.valid.before;
             now = is.valid.now;
-            later = (valid, tt);
+            later = ((valid, sym (ap (λ (w : World). w.bounds) leads.world)), tt);
             bounded = omega (arith, short);
           });
         }

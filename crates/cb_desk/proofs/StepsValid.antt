@@ -5,7 +5,7 @@ use Rattle.std.proofs.Common.{Some, None, nat_le, nat_lt}
 use Rattle.std.specs.List.{list_any}
 use Rattle.std.specs.List.Sorted.{IsStrictlySortedBy}
 use Rattle.cb_scan.specs.Lines.{IsLineOf}
-use Rattle.cb_desk.specs.declared.limits.TheConstants.{MOST_BYTES, MOST_FILES}
+use Rattle.cb_desk.specs.declared.limits.TheConstants.{MOST_BYTES}
 use Rattle.cb_desk.specs.declared.refusal.Refusal.{Refusal}
 use Rattle.cb_desk.specs.declared.refusal.Refusal.TheVariants.{BadName, NoSuchFile, FileExists}
 use Rattle.cb_desk.specs.declared.refusal.Refusal.TheVariants.{BadText, TooLarge, TooManyFiles}
@@ -49,16 +49,16 @@ not-false false e = cc
 record Loadable (w : World) (name bytes : List ℕ) : Type 0 where
   good : is_file_name name ≡ true
   fresh : has_file w.files name ≡ false
-  small : length bytes ≤ MOST_BYTES
-  room : length w.files < MOST_FILES
+  small : length bytes ≤ w.bounds.file_bytes
+  room : length w.files < w.bounds.files
 
 loadable : (w : World) (name bytes : List ℕ) → load_refusal w name bytes ≡ None
     → Loadable w name bytes
 loadable w name bytes none =
     let named = passed (not (is_file_name name)) BadName _ none in
     let new = passed (has_file w.files name) FileExists _ named.1 in
-    let sized = passed (nat_lt MOST_BYTES (length bytes)) TooLarge _ new.1 in
-    let counted = passed (nat_le MOST_FILES (length w.files)) TooManyFiles _ sized.1 in
+    let sized = passed (nat_lt w.bounds.file_bytes (length bytes)) TooLarge _ new.1 in
+    let counted = passed (nat_le w.bounds.files (length w.files)) TooManyFiles _ sized.1 in
     let small = sized.0 in
     let room = counted.0 in
     record {
@@ -73,7 +73,7 @@ reloadable : (w : World) (name bytes : List ℕ) → IsValidWorld w → reload_r
     → Loadable (unloaded w name) name bytes
 reloadable w name bytes valid none =
     let there = passed (not (has_file w.files name)) NoSuchFile _ none in
-    let sized = passed (nat_lt MOST_BYTES (length bytes)) TooLarge _ there.1 in
+    let sized = passed (nat_lt w.bounds.file_bytes (length bytes)) TooLarge _ there.1 in
     let has = not-false _ there.0 in
     let small = sized.0 in
     let fewer = without_file-fewer w.files name has in
@@ -84,6 +84,19 @@ reloadable w name bytes valid none =
       small = grind (arith, small);
       room = omega (arith, fewer, count);
     }
+
+-- what is loaded, and reloaded, is a source
+pub load-fits : (w : World) (name bytes : List ℕ) → IsValidWorld w
+    → load_refusal w name bytes ≡ None → length bytes ≤ MOST_BYTES
+load-fits w name bytes valid none =
+    let small = (loadable w name bytes none).small in let most = valid.bounds.file_bytes in
+    omega (arith, small, most)
+
+pub reload-fits : (w : World) (name bytes : List ℕ) → IsValidWorld w
+    → reload_refusal w name bytes ≡ None → length bytes ≤ MOST_BYTES
+reload-fits w name bytes valid none =
+    let small = (reloadable w name bytes valid none).small in let most = valid.bounds.file_bytes in
+    omega (arith, small, most)
 
 -- what an accepted rename says of the names
 record Renamable (w : World) (old new : List ℕ) : Type 0 where
@@ -108,8 +121,9 @@ line-lies text n is = is
 load-valid : (w : World) (name bytes : List ℕ) → IsValidWorld w → Loadable w name bytes
     → IsValidWorld (loaded w name bytes)
 load-valid w name bytes valid may = record {
+  bounds = valid.bounds;
   files =
-      with_file-valid w.files (record { name = name; bytes = bytes }) valid.files may.good
+      with_file-valid w.bounds w.files (record { name = name; bytes = bytes }) valid.files may.good
       may.fresh may.small may.room;
   marks =
       marks-with w.files (record { name = name; bytes = bytes }) w.wanted w.marks
@@ -121,7 +135,8 @@ load-valid w name bytes valid may = record {
 
 unload-valid : (w : World) (name : List ℕ) → IsValidWorld w → IsValidWorld (unloaded w name)
 unload-valid w name valid = record {
-  files = without_file-valid w.files name valid.files;
+  bounds = valid.bounds;
+  files = without_file-valid w.bounds w.files name valid.files;
   marks = marks-without w.files name w.wanted w.marks valid.marks;
   frames = places-without IsLineOf line-lies w.files name w.frames valid.frames;
 }
@@ -132,10 +147,12 @@ rename-valid w old new valid may =
     let fewer = without_file-fewer w.files old may.there in
     let count = valid.files.count in
     record {
+      bounds = valid.bounds;
       files =
-          with_file-valid (without_file old w.files) (file_of_new w old new)
-          (without_file-valid w.files old valid.files) may.good
-          (still-gone w.files old new may.fresh) (text-small w.files old valid.files.sizes)
+          with_file-valid w.bounds (without_file old w.files) (file_of_new w old new)
+          (without_file-valid w.bounds w.files old valid.files) may.good
+          (still-gone w.files old new may.fresh)
+          (text-small w.bounds.file_bytes w.files old valid.files.sizes)
           (omega (arith, fewer, count));
       marks = marks-renamed w.files old new may.fresh w.wanted w.marks valid.marks;
       frames = places-renamed IsLineOf line-lies w.files old new may.fresh w.frames valid.frames;
@@ -146,6 +163,7 @@ push-valid : (w : World) (o : Option Place) → IsValidWorld w
     → ((f : Place) → o ≡ Some f → IsPlaceOf w.files f) → IsValidWorld (pushed w o)
 push-valid w None valid is = valid
 push-valid w (Some f) valid is = record {
+  bounds = valid.bounds;
   files = valid.files;
   marks = valid.marks;
   frames = all-join (IsPlaceOf w.files) w.frames (f ∷ []) valid.frames (is f refl, tt);
@@ -168,6 +186,7 @@ unfolding IsStrictlySortedBy
 want-valid w text valid none =
     let may = wantable text none in
     record {
+      bounds = valid.bounds;
       files = valid.files;
       marks = record { short = may.0; some = may.1; held = tt; ascending = tt };
       frames = valid.frames;
@@ -188,6 +207,7 @@ mark-valid w (Some text) (suc n) (Some p) is at valid none =
     (ap (λ ps. slice_get ps n) (sym held) ∙ sym at) in
     let marks = subst (λ o. AreValidMarks w.files o w.marks) is valid.marks in
     record {
+      bounds = valid.bounds;
       files = valid.files;
       marks =
           subst (λ o. AreValidMarks w.files o (toggled p w.marks)) (sym is)
@@ -202,6 +222,7 @@ mark_all-valid w (Some text) is valid none =
     let held = wanted-held w text is valid.files.ascending in
     let marks = subst (λ o. AreValidMarks w.files o w.marks) is valid.marks in
     record {
+      bounds = valid.bounds;
       files = valid.files;
       marks =
           subst (λ o. AreValidMarks w.files o (wanted_places w)) (sym is)
@@ -217,16 +238,20 @@ mark_all-valid w (Some text) is valid none =
 -- what an accepted change of a text says of the files after it
 not-large : (w : World) (old new : List ℕ) (marks : List Place)
     → marked_refusal w (Some old) marks new ≡ None
-    → list_any is_too_large (replaced_files old new w) ≡ false
+    → list_any (is_too_large w.bounds.file_bytes) (replaced_files old new w) ≡ false
 not-large w old new [] none = cc
 not-large w old new (p ∷ ps) none =
-    (passed (list_any is_too_large (replaced_files old new w)) TooLarge None none).0
+    (passed (list_any (is_too_large w.bounds.file_bytes) (replaced_files old new w)) TooLarge None
+    none).0
 
 replaced-world : (w : World) (wanted : Option (List ℕ)) (new : List ℕ) → IsValidWorld w
     → marked_refusal w wanted w.marks new ≡ None → IsValidWorld (replaced_on_marks w wanted new)
 replaced-world w None new valid none = cc
 replaced-world w (Some old) new valid none = record {
-  files = replaced-valid old new w.marks w.files valid.files (not-large w old new w.marks none);
+  bounds = valid.bounds;
+  files =
+      replaced-valid old new w.marks w.bounds w.files valid.files
+      (not-large w old new w.marks none);
   marks = refl;
   frames = frames-kept (replaced_files old new w) w.frames;
 }
@@ -256,10 +281,43 @@ after-valid w (tag name n) valid due =
     push-valid w (nth n (places w.files name)) valid
     (λ f e. nth-place w.files name n f valid.files.ascending e)
 after-valid w pop valid due = record {
+  bounds = valid.bounds;
   files = valid.files;
   marks = valid.marks;
   frames = all-take (IsPlaceOf w.files) _ w.frames valid.frames;
 }
+
+-- a step leaves the bounds
+toggled-bounds : (w : World) (o : Option Place) → (toggled_at w o).bounds ≡ w.bounds
+toggled-bounds w None = refl
+toggled-bounds w (Some p) = refl
+
+pushed-bounds : (w : World) (o : Option Place) → (pushed w o).bounds ≡ w.bounds
+pushed-bounds w None = refl
+pushed-bounds w (Some f) = refl
+
+replaced-bounds : (w : World) (o : Option (List ℕ)) (new : List ℕ)
+    → (replaced_on_marks w o new).bounds ≡ w.bounds
+replaced-bounds w None new = refl
+replaced-bounds w (Some old) new = refl
+
+pub after-bounds : (w : World) (s : Step) → (after w s).bounds ≡ w.bounds
+after-bounds w (load name bytes) = refl
+after-bounds w (reload name bytes) = refl
+after-bounds w (unload name) = refl
+after-bounds w (rename old new) = refl
+after-bounds w (want text) = refl
+after-bounds w (mark n) = toggled-bounds w (nth n (wanted_places w))
+after-bounds w mark_all = refl
+after-bounds w (replace text) = replaced-bounds w w.wanted text
+after-bounds w (tag name n) = pushed-bounds w (nth n (places w.files name))
+after-bounds w pop = refl
+
+pub step-bounds : (w v : World) (s : Step) → step w s ≡ Ok v → v.bounds ≡ w.bounds
+unfolding step
+step-bounds w v s h =
+    ap (λ (x : World). x.bounds) (not-refused (refusal_of w s) (after w s) v h).1
+    ∙ after-bounds w s
 
 pub step_keeps_valid : StepKeepsValid
 unfolding step

@@ -9,7 +9,7 @@ use Rattle.cb_scan.proofs.LineTable.{lines-few}
 use Rattle.cb_desk.specs.declared.limits.TheConstants.{MOST_BYTES, MOST_FILES}
 use Rattle.cb_desk.specs.Answer.{text_rows_in, line_row}
 use Rattle.cb_desk.specs.Search.{holds, lines_with}
-use Rattle.cb_desk.specs.World.{File, AreValidFiles}
+use Rattle.cb_desk.specs.World.{AreValidFiles, File, widest_bounds}
 use Rattle.cb_desk.proofs.Valid.{length-kept}
 
 -- no file has more rows than bytes
@@ -42,7 +42,7 @@ few p (f ∷ files) sizes =
     )
 
 -- the rows of the files of a world
-pub rows-few : (p : List ℕ) (files : List File) → AreValidFiles files
+pub rows-few : (p : List ℕ) (files : List File) → AreValidFiles widest_bounds files
     → length (flat_map (text_rows_in p) files) ≤ MOST_FILES * MOST_BYTES
 rows-few p files valid =
     let count = valid.count in let all = few p files valid.sizes in omega (arith, count, all)

@@ -11,8 +11,8 @@ use Rattle.std.proofs.lemmas.Map.Text.{is_eq-slice_cmp}
 use Rattle.std.proofs.lemmas.List.Filters.{length-filter_both}
 use Rattle.std.proofs.lemmas.List.Kept.{IsStrictlySortedBy-filter}
 use Rattle.cb_tags.specs.Names.{is_file_name}
-use Rattle.cb_desk.specs.declared.limits.TheConstants.{MOST_BYTES, MOST_FILES}
-use Rattle.cb_desk.specs.World.{File, is_named, has_file, AreValidFiles}
+use Rattle.cb_desk.specs.World.{AreBounds, AreValidFiles, File, WorldBounds, has_file, is_named}
+use Rattle.cb_desk.specs.World.{widest_bounds}
 use Rattle.cb_desk.specs.Files.{is_before, with_file, without_file}
 use Rattle.cb_desk.proofs.Placed.{by_name, less-from}
 
@@ -91,10 +91,10 @@ all-both P Q R (x ∷ xs) both all more = (both x all.0 more.0, all-both P Q R x
 
 -- valid files with one more of a good name that is new, not too large, and fewer files than the
 -- limit
-pub with_file-valid : (files : List File) (f : File) → AreValidFiles files
-    → is_file_name f.name ≡ true → has_file files f.name ≡ false → length f.bytes ≤ MOST_BYTES
-    → length files < MOST_FILES → AreValidFiles (with_file f files)
-with_file-valid files f valid good fresh small room =
+pub with_file-valid : (b : WorldBounds) (files : List File) (f : File) → AreValidFiles b files
+    → is_file_name f.name ≡ true → has_file files f.name ≡ false → length f.bytes ≤ b.file_bytes
+    → length files < b.files → AreValidFiles b (with_file f files)
+with_file-valid b files f valid good fresh small room =
     let after : File → Bool = λ g. not (is_before f g) in
     let split : length (filter (is_before f) files) + length (filter after files) ≡ length files =
     length-filter_both (is_before f) after (λ g. refl) files in
@@ -106,10 +106,10 @@ with_file-valid files f valid good fresh small room =
           (all-filter (λ (g : File). IsTrue (is_file_name g.name)) (is_before f) files valid.names)
           (good, all-filter (λ (g : File). IsTrue (is_file_name g.name)) after files valid.names);
       sizes =
-          all-join (λ (g : File). length g.bytes ≤ MOST_BYTES) (filter (is_before f) files)
+          all-join (λ (g : File). length g.bytes ≤ b.file_bytes) (filter (is_before f) files)
           (f ∷ filter after files)
-          (all-filter (λ (g : File). length g.bytes ≤ MOST_BYTES) (is_before f) files valid.sizes)
-          (small, all-filter (λ (g : File). length g.bytes ≤ MOST_BYTES) after files valid.sizes);
+          (all-filter (λ (g : File). length g.bytes ≤ b.file_bytes) (is_before f) files valid.sizes)
+          (small, all-filter (λ (g : File). length g.bytes ≤ b.file_bytes) after files valid.sizes);
       count = omega (arith, length-append (filter (is_before f) files) (f ∷ filter after files));
       ascending =
           sorted-join f (filter (is_before f) files) (filter after files)
@@ -128,14 +128,14 @@ length-kept p xs =
     let split = length-filter_both p (λ x. not (p x)) (λ x. refl) xs in omega (arith, split)
 
 -- valid files without that of a name
-pub without_file-valid : (files : List File) (name : List ℕ) → AreValidFiles files
-    → AreValidFiles (without_file name files)
-without_file-valid files name valid = record {
+pub without_file-valid : (b : WorldBounds) (files : List File) (name : List ℕ)
+    → AreValidFiles b files → AreValidFiles b (without_file name files)
+without_file-valid b files name valid = record {
   names =
       all-filter (λ (g : File). IsTrue (is_file_name g.name))
       (λ f. not (is_named name f)) files valid.names;
   sizes =
-      all-filter (λ (g : File). length g.bytes ≤ MOST_BYTES)
+      all-filter (λ (g : File). length g.bytes ≤ b.file_bytes)
       (λ f. not (is_named name f)) files valid.sizes;
   count =
       let few = length-kept (λ f. not (is_named name f)) files in let count = valid.count in
@@ -153,3 +153,16 @@ without_file-fewer (f ∷ files) name there =
       | true ↦ λ _. let few = length-kept (λ g. not (is_named name g)) files in omega (arith, few)
       | false ↦ λ e. let fewer = without_file-fewer files name e in omega (arith, fewer)
     ]) there
+
+-- valid files are valid within the widest bounds
+pub widest-valid : (b : WorldBounds) (files : List File) → AreBounds b → AreValidFiles b files
+    → AreValidFiles widest_bounds files
+widest-valid b files bounds valid = record {
+  names = valid.names;
+  sizes =
+      all-along (λ (f : File). length f.bytes ≤ b.file_bytes)
+      (λ (f : File). length f.bytes ≤ widest_bounds.file_bytes) files
+      (λ f small. let most = bounds.file_bytes in omega (arith, small, most)) valid.sizes;
+  count = let count = valid.count in let most = bounds.files in omega (arith, count, most);
+  ascending = valid.ascending;
+}

@@ -14,7 +14,7 @@ use Rattle.cb_desk.specs.declared.edits.Edit.{Edit}
 use Rattle.cb_desk.specs.declared.refusal.Refusal.TheVariants.{NothingToUndo, NothingToRedo}
 use Rattle.cb_desk.specs.Timeline.{IsValidTimeline, Timeline, new_timeline, undone, redone}
 use Rattle.cb_desk.specs.Turns.{touched}
-use Rattle.cb_desk.specs.World.{IsValidWorld, empty_world}
+use Rattle.cb_desk.specs.World.{AreBounds, IsValidWorld, WorldBounds, empty_world}
 use Rattle.cb_desk.specs.steps.Edits.{Edits, both, each, edited, renaming, turned_each}
 use Rattle.cb_desk.specs.steps.Edits.{turned_edits}
 use Rattle.cb_desk.specs.steps.Records.{Fits, IsTurn, Kept, KeepsRooms, Numbered, no_numbers, Rooms}
@@ -344,26 +344,33 @@ redo_nothing h all =
     rw none refl
 
 -- the world without a file is within reach
-empty_is_valid : IsValidWorld empty_world
+empty_is_valid : (b : WorldBounds) → AreBounds b → IsValidWorld (empty_world b)
 unfolding IsStrictlySortedBy
-empty_is_valid = record {
+empty_is_valid b bounds = record {
+  bounds = bounds;
   files = record { names = tt; sizes = tt; count = omega arith; ascending = tt };
   marks = refl;
   frames = tt;
 }
 
-pub new_valid : IsValidTimeline new_timeline
-new_valid = record { before = tt; now = empty_is_valid; later = tt; bounded = omega arith }
+pub new_valid : (b : WorldBounds) → AreBounds b → IsValidTimeline (new_timeline b)
+new_valid b bounds = record {
+  before = tt;
+  now = empty_is_valid b bounds;
+  later = tt;
+  bounded = omega arith;
+}
 
-pub nothing_recorded : (k : Kept) → k.now ≡ no_numbers → k.archive.names ≡ [] → k.archive.texts ≡ []
+pub nothing_recorded : (b : WorldBounds) → AreBounds b → (k : Kept) → k.now ≡ no_numbers b
+    → k.archive.names ≡ [] → k.archive.texts ≡ []
     → IsRecorded (record { kept = k; records = []; done = 0 })
 unfolding LeadsBack LeadsOn
-nothing_recorded k is names texts = record {
+nothing_recorded b bounds k is names texts = record {
   within = omega arith;
   used = all_used (record { kept = k; records = []; done = 0 }) no_past no_future;
   back = no_past;
   on = no_future;
-  valid = rw is new_valid;
+  valid = rw is (new_valid b bounds);
 }
   where
     none : IsKept k.rooms k.archive k.now

@@ -4,7 +4,6 @@ use Rattle.std.specs.Prelude.{if◌then◌else◌, filter, not}
 use Rattle.std.specs.Ordering.{nat_cmp, is_lt}
 use Rattle.std.specs.Cmp.Lexicographic.{slice_cmp}
 use Rattle.cb_tags.specs.Names.{is_file_name}
-use Rattle.cb_desk.specs.declared.limits.TheConstants.{MOST_BYTES, MOST_FILES}
 use Rattle.cb_desk.specs.declared.refusal.Refusal.{Refusal}
 use Rattle.cb_desk.specs.declared.refusal.Refusal.TheVariants.{BadName, NoSuchFile, FileExists}
 use Rattle.cb_desk.specs.declared.refusal.Refusal.TheVariants.{TooLarge, TooManyFiles}
@@ -31,8 +30,8 @@ abbrev pub load_refusal : World → List ℕ → List ℕ → Option Refusal
 load_refusal w name bytes =
     if not (is_file_name name) then Some BadName
     else (if has_file w.files name then Some FileExists
-    else (if nat_lt MOST_BYTES (length bytes) then Some TooLarge
-    else (if nat_le MOST_FILES (length w.files) then Some TooManyFiles
+    else (if nat_lt w.bounds.file_bytes (length bytes) then Some TooLarge
+    else (if nat_le w.bounds.files (length w.files) then Some TooManyFiles
     else None)))
 
 -- the world with one more file
@@ -45,7 +44,7 @@ loaded w name bytes = record w { files = with_file (record { name = name; bytes 
 abbrev pub reload_refusal : World → List ℕ → List ℕ → Option Refusal
 reload_refusal w name bytes =
     if not (has_file w.files name) then Some NoSuchFile
-    else (if nat_lt MOST_BYTES (length bytes) then Some TooLarge
+    else (if nat_lt w.bounds.file_bytes (length bytes) then Some TooLarge
     else None)
 
 -- the world in which the file has these bytes, without its marks and its frames

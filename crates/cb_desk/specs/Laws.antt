@@ -1,18 +1,16 @@
 -- What follows from the definitions of worlds and timelines.
 use Rattle.std.specs.Prelude.{◌≡◌, ◌∷◌, [], Ok}
-use Rattle.cb_desk.specs.declared.limits.TheConstants.{MOST_BYTES, MOST_CHANGES}
-use Rattle.cb_desk.specs.declared.limits.TheConstants.{MOST_FILES, MOST_TEXT}
+use Rattle.cb_desk.specs.declared.limits.TheConstants.{MOST_BYTES, MOST_FILES, MOST_TEXT}
 use Rattle.cb_desk.specs.World.{World, IsValidWorld}
 use Rattle.cb_desk.specs.Step.{Step, step}
 use Rattle.cb_desk.specs.Timeline.{Timeline, changed, undone, redone, IsValidTimeline}
 
--- the most bytes and files, the longest text that is wanted or put in place of one, and the most
--- changes of a past
+-- the most bytes and files that bounds allow, and the longest text that is wanted or put in place
+-- of one
 pub record AreLimits : Type 0 where
-  pub bytes : MOST_BYTES ≡ 1000000
-  pub files : MOST_FILES ≡ 4096
+  pub bytes : MOST_BYTES ≡ 268435456
+  pub files : MOST_FILES ≡ 1048576
   pub text : MOST_TEXT ≡ 4096
-  pub changes : MOST_CHANGES ≡ 65536
 
 -- an accepted change followed by undo gives back the past and the present, and the new world is
 -- the future

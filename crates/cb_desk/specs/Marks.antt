@@ -3,7 +3,6 @@ use Rattle.std.specs.Prelude.{ℕ, Bool, nat_lt, List, [], ◌∷◌, length, Op
 use Rattle.std.specs.Prelude.{if◌then◌else◌, filter, map, not}
 use Rattle.std.specs.List.{list_any}
 use Rattle.cb_scan.specs.Order.{put}
-use Rattle.cb_desk.specs.declared.limits.TheConstants.{MOST_BYTES}
 use Rattle.cb_desk.specs.declared.refusal.Refusal.{Refusal}
 use Rattle.cb_desk.specs.declared.refusal.Refusal.TheVariants.{BadText, TooLarge, NoPattern}
 use Rattle.cb_desk.specs.declared.refusal.Refusal.TheVariants.{NoSuchLine, NothingWanted}
@@ -81,9 +80,9 @@ replaced_file old new marks f =
 abbrev pub replaced_files : (old new : List ℕ) → World → List File
 replaced_files old new w = map (replaced_file old new w.marks) w.files
 
--- a file has more bytes than a file may have
-abbrev pub is_too_large : File → Bool
-is_too_large f = nat_lt MOST_BYTES (length f.bytes)
+-- a file has more than so many bytes
+abbrev pub is_too_large : ℕ → File → Bool
+is_too_large most f = nat_lt most (length f.bytes)
 
 -- why marked lines can't be changed: a file would be too large, nothing is wanted, or nothing is
 -- marked
@@ -91,7 +90,8 @@ abbrev pub marked_refusal : World → Option (List ℕ) → List Place → List 
 marked_refusal w None marks new = Some NothingWanted
 marked_refusal w (Some old) [] new = Some NothingMarked
 marked_refusal w (Some old) (p ∷ ps) new =
-    if list_any is_too_large (replaced_files old new w) then Some TooLarge else None
+    if list_any (is_too_large w.bounds.file_bytes) (replaced_files old new w) then Some TooLarge
+    else None
 
 -- why the wanted text can't be replaced: the lowest refusal that applies
 abbrev pub replace_refusal : World → List ℕ → Option Refusal
@@ -101,6 +101,7 @@ replace_refusal w new = if is_short new then marked_refusal w w.wanted w.marks n
 -- that is gone leaves the stack
 abbrev pub with_files : World → List File → World
 with_files w files = record {
+  bounds = w.bounds;
   files = files;
   wanted = None;
   marks = [];

@@ -5,8 +5,14 @@ use Rattle.cb_scan.specs.examples.Functions.{finding}
 use Rattle.cb_scan.specs.Order.{put, in_order}
 use Rattle.cb_desk.specs.declared.refusal.Refusal.TheVariants.{BadName, NoSuchFile, FileExists}
 use Rattle.cb_desk.specs.declared.refusal.Refusal.TheVariants.{NoSuchDefinition, StackEmpty}
-use Rattle.cb_desk.specs.World.{World, File, Place, empty_world, text_of_file}
+use Rattle.cb_desk.specs.declared.refusal.Refusal.TheVariants.{TooLarge, TooManyFiles}
+use Rattle.cb_desk.specs.World.{World, WorldBounds, File, Place, empty_world}
+use Rattle.cb_desk.specs.World.{standard_bounds, text_of_file}
 use Rattle.cb_desk.specs.Step.{step, load, reload, unload, rename, tag, pop}
+
+-- the world without a file, within the bounds of a session that is given none
+abbrev empty : World
+empty = empty_world standard_bounds
 
 -- a file, from two literals
 abbrev file : (name text : List ℕ) → File
@@ -34,7 +40,7 @@ at_b = frame (codes "b.h") 1
 
 abbrev three_files : World
 three_files =
-    record empty_world { files = a ∷ b ∷ d ∷ []; frames = at_a 2 ∷ at_b ∷ at_a 1 ∷ at_b ∷ [] }
+    record empty { files = a ∷ b ∷ d ∷ []; frames = at_a 2 ∷ at_b ∷ at_a 1 ∷ at_b ∷ [] }
 
 -- a file is put between those of a lower and a higher name, and the frames stay
 pub loaded_in_order : step three_files (load (codes "c.c") (codes "new"))
@@ -44,7 +50,7 @@ loaded_in_order = refl
 
 -- capital letters come first
 pub loaded_first : step (record three_files { frames = [] }) (load (codes "Z.c") [])
-    ≡ Ok (record empty_world { files = file (codes "Z.c") [] ∷ a ∷ b ∷ d ∷ []; frames = [] })
+    ≡ Ok (record empty { files = file (codes "Z.c") [] ∷ a ∷ b ∷ d ∷ []; frames = [] })
 unfolding step
 loaded_first = refl
 
@@ -64,7 +70,7 @@ reloaded_the_same = refl
 -- two files with a mark for one text
 abbrev two_marked : World
 two_marked =
-    record empty_world { files = a ∷ b ∷ []; wanted = Some (codes ";"); marks = at_a 2 ∷ at_b ∷ [] }
+    record empty { files = a ∷ b ∷ []; wanted = Some (codes ";"); marks = at_a 2 ∷ at_b ∷ [] }
 
 -- its marks are gone, the wanted text and the marks of the other file stay
 pub reloaded_without_its_marks : step two_marked (reload (codes "a.c") (codes ";"))
@@ -74,7 +80,7 @@ reloaded_without_its_marks = refl
 
 -- a file is taken away with its frames, and the others keep their order
 pub unloaded_with_frames : step three_files (unload (codes "a.c"))
-    ≡ Ok (record empty_world { files = b ∷ d ∷ []; frames = at_b ∷ at_b ∷ [] })
+    ≡ Ok (record empty { files = b ∷ d ∷ []; frames = at_b ∷ at_b ∷ [] })
 unfolding step
 unloaded_with_frames = refl
 
@@ -84,7 +90,7 @@ c = file (codes "c.h") (codes "x;\ny;")
 
 -- a renamed file goes to its new place, and its frames keep theirs
 pub renamed_in_place : step three_files (rename (codes "a.c") (codes "c.h"))
-    ≡ Ok (record empty_world {
+    ≡ Ok (record empty {
       files = b ∷ c ∷ d ∷ [];
       frames = frame (codes "c.h") 2 ∷ at_b ∷ frame (codes "c.h") 1 ∷ at_b ∷ [];
     })
@@ -99,7 +105,7 @@ popped_top = refl
 
 -- two functions `f` on one line, and a third one in another file
 abbrev functions_f : World
-functions_f = record empty_world {
+functions_f = record empty {
   files = file (codes "a.c") (codes "\nf(){}f(){}") ∷ file (codes "b.c") (codes "f(){}") ∷ [];
   frames = frame (codes "b.c") 1 ∷ [];
 }
@@ -158,6 +164,38 @@ unfolding step
 reloaded_bad_name = refl
 
 -- an empty stack has no top
-pub popped_nothing : step empty_world pop ≡ Err StackEmpty
+pub popped_nothing : step empty pop ≡ Err StackEmpty
 unfolding step
 popped_nothing = refl
+
+-- ---- bounds of three files, each of 20 bytes
+
+abbrev three_short : WorldBounds
+three_short = record { files = 3; file_bytes = 20; history = 65536 }
+
+abbrev two_files : World
+two_files = record (empty_world three_short) { files = a ∷ b ∷ [] }
+
+-- a file of 20 bytes is one, and the third; one of 21 bytes is too large, and so is a text of 21
+-- bytes in the place of another
+pub loaded_at_bounds : step two_files (load (codes "c.c") (codes "int c(void) { a(); }"))
+    ≡ Ok (record two_files
+    { files = a ∷ b ∷ file (codes "c.c") (codes "int c(void) { a(); }") ∷ [] })
+unfolding step
+loaded_at_bounds = refl
+
+pub loaded_too_large : step two_files (load (codes "c.c") (codes "int c(void) { a(1); }"))
+    ≡ Err TooLarge
+unfolding step
+loaded_too_large = refl
+
+pub reloaded_too_large : step two_files (reload (codes "b.h") (codes "int c(void) { a(1); }"))
+    ≡ Err TooLarge
+unfolding step
+reloaded_too_large = refl
+
+-- a fourth file is one too many, where its text is not too large as well
+pub loaded_too_many : step (record two_files { files = a ∷ b ∷ d ∷ [] }) (load (codes "c.c") [])
+    ≡ Err TooManyFiles
+unfolding step
+loaded_too_many = refl

@@ -3,11 +3,10 @@
 use Rattle.std.specs.Prelude.{◌≡◌, ◌≤◌, ◌+◌, nat_le, Bool, true, false, List, [], ◌∷◌, length}
 use Rattle.std.specs.Prelude.{Result, Ok, Err, if◌then◌else◌}
 use Rattle.std.specs.List.{AllByRecursion}
-use Rattle.cb_desk.specs.declared.limits.TheConstants.{MOST_CHANGES}
 use Rattle.cb_desk.specs.declared.refusal.Refusal.{Refusal}
 use Rattle.cb_desk.specs.declared.refusal.Refusal.TheVariants.{NothingToUndo, NothingToRedo}
 use Rattle.cb_desk.specs.declared.refusal.Refusal.TheVariants.{HistoryFull, OutOfMemory}
-use Rattle.cb_desk.specs.World.{World, empty_world, IsValidWorld}
+use Rattle.cb_desk.specs.World.{World, WorldBounds, empty_world, IsValidWorld}
 use Rattle.cb_desk.specs.Step.{Step, step}
 
 -- the past and the future, each with its nearest world first, and the present
@@ -16,16 +15,20 @@ pub record Timeline : Type 0 where
   pub present : World
   pub future : List World
 
--- no file, no past and no future
-abbrev pub new_timeline : Timeline
-new_timeline = record { past = []; present = empty_world; future = [] }
+-- within some bounds no file, no past and no future
+abbrev pub new_timeline : WorldBounds → Timeline
+new_timeline b = record { past = []; present = empty_world b; future = [] }
 
--- every world is valid, and there are not too many
+-- a world is valid, and has the bounds of another one
+abbrev pub IsValidBeside : World → World → Type 0
+IsValidBeside present w = IsValidWorld w × (w.bounds ≡ present.bounds)
+
+-- every world is valid within the same bounds, and there are not too many
 pub record IsValidTimeline (t : Timeline) : Type 0 where
-  pub before : AllByRecursion IsValidWorld t.past
+  pub before : AllByRecursion (IsValidBeside t.present) t.past
   pub now : IsValidWorld t.present
-  pub later : AllByRecursion IsValidWorld t.future
-  pub bounded : length t.past + length t.future ≤ MOST_CHANGES
+  pub later : AllByRecursion (IsValidBeside t.present) t.future
+  pub bounded : length t.past + length t.future ≤ t.present.bounds.history
 
 -- the timeline with a new present: the old one joins the past, and the future is gone
 abbrev pub moved_on : Timeline → World → Timeline
@@ -35,7 +38,7 @@ moved_on t w = record { past = t.present ∷ t.past; present = w; future = [] }
 abbrev pub advanced : Timeline → Result World Refusal → Result Timeline Refusal
 advanced t (Err r) = Err r
 advanced t (Ok w) =
-    if nat_le MOST_CHANGES (length t.past) then Err HistoryFull else Ok (moved_on t w)
+    if nat_le t.present.bounds.history (length t.past) then Err HistoryFull else Ok (moved_on t w)
 
 -- the timeline after a change
 unfoldable pub changed : Timeline → Step → Result Timeline Refusal

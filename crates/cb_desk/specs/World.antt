@@ -1,7 +1,7 @@
--- The files of a session at one moment, the text that is wanted with the lines that are marked for
--- a change, and the tag stack.
-use Rattle.std.specs.Prelude.{◌≡◌, ℕ, suc, ◌≤◌, ◌==◌, Bool, ◌&&◌, not, nat_le, List, [], ◌∷◌, ◌++◌}
-use Rattle.std.specs.Prelude.{length, map, IsTrue, Option, None, Some, if◌then◌else◌}
+-- The files of a session at one moment within their bounds, the text that is wanted with the lines
+-- that are marked for a change, and the tag stack.
+use Rattle.std.specs.Prelude.{◌≡◌, ℕ, suc, ◌≤◌, ◌-◌, ◌^◌, ◌==◌, Bool, ◌&&◌, not, nat_le, List, []}
+use Rattle.std.specs.Prelude.{◌∷◌, ◌++◌, length, map, IsTrue, Option, None, Some, if◌then◌else◌}
 use Rattle.std.specs.List.{list_any, AllByRecursion}
 use Rattle.std.specs.List.Sorted.{IsStrictlySortedBy}
 use Rattle.std.specs.Str.{bytes_eq}
@@ -23,17 +23,38 @@ pub record Place : Type 0 where
   pub file : List ℕ
   pub line : ℕ
 
--- the files, ascending by the bytes of their names; the wanted text, and the marks, ascending by
--- file and line; the frames of the tag stack, bottom first
+-- the most files of a world, the most bytes of each, and the most worlds of a past
+pub record WorldBounds : Type 0 where
+  pub files : ℕ
+  pub file_bytes : ℕ
+  pub history : ℕ
+
+-- the widest bounds, within which no number wraps
+abbrev pub widest_bounds : WorldBounds
+widest_bounds = record { files = MOST_FILES; file_bytes = MOST_BYTES; history = 2 ^ 32 - 1 }
+
+-- bounds are no wider
+pub record AreBounds (b : WorldBounds) : Type 0 where
+  pub files : b.files ≤ widest_bounds.files
+  pub file_bytes : b.file_bytes ≤ widest_bounds.file_bytes
+  pub history : b.history ≤ widest_bounds.history
+
+-- the bounds of a session that is given none
+abbrev pub standard_bounds : WorldBounds
+standard_bounds = record { files = 4096; file_bytes = 1000000; history = 65536 }
+
+-- its bounds; the files, ascending by the bytes of their names; the wanted text, and the marks,
+-- ascending by file and line; the frames of the tag stack, bottom first
 pub record World : Type 0 where
+  pub bounds : WorldBounds
   pub files : List File
   pub wanted : Option (List ℕ)
   pub marks : List Place
   pub frames : List Place
 
 -- the world without a file
-abbrev pub empty_world : World
-empty_world = record { files = []; wanted = None; marks = []; frames = [] }
+abbrev pub empty_world : WorldBounds → World
+empty_world b = record { bounds = b; files = []; wanted = None; marks = []; frames = [] }
 
 -- a file has that name
 abbrev pub is_named : List ℕ → File → Bool
@@ -56,11 +77,11 @@ text_named files name = if has_file files name then Some (text_of_file files nam
 abbrev pub IsAscending : List File → Type 0
 IsAscending = IsStrictlySortedBy (λ (f g : File). slice_cmp nat_cmp f.name g.name)
 
--- every limit of files is kept: names, sizes, their number, and their order
-pub record AreValidFiles (files : List File) : Type 0 where
+-- files keep bounds by their sizes and their number, and the rules of names and of their order
+pub record AreValidFiles (b : WorldBounds) (files : List File) : Type 0 where
   pub names : AllByRecursion (λ (f : File). IsTrue (is_file_name f.name)) files
-  pub sizes : AllByRecursion (λ (f : File). length f.bytes ≤ MOST_BYTES) files
-  pub count : length files ≤ MOST_FILES
+  pub sizes : AllByRecursion (λ (f : File). length f.bytes ≤ b.file_bytes) files
+  pub count : length files ≤ b.files
   pub ascending : IsAscending files
 
 -- a place is a line that is there
@@ -97,8 +118,9 @@ abbrev pub AreValidMarks : List File → Option (List ℕ) → List Place → Ty
 AreValidMarks files None marks = marks ≡ []
 AreValidMarks files (Some wanted) marks = AreMarksFor files wanted marks
 
--- the files are valid, and so are the marks and each frame
+-- the bounds and the files are valid, and so are the marks and each frame
 pub record IsValidWorld (w : World) : Type 0 where
-  pub files : AreValidFiles w.files
+  pub bounds : AreBounds w.bounds
+  pub files : AreValidFiles w.bounds w.files
   pub marks : AreValidMarks w.files w.wanted w.marks
   pub frames : AllByRecursion (IsPlaceOf w.files) w.frames

@@ -6,7 +6,6 @@ ghost use Rattle.cb_desk.specs.Step.{place_of};
 ghost use Rattle.cb_desk.specs.declared.spot.NumberedPlace.{NumberedPlace};
 ghost use Rattle.cb_desk.specs.steps.Records.{place_in, world_in};
 ghost use Rattle.cb_desk.specs.steps.Still.{AreStill};
-ghost use Rattle.cb_desk.specs.declared.limits.TheConstants.{MOST_CHANGES};
 ghost use Rattle.cb_desk.specs.World.{World, IsValidWorld};
 ghost use Rattle.cb_desk.specs.steps.Plans.{IsPlan};
 ghost use Rattle.cb_desk.specs.Timeline.{
@@ -20,12 +19,11 @@ ghost use Rattle.cb_desk.specs.Timeline.{
 ghost use Rattle.cb_desk.specs.Turns.{Turns};
 ghost use Rattle.cb_desk.specs.steps.Walks.{IsKept, IsRecorded, timeline_in};
 
-use crate::limits::MOST_CHANGES;
 use crate::plan::Plan;
 use crate::present::Present;
 use crate::record::Record;
 use crate::spot::NumberedPlace;
-use crate::{Change, Refusal};
+use crate::{Bounds, Change, Refusal};
 use cb_index::IndexKind;
 use std::alloc::{AllocError, Global};
 use std::marker::Model;
@@ -54,12 +52,13 @@ impl Model for History {
 
 impl History {
     /// The world without a file, with no past and no future. It takes no memory.
-    pub(crate) fn new(alloc: Global) -> History
-        ensures timeline { timeline_in result ≡ new_timeline }
+    pub(crate) fn new(alloc: Global, bounds: Bounds) -> History
+        ensures timeline { timeline_in result ≡ new_timeline bounds }
         ensures turns { result.kept.turns ≡ 0 }
     {
+        let _files = bounds.files();
         History {
-            present: Present::new(alloc),
+            present: Present::new(alloc, bounds),
             records: Vec::new(alloc),
             done: 0,
         }
@@ -110,9 +109,10 @@ impl History {
 
     /// Whether the past is as long as it may be.
     pub(crate) fn is_full(&self) -> bool
-        ensures { result ≡ nat_le MOST_CHANGES (length (timeline_in self.now).past) }
+        ensures { result
+            ≡ nat_le self.now.kept.now.bounds.history (length (timeline_in self.now).past) }
     {
-        self.done >= MOST_CHANGES
+        self.done >= self.present.bounds().history() as usize
     }
 
     /// Takes the last change back.
@@ -148,7 +148,7 @@ impl History {
     /// Makes the world that a plan leads to the only one to come.
     fn set_next(&mut self, plan: Plan) -> Result<(), AllocError>
         requires { (v : World) × IsPlan self.old.kept plan v × IsValidWorld v
-            × (length (timeline_in self.old).past < MOST_CHANGES) }
+            × (length (timeline_in self.old).past < self.old.kept.now.bounds.history) }
         ensures timeline { (v : World) → IsPlan self.old.kept plan v → MatchResult result
             (λ _. timeline_in self.new ≡ record (timeline_in self.old) { future = v ∷ [] })
             (λ _. timeline_in self.new ≡ timeline_in self.old) }
@@ -167,7 +167,7 @@ impl History {
     /// Goes to the world that a plan leads to. The future is gone.
     pub(crate) fn go(&mut self, plan: Plan) -> Result<(), AllocError>
         requires { (v : World) × IsPlan self.old.kept plan v × IsValidWorld v
-            × (length (timeline_in self.old).past < MOST_CHANGES) }
+            × (length (timeline_in self.old).past < self.old.kept.now.bounds.history) }
         ensures timeline { (v : World) → IsPlan self.old.kept plan v
             → MatchResult result (λ _. timeline_in self.new ≡ moved_on (timeline_in self.old) v)
             (λ _. timeline_in self.new ≡ timeline_in self.old) }

@@ -7,6 +7,7 @@
 #![tactic(auto)]
 
 mod answers;
+mod bounds;
 mod change;
 mod edits;
 mod found;
@@ -31,7 +32,9 @@ mod state;
 mod tags;
 
 pub use answers::{Files, Rows, TagRows};
+pub use bounds::Bounds;
 pub use change::Change;
+pub use limits::{MOST_BYTES, MOST_FILES};
 pub use loading::Loading;
 pub use places::Places;
 pub use refusal::Refusal;

@@ -4,6 +4,8 @@ ghost use Rattle.std.specs.Prelude.{
   ◌≢◌,
   ◌≤◌,
   ◌<◌,
+  ◌+◌,
+  ◌^◌,
   ◌∷◌,
   [],
   false,
@@ -16,7 +18,6 @@ ghost use Rattle.std.specs.Prelude.{
 };
 ghost use Rattle.std.specs.List.{AllByRecursion};
 ghost use Rattle.cb_index.specs.Files.{AreAscending, IsThere};
-ghost use Rattle.cb_desk.specs.declared.limits.TheConstants.{MOST_CHANGES};
 ghost use Rattle.cb_desk.specs.Desk.{Counts, counted};
 ghost use Rattle.cb_desk.specs.Files.{loaded};
 ghost use Rattle.cb_desk.specs.Step.{load};
@@ -25,14 +26,13 @@ ghost use Rattle.cb_desk.specs.World.{IsValidWorld, has_file};
 ghost use Rattle.cb_desk.specs.steps.Loading.{HasRoomToShow};
 
 use crate::history::History;
-use crate::limits::MOST_CHANGES;
 use crate::place_edits::PlaceEdits;
 use crate::present::Present;
 use crate::present::files::only_one;
 use crate::present::refusals::load_refusal;
 use crate::record::Record;
 use crate::scanned::scanned;
-use crate::{Desk, Refusal};
+use crate::{Bounds, Desk, Refusal};
 use cb_index::{Room, Shelf, Shown, Version, put_all_shown, totals_of};
 use cb_scan::Meter;
 use std::alloc::{AllocError, Global};
@@ -42,6 +42,7 @@ use std::marker::Model;
 /// them are there, so that each index is sorted once.
 #[derive(Drop)]
 pub struct Loading {
+    bounds: Bounds,
     shelf: Shelf,
     shown: Vec<Shown>,
     records: Vec<Record>,
@@ -55,12 +56,13 @@ impl Model for Loading {
     ghost Value = { Loaded };
 
     ghost view = { λ l. record {
-      timeline = timeline_in (loads_recorded l.shelf.archive l.shown.items l.records.items);
+      timeline = timeline_in
+          (loads_recorded l.bounds l.shelf.archive l.shown.items l.records.items);
       meter = l.meter;
       turns = l.shelf.turns;
     } };
 
-    ghost invariant = { λ l. AreLoaded l.shelf.archive l.shelf.shown
+    ghost invariant = { λ l. AreLoaded l.bounds l.shelf.archive l.shelf.shown
         l.shown.items l.records.items };
 }
 
@@ -73,7 +75,7 @@ fn make_room(
 ) -> Result<(), AllocError>
     requires names { length shelf.old.archive.names ≡ count }
     requires versions { length shelf.old.archive.texts ≡ count }
-    requires few { count < MOST_CHANGES }
+    requires few { count + 1 < 2 ^ 32 }
     ensures name { OnOk result (length shelf.new.archive.names < shelf.new.archive.name_room) }
     ensures version { OnOk result
         (length shelf.new.archive.texts < shelf.new.archive.version_room) }
@@ -137,13 +139,15 @@ fn show(shelf: &mut Shelf, shown: &[Shown]) -> Result<(), AllocError>
 }
 
 impl Loading {
-    /// Nothing is loaded. It takes no memory.
-    pub fn new(alloc: Global) -> Loading
-        ensures timeline { result.timeline ≡ new_timeline }
+    /// Nothing is loaded yet, within these bounds. It takes no memory.
+    pub fn new(alloc: Global, bounds: Bounds) -> Loading
+        ensures timeline { result.timeline ≡ new_timeline bounds }
         ensures meter { result.meter ≡ 0 }
         ensures turns { result.turns ≡ 0 }
     {
+        let _files = bounds.files();
         Loading {
+            bounds,
             shelf: Shelf::new(alloc),
             shown: Vec::new(alloc),
             records: Vec::new(alloc),
@@ -153,16 +157,18 @@ impl Loading {
 
     /// Whether as much is loaded as there may be changes.
     fn is_full(&self) -> bool
-        ensures { result ≡ nat_le MOST_CHANGES (length self.now.timeline.past) }
+        ensures { result ≡ nat_le self.now.timeline.present.bounds.history
+            (length self.now.timeline.past) }
     {
-        self.records.len() >= MOST_CHANGES
+        self.records.len() >= self.bounds.history() as usize
     }
 
     /// Adds a version under a name that no file has.
     fn add(&mut self, alloc: Global, name: Vec<u8>, version: Version) -> Result<(), AllocError>
         requires fresh { has_file self.old.timeline.present.files name.items ≡ false }
         requires valid { IsValidWorld (loaded self.old.timeline.present name.items version) }
-        requires few { length self.old.timeline.past < MOST_CHANGES }
+        requires few { length self.old.timeline.past
+            < self.old.timeline.present.bounds.history }
         ensures timeline { MatchResult result (λ _. self.new.timeline ≡ moved_on self.old.timeline
             (loaded self.old.timeline.present name.items version))
             (λ _. self.new.timeline ≡ self.old.timeline) }
@@ -201,7 +207,7 @@ impl Loading {
         let _counted = self.meter.read();
         let archive = self.shelf.archive();
         let shown = self.shown.as_slice();
-        if let Some(refusal) = load_refusal(archive, shown, name, bytes.as_slice()) {
+        if let Some(refusal) = load_refusal(self.bounds, archive, shown, name, bytes.as_slice()) {
             return Err(refusal);
         }
         if self.is_full() {
@@ -221,6 +227,7 @@ impl Loading {
             (λ _. self.timeline.past ≢ []) }
     {
         let Loading {
+            bounds,
             mut shelf,
             shown,
             records,
@@ -228,7 +235,7 @@ impl Loading {
         } = self;
         let count = records.len() as u32;
         show(&mut shelf, shown.as_slice())?;
-        let present = Present::loaded(alloc, shelf, count);
+        let present = Present::loaded(alloc, bounds, shelf, count);
         Ok(Desk::over(History::loaded(present, records), meter))
     }
 }

@@ -52,6 +52,7 @@ mod replace;
 mod replaced;
 mod replacement;
 
+use crate::Bounds;
 use crate::place_edits::PlaceEdits;
 use crate::place_list::PlaceList;
 use crate::plan::Plan;
@@ -62,10 +63,12 @@ use std::alloc::{AllocError, Global};
 use std::marker::Model;
 use std::mem;
 
-/// What is shown of an archive, the wanted text, the marks by file and line, the frames, bottom
-/// first; and how many names and versions of the archive this world and those before it use.
+/// The bounds, what is shown of an archive, the wanted text, the marks by file and line, the
+/// frames, bottom first; and how many names and versions of the archive this world and those before
+/// it use.
 #[derive(Drop)]
 pub(crate) struct Present {
+    bounds: Bounds,
     shelf: Shelf,
     wanted: Option<Vec<u8>>,
     marks: PlaceList,
@@ -84,6 +87,7 @@ impl Model for Present {
       archive = p.shelf.archive;
       turns = p.shelf.turns;
       now = record {
+        bounds = p.bounds;
         shown = p.shelf.shown;
         wanted = bytes_if p.wanted;
         marks = p.marks.places;
@@ -186,13 +190,14 @@ fn sum(number: u32, count: usize) -> Option<u32>
 
 impl Present {
     /// The world without a file. It takes no memory.
-    pub(crate) fn new(alloc: Global) -> Present
-        ensures now { result.now ≡ no_numbers }
+    pub(crate) fn new(alloc: Global, bounds: Bounds) -> Present
+        ensures now { result.now ≡ no_numbers bounds }
         ensures names { result.archive.names ≡ [] }
         ensures texts { result.archive.texts ≡ [] }
         ensures turns { result.turns ≡ 0 }
     {
         Present {
+            bounds,
             shelf: Shelf::new(alloc),
             wanted: None,
             marks: PlaceList::new(alloc),
@@ -203,9 +208,9 @@ impl Present {
     }
 
     /// The world of a shelf that shows `count` files, each under a name of its own.
-    pub(crate) fn loaded(alloc: Global, shelf: Shelf, count: u32) -> Present
+    pub(crate) fn loaded(alloc: Global, bounds: Bounds, shelf: Shelf, count: u32) -> Present
         ensures now { result.now
-            ≡ record no_numbers { shown = shelf.shown; names = count; versions = count } }
+            ≡ record (no_numbers bounds) { shown = shelf.shown; names = count; versions = count } }
         ensures archive { result.archive ≡ shelf.archive }
         ensures turns { result.turns ≡ shelf.turns }
         ensures files { result.rooms.files ≡ shelf.entry_room }
@@ -214,6 +219,7 @@ impl Present {
         ensures calls { result.rooms.calls ≡ shelf.call_room }
     {
         Present {
+            bounds,
             shelf,
             wanted: None,
             marks: PlaceList::new(alloc),
@@ -221,6 +227,13 @@ impl Present {
             names: count,
             versions: count,
         }
+    }
+
+    /// Its bounds.
+    pub(crate) fn bounds(&self) -> Bounds
+        ensures { result ≡ self.now.now.bounds }
+    {
+        self.bounds
     }
 
     /// Goes to the world that a record leads to. Then the record leads back.

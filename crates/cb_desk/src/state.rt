@@ -26,7 +26,7 @@ ghost use Rattle.cb_desk.specs.World.{IsValidWorld, text_named};
 ghost use Rattle.cb_desk.specs.steps.Walks.{timeline_in};
 
 use crate::history::History;
-use crate::{Change, Field, Files, Format, Places, Refusal, Rows, TagRows};
+use crate::{Bounds, Change, Field, Files, Format, Places, Refusal, Rows, TagRows};
 use cb_index::{FactKind, IndexKind};
 use cb_scan::{Meter, Source, scan};
 use std::alloc::{AllocError, Global};
@@ -82,14 +82,14 @@ fn scan_files(alloc: Global, meter: &mut Meter, files: Files<'_>) -> Result<u64,
 }
 
 impl Desk {
-    /// The empty world with no past and no future. It takes no memory.
-    pub fn new(alloc: Global) -> Desk
-        ensures timeline { result.timeline ≡ new_timeline }
+    /// The empty world within these bounds, with no past and no future. It takes no memory.
+    pub fn new(alloc: Global, bounds: Bounds) -> Desk
+        ensures timeline { result.timeline ≡ new_timeline bounds }
         ensures meter { result.meter ≡ 0 }
         ensures turns { result.turns ≡ 0 }
     {
         Desk {
-            history: History::new(alloc),
+            history: History::new(alloc, bounds),
             meter: Meter::new(),
         }
     }
@@ -176,6 +176,13 @@ impl Desk {
         ensures { result ≡ self.now.turns }
     {
         self.history.present().turns()
+    }
+
+    /// The bounds of all its worlds.
+    pub fn bounds(&self) -> Bounds
+        ensures { result ≡ self.now.timeline.present.bounds }
+    {
+        self.history.present().bounds()
     }
 
     /// The present files, name and text, by name.

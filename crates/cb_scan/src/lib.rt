@@ -1,4 +1,4 @@
-//! Finds what a C text of at most 1,000,000 bytes defines, uses, calls and includes.
+//! Finds what a C text of at most 268,435,456 bytes defines, uses, calls and includes.
 //!
 //! [`pieces`] cuts a [`Source`] into its lexemes, and [`scan`] finds its [`Facts`]. The layers
 //! above cite the contract of [`scan`]; [`laws`] say what holds of the pieces and facts of every

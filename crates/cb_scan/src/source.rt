@@ -25,20 +25,20 @@ use std::marker::Model;
 use thiserror::Error;
 
 /// The most bytes that a source holds.
-const MOST_BYTES: usize = 1_000_000;
+const MOST_BYTES: usize = 268_435_456;
 
 /// Why bytes are no source, or why a source could not be scanned.
 #[derive(Clone, Copy, Debug, PartialEq, Eq, Error)]
 pub enum ScanError {
-    /// There are more than 1,000,000 bytes.
-    #[error("a source holds at most 1000000 bytes")]
+    /// There are more than 268,435,456 bytes.
+    #[error("a source holds at most 268435456 bytes")]
     TooLarge,
     /// A growth of memory was refused.
     #[error("out of memory")]
     OutOfMemory,
 }
 
-/// A text of at most 1,000,000 bytes, with the places at which its lines begin and the last one
+/// A text of at most 268,435,456 bytes, with the places at which its lines begin and the last one
 /// ends.
 #[derive(Debug, Drop)]
 pub struct Source {
@@ -100,7 +100,7 @@ fn shown(line: &[u8]) -> &[u8]
 }
 
 impl Source {
-    /// The bytes as a source: `TooLarge` over 1,000,000 of them, `OutOfMemory` where a growth was
+    /// The bytes as a source: `TooLarge` over 268,435,456 of them, `OutOfMemory` where a growth was
     /// refused. On an error the bytes are dropped.
     pub fn new(alloc: Global, bytes: Vec<u8>) -> Result<Source, ScanError>
         ensures ok { IfOk result (λ s. s ≡ bytes.items) }

@@ -13,7 +13,7 @@ use Rattle.cb_session.specs.Inputs.{HoldWhole, IsWhole, ending_of, first, inputs
 use Rattle.cb_session.specs.Output.{exchange, output, prompt}
 use Rattle.cb_session.specs.Requests.{Request}
 use Rattle.cb_session.specs.Serving.{IsCutShort}
-use Rattle.cb_session.specs.States.{LeadTo, Leads, State}
+use Rattle.cb_session.specs.States.{LeadTo, State}
 use Rattle.cb_session.specs.steps.Rounds.{ReadsRound}
 use Rattle.cb_tags.proofs.Follows.{HasRead-nothing, HasRead-trans, Some-same}
 use Rattle.cb_session.proofs.Rounds.{inputs-on, led-cons, led-nil}

@@ -33,14 +33,14 @@ Reads-long limit bytes line new is =
 
 -- a line that asks for something by itself
 pub Reads-whole : (limit : ℕ) (bytes line : List ℕ) (new : Reader) (asked : Request)
-    → short_line line ≡ whole asked → ReadsLine limit bytes new line (Ok Line)
+    → short_line limit line ≡ whole asked → ReadsLine limit bytes new line (Ok Line)
     → IsRead (first limit bytes) asked new
 Reads-whole limit bytes line new asked e is =
     IsRead-same (first limit bytes) is.0 asked new (is.1 ∙ ap (λ l. with_block l is.0) e) is.2
 
 -- a line with a block after it
 Reads-with_block : (limit : ℕ) (bytes more line : List ℕ) (mid new : Reader) (asked : LineRequest)
-    (r : Result Input Fault) → short_line line ≡ asked
+    (r : Result Input Fault) → short_line limit line ≡ asked
     → mid.bytes ≡ Some more → ReadsLine limit bytes mid line (Ok Line)
     → Reads (with_block asked more) new r → Reads (first limit bytes) new r
 Reads-with_block limit bytes more line mid new asked r e left is reads =
@@ -49,7 +49,7 @@ Reads-with_block limit bytes more line mid new asked r e left is reads =
     (sym (is.1 ∙ ap (λ l. with_block l is.0) e ∙ ap (with_block asked) rest)) reads
 
 pub Follows-with_block : (limit : ℕ) (line : List ℕ) (old mid new : Reader) (asked : LineRequest)
-    (r : Result Input Fault) → short_line line ≡ asked
+    (r : Result Input Fault) → short_line limit line ≡ asked
     → WhateverFollows old mid (λ bytes left. ReadsLine limit bytes left line (Ok Line))
     → WhateverFollows mid new (λ bytes left. Reads (with_block asked bytes) left r)
     → WhateverFollows old new (λ bytes left. Reads (first limit bytes) left r)

@@ -3,7 +3,7 @@ use Rattle.std.proofs.Common.{◌≡◌, ◌≤◌, ◌+◌, ◌-◌, ◌^◌, �
 use Rattle.std.proofs.Common.{Result, Ok, Err, IsOk, refl, ap, ◌∙◌, arith, sym, subst}
 use Rattle.cb_desk.specs.declared.refusal.Refusal.{Refusal}
 use Rattle.cb_desk.specs.declared.refusal.Refusal.TheVariants.{OutOfMemory}
-use Rattle.cb_desk.specs.World.{File, World}
+use Rattle.cb_desk.specs.World.{File, World, WorldBounds}
 use Rattle.cb_desk.specs.Step.{load, step}
 use Rattle.cb_desk.specs.Timeline.{Timeline, Changes, judged, changed, new_timeline}
 use Rattle.cb_desk.specs.Desk.{Counts, bytes_in, counted}
@@ -124,15 +124,16 @@ last_of_all place t u f (g ∷ fs) end is (first_loaded {u = v} made rest) n e =
 last_of_all place t u f fs end is (first_refused why) n e = cc
 last_of_all place t u f fs end is (memory_refused would) n e = cc
 
-last_refused : (u : Timeline) (all : List File) (n : ℕ) → Loads 0 new_timeline all (Ok u)
+last_refused : (b : WorldBounds) (u : Timeline) (all : List File) (n : ℕ)
+    → Loads 0 (new_timeline b) all (Ok u)
     → n + 1 ≡ length u.past
-    → Loads 0 new_timeline all (Err (record { place = n; why = OutOfMemory }))
-last_refused u [] n loads long =
-    let none = past_of_all 0 new_timeline u [] (Ok u) refl loads in
+    → Loads 0 (new_timeline b) all (Err (record { place = n; why = OutOfMemory }))
+last_refused b u [] n loads long =
+    let none = past_of_all 0 (new_timeline b) u [] (Ok u) refl loads in
     absurd (omega (arith, none, long))
-last_refused u (f ∷ fs) n loads long =
-    let count = past_of_all 0 new_timeline u (f ∷ fs) (Ok u) refl loads in
-    last_of_all 0 new_timeline u f fs (Ok u) refl loads n (omega (arith, count, long))
+last_refused b u (f ∷ fs) n loads long =
+    let count = past_of_all 0 (new_timeline b) u (f ∷ fs) (Ok u) refl loads in
+    last_of_all 0 (new_timeline b) u f fs (Ok u) refl loads n (omega (arith, count, long))
 
 long_past : (ws : List World) → (ws ≡ [] → ⊥) → 1 ≤ length ws
 long_past [] some = absurd (some refl)
@@ -159,16 +160,18 @@ no_files : (fs : List File) → length fs ≡ 0 → fs ≡ []
 no_files [] none = refl
 no_files (f ∷ fs) none = absurd (omega (arith, none))
 
-pub starts_all : (l : Loaded) (place : ℕ) (all left : List File) (r : Result State Ended)
-    → Goes place new_timeline l.timeline all left → length left ≡ 0 → place ≡ length l.timeline.past
+pub starts_all : (b : WorldBounds) (l : Loaded) (place : ℕ) (all left : List File)
+    (r : Result State Ended)
+    → Goes place (new_timeline b) l.timeline all left → length left ≡ 0
+    → place ≡ length l.timeline.past
     → counted l.meter (bytes_in left) ≡ counted 0 (bytes_in all)
     → l.meter ≤ 2 ^ 64 - 1 → l.turns ≡ 0
-    → Starts l place r → Prepares all r
-starts_all l place all left (Ok s) goes none placed scanned fits hidden is =
-    let loads : Loads 0 new_timeline all (Ok s.timeline) =
-    ends place new_timeline l.timeline s.timeline all left goes none is.0 in
+    → Starts l place r → Prepares b all r
+starts_all b l place all left (Ok s) goes none placed scanned fits hidden is =
+    let loads : Loads 0 (new_timeline b) all (Ok s.timeline) =
+    ends place (new_timeline b) l.timeline s.timeline all left goes none is.0 in
     let many : length s.timeline.past ≡ 0 + length all =
-    past_of_all 0 new_timeline s.timeline all (Ok s.timeline) refl loads in
+    past_of_all 0 (new_timeline b) s.timeline all (Ok s.timeline) refl loads in
     let same : length s.timeline.past ≡ length l.timeline.past =
     ap (λ (t : Timeline). length t.past) is.0 in
     let count : place ≡ length all = omega (arith, many, same, placed) in (
@@ -177,13 +180,15 @@ starts_all l place all left (Ok s) goes none placed scanned fits hidden is =
           ∙ ap (λ fs. counted l.meter (bytes_in fs)) (sym (no_files left none)) ∙ scanned,
       is.2 ∙ (λ i. counted (hidden i) (count i)),
     )
-starts_all l place all left (Err (StoppedAt at why)) goes none placed scanned fits hidden is =
+starts_all b l place all left (Err (StoppedAt at why)) goes none placed scanned fits hidden is =
     let last = is.0 in
-    let loads : Loads 0 new_timeline all (Err (record { place = at; why = OutOfMemory })) =
-    last_refused l.timeline all
-    at (ends place new_timeline l.timeline l.timeline all left goes none refl)
+    let loads : Loads 0 (new_timeline b) all (Err (record { place = at; why = OutOfMemory })) =
+    last_refused b l.timeline all
+    at (ends place (new_timeline b) l.timeline l.timeline all left goes none refl)
     (omega (arith, last, placed)) in
-    subst (λ w. Loads 0 new_timeline all (Err (record { place = at; why = w }))) (sym is.1) loads
-starts_all l place all left (Err Done) goes none placed scanned fits hidden is = absurd is
-starts_all l place all left (Err Cut) goes none placed scanned fits hidden is = absurd is
-starts_all l place all left (Err (Fault fault)) goes none placed scanned fits hidden is = absurd is
+    subst (λ w. Loads 0 (new_timeline b) all (Err (record { place = at; why = w }))) (sym is.1)
+    loads
+starts_all b l place all left (Err Done) goes none placed scanned fits hidden is = absurd is
+starts_all b l place all left (Err Cut) goes none placed scanned fits hidden is = absurd is
+starts_all b l place all left (Err (Fault fault)) goes none placed scanned fits hidden is =
+    absurd is

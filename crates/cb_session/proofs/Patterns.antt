@@ -15,7 +15,6 @@ use Rattle.cb_session.specs.Requests.{tags_file, listing, marks, stack, LineRequ
 use Rattle.cb_desk.specs.declared.refusal.Refusal.TheVariants.{BadCount}
 use Rattle.cb_desk.specs.declared.rows.Field.{Field}
 use Rattle.cb_desk.specs.Answer.{field_of_digit}
-use Rattle.cb_session.specs.declared.limits.TheConstants.{MOST_BYTES}
 use Rattle.cb_session.specs.declared.line.Purpose.{Purpose}
 use Rattle.cb_session.specs.declared.line.Purpose.TheVariants.{Load, Reload}
 use Rattle.cb_desk.specs.declared.tags.Format.TheVariants.{Plain, Extended}
@@ -31,18 +30,19 @@ IsPatterned-choice : (b : Bool) (x y : LineRequest) → IsPatterned x → IsPatt
 IsPatterned-choice true x y p q = p
 IsPatterned-choice false x y p q = q
 
-load_sized-patterned : (purpose : Purpose) (name : List ℕ) (n : Option ℕ)
-    → IsPatterned (load_sized purpose name n)
-load_sized-patterned purpose name None = tt
-load_sized-patterned purpose name (Some n) = IsPatterned-choice (nat_lt MOST_BYTES n) _ _ tt tt
+load_sized-patterned : (limit : ℕ) (purpose : Purpose) (name : List ℕ) (n : Option ℕ)
+    → IsPatterned (load_sized limit purpose name n)
+load_sized-patterned limit purpose name None = tt
+load_sized-patterned limit purpose name (Some n) = IsPatterned-choice (nat_lt limit n) _ _ tt tt
 
-load_words-patterned : (purpose : Purpose) (words : List (List ℕ))
-    → IsPatterned (load_words purpose words)
-load_words-patterned purpose [] = load_sized-patterned purpose [] (number_in [])
-load_words-patterned purpose (name ∷ []) = load_sized-patterned purpose name (number_in [])
-load_words-patterned purpose (name ∷ count ∷ []) =
-    load_sized-patterned purpose name (number_in count)
-load_words-patterned purpose (name ∷ count ∷ more ∷ others) = tt
+load_words-patterned : (limit : ℕ) (purpose : Purpose) (words : List (List ℕ))
+    → IsPatterned (load_words limit purpose words)
+load_words-patterned limit purpose [] = load_sized-patterned limit purpose [] (number_in [])
+load_words-patterned limit purpose (name ∷ []) =
+    load_sized-patterned limit purpose name (number_in [])
+load_words-patterned limit purpose (name ∷ count ∷ []) =
+    load_sized-patterned limit purpose name (number_in count)
+load_words-patterned limit purpose (name ∷ count ∷ more ∷ others) = tt
 
 query_of-patterned : (field : Option Field) (pattern : List ℕ) → HasPattern (query_of field pattern)
 query_of-patterned None pattern = tt
@@ -103,13 +103,15 @@ alone-patterned : (e : Request) (words : List (List ℕ)) → HasPattern e → I
 alone-patterned e [] p = p
 alone-patterned e (word ∷ words) p = tt
 
-command-patterned : (word : List ℕ) (rest : Option (List ℕ)) → IsPatterned (command word rest)
+command-patterned : (limit : ℕ) (word : List ℕ) (rest : Option (List ℕ))
+    → IsPatterned (command limit word rest)
 unfolding command
-command-patterned word rest =
+command-patterned limit word rest =
     let words = words_in rest in
     IsPatterned-choice (bytes_eq word (codes "r")) _ _ (alone-patterned rebuild words tt)
-    (IsPatterned-choice (bytes_eq word (codes ":load")) _ _ (load_words-patterned Load words)
-    (IsPatterned-choice (bytes_eq word (codes ":reload")) _ _ (load_words-patterned Reload words)
+    (IsPatterned-choice (bytes_eq word (codes ":load")) _ _ (load_words-patterned limit Load words)
+    (IsPatterned-choice (bytes_eq word (codes ":reload")) _ _
+    (load_words-patterned limit Reload words)
     (IsPatterned-choice (bytes_eq word (codes ":drop")) (whole (drop_words words)) _
     (drop_words-patterned words)
     (IsPatterned-choice (bytes_eq word (codes ":rename")) (whole (rename_words words)) _
@@ -144,14 +146,15 @@ field_line-patterned b bs =
       | false ↦ query_of-patterned (field_of_digit b) bs
     ]
 
-short_line-patterned : (line : List ℕ) → IsPatterned (short_line line)
-short_line-patterned [] = tt
-short_line-patterned (b ∷ bs) =
+short_line-patterned : (limit : ℕ) (line : List ℕ) → IsPatterned (short_line limit line)
+short_line-patterned limit [] = tt
+short_line-patterned limit (b ∷ bs) =
     let parts = cut_at (b ∷ bs) (position is_space (b ∷ bs)) in
     IsPatterned-choice (nat_eq b letter_q || nat_eq b end_of_transmission) (whole quit) _ tt
-    (IsPatterned-choice (is_digit b) (whole (field_line b bs)) (command_line (b ∷ bs))
-    (field_line-patterned b bs) (command-patterned parts.0 parts.1))
+    (IsPatterned-choice (is_digit b) (whole (field_line b bs)) (command_line limit (b ∷ bs))
+    (field_line-patterned b bs) (command-patterned limit parts.0 parts.1))
 
 -- the request of a line has its pattern
-pub HasPattern-whole : (line : List ℕ) (e : Request) → whole e ≡ short_line line → HasPattern e
-HasPattern-whole line e h = subst IsPatterned (sym h) (short_line-patterned line)
+pub HasPattern-whole : (limit : ℕ) (line : List ℕ) (e : Request) → whole e ≡ short_line limit line
+    → HasPattern e
+HasPattern-whole limit line e h = subst IsPatterned (sym h) (short_line-patterned limit line)

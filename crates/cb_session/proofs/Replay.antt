@@ -7,7 +7,7 @@ use Rattle.cb_desk.specs.Survivors.{Kept, kept_after, kept_by, none_kept, or_sta
 use Rattle.cb_desk.specs.Survivors.{timeline_of, worlds_after, worlds_before}
 use Rattle.cb_desk.specs.Survivors as move
 use Rattle.cb_desk.specs.Timeline.{Timeline, changed, judged, new_timeline, redone, undone}
-use Rattle.cb_desk.specs.World.{File, World}
+use Rattle.cb_desk.specs.World.{File, World, WorldBounds}
 use Rattle.cb_desk.proofs.Replays.{moves-replayed}
 use Rattle.cb_session.specs.Operands.{Loads, RefusedOperand, all_loaded, first_loaded}
 use Rattle.cb_session.specs.Operands.{first_refused, memory_refused}
@@ -23,60 +23,62 @@ moved-timeline : (t : Timeline) (reply : World → List ℕ) (r : Result Timelin
 moved-timeline t reply (Ok u) = refl
 moved-timeline t reply (Err e) = refl
 
-request-replayed : (m : Bool) (k : Kept) (e : Request)
-    → (outcome m (timeline_of k) e).timeline ≡ timeline_of (kept_by_request m k e)
+request-replayed : (b : WorldBounds) (m : Bool) (k : Kept) (e : Request)
+    → (outcome m (timeline_of b k) e).timeline ≡ timeline_of b (kept_by_request b m k e)
 unfolding outcome
-request-replayed m k (query field pattern) = refl
-request-replayed m k (change s) =
-    moved-timeline (timeline_of k) (change_reply s) (judged m s (changed (timeline_of k) s))
-    ∙ moves-replayed k (move.change m s)
-request-replayed m k undo =
-    moved-timeline (timeline_of k) (λ _. done_line) (undone (timeline_of k))
-    ∙ moves-replayed k move.undo
-request-replayed m k redo =
-    moved-timeline (timeline_of k) (λ _. done_line) (redone (timeline_of k))
-    ∙ moves-replayed k move.redo
-request-replayed m k rebuild = refl
-request-replayed m k (tags_file format) = refl
-request-replayed m k listing = refl
-request-replayed m k marks = refl
-request-replayed m k stack = refl
-request-replayed m k (refused r) = refl
-request-replayed m k nothing = refl
-request-replayed m k quit = refl
-request-replayed m k overlong = refl
+request-replayed b m k (query field pattern) = refl
+request-replayed b m k (change s) =
+    moved-timeline (timeline_of b k) (change_reply s) (judged m s (changed (timeline_of b k) s))
+    ∙ moves-replayed b k (move.change m s)
+request-replayed b m k undo =
+    moved-timeline (timeline_of b k) (λ _. done_line) (undone (timeline_of b k))
+    ∙ moves-replayed b k move.undo
+request-replayed b m k redo =
+    moved-timeline (timeline_of b k) (λ _. done_line) (redone (timeline_of b k))
+    ∙ moves-replayed b k move.redo
+request-replayed b m k rebuild = refl
+request-replayed b m k (tags_file format) = refl
+request-replayed b m k listing = refl
+request-replayed b m k marks = refl
+request-replayed b m k stack = refl
+request-replayed b m k (refused r) = refl
+request-replayed b m k nothing = refl
+request-replayed b m k quit = refl
+request-replayed b m k overlong = refl
 
 pub output_is_replayed : OutputIsReplayed
 unfolding output replayed_output
-output_is_replayed refusals k [] = refl
-output_is_replayed refusals k (e ∷ es) =
+output_is_replayed b refusals k [] = refl
+output_is_replayed b refusals k (e ∷ es) =
     let m = first_refusal refusals in
-    let first = exchange m (timeline_of k) e in
-    ap (λ t. first ++ output (later_refusals refusals) t es) (request-replayed m k e)
-    ∙ ap (λ l. first ++ l) (output_is_replayed (later_refusals refusals) (kept_by_request m k e) es)
+    let first = exchange m (timeline_of b k) e in
+    ap (λ t. first ++ output (later_refusals refusals) t es) (request-replayed b m k e)
+    ∙ ap (λ l. first ++ l) (output_is_replayed b (later_refusals refusals)
+    (kept_by_request b m k e) es)
 
 -- an accepted load
-load-replayed : (k : Kept) (f : File) (u : Timeline)
-    → changed (timeline_of k) (load f.name f.bytes) ≡ Ok u → u ≡ timeline_of (kept_by k (load_of f))
-load-replayed k f u is = ap (or_stays (timeline_of k)) (sym is) ∙ moves-replayed k (load_of f)
+load-replayed : (b : WorldBounds) (k : Kept) (f : File) (u : Timeline)
+    → changed (timeline_of b k) (load f.name f.bytes) ≡ Ok u
+    → u ≡ timeline_of b (kept_by b k (load_of f))
+load-replayed b k f u is = ap (or_stays (timeline_of b k)) (sym is) ∙ moves-replayed b k (load_of f)
 
 same-Ok : (a b : Timeline) (r : Result Timeline RefusedOperand) → r ≡ Ok a → r ≡ Ok b → a ≡ b
 same-Ok a b r e h = cc
 
-loads-replayed : (place : ℕ) (start : Timeline) (k : Kept) (files : List File)
+loads-replayed : (b : WorldBounds) (place : ℕ) (start : Timeline) (k : Kept) (files : List File)
     (end : Result Timeline RefusedOperand) (t : Timeline)
-    → start ≡ timeline_of k → end ≡ Ok t → Loads place start files end
-    → t ≡ timeline_of (kept_after k (map load_of files))
+    → start ≡ timeline_of b k → end ≡ Ok t → Loads place start files end
+    → t ≡ timeline_of b (kept_after b k (map load_of files))
 unfolding kept_after
-loads-replayed place start k [] end t at ends all_loaded =
+loads-replayed b place start k [] end t at ends all_loaded =
     sym (same-Ok start t (Ok start) refl ends) ∙ at
-loads-replayed place start k (f ∷ fs) end t at ends (first_loaded {u = u} is rest) =
-    loads-replayed (place + 1) u (kept_by k (load_of f)) fs end t
-    (load-replayed k f u (subst (λ v. changed v (load f.name f.bytes) ≡ Ok u) at is)) ends rest
-loads-replayed place start k (f ∷ fs) end t at ends (first_refused is) = cc
-loads-replayed place start k (f ∷ fs) end t at ends (memory_refused is) = cc
+loads-replayed b place start k (f ∷ fs) end t at ends (first_loaded {u = u} is rest) =
+    loads-replayed b (place + 1) u (kept_by b k (load_of f)) fs end t
+    (load-replayed b k f u (subst (λ v. changed v (load f.name f.bytes) ≡ Ok u) at is)) ends rest
+loads-replayed b place start k (f ∷ fs) end t at ends (first_refused is) = cc
+loads-replayed b place start k (f ∷ fs) end t at ends (memory_refused is) = cc
 
 pub operands_are_replayed : OperandsAreReplayed
 unfolding replay worlds_before worlds_after
-operands_are_replayed files t loads =
-    loads-replayed 0 new_timeline none_kept files (Ok t) t refl refl loads
+operands_are_replayed b files t loads =
+    loads-replayed b 0 (new_timeline b) none_kept files (Ok t) t refl refl loads

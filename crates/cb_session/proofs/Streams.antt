@@ -181,17 +181,17 @@ answered limit bytes line xs rest new e r h k =
           let short : length xs ≤ MOST_LINE = grind (arith, nat_tests) in
           let all : line ≡ xs = k ∙ take_all MOST_LINE xs short in
           let test : nat_lt MOST_LINE (length xs) ≡ false = grind (arith, nat_tests) in
-          let asks : line_asks limit xs ≡ short_line xs =
+          let asks : line_asks limit xs ≡ short_line limit xs =
           ap (λ b. cond b (whole overlong) (cond (nat_lt MOST_LINE (length xs))
-          (whole (refused LineTooLong)) (short_line xs))) within
-          ∙ ap (λ b. cond b (whole (refused LineTooLong)) (short_line xs)) test in
-          (rest, e ∙ ap (λ l. with_block l rest) (asks ∙ ap short_line (sym all)), r)
+          (whole (refused LineTooLong)) (short_line limit xs))) within
+          ∙ ap (λ b. cond b (whole (refused LineTooLong)) (short_line limit xs)) test in
+          (rest, e ∙ ap (λ l. with_block l rest) (asks ∙ ap (short_line limit) (sym all)), r)
       | false ↦ λ t.
           let test : nat_lt MOST_LINE (length xs) ≡ true = grind (arith, nat_tests) in
           let asks : line_asks limit xs ≡ whole (refused LineTooLong) =
           ap (λ b. cond b (whole overlong) (cond (nat_lt MOST_LINE (length xs))
-          (whole (refused LineTooLong)) (short_line xs))) within
-          ∙ ap (λ b. cond b (whole (refused LineTooLong)) (short_line xs)) test in
+          (whole (refused LineTooLong)) (short_line limit xs))) within
+          ∙ ap (λ b. cond b (whole (refused LineTooLong)) (short_line limit xs)) test in
           (rest, e ∙ ap (λ l. with_block l rest) asks, r)
     ] in
     f (nat_le (length xs) MOST_LINE) refl
@@ -322,7 +322,7 @@ over limit line rest old mid byte s h =
     ap (λ f. f.request) parts
     ∙ ap (λ b. (with_block (cond b (whole overlong)
     (cond (nat_lt MOST_LINE (length (take at all))) (whole (refused LineTooLong))
-    (short_line (take at all)))) (after_first is_line_feed all)).request) test
+    (short_line limit (take at all)))) (after_first is_line_feed all)).request) test
 
 pub first_overlong : (limit : ℕ) (bytes line : List ℕ) (old mid new : Reader) (byte : ℕ)
     → Seen old mid line limit → HasRead mid new (byte ∷ []) → byte ≢ 10

@@ -84,7 +84,7 @@ not_ended s p q = cc
 -- a block that is cut
 Unread-block : (limit : ℕ) (line : List ℕ) (old mid new : Reader) (purpose : Purpose)
     (name : List ℕ) (count : ℕ)
-    → short_line line ≡ block purpose name count
+    → short_line limit line ≡ block purpose name count
     → WhateverFollows old mid (λ bytes left. ReadsLine limit bytes left line (Ok Line))
     → StopsBefore count mid new → new.stage ≡ Failed → IsUnread limit old new
 Unread-block limit line old mid new purpose name count asks w h failed =
@@ -103,7 +103,7 @@ Unread-block limit line old mid new purpose name count asks w h failed =
 
 pub Unread-change : (limit : ℕ) (line : List ℕ) (old mid new : Reader) (purpose : Purpose)
     (name : List ℕ) (count : ℕ) (r : Result Input Fault)
-    → short_line line ≡ block purpose name count
+    → short_line limit line ≡ block purpose name count
     → WhateverFollows old mid (λ bytes left. ReadsLine limit bytes left line (Ok Line))
     → IfErr r (λ fault. fault ≡ Read → StopsBefore count mid new) → IfErr r (IsReadFault mid new)
     → IfErr r (λ fault. fault ≡ Read → IsUnread limit old new)

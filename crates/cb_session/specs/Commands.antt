@@ -12,7 +12,7 @@ use Rattle.cb_desk.specs.declared.rows.Field.{Field}
 use Rattle.cb_desk.specs.declared.tags.Format.TheVariants.{Plain, Extended}
 use Rattle.cb_desk.specs.Answer.{field_of_digit}
 use Rattle.cb_desk.specs.Step.{unload, rename, want, mark, mark_all, replace, tag, pop}
-use Rattle.cb_session.specs.declared.limits.TheConstants.{MOST_DIGITS, MOST_BYTES}
+use Rattle.cb_session.specs.declared.limits.TheConstants.{MOST_DIGITS}
 use Rattle.cb_session.specs.declared.line.Purpose.{Purpose}
 use Rattle.cb_session.specs.declared.line.Purpose.TheVariants.{Load, Reload}
 use Rattle.cb_session.specs.Requests.{Request, query, change, undo, redo, rebuild, tags_file}
@@ -49,18 +49,19 @@ abbrev pub words_in : Option (List ℕ) → List (List ℕ)
 words_in None = []
 words_in (Some rest) = slice_split is_space rest
 
--- a load or a reload by its name and the number of bytes of its block, which has a limit
-abbrev pub load_sized : Purpose → List ℕ → Option ℕ → LineRequest
-load_sized purpose name None = whole (refused BadCount)
-load_sized purpose name (Some n) =
-    if nat_lt MOST_BYTES n then whole (refused BadCount) else block purpose name n
+-- a load or a reload by its name and the number of bytes of its block, where a run allows at most
+-- `limit` bytes in it
+abbrev pub load_sized : ℕ → Purpose → List ℕ → Option ℕ → LineRequest
+load_sized limit purpose name None = whole (refused BadCount)
+load_sized limit purpose name (Some n) =
+    if nat_lt limit n then whole (refused BadCount) else block purpose name n
 
 -- `:load` and `:reload`: a missing word is empty, and a third word is too many
-abbrev pub load_words : Purpose → List (List ℕ) → LineRequest
-load_words purpose [] = load_sized purpose [] (number_in [])
-load_words purpose (name ∷ []) = load_sized purpose name (number_in [])
-load_words purpose (name ∷ count ∷ []) = load_sized purpose name (number_in count)
-load_words purpose (name ∷ count ∷ more ∷ others) = whole (refused UnknownCommand)
+abbrev pub load_words : ℕ → Purpose → List (List ℕ) → LineRequest
+load_words limit purpose [] = load_sized limit purpose [] (number_in [])
+load_words limit purpose (name ∷ []) = load_sized limit purpose name (number_in [])
+load_words limit purpose (name ∷ count ∷ []) = load_sized limit purpose name (number_in count)
+load_words limit purpose (name ∷ count ∷ more ∷ others) = whole (refused UnknownCommand)
 
 -- a tags file by its number: 1 is plain, 2 extended
 abbrev pub tags_numbered : Option ℕ → Request
@@ -120,12 +121,13 @@ abbrev pub alone : Request → List (List ℕ) → LineRequest
 alone r [] = whole r
 alone r (word ∷ words) = whole (refused UnknownCommand)
 
--- a command by its word and the rest of its line
-unfoldable pub command : List ℕ → Option (List ℕ) → LineRequest
-command word rest =
+-- a command by its word and the rest of its line, where a run allows at most `limit` bytes in a
+-- block
+unfoldable pub command : ℕ → List ℕ → Option (List ℕ) → LineRequest
+command limit word rest =
     if bytes_eq word (codes "r") then alone rebuild (words_in rest)
-    else (if bytes_eq word (codes ":load") then load_words Load (words_in rest)
-    else (if bytes_eq word (codes ":reload") then load_words Reload (words_in rest)
+    else (if bytes_eq word (codes ":load") then load_words limit Load (words_in rest)
+    else (if bytes_eq word (codes ":reload") then load_words limit Reload (words_in rest)
     else (if bytes_eq word (codes ":drop") then whole (drop_words (words_in rest))
     else (if bytes_eq word (codes ":rename") then whole (rename_words (words_in rest))
     else (if bytes_eq word (codes ":mark") then whole (mark_words (words_in rest))
@@ -148,8 +150,9 @@ cut_at text None = (text, None)
 cut_at text (Some place) = (take place text, Some (drop (place + 1) text))
 
 -- a command by its line
-abbrev pub command_line : List ℕ → LineRequest
-command_line line = let parts = cut_at line (position is_space line) in command parts.0 parts.1
+abbrev pub command_line : ℕ → List ℕ → LineRequest
+command_line limit line =
+    let parts = cut_at line (position is_space line) in command limit parts.0 parts.1
 
 -- a query of a field, which has a pattern
 abbrev pub query_of : Option Field → List ℕ → Request
@@ -172,9 +175,9 @@ field_line b bs = if b == digit_5 then want_of bs else query_of (field_of_digit 
 
 -- what a line of at most 4,096 bytes asks for: nothing, the end, the field of its first digit, or a
 -- command
-abbrev pub short_line : List ℕ → LineRequest
-short_line [] = whole nothing
-short_line (b ∷ bs) =
+abbrev pub short_line : ℕ → List ℕ → LineRequest
+short_line limit [] = whole nothing
+short_line limit (b ∷ bs) =
     if b == letter_q || b == end_of_transmission then whole quit
     else (if is_digit b then whole (field_line b bs)
-    else command_line (b ∷ bs))
+    else command_line limit (b ∷ bs))

@@ -21,11 +21,12 @@ use Rattle.cb_session.specs.Requests.{LineRequest, whole, block}
 abbrev pub is_line_feed : ℕ → Bool
 is_line_feed b = b == line_feed
 
--- what a line asks for, where a run allows at most `limit` bytes in a line
+-- what a line asks for, where a run allows at most `limit` bytes in a line, and in a block
 abbrev pub line_asks : ℕ → List ℕ → LineRequest
 line_asks limit line =
     if nat_lt limit (length line) then whole overlong
-    else (if nat_lt MOST_LINE (length line) then whole (refused LineTooLong) else short_line line)
+    else (if nat_lt MOST_LINE (length line) then whole (refused LineTooLong)
+    else short_line limit line)
 
 -- a request, and the bytes that are left after it
 pub record First : Type 0 where
@@ -93,6 +94,7 @@ begin_with f (Some ended) after =
 begin_with f None after = record after { requests = f.request ∷ after.requests }
 
 -- the inputs of a byte stream, where a run allows so many lines and at most `limit` bytes in each
+-- of them and in each block
 unfoldable pub inputs : ℕ → ℕ → List ℕ → Inputs
 inputs zero limit bytes = record { requests = []; ending = Fault ManyLines; rest = bytes }
 inputs (suc lines) limit bytes =

@@ -6,7 +6,7 @@ use Rattle.cb_session.specs.declared.input.Ended.{Ended}
 use Rattle.cb_session.specs.declared.input.Ended.TheVariants.{Operand as StoppedAt}
 use Rattle.cb_session.specs.declared.operands.Operand.{Operand}
 use Rattle.cb_desk.specs.Desk.{bytes_in, counted}
-use Rattle.cb_desk.specs.World.{File}
+use Rattle.cb_desk.specs.World.{File, WorldBounds}
 use Rattle.cb_desk.specs.Step.{load}
 use Rattle.cb_desk.specs.Timeline.{Timeline, new_timeline, changed}
 use Rattle.cb_tags.specs.Readers.{Reader}
@@ -39,22 +39,24 @@ pub data Loads : ℕ → Timeline → List File → Result Timeline RefusedOpera
       → IsOk (changed t (load f.name f.bytes))
       → Loads place t (f ∷ fs) (Err (record { place = place; why = OutOfMemory }))
 
--- the operands are loads of a new timeline: each text is scanned once, and each file is shown once
-abbrev pub LoadsAll : List File → Result State RefusedOperand → Type 0
-LoadsAll files (Ok s) =
-    Loads 0 new_timeline files (Ok s.timeline)
+-- the operands are loads of a new timeline within some bounds: each text is scanned once, and each
+-- file is shown once
+abbrev pub LoadsAll : WorldBounds → List File → Result State RefusedOperand → Type 0
+LoadsAll b files (Ok s) =
+    Loads 0 (new_timeline b) files (Ok s.timeline)
     × (s.meter ≡ counted 0 (bytes_in files)) × (s.turns ≡ counted 0 (length files))
-LoadsAll files (Err stop) = Loads 0 new_timeline files (Err stop)
+LoadsAll b files (Err stop) = Loads 0 (new_timeline b) files (Err stop)
 
 -- all operands are loaded; or the first that is refused ends the run
-abbrev pub Prepares : List File → Result State Ended → Type 0
-Prepares files (Ok s) = LoadsAll files (Ok s)
-Prepares files (Err (StoppedAt place why)) =
-    LoadsAll files (Err (record { place = place; why = why }))
-Prepares files (Err _) = ⊥
+abbrev pub Prepares : WorldBounds → List File → Result State Ended → Type 0
+Prepares b files (Ok s) = LoadsAll b files (Ok s)
+Prepares b files (Err (StoppedAt place why)) =
+    LoadsAll b files (Err (record { place = place; why = why }))
+Prepares b files (Err _) = ⊥
 
--- a run over these bytes, which allows so many lines and at most `limit` bytes in each, that begins
--- where the loads lead; where one is refused nothing is read and nothing is written
+-- a run over these bytes, which allows so many lines and at most `limit` bytes in each of them and
+-- in each block, that begins where the loads lead; where one is refused nothing is read and nothing
+-- is written
 abbrev pub RunsFrom : Result State RefusedOperand → (lines limit : ℕ) → List ℕ → Reader
     → Writer → Writer → Ended → Type 0
 RunsFrom (Ok s) lines limit bytes feed old new ended =
@@ -62,9 +64,9 @@ RunsFrom (Ok s) lines limit bytes feed old new ended =
 RunsFrom (Err stop) lines limit bytes feed old new ended =
     (ended ≡ StoppedAt stop.place stop.why) × (feed.bytes ≡ Some bytes) × (new ≡ old)
 
--- a run with operands
-abbrev pub Runs : List File → (lines limit : ℕ) → List ℕ → Reader
+-- a run with operands, within some bounds
+abbrev pub Runs : WorldBounds → List File → (lines limit : ℕ) → List ℕ → Reader
     → Writer → Writer → Ended → Type 0
-Runs files lines limit bytes feed old new ended =
-    (end : Result State RefusedOperand) × LoadsAll files end
+Runs b files lines limit bytes feed old new ended =
+    (end : Result State RefusedOperand) × LoadsAll b files end
     × RunsFrom end lines limit bytes feed old new ended

@@ -5,30 +5,31 @@ use Rattle.cb_desk.specs.Step.{load}
 use Rattle.cb_desk.specs.Survivors.{Kept, Move, kept_after, kept_by, none_kept, timeline_of}
 use Rattle.cb_desk.specs.Survivors as move
 use Rattle.cb_desk.specs.Timeline.{Timeline, new_timeline}
-use Rattle.cb_desk.specs.World.{File}
+use Rattle.cb_desk.specs.World.{File, WorldBounds}
 use Rattle.cb_session.specs.Operands.{Loads}
 use Rattle.cb_session.specs.Output.{exchange, first_refusal, later_refusals, output}
 use Rattle.cb_session.specs.Requests.{Request, change, undo, redo}
 
 -- the changes after a request; only changes, undo and redo move anything
-abbrev pub kept_by_request : Bool → Kept → Request → Kept
-kept_by_request out_of_memory k (change s) = kept_by k (move.change out_of_memory s)
-kept_by_request out_of_memory k undo = kept_by k move.undo
-kept_by_request out_of_memory k redo = kept_by k move.redo
-kept_by_request out_of_memory k _ = k
+abbrev pub kept_by_request : WorldBounds → Bool → Kept → Request → Kept
+kept_by_request b out_of_memory k (change s) = kept_by b k (move.change out_of_memory s)
+kept_by_request b out_of_memory k undo = kept_by b k move.undo
+kept_by_request b out_of_memory k redo = kept_by b k move.redo
+kept_by_request b out_of_memory k _ = k
 
 -- the output of requests behind some changes; the list says which of them memory refused
-unfoldable pub replayed_output : List Bool → Kept → List Request → List ℕ
-replayed_output refusals k [] = []
-replayed_output refusals k (e ∷ es) =
-    exchange (first_refusal refusals) (timeline_of k) e
-    ++ replayed_output (later_refusals refusals) (kept_by_request (first_refusal refusals) k e) es
+unfoldable pub replayed_output : WorldBounds → List Bool → Kept → List Request → List ℕ
+replayed_output b refusals k [] = []
+replayed_output b refusals k (e ∷ es) =
+    exchange (first_refusal refusals) (timeline_of b k) e
+    ++ replayed_output b (later_refusals refusals)
+    (kept_by_request b (first_refusal refusals) k e) es
 
 -- the output of a run is that
 abbrev pub OutputIsReplayed : Type 0
 OutputIsReplayed =
-    (refusals : List Bool) (k : Kept) (es : List Request)
-    → output refusals (timeline_of k) es ≡ replayed_output refusals k es
+    (b : WorldBounds) (refusals : List Bool) (k : Kept) (es : List Request)
+    → output refusals (timeline_of b k) es ≡ replayed_output b refusals k es
 
 -- an operand is a change like any other
 abbrev pub load_of : File → Move
@@ -37,5 +38,5 @@ load_of f = move.change false (load f.name f.bytes)
 -- a run begins where the loads of its operands lead
 abbrev pub OperandsAreReplayed : Type 0
 OperandsAreReplayed =
-    (files : List File) (t : Timeline) → Loads 0 new_timeline files (Ok t)
-    → t ≡ timeline_of (kept_after none_kept (map load_of files))
+    (b : WorldBounds) (files : List File) (t : Timeline) → Loads 0 (new_timeline b) files (Ok t)
+    → t ≡ timeline_of b (kept_after b none_kept (map load_of files))

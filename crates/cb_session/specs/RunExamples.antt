@@ -12,6 +12,7 @@ use Rattle.cb_desk.specs.Answer.{distinct, unindented}
 use Rattle.cb_desk.specs.Refusals.{text_of}
 use Rattle.cb_desk.specs.Step.{step, load, reload, unload, rename, tag}
 use Rattle.cb_desk.specs.Timeline.{new_timeline, changed, undone, redone}
+use Rattle.cb_desk.specs.World.{standard_bounds}
 use Rattle.cb_tags.specs.TagLineExamples.{lining}
 use Rattle.cb_session.specs.declared.input.Ended.TheVariants.{Done, Cut, Fault}
 use Rattle.cb_session.specs.declared.input.Fault.TheVariants.{LongLine, ManyLines}
@@ -89,7 +90,7 @@ unfolding reading
 many_lines = refl
 
 -- moves and refusals
-pub moves_shown : output [] new_timeline
+pub moves_shown : output [] (new_timeline standard_bounds)
     (change (load (codes "a.c") (codes "{}")) ∷ undo ∷ undo ∷ redo ∷ refused NoPattern ∷ quit ∷ [])
     ≡ codes ">> cscope: done\n>> cscope: done\n>> cscope: refused: nothing to undo\n"
     ++ codes ">> cscope: done\n>> cscope: refused: no pattern\n>> "
@@ -97,7 +98,7 @@ unfolding running
 moves_shown = refl
 
 -- one undo takes a reload back
-pub reload_undone : output [] new_timeline
+pub reload_undone : output [] (new_timeline standard_bounds)
     (change (load (codes "a.c") (codes "{}")) ∷ change (reload (codes "a.c") (codes "x"))
     ∷ undo ∷ undo ∷ undo ∷ [])
     ≡ codes ">> cscope: done\n>> cscope: done\n>> cscope: done\n>> cscope: done\n"
@@ -106,14 +107,14 @@ unfolding running
 reload_undone = refl
 
 -- memory refused the load, and so there is nothing to undo
-pub refusal_shown : output (true ∷ []) new_timeline
+pub refusal_shown : output (true ∷ []) (new_timeline standard_bounds)
     (change (load (codes "a.c") (codes "{}")) ∷ undo ∷ [])
     ≡ codes ">> cscope: refused: out of memory\n>> cscope: refused: nothing to undo\n"
 unfolding running
 refusal_shown = refl
 
 -- a file is loaded, asked for its function, and taken away again
-pub query_shown : output [] new_timeline
+pub query_shown : output [] (new_timeline standard_bounds)
     (change (load (codes "f.c") (codes " f(){}")) ∷ query Definition (codes "f")
     ∷ undo ∷ query Definition (codes "f") ∷ [])
     ≡ codes ">> cscope: done\n>> cscope: 1 lines\nf.c f 1 f(){}\n"

@@ -3,6 +3,7 @@ use Rattle.std.specs.Prelude.{◌≡◌, ℕ, Bool, true, false, List, [], ◌�
 use Rattle.cb_desk.specs.Desk.{Counts, DeskState, IsBetween, bytes_in, counted, scanned}
 use Rattle.cb_desk.specs.Timeline.{Timeline, changed, judged, new_timeline, redone, undone}
 use Rattle.cb_desk.specs.Turns.{Turns}
+use Rattle.cb_desk.specs.World.{WorldBounds}
 use Rattle.cb_session.specs.Output.{first_refusal, later_refusals, outcome}
 use Rattle.cb_session.specs.Requests.{Request, change, rebuild, redo, undo}
 
@@ -16,9 +17,9 @@ pub record State : Type 0 where
 abbrev pub state_of : DeskState → State
 state_of d = record { timeline = d.timeline; meter = d.meter; turns = d.turns }
 
--- no file and no past, and nothing was scanned or shown
-abbrev pub new_state : State
-new_state = record { timeline = new_timeline; meter = 0; turns = 0 }
+-- within some bounds no file and no past, and nothing was scanned or shown
+abbrev pub new_state : WorldBounds → State
+new_state b = record { timeline = new_timeline b; meter = 0; turns = 0 }
 
 -- a rebuild scans so many bytes, or no more where memory was refused
 abbrev pub RebuildCounts : Bool → (all old new : ℕ) → Type 0

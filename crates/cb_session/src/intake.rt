@@ -92,7 +92,7 @@ impl Intake {
         match self.read_line(limits, feed)? {
             LineRead::End => Ok(Input::End),
             LineRead::Long => Ok(Input::Refused(Refusal::LineTooLong)),
-            LineRead::Line => match line_asks(self.line.as_slice()) {
+            LineRead::Line => match line_asks(limits.line, self.line.as_slice()) {
                 Asked::Whole(input) => Ok(input),
                 Asked::Block(purpose, name, count) => {
                     read_change(alloc, purpose, name, count, feed)

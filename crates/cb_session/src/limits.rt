@@ -8,14 +8,11 @@ pub(crate) const MOST_LINE: usize = 4_096;
 /// The most digits of a number in a command.
 pub(crate) const MOST_DIGITS: usize = 9;
 
-/// The most bytes of a block.
-pub(crate) const MOST_BYTES: u32 = 1_000_000;
-
 /// The limits of a run.
 #[derive(Clone, Copy, Debug)]
 pub struct Limits {
-    /// The most bytes of a line before its line feed; a longer line ends the run. It is more than a
-    /// command may have, so at least 4,097.
+    /// The most bytes of a line before its line feed, and of a block. A longer line ends the run,
+    /// and a longer block is refused. It is more than a command may have, so at least 4,097.
     pub line: u64,
     /// The most lines that are read. The bytes of a block are no lines.
     pub lines: u64,

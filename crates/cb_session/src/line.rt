@@ -32,7 +32,7 @@ ghost use Rattle.cb_session.specs.Commands.{
 ghost use Rattle.cb_session.specs.Models.{request_of, command_of, line_request_of};
 ghost use Rattle.cb_session.specs.steps.Words.{rest_of, words_after, parts_of};
 
-use crate::limits::{MOST_BYTES, MOST_DIGITS};
+use crate::limits::MOST_DIGITS;
 use crate::{Command, Input};
 use cb_desk::{Change, Field, Format, Refusal};
 
@@ -115,28 +115,28 @@ fn cut_word(text: &[u8]) -> (&[u8], Option<&[u8]>)
 }
 
 /// A load or a reload by its name and its count.
-fn load_sized<'a>(purpose: Purpose, name: &'a [u8], count: &[u8]) -> Asked<'a>
-    ensures { line_request_of result ≡ load_sized purpose name.now (number_in count.now) }
+fn load_sized<'a>(limit: u64, purpose: Purpose, name: &'a [u8], count: &[u8]) -> Asked<'a>
+    ensures { line_request_of result ≡ load_sized limit purpose name.now (number_in count.now) }
 {
     match number_in(count) {
-        Some(count) if count <= MOST_BYTES => Asked::Block(purpose, name, count),
+        Some(count) if count as u64 <= limit => Asked::Block(purpose, name, count),
         _ => Asked::Whole(Input::Refused(Refusal::BadCount)),
     }
 }
 
 /// A load or a reload by the words after it.
-fn load_words(purpose: Purpose, rest: Option<&[u8]>) -> Asked<'_>
-    ensures { line_request_of result ≡ load_words purpose (words_after rest.entry) }
+fn load_words(limit: u64, purpose: Purpose, rest: Option<&[u8]>) -> Asked<'_>
+    ensures { line_request_of result ≡ load_words limit purpose (words_after rest.entry) }
 {
     let Some(words) = rest else {
-        return load_sized(purpose, b"", b"");
+        return load_sized(limit, purpose, b"", b"");
     };
     let (name, rest) = cut_word(words);
     let Some(rest) = rest else {
-        return load_sized(purpose, name, b"");
+        return load_sized(limit, purpose, name, b"");
     };
     match cut_word(rest) {
-        (count, None) => load_sized(purpose, name, count),
+        (count, None) => load_sized(limit, purpose, name, count),
         (_, Some(_)) => Asked::Whole(Input::Refused(Refusal::UnknownCommand)),
     }
 }
@@ -301,15 +301,15 @@ fn field_line(digit: u8, rest: &[u8]) -> Input<'_>
 
 /// A command by its word and the rest of its line.
 #[tactic(auto, unfolding(crate::specs::Commands::command))]
-fn command<'a>(word: &[u8], rest: Option<&'a [u8]>) -> Asked<'a>
-    ensures { line_request_of result ≡ command word.now (rest_of rest.entry) }
+fn command<'a>(limit: u64, word: &[u8], rest: Option<&'a [u8]>) -> Asked<'a>
+    ensures { line_request_of result ≡ command limit word.now (rest_of rest.entry) }
 {
     if word == b"r".as_slice() {
         alone(Command::Rebuild, rest)
     } else if word == b":load".as_slice() {
-        load_words(Purpose::Load, rest)
+        load_words(limit, Purpose::Load, rest)
     } else if word == b":reload".as_slice() {
-        load_words(Purpose::Reload, rest)
+        load_words(limit, Purpose::Reload, rest)
     } else if word == b":drop".as_slice() {
         Asked::Whole(drop_words(rest))
     } else if word == b":rename".as_slice() {
@@ -342,21 +342,21 @@ fn command<'a>(word: &[u8], rest: Option<&'a [u8]>) -> Asked<'a>
 }
 
 /// A command by its line.
-fn command_line(line: &[u8]) -> Asked<'_>
-    ensures { line_request_of result ≡ command_line line.now }
+fn command_line(limit: u64, line: &[u8]) -> Asked<'_>
+    ensures { line_request_of result ≡ command_line limit line.now }
 {
     let (word, rest) = cut_word(line);
-    command(word, rest)
+    command(limit, word, rest)
 }
 
-/// What a line of at most 4,096 bytes asks for.
-pub fn line_asks(line: &[u8]) -> Asked<'_>
-    ensures { line_request_of result ≡ short_line line.now }
+/// What a line of at most 4,096 bytes asks for, where a run allows `limit` bytes in a block.
+pub fn line_asks(limit: u64, line: &[u8]) -> Asked<'_>
+    ensures { line_request_of result ≡ short_line limit line.now }
 {
     match line {
         [] => Asked::Whole(Input::Nothing),
         [b'q' | 4, ..] => Asked::Whole(Input::End),
         [digit, pattern @ ..] if is_digit(*digit) => Asked::Whole(field_line(*digit, pattern)),
-        _ => command_line(line),
+        _ => command_line(limit, line),
     }
 }

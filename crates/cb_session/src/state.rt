@@ -15,7 +15,7 @@ use crate::places::{put_marks, put_stack};
 use crate::queries::{put_listing, put_query, put_tags};
 use crate::reply::{put_move, put_prompt, put_refusal};
 use crate::{Command, Ended, Fault, Going, Input, Intake, Limits};
-use cb_desk::{Change, Desk, Field};
+use cb_desk::{Bounds, Change, Desk, Field};
 use cb_tags::{Feed, Sink};
 use std::alloc::Global;
 use std::io::{BufRead, Write};
@@ -36,12 +36,12 @@ impl Model for Session {
 }
 
 impl Session {
-    /// A session with no file and no past. It takes no memory.
-    pub fn new(alloc: Global) -> Session
-        ensures { result ≡ new_state }
+    /// A session within these bounds, with no file and no past. It takes no memory.
+    pub fn new(alloc: Global, bounds: Bounds) -> Session
+        ensures { result ≡ new_state bounds }
     {
         Session {
-            desk: Desk::new(alloc),
+            desk: Desk::new(alloc, bounds),
         }
     }
 

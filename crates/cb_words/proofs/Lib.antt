@@ -1,3 +1,4 @@
+pub mod Bounded
 pub mod Choices
 pub mod Local
 pub mod Refusing

@@ -1,14 +1,17 @@
 -- The command line: its subcommands, and the job that the words give.
-use Rattle.std.specs.Prelude.{◌≡◌, ◌≢◌, Bool, List, [], ◌∷◌, Option, None, Some, true, false, codes}
-use Rattle.std.specs.Prelude.{map, string_bytes, unwrap_or}
+use Rattle.std.specs.Prelude.{◌≡◌, ◌≢◌, ℕ, Bool, List, [], ◌∷◌, Option, None, Some, true, false}
+use Rattle.std.specs.Prelude.{codes, map, string_bytes, unwrap_or}
 use Rattle.std.specs.Str.{bytes_eq}
-use Rattle.clap.specs.Words.{App, Row, Rule, Text, all_of, first_of, new_app}
+use Rattle.std.specs.Str.Parse.{digits_value, without_leading_plus}
+use Rattle.clap.specs.Words.{App, IsUnsignedIn, Row, Rule, Text, all_of, first_of, new_app}
 use Rattle.clap.specs.Words.{new_rule, with_rule, with_subcommand}
 use Rattle.clap.specs.declared.builder.ArgAction.TheVariants.{Append, SetTrue}
+use Rattle.clap.specs.declared.builder.ValueParser.TheVariants.{Unsigned}
 use Rattle.cb_desk.specs.Answer.{field_of_digit}
 use Rattle.cb_desk.specs.declared.rows.Field.{Field}
 use Rattle.cb_desk.specs.declared.tags.Format.{Format}
 use Rattle.cb_desk.specs.declared.tags.Format.TheVariants.{Plain, Extended}
+use Rattle.cb_desk.specs.World.{WorldBounds, standard_bounds}
 use Rattle.cb_words.specs.declared.job.Job.{Job}
 use Rattle.cb_words.specs.declared.job.Job.TheVariants.{Line, Find, Tags}
 
@@ -32,9 +35,33 @@ abbrev pub format_rule : Rule
 format_rule = record (new_rule (codes "format"))
     { long = Some (codes "format"); value_names = 1; defaults = codes "1" ∷ [] }
 
--- `line [FILE..]`: a session over standard input and output
+-- the most files, and the most bytes of a file, that bounds may have
+abbrev pub most_files : ℕ
+most_files = 1048576
+
+abbrev pub most_file_bytes : ℕ
+most_file_bytes = 268435456
+
+-- an option that takes a number from 1 to `most`, with a default
+abbrev pub most_rule : (id long : Text) (most : ℕ) (default : Text) → Rule
+most_rule id long most default = record (new_rule id) {
+  long = Some long;
+  value_names = 1;
+  parser = Some (Unsigned 1 most);
+  defaults = default ∷ [];
+}
+
+-- a command with `--max-files N` and `--max-file-bytes N`, where nothing is said
+-- `--max-files 4096 --max-file-bytes 1000000`
+abbrev pub with_bounds : App → App
+with_bounds a =
+    with_rule (with_rule a (most_rule (codes "max_files") (codes "max-files") most_files
+    (codes "4096"))) (most_rule (codes "max_file_bytes") (codes "max-file-bytes") most_file_bytes
+    (codes "1000000"))
+
+-- `line [--max-files N] [--max-file-bytes N] [FILE..]`: a session over standard input and output
 abbrev pub line_app : App
-line_app = with_rule (new_app (codes "line")) (files_rule false)
+line_app = with_rule (with_bounds (new_app (codes "line"))) (files_rule false)
 
 -- NUM, the digit of a field, and PATTERN
 abbrev pub num_rule : Rule
@@ -43,17 +70,18 @@ num_rule = record (new_rule (codes "num")) { value_names = 1; required = true }
 abbrev pub pattern_rule : Rule
 pattern_rule = record (new_rule (codes "pattern")) { value_names = 1; required = true }
 
--- `find NUM PATTERN FILE..`: one search
+-- `find [--max-files N] [--max-file-bytes N] NUM PATTERN FILE..`: one search
 abbrev pub find_app : App
 find_app =
-    with_rule (with_rule (with_rule (new_app (codes "find")) num_rule) pattern_rule)
+    with_rule (with_bounds (with_rule (with_rule (new_app (codes "find")) num_rule) pattern_rule))
     (files_rule true)
 
--- `tags [-x] [-f TAGSFILE] [--format FORMAT] FILE..`: a tags file, or a listing
+-- `tags [-x] [-f TAGSFILE] [--format FORMAT] [--max-files N] [--max-file-bytes N] FILE..`: a tags
+-- file, or a listing
 abbrev pub tags_app : App
 tags_app =
-    with_rule (with_rule (with_rule (with_rule (new_app (codes "tags")) listing_rule) tagsfile_rule)
-    format_rule) (files_rule true)
+    with_rule (with_bounds (with_rule (with_rule (with_rule (new_app (codes "tags")) listing_rule)
+    tagsfile_rule) format_rule)) (files_rule true)
 
 -- a command that needs one of its subcommands and tells its version
 abbrev pub with_version : App → App
@@ -83,20 +111,35 @@ abbrev pub field_of : Text → Option Field
 field_of (digit ∷ []) = field_of_digit digit
 field_of _ = None
 
+-- a text writes a number from 1 to `most`
+abbrev pub Writes : ℕ → Text → ℕ → Type 0
+Writes most text n =
+    IsUnsignedIn 1 most text × (n ≡ digits_value 10 (without_leading_plus text))
+
+-- the bounds that were found; the history always has the standard one
+pub record AreBoundsOf (rows : List Row) (b : WorldBounds) : Type 0 where
+  pub files : Writes most_files (first_or (codes "max_files") (codes "4096") rows) b.files
+  pub file_bytes : Writes most_file_bytes
+      (first_or (codes "max_file_bytes") (codes "1000000") rows) b.file_bytes
+  pub history : b.history ≡ standard_bounds.history
+
 -- the job is the one of the subcommand that was found, and of what was found for its arguments
 abbrev pub IsJobOf : Option (Text × List Row) → Job → Type 0
 IsJobOf None job = ⊥
-IsJobOf (Some found) (Line files) =
+IsJobOf (Some found) (Line bounds files) =
     (found.0 ≡ codes "line")
+    × AreBoundsOf found.1 bounds
     × (map string_bytes files.items ≡ all_or_none (codes "files") found.1)
-IsJobOf (Some found) (Find field pattern files) =
+IsJobOf (Some found) (Find bounds field pattern files) =
     (found.0 ≡ codes "find")
+    × AreBoundsOf found.1 bounds
     × (field_of (first_or (codes "num") [] found.1) ≡ Some field)
     × (string_bytes pattern ≡ first_or (codes "pattern") [] found.1)
     × (string_bytes pattern ≢ [])
     × (map string_bytes files.items ≡ all_or_none (codes "files") found.1)
-IsJobOf (Some found) (Tags listing tagsfile format files) =
+IsJobOf (Some found) (Tags bounds listing tagsfile format files) =
     (found.0 ≡ codes "tags")
+    × AreBoundsOf found.1 bounds
     × (listing ≡ bytes_eq (first_or (codes "listing") (codes "false") found.1) (codes "true"))
     × (string_bytes tagsfile ≡ first_or (codes "tagsfile") (codes "tags") found.1)
     × (format_number format ≡ first_or (codes "format") (codes "1") found.1)

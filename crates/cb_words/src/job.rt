@@ -7,20 +7,22 @@ ghost use Rattle.cb_words.specs.Usages.{IsUsageOf, TellsKind};
 mod command;
 mod matched;
 
-use cb_desk::{Field, Format};
+use cb_desk::{Bounds, Field, Format};
 use clap::Error;
 use clap::error::ErrorKind;
 use std::alloc::{AllocError, Global};
 
-/// What the program is to do.
+/// What the program is to do, within which bounds.
 #[derive(Debug, Drop)]
 pub enum Job {
     /// A session over standard input and output, with these files loaded first.
     Line {
+        bounds: Bounds,
         files: Vec<String>,
     },
     /// The rows that answer a question about these files. The pattern is not empty.
     Find {
+        bounds: Bounds,
         field: Field,
         pattern: String,
         files: Vec<String>,
@@ -28,6 +30,7 @@ pub enum Job {
     /// The tags of these files: a listing on standard output, or else a tags file of this name and
     /// form.
     Tags {
+        bounds: Bounds,
         listing: bool,
         tagsfile: String,
         format: Format,
@@ -76,7 +79,8 @@ pub fn job_of(alloc: Global, words: &[String]) -> Result<Job, Usage>
     };
     match found {
         Some(job) => Ok(job),
-        // clap refuses words without a subcommand and other formats, so no words lead here.
+        // clap refuses words without a subcommand, other formats and other bounds, so no words lead
+        // here.
         None => Err(Usage::Wrong(command.render_usage()?)),
     }
 }

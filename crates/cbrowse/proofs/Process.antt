@@ -17,7 +17,6 @@ use Rattle.cb_tags.specs.Writers.{Writer}
 use Rattle.cb_words.specs.declared.job.Usage.{Usage}
 use Rattle.cbrowse.specs.Endings.{EndsJob, EndsProcess, EndsUsage, TakesWords}
 use Rattle.cbrowse.specs.Messages.{Says, usage_said, usage_status}
-use Rattle.cbrowse.specs.Program.{most_read}
 use Rattle.cb_words.specs.Usages.{IsUsageOf}
 
 -- the words were taken
@@ -67,10 +66,10 @@ rest_of (Some xs) limit before got e h = h ∙ ap (λ b. b ++ take limit xs) e
 
 pub read_all : {F : Type 0} (remaining : F → Option (List ℕ)) (t : Take F) (file : F)
     (before got : List ℕ)
-    → take_limit t ≡ most_read → take_inner t ≡ file → before ≡ []
+    → (most : ℕ) → take_limit t ≡ most → take_inner t ≡ file → before ≡ []
     → IfSome (take_remaining remaining t) (λ xs. got ≡ before ++ xs)
-    → IfSome (remaining file) (λ left. got ≡ take most_read left)
-read_all remaining t file before got limit inner e h =
-    subst (λ f. IfSome (remaining f) (λ left. got ≡ take most_read left)) inner
+    → IfSome (remaining file) (λ left. got ≡ take most left)
+read_all remaining t file before got most limit inner e h =
+    subst (λ f. IfSome (remaining f) (λ left. got ≡ take most left)) inner
     (subst (λ n. IfSome (remaining (take_inner t)) (λ left. got ≡ take n left)) limit
     (rest_of (remaining (take_inner t)) (take_limit t) before got e h))

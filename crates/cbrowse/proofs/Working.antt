@@ -5,6 +5,7 @@ use Rattle.std.proofs.Common.{None, Result, Ok, Err}
 use Rattle.std.proofs.lemmas.Bool.{true≢false}
 use Rattle.std.proofs.lemmas.List.{length-map, take-map}
 use Rattle.std.specs.Global.{Global}
+use Rattle.cb_desk.specs.World.{WorldBounds}
 use Rattle.cb_session.specs.declared.input.Ended.{Ended}
 use Rattle.cb_session.specs.declared.input.Fault.{Fault as WhatFailed}
 use Rattle.cb_session.specs.declared.input.Fault.TheVariants.{Write}
@@ -19,16 +20,21 @@ use Rattle.cbrowse.specs.declared.execute.finish.Finish.{Finish}
 use Rattle.cbrowse.specs.declared.execute.finish.Finish.TheVariants.{Ran, Unreadable, Unwritable}
 use Rattle.cb_words.specs.declared.job.Job.{Job}
 use Rattle.cb_words.specs.declared.job.Job.TheVariants.{Line, Find, Tags}
-use Rattle.cbrowse.specs.Messages.{files_of}
+use Rattle.cbrowse.specs.Messages.{bounds_of, files_of, most_line_bytes}
 use Rattle.cbrowse.specs.Program.{DoesFrom, DoesInto, DoesJob, DoesLoaded, MakesFile, Reaches}
-use Rattle.cbrowse.specs.Program.{Works, WritesFile, WritesText, file_text, most_line_bytes}
+use Rattle.cbrowse.specs.Program.{Works, WritesFile, WritesText, file_text}
 use Rattle.cbrowse.specs.Program.{most_lines, writes_file}
 
 -- operands under the names of a job's files are contents of those files
-pub reaches : (job : Job) (ops : List Operand) (end : Result State RefusedOperand)
+pub reaches : (job : Job) (ops : List Operand) (b : WorldBounds)
+    (end : Result State RefusedOperand) → b ≡ bounds_of job
     → map (λ o. o.name.items) ops ≡ files_of job
-    → LoadsAll (map file_of_operand ops) end → Reaches job end
-reaches job ops end named loads = (map file_of_operand ops, names ops ∙ named, loads)
+    → LoadsAll b (map file_of_operand ops) end → Reaches job end
+reaches job ops b end same named loads = (
+  map file_of_operand ops,
+  names ops ∙ named,
+  subst (λ x. LoadsAll x (map file_of_operand ops) end) same loads,
+)
   where
     names : (os : List Operand)
         → map (λ f. f.name) (map file_of_operand os) ≡ map (λ o. o.name.items) os
@@ -36,30 +42,31 @@ reaches job ops end named loads = (map file_of_operand ops, names ops ∙ named,
     names (o ∷ os) = ap (λ ns. o.name.items ∷ ns) (names os)
 
 -- an operand was refused
-pub stopped : (job : Job) (ops : List Operand) (feed : Reader) (out : Writer) (ended : Ended)
+pub stopped : (job : Job) (ops : List Operand) (b : WorldBounds) (feed : Reader) (out : Writer)
+    (ended : Ended) → b ≡ bounds_of job
     → map (λ o. o.name.items) ops ≡ files_of job
-    → Prepares (map file_of_operand ops) (Err ended)
+    → Prepares b (map file_of_operand ops) (Err ended)
     → (end : Result State RefusedOperand) × Reaches job end
     × DoesLoaded job end feed feed out out ended None
-stopped job ops feed out (StoppedAt place why) named p = (
+stopped job ops b feed out (StoppedAt place why) same named p = (
   Err (record { place = place; why = why }),
-  reaches job ops (Err (record { place = place; why = why })) named p,
+  reaches job ops b (Err (record { place = place; why = why })) same named p,
   (refl, (refl, refl), refl),
 )
-stopped job ops feed out Done named p = absurd p
-stopped job ops feed out Cut named p = absurd p
-stopped job ops feed out (Fault fault) named p = absurd p
+stopped job ops b feed out Done same named p = absurd p
+stopped job ops b feed out Cut same named p = absurd p
+stopped job ops b feed out (Fault fault) same named p = absurd p
 
 -- a job that writes a tags file writes its text, and leaves the reader alone
 pub file_written : (job : Job) (lines limit : ℕ) (t : State) (feed feed' : Reader)
     (old new : Writer) (ended : Ended) → writes_file job ≡ true
     → DoesJob job lines limit t feed feed' old new ended
     → (feed' ≡ feed) × WritesText (file_text job t.timeline.present) old new ended
-file_written (Line files) lines limit t feed feed' old new ended writes does =
+file_written (Line bounds files) lines limit t feed feed' old new ended writes does =
     absurd (true≢false (sym writes))
-file_written (Find field pattern files) lines limit t feed feed' old new ended writes does =
+file_written (Find bounds field pattern files) lines limit t feed feed' old new ended writes does =
     absurd (true≢false (sym writes))
-file_written (Tags listing tagsfile format files) lines limit t feed feed' old new
+file_written (Tags bounds listing tagsfile format files) lines limit t feed feed' old new
     ended writes does = does
 
 -- where a write failed the file can't be written
@@ -90,12 +97,19 @@ into_file job t feed feed' out (Unreadable place) (Some file) writes reached mak
 into_file job t feed feed' out (Unreadable place) None writes reached makes same = absurd makes
 
 -- a job over the input and the output
-pub over_both : (job : Job) (t : State) (feed feed' : Reader) (out out' : Writer) (ended : Ended)
-    → writes_file job ≡ false
-    → DoesJob job most_lines most_line_bytes t feed feed' out out' ended
+pub over_both : (job : Job) (b : WorldBounds) (lines limit : ℕ) (t : State) (feed feed' : Reader)
+    (out out' : Writer) (ended : Ended) → b ≡ bounds_of job → lines ≡ most_lines
+    → limit ≡ most_line_bytes b → writes_file job ≡ false
+    → DoesJob job lines limit t feed feed' out out' ended
     → DoesFrom t job feed feed' out out' ended None
-over_both job t feed feed' out out' ended writes does =
-    subst (λ b. DoesInto b t job feed feed' out out' ended None) (sym writes) (does, refl)
+over_both job b lines limit t feed feed' out out' ended same all most writes does =
+    let most_of = most_line_bytes (bounds_of job) in
+    subst (λ x. DoesInto x t job feed feed' out out' ended None) (sym writes) (
+      subst (λ n. DoesJob job n most_of t feed feed' out out' ended) all
+          (subst (λ m. DoesJob job lines m t feed feed' out out' ended)
+          (most ∙ ap most_line_bytes same) does),
+      refl,
+    )
 
 -- a file that can't be read, behind those that were
 pub stops_at : (names : List (List ℕ)) (files : List (String Global)) (idx place : ℕ) → place ≡ idx

@@ -1,9 +1,10 @@
 -- How the program ends: its exit status and what it says on standard error.
 use Rattle.std.specs.Prelude.{◌≡◌, ◌==◌, ◌&&◌, ◌+◌, ◌/◌, ◌%◌, ℕ, Bool, false, not, nat_lt, List, []}
-use Rattle.std.specs.Prelude.{◌∷◌, ◌++◌, codes, map, string_bytes, if◌then◌else◌}
+use Rattle.std.specs.Prelude.{◌∷◌, ◌++◌, codes, decimal, map, max, string_bytes, if◌then◌else◌}
 use Rattle.std.specs.Io.KnownBytes.{Appends}
 use Rattle.std.specs.List.{flat_map, slice_index_or}
 use Rattle.cb_desk.specs.Refusals.{text_of}
+use Rattle.cb_desk.specs.World.{WorldBounds}
 use Rattle.cb_session.specs.declared.input.Ended.{Ended}
 use Rattle.cb_session.specs.declared.input.Ended.TheVariants.{Done, Cut, Fault, Operand}
 use Rattle.cb_session.specs.declared.input.Fault.{Fault as Reason}
@@ -21,15 +22,25 @@ use Rattle.cb_words.specs.declared.job.Usage.TheVariants.{Memory as NoMemory}
 
 -- the names of a job's files
 abbrev pub files_of : Job → List (List ℕ)
-files_of (Line files) = map string_bytes files.items
-files_of (Find field pattern files) = map string_bytes files.items
-files_of (Tags listing tagsfile format files) = map string_bytes files.items
+files_of (Line bounds files) = map string_bytes files.items
+files_of (Find bounds field pattern files) = map string_bytes files.items
+files_of (Tags bounds listing tagsfile format files) = map string_bytes files.items
+
+-- the bounds of a job
+abbrev pub bounds_of : Job → WorldBounds
+bounds_of (Line bounds files) = bounds
+bounds_of (Find bounds field pattern files) = bounds
+bounds_of (Tags bounds listing tagsfile format files) = bounds
+
+-- the most bytes of a line of a session: as many as a file may have, and never fewer than 1,000,000
+abbrev pub most_line_bytes : WorldBounds → ℕ
+most_line_bytes b = max b.file_bytes 1000000
 
 -- the name of a job's tags file
 abbrev pub tagsfile_of : Job → List ℕ
-tagsfile_of (Line files) = []
-tagsfile_of (Find field pattern files) = []
-tagsfile_of (Tags listing tagsfile format files) = string_bytes tagsfile
+tagsfile_of (Line bounds files) = []
+tagsfile_of (Find bounds field pattern files) = []
+tagsfile_of (Tags bounds listing tagsfile format files) = string_bytes tagsfile
 
 -- a line that names the program
 abbrev pub error_line : List ℕ → List ℕ
@@ -58,24 +69,24 @@ abbrev pub file_line : List ℕ → List ℕ → List ℕ
 file_line name text =
     codes "cbrowse: " ++ (told_name name ++ (codes ": " ++ text ++ codes "\n"))
 
--- what a fault is called
-abbrev pub fault_text : Reason → List ℕ
-fault_text Read = codes "read fault"
-fault_text Write = codes "write fault"
-fault_text Memory = codes "out of memory"
-fault_text LongLine = codes "line over 1000000 bytes"
-fault_text ManyLines = codes "too many lines"
+-- what is said of a fault, where a line may have so many bytes
+abbrev pub fault_line : ℕ → Reason → List ℕ
+fault_line limit Read = error_line (codes "read fault")
+fault_line limit Write = error_line (codes "write fault")
+fault_line limit Memory = error_line (codes "out of memory")
+fault_line limit LongLine = codes "cbrowse: line over " ++ decimal limit ++ codes " bytes\n"
+fault_line limit ManyLines = error_line (codes "too many lines")
 
 -- what is said of a run over these files
-abbrev pub run_said : List (List ℕ) → Ended → List ℕ
-run_said files Done = []
-run_said files Cut = error_line (codes "input ended")
-run_said files (Fault fault) = error_line (fault_text fault)
-run_said files (Operand place why) = file_line (slice_index_or files place []) (text_of why)
+abbrev pub run_said : (limit : ℕ) → List (List ℕ) → Ended → List ℕ
+run_said limit files Done = []
+run_said limit files Cut = error_line (codes "input ended")
+run_said limit files (Fault fault) = fault_line limit fault
+run_said limit files (Operand place why) = file_line (slice_index_or files place []) (text_of why)
 
 -- what is said of a job
 abbrev pub said_of : Job → Finish → List ℕ
-said_of job (Ran ended) = run_said (files_of job) ended
+said_of job (Ran ended) = run_said (most_line_bytes (bounds_of job)) (files_of job) ended
 said_of job (Unreadable place) =
     file_line (slice_index_or (files_of job) place []) (codes "cannot be read")
 said_of job Unwritable = file_line (tagsfile_of job) (codes "cannot be written")

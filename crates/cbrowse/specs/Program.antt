@@ -1,7 +1,7 @@
 -- What the program does: the files of a job are read and loaded, and then the job is done.
-use Rattle.std.specs.Prelude.{◌≡◌, ◌≢◌, ◌⊎◌, ◌||◌, ℕ, ◌<◌, Bool, true, false, not, nat_eq, List}
-use Rattle.std.specs.Prelude.{[], IsTrue, length, take, Option, None, Some, Result, Ok, Err, codes}
-use Rattle.std.specs.Prelude.{map, string_bytes}
+use Rattle.std.specs.Prelude.{◌≡◌, ◌≢◌, ◌⊎◌, ◌||◌, ℕ, ◌<◌, ◌+◌, Bool, true, false, not, nat_eq}
+use Rattle.std.specs.Prelude.{List, [], IsTrue, length, take, Option, None, Some, Result, Ok, Err}
+use Rattle.std.specs.Prelude.{codes, map, string_bytes}
 use Rattle.std.specs.Fs.{metadata_len, new_options, with_create, with_truncate, with_write}
 use Rattle.std.specs.List.{ends_with, flat_map}
 use Rattle.std.specs.Str.{bytes_eq}
@@ -12,7 +12,7 @@ use Rattle.cb_desk.specs.Answer.{answer}
 use Rattle.cb_desk.specs.declared.tags.Format.{Format}
 use Rattle.cb_desk.specs.declared.tags.Format.TheVariants.{Extended}
 use Rattle.cb_desk.specs.Tags.{tags, tags_text, listing_text}
-use Rattle.cb_desk.specs.World.{World, File}
+use Rattle.cb_desk.specs.World.{World, WorldBounds, File}
 use Rattle.cb_session.specs.declared.input.Ended.{Ended}
 use Rattle.cb_session.specs.declared.input.Ended.TheVariants.{Done, Fault, Operand as StoppedAt}
 use Rattle.cb_session.specs.declared.input.Fault.TheVariants.{Write, Memory}
@@ -29,20 +29,15 @@ use Rattle.cbrowse.specs.declared.execute.finish.Finish.{Finish}
 use Rattle.cbrowse.specs.declared.execute.finish.Finish.TheVariants.{Ran, Unreadable, Unwritable}
 use Rattle.cb_words.specs.declared.job.Job.{Job}
 use Rattle.cb_words.specs.declared.job.Job.TheVariants.{Line, Find, Tags}
-use Rattle.cbrowse.specs.Messages.{files_of}
+use Rattle.cbrowse.specs.Messages.{bounds_of, files_of, most_line_bytes}
 
 -- the most lines that a session of the program reads
 abbrev pub most_lines : ℕ
 most_lines = 1000000000
 
--- the most bytes of such a line
-abbrev pub most_line_bytes : ℕ
-most_line_bytes = 1000000
-
--- the most bytes that are read of a file: one more than a text may have, so that a longer one is
--- seen
-abbrev pub most_read : ℕ
-most_read = 1000001
+-- the most bytes that are read of a file: one more than it may have, so that a longer one is seen
+abbrev pub most_read : WorldBounds → ℕ
+most_read b = b.file_bytes + 1
 
 -- ---- tags
 
@@ -71,20 +66,20 @@ WritesText text old new _ = ⊥
 
 -- a search has a pattern
 abbrev pub HasPattern : Job → Type 0
-HasPattern (Find field pattern files) = string_bytes pattern ≢ []
+HasPattern (Find bounds field pattern files) = string_bytes pattern ≢ []
 HasPattern _ = Unit {0}
 
 -- a job is done from a timeline: a session is served; the rows of a search and tags are written,
 -- and the reader is left alone
 abbrev pub DoesJob : Job → (lines limit : ℕ) → State → Reader → Reader → Writer → Writer
     → Ended → Type 0
-DoesJob (Line files) lines limit s feed feed' old new ended =
+DoesJob (Line bounds files) lines limit s feed feed' old new ended =
     (next : State) × Serves lines limit s next feed feed' old new ended
-DoesJob (Find field pattern files) lines limit s feed feed' old new ended =
+DoesJob (Find bounds field pattern files) lines limit s feed feed' old new ended =
     (feed' ≡ feed)
     × WritesText (flat_map row_line (answer s.timeline.present field (string_bytes pattern)))
     old new ended
-DoesJob (Tags listing tagsfile format files) lines limit s feed feed' old new ended =
+DoesJob (Tags bounds listing tagsfile format files) lines limit s feed feed' old new ended =
     (feed' ≡ feed) × WritesText (tags_output listing format s.timeline.present) old new ended
 
 -- ---- a job over files
@@ -95,9 +90,9 @@ is_standard_output name = bytes_eq name (codes "-")
 
 -- the job writes a tags file
 abbrev pub writes_file : Job → Bool
-writes_file (Line files) = false
-writes_file (Find field pattern files) = false
-writes_file (Tags listing tagsfile format files) =
+writes_file (Line bounds files) = false
+writes_file (Find bounds field pattern files) = false
+writes_file (Tags bounds listing tagsfile format files) =
     not (listing || is_standard_output (string_bytes tagsfile))
 
 -- a file of this name may be a C source
@@ -120,9 +115,9 @@ LeavesAlone feed feed' out out' = (feed' ≡ feed) × (out' ≡ out)
 
 -- the text of the tags file that a job writes
 abbrev pub file_text : Job → World → List ℕ
-file_text (Line files) w = []
-file_text (Find field pattern files) w = []
-file_text (Tags listing tagsfile format files) w = tags_output listing format w
+file_text (Line bounds files) w = []
+file_text (Find bounds field pattern files) w = []
+file_text (Tags bounds listing tagsfile format files) w = tags_output listing format w
 
 -- a writer that has taken nothing yet
 abbrev pub fresh : Option (List ℕ) → Writer
@@ -166,9 +161,11 @@ StopsReading files read (Unreadable place) =
 StopsReading files read Unwritable = ⊥
 
 -- the files of a job under their names, in order, with some contents, and where their loads lead
+-- within the bounds of the job
 abbrev pub Reaches : Job → Result State RefusedOperand → Type 0
 Reaches job end =
-    (files : List File) × (map (λ f. f.name) files ≡ files_of job) × LoadsAll files end
+    (files : List File) × (map (λ f. f.name) files ≡ files_of job)
+    × LoadsAll (bounds_of job) files end
 
 -- the job is done from a state: into a tags file, which leaves standard output alone, or over the
 -- input and output, and then no file is made
@@ -177,7 +174,8 @@ abbrev pub DoesInto : (file : Bool) → State → Job → Reader → Reader → 
 DoesInto true s job feed feed' out out' ended made =
     MakesFile (file_text job s.timeline.present) made (Ran ended) × LeavesAlone feed feed' out out'
 DoesInto false s job feed feed' out out' ended made =
-    DoesJob job most_lines most_line_bytes s feed feed' out out' ended × (made ≡ None)
+    DoesJob job most_lines (most_line_bytes (bounds_of job)) s feed feed' out out' ended
+    × (made ≡ None)
 
 -- the same, as the words of the job ask for
 abbrev pub DoesFrom : State → Job → Reader → Reader → Writer → Writer → Ended

@@ -6,7 +6,7 @@ ghost use Rattle.std.specs.Option.{MatchOption};
 ghost use Rattle.cb_desk.specs.Answer.{answer};
 ghost use Rattle.cb_session.specs.Output.{row_line};
 ghost use Rattle.cbrowse.specs.Endings.{EndsJob, EndsProcess, EndsUsage, TakesWords};
-ghost use Rattle.cbrowse.specs.Messages.{tagsfile_of};
+ghost use Rattle.cbrowse.specs.Messages.{most_line_bytes, tagsfile_of};
 ghost use Rattle.cbrowse.specs.Program.{
   HasPattern,
   output_format,
@@ -19,6 +19,7 @@ ghost use Rattle.cbrowse.specs.Program.{
   DoesJob,
   fresh,
   Works,
+  most_lines,
 };
 ghost use Rattle.cb_session.specs.Writing.{Puts};
 
@@ -26,8 +27,8 @@ mod files;
 mod finish;
 
 use crate::execute::files::{TagsFile, make_file, read_operands};
-use crate::execute::finish::{Finish, conclude, files_of};
-use cb_desk::{Desk, Field, Format, TagRows};
+use crate::execute::finish::{Finish, bounds_of, conclude, files_of, most_line_bytes};
+use cb_desk::{Bounds, Desk, Field, Format, TagRows};
 use cb_session::{
     Ended, Fault, Limits, Session, prepare, put_answer, put_listing_file, put_tags_file,
 };
@@ -41,10 +42,16 @@ use std::mem::forget;
 use std::rt::Files;
 
 /// The limits of the program's runs.
-const LIMITS: Limits = Limits {
-    line: 1_000_000,
-    lines: 1_000_000_000,
-};
+fn limits(bounds: Bounds) -> Limits
+    ensures line { result.line ≡ most_line_bytes bounds }
+    ensures lines { result.lines ≡ most_lines }
+{
+    let line = most_line_bytes(bounds);
+    Limits {
+        line,
+        lines: 1_000_000_000,
+    }
+}
 
 /// The order of the lines of a listing, or of a tags file.
 fn output_format(listing: bool, format: Format) -> Format
@@ -190,7 +197,7 @@ fn run_job_over<I: BufRead, W: Write>(
         out.old out.new result }
     ensures feed { feed.new ≡ feed.old }
 {
-    match run_job(alloc, job, &LIMITS, session, feed, out) {
+    match run_job(alloc, job, &limits(bounds_of(job)), session, feed, out) {
         Ended::Fault(Fault::Write) => Finish::Unwritable,
         ended => Finish::Ran(ended),
     }
@@ -227,12 +234,13 @@ fn work<R: Files + AllocGlobal, I: BufRead, O: Write>(
     requires { HasPattern job.now }
     ensures { Works job.now feed.old feed.new out.old out.new result.0 result.1 }
 {
+    let bounds = bounds_of(job);
     let mut operands = Vec::new(rt.alloc());
-    match read_operands(rt, folder, files_of(job), &mut operands) {
+    match read_operands(rt, folder, bounds, files_of(job), &mut operands) {
         Ok(()) => {}
         Err(end) => return (end, None),
     }
-    let session = match prepare(rt.alloc(), operands) {
+    let session = match prepare(rt.alloc(), bounds, operands) {
         Ok(session) => session,
         Err(ended) => return (Finish::Ran(ended), None),
     };
@@ -245,7 +253,8 @@ fn work<R: Files + AllocGlobal, I: BufRead, O: Write>(
             Err(end) => (end, None),
         },
         None => {
-            let ended = run_job(rt.alloc(), job, &LIMITS, session, feed, out);
+            let limits = limits(bounds);
+            let ended = run_job(rt.alloc(), job, &limits, session, feed, out);
             (Finish::Ran(ended), None)
         }
     }

@@ -3,6 +3,7 @@ use crate::devices::{Broken, Short};
 use crate::ended::put_end;
 use crate::escapes::put_line;
 use crate::failed::Failed;
+use cb_desk::Bounds;
 use cb_session::{Ended, Fault, Limits, Operand, Operands, run};
 use cb_tags::{Feed, Sink};
 use std::alloc::Global;
@@ -25,6 +26,7 @@ const NARROW: Limits = Limits {
 pub(crate) struct Case {
     alloc: Global,
     name: Vec<u8>,
+    bounds: Bounds,
     limits: Limits,
     operands: Operands,
     input: Vec<u8>,
@@ -43,6 +45,7 @@ impl Case {
         Case {
             alloc,
             name: Vec::new(alloc),
+            bounds: Bounds::standard(),
             limits: WIDE,
             operands: Vec::new(alloc),
             input: Vec::new(alloc),
@@ -57,6 +60,7 @@ impl Case {
     pub(crate) fn begin(&mut self, name: &[u8]) -> Result<(), Failed> {
         self.name.clear();
         self.name.extend_from_slice(name)?;
+        self.bounds = Bounds::standard();
         self.limits = WIDE;
         self.operands.clear();
         self.input.clear();
@@ -115,6 +119,11 @@ impl Case {
         self.limits = NARROW;
     }
 
+    /// The session has bounds of three files, each of 20 bytes.
+    pub(crate) fn put_narrow_bounds(&mut self) {
+        self.bounds = Bounds::new(3, 20, 65_536);
+    }
+
     /// The run is made over devices that fail at each byte too.
     pub(crate) fn put_at_each_byte(&mut self) {
         self.at_each_byte = true;
@@ -147,6 +156,7 @@ impl Case {
         self.written.clear();
         let ended = run_into(
             self.alloc,
+            self.bounds,
             &self.limits,
             operands,
             &mut feed,
@@ -172,7 +182,14 @@ impl Case {
                 room,
             };
             let mut feed = Feed::new(self.input.as_slice());
-            let ended = run_into(self.alloc, &self.limits, operands, &mut feed, &mut writer);
+            let ended = run_into(
+                self.alloc,
+                self.bounds,
+                &self.limits,
+                operands,
+                &mut feed,
+                &mut writer,
+            );
             self.written.clear();
             self.written.extend_from_slice(writer.taken.as_slice())?;
             let is_front = self.output.as_slice().get(..room) == Some(self.written.as_slice());
@@ -196,6 +213,7 @@ impl Case {
             self.written.clear();
             let ended = run_into(
                 self.alloc,
+                self.bounds,
                 &self.limits,
                 operands,
                 &mut feed,
@@ -227,11 +245,12 @@ fn copy_of(alloc: Global, files: &[Operand]) -> Result<Operands, Failed> {
 /// How a run from these files on ends.
 fn run_into<R: BufRead, W: Write + Drop>(
     alloc: Global,
+    bounds: Bounds,
     limits: &Limits,
     operands: Operands,
     feed: &mut Feed<R>,
     writer: W,
 ) -> Ended {
     let mut out = Sink::new(writer);
-    run(alloc, limits, feed, &mut out, operands)
+    run(alloc, bounds, limits, feed, &mut out, operands)
 }

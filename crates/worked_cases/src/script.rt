@@ -38,6 +38,10 @@ pub(crate) fn take_line<R: Files + AllocGlobal>(
         case.put_narrow_limits();
         return Ok(());
     }
+    if line == b"bounds 3 20".as_slice() {
+        case.put_narrow_bounds();
+        return Ok(());
+    }
     if line == b"at each byte".as_slice() {
         case.put_at_each_byte();
         return Ok(());

@@ -16,7 +16,7 @@ let s:options = &cpoptions
 set cpoptions&vim
 
 const s:patience = 20000 " milliseconds until a reply is given up
-const s:most_bytes = 1000000
+const s:most_bytes = 268435456
 const s:most_files = 4096
 const s:most_rows = 10000
 const s:most_shown = 400 " bytes of a row
@@ -33,6 +33,11 @@ function! s:program() abort
   return get(g:, 'cbrowse_program', 'cbrowse')
 endfunction
 
+" The words of a session. It takes files of any size that cbrowse takes.
+function! s:words() abort
+  return [s:program(), 'line', '--max-file-bytes', string(s:most_bytes)]
+endfunction
+
 " ---- the session: a process that is asked and answers line by line
 
 if has('nvim')
@@ -47,7 +52,7 @@ if has('nvim')
 
   function! s:open() abort
     let s:heard_lines = ['']
-    let s:job = jobstart([s:program(), 'line'], {'on_stdout': function('s:heard')})
+    let s:job = jobstart(s:words(), {'on_stdout': function('s:heard')})
   endfunction
 
   function! s:close() abort
@@ -68,7 +73,7 @@ if has('nvim')
   endfunction
 else
   function! s:open() abort
-    let s:job = job_start([s:program(), 'line'], {'mode': 'nl', 'drop': 'never', 'err_io': 'null'})
+    let s:job = job_start(s:words(), {'mode': 'nl', 'drop': 'never', 'err_io': 'null'})
   endfunction
 
   function! s:close() abort

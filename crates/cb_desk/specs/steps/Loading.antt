@@ -5,6 +5,7 @@ use Rattle.cb_index.specs.Files.{AreAscending, call_count, def_count, total, use
 use Rattle.cb_index.specs.Shelved.{Shelved}
 use Rattle.cb_index.specs.declared.entry.Shown.{Shown}
 use Rattle.cb_desk.specs.Timeline.{Timeline}
+use Rattle.cb_desk.specs.World.{WorldBounds}
 use Rattle.cb_desk.specs.steps.Records.{Numbered, Rooms, Turn}
 use Rattle.cb_desk.specs.steps.Walks.{IsRecorded, Recorded}
 
@@ -15,8 +16,9 @@ pub record Loaded : Type 0 where
   pub turns : ℕ
 
 -- the world of what is loaded, which uses all of the archive
-abbrev pub loaded_numbers : Archived → List Shown → Numbered
-loaded_numbers a shown = record {
+abbrev pub loaded_numbers : WorldBounds → Archived → List Shown → Numbered
+loaded_numbers b a shown = record {
+  bounds = b;
   shown = shown;
   wanted = None;
   marks = [];
@@ -37,12 +39,12 @@ just_room a shown = record {
 }
 
 -- that world, and the records that take the loads back
-abbrev pub loads_recorded : Archived → List Shown → List Turn → Recorded
-loads_recorded a shown records = record {
+abbrev pub loads_recorded : WorldBounds → Archived → List Shown → List Turn → Recorded
+loads_recorded b a shown records = record {
   kept = record {
     archive = a;
     turns = length shown;
-    now = loaded_numbers a shown;
+    now = loaded_numbers b a shown;
     rooms = just_room a shown;
   };
   records = records;
@@ -50,14 +52,14 @@ loads_recorded a shown records = record {
 }
 
 -- each load brought a name, a version and a record; a shelf does not show them yet
-pub record AreLoaded (a : Archived) (in_shelf shown : List Shown)
+pub record AreLoaded (b : WorldBounds) (a : Archived) (in_shelf shown : List Shown)
     (records : List Turn) : Type 0 where
   pub hidden : in_shelf ≡ []
   pub names : length a.names ≡ length records
   pub versions : length a.texts ≡ length records
   pub files : length shown ≡ length records
   pub ascending : AreAscending a shown
-  pub recorded : IsRecorded (loads_recorded a shown records)
+  pub recorded : IsRecorded (loads_recorded b a shown records)
 
 -- a shelf has room for what is loaded
 pub record HasRoomToShow (s : Shelved) (shown : List Shown) : Type 0 where

@@ -16,11 +16,12 @@ use Rattle.cb_desk.specs.steps.Edits.{Edits, edited, turned_edits}
 use Rattle.cb_desk.specs.Places.{same_place}
 use Rattle.cb_desk.specs.Search.{lines_with}
 use Rattle.cb_desk.specs.Turns.{touched}
-use Rattle.cb_desk.specs.World.{Place, World, place_key}
+use Rattle.cb_desk.specs.World.{Place, World, WorldBounds, place_key}
 
--- a world in numbers: what is shown of an archive, by file name; and how many names and versions of
--- the archive this world and those before it use
+-- a world in numbers: its bounds; what is shown of an archive, by file name; and how many names and
+-- versions of the archive this world and those before it use
 pub record Numbered : Type 0 where
+  pub bounds : WorldBounds
   pub shown : List Shown
   pub wanted : Option (List ℕ)
   pub marks : List NumberedPlace
@@ -45,6 +46,7 @@ place_in a p = record { file = name_of a p.name; line = p.line }
 
 abbrev pub world_in : Archived → Numbered → World
 world_in a w = record {
+  bounds = w.bounds;
   files = files_of a w.shown;
   wanted = w.wanted;
   marks = map (place_in a) w.marks;
@@ -65,6 +67,7 @@ other_wanted (Some other) wanted = other
 -- the other world
 abbrev pub other : Archived → Turn → Numbered → Numbered
 other a t w = record {
+  bounds = w.bounds;
   shown = in_order (shown_name a) (without t.hides w.shown ++ t.shows);
   wanted = other_wanted t.wanted w.wanted;
   marks = edited t.marks w.marks;
@@ -164,8 +167,16 @@ pub record Kept : Type 0 where
   pub rooms : Rooms
 
 -- the world without a file, in numbers
-abbrev pub no_numbers : Numbered
-no_numbers = record { shown = []; wanted = None; marks = []; frames = []; names = 0; versions = 0 }
+abbrev pub no_numbers : WorldBounds → Numbered
+no_numbers b = record {
+  bounds = b;
+  shown = [];
+  wanted = None;
+  marks = [];
+  frames = [];
+  names = 0;
+  versions = 0;
+}
 
 -- a shelf that no longer shows some files
 abbrev pub hidden : Shelved → List Shown → Shelved

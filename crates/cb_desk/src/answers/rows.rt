@@ -6,7 +6,7 @@ ghost use Rattle.std.specs.List.{flat_map};
 ghost use Rattle.cb_index.specs.Shelved.{files};
 ghost use Rattle.cb_desk.specs.Answer.{distinct, field_rows};
 ghost use Rattle.cb_desk.specs.Models.{row_of};
-ghost use Rattle.cb_desk.specs.World.{AreValidFiles};
+ghost use Rattle.cb_desk.specs.World.{AreValidFiles, widest_bounds};
 ghost use Rattle.cb_desk.specs.steps.Lent.{asked_by, found_left, is_named};
 
 use crate::answers::distinct::DistinctSpots;
@@ -48,7 +48,7 @@ impl<'a, 'p> Rows<'a, 'p> {
     /// The rows that answer a question.
     pub(crate) fn new(shelf: &'a Shelf, field: Field, pattern: &'p [u8]) -> Rows<'a, 'p>
         requires some { pattern.now ≢ [] }
-        requires valid { AreValidFiles (files shelf.now) }
+        requires valid { AreValidFiles widest_bounds (files shelf.now) }
         ensures { result ≡ distinct (flat_map (field_rows field pattern.now) (files shelf.now)) }
     {
         let files = Files::new(shelf);
@@ -118,10 +118,11 @@ fn is_named(kind: FactKind) -> bool
 
 /// The rows of the uses or calls of a kind that have a name as their key.
 fn fact_rows<'a, 'p>(shelf: &'a Shelf, kind: FactKind, pattern: &'p [u8]) -> FactRows<'a, 'p>
-    requires valid { AreValidFiles (files shelf.now) }
+    requires valid { AreValidFiles widest_bounds (files shelf.now) }
     ensures { result
         ≡ distinct (flat_map (field_rows (asked_by kind) pattern.now) (files shelf.now)) }
 {
+    let _totals = shelf.totals();
     FactRows::new(shelf.facts(kind, pattern).spots(), is_named(kind))
 }
 
@@ -131,7 +132,7 @@ fn found_rows<'a, 'p>(shelf: &'a Shelf, field: Field, pattern: &'p [u8]) -> Foun
     requires no_use { field ≢ Field.Symbol }
     requires no_called { field ≢ Field.Called }
     requires no_calling { field ≢ Field.Calling }
-    requires valid { AreValidFiles (files shelf.now) }
+    requires valid { AreValidFiles widest_bounds (files shelf.now) }
     ensures rows { found_left result ≡ flat_map (field_rows field pattern.now) (files shelf.now) }
     ensures few { length (found_left result) < 2 ^ 64 }
 {

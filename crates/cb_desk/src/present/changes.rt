@@ -86,6 +86,7 @@ impl Present {
         bytes: Vec<u8>,
     ) -> Result<Plan, AllocError>
         requires kept { IsKept self.now.rooms self.now.archive self.now.now }
+        requires valid { IsValidWorld (world_in self.now.archive self.now.now) }
         requires accepted { load_refusal (world_in self.now.archive self.now.now)
             name.now bytes.items ≡ None }
         ensures plan { IfOk result (λ p. IsPlan self.now p
@@ -107,6 +108,7 @@ impl Present {
         bytes: Vec<u8>,
     ) -> Result<Plan, AllocError>
         requires kept { IsKept self.now.rooms self.now.archive self.now.now }
+        requires valid { IsValidWorld (world_in self.now.archive self.now.now) }
         requires accepted { reload_refusal (world_in self.now.archive self.now.now)
             name.now bytes.items ≡ None }
         ensures plan { IfOk result (λ p. IsPlan self.now p

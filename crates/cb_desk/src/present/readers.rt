@@ -4,7 +4,7 @@ ghost use Rattle.std.specs.Option.{option_copied};
 ghost use Rattle.cb_index.specs.Files.{files_of};
 ghost use Rattle.cb_desk.specs.Answer.{answer};
 ghost use Rattle.cb_desk.specs.Tags.{tags};
-ghost use Rattle.cb_desk.specs.World.{AreValidFiles, text_named};
+ghost use Rattle.cb_desk.specs.World.{AreValidFiles, text_named, widest_bounds};
 ghost use Rattle.cb_desk.specs.steps.Records.{place_in, world_in};
 
 use crate::answers::{Files, Rows, TagRows, source, tag_rows};
@@ -64,7 +64,8 @@ impl Present {
     /// The rows that answer a question; equal ones once.
     pub(crate) fn rows<'a, 'p>(&'a self, field: Field, pattern: &'p [u8]) -> Rows<'a, 'p>
         requires some { pattern.now ≢ [] }
-        requires valid { AreValidFiles (files_of self.now.archive self.now.now.shown) }
+        requires valid { AreValidFiles widest_bounds
+            (files_of self.now.archive self.now.now.shown) }
         ensures { result ≡ answer (world_in self.now.archive self.now.now) field pattern.now }
     {
         Rows::new(&self.shelf, field, pattern)

@@ -7,14 +7,13 @@ ghost use Rattle.cb_desk.specs.Files.{load_refusal, reload_refusal, rename_refus
 ghost use Rattle.cb_desk.specs.Marks.{mark_all_refusal, mark_refusal, want_refusal};
 ghost use Rattle.cb_desk.specs.Stack.{pop_refusal, push_refusal};
 ghost use Rattle.cb_desk.specs.World.{empty_world, has_file, is_short};
-ghost use Rattle.cb_desk.specs.declared.limits.TheConstants.{MOST_BYTES};
 ghost use Rattle.cb_desk.specs.steps.Records.{place_in, world_in};
 
-use crate::Refusal;
 use crate::answers::find_shown;
-use crate::limits::{MOST_BYTES, MOST_FILES, MOST_TEXT};
+use crate::limits::MOST_TEXT;
 use crate::present::Present;
 use crate::spot::NumberedPlace;
+use crate::{Bounds, Refusal};
 use cb_index::{Archive, Shown};
 use cb_tags::is_file_name;
 
@@ -26,10 +25,10 @@ pub(super) fn is_short(text: &[u8]) -> bool
 }
 
 /// Whether a text has more bytes than a file may have.
-fn is_large(bytes: &[u8]) -> bool
-    ensures { result ≡ nat_lt MOST_BYTES (length bytes.now) }
+fn is_large(bounds: Bounds, bytes: &[u8]) -> bool
+    ensures { result ≡ nat_lt bounds.file_bytes (length bytes.now) }
 {
-    bytes.len() > MOST_BYTES
+    bytes.len() > bounds.file_bytes() as usize
 }
 
 /// Why a text can't be wanted, if it can't: the lowest refusal that applies.
@@ -56,6 +55,7 @@ fn has_file(archive: &Archive, shown: &[Shown], name: &[u8]) -> bool
 
 /// Why a file can't be loaded beside others, if it can't: the lowest refusal that applies.
 pub(crate) fn load_refusal(
+    bounds: Bounds,
     archive: &Archive,
     shown: &[Shown],
     name: &[u8],
@@ -64,15 +64,16 @@ pub(crate) fn load_refusal(
     requires there { AllByRecursion (IsThere archive.now) shown.now }
     requires ascending { AreAscending archive.now shown.now }
     ensures { result ≡ load_refusal
-        (record empty_world { files = files_of archive.now shown.now }) name.now bytes.now }
+        (record (empty_world bounds) { files = files_of archive.now shown.now })
+        name.now bytes.now }
 {
     if !is_file_name(name) {
         Some(Refusal::BadName)
     } else if has_file(archive, shown, name) {
         Some(Refusal::FileExists)
-    } else if is_large(bytes) {
+    } else if is_large(bounds, bytes) {
         Some(Refusal::TooLarge)
-    } else if shown.len() >= MOST_FILES {
+    } else if shown.len() >= bounds.files() as usize {
         Some(Refusal::TooManyFiles)
     } else {
         None
@@ -92,7 +93,13 @@ impl Present {
         ensures { result
             ≡ load_refusal (world_in self.now.archive self.now.now) name.now bytes.now }
     {
-        load_refusal(self.shelf.archive(), self.shelf.shown(), name, bytes)
+        load_refusal(
+            self.bounds,
+            self.shelf.archive(),
+            self.shelf.shown(),
+            name,
+            bytes,
+        )
     }
 
     /// Why the file can't have these bytes, if it can't: the lowest refusal that applies.
@@ -102,7 +109,7 @@ impl Present {
     {
         if !self.has_file(name) {
             Some(Refusal::NoSuchFile)
-        } else if is_large(bytes) {
+        } else if is_large(self.bounds, bytes) {
             Some(Refusal::TooLarge)
         } else {
             None

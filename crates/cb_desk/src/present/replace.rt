@@ -36,12 +36,14 @@ impl Present {
         ensures marks { result.marks.now ≡ self.now.now.marks }
         ensures old { result.old.now ≡ old.now }
         ensures new { result.new.now ≡ new.now }
+        ensures most { result.most ≡ self.now.now.bounds.file_bytes }
     {
         Replacing {
             archive: self.shelf.archive(),
             marks: self.marks.as_slice(),
             old,
             new,
+            most: self.bounds.file_bytes(),
         }
     }
 

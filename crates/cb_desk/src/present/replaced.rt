@@ -31,7 +31,6 @@ ghost use Rattle.cb_desk.specs.steps.Replaced.{
   texts_of,
 };
 
-use crate::limits::MOST_BYTES;
 use crate::present::marked_files::{MarkedFiles, count_in};
 use crate::present::replacement::{replaced_len, replaced_text};
 use crate::scanned::scanned_source;
@@ -66,6 +65,8 @@ pub(crate) struct Replacing<'a> {
     pub(crate) marks: &'a [NumberedPlace],
     pub(crate) old: &'a [u8],
     pub(crate) new: &'a [u8],
+    /// The most bytes of a file.
+    pub(crate) most: u32,
     ghost some: { old.now ≢ [] },
     ghost short: { length new.now ≤ MOST_BYTES },
     ghost ascending: { AreAscending
@@ -102,21 +103,22 @@ impl<'a> Replacing<'a> {
     /// Whether a file would have too many bytes.
     fn is_large(self, file: Shown) -> bool
         requires { IsThere self.archive.now file }
-        ensures { result ≡ is_too_large (file_then self.entry.archive.now self.entry.marks.now
+        ensures { result ≡ is_too_large self.entry.most
+            (file_then self.entry.archive.now self.entry.marks.now
             self.entry.old.now self.entry.new.now file) }
     {
         let marks = self.marks_of(self.archive.name(file.name));
         let source = self.archive.source(file.version);
-        replaced_len(source, self.old, self.new, marks) > MOST_BYTES as u64
+        replaced_len(source, self.old, self.new, marks) > self.most as u64
     }
 
     /// Whether one of several files would have too many bytes. Only one with a mark can have.
     pub(crate) fn has_large(self, shown: &[Shown]) -> bool
         requires there { AllByRecursion (IsThere self.archive.now) shown.now }
         requires ascending { shelf.AreAscending self.archive.now shown.now }
-        requires small { AllByRecursion (λ (f : File). length f.bytes ≤ MOST_BYTES)
+        requires small { AllByRecursion (λ (f : File). length f.bytes ≤ self.most)
             (files_of self.archive.now shown.now) }
-        ensures { result ≡ list_any is_too_large
+        ensures { result ≡ list_any (is_too_large self.entry.most)
             (map (replaced_file self.entry.old.now self.entry.new.now
             (places_in self.entry.archive.now self.entry.marks.now))
             (files_of self.entry.archive.now shown.now)) }

@@ -22,7 +22,7 @@ abbrev pub ReadsLine : ℕ → List ℕ → Reader → List ℕ → Result LineR
 ReadsLine limit bytes new line (Ok End) =
     (first limit bytes ≡ record { request = quit; rest = [] }) × (new.bytes ≡ Some [])
 ReadsLine limit bytes new line (Ok Line) =
-    (rest : List ℕ) × (first limit bytes ≡ with_block (short_line line) rest)
+    (rest : List ℕ) × (first limit bytes ≡ with_block (short_line limit line) rest)
     × (new.bytes ≡ Some rest)
 ReadsLine limit bytes new line (Ok Long) =
     (rest : List ℕ) × (first limit bytes ≡ record { request = refused LineTooLong; rest = rest })

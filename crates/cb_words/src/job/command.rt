@@ -6,12 +6,15 @@ ghost use Rattle.cb_words.specs.Jobs.{
   find_app,
   line_app,
   listing_rule,
+  most_rule,
   num_rule,
   pattern_rule,
   tagsfile_rule,
+  with_bounds,
 };
 ghost use Rattle.cb_words.specs.Commands.{TakesFormats, browse_app_of, tags_app_of, with_format};
 
+use cb_desk::{MOST_BYTES, MOST_FILES};
 use clap::builder::ValueParser;
 use clap::{Arg, ArgAction, Command};
 use std::alloc::{AllocError, Global};
@@ -42,6 +45,7 @@ fn line_command<'a>(alloc: Global) -> Result<Command<'a>, AllocError>
     let command = Command::new(alloc, "line")
         .about("Reads commands from standard input and writes their replies")
         .after_help("Example: cbrowse line a.c");
+    let command = with_bounds(alloc, command)?;
     with_files(alloc, command, "C source to load first", false)
 }
 
@@ -54,6 +58,7 @@ fn find_command<'a>(alloc: Global) -> Result<Command<'a>, AllocError>
         .after_help("Example: cbrowse find 1 main a.c");
     let command = with_num(alloc, command)?;
     let command = with_pattern(alloc, command)?;
+    let command = with_bounds(alloc, command)?;
     with_files(alloc, command, "C source to search", true)
 }
 
@@ -67,6 +72,7 @@ fn tags_command<'a>(alloc: Global) -> Result<Command<'a>, AllocError>
     let command = with_listing(alloc, command)?;
     let command = with_tagsfile(alloc, command)?;
     let command = with_format(alloc, command)?;
+    let command = with_bounds(alloc, command)?;
     with_files(alloc, command, "C source to write the tags of", true)
 }
 
@@ -126,6 +132,61 @@ fn with_format<'a>(alloc: Global, command: Command<'a>) -> Result<Command<'a>, A
         .default_value("1")
         .help("Format of the tags file: 1 for POSIX ctags, 2 with extension fields");
     command.arg(format)
+}
+
+/// Adds `--max-files` and `--max-file-bytes`.
+fn with_bounds<'a>(alloc: Global, command: Command<'a>) -> Result<Command<'a>, AllocError>
+    ensures { IfOk result (λ more. app_of more ≡ with_bounds (app_of command.entry)) }
+{
+    let command = with_most(
+        alloc,
+        command,
+        &Most {
+            id: "max_files",
+            long: "max-files",
+            most: MOST_FILES,
+            default: "4096",
+            help: "Most files, 1 to 1048576",
+        },
+    )?;
+    with_most(
+        alloc,
+        command,
+        &Most {
+            id: "max_file_bytes",
+            long: "max-file-bytes",
+            most: MOST_BYTES,
+            default: "1000000",
+            help: "Most bytes of a file, 1 to 268435456",
+        },
+    )
+}
+
+/// An option that takes a number from 1 to `most`.
+struct Most<'a> {
+    id: &'a str,
+    long: &'a str,
+    most: u32,
+    default: &'a str,
+    help: &'a str,
+}
+
+/// Adds such an option.
+fn with_most<'a>(
+    alloc: Global,
+    command: Command<'a>,
+    option: &Most<'a>,
+) -> Result<Command<'a>, AllocError>
+    ensures { IfOk result (λ more. app_of more ≡ with_rule (app_of command.entry)
+        (most_rule option.now.id.now option.now.long.now option.now.most option.now.default.now)) }
+{
+    let most = Arg::new(alloc, option.id)
+        .long(option.long)
+        .value_name("N")
+        .value_parser(ValueParser::Unsigned(1, option.most as u64))
+        .default_value(option.default)
+        .help(option.help);
+    command.arg(most)
 }
 
 /// Adds the files.

@@ -1,19 +1,29 @@
 //! The job of what clap found in the words.
-ghost use Rattle.std.specs.Prelude.{◌≡◌, IfOk, MatchResult, Some, codes, map, string_bytes};
+ghost use Rattle.std.specs.Prelude.{◌≡◌, ℕ, IfOk, MatchResult, Some, codes, map, string_bytes};
 ghost use Rattle.std.specs.Option.{MatchOption};
 ghost use Rattle.clap.specs.Words.{subcommand_rows_of};
-ghost use Rattle.cb_words.specs.Jobs.{IsJobOf, all_or_none, field_of, first_or, format_number};
+ghost use Rattle.cb_desk.specs.World.{WorldBounds};
+ghost use Rattle.cb_words.specs.Jobs.{
+  AreBoundsOf,
+  IsJobOf,
+  Writes,
+  all_or_none,
+  field_of,
+  first_or,
+  format_number,
+};
 ghost use Rattle.cb_words.specs.Usages.{IsBadSearch};
 ghost use Rattle.cb_words.specs.declared.job.Job.{Job};
 ghost use Rattle.cb_desk.specs.declared.tags.Format.{Format};
 ghost use Rattle.cb_words.specs.Commands.{rows_in};
 
 use crate::job::{Job, Usage};
-use cb_desk::{Field, Format};
+use cb_desk::{Bounds, Field, Format, MOST_BYTES, MOST_FILES};
 use clap::ArgMatches;
 use std::alloc::{AllocError, Global};
 
-/// The job of the subcommand that was found, or `None` where there is no such subcommand or format.
+/// The job of the subcommand that was found, or `None` where there is no such subcommand, format or
+/// bound.
 pub(crate) fn found_job(alloc: Global, matches: &ArgMatches<'_>) -> Result<Option<Job>, Usage>
     ensures { MatchResult result
         (λ found. MatchOption found ((job : Job) → IsJobOf (subcommand_rows_of matches.now) job → ⊥)
@@ -21,16 +31,19 @@ pub(crate) fn found_job(alloc: Global, matches: &ArgMatches<'_>) -> Result<Optio
         (IsBadSearch (subcommand_rows_of matches.now)) }
 {
     match matches.subcommand() {
-        Some(("line", found)) => Ok(Some(line_job(alloc, found)?)),
-        Some(("find", found)) => Ok(Some(find_job(alloc, found)?)),
+        Some(("line", found)) => Ok(line_job(alloc, found)?),
+        Some(("find", found)) => find_job(alloc, found),
         Some(("tags", found)) => Ok(tags_job(alloc, found)?),
         _ => Ok(None),
     }
 }
 
-/// The search that was asked for. Its number is judged first, and then its pattern.
-fn find_job(alloc: Global, found: &ArgMatches<'_>) -> Result<Job, Usage>
-    ensures { MatchResult result (IsJobOf (Some (codes "find", rows_in found.now)))
+/// The search that was asked for, or `None` where there is no such bound. Its number is judged
+/// first, and then its pattern.
+fn find_job(alloc: Global, found: &ArgMatches<'_>) -> Result<Option<Job>, Usage>
+    ensures { MatchResult result (λ job. MatchOption job
+        ((job : Job) → IsJobOf (Some (codes "find", rows_in found.now)) job → ⊥)
+        (IsJobOf (Some (codes "find", rows_in found.now))))
         (IsBadSearch (Some (codes "find", rows_in found.now))) }
 {
     let Some(field) = field_of(value_or(found, "num", "")) else {
@@ -40,11 +53,15 @@ fn find_job(alloc: Global, found: &ArgMatches<'_>) -> Result<Job, Usage>
     if pattern.is_empty() {
         return Err(Usage::NoPattern);
     }
-    Ok(Job::Find {
+    let Some(bounds) = bounds_of(found) else {
+        return Ok(None);
+    };
+    Ok(Some(Job::Find {
+        bounds,
         field,
         pattern: String::from_str(alloc, pattern)?,
         files: files_of(alloc, found)?,
-    })
+    }))
 }
 
 /// The field of this number.
@@ -57,16 +74,22 @@ fn field_of(num: &str) -> Option<Field>
     }
 }
 
-/// The session that was asked for.
-fn line_job(alloc: Global, found: &ArgMatches<'_>) -> Result<Job, AllocError>
-    ensures { IfOk result (IsJobOf (Some (codes "line", rows_in found.now))) }
+/// The session that was asked for, or `None` where there is no such bound.
+fn line_job(alloc: Global, found: &ArgMatches<'_>) -> Result<Option<Job>, AllocError>
+    ensures { IfOk result (λ job. MatchOption job
+        ((job : Job) → IsJobOf (Some (codes "line", rows_in found.now)) job → ⊥)
+        (IsJobOf (Some (codes "line", rows_in found.now)))) }
 {
-    Ok(Job::Line {
+    let Some(bounds) = bounds_of(found) else {
+        return Ok(None);
+    };
+    Ok(Some(Job::Line {
+        bounds,
         files: files_of(alloc, found)?,
-    })
+    }))
 }
 
-/// The tags that were asked for, or `None` where there is no such format.
+/// The tags that were asked for, or `None` where there is no such format or bound.
 fn tags_job(alloc: Global, found: &ArgMatches<'_>) -> Result<Option<Job>, AllocError>
     ensures { IfOk result (λ job. MatchOption job
         ((job : Job) → IsJobOf (Some (codes "tags", rows_in found.now)) job → ⊥)
@@ -75,7 +98,11 @@ fn tags_job(alloc: Global, found: &ArgMatches<'_>) -> Result<Option<Job>, AllocE
     let Some(format) = format_of(value_or(found, "format", "1")) else {
         return Ok(None);
     };
+    let Some(bounds) = bounds_of(found) else {
+        return Ok(None);
+    };
     Ok(Some(Job::Tags {
+        bounds,
         listing: value_or(found, "listing", "false") == "true",
         tagsfile: String::from_str(alloc, value_or(found, "tagsfile", "tags"))?,
         format,
@@ -93,6 +120,26 @@ fn format_of(number: &str) -> Option<Format>
         "2" => Some(Format::Extended),
         _ => None,
     }
+}
+
+/// The number from 1 to `most` that a text writes, if it writes one.
+fn count_of(text: &str, most: u32) -> Option<u32>
+    ensures { MatchOption result ((n : ℕ) → Writes most text.now n → ⊥) (Writes most text.now) }
+{
+    match text.parse::<u32>() {
+        Ok(count) if count >= 1 && count <= most => Some(count),
+        _ => None,
+    }
+}
+
+/// The bounds that were asked for, if there are such.
+fn bounds_of(found: &ArgMatches<'_>) -> Option<Bounds>
+    ensures { MatchOption result ((b : WorldBounds) → AreBoundsOf (rows_in found.now) b → ⊥)
+        (AreBoundsOf (rows_in found.now)) }
+{
+    let files = count_of(value_or(found, "max_files", "4096"), MOST_FILES)?;
+    let file_bytes = count_of(value_or(found, "max_file_bytes", "1000000"), MOST_BYTES)?;
+    Some(Bounds::new(files, file_bytes, Bounds::standard().history()))
 }
 
 /// The first value of an argument, or this text where it has none.

@@ -1,6 +1,8 @@
 //! The files of the program: operands that are read, and a tags file that is written.
 ghost use Rattle.std.specs.Prelude.{
   ◌≡◌,
+  ◌<◌,
+  ◌^◌,
   [],
   IfOk,
   IfErr,
@@ -22,14 +24,12 @@ ghost use Rattle.cbrowse.specs.Program.{
 };
 
 use crate::execute::finish::Finish;
+use cb_desk::Bounds;
 use cb_session::{Ended, Fault, Operand, Operands};
 use std::alloc::{AllocError, Global};
 use std::fs::{self, Metadata, OpenFile, OpenOptions};
 use std::io::{self, BufWriter, ErrorKind, Read, Write};
 use std::rt::Files;
-
-/// One more than the most bytes of a file, so that a larger one is seen to be too large.
-const MOST_READ: u64 = 1_000_001;
 
 /// The end of a job for which memory was refused.
 const OUT_OF_MEMORY: Finish = Finish::Ran(Ended::Fault(Fault::Memory));
@@ -41,30 +41,49 @@ fn path_of(alloc: Global, folder: &str, name: &str) -> Result<String, AllocError
     Ok(path)
 }
 
-/// The bytes that are left, at most `MOST_READ`. There is room for as many, and for one more that
-/// would show that there are more, before the first is read.
-fn read_whole<F: Read + Drop>(alloc: Global, file: F, size: u64) -> io::Result<Vec<u8>>
-    ensures { IfOk result (λ bytes.
-        IfSome (F.remaining file) (λ left. bytes.items ≡ take most_read left)) }
+/// One more than the most bytes of a file, so that a larger one is seen to be too large.
+fn most_read(bounds: Bounds) -> u64
+    ensures value { result ≡ most_read bounds }
+    ensures small { result < 2 ^ 33 }
 {
-    let mut bytes = Vec::with_capacity(alloc, size.min(MOST_READ) as usize + 1)?;
-    file.take(MOST_READ).read_to_end(&mut bytes)?;
+    bounds.file_bytes() as u64 + 1
+}
+
+/// The bytes that are left, at most `most_read`. There is room for as many, and for one more that
+/// would show that there are more, before the first is read.
+fn read_whole<F: Read + Drop>(
+    alloc: Global,
+    bounds: Bounds,
+    file: F,
+    size: u64,
+) -> io::Result<Vec<u8>>
+    ensures { IfOk result (λ bytes.
+        IfSome (F.remaining file) (λ left. bytes.items ≡ take (most_read bounds) left)) }
+{
+    let most = most_read(bounds);
+    let mut bytes = Vec::with_capacity(alloc, size.min(most) as usize + 1)?;
+    file.take(most).read_to_end(&mut bytes)?;
     Ok(bytes)
 }
 
 /// The first bytes of a file.
-fn read_file<R: Files + AllocGlobal>(rt: &R, path: &str) -> io::Result<Vec<u8>> {
+fn read_file<R: Files + AllocGlobal>(rt: &R, bounds: Bounds, path: &str) -> io::Result<Vec<u8>> {
     let file = fs::open(rt, path)?;
     let size = file.metadata()?.len();
-    read_whole(rt.alloc(), file, size)
+    read_whole(rt.alloc(), bounds, file, size)
 }
 
 /// Reads one file.
-fn read_operand<R: Files + AllocGlobal>(rt: &R, folder: &str, name: &str) -> io::Result<Operand>
+fn read_operand<R: Files + AllocGlobal>(
+    rt: &R,
+    folder: &str,
+    bounds: Bounds,
+    name: &str,
+) -> io::Result<Operand>
     ensures { IfOk result (λ o. o.name.items ≡ name.now) }
 {
     let path = path_of(rt.alloc(), folder, name)?;
-    let bytes = read_file(rt, path.as_str())?;
+    let bytes = read_file(rt, bounds, path.as_str())?;
     let name = Vec::from_slice(rt.alloc(), name.as_bytes())?;
     Ok(Operand { name, bytes })
 }
@@ -73,6 +92,7 @@ fn read_operand<R: Files + AllocGlobal>(rt: &R, folder: &str, name: &str) -> io:
 pub(crate) fn read_operands<R: Files + AllocGlobal>(
     rt: &R,
     folder: &str,
+    bounds: Bounds,
     files: &[String],
     operands: &mut Operands,
 ) -> Result<(), Finish>
@@ -83,7 +103,7 @@ pub(crate) fn read_operands<R: Files + AllocGlobal>(
 {
     let mut place = 0;
     for name in files {
-        let operand = match read_operand(rt, folder, name.as_str()) {
+        let operand = match read_operand(rt, folder, bounds, name.as_str()) {
             Ok(operand) => operand,
             Err(error) if error.kind() == ErrorKind::OutOfMemory => return Err(OUT_OF_MEMORY),
             Err(_) => return Err(Finish::Unreadable(place)),

@@ -5,13 +5,15 @@ ghost use Rattle.cb_tags.specs.Writing.{Puts};
 ghost use Rattle.cbrowse.specs.Messages.{
   Says,
   error_line,
-  fault_text,
+  fault_line,
   file_line,
   hex_digit,
   is_plain,
   told_byte,
   told_name,
+  bounds_of,
   files_of,
+  most_line_bytes,
   tagsfile_of,
   run_said,
   said_of,
@@ -21,9 +23,11 @@ ghost use Rattle.cbrowse.specs.Messages.{
   usage_said,
 };
 
+use cb_desk::Bounds;
 use cb_session::{Ended, Fault};
 use cb_tags::{Sink, WriteFault, put_text, put_texts};
 use cb_words::{Job, Usage};
+use itoa::Buffer;
 use std::io::Write;
 
 /// How a job ended.
@@ -42,10 +46,28 @@ pub(crate) fn files_of(job: &Job) -> &[String]
     ensures { map string_bytes result.now ≡ files_of job.now }
 {
     match job {
-        Job::Line { files } => files.as_slice(),
+        Job::Line { files, .. } => files.as_slice(),
         Job::Find { files, .. } => files.as_slice(),
         Job::Tags { files, .. } => files.as_slice(),
     }
+}
+
+/// The bounds of a job.
+pub(crate) fn bounds_of(job: &Job) -> Bounds
+    ensures { result ≡ bounds_of job.now }
+{
+    match job {
+        Job::Line { bounds, .. } => *bounds,
+        Job::Find { bounds, .. } => *bounds,
+        Job::Tags { bounds, .. } => *bounds,
+    }
+}
+
+/// The most bytes of a line of a session.
+pub(crate) fn most_line_bytes(bounds: Bounds) -> u64
+    ensures { result ≡ most_line_bytes bounds }
+{
+    (bounds.file_bytes() as u64).max(1_000_000)
 }
 
 /// The name of a job's tags file.
@@ -162,27 +184,42 @@ fn put_file_error<E: Write>(
     put_texts(errors, &[b": ", text, b"\n"])
 }
 
-/// What a fault is called.
-fn fault_text(fault: Fault) -> &'static [u8]
-    ensures { result.now ≡ fault_text fault }
+/// Says that a line has more than so many bytes.
+fn put_long_line<E: Write>(errors: &mut Sink<E>, limit: u64) -> Result<(), WriteFault>
+    ensures { Puts errors.old errors.new result (fault_line limit Fault.LongLine) }
+{
+    let mut buffer = Buffer::new();
+    let digits = buffer.format(limit).as_bytes();
+    put_texts(errors, &[b"cbrowse: line over ", digits, b" bytes\n"])
+}
+
+/// Says what a fault is called, where a line may have so many bytes.
+fn put_fault<E: Write>(errors: &mut Sink<E>, limit: u64, fault: Fault) -> Result<(), WriteFault>
+    ensures { Puts errors.old errors.new result (fault_line limit fault) }
 {
     match fault {
-        Fault::Read => b"read fault",
-        Fault::Write => b"write fault",
-        Fault::Memory => b"out of memory",
-        Fault::LongLine => b"line over 1000000 bytes",
-        Fault::ManyLines => b"too many lines",
+        Fault::Read => put_error(errors, b"read fault"),
+        Fault::Write => put_error(errors, b"write fault"),
+        Fault::Memory => put_error(errors, b"out of memory"),
+        Fault::LongLine => put_long_line(errors, limit),
+        Fault::ManyLines => put_error(errors, b"too many lines"),
     }
 }
 
-/// Says how a run over these files ended, if not as it should.
-fn put_run<E: Write>(errors: &mut Sink<E>, files: &[String], ended: Ended) -> Result<(), WriteFault>
-    ensures { Puts errors.old errors.new result (run_said (map string_bytes files.now) ended) }
+/// Says how a run over these files ended, if not as it should, where a line may have so many bytes.
+fn put_run<E: Write>(
+    errors: &mut Sink<E>,
+    limit: u64,
+    files: &[String],
+    ended: Ended,
+) -> Result<(), WriteFault>
+    ensures { Puts errors.old errors.new result
+        (run_said limit (map string_bytes files.now) ended) }
 {
     match ended {
         Ended::Done => Ok(()),
         Ended::Cut => put_error(errors, b"input ended"),
-        Ended::Fault(fault) => put_error(errors, fault_text(fault)),
+        Ended::Fault(fault) => put_fault(errors, limit, fault),
         Ended::Operand(place, refusal) => put_file_error(
             errors,
             name_at(files, place as usize),
@@ -196,7 +233,14 @@ fn put_finish<E: Write>(errors: &mut Sink<E>, job: &Job, finish: Finish) -> Resu
     ensures { Puts errors.old errors.new result (said_of job.now finish) }
 {
     match finish {
-        Finish::Ran(ended) => put_run(errors, files_of(job), ended),
+        Finish::Ran(ended) => {
+            put_run(
+                errors,
+                most_line_bytes(bounds_of(job)),
+                files_of(job),
+                ended,
+            )
+        }
         Finish::Unreadable(place) => {
             put_file_error(errors, name_at(files_of(job), place), b"cannot be read")
         }

@@ -1,6 +1,7 @@
 //! What a session scans, by the meter of its desk. Bytes are counted by hand.
 use super::inputs::WIDE;
 use super::meters::NINE_LINES;
+use cb_desk::Bounds;
 use cb_session::{Operand, Operands, Session, prepare};
 use cb_tags::{Feed, Sink};
 use std::alloc::{AllocError, Global};
@@ -51,7 +52,7 @@ fn each_command_scans_its_bytes(rt: &impl Abort, alloc: Global, session: &mut Se
 #[test]
 fn serve_scans_texts_that_come_in(rt: HostRuntime) -> Result<(), AllocError> {
     let operands = operands(rt.alloc())?;
-    match prepare(rt.alloc(), operands) {
+    match prepare(rt.alloc(), Bounds::standard(), operands) {
         Ok(mut session) => each_command_scans_its_bytes(&rt, rt.alloc(), &mut session),
         Err(_) => assert!(rt; false, "the operands were refused"),
     }

@@ -1,4 +1,4 @@
-use Rattle.std.proofs.Common.{◌≤◌, ◌∙◌, ◌+◌, length, map, ap, arith, rules, sym}
+use Rattle.std.proofs.Common.{◌<◌, ◌∙◌, ◌+◌, ◌^◌, length, map, ap, arith, rules, sym}
 use Rattle.std.proofs.lemmas.List.{length-map}
 use Rattle.std.specs.Vec.Iter.{into_iter_items}
 use Rattle.cb_desk.specs.steps.Loading.{Loaded}
@@ -10,9 +10,10 @@ use Rattle.cb_session.proofs.operands.prepare.Goals as goal
 pub overflow_add-place : goal.overflow_add-place
 overflow_add-place c =
     let bounded = c.loading.invariant.recorded.valid.bounded in
+    let most = c.loading.invariant.recorded.valid.now.bounds.history in
     let same = ap (λ (d : Loaded). length d.timeline.past) c.loading.view_is in
     let grown = past_grows _ _ _ _ _ tt c.loop-operand.invariant.placed c.in-Ok.ensures.timeline in
-    let low : c.loop-operand.place + 1 ≤ 65536 = omega (arith, bounded, same, grown) in
+    let low : c.loop-operand.place + 1 < 2 ^ 32 = omega (arith, bounded, most, same, grown) in
     search (rules, low)
 
 pub loop-operand-preserved : goal.loop-operand-preserved
@@ -50,7 +51,7 @@ returns c =
     let none =
     length-map items file_of_operand ∙ sym c.loop-operand.invariant.counted
     ∙ c.in-None.ensures.steps.0 in
-    starts_all _ c.loop-operand.place (map file_of_operand c.args.operands.items)
+    starts_all _ _ c.loop-operand.place (map file_of_operand c.args.operands.items)
     (map file_of_operand items) c.session_of.result
     c.loop-operand.invariant.goes none c.loop-operand.invariant.placed
     c.loop-operand.invariant.scanned c.loop-operand.invariant.fits c.loop-operand.invariant.hidden

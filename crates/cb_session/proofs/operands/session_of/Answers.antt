@@ -1,4 +1,4 @@
-use Rattle.std.proofs.Common.{◌∙◌, ap, refl, sym}
+use Rattle.std.proofs.Common.{◌∙◌, ap, sym}
 use Rattle.cb_desk.specs.Desk.{counted}
 use Rattle.cb_session.specs.States.{State}
 use Rattle.cb_session.proofs.operands.session_of.Goals as goal

@@ -1,9 +1,9 @@
-use Rattle.std.proofs.Common.{◌≡◌, ◌∙◌, sym, ap, length, map}
+use Rattle.std.proofs.Common.{rules, ◌∙◌, sym, ap, length, map}
 use Rattle.std.specs.List.{flat_map}
 use Rattle.cb_index.specs.Rows.{file_facts}
 use Rattle.cb_index.specs.Shelved.{files}
 use Rattle.cb_index.specs.steps.Left.{spots_left}
-use Rattle.cb_desk.specs.Answer.{distinct, field_rows}
+use Rattle.cb_desk.specs.Answer.{field_rows}
 use Rattle.cb_desk.specs.steps.Lent.{asked_by, is_named, row_shown}
 use Rattle.cb_desk.proofs.CountLemmas.{facts-distinct, few-distinct, index-counts}
 use Rattle.cb_desk.proofs.RowsFew.{fact-rows-few}
@@ -25,7 +25,8 @@ new-requires-clause-few c =
     few-distinct shown (spots_left c.spots.result) (flat_map (field_rows (asked_by kind) p) fs)
     (ap (map shown) (c.spots.ensures.rows ∙ c.facts.ensures.new)
     ∙ facts-distinct p fs c.requires.valid.ascending kind)
-    (fact-rows-few kind p fs c.requires.valid)
+    (fact-rows-few kind p c.args.shelf.now.archive c.args.shelf.now.shown c.totals-totals.result
+    c.totals-totals.ensures (search rules) (search rules))
 
 pub returns : goal.returns
 returns c =

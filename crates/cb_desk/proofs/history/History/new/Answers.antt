@@ -7,4 +7,5 @@ pub invariant_of-result : goal.invariant_of-result
 invariant_of-result c =
     subst (λ ts. IsRecorded (record { kept = c.new.result; records = ts; done = 0 }))
     (sym c.new-2.ensures.items)
-    (nothing_recorded c.new.result c.new.ensures.now c.new.ensures.names c.new.ensures.texts)
+    (nothing_recorded c.args.bounds c.files-files.ensures.within c.new.result
+    c.new.ensures.now c.new.ensures.names c.new.ensures.texts)

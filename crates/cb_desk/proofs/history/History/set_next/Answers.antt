@@ -1,5 +1,4 @@
 use Rattle.std.proofs.Common.{rules, ◌≡◌, ◌∙◌, ◌++◌, ◌∷◌, [], ap, sym, subst, take, length, ◌<◌}
-use Rattle.cb_desk.specs.declared.limits.TheConstants.{MOST_CHANGES}
 use Rattle.cb_desk.specs.Timeline.{Timeline}
 use Rattle.cb_desk.specs.steps.Plans.{IsPlan, Keeps}
 use Rattle.cb_desk.specs.steps.Walks.{IsRecorded, Recorded, timeline_in}
@@ -70,7 +69,8 @@ invariant_of-self-2 c =
     c.requires.0 plan
     (room_moved k m c.args.plan c.reserve_for.ensures.now c.reserve_for.ensures.same_names
     c.reserve_for.ensures.same_texts (search rules))
-    c.requires.2 (subst (λ t. length t.past < MOST_CHANGES) (sym same) c.requires.3))
+    c.requires.2 (subst (λ (t : Timeline). length t.past < t.present.bounds.history) (sym same)
+    c.requires.3))
 
 pub returns-clause-timeline : goal.returns-clause-timeline
 returns-clause-timeline c v leads =

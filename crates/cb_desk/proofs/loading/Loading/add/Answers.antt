@@ -3,7 +3,6 @@ use Rattle.std.proofs.Common.{length, arith}
 use Rattle.cb_scan.specs.Order.{in_order}
 use Rattle.cb_index.specs.Files.{shown_name}
 use Rattle.cb_index.specs.declared.entry.Shown.{Shown}
-use Rattle.cb_desk.specs.declared.limits.TheConstants.{MOST_CHANGES}
 use Rattle.cb_desk.specs.Files.{loaded as after}
 use Rattle.cb_desk.specs.Timeline.{moved_on}
 use Rattle.cb_desk.specs.World.{IsValidWorld, has_file}
@@ -25,7 +24,8 @@ invariant_of-self c =
       c.make_room.ensures.same_list,
       c.make_room.ensures.same_records,
     )
-    (roomier c.self.inside.shelf.archive c.make_room.new.shelf.archive c.self.inside.shelf.shown
+    (roomier c.self.inside.bounds c.self.inside.shelf.archive c.make_room.new.shelf.archive
+    c.self.inside.shelf.shown
     c.self.inside.shown.items c.self.inside.records.items
     c.make_room.ensures.same_names c.make_room.ensures.same_texts c.self.invariant)
 
@@ -33,9 +33,10 @@ pub returns-in_err-make_room-clause-timeline : goal.returns-in_err-make_room-cla
 returns-in_err-make_room-clause-timeline c =
     refused_as _ _ c.from_residual-in_err-make_room.result
     c.from_residual-in_err-make_room.ensures.0
-    ((λ i. timeline_in (loads_recorded c.make_room.new.shelf.archive
+    ((λ i. timeline_in (loads_recorded c.self.inside.bounds c.make_room.new.shelf.archive
     (c.make_room.ensures.same_list i) (c.make_room.ensures.same_records i)))
-    ∙ roomier_timeline c.self.inside.shelf.archive c.make_room.new.shelf.archive
+    ∙ roomier_timeline c.self.inside.bounds c.self.inside.shelf.archive
+    c.make_room.new.shelf.archive
     c.make_room.ensures.same_names c.make_room.ensures.same_texts
     c.self.inside.shown.items c.self.inside.records.items c.self.invariant.recorded
     ∙ ap (λ (l : Loaded). l.timeline) c.self.view_is)
@@ -63,11 +64,13 @@ put_all_shown-requires-clause-ascending c =
     subst (λ (l : Loaded). IsValidWorld (after l.timeline.present name text))
     (sym c.self.view_is) c.requires.valid in
     let few =
-    subst (λ n. n < MOST_CHANGES) (past_length (loads_recorded a shown records) (omega arith))
-    (subst (λ (l : Loaded). length l.timeline.past < MOST_CHANGES)
+    subst (λ n. n < c.self.inside.bounds.history)
+    (past_length (loads_recorded c.self.inside.bounds a shown records) (omega arith))
+    (subst (λ (l : Loaded). length l.timeline.past < l.timeline.present.bounds.history)
     (sym c.self.view_is) c.requires.few) in
     rw (c.archive.ensures, c.make_room.ensures.same_list)
-    (ascending_before a b c.self.inside.shelf.shown shown records name text is names
+    (ascending_before c.self.inside.bounds a b c.self.inside.shelf.shown shown records
+    name text is names
     texts fresh valid few)
 
 pub put_all_shown-requires-clause-apart : goal.put_all_shown-requires-clause-apart
@@ -92,8 +95,9 @@ put_all_shown-requires-clause-apart c =
     subst (λ (l : Loaded). IsValidWorld (after l.timeline.present name text))
     (sym c.self.view_is) c.requires.valid in
     let few =
-    subst (λ n. n < MOST_CHANGES) (past_length (loads_recorded a shown records) (omega arith))
-    (subst (λ (l : Loaded). length l.timeline.past < MOST_CHANGES)
+    subst (λ n. n < c.self.inside.bounds.history)
+    (past_length (loads_recorded c.self.inside.bounds a shown records) (omega arith))
+    (subst (λ (l : Loaded). length l.timeline.past < l.timeline.present.bounds.history)
     (sym c.self.view_is) c.requires.few) in
     let named : c.len-count.result ≡ length a.names = search rules in
     let kept : c.len-count.result ≡ length a.texts = search rules in
@@ -101,7 +105,7 @@ put_all_shown-requires-clause-apart c =
     (record { name = length a.names; version = length a.texts }) =
     (λ i. record { name = named i; version = kept i }) in
     rw (c.archive.ensures, c.make_room.ensures.same_list, one)
-    (apart_then a b c.self.inside.shelf.shown shown records name text is names
+    (apart_then c.self.inside.bounds a b c.self.inside.shelf.shown shown records name text is names
     texts fresh valid few)
 
 -- one file more is loaded
@@ -127,8 +131,9 @@ invariant_of-self-2 c =
     subst (λ (l : Loaded). IsValidWorld (after l.timeline.present name text))
     (sym c.self.view_is) c.requires.valid in
     let few =
-    subst (λ n. n < MOST_CHANGES) (past_length (loads_recorded a shown records) (omega arith))
-    (subst (λ (l : Loaded). length l.timeline.past < MOST_CHANGES)
+    subst (λ n. n < c.self.inside.bounds.history)
+    (past_length (loads_recorded c.self.inside.bounds a shown records) (omega arith))
+    (subst (λ (l : Loaded). length l.timeline.past < l.timeline.present.bounds.history)
     (sym c.self.view_is) c.requires.few) in
     let named : c.len-count.result ≡ length a.names = search rules in
     let kept : c.len-count.result ≡ length a.texts = search rules in
@@ -169,7 +174,8 @@ invariant_of-self-2 c =
     let pushed : c.push_reserved.new.self.items ≡ records ++ u ∷ [] =
     c.push_reserved.ensures.items ∙ ap (λ l. l ++ u ∷ []) c.make_room.ensures.same_records in
     rw (hidden, pushed)
-    (one_more a b c.self.inside.shelf.shown shown records name text is names texts
+    (one_more c.self.inside.bounds a b c.self.inside.shelf.shown shown records
+    name text is names texts
     fresh valid few _ u list
     (turn_back u c.len-count.result named kept turn))
 
@@ -195,8 +201,9 @@ returns-clause-timeline c =
     subst (λ (l : Loaded). IsValidWorld (after l.timeline.present name text))
     (sym c.self.view_is) c.requires.valid in
     let few =
-    subst (λ n. n < MOST_CHANGES) (past_length (loads_recorded a shown records) (omega arith))
-    (subst (λ (l : Loaded). length l.timeline.past < MOST_CHANGES)
+    subst (λ n. n < c.self.inside.bounds.history)
+    (past_length (loads_recorded c.self.inside.bounds a shown records) (omega arith))
+    (subst (λ (l : Loaded). length l.timeline.past < l.timeline.present.bounds.history)
     (sym c.self.view_is) c.requires.few) in
     let named : c.len-count.result ≡ length a.names = search rules in
     let kept : c.len-count.result ≡ length a.texts = search rules in
@@ -235,7 +242,8 @@ returns-clause-timeline c =
     let pushed : c.push_reserved.new.self.items ≡ records ++ u ∷ [] =
     c.push_reserved.ensures.items ∙ ap (λ l. l ++ u ∷ []) c.make_room.ensures.same_records in
     rw (pushed)
-    (one_more_timeline_as a b c.self.inside.shelf.shown shown records name text is names texts
+    (one_more_timeline_as c.self.inside.bounds a b c.self.inside.shelf.shown shown records
+    name text is names texts
     fresh valid few _ u list
     (turn_back u c.len-count.result named kept turn)
     ∙ ap (λ (l : Loaded). moved_on l.timeline (after l.timeline.present name text)) c.self.view_is)

@@ -11,7 +11,8 @@ use Rattle.cb_desk.proofs.loading.Loading.desk.Goals as goal
 pub show-requires-clause-there : goal.show-requires-clause-there
 show-requires-clause-there c =
     rw (c.as_slice.ensures.value)
-    (all_there c.self.inside.shelf.archive c.self.inside.shelf.shown c.self.inside.shown.items
+    (all_there c.self.inside.bounds c.self.inside.shelf.archive c.self.inside.shelf.shown
+    c.self.inside.shown.items
     c.self.inside.records.items c.self.invariant)
 
 -- memory is refused only where there is something to show
@@ -22,7 +23,8 @@ returns-in_err-show c =
     let records = c.self.inside.records.items in
     let some : shown ≢ [] = rw (sym c.as_slice.ensures.value) c.in_err-show.ensures.some in
     refused_with _ _ c.from_residual.result c.from_residual.ensures.0
-    (λ none. some_past a c.self.inside.shelf.shown shown records c.self.invariant some
+    (λ none. some_past c.self.inside.bounds a c.self.inside.shelf.shown shown records
+    c.self.invariant some
     (ap (λ (l : Loaded). l.timeline.past) c.self.view_is ∙ none))
 
 pub loaded-requires : goal.loaded-requires
@@ -33,9 +35,9 @@ loaded-requires c =
     let count : c.len-count.result ≡ length records = search rules in
     let is_shown : c.show.new.shelf.shown ≡ shown = search rules in
     let has : HasRoomToShow c.show.new.shelf shown = search rules in
-    let now : c.loaded-present.result.now ≡ loaded_numbers a shown =
+    let now : c.loaded-present.result.now ≡ loaded_numbers c.self.inside.bounds a shown =
     c.loaded-present.ensures.now
-    ∙ (λ i. record no_numbers {
+    ∙ (λ i. record (no_numbers c.self.inside.bounds) {
       shown = is_shown i;
       names = (count ∙ sym c.self.invariant.names) i;
       versions = (count ∙ sym c.self.invariant.versions) i;
@@ -48,7 +50,8 @@ loaded-requires c =
     rooms_kept a c.show.new.shelf shown c.loaded-present.result.rooms c.show.ensures.texts has
     c.loaded-present.ensures.files c.loaded-present.ensures.defs c.loaded-present.ensures.uses
     c.loaded-present.ensures.calls in
-    shown_recorded a c.self.inside.shelf.shown shown records c.loaded-present.result
+    shown_recorded c.self.inside.bounds a c.self.inside.shelf.shown shown records
+    c.loaded-present.result
     c.self.invariant now names texts rooms
 
 pub over-requires : goal.over-requires
@@ -59,9 +62,9 @@ over-requires c =
     let count : c.len-count.result ≡ length records = search rules in
     let is_shown : c.show.new.shelf.shown ≡ shown = search rules in
     let has : HasRoomToShow c.show.new.shelf shown = search rules in
-    let now : c.loaded-present.result.now ≡ loaded_numbers a shown =
+    let now : c.loaded-present.result.now ≡ loaded_numbers c.self.inside.bounds a shown =
     c.loaded-present.ensures.now
-    ∙ (λ i. record no_numbers {
+    ∙ (λ i. record (no_numbers c.self.inside.bounds) {
       shown = is_shown i;
       names = (count ∙ sym c.self.invariant.names) i;
       versions = (count ∙ sym c.self.invariant.versions) i;
@@ -75,7 +78,8 @@ over-requires c =
     c.loaded-present.ensures.files c.loaded-present.ensures.defs c.loaded-present.ensures.uses
     c.loaded-present.ensures.calls in
     subst IsValidTimeline (sym c.loaded.ensures.timeline)
-    (shown_recorded a c.self.inside.shelf.shown shown records c.loaded-present.result
+    (shown_recorded c.self.inside.bounds a c.self.inside.shelf.shown shown records
+    c.loaded-present.result
     c.self.invariant now names texts rooms).valid
 
 pub returns : goal.returns
@@ -88,9 +92,9 @@ returns c =
     let count : c.len-count.result ≡ length records = search rules in
     let is_shown : c.show.new.shelf.shown ≡ shown = search rules in
     let has : HasRoomToShow c.show.new.shelf shown = search rules in
-    let now : c.loaded-present.result.now ≡ loaded_numbers a shown =
+    let now : c.loaded-present.result.now ≡ loaded_numbers c.self.inside.bounds a shown =
     c.loaded-present.ensures.now
-    ∙ (λ i. record no_numbers {
+    ∙ (λ i. record (no_numbers c.self.inside.bounds) {
       shown = is_shown i;
       names = (count ∙ sym c.self.invariant.names) i;
       versions = (count ∙ sym c.self.invariant.versions) i;
@@ -104,12 +108,14 @@ returns c =
     c.loaded-present.ensures.files c.loaded-present.ensures.defs c.loaded-present.ensures.uses
     c.loaded-present.ensures.calls in (
       c.over.ensures.timeline ∙ c.loaded.ensures.timeline
-          ∙ shown_timeline a c.self.inside.shelf.shown shown records c.loaded-present.result
+          ∙ shown_timeline c.self.inside.bounds a c.self.inside.shelf.shown shown records
+          c.loaded-present.result
           c.self.invariant now names texts rooms
           ∙ ap (λ (l : Loaded). l.timeline) c.self.view_is,
       c.over.ensures.meter ∙ ap (λ (l : Loaded). l.meter) c.self.view_is,
       c.over.ensures.turns ∙ c.loaded.ensures.turns ∙ c.loaded-present.ensures.turns
-          ∙ shown_turns a c.self.inside.shelf.shown shown records c.self.invariant
+          ∙ shown_turns c.self.inside.bounds a c.self.inside.shelf.shown shown records
+          c.self.invariant
           c.self.inside.shelf.turns c.show.new.shelf.turns turned
           ∙ ap (λ (l : Loaded). counted l.turns (length l.timeline.past)) c.self.view_is,
     )

@@ -1,6 +1,5 @@
 use Rattle.std.proofs.Common.{rules, ◌≡◌, ◌∙◌, ◌<◌, Err, refl, sym, ap, subst, length}
 use Rattle.cb_index.specs.Files.{files_of}
-use Rattle.cb_desk.specs.declared.limits.TheConstants.{MOST_CHANGES}
 use Rattle.cb_desk.specs.declared.refusal.Refusal.TheVariants.{OutOfMemory}
 use Rattle.cb_desk.specs.Files.{load_refusal, loaded as after_load}
 use Rattle.cb_desk.specs.Step.{after, load, refusal_of}
@@ -15,19 +14,20 @@ use Rattle.cb_desk.proofs.loading.Loading.load.Goals as goal
 pub load_refusal-requires-clause-there : goal.load_refusal-requires-clause-there
 load_refusal-requires-clause-there c =
     rw (c.archive-archive.ensures, c.as_slice-shown.ensures.value)
-    (all_there c.self.inside.shelf.archive c.self.inside.shelf.shown c.self.inside.shown.items
+    (all_there c.self.inside.bounds c.self.inside.shelf.archive c.self.inside.shelf.shown
+    c.self.inside.shown.items
     c.self.inside.records.items c.self.invariant)
 
 pub returns-in-Some-clause-timeline : goal.returns-in-Some-clause-timeline
 returns-in-Some-clause-timeline c =
     let w =
     world_in c.self.inside.shelf.archive
-    (loaded_numbers c.self.inside.shelf.archive c.self.inside.shown.items) in
+    (loaded_numbers c.self.inside.bounds c.self.inside.shelf.archive c.self.inside.shown.items) in
     let s = load c.args.name.now c.args.bytes.items in
     let same = ap (λ (l : Loaded). l.timeline.present) c.self.view_is in
     let found : c.load_refusal.result ≡ refusal_of w s =
     c.load_refusal.ensures
-    ∙ (λ i. load_refusal (record empty_world {
+    ∙ (λ i. load_refusal (record (empty_world c.self.inside.bounds) {
       files = files_of (c.archive-archive.ensures i)
           (c.as_slice-shown.ensures.value i);
     }) c.args.name.now (c.as_slice.ensures.value i)) in
@@ -37,12 +37,12 @@ pub returns-then-is_full-clause-timeline : goal.returns-then-is_full-clause-time
 returns-then-is_full-clause-timeline c =
     let w =
     world_in c.self.inside.shelf.archive
-    (loaded_numbers c.self.inside.shelf.archive c.self.inside.shown.items) in
+    (loaded_numbers c.self.inside.bounds c.self.inside.shelf.archive c.self.inside.shown.items) in
     let s = load c.args.name.now c.args.bytes.items in
     let same = ap (λ (l : Loaded). l.timeline.present) c.self.view_is in
     let found : c.load_refusal.result ≡ refusal_of w s =
     c.load_refusal.ensures
-    ∙ (λ i. load_refusal (record empty_world {
+    ∙ (λ i. load_refusal (record (empty_world c.self.inside.bounds) {
       files = files_of (c.archive-archive.ensures i)
           (c.as_slice-shown.ensures.value i);
     }) c.args.name.now (c.as_slice.ensures.value i)) in
@@ -53,12 +53,12 @@ pub returns-in_err-name-clause-timeline : goal.returns-in_err-name-clause-timeli
 returns-in_err-name-clause-timeline c =
     let w =
     world_in c.self.inside.shelf.archive
-    (loaded_numbers c.self.inside.shelf.archive c.self.inside.shown.items) in
+    (loaded_numbers c.self.inside.bounds c.self.inside.shelf.archive c.self.inside.shown.items) in
     let s = load c.args.name.now c.args.bytes.items in
     let same = ap (λ (l : Loaded). l.timeline.present) c.self.view_is in
     let found : c.load_refusal.result ≡ refusal_of w s =
     c.load_refusal.ensures
-    ∙ (λ i. load_refusal (record empty_world {
+    ∙ (λ i. load_refusal (record (empty_world c.self.inside.bounds) {
       files = files_of (c.archive-archive.ensures i)
           (c.as_slice-shown.ensures.value i);
     }) c.args.name.now (c.as_slice.ensures.value i)) in
@@ -71,12 +71,12 @@ pub returns-in_err-version-clause-timeline : goal.returns-in_err-version-clause-
 returns-in_err-version-clause-timeline c =
     let w =
     world_in c.self.inside.shelf.archive
-    (loaded_numbers c.self.inside.shelf.archive c.self.inside.shown.items) in
+    (loaded_numbers c.self.inside.bounds c.self.inside.shelf.archive c.self.inside.shown.items) in
     let s = load c.args.name.now c.args.bytes.items in
     let same = ap (λ (l : Loaded). l.timeline.present) c.self.view_is in
     let found : c.load_refusal.result ≡ refusal_of w s =
     c.load_refusal.ensures
-    ∙ (λ i. load_refusal (record empty_world {
+    ∙ (λ i. load_refusal (record (empty_world c.self.inside.bounds) {
       files = files_of (c.archive-archive.ensures i)
           (c.as_slice-shown.ensures.value i);
     }) c.args.name.now (c.as_slice.ensures.value i)) in
@@ -89,12 +89,12 @@ pub add-requires-clause-fresh : goal.add-requires-clause-fresh
 add-requires-clause-fresh c =
     let w =
     world_in c.self.inside.shelf.archive
-    (loaded_numbers c.self.inside.shelf.archive c.self.inside.shown.items) in
+    (loaded_numbers c.self.inside.bounds c.self.inside.shelf.archive c.self.inside.shown.items) in
     let s = load c.args.name.now c.args.bytes.items in
     let same = ap (λ (l : Loaded). l.timeline.present) c.self.view_is in
     let found : c.load_refusal.result ≡ refusal_of w s =
     c.load_refusal.ensures
-    ∙ (λ i. load_refusal (record empty_world {
+    ∙ (λ i. load_refusal (record (empty_world c.self.inside.bounds) {
       files = files_of (c.archive-archive.ensures i)
           (c.as_slice-shown.ensures.value i);
     }) c.args.name.now (c.as_slice.ensures.value i)) in
@@ -105,12 +105,12 @@ pub add-requires-clause-valid : goal.add-requires-clause-valid
 add-requires-clause-valid c =
     let w =
     world_in c.self.inside.shelf.archive
-    (loaded_numbers c.self.inside.shelf.archive c.self.inside.shown.items) in
+    (loaded_numbers c.self.inside.bounds c.self.inside.shelf.archive c.self.inside.shown.items) in
     let s = load c.args.name.now c.args.bytes.items in
     let same = ap (λ (l : Loaded). l.timeline.present) c.self.view_is in
     let found : c.load_refusal.result ≡ refusal_of w s =
     c.load_refusal.ensures
-    ∙ (λ i. load_refusal (record empty_world {
+    ∙ (λ i. load_refusal (record (empty_world c.self.inside.bounds) {
       files = files_of (c.archive-archive.ensures i)
           (c.as_slice-shown.ensures.value i);
     }) c.args.name.now (c.as_slice.ensures.value i)) in
@@ -120,19 +120,20 @@ add-requires-clause-valid c =
 
 pub add-requires-clause-few : goal.add-requires-clause-few
 add-requires-clause-few c =
-    subst (λ (l : Loaded). length l.timeline.past < MOST_CHANGES) (sym c.self.view_is)
-    (below_most _ (sym c.is_full.ensures ∙ c.if-is_full.false))
+    subst (λ (l : Loaded). length l.timeline.past < l.timeline.present.bounds.history)
+    (sym c.self.view_is)
+    (below_most _ _ (sym c.is_full.ensures ∙ c.if-is_full.false))
 
 pub returns-in_err-add-clause-timeline : goal.returns-in_err-add-clause-timeline
 returns-in_err-add-clause-timeline c =
     let w =
     world_in c.self.inside.shelf.archive
-    (loaded_numbers c.self.inside.shelf.archive c.self.inside.shown.items) in
+    (loaded_numbers c.self.inside.bounds c.self.inside.shelf.archive c.self.inside.shown.items) in
     let s = load c.args.name.now c.args.bytes.items in
     let same = ap (λ (l : Loaded). l.timeline.present) c.self.view_is in
     let found : c.load_refusal.result ≡ refusal_of w s =
     c.load_refusal.ensures
-    ∙ (λ i. load_refusal (record empty_world {
+    ∙ (λ i. load_refusal (record (empty_world c.self.inside.bounds) {
       files = files_of (c.archive-archive.ensures i)
           (c.as_slice-shown.ensures.value i);
     }) c.args.name.now (c.as_slice.ensures.value i)) in
@@ -145,12 +146,12 @@ pub returns-clause-timeline : goal.returns-clause-timeline
 returns-clause-timeline c =
     let w =
     world_in c.self.inside.shelf.archive
-    (loaded_numbers c.self.inside.shelf.archive c.self.inside.shown.items) in
+    (loaded_numbers c.self.inside.bounds c.self.inside.shelf.archive c.self.inside.shown.items) in
     let s = load c.args.name.now c.args.bytes.items in
     let same = ap (λ (l : Loaded). l.timeline.present) c.self.view_is in
     let found : c.load_refusal.result ≡ refusal_of w s =
     c.load_refusal.ensures
-    ∙ (λ i. load_refusal (record empty_world {
+    ∙ (λ i. load_refusal (record (empty_world c.self.inside.bounds) {
       files = files_of (c.archive-archive.ensures i)
           (c.as_slice-shown.ensures.value i);
     }) c.args.name.now (c.as_slice.ensures.value i)) in

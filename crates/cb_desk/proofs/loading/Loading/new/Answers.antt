@@ -3,6 +3,7 @@ use Rattle.cb_desk.proofs.loading.Loading.new.Goals as goal
 
 pub invariant_of-result : goal.invariant_of-result
 invariant_of-result c =
-    none_loaded c.new.result.archive c.new.result.shown c.new-2.result.items c.new-3.result.items
+    none_loaded c.args.bounds c.files-files.ensures.within
+    c.new.result.archive c.new.result.shown c.new-2.result.items c.new-3.result.items
     c.new.ensures.names c.new.ensures.texts c.new.ensures.shown c.new-2.ensures.items
     c.new-3.ensures.items

@@ -6,8 +6,15 @@ use Rattle.cb_desk.specs.steps.Plans.{IsPlan}
 use Rattle.cb_desk.specs.steps.Records.{world_in}
 use Rattle.cb_desk.specs.steps.Named.{file_named}
 use Rattle.cb_desk.proofs.PlacePlans.{ok_along}
+use Rattle.cb_desk.proofs.StepsValid.{reload-fits}
 use Rattle.cb_desk.proofs.TagPlans.{has_that_name}
 use Rattle.cb_desk.proofs.present.Present.plan_to_reload.Goals as goal
+
+-- an accepted text is a source
+pub scanned-requires : goal.scanned-requires
+scanned-requires c =
+    reload-fits (world_in c.args.self.now.archive c.args.self.now.now) c.args.name.now
+    c.args.bytes.items c.requires.valid c.requires.accepted
 
 pub returns-clause-plan : goal.returns-clause-plan
 returns-clause-plan c =

@@ -1,6 +1,5 @@
-use Rattle.std.proofs.Common.{rules, ◌≡◌, ◌≤◌, ◌<◌, ◌-◌, ◌^◌, ◌∙◌, ap, arith, length, nat_le, refl}
+use Rattle.std.proofs.Common.{rules, ◌≡◌, ◌≤◌, ◌<◌, ◌-◌, ◌^◌, ◌∙◌, ap, length, nat_le, refl}
 use Rattle.std.proofs.Common.{subst, sym, Err}
-use Rattle.cb_desk.specs.declared.limits.TheConstants.{MOST_CHANGES}
 use Rattle.cb_desk.specs.declared.refusal.Refusal.TheVariants.{HistoryFull, OutOfMemory}
 use Rattle.cb_desk.specs.Desk.{Counts, DeskState, scanned}
 use Rattle.cb_desk.specs.Models.{step_of}
@@ -11,7 +10,9 @@ use Rattle.cb_desk.specs.steps.Plans.{IsPlan}
 use Rattle.cb_desk.specs.steps.Records.{Kept, world_in}
 use Rattle.cb_desk.specs.steps.Walks.{timeline_in}
 use Rattle.cb_desk.proofs.Counted.{refused_after, refused_between, refused_counts}
+use Rattle.cb_desk.proofs.LoadingLemmas.{below_most}
 use Rattle.cb_desk.proofs.Moves.{refused, full, moved_on-valid, no-memory, valid-after, done}
+use Rattle.cb_desk.proofs.StepsValid.{after-bounds}
 use Rattle.cb_desk.proofs.state.Desk.change.Goals as goal
 
 abbrev world_of : Kept → World
@@ -47,9 +48,10 @@ returns-then-is_full-clause-timeline c =
     ∙ ap (λ (t : Timeline). t.present) c.place_of-place.ensures.still.timeline
     ∙ ap (λ (d : DeskState). d.timeline.present) c.self.view_is in
     let long =
-    c.is_full.ensures ∙ ap (λ (t : Timeline). nat_le MOST_CHANGES (length t.past))
+    c.is_full.ensures ∙ ap (λ (t : Timeline). nat_le t.present.bounds.history (length t.past))
     c.place_of-place.ensures.still.timeline
-    ∙ ap (λ (d : DeskState). nat_le MOST_CHANGES (length d.timeline.past)) c.self.view_is in
+    ∙ ap (λ (d : DeskState). nat_le d.timeline.present.bounds.history
+    (length d.timeline.past)) c.self.view_is in
     let stays =
     c.place_of-place.ensures.still.timeline ∙ ap (λ (d : DeskState). d.timeline) c.self.view_is in
     subst (λ t. Changes (step_of c.args.change) c.args.self.now.timeline t (Err HistoryFull))
@@ -65,9 +67,10 @@ returns-in_err-plan-clause-timeline c =
     ∙ ap (λ (t : Timeline). t.present) c.place_of-place.ensures.still.timeline
     ∙ ap (λ (d : DeskState). d.timeline.present) c.self.view_is in
     let long =
-    c.is_full.ensures ∙ ap (λ (t : Timeline). nat_le MOST_CHANGES (length t.past))
+    c.is_full.ensures ∙ ap (λ (t : Timeline). nat_le t.present.bounds.history (length t.past))
     c.place_of-place.ensures.still.timeline
-    ∙ ap (λ (d : DeskState). nat_le MOST_CHANGES (length d.timeline.past)) c.self.view_is in
+    ∙ ap (λ (d : DeskState). nat_le d.timeline.present.bounds.history
+    (length d.timeline.past)) c.self.view_is in
     let err : c.from_residual.result ≡ Err OutOfMemory = search rules in
     no-memory c.args.self.now.timeline (step_of c.args.change) _ same _ c.refusal_of.ensures
     c.in_default.not-Some
@@ -103,7 +106,7 @@ go-requires c =
           c.in_ok-plan.ensures.plan,
       valid-after c.args.self.now.timeline s w same _ c.refusal_of.ensures c.in_default.not-Some
           (after w s) valid refl,
-      grind (arith, short, no),
+      below_most _ _ (sym short ∙ no),
     )
 
 pub returns-in_err-go-clause-timeline : goal.returns-in_err-go-clause-timeline
@@ -113,9 +116,10 @@ returns-in_err-go-clause-timeline c =
     ∙ ap (λ (t : Timeline). t.present) c.place_of-place.ensures.still.timeline
     ∙ ap (λ (d : DeskState). d.timeline.present) c.self.view_is in
     let long =
-    c.is_full.ensures ∙ ap (λ (t : Timeline). nat_le MOST_CHANGES (length t.past))
+    c.is_full.ensures ∙ ap (λ (t : Timeline). nat_le t.present.bounds.history (length t.past))
     c.place_of-place.ensures.still.timeline
-    ∙ ap (λ (d : DeskState). nat_le MOST_CHANGES (length d.timeline.past)) c.self.view_is in
+    ∙ ap (λ (d : DeskState). nat_le d.timeline.present.bounds.history
+    (length d.timeline.past)) c.self.view_is in
     let err : c.from_residual-in_err-go.result ≡ Err OutOfMemory = search rules in
     let w = world_of c.present-present.result.now in
     let s = step_of c.args.change in
@@ -147,9 +151,10 @@ returns-clause-timeline c =
     ∙ ap (λ (t : Timeline). t.present) c.place_of-place.ensures.still.timeline
     ∙ ap (λ (d : DeskState). d.timeline.present) c.self.view_is in
     let long =
-    c.is_full.ensures ∙ ap (λ (t : Timeline). nat_le MOST_CHANGES (length t.past))
+    c.is_full.ensures ∙ ap (λ (t : Timeline). nat_le t.present.bounds.history (length t.past))
     c.place_of-place.ensures.still.timeline
-    ∙ ap (λ (d : DeskState). nat_le MOST_CHANGES (length d.timeline.past)) c.self.view_is in
+    ∙ ap (λ (d : DeskState). nat_le d.timeline.present.bounds.history
+    (length d.timeline.past)) c.self.view_is in
     let w = world_of c.present-present.result.now in
     let s = step_of c.args.change in
     let plan =
@@ -200,8 +205,9 @@ invariant_of-self-2 c =
     (after w s) valid refl in
     let long = c.is_full.ensures in
     let is_short = c.if-is_full.false in
-    let short : length (timeline_in h).past < MOST_CHANGES = grind (arith, long, is_short) in
+    let short : length (timeline_in h).past < h.kept.now.bounds.history =
+    below_most _ _ (sym long ∙ is_short) in
     subst IsValidTimeline (sym (c.in_ok-go.ensures.timeline (after w s) plan))
     (moved_on-valid (timeline_in h) (after w s)
     (subst IsValidTimeline (sym c.place_of-place.ensures.still.timeline) c.self.invariant)
-    next short)
+    next (after-bounds w s ∙ ap (λ (x : World). x.bounds) own) short)

@@ -2,7 +2,7 @@ use Rattle.std.proofs.Common.{◌∙◌, sym, ap, subst}
 use Rattle.std.specs.List.{flat_map}
 use Rattle.cb_index.specs.Shelved.{files}
 use Rattle.cb_desk.specs.Answer.{distinct, field_rows, text_rows_in}
-use Rattle.cb_desk.specs.World.{AreValidFiles}
+use Rattle.cb_desk.specs.World.{AreValidFiles, widest_bounds}
 use Rattle.cb_desk.specs.steps.LookBack.{HaveLineTexts}
 use Rattle.cb_desk.proofs.LineTexts.{line-texts}
 use Rattle.cb_desk.proofs.TextRowsApart.{text_rows-distinct}
@@ -12,7 +12,7 @@ use Rattle.cb_desk.proofs.answers.rows.Rows.new.Goals as goal
 pub new-requires-clause-few : goal.new-requires-clause-few
 new-requires-clause-few c =
     rows-few c.args.pattern.now c.new-files.result
-    (subst AreValidFiles (sym c.new-files.ensures.value) c.requires.valid)
+    (subst (AreValidFiles widest_bounds) (sym c.new-files.ensures.value) c.requires.valid)
 
 pub new-requires-in_default-clause-texts : goal.new-requires-in_default-clause-texts
 new-requires-in_default-clause-texts c =

@@ -13,7 +13,7 @@ loop-file-init c =
     let marks = c.args.self.marks.now in
     let given = c.into_iter-file-iterator.ensures.into_iter_gives ∙ c.new-file-items.ensures in
     record {
-      same = ap (λ ss. list_any is_too_large
+      same = ap (λ ss. list_any (is_too_large c.args.self.most)
           (files_then a marks c.args.self.old.now c.args.self.new.now ss)) (sym given);
       there = subst (AllByRecursion (IsThere a)) (sym given)
           (all_filter (has_mark a marks) (IsThere a) c.args.shown.now c.requires.there);
@@ -26,11 +26,13 @@ returns-then-is_large c =
     let old = c.args.self.old.now in
     let new = c.args.self.new.now in
     let split : c.loop-file.file-iterator ≡ c.in-Some.file ∷ c.next.new.self = search rules in
-    let large : is_too_large (file_then a marks old new c.in-Some.file) ≡ true = search rules in
-    sym (ap (λ ss. list_any is_too_large (files_then a marks old new ss)) split
-    ∙ ap (λ b. b || list_any is_too_large (files_then a marks old new c.next.new.self)) large)
+    let large : is_too_large c.args.self.most (file_then a marks old new c.in-Some.file) ≡ true =
+    search rules in
+    sym (ap (λ ss. list_any (is_too_large c.args.self.most) (files_then a marks old new ss)) split
+    ∙ ap (λ b. b || list_any (is_too_large c.args.self.most)
+    (files_then a marks old new c.next.new.self)) large)
     ∙ sym c.loop-file.invariant.same
-    ∙ large_changed a marks old new c.args.shown.now c.requires.small
+    ∙ large_changed a marks old new c.args.self.most c.args.shown.now c.requires.small
 
 pub returns : goal.returns
 returns c =
@@ -39,6 +41,6 @@ returns c =
     let old = c.args.self.old.now in
     let new = c.args.self.new.now in
     let none : c.loop-file.file-iterator ≡ [] = search rules in
-    sym (ap (λ ss. list_any is_too_large (files_then a marks old new ss)) none)
+    sym (ap (λ ss. list_any (is_too_large c.args.self.most) (files_then a marks old new ss)) none)
     ∙ sym c.loop-file.invariant.same
-    ∙ large_changed a marks old new c.args.shown.now c.requires.small
+    ∙ large_changed a marks old new c.args.self.most c.args.shown.now c.requires.small

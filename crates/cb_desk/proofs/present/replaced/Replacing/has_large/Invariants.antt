@@ -7,9 +7,10 @@ use Rattle.cb_desk.proofs.present.replaced.Replacing.has_large.Given as goal
 
 abbrev pub invariant-loop-file : goal.invariant-loop-file
 invariant-loop-file l = record {
-  same : list_any is_too_large
+  same : list_any (is_too_large l.self.most)
       (files_changed l.self.archive.now l.self.marks.now l.self.old.now l.self.new.now l.shown)
-      ≡ list_any is_too_large (files_then l.self.archive.now l.self.marks.now l.self.old.now
+      ≡ list_any (is_too_large l.self.most) (files_then l.self.archive.now l.self.marks.now
+      l.self.old.now
       l.self.new.now l.file-iterator);
   there : AllByRecursion (IsThere l.self.archive.now) l.file-iterator;
 }

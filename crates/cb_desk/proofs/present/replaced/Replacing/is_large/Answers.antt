@@ -1,6 +1,5 @@
 use Rattle.std.proofs.Common.{rules, ◌≡◌, ◌∙◌, ap, length, map, nat_lt}
 use Rattle.cb_index.specs.Archived.{name_of}
-use Rattle.cb_desk.specs.declared.limits.TheConstants.{MOST_BYTES}
 use Rattle.cb_desk.specs.declared.spot.NumberedPlace.{NumberedPlace}
 use Rattle.cb_desk.specs.Marks.{marked_lines}
 use Rattle.cb_desk.specs.Replacement.{replaced_text}
@@ -13,6 +12,6 @@ returns c =
     let ns = marked_lines (name_of a c.args.file.name) (places_in a c.args.self.marks.now) in
     let lines : map (λ (m : NumberedPlace). m.line) c.marks_of-marks.result.now ≡ ns =
     search rules in
-    ap (nat_lt MOST_BYTES) (c.replaced_len.ensures
+    ap (nat_lt c.args.self.most) (c.replaced_len.ensures
     ∙ (λ i. length
     (replaced_text c.args.self.old.now c.args.self.new.now (lines i) (c.source-source.ensures i))))

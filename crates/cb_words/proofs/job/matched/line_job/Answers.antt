@@ -1,0 +1,8 @@
+use Rattle.std.proofs.Common.{codes}
+use Rattle.cb_words.specs.Commands.{rows_in}
+use Rattle.cb_words.proofs.Bounded.{no_job}
+use Rattle.cb_words.proofs.job.matched.line_job.Goals as goal
+
+pub returns-in_default : goal.returns-in_default
+returns-in_default c =
+    no_job (codes "line", rows_in c.args.found.now) c.in_default.ensures
