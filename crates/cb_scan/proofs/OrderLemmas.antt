@@ -1,6 +1,7 @@
 -- A list that is sorted is the list in order.
 use Rattle.std.proofs.Common.{◌≡◌, ◌∙◌, ◌≤◌, ◌<◌, ◌+◌, ℕ, zero, suc, Bool, true, false, List, []}
 use Rattle.std.proofs.Common.{◌∷◌, refl, sym, ap, subst, length, get_or, arith, zero-add, ⊎_elim}
+use Rattle.std.proofs.Common.{Option, Some, None}
 use Rattle.std.proofs.lemmas.Bool.{cases_Bool, true≢false, false≢true}
 use Rattle.std.proofs.lemmas.Cmp.{nat_list_cmp_total}
 use Rattle.std.proofs.lemmas.List.Sorted.{sum_by-IsPermutation}
@@ -18,8 +19,11 @@ use Rattle.std.specs.declared.cmp.Ordering.TheVariants.{Less, Equal, Greater}
 use Rattle.cb_scan.specs.declared.facts.Call.{Call}
 use Rattle.cb_scan.specs.declared.facts.Def.{Def}
 use Rattle.cb_scan.specs.declared.facts.Kind.{Kind}
-use Rattle.cb_scan.specs.declared.facts.Kind.TheVariants.{Function, Macro, Typedef, Struct, Union, Enum}
-use Rattle.cb_scan.specs.Order.{call_key, def_key, goes_first, in_order, kind_rank, put}
+use Rattle.cb_scan.specs.declared.facts.Kind.TheVariants.{Enum, Enumerator, External, Function}
+use Rattle.cb_scan.specs.declared.facts.Kind.TheVariants.{Macro, Member, Prototype, Struct, Typedef}
+use Rattle.cb_scan.specs.declared.facts.Kind.TheVariants.{Union, Variable}
+use Rattle.cb_scan.specs.declared.facts.Tag.{Tag}
+use Rattle.cb_scan.specs.Order.{call_key, def_key, goes_first, in_order, kind_rank, put, tag_key}
 
 abbrev pub Keys : List ℕ → List ℕ → Ordering
 Keys = slice_cmp nat_cmp
@@ -227,13 +231,19 @@ module _ {X : Type 0} (key : X → List ℕ) where
       ((first, all_first x y ys first later.0), later)
 
 -- ---- definitions and calls have exact keys
+
 kind_at : ℕ → Kind
 kind_at zero = Function
 kind_at (suc zero) = Macro
 kind_at (suc (suc zero)) = Typedef
 kind_at (suc (suc (suc zero))) = Struct
 kind_at (suc (suc (suc (suc zero)))) = Union
-kind_at (suc (suc (suc (suc (suc n))))) = Enum
+kind_at (suc (suc (suc (suc (suc zero))))) = Enum
+kind_at (suc (suc (suc (suc (suc (suc zero)))))) = Enumerator
+kind_at (suc (suc (suc (suc (suc (suc (suc zero))))))) = Member
+kind_at (suc (suc (suc (suc (suc (suc (suc (suc zero)))))))) = Variable
+kind_at (suc (suc (suc (suc (suc (suc (suc (suc (suc zero))))))))) = External
+kind_at (suc (suc (suc (suc (suc (suc (suc (suc (suc (suc n)))))))))) = Prototype
 
 kind_there : (a : Kind) → kind_at (kind_rank a) ≡ a
 unfolding kind_at
@@ -243,6 +253,15 @@ kind_there Typedef = refl
 kind_there Struct = refl
 kind_there Union = refl
 kind_there Enum = refl
+kind_there Enumerator = refl
+kind_there Member = refl
+kind_there Variable = refl
+kind_there External = refl
+kind_there Prototype = refl
+
+head_of : List ℕ → ℕ
+head_of [] = 0
+head_of (n ∷ ns) = n
 
 pub same_kind : (a b : Kind) → kind_rank a ≡ kind_rank b → a ≡ b
 same_kind a b is = sym (kind_there a) ∙ ap kind_at is ∙ kind_there b
@@ -253,18 +272,32 @@ same_flag true false is = absurd (omega arith)
 same_flag false true is = absurd (omega arith)
 same_flag false false is = refl
 
+tag_exact : (a b : Option Tag) → tag_key a ≡ tag_key b → a ≡ b
+unfolding head_of
+tag_exact None None is = refl
+tag_exact None (Some b) is = let other = ap head_of is in absurd (omega (arith, other))
+tag_exact (Some a) None is = let other = ap head_of is in absurd (omega (arith, other))
+tag_exact (Some a) (Some b) is =
+    let rank : kind_rank a.kind ≡ kind_rank b.kind = cc in
+    let start : a.name.start ≡ b.name.start = cc in
+    let end : a.name.end ≡ b.name.end = cc in
+    λ i. Some (record { kind = same_kind a.kind b.kind rank i; name = record { start = start i; end = end i } })
+
 pub def_exact : (a b : Def) → def_key a ≡ def_key b → a ≡ b
 def_exact a b is =
     let start : a.name.start ≡ b.name.start = cc in
-    let end : a.name.end ≡ b.name.end = cc in
     let rank : kind_rank a.kind ≡ kind_rank b.kind = cc in
+    let end : a.name.end ≡ b.name.end = cc in
     let line : a.line ≡ b.line = cc in
     let flag : number a.local ≡ number b.local = cc in
+    let tags : tag_key a.tag ≡ tag_key b.tag = cc in
+    let kinds : a.kind ≡ b.kind = sym (kind_there a.kind) ∙ ap kind_at rank ∙ kind_there b.kind in
     λ i. record {
       name = record { start = start i; end = end i };
-      kind = same_kind a.kind b.kind rank i;
+      kind = kinds i;
       line = line i;
       local = same_flag a.local b.local flag i;
+      tag = tag_exact a.tag b.tag tags i;
     }
 
 pub call_exact : (a b : Call) → call_key a ≡ call_key b → a ≡ b

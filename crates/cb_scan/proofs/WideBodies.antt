@@ -12,9 +12,9 @@ use Rattle.std.specs.List.Sorted.{IsPermutation}
 use Rattle.std.specs.Option.{is_some, option_map, option_map_or, option_or}
 use Rattle.cb_scan.specs.declared.facts.Kind.{Kind}
 use Rattle.cb_scan.specs.declared.lex.token.Token.{Token}
-use Rattle.cb_scan.specs.declared.rules.wide.def.Tag.{Tag}
-use Rattle.cb_scan.specs.declared.rules.wide.def.WideDef.{WideDef}
-use Rattle.cb_scan.specs.declared.rules.wide.def.WideKind.TheVariants as wide
+use Rattle.cb_scan.specs.declared.facts.Tag.{Tag}
+use Rattle.cb_scan.specs.declared.facts.Def.{Def}
+use Rattle.cb_scan.specs.declared.facts.Kind.TheVariants as kind
 use Rattle.cb_scan.specs.declared.rules.wide.level.Level.{Level}
 use Rattle.cb_scan.specs.declared.rules.wide.level.Level.TheVariants.{Block, Enumerators, Members}
 use Rattle.cb_scan.specs.declared.rules.wide.opening.Opening.{Opening}
@@ -265,12 +265,12 @@ module _ (bs : List Body) (ps : List Placed) (around : Option Tag) (p : Placed) 
       } in
       let made : Bool → Level = λ b.
       cond b (Enumerators own enumeration_start) (Members (or_around own around) declaration_start) in
-      let said : Bool → List WideDef = λ b. cond b (enumerator_defs ps body) (member_defs bs ps body) in
+      let said : Bool → List Def = λ b. cond b (enumerator_defs ps body) (member_defs bs ps body) in
       ⊎_elim
       (λ enum.
       ap (λ b. level_defs (made b) inner) enum
       ∙ enumerators_of_level own inner
-      ∙ ap (λ t. map (def_in wide.Enumerator t) (enumerators inner)) (first_is names k)
+      ∙ ap (λ t. map (def_in kind.Enumerator t) (enumerators inner)) (first_is names k)
       ∙ sym (append-nil (enumerator_defs ps body))
       ∙ sym (ap (λ b. said b ++ []) enum))
       (λ other.

@@ -3,8 +3,8 @@ use Rattle.std.proofs.Common.{◌≡◌, ◌∙◌, true, false, List, [], ◌�
 use Rattle.std.specs.Prelude.{cond, if◌then◌else◌}
 use Rattle.std.specs.List.{flat_map}
 use Rattle.cb_scan.specs.declared.rules.wide.declaration.Declaration.{Declaration}
-use Rattle.cb_scan.specs.declared.rules.wide.def.Tag.{Tag}
-use Rattle.cb_scan.specs.declared.rules.wide.def.WideKind.TheVariants as wide
+use Rattle.cb_scan.specs.declared.facts.Tag.{Tag}
+use Rattle.cb_scan.specs.declared.facts.Kind.TheVariants as kind
 use Rattle.cb_scan.specs.declared.rules.wide.enumeration.Enumeration.{Enumeration}
 use Rattle.cb_scan.specs.declared.rules.wide.level.Level.TheVariants.{Enumerators, Members}
 use Rattle.cb_scan.specs.declared.rules.wide.token.WideToken.{WideToken}
@@ -56,21 +56,21 @@ module _ (tag : Option Tag) where
   -- ---- enumerators
 
   from_enumeration : (e : Enumeration) (xs : List WideToken)
-      → level_defs (Enumerators tag e) xs ≡ map (def_in wide.Enumerator tag) (enumerators_from e xs)
+      → level_defs (Enumerators tag e) xs ≡ map (def_in kind.Enumerator tag) (enumerators_from e xs)
   unfolding level_defs enumerators_from
   from_enumeration e [] = refl
   from_enumeration e (x ∷ xs) =
       elim (is_enumerator e (x ∷ xs)) as (λ b.
-      cond b (def_in wide.Enumerator tag x.token ∷ []) []
+      cond b (def_in kind.Enumerator tag x.token ∷ []) []
       ++ level_defs (Enumerators tag (next_enumeration e x)) xs
-      ≡ map (def_in wide.Enumerator tag) (cond b (x.token ∷ []) []
+      ≡ map (def_in kind.Enumerator tag) (cond b (x.token ∷ []) []
       ++ enumerators_from (next_enumeration e x) xs)) [
-        | true ↦ ap (λ l. def_in wide.Enumerator tag x.token ∷ l) (from_enumeration (next_enumeration e x) xs)
+        | true ↦ ap (λ l. def_in kind.Enumerator tag x.token ∷ l) (from_enumeration (next_enumeration e x) xs)
         | false ↦ from_enumeration (next_enumeration e x) xs
       ]
 
   pub enumerators_of_level : (level : List WideToken) → level_defs (Enumerators tag enumeration_start) level
-      ≡ map (def_in wide.Enumerator tag) (enumerators level)
+      ≡ map (def_in kind.Enumerator tag) (enumerators level)
   enumerators_of_level level =
       from_enumeration enumeration_start level
-      ∙ ap (map (def_in wide.Enumerator tag)) (enumerators_from_start level)
+      ∙ ap (map (def_in kind.Enumerator tag)) (enumerators_from_start level)

@@ -13,7 +13,7 @@ use Rattle.std.specs.List.{AllByRecursion, flat_map}
 use Rattle.std.specs.List.Sorted.{IsPermutation}
 use Rattle.std.specs.Option.{is_none}
 use Rattle.cb_scan.specs.declared.rules.wide.declaration.Declaration.{Declaration}
-use Rattle.cb_scan.specs.declared.rules.wide.def.WideDef.{WideDef}
+use Rattle.cb_scan.specs.declared.facts.Def.{Def}
 use Rattle.cb_scan.specs.declared.rules.wide.opening.Opening.{Opening}
 use Rattle.cb_scan.specs.declared.rules.wide.pass.Pass.{Pass}
 use Rattle.cb_scan.specs.declared.rules.wide.role.WideRole.TheVariants as wide
@@ -204,14 +204,14 @@ module _ (bs : List Body) where
 
 -- ---- types, tags, enumerators and members
 
-swapped : (a b c : List WideDef) → IsPermutation (a ++ (b ++ c)) (b ++ (a ++ c))
+swapped : (a b c : List Def) → IsPermutation (a ++ (b ++ c)) (b ++ (a ++ c))
 swapped a b c =
     subst (λ l. IsPermutation l (b ++ (a ++ c))) (append_assoc a b c)
     (subst (IsPermutation ((a ++ b) ++ c)) (append_assoc b a c)
     (IsPermutation-append_left c (a ++ b) (b ++ a) (IsPermutation-append_comm a b)))
 
 -- what one token gives, and what the others give, list by list
-sorted_out : (d t g c ts gs cs : List WideDef)
+sorted_out : (d t g c ts gs cs : List Def)
     → IsPermutation ((((d ++ t) ++ g) ++ c) ++ (ts ++ (gs ++ cs))) (d ++ ((t ++ ts) ++ ((g ++ gs) ++ (c ++ cs))))
 sorted_out d t g c ts gs cs =
     let rest = gs ++ cs in
@@ -232,7 +232,7 @@ sorted_out d t g c ts gs cs =
     (IsPermutation-append_right ts _ _ (IsPermutation-append_right g _ _ (swapped c gs cs))))))))
 
 -- what is given of types, tags and bodies from a state on
-abbrev defs_along : Pass → List WideToken → List WideDef
+abbrev defs_along : Pass → List WideToken → List Def
 defs_along p xs =
     flat_map typedef_given (parts_from p xs)
     ++ (tags_from p.opening xs ++ contents_from p.opening p.levels xs)

@@ -7,7 +7,7 @@ use Rattle.std.specs.List.{flat_map}
 use Rattle.cb_scan.specs.declared.rules.wide.called.Calls.{Calls}
 use Rattle.cb_scan.specs.declared.rules.wide.called.Enclosed.{Enclosed}
 use Rattle.cb_scan.specs.declared.rules.wide.declaration.Declaration.{Declaration}
-use Rattle.cb_scan.specs.declared.rules.wide.def.WideDef.{WideDef}
+use Rattle.cb_scan.specs.declared.facts.Def.{Def}
 use Rattle.cb_scan.specs.declared.rules.wide.head.WideHead.{WideHead}
 use Rattle.cb_scan.specs.declared.rules.wide.level.Level.{Level}
 use Rattle.cb_scan.specs.declared.rules.wide.level.Level.TheVariants.{Block, Enumerators, Members}
@@ -143,7 +143,7 @@ module _ (a b c d e : WideToken) (s more : List WideToken) where
 
   pub lists_five : (l : Lists) (p : Pass) → next_lists l p long a ≡ next_lists l p short a
   lists_five l p =
-      let with : List WideDef → Lists = λ ds. record (next_lists l p long a) {
+      let with : List Def → Lists = λ ds. record (next_lists l p long a) {
         defs = ((l.defs ++ flat_map typedef_given (parts_here p a)) ++ tag_out p.opening a) ++ ds;
       } in
       ap with (defined_five p.levels)

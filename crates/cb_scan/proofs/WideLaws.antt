@@ -11,14 +11,14 @@ use Rattle.cb_scan.specs.declared.facts.Kind.TheVariants as kind
 use Rattle.cb_scan.specs.declared.lex.piece.Piece.{Piece}
 use Rattle.cb_scan.specs.declared.lex.piece.Span.{Span}
 use Rattle.cb_scan.specs.declared.lex.token.Token.{Token}
-use Rattle.cb_scan.specs.declared.rules.wide.def.Profile.TheVariants.{Standard, Wide}
-use Rattle.cb_scan.specs.declared.rules.wide.def.Tag.{Tag}
-use Rattle.cb_scan.specs.declared.rules.wide.def.WideDef.{WideDef}
-use Rattle.cb_scan.specs.declared.rules.wide.def.WideKind.TheVariants as wide
+use Rattle.cb_scan.specs.declared.profile.Profile.TheVariants.{Standard, Wide}
+use Rattle.cb_scan.specs.declared.facts.Tag.{Tag}
+use Rattle.cb_scan.specs.declared.facts.Def.{Def}
 use Rattle.cb_scan.specs.declared.rules.wide.token.WideToken.{WideToken}
 use Rattle.cb_scan.specs.Definitions.{calls, facts_of}
 use Rattle.cb_scan.specs.Profiles.{IsBesideFunctions, definitions_by, facts_in, include_alone, is_object}
-use Rattle.cb_scan.specs.Profiles.{use_alone, wide_key, widened_facts}
+use Rattle.cb_scan.specs.Order.{def_key}
+use Rattle.cb_scan.specs.Profiles.{use_alone}
 use Rattle.cb_scan.specs.rules.Code.{code}
 use Rattle.cb_scan.specs.rules.Macros.{macro_names}
 use Rattle.cb_scan.specs.rules.Scope.{name_around, ranges_of}
@@ -36,7 +36,7 @@ use Rattle.cb_scan.proofs.FactsWithin.{all_in_order}
 use Rattle.cb_scan.proofs.WithinLemmas.{all-append}
 
 -- the standard profile finds what it did before there was another
-pub standard_is : (text : List ℕ) → facts_in Standard text ≡ widened_facts (facts_of text)
+pub standard_is : (text : List ℕ) → facts_in Standard text ≡ facts_of text
 unfolding uses calls includes
 standard_is text = refl
 
@@ -64,19 +64,19 @@ same_includes text = includes_alike _ _ _
 -- ---- variables and prototypes
 
 module _ (text : List ℕ) (ps : List Piece) where
-  abbrev Beside : WideDef → Type 0
+  abbrev Beside : Def → Type 0
   Beside d = IsBesideFunctions text ps d
 
   -- a definition of another kind
-  other : (d : WideDef) → is_object d.kind ≡ false → Beside d
+  other : (d : Def) → is_object d.kind ≡ false → Beside d
   other d isnt is = absurd (false≢true (sym isnt ∙ is))
 
-  all_map : {X : Type 0} (f : X → WideDef) → ((x : X) → is_object (f x).kind ≡ false) → (xs : List X)
+  all_map : {X : Type 0} (f : X → Def) → ((x : X) → is_object (f x).kind ≡ false) → (xs : List X)
       → AllByRecursion Beside (map f xs)
   all_map f isnt [] = tt
   all_map f isnt (x ∷ xs) = (other (f x) (isnt x), all_map f isnt xs)
 
-  all_flat : {X : Type 0} (f : X → List WideDef) → ((x : X) → AllByRecursion Beside (f x)) → (xs : List X)
+  all_flat : {X : Type 0} (f : X → List Def) → ((x : X) → AllByRecursion Beside (f x)) → (xs : List X)
       → AllByRecursion Beside (flat_map f xs)
   all_flat f each [] = tt
   all_flat f each (x ∷ xs) = all-append Beside _ _ (each x) (all_flat f each xs)
@@ -84,14 +84,14 @@ module _ (text : List ℕ) (ps : List Piece) where
   typedefs_are : (p : Part) → AllByRecursion Beside (typedef_of p)
   typedefs_are p =
       elim (defines_type p) as (λ b. AllByRecursion Beside
-      (cond b (def_if wide.Typedef false (option_or (part_name p) (prototype_name p))) [])) [
+      (cond b (def_if kind.Typedef false (option_or (part_name p) (prototype_name p))) [])) [
         | true ↦ named (option_or (part_name p) (prototype_name p))
         | false ↦ tt
       ]
     where
-      named : (o : Option WideToken) → AllByRecursion Beside (def_if wide.Typedef false o)
+      named : (o : Option WideToken) → AllByRecursion Beside (def_if kind.Typedef false o)
       named None = tt
-      named (Some x) = (other (def_of wide.Typedef false x.token) refl, tt)
+      named (Some x) = (other (def_of kind.Typedef false x.token) refl, tt)
 
   tag_is : (k : Kind) → is_object (kind_of_tag k) ≡ false
   tag_is kind.Function = refl
@@ -100,6 +100,11 @@ module _ (text : List ℕ) (ps : List Piece) where
   tag_is kind.Struct = refl
   tag_is kind.Union = refl
   tag_is kind.Enum = refl
+  tag_is kind.Enumerator = refl
+  tag_is kind.Member = refl
+  tag_is kind.Variable = refl
+  tag_is kind.External = refl
+  tag_is kind.Prototype = refl
 
   tags_are : (b : Body) → AllByRecursion Beside (tag_defs b)
   tags_are b =
@@ -112,22 +117,22 @@ module _ (text : List ℕ) (ps : List Piece) where
   members_are : (tag : Option Tag) (p : Part) → AllByRecursion Beside (member_of tag p)
   members_are tag p =
       elim (defines_type p) as (λ b. AllByRecursion Beside (cond b []
-      (option_map_or (λ (x : WideToken). def_in wide.Member tag x.token ∷ []) (part_name p) []))) [
+      (option_map_or (λ (x : WideToken). def_in kind.Member tag x.token ∷ []) (part_name p) []))) [
         | true ↦ tt
         | false ↦ elim (part_name p) as (λ o. AllByRecursion Beside
-            (option_map_or (λ (x : WideToken). def_in wide.Member tag x.token ∷ []) o [])) [
+            (option_map_or (λ (x : WideToken). def_in kind.Member tag x.token ∷ []) o [])) [
               | None ↦ tt
-              | Some x ↦ (other (def_in wide.Member tag x.token) refl, tt)
+              | Some x ↦ (other (def_in kind.Member tag x.token) refl, tt)
             ]
       ]
 
   contents_are : (bs : List Body) (xs : List Placed) (b : Body) → AllByRecursion Beside (content_defs bs xs b)
   contents_are bs xs b =
       elim (is_enumeration b.kind) as (λ e. AllByRecursion Beside (cond e
-      (map (def_in wide.Enumerator (tag_of b)) (enumerators (level_inside b.place xs)))
+      (map (def_in kind.Enumerator (tag_of b)) (enumerators (level_inside b.place xs)))
       (flat_map (member_of (tag_around bs (b.place ∷ b.around)))
       (flat_map naming_parts (body_declarations (level_inside b.place xs)))))) [
-        | true ↦ all_map (def_in wide.Enumerator (tag_of b)) (λ t. refl)
+        | true ↦ all_map (def_in kind.Enumerator (tag_of b)) (λ t. refl)
             (enumerators (level_inside b.place xs))
         | false ↦ all_flat (member_of (tag_around bs (b.place ∷ b.around)))
             (members_are (tag_around bs (b.place ∷ b.around)))
@@ -138,7 +143,7 @@ module _ (text : List ℕ) (ps : List Piece) where
   none_of None is = refl
   none_of (Some x) is = absurd (false≢true is)
 
-  kept : (ds : List WideDef)
+  kept : (ds : List Def)
       → AllByRecursion Beside (filter (is_beside (ranges_of text ps (functions_of text ps))) ds)
   kept [] = tt
   kept (d ∷ ds) =
@@ -157,22 +162,22 @@ module _ (text : List ℕ) (ps : List Piece) where
   abbrev bare : List Placed
   bare = bare_tokens text (code text ps)
 
-  abbrev of_functions : List WideDef
+  abbrev of_functions : List Def
   of_functions = map wide_function_def (functions_of text ps)
 
-  abbrev of_macros : List WideDef
+  abbrev of_macros : List Def
   of_macros = map wide_macro_def (macro_names text ps)
 
-  abbrev of_types : List WideDef
+  abbrev of_types : List Def
   of_types = flat_map typedef_of (file_parts (bodies bare) bare)
 
-  abbrev of_tags : List WideDef
+  abbrev of_tags : List Def
   of_tags = flat_map tag_defs (bodies bare)
 
-  abbrev of_contents : List WideDef
+  abbrev of_contents : List Def
   of_contents = flat_map (content_defs (bodies bare) bare) (bodies bare)
 
-  abbrev of_objects : List WideDef
+  abbrev of_objects : List Def
   of_objects = object_defs (ranges_of text ps (functions_of text ps)) (file_parts (bodies bare) bare)
 
   from_code : AllByRecursion Beside (of_types ++ of_tags ++ of_contents ++ of_objects)
@@ -194,4 +199,4 @@ module _ (text : List ℕ) (ps : List Piece) where
       from_code
 
   pub all_beside : AllByRecursion (IsBesideFunctions text ps) (definitions_by Wide text ps)
-  all_beside = all_in_order wide_key Beside (wide_found text ps) all_found
+  all_beside = all_in_order def_key Beside (wide_found text ps) all_found

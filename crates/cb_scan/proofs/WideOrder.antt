@@ -13,10 +13,8 @@ use Rattle.cb_scan.specs.declared.facts.Kind.TheVariants as kind
 use Rattle.cb_scan.specs.declared.lex.piece.Piece.{Piece}
 use Rattle.cb_scan.specs.declared.lex.token.Token.{Token}
 use Rattle.cb_scan.specs.declared.rules.scope.Range.{Range}
-use Rattle.cb_scan.specs.declared.rules.wide.def.Tag.{Tag}
-use Rattle.cb_scan.specs.declared.rules.wide.def.WideDef.{WideDef}
-use Rattle.cb_scan.specs.declared.rules.wide.def.WideKind.{WideKind}
-use Rattle.cb_scan.specs.declared.rules.wide.def.WideKind.TheVariants as wide
+use Rattle.cb_scan.specs.declared.facts.Tag.{Tag}
+use Rattle.cb_scan.specs.declared.facts.Def.{Def}
 use Rattle.cb_scan.specs.declared.rules.wide.token.WideToken.{WideToken}
 use Rattle.cb_scan.specs.rules.Code.{code}
 use Rattle.cb_scan.specs.rules.Macros.{macro_names}
@@ -32,93 +30,32 @@ use Rattle.cb_scan.specs.rules.wide.Kinds.{wide_macro_def}
 use Rattle.cb_scan.specs.rules.wide.Levels.{Placed, level_inside}
 use Rattle.cb_scan.specs.rules.wide.Names.{part_name}
 use Rattle.cb_scan.specs.rules.wide.Prototypes.{prototype_name}
-use Rattle.cb_scan.specs.Order.{in_order, kind_rank}
-use Rattle.cb_scan.specs.Profiles.{is_object, tag_key, wide_key, wide_rank}
+use Rattle.cb_scan.specs.Order.{def_key, in_order}
+use Rattle.cb_scan.specs.Profiles.{is_object}
 use Rattle.cb_scan.proofs.KeptInOrder.{kept_in_order}
-use Rattle.cb_scan.proofs.OrderLemmas.{in_order_same, number, same_flag, same_kind}
+use Rattle.cb_scan.proofs.OrderLemmas.{def_exact, in_order_same}
 use Rattle.cb_scan.proofs.WithinLemmas.{all-append}
-
--- ---- keys are exact
-
-wide_at : ℕ → WideKind
-wide_at zero = wide.Function
-wide_at (suc zero) = wide.Macro
-wide_at (suc (suc zero)) = wide.Typedef
-wide_at (suc (suc (suc zero))) = wide.Struct
-wide_at (suc (suc (suc (suc zero)))) = wide.Union
-wide_at (suc (suc (suc (suc (suc zero))))) = wide.Enum
-wide_at (suc (suc (suc (suc (suc (suc zero)))))) = wide.Enumerator
-wide_at (suc (suc (suc (suc (suc (suc (suc zero))))))) = wide.Member
-wide_at (suc (suc (suc (suc (suc (suc (suc (suc zero)))))))) = wide.Variable
-wide_at (suc (suc (suc (suc (suc (suc (suc (suc (suc zero))))))))) = wide.External
-wide_at (suc (suc (suc (suc (suc (suc (suc (suc (suc (suc n)))))))))) = wide.Prototype
-
-wide_there : (a : WideKind) → wide_at (wide_rank a) ≡ a
-unfolding wide_at
-wide_there wide.Function = refl
-wide_there wide.Macro = refl
-wide_there wide.Typedef = refl
-wide_there wide.Struct = refl
-wide_there wide.Union = refl
-wide_there wide.Enum = refl
-wide_there wide.Enumerator = refl
-wide_there wide.Member = refl
-wide_there wide.Variable = refl
-wide_there wide.External = refl
-wide_there wide.Prototype = refl
-
-head_of : List ℕ → ℕ
-head_of [] = 0
-head_of (n ∷ ns) = n
-
-tag_exact : (a b : Option Tag) → tag_key a ≡ tag_key b → a ≡ b
-unfolding head_of
-tag_exact None None is = refl
-tag_exact None (Some b) is = let other = ap head_of is in absurd (omega (arith, other))
-tag_exact (Some a) None is = let other = ap head_of is in absurd (omega (arith, other))
-tag_exact (Some a) (Some b) is =
-    let rank : kind_rank a.kind ≡ kind_rank b.kind = cc in
-    let start : a.name.start ≡ b.name.start = cc in
-    let end : a.name.end ≡ b.name.end = cc in
-    λ i. Some (record { kind = same_kind a.kind b.kind rank i; name = record { start = start i; end = end i } })
-
-pub wide_exact : (a b : WideDef) → wide_key a ≡ wide_key b → a ≡ b
-wide_exact a b is =
-    let start : a.name.start ≡ b.name.start = cc in
-    let rank : wide_rank a.kind ≡ wide_rank b.kind = cc in
-    let end : a.name.end ≡ b.name.end = cc in
-    let line : a.line ≡ b.line = cc in
-    let flag : number a.local ≡ number b.local = cc in
-    let tags : tag_key a.tag ≡ tag_key b.tag = cc in
-    let kinds : a.kind ≡ b.kind = sym (wide_there a.kind) ∙ ap wide_at rank ∙ wide_there b.kind in
-    λ i. record {
-      name = record { start = start i; end = end i };
-      kind = kinds i;
-      line = line i;
-      local = same_flag a.local b.local flag i;
-      tag = tag_exact a.tag b.tag tags i;
-    }
 
 -- ---- variables, external declarations and prototypes, and the others
 
-abbrev Other : WideDef → Type 0
+abbrev Other : Def → Type 0
 Other d = is_object d.kind ≡ false
 
-abbrev Object : WideDef → Type 0
+abbrev Object : Def → Type 0
 Object d = is_object d.kind ≡ true
 
 -- it is another, or lies in none of the ranges
-abbrev pub stays : List Range → WideDef → Bool
+abbrev pub stays : List Range → Def → Bool
 stays ranges d = not (is_object d.kind) || is_beside ranges d
 
-others_stay : (ranges : List Range) (ds : List WideDef) → AllByRecursion Other ds
+others_stay : (ranges : List Range) (ds : List Def) → AllByRecursion Other ds
     → filter (stays ranges) ds ≡ ds
 others_stay ranges [] all = refl
 others_stay ranges (d ∷ ds) all =
     (λ i. cond (not (all.0 i) || is_beside ranges d) (d ∷ filter (stays ranges) ds) (filter (stays ranges) ds))
     ∙ ap (λ l. d ∷ l) (others_stay ranges ds all.1)
 
-objects_beside : (ranges : List Range) (ds : List WideDef) → AllByRecursion Object ds
+objects_beside : (ranges : List Range) (ds : List Def) → AllByRecursion Object ds
     → filter (stays ranges) ds ≡ filter (is_beside ranges) ds
 objects_beside ranges [] all = refl
 objects_beside ranges (d ∷ ds) all =
@@ -126,17 +63,17 @@ objects_beside ranges (d ∷ ds) all =
     ∙ ap (λ l. if is_beside ranges d then d ∷ l else l) (objects_beside ranges ds all.1)
 
 -- ---- what is of which kind
-module _ (Q : WideDef → Type 0) where
-  each_map : {X : Type 0} (f : X → WideDef) → ((x : X) → Q (f x)) → (xs : List X) → AllByRecursion Q (map f xs)
+module _ (Q : Def → Type 0) where
+  each_map : {X : Type 0} (f : X → Def) → ((x : X) → Q (f x)) → (xs : List X) → AllByRecursion Q (map f xs)
   each_map f has [] = tt
   each_map f has (x ∷ xs) = (has x, each_map f has xs)
 
-  each_flat : {X : Type 0} (f : X → List WideDef) → ((x : X) → AllByRecursion Q (f x)) → (xs : List X)
+  each_flat : {X : Type 0} (f : X → List Def) → ((x : X) → AllByRecursion Q (f x)) → (xs : List X)
       → AllByRecursion Q (flat_map f xs)
   each_flat f has [] = tt
   each_flat f has (x ∷ xs) = all-append Q (f x) (flat_map f xs) (has x) (each_flat f has xs)
 
-  if_some : (kind : WideKind) (local : Bool) → ((t : Token) → Q (def_of kind local t)) → (o : Option WideToken)
+  if_some : (kind : Kind) (local : Bool) → ((t : Token) → Q (def_of kind local t)) → (o : Option WideToken)
       → AllByRecursion Q (def_if kind local o)
   if_some kind local has None = tt
   if_some kind local has (Some x) = (has x.token, tt)
@@ -144,8 +81,8 @@ module _ (Q : WideDef → Type 0) where
 typedef_other : (p : Part) → AllByRecursion Other (typedef_of p)
 typedef_other p =
     elim (defines_type p) as (λ b. AllByRecursion Other
-    (cond b (def_if wide.Typedef false (option_or (part_name p) (prototype_name p))) []))
-    [ true ↦ if_some Other wide.Typedef false (λ t. refl) (option_or (part_name p) (prototype_name p)) | false ↦ tt ]
+    (cond b (def_if kind.Typedef false (option_or (part_name p) (prototype_name p))) []))
+    [ true ↦ if_some Other kind.Typedef false (λ t. refl) (option_or (part_name p) (prototype_name p)) | false ↦ tt ]
 
 tag_kind_other : (k : Kind) → is_object (kind_of_tag k) ≡ false
 tag_kind_other kind.Function = refl
@@ -154,6 +91,11 @@ tag_kind_other kind.Typedef = refl
 tag_kind_other kind.Struct = refl
 tag_kind_other kind.Union = refl
 tag_kind_other kind.Enum = refl
+tag_kind_other kind.Enumerator = refl
+tag_kind_other kind.Member = refl
+tag_kind_other kind.Variable = refl
+tag_kind_other kind.External = refl
+tag_kind_other kind.Prototype = refl
 
 tag_other : (b : Body) → AllByRecursion Other (tag_defs b)
 tag_other b = by_tag b.tag
@@ -166,18 +108,18 @@ tag_other b = by_tag b.tag
 member_other : (tag : Option Tag) (p : Part) → AllByRecursion Other (member_of tag p)
 member_other tag p =
     elim (defines_type p) as (λ b. AllByRecursion Other (cond b []
-    (option_map_or (λ (x : WideToken). def_in wide.Member tag x.token ∷ []) (part_name p) [])))
+    (option_map_or (λ (x : WideToken). def_in kind.Member tag x.token ∷ []) (part_name p) [])))
     [ true ↦ tt | false ↦ by_name (part_name p) ]
   where
     by_name : (o : Option WideToken) → AllByRecursion Other
-        (option_map_or (λ (x : WideToken). def_in wide.Member tag x.token ∷ []) o [])
+        (option_map_or (λ (x : WideToken). def_in kind.Member tag x.token ∷ []) o [])
     by_name None = tt
     by_name (Some x) = (refl, tt)
 
 content_other : (bs : List Body) (ps : List Placed) (b : Body) → AllByRecursion Other (content_defs bs ps b)
 content_other bs ps b =
     elim (is_enumeration b.kind) as (λ e. AllByRecursion Other (cond e (enumerator_defs ps b) (member_defs bs ps b))) [
-      | true ↦ each_map Other (def_in wide.Enumerator (tag_of b)) (λ t. refl) (enumerators (level_inside b.place ps))
+      | true ↦ each_map Other (def_in kind.Enumerator (tag_of b)) (λ t. refl) (enumerators (level_inside b.place ps))
       | false ↦ each_flat Other (member_of (tag_around bs (b.place ∷ b.around)))
           (member_other (tag_around bs (b.place ∷ b.around)))
           (flat_map naming_parts (body_declarations (level_inside b.place ps)))
@@ -186,16 +128,16 @@ content_other bs ps b =
 variable_object : (p : Part) (t : Token) (local : Bool) → Object (def_of (variable_kind p) local t)
 variable_object p t local =
     elim (is_extern_part p && not (has_value p.tokens)) as
-    (λ b. is_object (cond b wide.External wide.Variable) ≡ true) [ true ↦ refl | false ↦ refl ]
+    (λ b. is_object (cond b kind.External kind.Variable) ≡ true) [ true ↦ refl | false ↦ refl ]
 
 object_is : (p : Part) → AllByRecursion Object (object_of p)
 object_is p =
     elim (defines_type p) as (λ b. AllByRecursion Object (cond b []
-    (option_map_or (λ (x : WideToken). def_of wide.Prototype (is_static_part p) x.token ∷ [])
+    (option_map_or (λ (x : WideToken). def_of kind.Prototype (is_static_part p) x.token ∷ [])
     (prototype_name p) (variable_of p)))) [ true ↦ tt | false ↦ by_name (prototype_name p) ]
   where
     by_name : (o : Option WideToken) → AllByRecursion Object
-        (option_map_or (λ (x : WideToken). def_of wide.Prototype (is_static_part p) x.token ∷ []) o
+        (option_map_or (λ (x : WideToken). def_of kind.Prototype (is_static_part p) x.token ∷ []) o
         (variable_of p))
     by_name None =
         if_some Object (variable_kind p) (is_static_part p) (λ t. variable_object p t (is_static_part p)) (part_name p)
@@ -209,18 +151,18 @@ module _ (text : List ℕ) (ps : List Piece) where
   abbrev bs : List Body
   bs = bodies xs
 
-  abbrev of_functions : List WideDef
+  abbrev of_functions : List Def
   of_functions = map wide_function_def (functions_of text ps)
 
-  abbrev of_macros : List WideDef
+  abbrev of_macros : List Def
   of_macros = map wide_macro_def (macro_names text ps)
 
   -- types, tags, enumerators and members
-  abbrev pub of_declarations : List WideDef
+  abbrev pub of_declarations : List Def
   of_declarations =
       flat_map typedef_of (file_parts bs xs) ++ (flat_map tag_defs bs ++ flat_map (content_defs bs xs) bs)
 
-  abbrev pub of_objects : List WideDef
+  abbrev pub of_objects : List Def
   of_objects = flat_map object_of (file_parts bs xs)
 
   abbrev ranges : List Range
@@ -263,14 +205,14 @@ module _ (text : List ℕ) (ps : List Piece) where
       ∙ ap (λ l. (of_functions ++ of_macros) ++ (l ++ objects)) (sym (append_assoc types tags contents))
 
   -- so it is in order, in whatever order types, tags and members were gathered
-  pub found_in_order : (gathered : List WideDef) → IsPermutation gathered of_declarations
-      → filter (stays ranges) (in_order wide_key (of_functions ++ (of_macros ++ (gathered ++ of_objects))))
-      ≡ in_order wide_key (wide_found text ps)
+  pub found_in_order : (gathered : List Def) → IsPermutation gathered of_declarations
+      → filter (stays ranges) (in_order def_key (of_functions ++ (of_macros ++ (gathered ++ of_objects))))
+      ≡ in_order def_key (wide_found text ps)
   found_in_order gathered moved =
       ap (filter (stays ranges))
-      (in_order_same wide_key wide_exact (of_functions ++ (of_macros ++ (gathered ++ of_objects)))
+      (in_order_same def_key def_exact (of_functions ++ (of_macros ++ (gathered ++ of_objects)))
       (of_functions ++ (of_macros ++ (of_declarations ++ of_objects)))
       (IsPermutation-append_right of_functions _ _ (IsPermutation-append_right of_macros _ _
       (IsPermutation-append_left of_objects gathered of_declarations moved))))
-      ∙ kept_in_order wide_key (stays ranges) (of_functions ++ (of_macros ++ (of_declarations ++ of_objects)))
-      ∙ ap (in_order wide_key) (passes ∙ grouped)
+      ∙ kept_in_order def_key (stays ranges) (of_functions ++ (of_macros ++ (of_declarations ++ of_objects)))
+      ∙ ap (in_order def_key) (passes ∙ grouped)

@@ -7,7 +7,7 @@ use Rattle.std.specs.Option.{is_none, is_some, option_map, option_to_list}
 use Rattle.std.specs.List.{flat_map}
 use Rattle.cb_scan.specs.declared.lex.token.Token.{Token}
 use Rattle.cb_scan.specs.declared.rules.wide.declaration.Declaration.{Declaration}
-use Rattle.cb_scan.specs.declared.rules.wide.def.WideDef.{WideDef}
+use Rattle.cb_scan.specs.declared.facts.Def.{Def}
 use Rattle.cb_scan.specs.declared.rules.wide.level.Level.{Level}
 use Rattle.cb_scan.specs.declared.rules.wide.opening.Opening.{Opening}
 use Rattle.cb_scan.specs.declared.rules.wide.pass.Pass.{Pass}
@@ -72,7 +72,7 @@ pass_seen p x xs = λ i. record (next_pass p (x ∷ xs) x) {
 pub lists_seen : (l : Lists) (p : Pass) (x : WideToken) (xs : List WideToken)
     → next_lists l p (x ∷ xs) x ≡ next_lists l p (seen (x ∷ xs)) x
 lists_seen l p x xs =
-    let with : List WideDef → Lists = λ d. record (next_lists l p (x ∷ xs) x) {
+    let with : List Def → Lists = λ d. record (next_lists l p (x ∷ xs) x) {
       defs = ((l.defs ++ flat_map typedef_given (parts_here p x)) ++ tag_out p.opening x) ++ d;
     } in
     ap with (defined_seen p.levels x xs)

@@ -9,7 +9,7 @@ use Rattle.cb_scan.specs.declared.rules.wide.level.Level.TheVariants.{Block, Enu
 use Rattle.cb_scan.specs.declared.rules.wide.part.Part.{Part}
 use Rattle.cb_scan.specs.declared.rules.wide.role.WideRole.{WideRole}
 use Rattle.cb_scan.specs.declared.rules.wide.role.WideRole.TheVariants as wrole
-use Rattle.cb_scan.specs.declared.rules.wide.def.WideKind.TheVariants as wide
+use Rattle.cb_scan.specs.declared.facts.Kind.TheVariants as kind
 use Rattle.cb_scan.specs.declared.rules.wide.token.WideToken.{WideToken}
 use Rattle.cb_scan.specs.rules.Typedefs.{nesting_after}
 use Rattle.cb_scan.specs.rules.wide.Attributes.{ends_attribute}
@@ -135,7 +135,7 @@ pub out_seen : (l : Level) (x : WideToken) (xs : List WideToken)
     → level_out l (x ∷ xs) x ≡ level_out l (seen (x ∷ xs)) x
 out_seen (Members tag d) x xs = refl
 out_seen (Enumerators tag e) x xs =
-    ap (λ b. if b then def_in wide.Enumerator tag x.token ∷ [] else []) (enumerator_seen e x xs)
+    ap (λ b. if b then def_in kind.Enumerator tag x.token ∷ [] else []) (enumerator_seen e x xs)
 out_seen Block x xs = refl
 
 pub next_seen : (l : Level) (x : WideToken) (xs : List WideToken)

@@ -7,7 +7,7 @@ use Rattle.std.proofs.lemmas.List.Sorted.{IsPermutation-append_right, IsPermutat
 use Rattle.std.specs.Prelude.{◌&&◌, ◌||◌, ◌==◌, not, cond, filter, if◌then◌else◌}
 use Rattle.std.specs.List.{flat_map}
 use Rattle.std.specs.List.Sorted.{IsPermutation}
-use Rattle.cb_scan.specs.declared.rules.wide.def.WideDef.{WideDef}
+use Rattle.cb_scan.specs.declared.facts.Def.{Def}
 use Rattle.cb_scan.specs.declared.rules.wide.level.Level.{Level}
 use Rattle.cb_scan.specs.declared.rules.wide.opening.Opening.{Opening}
 use Rattle.cb_scan.specs.declared.rules.wide.role.WideRole.TheVariants as wide
@@ -196,7 +196,7 @@ abbrev pub levels : List Open → List Level
 levels os = map (λ (o : Open). o.level) os
 
 -- what a level defines in some tokens
-abbrev pub content : List Placed → Open → List WideDef
+abbrev pub content : List Placed → Open → List Def
 content ps o = level_defs o.level (level_inside o.place ps)
 
 -- the innermost goes on
@@ -370,7 +370,7 @@ module _ (x : WideToken) (xs : List WideToken) (n : ℕ) (rise : Rise n (x ∷ x
       let after = around_after x (o.place ∷ around) in
       let ps = placed after xs in
       let inner = level_inside o.place ps in
-      let later : List Placed → List WideDef = λ l. flat_map (content l) os in
+      let later : List Placed → List Def = λ l. flat_map (content l) os in
       let whole : List Placed = record { item = x; around = o.place ∷ around } ∷ ps in
       let alike : seen (x ∷ inner) ≡ seen (x ∷ xs) = ahead in
       ap (λ l. level_defs o.level l ++ later whole) (kept_inside o.place x around ps stays)
@@ -450,7 +450,7 @@ module _ (x : WideToken) (xs : List WideToken) (n : ℕ) (rise : Rise n (x ∷ x
 -- ---- all tokens
 
 -- what one token defines, and what it opens, in their places
-arranged : (d g m l c : List WideDef) → IsPermutation c ((m ++ g) ++ l)
+arranged : (d g m l c : List Def) → IsPermutation c ((m ++ g) ++ l)
     → IsPermutation (d ++ c) ((d ++ g) ++ (m ++ l))
 arranged d g m l c is =
     subst (IsPermutation (d ++ c)) (ap (λ z. d ++ z) (append_assoc g m l) ∙ sym (append_assoc d g (m ++ l)))

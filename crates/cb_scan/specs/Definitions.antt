@@ -1,5 +1,5 @@
 -- The definitions of a text, and all that is found in it.
-use Rattle.std.specs.Prelude.{ℕ, ◌≤◌, false, List, Option, ◌++◌, length, map}
+use Rattle.std.specs.Prelude.{ℕ, ◌≤◌, false, List, Option, None, ◌++◌, length, map}
 use Rattle.std.specs.List.{AllByRecursion}
 use Rattle.std.specs.Option.{MatchOption}
 use Rattle.cb_scan.specs.declared.facts.Call.{Call}
@@ -28,16 +28,25 @@ function_def f = record {
   kind = kind.Function;
   line = f.name.line;
   local = f.local;
+  tag = None;
 }
 
 abbrev pub macro_def : Token → Def
-macro_def t = record { name = t.span; kind = kind.Macro; line = t.line; local = false }
+macro_def t =
+    record { name = t.span; kind = kind.Macro; line = t.line; local = false; tag = None }
 
 abbrev pub typedef_def : Token → Def
-typedef_def t = record { name = t.span; kind = kind.Typedef; line = t.line; local = false }
+typedef_def t =
+    record { name = t.span; kind = kind.Typedef; line = t.line; local = false; tag = None }
 
 abbrev pub structure_def : Structure → Def
-structure_def s = record { name = s.name.span; kind = s.kind; line = s.name.line; local = false }
+structure_def s = record {
+  name = s.name.span;
+  kind = s.kind;
+  line = s.name.line;
+  local = false;
+  tag = None;
+}
 
 -- the definitions of a text with these pieces, by place, and at one place by kind
 unfoldable pub definitions_from : List ℕ → List Piece → List Def

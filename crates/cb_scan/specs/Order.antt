@@ -1,5 +1,6 @@
 -- Facts in the order of their places.
-use Rattle.std.specs.Prelude.{◌≡◌, ◌⊎◌, ◌<◌, ◌≤◌, ℕ, Bool, not, List, [], ◌∷◌, if◌then◌else◌}
+use Rattle.std.specs.Prelude.{◌≡◌, ◌⊎◌, ◌<◌, ◌≤◌, ℕ, Bool, not, List, [], ◌∷◌, Option}
+use Rattle.std.specs.Prelude.{Some, None, if◌then◌else◌}
 use Rattle.std.specs.List.{AllByRecursion}
 use Rattle.std.specs.Cmp.Lexicographic.{slice_cmp}
 use Rattle.std.specs.Ordering.{nat_cmp, is_gt}
@@ -7,8 +8,10 @@ use Rattle.cb_scan.specs.declared.facts.Call.{Call}
 use Rattle.cb_scan.specs.declared.facts.Def.{Def}
 use Rattle.cb_scan.specs.declared.facts.Include.{Include}
 use Rattle.cb_scan.specs.declared.facts.Kind.{Kind}
-use Rattle.cb_scan.specs.declared.facts.Kind.TheVariants.{Function, Macro, Typedef, Struct, Union}
-use Rattle.cb_scan.specs.declared.facts.Kind.TheVariants.{Enum}
+use Rattle.cb_scan.specs.declared.facts.Kind.TheVariants.{Enum, Enumerator, External, Function}
+use Rattle.cb_scan.specs.declared.facts.Kind.TheVariants.{Macro, Member, Prototype, Struct, Typedef}
+use Rattle.cb_scan.specs.declared.facts.Kind.TheVariants.{Union, Variable}
+use Rattle.cb_scan.specs.declared.facts.Tag.{Tag}
 use Rattle.cb_scan.specs.declared.facts.Use.{Use}
 use Rattle.cb_scan.specs.TextFacts.{TextFacts}
 
@@ -26,7 +29,7 @@ unfoldable pub in_order : {X : Type 0} → (X → List ℕ) → List X → List 
 in_order key [] = []
 in_order key (x ∷ xs) = put key x (in_order key xs)
 
--- the kinds at one place: a function, a macro, a typedef, a structure, a union, an enumeration
+-- the kinds at one place go in this order
 abbrev pub kind_rank : Kind → ℕ
 kind_rank Function = 0
 kind_rank Macro = 1
@@ -34,11 +37,23 @@ kind_rank Typedef = 2
 kind_rank Struct = 3
 kind_rank Union = 4
 kind_rank Enum = 5
+kind_rank Enumerator = 6
+kind_rank Member = 7
+kind_rank Variable = 8
+kind_rank External = 9
+kind_rank Prototype = 10
+
+-- a tag in numbers: whether there is one, and which
+abbrev pub tag_key : Option Tag → List ℕ
+tag_key None = 0 ∷ 0 ∷ 0 ∷ 0 ∷ []
+tag_key (Some tag) = 1 ∷ kind_rank tag.kind ∷ tag.name.start ∷ tag.name.end ∷ []
 
 -- definitions go by place, and at one place by kind; what is left of them makes no two equal in
 -- order
 abbrev pub def_key : Def → List ℕ
-def_key d = d.name.start ∷ kind_rank d.kind ∷ d.name.end ∷ d.line ∷ (if d.local then 1 else 0) ∷ []
+def_key d =
+    d.name.start ∷ kind_rank d.kind ∷ d.name.end ∷ d.line ∷ (if d.local then 1 else 0)
+    ∷ tag_key d.tag
 
 -- calls go by place; what is left of them makes no two equal in order
 abbrev pub call_key : Call → List ℕ

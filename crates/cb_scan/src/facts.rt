@@ -13,16 +13,30 @@ pub enum Kind {
     Struct,
     Union,
     Enum,
+    Enumerator,
+    Member,
+    Variable,
+    /// A variable that is declared by `extern`, and has no value there.
+    External,
+    Prototype,
 }
 
-/// A definition: the bytes of its name, its kind, the line of its name (from 1), and whether it is
-/// `static`.
+/// The tag of a structure, union or enumeration, and which of them it is.
+#[derive(Clone, Copy, Debug, PartialEq, Eq)]
+pub struct Tag {
+    pub kind: Kind,
+    pub name: Span,
+}
+
+/// A definition: the bytes of its name, its kind, the line of its name (from 1), whether it is
+/// `static`, and of an enumerator or member the tag around it.
 #[derive(Clone, Copy, Debug, PartialEq, Eq)]
 pub struct Def {
     pub name: Span,
     pub kind: Kind,
     pub line: u32,
     pub local: bool,
+    pub tag: Option<Tag>,
 }
 
 /// A use of a name: its bytes, its line (from 1), and the name of the macro or function around it.

@@ -2,7 +2,7 @@
 ghost use Rattle.std.specs.Prelude.{◌≡◌, ◌↔◌, ℕ, true, List, length, map};
 ghost use Rattle.std.specs.List.{AllByRecursion};
 ghost use Rattle.cb_scan.specs.declared.lex.piece.Piece.{Piece};
-ghost use Rattle.cb_scan.specs.declared.rules.wide.def.Profile.TheVariants.{Standard, Wide};
+ghost use Rattle.cb_scan.specs.declared.profile.Profile.TheVariants.{Standard, Wide};
 ghost use Rattle.cb_scan.specs.lex.Pieces.{IsPieces, Adjoin, LiesIn};
 ghost use Rattle.cb_scan.specs.Definitions.{facts_from, facts_of};
 ghost use Rattle.cb_scan.specs.lex.Lexeme.{IsClosedLiteral};
@@ -12,7 +12,6 @@ ghost use Rattle.cb_scan.specs.Profiles.{
   facts_in,
   include_alone,
   use_alone,
-  widened_facts,
   IsBesideFunctions,
 };
 ghost use Rattle.cb_scan.specs.steps.Cut.{pieces};
@@ -53,7 +52,7 @@ pub fn facts_in_order()
 
 /// The standard profile finds what a scan finds.
 pub fn standard_profile()
-    ensures { (text : List ℕ) → facts_in Standard text ≡ widened_facts (facts_of text) }
+    ensures { (text : List ℕ) → facts_in Standard text ≡ facts_of text }
 {}
 
 /// Both profiles find the same uses and includes, their scopes aside.

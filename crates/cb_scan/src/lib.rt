@@ -12,15 +12,17 @@ pub mod laws;
 mod lex;
 mod meter;
 mod prefix;
+mod profile;
 mod rules;
 mod scanner;
 mod source;
 
-pub use facts::{Call, Def, Facts, Include, Kind, Use};
+pub use facts::{Call, Def, Facts, Include, Kind, Tag, Use};
 pub use lex::cut::pieces;
 pub use lex::name::is_name;
 pub use lex::piece::{Class, Piece, Pieces, Span};
 pub use meter::Meter;
 pub use prefix::key_prefix;
+pub use profile::Profile;
 pub use scanner::scan;
 pub use source::{ScanError, Source};

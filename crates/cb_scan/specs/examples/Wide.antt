@@ -2,11 +2,9 @@
 use Rattle.std.specs.Prelude.{ℕ, List, [], ◌++◌, Option, None, Some, codes, map, if◌then◌else◌}
 use Rattle.cb_scan.specs.declared.facts.Kind.{Kind}
 use Rattle.cb_scan.specs.declared.facts.Kind.TheVariants as kind
-use Rattle.cb_scan.specs.declared.rules.wide.def.Profile.TheVariants as profile
-use Rattle.cb_scan.specs.declared.rules.wide.def.Tag.{Tag}
-use Rattle.cb_scan.specs.declared.rules.wide.def.WideDef.{WideDef}
-use Rattle.cb_scan.specs.declared.rules.wide.def.WideKind.{WideKind}
-use Rattle.cb_scan.specs.declared.rules.wide.def.WideKind.TheVariants as wide
+use Rattle.cb_scan.specs.declared.profile.Profile.TheVariants as profile
+use Rattle.cb_scan.specs.declared.facts.Tag.{Tag}
+use Rattle.cb_scan.specs.declared.facts.Def.{Def}
 use Rattle.cb_scan.specs.Order.{in_order, put}
 use Rattle.cb_scan.specs.Profiles.{definitions_by}
 use Rattle.cb_scan.specs.examples.Macros.{expanding}
@@ -22,18 +20,18 @@ use Rattle.cb_scan.specs.rules.wide.Words.{statement_words}
 use Rattle.cb_scan.specs.steps.Cut.{pieces}
 
 -- the letter of a kind
-abbrev letter : WideKind → List ℕ
-letter wide.Function = codes "f"
-letter wide.Macro = codes "d"
-letter wide.Typedef = codes "t"
-letter wide.Struct = codes "s"
-letter wide.Union = codes "u"
-letter wide.Enum = codes "g"
-letter wide.Enumerator = codes "e"
-letter wide.Member = codes "m"
-letter wide.Variable = codes "v"
-letter wide.External = codes "x"
-letter wide.Prototype = codes "p"
+abbrev letter : Kind → List ℕ
+letter kind.Function = codes "f"
+letter kind.Macro = codes "d"
+letter kind.Typedef = codes "t"
+letter kind.Struct = codes "s"
+letter kind.Union = codes "u"
+letter kind.Enum = codes "g"
+letter kind.Enumerator = codes "e"
+letter kind.Member = codes "m"
+letter kind.Variable = codes "v"
+letter kind.External = codes "x"
+letter kind.Prototype = codes "p"
 
 -- the word of a tag
 abbrev word : Kind → List ℕ
@@ -47,7 +45,7 @@ tag text None = []
 tag text (Some t) = word t.kind ++ bytes_of text t.name
 
 -- a definition: its letter and name, `!` if it is static, and the tag around it
-abbrev row : List ℕ → WideDef → List ℕ
+abbrev row : List ℕ → Def → List ℕ
 row text d =
     letter d.kind ++ codes " " ++ bytes_of text d.name ++ (if d.local then codes " !" else [])
     ++ tag text d.tag

@@ -69,6 +69,7 @@ def_of local name = record {
   kind = kind.Function;
   line = name.line;
   local = local;
+  tag = None;
 }
 
 -- the function that the tokens open, or that they are the head of, by the called name

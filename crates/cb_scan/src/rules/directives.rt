@@ -110,6 +110,7 @@ impl Defining {
                 kind: Kind::Macro,
                 line: token.line,
                 local: false,
+                tag: None,
             }),
             _ => None,
         }

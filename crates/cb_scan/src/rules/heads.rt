@@ -92,6 +92,7 @@ pub(crate) fn def_of(local: bool, name: Token) -> Def
         kind: Kind::Function,
         line: name.line,
         local,
+        tag: None,
     }
 }
 

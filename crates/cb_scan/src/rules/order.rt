@@ -2,10 +2,10 @@
 ghost use Rattle.std.specs.Prelude.{◌≡◌, ◌+◌, ◌++◌, ◌<◌, ◌≤◌, ◌^◌, length, nat_lt, IfOk};
 ghost use Rattle.std.specs.List.{prefix_len};
 ghost use Rattle.cb_scan.specs.declared.facts.Call.{Call};
-ghost use Rattle.cb_scan.specs.Order.{call_key, def_key, in_order, kind_rank};
+ghost use Rattle.cb_scan.specs.Order.{call_key, def_key, in_order, kind_rank, tag_key};
 ghost use Rattle.cb_scan.specs.steps.Ascending.{ascend_from};
 
-use crate::facts::{Call, Def, Kind};
+use crate::facts::{Call, Def, Kind, Tag};
 use std::alloc::{AllocError, Global};
 
 fn kind_rank(kind: Kind) -> u32
@@ -18,20 +18,40 @@ fn kind_rank(kind: Kind) -> u32
         Kind::Struct => 3,
         Kind::Union => 4,
         Kind::Enum => 5,
+        Kind::Enumerator => 6,
+        Kind::Member => 7,
+        Kind::Variable => 8,
+        Kind::External => 9,
+        Kind::Prototype => 10,
+    }
+}
+
+/// A tag in numbers: whether there is one, and which.
+fn tag_key(tag: &Option<Tag>) -> [u32; 4]
+    ensures { result ≡ tag_key tag.now }
+{
+    match tag {
+        Some(tag) => [1, kind_rank(tag.kind), tag.name.start, tag.name.end],
+        None => [0, 0, 0, 0],
     }
 }
 
 /// What definitions are ordered by: place, then kind, then what is left.
-fn def_key(def: &Def) -> [u32; 5]
+fn def_key(def: &Def) -> [u32; 9]
     ensures { result ≡ def_key def.now }
 {
     let local = if def.local { 1 } else { 0 };
+    let [is_tagged, kind, start, end] = tag_key(&def.tag);
     [
         def.name.start,
         kind_rank(def.kind),
         def.name.end,
         def.line,
         local,
+        is_tagged,
+        kind,
+        start,
+        end,
     ]
 }
 
@@ -53,7 +73,7 @@ fn order_defs(defs: &mut [Def])
     ensures { defs.new ≡ in_order def_key defs.old }
 {
     defs.sort_unstable_by_key(
-        |def: &Def| -> [u32; 5]
+        |def: &Def| -> [u32; 9]
             ensures { result ≡ def_key def.now }
         { def_key(def) },
     );

@@ -57,6 +57,7 @@ impl Naming {
                     kind,
                     line: token.line,
                     local: false,
+                    tag: None,
                 });
             }
             _ => *self = begun(token),

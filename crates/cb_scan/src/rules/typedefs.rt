@@ -157,6 +157,7 @@ fn typedef_def(name: Token) -> Def
         kind: Kind::Typedef,
         line: name.line,
         local: false,
+        tag: None,
     }
 }
 

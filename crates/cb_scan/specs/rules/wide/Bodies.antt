@@ -8,7 +8,7 @@ use Rattle.std.specs.Option.{option_map_or}
 use Rattle.cb_scan.specs.declared.facts.Kind.{Kind}
 use Rattle.cb_scan.specs.declared.facts.Kind.TheVariants as kind
 use Rattle.cb_scan.specs.declared.lex.token.Token.{Token}
-use Rattle.cb_scan.specs.declared.rules.wide.def.Tag.{Tag}
+use Rattle.cb_scan.specs.declared.facts.Tag.{Tag}
 use Rattle.cb_scan.specs.declared.rules.wide.role.WideRole.{WideRole}
 use Rattle.cb_scan.specs.declared.rules.wide.role.WideRole.TheVariants as wide
 use Rattle.cb_scan.specs.declared.rules.wide.token.WideToken.{WideToken}

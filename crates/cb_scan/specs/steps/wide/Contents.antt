@@ -3,9 +3,9 @@ use Rattle.std.specs.Prelude.{◌≡◌, ℕ, Bool, true, false, List, [], ◌�
 use Rattle.std.specs.Prelude.{Option, Some, None, if◌then◌else◌}
 use Rattle.std.specs.Option.{option_map_or}
 use Rattle.cb_scan.specs.declared.rules.wide.declaration.Declaration.{Declaration}
-use Rattle.cb_scan.specs.declared.rules.wide.def.Tag.{Tag}
-use Rattle.cb_scan.specs.declared.rules.wide.def.WideDef.{WideDef}
-use Rattle.cb_scan.specs.declared.rules.wide.def.WideKind.TheVariants as wide
+use Rattle.cb_scan.specs.declared.facts.Tag.{Tag}
+use Rattle.cb_scan.specs.declared.facts.Def.{Def}
+use Rattle.cb_scan.specs.declared.facts.Kind.TheVariants as kind
 use Rattle.cb_scan.specs.declared.rules.wide.level.Level.{Level}
 use Rattle.cb_scan.specs.declared.rules.wide.level.Level.TheVariants.{Block, Enumerators, Members}
 use Rattle.cb_scan.specs.declared.rules.wide.opening.Opening.{Opening}
@@ -20,20 +20,20 @@ use Rattle.cb_scan.specs.steps.wide.Openings.{next_opening}
 use Rattle.cb_scan.specs.Bytes.{close_brace}
 
 -- the member that a part gives
-abbrev pub member_given : Option Tag → Given → List WideDef
+abbrev pub member_given : Option Tag → Given → List Def
 member_given tag g =
     if g.of_type then []
-    else option_map_or (λ (x : WideToken). def_in wide.Member tag x.token ∷ []) g.name []
+    else option_map_or (λ (x : WideToken). def_in kind.Member tag x.token ∷ []) g.name []
 
 -- the member of the part that ends here, if it can name something
-abbrev pub member_here : Option Tag → Declaration → List WideDef
+abbrev pub member_here : Option Tag → Declaration → List Def
 member_here tag d = if may_name d then member_given tag (given d) else []
 
 -- what a level defines at the first of these tokens
-abbrev pub level_out : Level → List WideToken → WideToken → List WideDef
+abbrev pub level_out : Level → List WideToken → WideToken → List Def
 level_out (Members tag d) xs x = if ends_part d x then member_here tag d else []
 level_out (Enumerators tag e) xs x =
-    if is_enumerator e xs then def_in wide.Enumerator tag x.token ∷ [] else []
+    if is_enumerator e xs then def_in kind.Enumerator tag x.token ∷ [] else []
 level_out Block xs x = []
 
 -- a declaration of a structure or union after the first of these tokens
@@ -47,7 +47,7 @@ next_level (Enumerators tag e) xs x = Enumerators tag (next_enumeration e x)
 next_level Block xs x = Block
 
 -- what a level defines from a state on
-unfoldable pub level_defs : Level → List WideToken → List WideDef
+unfoldable pub level_defs : Level → List WideToken → List Def
 level_defs l [] = []
 level_defs l (x ∷ xs) = level_out l (x ∷ xs) x ++ level_defs (next_level l (x ∷ xs) x) xs
 
@@ -65,7 +65,7 @@ most_open [] = 0
 most_open (l ∷ ls) = max (count_of l) (most_open ls)
 
 -- what the innermost defines at the first of these tokens; a `}` is not of it
-abbrev pub defined_by : List Level → List WideToken → WideToken → List WideDef
+abbrev pub defined_by : List Level → List WideToken → WideToken → List Def
 defined_by [] xs x = []
 defined_by (l ∷ ls) xs x = if is_sign close_brace x.role then [] else level_out l xs x
 
@@ -90,7 +90,7 @@ next_levels o ls xs x =
     else (if is_sign close_brace x.role then closed_by x ls else first_goes_on ls xs x)
 
 -- what bodies define from a state on
-unfoldable pub contents_from : Option Opening → List Level → List WideToken → List WideDef
+unfoldable pub contents_from : Option Opening → List Level → List WideToken → List Def
 contents_from o ls [] = []
 contents_from o ls (x ∷ xs) =
     defined_by ls (x ∷ xs) x

@@ -1,6 +1,6 @@
 -- The levels that open braces make.
 use Rattle.std.specs.Prelude.{Option, None, Some, if◌then◌else◌}
-use Rattle.cb_scan.specs.declared.rules.wide.def.Tag.{Tag}
+use Rattle.cb_scan.specs.declared.facts.Tag.{Tag}
 use Rattle.cb_scan.specs.declared.rules.wide.level.Level.{Level}
 use Rattle.cb_scan.specs.declared.rules.wide.level.Level.TheVariants.{Block, Enumerators, Members}
 use Rattle.cb_scan.specs.declared.rules.wide.opening.Opening.{Opening}

@@ -3,8 +3,8 @@ use Rattle.std.specs.Prelude.{false, List, [], ◌∷◌, ◌++◌, length, drop
 use Rattle.std.specs.Prelude.{if◌then◌else◌}
 use Rattle.std.specs.Option.{option_map, option_map_or}
 use Rattle.cb_scan.specs.declared.facts.Kind.{Kind}
-use Rattle.cb_scan.specs.declared.rules.wide.def.Tag.{Tag}
-use Rattle.cb_scan.specs.declared.rules.wide.def.WideDef.{WideDef}
+use Rattle.cb_scan.specs.declared.facts.Tag.{Tag}
+use Rattle.cb_scan.specs.declared.facts.Def.{Def}
 use Rattle.cb_scan.specs.declared.rules.wide.opening.Opening.{Opening}
 use Rattle.cb_scan.specs.declared.rules.wide.token.WideToken.{WideToken}
 use Rattle.cb_scan.specs.rules.wide.Bodies.{body_kind, first_kind, names_first}
@@ -54,16 +54,16 @@ opening_after before =
 -- ---- the tags of bodies
 
 -- the tag of an opening, as a definition
-abbrev pub opening_tag : Option Opening → List WideDef
+abbrev pub opening_tag : Option Opening → List Def
 opening_tag None = []
 opening_tag (Some o) =
     option_map_or (λ (x : WideToken). def_of (kind_of_tag o.kind) false x.token ∷ []) o.tag []
 
 -- the tag of the body that a token opens
-abbrev pub tag_out : Option Opening → WideToken → List WideDef
+abbrev pub tag_out : Option Opening → WideToken → List Def
 tag_out o x = if x.counted then opening_tag o else []
 
 -- the tags from a state on
-unfoldable pub tags_from : Option Opening → List WideToken → List WideDef
+unfoldable pub tags_from : Option Opening → List WideToken → List Def
 tags_from o [] = []
 tags_from o (x ∷ xs) = tag_out o x ++ tags_from (next_opening o x) xs

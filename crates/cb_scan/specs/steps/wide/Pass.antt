@@ -7,7 +7,6 @@ use Rattle.cb_scan.specs.declared.facts.Def.{Def}
 use Rattle.cb_scan.specs.declared.lex.piece.Span.{Span}
 use Rattle.cb_scan.specs.declared.rules.scope.Range.{Range}
 use Rattle.cb_scan.specs.declared.rules.wide.declaration.Declaration.{Declaration}
-use Rattle.cb_scan.specs.declared.rules.wide.def.WideDef.{WideDef}
 use Rattle.cb_scan.specs.declared.rules.wide.pass.Pass.{Pass}
 use Rattle.cb_scan.specs.declared.rules.wide.token.WideToken.{WideToken}
 use Rattle.cb_scan.specs.rules.wide.Words.{is_sign}

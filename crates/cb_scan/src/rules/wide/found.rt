@@ -10,10 +10,10 @@ ghost use Rattle.cb_scan.specs.steps.wide.Givens.{
 };
 ghost use Rattle.cb_scan.specs.steps.wide.Pass.{part_at};
 
-use crate::facts::Def;
+use crate::facts::{Def, Kind};
 use crate::rules::scope::Range;
 use crate::rules::wide::declaration::Declaration;
-use crate::rules::wide::def::{WideDef, WideKind, def_of};
+use crate::rules::wide::def::def_of;
 use crate::rules::wide::token::WideToken;
 use std::alloc::{AllocError, Global};
 use std::marker::Model;
@@ -24,8 +24,8 @@ use std::marker::Model;
 pub(crate) struct Found {
     pub functions: Vec<Def>,
     pub ranges: Vec<Range>,
-    pub defs: Vec<WideDef>,
-    pub objects: Vec<WideDef>,
+    pub defs: Vec<Def>,
+    pub objects: Vec<Def>,
 }
 
 impl Model for Found {
@@ -42,41 +42,41 @@ impl Model for Found {
 }
 
 /// The type that the part gives which ends here.
-fn typedef_given(declaration: &Declaration) -> Option<WideDef>
+fn typedef_given(declaration: &Declaration) -> Option<Def>
     ensures { option_to_list result ≡ typedef_given (given declaration.now) }
 {
     if !declaration.has_typedef {
         return None;
     }
     match declaration.part.named() {
-        Some(name) => Some(def_of(WideKind::Typedef, false, &name.token)),
+        Some(name) => Some(def_of(Kind::Typedef, false, &name.token)),
         None => match declaration.part.function() {
-            Some(name) => Some(def_of(WideKind::Typedef, false, &name.token)),
+            Some(name) => Some(def_of(Kind::Typedef, false, &name.token)),
             None => None,
         },
     }
 }
 
 /// A variable, or an external declaration: of `extern` and without a value.
-fn variable_kind(declaration: &Declaration) -> WideKind
+fn variable_kind(declaration: &Declaration) -> Kind
     ensures { result ≡ variable_kind (given declaration.now) }
 {
     if declaration.has_extern && !declaration.part.has_value {
-        WideKind::External
+        Kind::External
     } else {
-        WideKind::Variable
+        Kind::Variable
     }
 }
 
 /// The prototype that the part gives which ends here, or else the variable that it names.
-fn object_given(declaration: &Declaration) -> Option<WideDef>
+fn object_given(declaration: &Declaration) -> Option<Def>
     ensures { option_to_list result ≡ object_given (given declaration.now) }
 {
     if declaration.has_typedef {
         return None;
     }
     match declaration.part.function() {
-        Some(name) => Some(def_of(WideKind::Prototype, declaration.has_static, &name.token)),
+        Some(name) => Some(def_of(Kind::Prototype, declaration.has_static, &name.token)),
         None => match declaration.part.named() {
             Some(name) => Some(def_of(
                 variable_kind(declaration),
@@ -101,7 +101,7 @@ impl Found {
     }
 
     /// One more definition, if there is one.
-    pub(crate) fn define(&mut self, def: Option<WideDef>) -> Result<(), AllocError>
+    pub(crate) fn define(&mut self, def: Option<Def>) -> Result<(), AllocError>
         ensures { IfOk result
             (λ _. self.new ≡ record self.old { defs = self.old.defs ++ option_to_list def }) }
     {

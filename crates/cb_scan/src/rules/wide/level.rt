@@ -10,9 +10,9 @@ ghost use Rattle.cb_scan.specs.steps.wide.Contents.{
 };
 ghost use Rattle.cb_scan.specs.steps.wide.Levels.{member_tag, opened, opened_body};
 
-use crate::facts::Kind;
+use crate::facts::{Def, Kind, Tag};
 use crate::rules::wide::declaration::Declaration;
-use crate::rules::wide::def::{Tag, WideDef, WideKind, def_in};
+use crate::rules::wide::def::def_in;
 use crate::rules::wide::enumeration::Enumeration;
 use crate::rules::wide::opening::Opening;
 use crate::rules::wide::token::WideToken;
@@ -29,14 +29,14 @@ pub(crate) enum Level {
 }
 
 /// The member of the part that ends here, if it can name something.
-fn member_here(tag: Option<Tag>, declaration: &Declaration) -> Option<WideDef>
+fn member_here(tag: Option<Tag>, declaration: &Declaration) -> Option<Def>
     ensures { option_to_list result ≡ member_here tag declaration.now }
 {
     if !declaration.may_name() || declaration.has_typedef {
         return None;
     }
     match declaration.part.named() {
-        Some(name) => Some(def_in(WideKind::Member, tag, &name.token)),
+        Some(name) => Some(def_in(Kind::Member, tag, &name.token)),
         None => None,
     }
 }
@@ -58,7 +58,7 @@ impl Declaration {
 
 impl Level {
     /// What the level defines at the first of these tokens.
-    pub(crate) fn found(&self, ahead: &[WideToken], item: &WideToken) -> Option<WideDef>
+    pub(crate) fn found(&self, ahead: &[WideToken], item: &WideToken) -> Option<Def>
         ensures { option_to_list result ≡ level_out self.now ahead.now item.now }
     {
         match self {
@@ -66,7 +66,7 @@ impl Level {
                 member_here(*tag, declaration)
             }
             Level::Enumerators(tag, body) if body.finds(ahead) => {
-                Some(def_in(WideKind::Enumerator, *tag, &item.token))
+                Some(def_in(Kind::Enumerator, *tag, &item.token))
             }
             _ => None,
         }

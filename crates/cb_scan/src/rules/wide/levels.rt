@@ -10,7 +10,7 @@ ghost use Rattle.cb_scan.specs.steps.wide.Contents.{
   tag_inside,
 };
 
-use crate::rules::wide::def::{Tag, WideDef};
+use crate::facts::{Def, Tag};
 use crate::rules::wide::level::Level;
 use crate::rules::wide::token::WideToken;
 use std::alloc::{AllocError, Global};
@@ -87,7 +87,7 @@ impl Levels {
     }
 
     /// What the innermost level defines at the first of these tokens.
-    pub(crate) fn found(&self, ahead: &[WideToken], item: &WideToken) -> Option<WideDef>
+    pub(crate) fn found(&self, ahead: &[WideToken], item: &WideToken) -> Option<Def>
         ensures { option_to_list result ≡ defined_by self.now ahead.now item.now }
     {
         match &self.first {

@@ -3,8 +3,8 @@ ghost use Rattle.std.specs.Prelude.{◌≡◌};
 ghost use Rattle.std.specs.Option.{option_to_list};
 ghost use Rattle.cb_scan.specs.steps.wide.Openings.{begun, next_opening, opening_tag, tag_of};
 
-use crate::facts::Kind;
-use crate::rules::wide::def::{Tag, WideDef, def_of, kind_of_tag};
+use crate::facts::{Def, Kind, Tag};
+use crate::rules::wide::def::{def_of, kind_of_tag};
 use crate::rules::wide::role::WideRole;
 use crate::rules::wide::token::WideToken;
 
@@ -53,7 +53,7 @@ impl Opening {
 }
 
 /// The tag of an opening, as a definition.
-pub(crate) fn opening_tag(opening: &Option<Opening>) -> Option<WideDef>
+pub(crate) fn opening_tag(opening: &Option<Opening>) -> Option<Def>
     ensures { option_to_list result ≡ opening_tag opening.now }
 {
     match opening {
