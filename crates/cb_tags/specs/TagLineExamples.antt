@@ -1,5 +1,5 @@
 -- The lines of short definitions, computed.
-use Rattle.std.specs.Prelude.{◌≡◌, true, false, codes, refl}
+use Rattle.std.specs.Prelude.{◌≡◌, true, false, codes, refl, None}
 use Rattle.std.specs.Fmt.{digits}
 use Rattle.bstr.specs.Text.{lines_from, line_len}
 use Rattle.cb_scan.specs.declared.facts.Kind.{Kind}
@@ -28,6 +28,7 @@ add = record {
   text = codes "static int add(int a, int b) {";
   kind = Function;
   local = true;
+  scope = None;
 }
 
 -- a program's start, in a folder
@@ -39,6 +40,7 @@ start = record {
   text = codes "int main(void) {";
   kind = Function;
   local = false;
+  scope = None;
 }
 
 -- a macro whose line has a `/`, a `\` and a `$`
@@ -50,6 +52,7 @@ half = record {
   text = codes "#define HALF(x) (x/2) \\$";
   kind = Macro;
   local = false;
+  scope = None;
 }
 
 -- a typedef; `local` says nothing of it
@@ -61,6 +64,7 @@ word = record {
   text = codes "\ttypedef int word;";
   kind = Typedef;
   local = true;
+  scope = None;
 }
 
 -- a structure, a union and an enumeration; `local` says nothing of them
@@ -72,6 +76,7 @@ tagged kind = record {
   text = codes "n {";
   kind = kind;
   local = true;
+  scope = None;
 }
 
 -- only `/` and `\` are escaped

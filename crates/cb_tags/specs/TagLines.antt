@@ -1,15 +1,23 @@
 -- The lines of a tags file and of a listing.
 use Rattle.std.specs.Prelude.{ℕ, Bool, true, false, ◌&&◌, List, [], ◌++◌, codes, decimal}
-use Rattle.std.specs.Prelude.{if◌then◌else◌}
+use Rattle.std.specs.Prelude.{if◌then◌else◌, Option}
+use Rattle.std.specs.Option.{option_map, option_map_or}
 use Rattle.cb_scan.specs.declared.facts.Kind.{Kind}
-use Rattle.cb_scan.specs.declared.facts.Kind.TheVariants.{Function, Macro, Typedef, Struct, Union}
-use Rattle.cb_scan.specs.declared.facts.Kind.TheVariants.{Enum}
+use Rattle.cb_scan.specs.declared.facts.Kind.TheVariants.{Enum, Enumerator, External, Function}
+use Rattle.cb_scan.specs.declared.facts.Kind.TheVariants.{Macro, Member, Prototype, Struct, Typedef}
+use Rattle.cb_scan.specs.declared.facts.Kind.TheVariants.{Union, Variable}
+use Rattle.cb_tags.specs.declared.row.Scope.{Scope}
 use Rattle.cb_tags.specs.declared.row.TagRow.{TagRow}
 use Rattle.cb_tags.specs.Addresses.{address}
 use Rattle.cb_tags.specs.TagNames.{tag_name}
 
+-- the body that a definition is in: of which kind it is, and its tag
+pub record TagScope : Type 0 where
+  pub kind : Kind
+  pub name : List ℕ
+
 -- a definition as a tags file has it (tags(5)): its name, its file, its line and the text of that
--- line, its kind, and whether it is `static`
+-- line, its kind, whether it is `static`, and the body that it is in
 pub record Tag : Type 0 where
   pub name : List ℕ
   pub file : List ℕ
@@ -17,6 +25,7 @@ pub record Tag : Type 0 where
   pub text : List ℕ
   pub kind : Kind
   pub local : Bool
+  pub scope : Option TagScope
 
 -- what a row says
 abbrev pub tag_of : TagRow → Tag
@@ -27,6 +36,7 @@ tag_of r = record {
   text = r.text.now;
   kind = r.kind;
   local = r.local;
+  scope = option_map (λ (s : Scope). record { kind = s.kind; name = s.name.now }) r.scope;
 }
 
 -- the plain line (POSIX ctags): tag name, file and address, separated by tabs
@@ -34,7 +44,7 @@ abbrev pub plain_line : Tag → List ℕ
 plain_line t =
     tag_name t.name t.file ++ codes "\t" ++ t.file ++ codes "\t" ++ address t.text ++ codes "\n"
 
--- the letter of a kind (tags(5); this project's profile has six)
+-- the letter of a kind (tags(5))
 abbrev pub kind_letter : Kind → List ℕ
 kind_letter Function = codes "f"
 kind_letter Macro = codes "d"
@@ -42,27 +52,42 @@ kind_letter Typedef = codes "t"
 kind_letter Struct = codes "s"
 kind_letter Union = codes "u"
 kind_letter Enum = codes "g"
+kind_letter Enumerator = codes "e"
+kind_letter Member = codes "m"
+kind_letter Variable = codes "v"
+kind_letter External = codes "x"
+kind_letter Prototype = codes "p"
 
--- the kind of definition that may be seen by its file alone (this project's profile): a function
-abbrev pub is_function : Kind → Bool
-is_function Function = true
-is_function Macro = false
-is_function Typedef = false
-is_function Struct = false
-is_function Union = false
-is_function Enum = false
+-- the kinds of definitions that their file alone may see: functions, variables and prototypes
+abbrev pub may_be_local : Kind → Bool
+may_be_local Function = true
+may_be_local Variable = true
+may_be_local Prototype = true
+may_be_local _ = false
 
--- the field of a definition that only its file sees (tags(5)): of a function that is `static`
+-- the field of a definition that only its file sees (tags(5)): one that is `static`
 abbrev pub file_field : Tag → List ℕ
-file_field t = if is_function t.kind && t.local then codes "\tfile:" else []
+file_field t = if may_be_local t.kind && t.local then codes "\tfile:" else []
 
--- the extended line (tags(5)): name, file and address, then the fields for the kind, the line and
--- the scope
+-- what begins the field of a body (tags(5))
+abbrev pub scope_word : Kind → List ℕ
+scope_word Union = codes "\tunion:"
+scope_word Enum = codes "\tenum:"
+scope_word _ = codes "\tstruct:"
+
+-- the field of a definition that is in a body with a tag
+abbrev pub scope_field : Tag → List ℕ
+scope_field t = option_map_or (λ (s : TagScope). scope_word s.kind ++ s.name) t.scope []
+
+-- the fields of an extended line (tags(5)): for the kind, the line, the body around, and the file
+abbrev pub fields : Tag → List ℕ
+fields t =
+    codes ";\"\t" ++ kind_letter t.kind ++ codes "\tline:" ++ decimal t.line ++ scope_field t
+    ++ file_field t ++ codes "\n"
+
+-- the extended line (tags(5)): name, file and address, then the fields
 abbrev pub extended_line : Tag → List ℕ
-extended_line t =
-    t.name ++ codes "\t" ++ t.file ++ codes "\t" ++ address t.text
-    ++ codes ";\"\t" ++ kind_letter t.kind ++ codes "\tline:" ++ decimal t.line ++ file_field t
-    ++ codes "\n"
+extended_line t = t.name ++ codes "\t" ++ t.file ++ codes "\t" ++ address t.text ++ fields t
 
 -- the line of a listing (POSIX ctags -x): name, line, file and the whole shown line, separated by
 -- single spaces

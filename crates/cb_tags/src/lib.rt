@@ -20,7 +20,7 @@ mod text;
 pub use address::{Address, read_address};
 pub use feed::{Feed, ReadFault};
 pub use name::is_file_name;
-pub use row::{TagRow, put_extended, put_heads, put_listing, put_plain};
+pub use row::{Scope, TagRow, put_extended, put_heads, put_listing, put_plain};
 pub use sink::{Sink, WriteFault};
 pub use tag_name::{compare_tag_key, compare_tag_names};
 pub use text::{put_text, put_texts};

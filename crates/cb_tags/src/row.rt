@@ -7,6 +7,9 @@ ghost use Rattle.cb_tags.specs.TagLines.{
   plain_line,
   kind_letter,
   file_field,
+  fields,
+  scope_field,
+  scope_word,
   extended_line,
   listing_line,
   head_lines,
@@ -21,8 +24,17 @@ use cb_scan::Kind;
 use itoa::Buffer;
 use std::io::Write;
 
+/// The body of a structure, union or enumeration that a definition is in: of which kind it is, and
+/// its tag.
+#[derive(Clone, Copy, Debug, PartialEq, Eq)]
+pub struct Scope<'a> {
+    pub kind: Kind,
+    pub name: &'a [u8],
+}
+
 /// A definition as a tags file has it: its name, its file, its line (from 1) and the whole shown
-/// text of that line, its kind, and whether it is `static`.
+/// text of that line, its kind, whether it is `static`, and the body that it is in, if that has a
+/// tag.
 #[derive(Clone, Copy, Debug, PartialEq, Eq)]
 pub struct TagRow<'a> {
     pub name: &'a [u8],
@@ -31,6 +43,7 @@ pub struct TagRow<'a> {
     pub text: &'a [u8],
     pub kind: Kind,
     pub local: bool,
+    pub scope: Option<Scope<'a>>,
 }
 
 /// Writes the address of a line that reads so, between other texts.
@@ -72,39 +85,71 @@ fn kind_letter(kind: Kind) -> &'static [u8]
         Kind::Struct => b"s",
         Kind::Union => b"u",
         Kind::Enum => b"g",
+        Kind::Enumerator => b"e",
+        Kind::Member => b"m",
+        Kind::Variable => b"v",
+        Kind::External => b"x",
+        Kind::Prototype => b"p",
     }
 }
 
-/// The field of a function that only its file sees; nothing for any other definition.
+/// The field of a definition that only its file sees; nothing for any other.
 fn file_field(row: &TagRow<'_>) -> &'static [u8]
     ensures { result.now ≡ file_field (tag_of row.now) }
 {
     match row.kind {
-        Kind::Function if row.local => b"\tfile:",
+        Kind::Function | Kind::Variable | Kind::Prototype if row.local => b"\tfile:",
         _ => b"",
     }
 }
 
-/// Writes the extended line of a row: name, file and address, then the fields for the kind, the
-/// line and the scope.
-pub fn put_extended<W: Write>(out: &mut Sink<W>, row: &TagRow<'_>) -> Result<(), WriteFault>
-    ensures { Puts out.old out.new result (extended_line (tag_of row.now)) }
+/// What begins the field of a body.
+fn scope_word(kind: Kind) -> &'static [u8]
+    ensures { result.now ≡ scope_word kind }
+{
+    match kind {
+        Kind::Union => b"\tunion:",
+        Kind::Enum => b"\tenum:",
+        _ => b"\tstruct:",
+    }
+}
+
+/// Writes the field of a body.
+fn put_body<W: Write>(out: &mut Sink<W>, scope: &Scope<'_>) -> Result<(), WriteFault>
+    ensures { Puts out.old out.new result (scope_word scope.now.kind ++ scope.now.name.now) }
+{
+    put_texts(out, &[scope_word(scope.kind)])?;
+    put_texts(out, &[scope.name])
+}
+
+/// Writes the field of the body that a definition is in.
+fn put_scope<W: Write>(out: &mut Sink<W>, row: &TagRow<'_>) -> Result<(), WriteFault>
+    ensures { Puts out.old out.new result (scope_field (tag_of row.now)) }
+{
+    match &row.scope {
+        Some(scope) => put_body(out, scope),
+        None => Ok(()),
+    }
+}
+
+/// Writes the fields of an extended line.
+fn put_fields<W: Write>(out: &mut Sink<W>, row: &TagRow<'_>) -> Result<(), WriteFault>
+    ensures { Puts out.old out.new result (fields (tag_of row.now)) }
 {
     let mut digits = Buffer::new();
     let line = digits.format(row.line).as_bytes();
-    put_around(
-        out,
-        &[row.name, b"\t", row.file, b"\t"],
-        row.text,
-        &[
-            b";\"\t",
-            kind_letter(row.kind),
-            b"\tline:",
-            line,
-            file_field(row),
-            b"\n",
-        ],
-    )
+    put_texts(out, &[b";\"\t", kind_letter(row.kind), b"\tline:", line])?;
+    put_scope(out, row)?;
+    put_texts(out, &[file_field(row), b"\n"])
+}
+
+/// Writes the extended line of a row: name, file and address, then the fields for the kind, the
+/// line, the body around, and the file.
+pub fn put_extended<W: Write>(out: &mut Sink<W>, row: &TagRow<'_>) -> Result<(), WriteFault>
+    ensures { Puts out.old out.new result (extended_line (tag_of row.now)) }
+{
+    put_around(out, &[row.name, b"\t", row.file, b"\t"], row.text, &[])?;
+    put_fields(out, row)
 }
 
 /// Writes the line of a row in a listing: name, line, file and text.
