@@ -43,6 +43,7 @@ pub mod WideBareRanges
 pub mod WideBlocks
 pub mod WideBodies
 pub mod WideCalls
+pub mod WideCallsRead
 pub mod WideContents
 pub mod WideCuts
 pub mod WideDeclarations

@@ -91,7 +91,7 @@ module _ (bs : List Body) (i : Inside) (m : WideMachine) (x : WideToken)
       by_test false = refl
 
   -- and the name of the body is the same
-  same_body : next_body i (found m (is_block bs x)) x ≡ body_next bs m i.body x
+  pub same_body : next_body i (found m (is_block bs x)) x ≡ body_next bs m i.body x
   same_body =
       (λ j. if alike j == 0 then entered (found m (is_block bs x)) x
       else (if depth_after x.counted x.token (alike j) == 0 then None else i.body))
@@ -109,7 +109,7 @@ module _ (bs : List Body) (i : Inside) (m : WideMachine) (x : WideToken)
 
 -- ---- no body is open at depth 0
 
-flat_after : (i : Inside) (f : Option Def) (x : WideToken)
+pub flat_after : (i : Inside) (f : Option Def) (x : WideToken)
     → (inside.next_depth i x == 0) ≡ true → next_body i f x ≡ None
 flat_after i f x flat = by_count x.counted flat
   where
@@ -125,7 +125,7 @@ flat_after i f x flat = by_count x.counted flat
 -- ---- a token of a segment
 
 -- a body that may be open at a depth
-abbrev Fine : Option Span → ℕ → Type 0
+abbrev pub Fine : Option Span → ℕ → Type 0
 Fine body d = (d == 0) ≡ true → body ≡ None
 
 -- a token that counts, opens or closes only if it is a `;` or a brace
@@ -165,7 +165,7 @@ module _ (bs : List Body) (end : ℕ) where
 
   -- ---- all tokens
 
-  body_kept_inside : (i : Inside) (f : Option Def) (x : WideToken) → IsInner x
+  pub body_kept_inside : (i : Inside) (f : Option Def) (x : WideToken) → IsInner x
       → Fine i.body i.depth → next_body i f x ≡ i.body
   body_kept_inside i f x inner fine =
       ⊎_elim

@@ -85,7 +85,7 @@ module _ (a b c d e : WideToken) (s more : List WideToken) where
       else record h { part = p; count = n } in
       ap with (part_five h.part (h.count == 0))
 
-  machine_five : (m : WideMachine) → next m long a ≡ next m short a
+  pub machine_five : (m : WideMachine) → next m long a ≡ next m short a
   machine_five m =
       let with : WideHead → WideMachine = λ h.
       if stops m a then stopped m a

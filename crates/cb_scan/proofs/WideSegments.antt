@@ -186,7 +186,7 @@ module _ {X : Type 0} (pass : WideMachine → List WideToken → X) (Fine : ℕ 
 
 -- a segment opens nothing
 module _ (bs : List Body) where
-  opens_nothing : (m : WideMachine) (x : WideToken) (xs : List WideToken) → IsInner x
+  pub opens_nothing : (m : WideMachine) (x : WideToken) (xs : List WideToken) → IsInner x
       → Unit {0} → opened_from bs m (x ∷ xs) ≡ opened_from bs (next m (x ∷ xs) x) xs
   unfolding opened_from
   opens_nothing m x xs inner fine =
