@@ -1,0 +1,9 @@
+//! The lowest part of a language server: what goes over the wire.
+//!
+//! It knows nothing of files and of what they define.
+#![tactic(auto)]
+
+pub mod laws;
+mod units;
+
+pub use units::{Encoding, column_of_place, place_of_column};
