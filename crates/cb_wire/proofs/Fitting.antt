@@ -4,13 +4,14 @@ use Rattle.std.proofs.Common.{[], ◌∷◌, length, take, drop, Option, Some, N
 use Rattle.std.proofs.Common.{subst, arith, inl, inr, length-drop}
 use Rattle.std.specs.List.{sum_by, AllByRecursion}
 use Rattle.std.proofs.lemmas.Bool.Decides.{leb_tells, eqb_tells}
-use Rattle.std.proofs.lemmas.List.Sums.{sum_by-cons}
+use Rattle.std.proofs.lemmas.List.Sums.{sum_by-cons, sum_by-take-drop}
 use Rattle.bstr.specs.Utf8.{decoded}
 use Rattle.bstr.proofs.lemmas.PieceLemmas.{piece-bounds}
 use Rattle.cb_wire.specs.declared.units.Character.{Character}
 use Rattle.cb_wire.specs.declared.units.Encoding.{Encoding}
 use Rattle.cb_wire.specs.declared.units.Encoding.TheVariants.{Utf8, Utf16}
-use Rattle.cb_wire.specs.Units.{sequence, first, characters_from, characters, fitting}
+use Rattle.cb_wire.specs.Units.{sequence, first, characters_from, characters, fitting, bytes_of}
+use Rattle.cb_wire.specs.Units.{IsBoundary, IsColumn, column, place_in_line}
 
 -- a character of at most n bytes
 pub record IsCharacter (n : ℕ) (c : Character) : Type 0 where
@@ -85,7 +86,7 @@ sized e (suc n) (b ∷ rest) p =
       sized e n (drop c.bytes line) (omega (arith, is.some, is.few, length-drop c.bytes line)),
     )
 
-pub characters-sized : (e : Encoding) (line : List ℕ) → AllByRecursion HasSize (characters e line)
+characters-sized : (e : Encoding) (line : List ℕ) → AllByRecursion HasSize (characters e line)
 characters-sized e line = sized e (length line) line (omega arith)
 
 -- the first character fits or does not
@@ -129,7 +130,7 @@ module _ (f g : Character → ℕ) (e : Encoding) (line : List ℕ) (room : ℕ)
         ∙ ap (λ l. g next + measured l (room - f next)) (sym same)
 
 -- what fits is a front
-pub fitting-front : (f : Character → ℕ) (room : ℕ) (cs : List Character)
+fitting-front : (f : Character → ℕ) (room : ℕ) (cs : List Character)
     → (n : ℕ) × (fitting f room cs ≡ take n cs)
 fitting-front f room [] = (0, refl)
 fitting-front f room (c ∷ cs) =
@@ -140,7 +141,7 @@ fitting-front f room (c ∷ cs) =
     ]
 
 -- a front fits into its own size, and no more does
-pub front-fits : (f : Character → ℕ) (n : ℕ) (cs : List Character)
+front-fits : (f : Character → ℕ) (n : ℕ) (cs : List Character)
     → AllByRecursion (λ c. 1 ≤ f c) cs → fitting f (sum_by f (take n cs)) cs ≡ take n cs
 front-fits f zero [] all = refl
 front-fits f (suc n) [] all = refl
@@ -153,7 +154,7 @@ front-fits f (suc n) (c ∷ cs) all =
     ∙ ap (λ r. c ∷ fitting f r cs) room ∙ ap (λ l. c ∷ l) (front-fits f n cs all.1)
 
 -- measured by one size and back by the other
-pub there_and_back : (f g : Character → ℕ) (n : ℕ) (cs : List Character)
+there_and_back : (f g : Character → ℕ) (n : ℕ) (cs : List Character)
     → AllByRecursion (λ c. 1 ≤ f c) cs → AllByRecursion (λ c. 1 ≤ g c) cs
     → sum_by f (fitting g (sum_by g (fitting f (sum_by f (take n cs)) cs)) cs)
     ≡ sum_by f (take n cs)
@@ -161,12 +162,73 @@ there_and_back f g n cs p q =
     ap (λ l. sum_by f (fitting g (sum_by g l) cs)) (front-fits f n cs p)
     ∙ ap (sum_by f) (front-fits g n cs q)
 
-pub all_bytes : (cs : List Character) → AllByRecursion HasSize cs
+all_bytes : (cs : List Character) → AllByRecursion HasSize cs
     → AllByRecursion (λ c. 1 ≤ c.bytes) cs
 all_bytes [] p = tt
 all_bytes (c ∷ cs) p = (p.0.1, all_bytes cs p.1)
 
-pub all_units : (cs : List Character) → AllByRecursion HasSize cs
+all_units : (cs : List Character) → AllByRecursion HasSize cs
     → AllByRecursion (λ c. 1 ≤ c.units) cs
 all_units [] p = tt
 all_units (c ∷ cs) p = (p.0.0, all_units cs p.1)
+
+-- the bytes of all characters are those of the line
+bytes-few : (e : Encoding) (n : ℕ) (line : List ℕ) → length line ≤ n
+    → bytes_of (characters e line) ≤ length line
+bytes-few e n [] p = omega (arith, ap bytes_of (characters-nil e [] refl))
+bytes-few e zero (b ∷ rest) p = absurd (omega arith)
+bytes-few e (suc n) (b ∷ rest) p =
+    let line = b ∷ rest in
+    let c = first e line in
+    let is = first_is e line (omega arith) in
+    let more = bytes-few e n (drop c.bytes line)
+    (omega (arith, is.some, is.few, length-drop c.bytes line)) in
+    omega (
+      arith,
+      ap bytes_of (characters-step e line (omega arith)),
+      is.within,
+      more,
+      length-drop c.bytes line,
+      sum_by-cons (λ c. c.bytes) c (characters e (drop c.bytes line)),
+    )
+
+pub boundary-within : (e : Encoding) (line : List ℕ) (place : ℕ) → IsBoundary e line place
+    → place ≤ length line
+boundary-within e line place at =
+    omega (
+      arith,
+      at.1,
+      bytes-few e (length line) line (omega arith),
+      sum_by-take-drop (λ c. c.bytes) (characters e line) at.0,
+    )
+
+-- the laws of places and columns in a line
+pub place-back : (e : Encoding) (line : List ℕ) (place : ℕ) → IsBoundary e line place
+    → place_in_line e line (column e line place) ≡ place
+place-back e line place at =
+    let cs = characters e line in
+    let sized = characters-sized e line in
+    ap (λ p. place_in_line e line (column e line p)) at.1
+    ∙ there_and_back (λ c. c.bytes) (λ c. c.units) at.0 cs (all_bytes cs sized) (all_units cs sized)
+    ∙ sym at.1
+
+pub column-back : (e : Encoding) (line : List ℕ) (col : ℕ) → IsColumn e line col
+    → column e line (place_in_line e line col) ≡ col
+column-back e line col at =
+    let cs = characters e line in
+    let sized = characters-sized e line in
+    ap (λ n. column e line (place_in_line e line n)) at.1
+    ∙ there_and_back (λ c. c.units) (λ c. c.bytes) at.0 cs (all_units cs sized) (all_bytes cs sized)
+    ∙ sym at.1
+
+pub names_a_place : (e : Encoding) (line : List ℕ) (col : ℕ)
+    → IsBoundary e line (place_in_line e line col)
+names_a_place e line col =
+    let front = fitting-front (λ c. c.units) col (characters e line) in
+    (front.0, ap (sum_by (λ c. c.bytes)) front.1)
+
+pub has_a_column : (e : Encoding) (line : List ℕ) (place : ℕ)
+    → IsColumn e line (column e line place)
+has_a_column e line place =
+    let front = fitting-front (λ c. c.bytes) place (characters e line) in
+    (front.0, ap (sum_by (λ c. c.units)) front.1)

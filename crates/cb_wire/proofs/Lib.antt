@@ -1,1 +1,3 @@
 pub mod Fitting
+pub mod Lines
+pub mod Positions

@@ -1,6 +1,8 @@
 //! What holds of columns and places, as functions that do nothing and whose contracts are the laws.
-ghost use Rattle.std.specs.Prelude.{◌≡◌, ℕ, List};
+ghost use Rattle.std.specs.Prelude.{◌≡◌, ◌≤◌, ℕ, List};
+ghost use Rattle.cb_wire.specs.declared.position.Position.{Position};
 ghost use Rattle.cb_wire.specs.declared.units.Encoding.{Encoding};
+ghost use Rattle.cb_wire.specs.Positions.{IsPlace, IsPosition, line_feeds, place, position};
 ghost use Rattle.cb_wire.specs.Units.{IsBoundary, IsColumn, column, place_in_line};
 
 /// Within a line: the place of the column of a place is that place, where a character begins there,
@@ -15,4 +17,18 @@ pub fn columns_are_inverse()
         → IsBoundary e line (place_in_line e line col) }
     ensures has_a_column { (e : Encoding) (line : List ℕ) (place : ℕ)
         → IsColumn e line (column e line place) }
+{}
+
+/// In a text: the place of the position of a place is that place, where a character of a shown line
+/// begins there, and the position of the place of a position is that position. Every position on a
+/// line of the text names such a place, and every place has such a position.
+pub fn positions_are_inverse()
+    ensures place { (e : Encoding) (text : List ℕ) (at : ℕ) → IsPlace e text at
+        → place e text (position e text at) ≡ at }
+    ensures position { (e : Encoding) (text : List ℕ) (p : Position) → IsPosition e text p
+        → position e text (place e text p) ≡ p }
+    ensures names_a_place { (e : Encoding) (text : List ℕ) (p : Position)
+        → p.line ≤ line_feeds text → IsPlace e text (place e text p) }
+    ensures has_a_position { (e : Encoding) (text : List ℕ) (at : ℕ)
+        → IsPosition e text (position e text at) }
 {}

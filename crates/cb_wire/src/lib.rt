@@ -4,6 +4,8 @@
 #![tactic(auto)]
 
 pub mod laws;
+mod position;
 mod units;
 
+pub use position::{Position, line_at, place_of_position, position_of_place};
 pub use units::{Encoding, column_of_place, place_of_column};
