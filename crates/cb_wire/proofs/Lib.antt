@@ -1,3 +1,5 @@
+pub mod Escapes
 pub mod Fitting
 pub mod Lines
 pub mod Positions
+pub mod Roots

@@ -5,7 +5,11 @@
 
 pub mod laws;
 mod position;
+mod root;
 mod units;
+mod uri;
 
 pub use position::{Position, line_at, place_of_position, position_of_place};
+pub use root::Root;
 pub use units::{Encoding, column_of_place, place_of_column};
+pub use uri::{path_of_uri, put_escaped};
