@@ -1,5 +1,9 @@
+pub mod Digits
 pub mod Escapes
 pub mod Fitting
+pub mod Frames
 pub mod Lines
 pub mod Positions
+pub mod ReadBodies
+pub mod ReadHeads
 pub mod Roots

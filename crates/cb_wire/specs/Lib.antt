@@ -1,3 +1,7 @@
+pub mod Fields
+pub mod Frames
+pub mod Heads
 pub mod Positions
 pub mod Units
 pub mod Uris
+pub mod steps

@@ -3,12 +3,16 @@
 //! It knows nothing of files and of what they define.
 #![tactic(auto)]
 
+mod frame;
+mod head;
+mod header;
 pub mod laws;
 mod position;
 mod root;
 mod units;
 mod uri;
 
+pub use frame::{Frame, FrameError, MOST_BODY};
 pub use position::{Position, line_at, place_of_position, position_of_place};
 pub use root::Root;
 pub use units::{Encoding, column_of_place, place_of_column};
