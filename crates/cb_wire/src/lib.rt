@@ -7,12 +7,14 @@ mod frame;
 mod head;
 mod header;
 pub mod laws;
+mod message;
 mod position;
 mod root;
 mod units;
 mod uri;
 
 pub use frame::{Frame, FrameError, MOST_BODY};
+pub use message::{Call, Id, Message, OutOfMemory, message_of, text_of, value_of};
 pub use position::{Position, line_at, place_of_position, position_of_place};
 pub use root::Root;
 pub use units::{Encoding, column_of_place, place_of_column};
