@@ -6,4 +6,5 @@ pub mod Lines
 pub mod Positions
 pub mod ReadBodies
 pub mod ReadHeads
+pub mod Readable
 pub mod Roots

@@ -4,5 +4,7 @@ pub mod Heads
 pub mod Messages
 pub mod Positions
 pub mod Units
+pub mod Replies
+pub mod Texts
 pub mod Uris
 pub mod steps

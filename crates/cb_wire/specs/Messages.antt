@@ -1,5 +1,5 @@
 -- What the body of a message asks for.
-use Rattle.std.specs.Prelude.{◌≡◌, ◌&&◌, ◌||◌, ℕ, Bool, true, false, cond, codes, List, Option, Some, None}
+use Rattle.std.specs.Prelude.{◌≡◌, ◌&&◌, ◌||◌, ℕ, Bool, cond, codes, List, Option, Some, None}
 use Rattle.std.specs.Prelude.{FitsSigned, option_map, is_some}
 use Rattle.std.specs.Int.{w64}
 use Rattle.std.specs.Str.Parse.{IsNumeral, signed_digits_value, without_leading_sign}
