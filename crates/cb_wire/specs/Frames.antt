@@ -1,5 +1,5 @@
 -- Messages as they come in a stream.
-use Rattle.std.specs.Prelude.{◌≡◌, ◌++◌, ℕ, nat_lt, cond, codes, decimal, List, [], ◌∷◌, length, take}
+use Rattle.std.specs.Prelude.{◌≡◌, ℕ, nat_lt, cond, List, [], ◌∷◌, length, take}
 use Rattle.std.specs.Prelude.{drop, Option, Some, None, Result, Ok, Err}
 use Rattle.cb_tags.specs.declared.feed.Stage.TheVariants.{Failed}
 use Rattle.cb_tags.specs.Readers.{Reader}
@@ -51,7 +51,3 @@ ReadsFrame f left (Ok End) = (f ≡ nothing) × (left.bytes ≡ Some [])
 ReadsFrame f left (Err BadHeader) = f ≡ bad_header
 ReadsFrame f left (Err InputEnded) = f ≡ cut_off
 ReadsFrame f left (Err Read) = left.stage ≡ Failed
-
--- a message as it is written
-abbrev pub frame : List ℕ → List ℕ
-frame text = codes "Content-Length: " ++ (decimal (length text) ++ (codes "\r\n\r\n" ++ text))

@@ -15,7 +15,7 @@ mod root;
 mod units;
 mod uri;
 
-pub use frame::{Frame, FrameError, MOST_BODY};
+pub use frame::{Frame, FrameError, Frames, MOST_BODY};
 pub use message::{Call, Id, Message, OutOfMemory, message_of, text_of, value_of};
 pub use part::{Part, part_length, parts_length, put_message, put_parts};
 pub use position::{Position, line_at, place_of_position, position_of_place};
