@@ -1,7 +1,7 @@
 pub mod Digits
 pub mod Escapes
 pub mod Fitting
-pub mod Frames
+pub mod FrameLemmas
 pub mod Lines
 pub mod Positions
 pub mod ReadBodies

@@ -14,9 +14,11 @@ use Rattle.bstr.proofs.lemmas.LineLemmas.{line_len-bounds, lines-step}
 use Rattle.cb_wire.specs.declared.position.Position.{Position}
 use Rattle.cb_wire.specs.declared.units.Encoding.{Encoding}
 use Rattle.cb_wire.specs.Units.{column, place_in_line}
-use Rattle.cb_wire.specs.Positions.{line_feeds, line_start, shown_line, place, position, position_on}
+use Rattle.cb_wire.specs.Positions.{line_feeds, line_start, shown_line, place, position}
+use Rattle.cb_wire.specs.Positions.{position_on}
 use Rattle.cb_wire.specs.Positions.{IsPlace, IsPosition}
-use Rattle.cb_wire.proofs.Fitting.{boundary-within, column-back, has_a_column, names_a_place, place-back}
+use Rattle.cb_wire.proofs.Fitting.{boundary-within, column-back, has_a_column}
+use Rattle.cb_wire.proofs.Fitting.{names_a_place, place-back}
 
 -- a byte before some bytes is a line feed, or is none
 feeds-yes : (b : ℕ) (bs : List ℕ) → (b == 10) ≡ true → line_feeds (b ∷ bs) ≡ 1 + line_feeds bs

@@ -7,8 +7,8 @@ use Rattle.cb_wire.specs.declared.head.Line.TheVariants.{Start, Return, Text, Te
 use Rattle.cb_wire.specs.declared.head.Step.{Step}
 use Rattle.cb_wire.specs.declared.head.Step.TheVariants.{On, End, Bad}
 
--- one byte more of a line: each ends in a carriage return and a line feed, and an empty one ends the
--- head
+-- one byte more of a line: each ends in a carriage return and a line feed, and an empty one ends
+-- the head
 abbrev pub next : Line → ℕ → Step
 next Start b = cond (b == 10) Bad (On (cond (b == 13) Return Text))
 next Return b = cond (b == 10) End (On (cond (b == 13) TextReturn Text))

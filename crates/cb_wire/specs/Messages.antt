@@ -12,7 +12,8 @@ use Rattle.cb_wire.specs.declared.message.Call.{Call}
 use Rattle.cb_wire.specs.declared.message.Id.{Id}
 use Rattle.cb_wire.specs.declared.message.Id.TheVariants.{Number, Text}
 use Rattle.cb_wire.specs.declared.message.Message.{Message}
-use Rattle.cb_wire.specs.declared.message.Message.TheVariants.{NotRequest, Reply, Notification, Request}
+use Rattle.cb_wire.specs.declared.message.Message.TheVariants.{NotRequest, Reply, Notification}
+use Rattle.cb_wire.specs.declared.message.Message.TheVariants.{Request}
 
 -- the text of a body: U+FFFD stands for each maximal piece that is no UTF-8
 abbrev pub text_of : List ℕ → List ℕ
@@ -65,7 +66,8 @@ JudgesId (Some i) method params m =
 -- a message, by its method
 abbrev pub JudgesMethod : Option Json → Json → Message → Type 0
 JudgesMethod None j m =
-    m ≡ cond (has (codes "id") j && (has (codes "result") j || has (codes "error") j)) Reply NotRequest
+    m ≡ cond (has (codes "id") j && (has (codes "result") j || has (codes "error") j)) Reply
+    NotRequest
 JudgesMethod (Some (string s)) j m =
     JudgesId (get (codes "id") j) s (get (codes "params") j) m
 JudgesMethod (Some null) j m = m ≡ NotRequest

@@ -42,7 +42,8 @@ IsPlace encoding text at =
     (line : ℕ) × (n : ℕ) × (line ≤ line_feeds text) × (at ≡ line_start text line + n)
     × IsBoundary encoding (shown_line text line) n
 
--- a position where a character of a shown line begins, or the end of one; the last line may be empty
+-- a position where a character of a shown line begins, or the end of one; the last line may be
+-- empty
 abbrev pub IsPosition : Encoding → List ℕ → Position → Type 0
 IsPosition encoding text p =
     (p.line ≤ line_feeds text) × IsColumn encoding (shown_line text p.line) p.character

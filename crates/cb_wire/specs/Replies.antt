@@ -37,11 +37,13 @@ error_body id code text more =
 -- a text that is logged
 abbrev pub log_body : List ℕ → List ℕ
 log_body text =
-    codes "{\"jsonrpc\":\"2.0\",\"method\":\"window/logMessage\",\"params\":{\"type\":1,\"message\":\"cbrowse: "
-    ++ (escape text ++ codes "\"}}")
+    codes "{\"jsonrpc\":\"2.0\",\"method\":\"window/logMessage\","
+    ++ (codes "\"params\":{\"type\":1,\"message\":\"cbrowse: "
+    ++ (escape text ++ codes "\"}}"))
 
 -- a text on a name that is shown
 abbrev pub show_body : List ℕ → List ℕ → List ℕ
 show_body name text =
-    codes "{\"jsonrpc\":\"2.0\",\"method\":\"window/showMessage\",\"params\":{\"type\":2,\"message\":\"cbrowse: "
-    ++ (escape name ++ (codes ": " ++ (escape text ++ codes "\"}}")))
+    codes "{\"jsonrpc\":\"2.0\",\"method\":\"window/showMessage\","
+    ++ (codes "\"params\":{\"type\":2,\"message\":\"cbrowse: "
+    ++ (escape name ++ (codes ": " ++ (escape text ++ codes "\"}}"))))

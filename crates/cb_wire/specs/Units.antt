@@ -16,8 +16,8 @@ abbrev pub sequence : Option ℕ → ℕ → Character
 sequence None size = one_byte
 sequence (Some c) size = record { bytes = size; units = cond (size == 4) 2 1 }
 
--- the first character of a line: in UTF-16 the well-formed sequence of UTF-8 that stands there, or a
--- byte alone where none does; in UTF-8 each byte
+-- the first character of a line: in UTF-16 the well-formed sequence of UTF-8 that stands there, or
+-- a byte alone where none does; in UTF-8 each byte
 abbrev pub first : Encoding → List ℕ → Character
 first Utf8 line = one_byte
 first Utf16 line = sequence (decoded line).char (decoded line).size
@@ -45,8 +45,8 @@ abbrev pub fitting : (Character → ℕ) → ℕ → List Character → List Cha
 fitting size room [] = []
 fitting size room (c ∷ cs) = cond (nat_le (size c) room) (c ∷ fitting size (room - size c) cs) []
 
--- the column of a place in a line: the units of the characters before it. A place within a character
--- has the column of that character, and one past the end that of the end
+-- the column of a place in a line: the units of the characters before it. A place within a
+-- character has the column of that character, and one past the end that of the end
 abbrev pub column : Encoding → List ℕ → ℕ → ℕ
 column encoding line place = units_of (fitting (λ c. c.bytes) place (characters encoding line))
 

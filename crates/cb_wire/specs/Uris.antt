@@ -27,7 +27,8 @@ if_path text = cond (begins_with_slash text) (Some text) None
 -- `file://`, and then a path, or `localhost` and a path
 abbrev pub on_this_host : List ℕ → Option (List ℕ)
 on_this_host text =
-    cond (begins_with_slash text) (Some text) (option_and_then if_path (after (codes "localhost") text))
+    cond (begins_with_slash text) (Some text)
+    (option_and_then if_path (after (codes "localhost") text))
 
 -- the path of a file URI, as it stands there
 abbrev pub escaped_path : List ℕ → Option (List ℕ)
@@ -39,7 +40,8 @@ path_of uri = option_map percent_decode (escaped_path uri)
 
 -- a byte that stands for itself in a URI that is written
 abbrev pub is_kept : ℕ → Bool
-is_kept b = is_ascii_alphanumeric b || (b == 45 || (b == 46 || (b == 95 || (b == 126 || b == slash))))
+is_kept b =
+    is_ascii_alphanumeric b || (b == 45 || (b == 46 || (b == 95 || (b == 126 || b == slash))))
 
 -- the other bytes are `%` and two capital hexadecimal digits
 abbrev pub escape_byte : ℕ → List ℕ

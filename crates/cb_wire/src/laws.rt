@@ -1,4 +1,5 @@
-//! What holds of columns, positions and names, as functions that do nothing and whose contracts are the laws.
+//! What holds of columns, positions and names, as functions that do nothing and whose contracts are
+//! the laws.
 ghost use Rattle.std.specs.Prelude.{◌≡◌, ◌≤◌, ◌<◌, ℕ, true, All, List, [], Some, option_map};
 ghost use Rattle.cb_wire.specs.declared.position.Position.{Position};
 ghost use Rattle.cb_wire.specs.declared.units.Encoding.{Encoding};
@@ -53,7 +54,8 @@ pub fn roots_are()
     ensures uri { (uri path : List ℕ) → escaped_path uri ≡ Some path → IsRoot (of_uri uri path) }
 {}
 
-/// The name of the URI of a name is the name, unless it begins with a slash and lies below the root.
+/// The name of the URI of a name is the name, unless it begins with a slash and lies below the
+/// root.
 pub fn names_are_read_back()
     ensures { (root : Below) (name : List ℕ) → IsRoot root → All (λ b. b < 256) name
         → (begins_with_slash name ≡ true → IsBelow root.path name → ⊥)

@@ -43,8 +43,8 @@ pub enum Message<'v, 'a> {
     Request(Id<'a>, Call<'v, 'a>),
 }
 
-/// The text of a body, with U+FFFD for each maximal piece that is no UTF-8. Memory is taken only for
-/// a body that is no UTF-8.
+/// The text of a body, with U+FFFD for each maximal piece that is no UTF-8. Memory is taken only
+/// for a body that is no UTF-8.
 pub fn text_of(alloc: Global, body: &[u8]) -> Result<CowStr<'_, Global>, AllocError>
     ensures { IfOk result (λ text. cow_str_bytes text ≡ text_of body.now) }
 {

@@ -123,9 +123,8 @@ pub fn put_log<W: Write>(out: &mut Sink<W>, text: &[u8]) -> Result<(), WriteFaul
     put_message(
         out,
         &[
-            Part::Raw(
-                b"{\"jsonrpc\":\"2.0\",\"method\":\"window/logMessage\",\"params\":{\"type\":1,\"message\":\"cbrowse: ",
-            ),
+            Part::Raw(b"{\"jsonrpc\":\"2.0\",\"method\":\"window/logMessage\","),
+            Part::Raw(b"\"params\":{\"type\":1,\"message\":\"cbrowse: "),
             Part::Escaped(text),
             Part::Raw(b"\"}}"),
         ],
@@ -143,9 +142,8 @@ pub fn put_show<'a, W: Write>(
     put_message(
         out,
         &[
-            Part::Raw(
-                b"{\"jsonrpc\":\"2.0\",\"method\":\"window/showMessage\",\"params\":{\"type\":2,\"message\":\"cbrowse: ",
-            ),
+            Part::Raw(b"{\"jsonrpc\":\"2.0\",\"method\":\"window/showMessage\","),
+            Part::Raw(b"\"params\":{\"type\":2,\"message\":\"cbrowse: "),
             Part::Escaped(name),
             Part::Raw(b": "),
             Part::Escaped(text),

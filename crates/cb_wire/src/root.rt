@@ -3,7 +3,15 @@ ghost use Rattle.std.specs.Prelude.{◌≡◌, ◌++◌, ◌-◌, ◌≤◌, IfO
 ghost use Rattle.std.specs.List.{flat_map};
 ghost use Rattle.std.specs.Option.{option_map};
 ghost use Rattle.cb_tags.specs.Writing.{Puts};
-ghost use Rattle.cb_wire.specs.Uris.{name_below, escaped, of_folder, of_uri, uri_of, escaped_path, without_slashes};
+ghost use Rattle.cb_wire.specs.Uris.{
+  name_below,
+  escaped,
+  escaped_path,
+  of_folder,
+  of_uri,
+  uri_of,
+  without_slashes,
+};
 
 use crate::uri::{
     append_escaped, begins_with_slash, below, escaped_path, last_slashes, put_escaped,

@@ -4,7 +4,7 @@ use Rattle.cb_wire.specs.declared.frame.Frame.TheVariants.{Body, TooLarge, OutOf
 use Rattle.cb_wire.specs.declared.frame.FrameError.TheVariants.{InputEnded}
 use Rattle.cb_wire.specs.Frames.{ReadsFrame, first_body}
 use Rattle.cb_wire.specs.steps.ReadBodies.{ReadsBody, Skips}
-use Rattle.cb_wire.proofs.Frames.{body-ended, body-large, body-read, body-refused, frame-failed}
+use Rattle.cb_wire.proofs.FrameLemmas.{body-ended, body-large, body-read, body-refused, frame-failed}
 use Rattle.cb_wire.proofs.frame.first_body.Goals as goal
 
 pub returns-in_err-skip-clause-follows : goal.returns-in_err-skip-clause-follows

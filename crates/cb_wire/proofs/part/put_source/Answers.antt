@@ -1,6 +1,7 @@
 use Rattle.std.proofs.Common.{arith, refl}
 use Rattle.cb_tags.proofs.Prefixes.{Puts-fault}
-use Rattle.cb_wire.proofs.Readable.{escape-step, written-all, written-fault, written-more, written-none}
+use Rattle.cb_wire.proofs.Readable.{escape-step, written-all, written-fault}
+use Rattle.cb_wire.proofs.Readable.{written-more, written-none}
 use Rattle.cb_wire.proofs.part.put_source.Goals as goal
 
 pub returns-in_err-put_json : goal.returns-in_err-put_json

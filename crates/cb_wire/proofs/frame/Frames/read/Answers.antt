@@ -3,8 +3,8 @@ use Rattle.cb_wire.specs.declared.frame.Frame.TheVariants.{End}
 use Rattle.cb_wire.specs.declared.frame.FrameError.TheVariants.{BadHeader, InputEnded}
 use Rattle.cb_wire.specs.Fields.{content_length}
 use Rattle.cb_wire.specs.Frames.{ReadsFrame, first}
-use Rattle.cb_wire.proofs.Frames.{Follows-known, frame-bad, frame-end, frame-ended, frame-fault}
-use Rattle.cb_wire.proofs.Frames.{frame-none, frame-then}
+use Rattle.cb_wire.proofs.FrameLemmas.{Follows-known, frame-bad, frame-end, frame-ended, frame-fault}
+use Rattle.cb_wire.proofs.FrameLemmas.{frame-none, frame-then}
 use Rattle.cb_wire.proofs.frame.Frames.read.Goals as goal
 
 pub returns-in_err-read_head : goal.returns-in_err-read_head

@@ -1,6 +1,7 @@
 -- A message that is read is the first of the stream.
 use Rattle.std.proofs.Common.{◌≡◌, ◌≢◌, ℕ, ◌<◌, ◌≤◌, true, false, List, [], ◌∷◌, ◌++◌, length}
-use Rattle.std.proofs.Common.{take, drop, Option, Some, None, Result, Ok, Err, refl, sym, ap, ◌∙◌, subst}
+use Rattle.std.proofs.Common.{take, drop, Option, Some, None, Result, Ok, Err, refl, sym, ap, ◌∙◌}
+use Rattle.std.proofs.Common.{subst}
 use Rattle.std.proofs.Common.{arith, nat_lt}
 use Rattle.std.specs.Io.KnownBytes.{Consumes}
 use Rattle.cb_tags.specs.Readers.{Reader, WhateverFollows}
@@ -8,7 +9,8 @@ use Rattle.cb_tags.proofs.Follows.{Follows-so, Follows-then, Some-same}
 use Rattle.cb_wire.specs.declared.frame.Frame.{Frame}
 use Rattle.cb_wire.specs.declared.frame.FrameError.{FrameError}
 use Rattle.cb_wire.specs.Fields.{content_length}
-use Rattle.cb_wire.specs.Frames.{First, ReadsFrame, bad_header, body, cut_off, first, first_body, nothing}
+use Rattle.cb_wire.specs.Frames.{First, ReadsFrame, bad_header, body, cut_off, first}
+use Rattle.cb_wire.specs.Frames.{first_body, nothing}
 use Rattle.cb_wire.specs.Frames.{of_head, of_length}
 use Rattle.cb_wire.specs.Heads.{head, head_from, whole, bad, ended}
 use Rattle.cb_wire.specs.declared.frame.TheConstants.{MOST_BODY}
