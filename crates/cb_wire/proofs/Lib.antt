@@ -8,3 +8,4 @@ pub mod ReadBodies
 pub mod ReadHeads
 pub mod Readable
 pub mod Roots
+pub mod Trees

@@ -6,5 +6,6 @@ pub mod Positions
 pub mod Units
 pub mod Replies
 pub mod Texts
+pub mod Trees
 pub mod Uris
 pub mod steps

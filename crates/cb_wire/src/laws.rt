@@ -1,9 +1,17 @@
 //! What holds of columns, positions and names, as functions that do nothing and whose contracts are
 //! the laws.
-ghost use Rattle.std.specs.Prelude.{◌≡◌, ◌≤◌, ◌<◌, ℕ, true, All, List, [], Some, option_map};
+ghost use Rattle.std.specs.Prelude.{◌≡◌, ◌≤◌, ◌<◌, ◌++◌, ℕ, codes, true, All, List, [], Some, option_map};
+ghost use Rattle.json.specs.Json.{Json, document, max_depth};
+ghost use Rattle.json.specs.Print.{print};
+ghost use Rattle.json.specs.Tree.{HasNumbers, depth, json_tokens};
+ghost use Rattle.cb_wire.specs.declared.message.Id.{Id};
 ghost use Rattle.cb_wire.specs.declared.position.Position.{Position};
 ghost use Rattle.cb_wire.specs.declared.units.Encoding.{Encoding};
+ghost use Rattle.cb_wire.specs.Messages.{id_json};
 ghost use Rattle.cb_wire.specs.Positions.{IsPlace, IsPosition, line_feeds, place, position};
+ghost use Rattle.cb_wire.specs.declared.reply.ErrorCode.{ErrorCode};
+ghost use Rattle.cb_wire.specs.Replies.{error_body, log_body, result_body, show_body};
+ghost use Rattle.cb_wire.specs.Trees.{error_tree, notice_tree, result_tree};
 ghost use Rattle.cb_wire.specs.Uris.{
   Below,
   IsBelow,
@@ -60,4 +68,19 @@ pub fn names_are_read_back()
     ensures { (root : Below) (name : List ℕ) → IsRoot root → All (λ b. b < 256) name
         → (begins_with_slash name ≡ true → IsBelow root.path name → ⊥)
         → option_map (name_below root.path) (path_of (uri_of root name)) ≡ Some name }
+{}
+
+/// What is written is JSON: a reply whose result is the text of a value reads back as the reply
+/// with that value, and so do errors, texts that are logged, and those that are shown.
+pub fn messages_are_read_back()
+    ensures result { (id : Id) (j : Json) → HasNumbers (id_json id) → HasNumbers j
+        → depth j < max_depth
+        → document (result_body id (print (json_tokens j))) ≡ Some (result_tree id j) }
+    ensures error { (id : Id) (code : ErrorCode) (text more : List ℕ) → HasNumbers (id_json id)
+        → document (error_body id code text more) ≡ Some (error_tree id code (text ++ more)) }
+    ensures log { (text : List ℕ) → document (log_body text)
+        ≡ Some (notice_tree (codes "window/logMessage") (codes "1") (codes "cbrowse: " ++ text)) }
+    ensures show { (name text : List ℕ) → document (show_body name text)
+        ≡ Some (notice_tree (codes "window/showMessage") (codes "2")
+        (codes "cbrowse: " ++ (name ++ (codes ": " ++ text)))) }
 {}
