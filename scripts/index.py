@@ -23,8 +23,17 @@ from cases import cases_of
 from edits import TOP, Edit, Function, all_functions, edits, snake
 
 PAGE = TOP / "docs" / "INDEX.md"
-CRATES = ["cb_scan", "cb_tags", "cb_index", "cb_desk", "cb_session", "cb_words", "cbrowse"]
-TESTS = ["text_tests", "index_tests", "desk_tests"]
+CRATES = [
+    "cb_scan",
+    "cb_tags",
+    "cb_wire",
+    "cb_index",
+    "cb_desk",
+    "cb_session",
+    "cb_words",
+    "cbrowse",
+]
+TESTS = ["text_tests", "wire_tests", "index_tests", "desk_tests"]
 MOST = 3  # of a kind are named, and the rest is counted
 
 # The input lines of a session that ask for a function.

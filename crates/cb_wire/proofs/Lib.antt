@@ -1,0 +1,11 @@
+pub mod Digits
+pub mod Escapes
+pub mod Fitting
+pub mod FrameLemmas
+pub mod Lines
+pub mod Positions
+pub mod ReadBodies
+pub mod ReadHeads
+pub mod Readable
+pub mod Roots
+pub mod Trees

@@ -1,0 +1,41 @@
+use Rattle.std.proofs.Common.{arith, ap, length, length-append}
+use Rattle.json.specs.Print.{escape}
+use Rattle.cb_wire.specs.Texts.{readable}
+use Rattle.cb_wire.proofs.Readable.{escape-step, readable-nil}
+use Rattle.cb_wire.proofs.part.source_length.Goals as goal
+
+pub sequences-preserved : goal.sequences-preserved
+sequences-preserved c =
+    let s = c.sequence-size in
+    let left = c.sequences.rest.now in
+    let step =
+    escape-step left c.split_at.result.1.now s.result.0.now s.result.1 c.sequences-test.true
+    s.ensures.text s.ensures.size c.split_at.ensures.back in
+    record {
+      value =
+          omega (
+            arith,
+            c.sequences.invariant.value,
+            ap length step,
+            length-append (escape s.result.0.now) (escape (readable c.split_at.result.1.now)),
+            c.json_length-total.ensures.value,
+          );
+      few =
+          omega (
+            arith,
+            c.sequences.invariant.few,
+            c.json_length-total.ensures.few,
+            s.ensures.few,
+            s.ensures.within,
+            c.split_at.ensures.back_len,
+          );
+    }
+
+pub returns-clause-value : goal.returns-clause-value
+returns-clause-value c =
+    let left = c.sequences.rest.now in
+    omega (
+      arith,
+      c.sequences.invariant.value,
+      ap (λ l. length (escape l)) (readable-nil left (omega (arith, c.sequences-test.false))),
+    )

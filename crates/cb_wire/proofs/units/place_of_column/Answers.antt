@@ -1,0 +1,28 @@
+use Rattle.std.proofs.Common.{arith}
+use Rattle.cb_wire.proofs.Fitting.{measured-end, measured-stop, measured-step}
+use Rattle.cb_wire.proofs.units.place_of_column.Goals as goal
+
+pub returns-then-next-left-clause-value : goal.returns-then-next-left-clause-value
+returns-then-next-left-clause-value c =
+    let last =
+    measured-stop (λ c. c.units) (λ c. c.bytes) c.args.encoding c.characters.rest.now c.characters.left
+    c.in-Some.next c.in-Some.ensures.value c.in-Some.ensures.some c.if-next-left.true in
+    omega (arith, last, c.characters.invariant.value)
+
+pub returns-clause-value : goal.returns-clause-value
+returns-clause-value c =
+    let last =
+    measured-end (λ c. c.units) (λ c. c.bytes) c.args.encoding c.characters.rest.now c.characters.left
+    c.in_default.ensures.end in
+    omega (arith, last, c.characters.invariant.value)
+
+pub characters-preserved : goal.characters-preserved
+characters-preserved c =
+    let more =
+    measured-step (λ c. c.units) (λ c. c.bytes) c.args.encoding c.characters.rest.now c.characters.left
+    c.in-Some.next c.in-Some.ensures.value c.in-Some.ensures.some c.split_at.result.1.now
+    c.split_at.ensures.back c.if-next-left.false in
+    record {
+      value = omega (arith, more, c.characters.invariant.value);
+      within = omega (arith, c.split_at.ensures.back_len, c.in-Some.ensures.units);
+    }

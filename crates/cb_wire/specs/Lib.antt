@@ -1,0 +1,11 @@
+pub mod Fields
+pub mod Frames
+pub mod Heads
+pub mod Messages
+pub mod Positions
+pub mod Units
+pub mod Replies
+pub mod Texts
+pub mod Trees
+pub mod Uris
+pub mod steps

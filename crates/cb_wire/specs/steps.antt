@@ -1,0 +1,2 @@
+pub mod ReadBodies
+pub mod ReadHeads

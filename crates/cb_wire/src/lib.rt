@@ -1,0 +1,27 @@
+//! The lowest part of a language server: what goes over the wire.
+//!
+//! It knows nothing of files and of what they define.
+#![tactic(auto)]
+
+mod frame;
+mod head;
+mod header;
+pub mod laws;
+mod message;
+mod part;
+mod position;
+mod reply;
+mod root;
+mod units;
+mod uri;
+
+pub use frame::{Frame, FrameError, Frames, MOST_BODY};
+pub use message::{Call, Id, Message, OutOfMemory, message_of, text_of, value_of};
+pub use part::{Part, part_length, parts_length, put_message, put_parts};
+pub use position::{Position, line_at, place_of_position, position_of_place};
+pub use reply::{
+    ErrorCode, put_error, put_log, put_result, put_result_end, put_result_head, put_show,
+};
+pub use root::Root;
+pub use units::{Encoding, column_of_place, place_of_column};
+pub use uri::{path_of_uri, put_escaped};

@@ -1,0 +1,115 @@
+//! The folder that names are relative to.
+ghost use Rattle.std.specs.Prelude.{◌≡◌, ◌++◌, ◌-◌, ◌≤◌, IfOk, length, take};
+ghost use Rattle.std.specs.List.{flat_map};
+ghost use Rattle.std.specs.Option.{option_map};
+ghost use Rattle.cb_tags.specs.Writing.{Puts};
+ghost use Rattle.cb_wire.specs.Uris.{
+  name_below,
+  escaped,
+  escaped_path,
+  of_folder,
+  of_uri,
+  uri_of,
+  without_slashes,
+};
+
+use crate::uri::{
+    append_escaped, begins_with_slash, below, escaped_path, last_slashes, put_escaped,
+};
+use cb_tags::{Sink, WriteFault, put_texts};
+use percent_encoding::percent_decode;
+use std::alloc::{AllocError, Global};
+use std::io::Write;
+use std::marker::Model;
+
+/// The folder that names are relative to: its path, and its URI as it is written.
+#[derive(Debug, Drop)]
+pub struct Root {
+    path: Vec<u8>,
+    uri: Vec<u8>,
+}
+
+impl Model for Root {
+    ghost use Rattle.cb_wire.specs.Uris.{Below};
+
+    ghost Value = { Below };
+
+    ghost view = { λ root. record { path = root.path.items; uri = root.uri.items } };
+}
+
+/// A text without its last bytes.
+fn without(count: usize, text: &[u8]) -> &[u8]
+    requires { count ≤ length text.now }
+    ensures { result.now ≡ without_slashes count text.now }
+{
+    text.split_at(text.len() - count).0
+}
+
+impl Root {
+    /// The root that is this folder, whose path begins with a slash; or no folder, where it has no
+    /// bytes.
+    pub fn of_folder(alloc: Global, folder: &[u8]) -> Result<Root, AllocError>
+        ensures { IfOk result (λ root. root ≡ of_folder folder.now) }
+    {
+        let folder = without(last_slashes(folder), folder);
+        let mut path = Vec::new(alloc);
+        path.extend_from_slice(folder)?;
+        let mut uri = Vec::new(alloc);
+        uri.extend_from_slice(b"file://")?;
+        append_escaped(&mut uri, folder)?;
+        Ok(Root { path, uri })
+    }
+
+    /// The root that a file URI names; `None` for any other text.
+    pub fn of_uri(alloc: Global, uri: &[u8]) -> Result<Option<Root>, AllocError>
+        ensures { IfOk result
+            (λ root. root ≡ option_map (of_uri uri.now) (escaped_path uri.now)) }
+    {
+        let Some(escaped) = escaped_path(uri) else {
+            return Ok(None);
+        };
+        let slashes = last_slashes(escaped);
+        let mut path = Vec::new(alloc);
+        percent_decode(without(slashes, escaped)).append_to(&mut path)?;
+        let mut text = Vec::new(alloc);
+        text.extend_from_slice(without(slashes, uri))?;
+        Ok(Some(Root { path, uri: text }))
+    }
+
+    /// The name of the file at a path: the path below the root, or else the whole path.
+    pub fn name<'a>(&self, path: &'a [u8]) -> &'a [u8]
+        ensures { result.now ≡ name_below self.now.path path.now }
+    {
+        match below(self.path.as_slice(), path) {
+            Some(name) => name,
+            None => path,
+        }
+    }
+
+    /// The URI of the root, as it is written.
+    pub fn uri(&self) -> &[u8]
+        ensures { result.now ≡ self.now.uri }
+    {
+        self.uri.as_slice()
+    }
+
+    /// What stands before a name in its URI.
+    fn front(&self, name: &[u8]) -> [&[u8]; 2]
+        ensures { flat_map (λ part. part.now) result ++ escaped name.now
+            ≡ uri_of self.now name.now }
+    {
+        if begins_with_slash(name) {
+            [b"file://", b""]
+        } else {
+            [self.uri.as_slice(), b"/"]
+        }
+    }
+
+    /// Writes the URI of a name.
+    pub fn put_uri<W: Write>(&self, out: &mut Sink<W>, name: &[u8]) -> Result<(), WriteFault>
+        ensures { Puts out.old out.new result (uri_of self.now name.now) }
+    {
+        put_texts(out, &self.front(name))?;
+        put_escaped(out, name)
+    }
+}

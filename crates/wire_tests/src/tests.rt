@@ -1,0 +1,5 @@
+mod columns;
+mod frames;
+mod messages;
+mod replies;
+mod uris;
