@@ -47,7 +47,8 @@ use Rattle.cb_scan.proofs.WideInduction.{IsSame, coming, holds_at_start, later}
 use Rattle.cb_scan.proofs.WidePass.{block_is}
 use Rattle.cb_scan.proofs.WideRanges.{calls_are}
 use Rattle.cb_scan.proofs.WideSegments.{IsInner, after, after_depth, along, depth_inner}
-use Rattle.cb_scan.proofs.WideSegments.{depth_next_is, headed_all, machine_seen, next_inner, opens_nothing}
+use Rattle.cb_scan.proofs.WideSegments.{depth_next_is, headed_all, machine_seen}
+use Rattle.cb_scan.proofs.WideSegments.{next_inner, opens_nothing}
 use Rattle.cb_scan.proofs.WideTaken.{left_of, taken_of}
 use Rattle.cb_scan.proofs.WideTokens.{tokens_are}
 
