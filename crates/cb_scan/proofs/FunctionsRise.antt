@@ -125,46 +125,16 @@ part_of_rest P (x ∷ xs) (suc k) zero (suc m) behind a = absurd (omega arith)
 part_of_rest P (x ∷ xs) zero (suc h) (suc m) behind a = part_of_rest P xs zero h m (omega arith) a.1
 part_of_rest P (x ∷ xs) (suc k) (suc h) (suc m) behind a = part_of_rest P xs k h m (omega arith) a
 
--- the functions whose `{` is after a body that token a is in are named by tokens after token a
-later_names : (P : Token → Type 0) (ts : List Token) (a k n : ℕ) → a ≤ k
-    → ((j : ℕ) → k ≤ j → (0 < depth ts j) ⊎ Anew ts a j) → AllByRecursion P (drop a ts)
-    → AllByRecursion P (map function_name (flat_map (function_at ts) (range_with_len k n)))
-later_names P ts a k zero behind new all = tt
-later_names P ts a k (suc n) behind new all =
-    subst (AllByRecursion P)
-    (sym (map-append function_name (function_at ts k) (flat_map (function_at ts) (range_with_len (k + 1) n))))
-    (all-append P _ _ (⊎_elim in_body at_top (new k (omega arith)))
-    (later_names P ts a (k + 1) n (omega arith) (λ j le. new j (omega arith)) all))
-  where
-    behind_it : (j : ℕ) → a < head_start ts j → AllByRecursion P (head ts j)
-    behind_it j above = part_of_rest P ts a (head_start ts j) j (omega arith) all
-
-    each : (js : List ℕ) → AllByRecursion (λ j. a < head_start ts j) js → AllOfAll P (map (head ts) js)
-    each [] b = tt
-    each (j ∷ js) b = (behind_it j b.0, each js b.1)
-
-    at_top : Anew ts a k → AllByRecursion P (map function_name (function_at ts k))
-    at_top new = named_before P ts k (behind_it k new.start) (each (semicolons_before ts k) new.starts)
-
-    in_body : 0 < depth ts k → AllByRecursion P (map function_name (function_at ts k))
-    in_body deep =
-        let shut : (is_counted ts k && depth ts k == 0) ≡ false =
-        ap (λ b. is_counted ts k && b)
-        (false_from_ne_true (depth ts k == 0)
-        (λ e. let none : depth ts k ≡ 0 = eqb-true (depth ts k) 0 e in absurd (omega arith)))
-        ∙ and-false (is_counted ts k) in
-        subst (λ fs. AllByRecursion P (map function_name fs)) (sym (none_here ts k shut)) tt
-
 pub all_implied : {X : Type 0} (P Q : X → Type 0) → ((x : X) → P x → Q x) → (xs : List X) → AllByRecursion P xs
     → AllByRecursion Q xs
 all_implied P Q f [] a = tt
 all_implied P Q f (x ∷ xs) a = (f x a.0, all_implied P Q f xs a.1)
 
 -- each token has a byte at least
-HasByte : Token → Type 0
+unfoldable pub HasByte : Token → Type 0
 HasByte t = t.span.start < t.span.end
 
-all_some : (ts : List Token) → Rising ts → AllByRecursion HasByte ts
+pub all_some : (ts : List Token) → Rising ts → AllByRecursion HasByte ts
 unfolding HasByte
 all_some [] r = tt
 all_some (t ∷ ts) r = (r.0, all_some ts r.2)
@@ -180,31 +150,6 @@ one_rises ts k a =
     by_cases true None p = tt
     by_cases true (Some s) p = (p, tt, tt)
     by_cases false o p = tt
-
--- the functions after one are named after its `{`
-after_it : (ts : List Token) (k n : ℕ) → (is_counted ts k && depth ts k == 0) ≡ true → (x : Token)
-    → AllByRecursion (From x.span.end) (drop k ts)
-    → AllByRecursion (From x.span.end) (map function_name (flat_map (function_at ts) (range_with_len (k + 1) n)))
-unfolding depth
-after_it ts k n is x all =
-    let counted : is_counted ts k ≡ true = and_left (is_counted ts k) (depth ts k == 0) is in
-    let opened : depth ts (suc k) ≡ depth ts k + 1 = ap (λ b. depth_after b (token_at ts k) (depth ts k)) counted in
-    let deep : 0 < depth ts (k + 1) = subst (λ j. 0 < depth ts j) (sym (add-one k)) (omega arith) in
-    later_names (From x.span.end) ts (k + 1) (k + 1) n (omega arith)
-    (λ j le. let at : k + 1 + (j - (k + 1)) ≡ j =
-    omega arith in subst (λ i. (0 < depth ts i) ⊎ Anew ts (k + 1) i) at
-    (deep_or_new ts (k + 1) (j - (k + 1)) deep))
-    (subst (AllByRecursion (From x.span.end)) (drop-drop 1 k ts) (all-drop (From x.span.end) 1 (drop k ts) all))
-
--- a token is before the names of the functions after token k
-abbrev Behind : List Token → ℕ → ℕ → Token → Type 0
-Behind ts k n x = AllByRecursion (From x.span.end)
-    (map function_name (flat_map (function_at ts) (range_with_len (k + 1) n)))
-
-each_before : (ts : List Token) (k n : ℕ) → (is_counted ts k && depth ts k == 0) ≡ true
-    → Before (take k ts) (drop k ts) → AllByRecursion (Behind ts k n) (take k ts)
-each_before ts k n is b = all_implied (λ x. AllByRecursion (From x.span.end) (drop k ts)) (Behind ts k n)
-    (after_it ts k n is) (take k ts) b
 
 -- a shorter part from the front
 take_less : {X : Type 0} (P : X → Type 0) (xs : List X) (j k : ℕ) → j < k → AllByRecursion P (take k xs)
@@ -222,36 +167,101 @@ heads_within P ts k a [] less = tt
 heads_within P ts k a (j ∷ js) less =
     (all-drop P (head_start ts j) (take j ts) (take_less P ts j k less.0 a), heads_within P ts k a js less.1)
 
--- the names of the functions from token k on
-names_rise_from : (ts : List Token) (k n : ℕ) → Rising ts
-    → Rising (map function_name (flat_map (function_at ts) (range_with_len k n)))
-names_rise_from ts k zero r = tt
-names_rise_from ts k (suc n) r =
-    subst Rising (sym (map-append function_name (function_at ts k)
-    (flat_map (function_at ts) (range_with_len (k + 1) n))))
-    (by_cases (is_counted ts k && depth ts k == 0) refl (names_rise_from ts (k + 1) n r))
-  where
-    by_cases : (b : Bool) → (is_counted ts k && depth ts k == 0) ≡ b
-        → Rising (map function_name (flat_map (function_at ts) (range_with_len (k + 1) n)))
-        → Rising (map function_name (function_at ts k)
-        ++ map function_name (flat_map (function_at ts) (range_with_len (k + 1) n)))
-    by_cases false is later =
-        subst (λ fs. Rising (map function_name fs
-        ++ map function_name (flat_map (function_at ts) (range_with_len (k + 1) n))))
-        (sym (none_here ts k is)) later
-    by_cases true is later =
-        let parts : Rising (take k ts) × Rising (drop k ts) × Before (take k ts) (drop k ts) =
-        rising-split (take k ts) (drop k ts) (subst Rising (sym (take-append-drop k ts)) r) in
-        rising-join _ _
-        (one_rises ts k (all_some ts r))
-        later
-        (named_before (Behind ts k n) ts k (all-drop (Behind ts k n) (head_start ts k) (take k ts)
-        (each_before ts k n is parts.2))
-        (earlier (Behind ts k n) (each_before ts k n is parts.2)))
-      where
-        earlier : (P : Token → Type 0) → AllByRecursion P (take k ts) → AllOfAll P (segments ts k)
-        earlier P a = heads_within P ts k a (semicolons_before ts k)
-            (all_semicolons (λ i j. i < j) ts (λ i j le. omega arith) (λ j. omega arith) k)
+-- ---- functions that are named as those of a profile are
+
+module _ (ts : List Token) (at : ℕ → List Function)
+    (named : (P : Token → Type 0) (k : ℕ) → AllByRecursion P (head ts k) → AllOfAll P (segments ts k)
+    → AllByRecursion P (map function_name (at k)))
+    (none : (k : ℕ) → (is_counted ts k && depth ts k == 0) ≡ false → at k ≡ [])
+    (one : (k : ℕ) → AllByRecursion HasByte ts → Rising (map function_name (at k))) where
+  -- the functions whose `{` is after a body that token a is in are named by tokens after token a
+  later_names : (P : Token → Type 0) (a k n : ℕ) → a ≤ k
+      → ((j : ℕ) → k ≤ j → (0 < depth ts j) ⊎ Anew ts a j) → AllByRecursion P (drop a ts)
+      → AllByRecursion P (map function_name (flat_map at (range_with_len k n)))
+  later_names P a k zero behind new all = tt
+  later_names P a k (suc n) behind new all =
+      subst (AllByRecursion P)
+      (sym (map-append function_name (at k) (flat_map at (range_with_len (k + 1) n))))
+      (all-append P _ _ (⊎_elim in_body at_top (new k (omega arith)))
+      (later_names P a (k + 1) n (omega arith) (λ j le. new j (omega arith)) all))
+    where
+      behind_it : (j : ℕ) → a < head_start ts j → AllByRecursion P (head ts j)
+      behind_it j above = part_of_rest P ts a (head_start ts j) j (omega arith) all
+
+      each : (js : List ℕ) → AllByRecursion (λ j. a < head_start ts j) js → AllOfAll P (map (head ts) js)
+      each [] b = tt
+      each (j ∷ js) b = (behind_it j b.0, each js b.1)
+
+      at_top : Anew ts a k → AllByRecursion P (map function_name (at k))
+      at_top new = named P k (behind_it k new.start) (each (semicolons_before ts k) new.starts)
+
+      in_body : 0 < depth ts k → AllByRecursion P (map function_name (at k))
+      in_body deep =
+          let shut : (is_counted ts k && depth ts k == 0) ≡ false =
+          ap (λ b. is_counted ts k && b)
+          (false_from_ne_true (depth ts k == 0)
+          (λ e. let none : depth ts k ≡ 0 = eqb-true (depth ts k) 0 e in absurd (omega arith)))
+          ∙ and-false (is_counted ts k) in
+          subst (λ fs. AllByRecursion P (map function_name fs)) (sym (none k shut)) tt
+
+  -- the functions after one are named after its `{`
+  after_it : (k n : ℕ) → (is_counted ts k && depth ts k == 0) ≡ true → (x : Token)
+      → AllByRecursion (From x.span.end) (drop k ts)
+      → AllByRecursion (From x.span.end) (map function_name (flat_map at (range_with_len (k + 1) n)))
+  unfolding depth
+  after_it k n is x all =
+      let counted : is_counted ts k ≡ true = and_left (is_counted ts k) (depth ts k == 0) is in
+      let opened : depth ts (suc k) ≡ depth ts k + 1 = ap (λ b. depth_after b (token_at ts k) (depth ts k)) counted in
+      let deep : 0 < depth ts (k + 1) = subst (λ j. 0 < depth ts j) (sym (add-one k)) (omega arith) in
+      later_names (From x.span.end) (k + 1) (k + 1) n (omega arith)
+      (λ j le. let at : k + 1 + (j - (k + 1)) ≡ j =
+      omega arith in subst (λ i. (0 < depth ts i) ⊎ Anew ts (k + 1) i) at
+      (deep_or_new ts (k + 1) (j - (k + 1)) deep))
+      (subst (AllByRecursion (From x.span.end)) (drop-drop 1 k ts) (all-drop (From x.span.end) 1 (drop k ts) all))
+
+  -- a token is before the names of the functions after token k
+  abbrev Behind : ℕ → ℕ → Token → Type 0
+  Behind k n x = AllByRecursion (From x.span.end)
+      (map function_name (flat_map at (range_with_len (k + 1) n)))
+
+  each_before : (k n : ℕ) → (is_counted ts k && depth ts k == 0) ≡ true
+      → Before (take k ts) (drop k ts) → AllByRecursion (Behind k n) (take k ts)
+  each_before k n is b = all_implied (λ x. AllByRecursion (From x.span.end) (drop k ts)) (Behind k n)
+      (after_it k n is) (take k ts) b
+
+  -- the names of the functions from token k on
+  pub names_rise_from : (k n : ℕ) → Rising ts
+      → Rising (map function_name (flat_map at (range_with_len k n)))
+  names_rise_from k zero r = tt
+  names_rise_from k (suc n) r =
+      subst Rising (sym (map-append function_name (at k)
+      (flat_map at (range_with_len (k + 1) n))))
+      (by_cases (is_counted ts k && depth ts k == 0) refl (names_rise_from (k + 1) n r))
+    where
+      by_cases : (b : Bool) → (is_counted ts k && depth ts k == 0) ≡ b
+          → Rising (map function_name (flat_map at (range_with_len (k + 1) n)))
+          → Rising (map function_name (at k)
+          ++ map function_name (flat_map at (range_with_len (k + 1) n)))
+      by_cases false is later =
+          subst (λ fs. Rising (map function_name fs
+          ++ map function_name (flat_map at (range_with_len (k + 1) n))))
+          (sym (none k is)) later
+      by_cases true is later =
+          let parts : Rising (take k ts) × Rising (drop k ts) × Before (take k ts) (drop k ts) =
+          rising-split (take k ts) (drop k ts) (subst Rising (sym (take-append-drop k ts)) r) in
+          rising-join _ _
+          (one k (all_some ts r))
+          later
+          (named (Behind k n) k (all-drop (Behind k n) (head_start ts k) (take k ts)
+          (each_before k n is parts.2))
+          (earlier (Behind k n) (each_before k n is parts.2)))
+        where
+          earlier : (P : Token → Type 0) → AllByRecursion P (take k ts) → AllOfAll P (segments ts k)
+          earlier P a = heads_within P ts k a (semicolons_before ts k)
+              (all_semicolons (λ i j. i < j) ts (λ i j le. omega arith) (λ j. omega arith) k)
 
 pub functions_rise : (text : List ℕ) → Rising (map function_name (functions (code text (pieces text))))
-functions_rise text = names_rise_from (code text (pieces text)) 0 (length (code text (pieces text))) (code_rises text)
+functions_rise text =
+    let ts = code text (pieces text) in
+    names_rise_from ts (function_at ts) (λ P k. named_before P ts k) (none_here ts) (one_rises ts) 0 (length ts)
+    (code_rises text)

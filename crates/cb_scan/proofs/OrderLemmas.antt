@@ -83,7 +83,7 @@ module _ (a b c : List ℕ) where
       by_cases Greater e = absurd (true≢false (sym (ap is_lt (turned a b Less e)) ∙ is))
 
 -- 1 for true
-abbrev number : Bool → ℕ
+abbrev pub number : Bool → ℕ
 number b = cond b 1 0
 
 -- no element goes before one that comes after it
@@ -206,6 +206,12 @@ module _ {X : Type 0} (key : X → List ℕ) where
         unique (in_order key xs) ys (in_order_sorted xs) s
         (λ f. in_order_sum f xs ∙ sym (sum_by-IsPermutation f xs ys moved))
 
+    -- the order is that of the elements alone
+    pub in_order_same : (xs ys : List X) → IsPermutation xs ys → in_order key xs ≡ in_order key ys
+    in_order_same xs ys moved =
+        unique (in_order key xs) (in_order key ys) (in_order_sorted xs) (in_order_sorted ys)
+        (λ f. in_order_sum f xs ∙ sym (sum_by-IsPermutation f xs ys moved) ∙ sym (in_order_sum f ys))
+
   -- neighbours in order are a sorted list
   pub neighbours : (xs : List X)
       → ((k : ℕ) (d : X) → 0 ≤ k → k + 1 < length xs
@@ -238,10 +244,10 @@ kind_there Struct = refl
 kind_there Union = refl
 kind_there Enum = refl
 
-same_kind : (a b : Kind) → kind_rank a ≡ kind_rank b → a ≡ b
+pub same_kind : (a b : Kind) → kind_rank a ≡ kind_rank b → a ≡ b
 same_kind a b is = sym (kind_there a) ∙ ap kind_at is ∙ kind_there b
 
-same_flag : (a b : Bool) → number a ≡ number b → a ≡ b
+pub same_flag : (a b : Bool) → number a ≡ number b → a ≡ b
 same_flag true true is = refl
 same_flag true false is = absurd (omega arith)
 same_flag false true is = absurd (omega arith)

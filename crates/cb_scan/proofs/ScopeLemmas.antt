@@ -136,7 +136,7 @@ from_starts : (p q : ℕ) (fs : List Function) (text : List ℕ) (ts : List Toke
 from_starts p q [] text ts le a = tt
 from_starts p q (f ∷ fs) text ts le a = (omega (arith, a.0), from_starts p q fs text ts le a.1)
 
-function_ranges_ascend : (text : List ℕ) (ts : List Token) (fs : List Function)
+pub function_ranges_ascend : (text : List ℕ) (ts : List Token) (fs : List Function)
     → Rising (map (λ (f : Function). f.name) fs) → Ascending (map (function_range text ts) fs)
 function_ranges_ascend text ts [] r = tt
 function_ranges_ascend text ts (f ∷ fs) r = (

@@ -6,6 +6,7 @@ use Rattle.std.proofs.lemmas.List.{append-nil}
 use Rattle.std.specs.Prelude.{◌&&◌, ◌==◌, if◌then◌else◌}
 use Rattle.std.specs.List.{AllByRecursion}
 use Rattle.std.specs.Option.{is_none, option_map, option_to_list}
+use Rattle.std.specs.List.{flat_map}
 use Rattle.cb_scan.specs.declared.facts.Def.{Def}
 use Rattle.cb_scan.specs.declared.rules.wide.level.Level.{Level}
 use Rattle.cb_scan.specs.declared.rules.wide.level.Level.TheVariants.{Block, Enumerators, Members}
@@ -20,12 +21,12 @@ use Rattle.cb_scan.specs.steps.wide.Declarations.{before_in_file}
 use Rattle.cb_scan.specs.steps.wide.Functions as functions
 use Rattle.cb_scan.specs.steps.wide.Functions.{found, function_here, headed}
 use Rattle.cb_scan.specs.steps.wide.Levels.{opened}
+use Rattle.cb_scan.specs.steps.wide.Givens.{object_given, typedef_given}
 use Rattle.cb_scan.specs.steps.wide.Lists.{Lists}
 use Rattle.cb_scan.specs.steps.wide.Openings.{next_opening, opening_tag, tag_out}
 use Rattle.cb_scan.specs.steps.wide.Pass.{Taken, function_found, is_block, next_body, next_file}
-use Rattle.cb_scan.specs.steps.wide.Pass.{next_lists, next_of_file, next_pass, objects_of, part_at}
+use Rattle.cb_scan.specs.steps.wide.Pass.{next_lists, next_of_file, next_pass, part_at}
 use Rattle.cb_scan.specs.steps.wide.Pass.{parts_here, range_closed, take_all}
-use Rattle.cb_scan.specs.steps.wide.Pass.{typedefs_of, without_head}
 use Rattle.cb_scan.specs.steps.wide.Reading.{opened_by}
 use Rattle.cb_scan.specs.steps.wide.Sights.{opening_along}
 use Rattle.cb_scan.proofs.WideSegments.{IsInner, depth_inner, depth_next_is, next_inner}
@@ -139,17 +140,19 @@ module _ (p : Pass) (x : WideToken) (xs : List WideToken) (inner : IsInner x)
       ap (λ o. l.functions ++ option_to_list o) none_found ∙ append-nil l.functions in
       let ranges_same : l.ranges ++ option_to_list (range_closed p x) ≡ l.ranges =
       ap (λ o. l.ranges ++ option_to_list o) none_closed ∙ append-nil l.ranges in
+      let objects_same : l.objects ++ flat_map object_given (parts_here p x) ≡ l.objects =
+      ap (λ gs. l.objects ++ flat_map object_given gs) no_parts ∙ append-nil l.objects in
       let defs_same :
-      ((l.defs ++ typedefs_of (parts_here p x)) ++ tag_out p.opening x) ++ defined_by p.levels xs x
+      ((l.defs ++ flat_map typedef_given (parts_here p x)) ++ tag_out p.opening x) ++ defined_by p.levels xs x
       ≡ l.defs =
-      (λ i. ((l.defs ++ typedefs_of (no_parts i)) ++ no_tag i)
+      (λ i. ((l.defs ++ flat_map typedef_given (no_parts i)) ++ no_tag i)
       ++ none_defined p.levels xs x block inner.no_close i)
       ∙ append-nil _ ∙ append-nil _ ∙ append-nil l.defs in
       λ i. record {
         functions = functions_same i;
         ranges = ranges_same i;
         defs = defs_same i;
-        objects = without_head (none_found i) (objects_of l.ranges (no_parts i) ++ l.objects);
+        objects = objects_same i;
       }
 
 -- the tokens up to the next `;` or brace change what a `{` would open and nothing else

@@ -22,7 +22,7 @@ use Rattle.cb_scan.specs.lex.Tokens.{is_mark}
 use Rattle.cb_scan.specs.rules.wide.Attributes.{ends_attribute}
 use Rattle.cb_scan.specs.rules.wide.Bodies.{Body, bodies}
 use Rattle.cb_scan.specs.rules.wide.Declarations as rules
-use Rattle.cb_scan.specs.rules.wide.Kinds.{content_defs, file_parts, tag_defs, typedef_of}
+use Rattle.cb_scan.specs.rules.wide.Kinds.{content_defs, file_parts, object_of, tag_defs, typedef_of}
 use Rattle.cb_scan.specs.rules.wide.Levels.{Placed, around_after, file_level, is_outside, placed}
 use Rattle.cb_scan.specs.rules.wide.Words.{is_sign}
 use Rattle.cb_scan.specs.steps.wide.Ahead.{seen, up_to_mark}
@@ -30,10 +30,10 @@ use Rattle.cb_scan.specs.steps.wide.Contents.{contents_from, defined_by}
 use Rattle.cb_scan.specs.steps.wide.Declarations as declarations
 use Rattle.cb_scan.specs.steps.wide.Declarations.{Given, before_in_file, ends_part, file_from, given, grown}
 use Rattle.cb_scan.specs.steps.wide.Declarations.{may_name, next_in_file, next_part_of}
-use Rattle.cb_scan.specs.steps.wide.Objects.{typedef_given}
+use Rattle.cb_scan.specs.steps.wide.Givens.{object_given, typedef_given}
 use Rattle.cb_scan.specs.steps.wide.Openings.{tag_out, tags_from}
 use Rattle.cb_scan.specs.steps.wide.Pass.{Taken, is_block, next_lists, next_of_file, next_pass, part_at}
-use Rattle.cb_scan.specs.steps.wide.Pass.{parts_here, pass_start, take_all, take_first, typedefs_of}
+use Rattle.cb_scan.specs.steps.wide.Pass.{parts_here, pass_start, take_all, take_first}
 use Rattle.cb_scan.proofs.WideBodies.{Opens, contents_of_all, opens_of_all, tags_of_all}
 use Rattle.cb_scan.proofs.WideBlocks.{IsRead}
 use Rattle.cb_scan.proofs.WideDeclarations.{of_part}
@@ -231,10 +231,6 @@ sorted_out d t g c ts gs cs =
     (swapped g ts (c ++ rest))
     (IsPermutation-append_right ts _ _ (IsPermutation-append_right g _ _ (swapped c gs cs))))))))
 
-typedefs_are : (gs : List Given) → typedefs_of gs ≡ flat_map typedef_given gs
-typedefs_are [] = refl
-typedefs_are (g ∷ gs) = ap (λ l. typedef_given g ++ l) (typedefs_are gs)
-
 -- what is given of types, tags and bodies from a state on
 abbrev defs_along : Pass → List WideToken → List WideDef
 defs_along p xs =
@@ -252,10 +248,9 @@ defs_gathered (x ∷ xs) t =
     let types = flat_map typedef_given (parts_from q xs) in
     let tags = tags_from q.opening xs in
     let contents = contents_from q.opening q.levels xs in
-    let here = typedefs_of (parts_here p x) in
+    let here = flat_map typedef_given (parts_here p x) in
     let types_are : here ++ types ≡ flat_map typedef_given (parts_here p x ++ parts_from q xs) =
-    ap (λ l. l ++ types) (typedefs_are (parts_here p x))
-    ∙ sym (flat_map-append typedef_given (parts_here p x) (parts_from q xs)) in
+    sym (flat_map-append typedef_given (parts_here p x) (parts_from q xs)) in
     subst (λ l. IsPermutation (take_all (take_first t (x ∷ xs) x) xs).lists.defs
     (t.lists.defs ++ (l ++ ((tag_out p.opening x ++ tags) ++ (defined_by p.levels (x ∷ xs) x ++ contents)))))
     types_are
@@ -273,6 +268,25 @@ at_start = record {
   pass = pass_start;
   lists = record { functions = []; ranges = []; defs = []; objects = [] };
 }
+
+-- ---- variables, external declarations and prototypes
+
+pub objects_gathered : (xs : List WideToken) (t : Taken) → (take_all t xs).lists.objects
+    ≡ t.lists.objects ++ flat_map object_given (parts_from t.pass xs)
+unfolding take_all parts_from
+objects_gathered [] t = sym (append-nil t.lists.objects)
+objects_gathered (x ∷ xs) t =
+    let p = t.pass in
+    let rest = parts_from (next_pass p (x ∷ xs) x) xs in
+    objects_gathered xs (take_first t (x ∷ xs) x)
+    ∙ append_assoc t.lists.objects (flat_map object_given (parts_here p x)) (flat_map object_given rest)
+    ∙ ap (λ l. t.lists.objects ++ l) (sym (flat_map-append object_given (parts_here p x) rest))
+
+given_objects : (ps : List rules.Part) → flat_map object_given (map of_part ps) ≡ flat_map object_of ps
+given_objects [] = refl
+given_objects (p ∷ ps) = ap (λ l. object_of p ++ l) (given_objects ps)
+
+-- ---- the whole code
 
 module _ (xs : List WideToken) (rise : Rise 0 xs) (read : AllByRecursion IsRead xs) where
   abbrev ps : List Placed
@@ -298,3 +312,9 @@ module _ (xs : List WideToken) (rise : Rise 0 xs) (read : AllByRecursion IsRead 
       (subst (λ l. IsPermutation (tags_from None xs ++ contents_from None [] xs)
       (l ++ flat_map (content_defs bs ps) bs)) (sym (tags_of_all xs))
       (IsPermutation-append_right (tags_from None xs) _ _ (contents_of_all xs rise)))))
+
+  pub objects_of_all : (take_all at_start xs).lists.objects ≡ flat_map object_of (file_parts bs ps)
+  objects_of_all =
+      objects_gathered xs at_start
+      ∙ ap (flat_map object_given) parts_of_all
+      ∙ given_objects (file_parts bs ps)

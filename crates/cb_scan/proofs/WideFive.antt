@@ -3,6 +3,7 @@ use Rattle.std.proofs.Common.{◌≡◌, Bool, true, false, List, [], ◌∷◌,
 use Rattle.std.proofs.Common.{refl, ap}
 use Rattle.std.specs.Prelude.{◌&&◌, ◌||◌, ◌==◌, if◌then◌else◌}
 use Rattle.std.specs.Option.{is_some}
+use Rattle.std.specs.List.{flat_map}
 use Rattle.cb_scan.specs.declared.rules.wide.called.Calls.{Calls}
 use Rattle.cb_scan.specs.declared.rules.wide.called.Enclosed.{Enclosed}
 use Rattle.cb_scan.specs.declared.rules.wide.declaration.Declaration.{Declaration}
@@ -29,11 +30,11 @@ use Rattle.cb_scan.specs.steps.wide.Declarations.{next_in_file, next_member, nex
 use Rattle.cb_scan.specs.steps.wide.Functions.{next, next_depth, stopped, stops}
 use Rattle.cb_scan.specs.steps.wide.Heads.{declared, next_head}
 use Rattle.cb_scan.specs.steps.wide.Levels.{opened}
+use Rattle.cb_scan.specs.steps.wide.Givens.{object_given, typedef_given}
 use Rattle.cb_scan.specs.steps.wide.Lists.{Lists}
 use Rattle.cb_scan.specs.steps.wide.Openings.{tag_out}
 use Rattle.cb_scan.specs.steps.wide.Parts.{begins_value, is_stray, next_part, part_start}
 use Rattle.cb_scan.specs.steps.wide.Pass.{is_block, next_lists, next_of_file, next_pass, parts_here}
-use Rattle.cb_scan.specs.steps.wide.Pass.{typedefs_of}
 use Rattle.cb_scan.specs.steps.wide.Pointers.{next_pointer}
 use Rattle.cb_scan.specs.steps.wide.Tails.{next_tail}
 
@@ -143,6 +144,6 @@ module _ (a b c d e : WideToken) (s more : List WideToken) where
   pub lists_five : (l : Lists) (p : Pass) → next_lists l p long a ≡ next_lists l p short a
   lists_five l p =
       let with : List WideDef → Lists = λ ds. record (next_lists l p long a) {
-        defs = ((l.defs ++ typedefs_of (parts_here p a)) ++ tag_out p.opening a) ++ ds;
+        defs = ((l.defs ++ flat_map typedef_given (parts_here p a)) ++ tag_out p.opening a) ++ ds;
       } in
       ap with (defined_five p.levels)

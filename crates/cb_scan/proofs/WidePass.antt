@@ -4,6 +4,7 @@ use Rattle.std.proofs.Common.{None, refl, sym, ap, length, map, append_assoc}
 use Rattle.std.proofs.lemmas.List.{append-nil}
 use Rattle.std.specs.Prelude.{◌&&◌, ◌==◌, not, if◌then◌else◌}
 use Rattle.std.specs.Option.{is_none, is_some, option_map, option_to_list}
+use Rattle.std.specs.List.{flat_map}
 use Rattle.cb_scan.specs.declared.lex.token.Token.{Token}
 use Rattle.cb_scan.specs.declared.rules.wide.declaration.Declaration.{Declaration}
 use Rattle.cb_scan.specs.declared.rules.wide.def.WideDef.{WideDef}
@@ -25,11 +26,12 @@ use Rattle.cb_scan.specs.steps.wide.Declarations.{ends_part, next_in_file, next_
 use Rattle.cb_scan.specs.steps.wide.Functions as functions
 use Rattle.cb_scan.specs.steps.wide.Functions.{found, functions_from}
 use Rattle.cb_scan.specs.steps.wide.Levels.{opened}
+use Rattle.cb_scan.specs.steps.wide.Givens.{object_given, typedef_given}
 use Rattle.cb_scan.specs.steps.wide.Lists.{Lists}
 use Rattle.cb_scan.specs.steps.wide.Openings.{tag_out}
 use Rattle.cb_scan.specs.steps.wide.Pass.{Taken, function_found, is_block, next_lists, take_all}
 use Rattle.cb_scan.specs.steps.wide.Pass.{next_of_file, next_pass, parts_here, pass_start}
-use Rattle.cb_scan.specs.steps.wide.Pass.{range_closed, take_first, typedefs_of}
+use Rattle.cb_scan.specs.steps.wide.Pass.{range_closed, take_first}
 use Rattle.cb_scan.proofs.Bodies.{def_name}
 use Rattle.cb_scan.proofs.WideBareRanges.{bare_ranges_are, ranges_along}
 use Rattle.cb_scan.proofs.WideBodies.{Opens}
@@ -71,7 +73,7 @@ pub lists_seen : (l : Lists) (p : Pass) (x : WideToken) (xs : List WideToken)
     → next_lists l p (x ∷ xs) x ≡ next_lists l p (seen (x ∷ xs)) x
 lists_seen l p x xs =
     let with : List WideDef → Lists = λ d. record (next_lists l p (x ∷ xs) x) {
-      defs = ((l.defs ++ typedefs_of (parts_here p x)) ++ tag_out p.opening x) ++ d;
+      defs = ((l.defs ++ flat_map typedef_given (parts_here p x)) ++ tag_out p.opening x) ++ d;
     } in
     ap with (defined_seen p.levels x xs)
 

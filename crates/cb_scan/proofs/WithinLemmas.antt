@@ -11,7 +11,7 @@ use Rattle.cb_scan.specs.rules.Code.{is_newline, is_directive, code, logical_lin
 use Rattle.cb_scan.specs.Definitions.{IsWithin, function_def}
 use Rattle.cb_scan.specs.rules.Functions.{function_at, function_from, functions, signature}
 use Rattle.cb_scan.specs.rules.Heads.{Signature, called_name, defined_name, head, may_define, signed}
-use Rattle.cb_scan.specs.rules.OldStyle.{is_declaration, is_opening, nearest_opening, old_signature}
+use Rattle.cb_scan.specs.rules.OldStyle.{is_declaration, is_opening, nearest_opening, old_signature, signature_of}
 use Rattle.cb_scan.specs.rules.OldStyle.{segments, semicolons_before}
 use Rattle.cb_scan.specs.rules.Depth.{depth, head_start, is_counted}
 use Rattle.cb_scan.specs.declared.facts.Def.{Def}
@@ -120,29 +120,35 @@ opening_among Q ss a =
           [ true ↦ q | false ↦ tt ]
     ] (found_among Q (λ s. is_opening s || not (is_declaration s)) ss a)
 
+-- what is named by one of some tokens
+pub signed_among : (P : Token → Type 0) (h : List Token) (o : Option Token) → MatchOption o (Unit {0}) P
+    → MatchOption (signed h o) (Unit {0}) (λ s. P s.name)
+signed_among P h None p = tt
+signed_among P h (Some t) p = p
+
+-- the name that some segments give is a token of one of them
+pub old_among : (P : Token → Type 0) (ss : List (List Token)) → AllOfAll P ss
+    → MatchOption (signature_of ss) (Unit {0}) (λ s. P s.name)
+old_among P ss a = of_opening (nearest_opening ss) (opening_among (AllByRecursion P) ss a)
+  where
+    of_opening : (o : Option (List Token)) → MatchOption o (Unit {0}) (AllByRecursion P)
+        → MatchOption (option_map_or (λ s. signed s (called_name s)) o None) (Unit {0}) (λ s. P s.name)
+    of_opening None p = tt
+    of_opening (Some s) p = signed_among P s (called_name s) (called-among P s p)
+
 -- the name of a function is a token of its head, or of a segment before it
 pub signature_among : (P : Token → Type 0) (ts : List Token) (k : ℕ) → AllByRecursion P (head ts k)
     → AllOfAll P (segments ts k) → MatchOption (signature ts k) (Unit {0}) (λ s. P s.name)
 signature_among P ts k a b =
     elim (head_start ts k == k) as (λ x. MatchOption
     (cond x (old_signature ts k) (signed (head ts k) (defined_name (head ts k)))) (Unit {0}) (λ s. P s.name)) [
-      | true ↦ of_opening (nearest_opening (segments ts k)) (opening_among (AllByRecursion P) (segments ts k) b)
+      | true ↦ old_among P (segments ts k) b
       | false ↦ elim (may_define (head ts k)) as (λ x. MatchOption
           (signed (head ts k) (cond x (called_name (head ts k)) None)) (Unit {0}) (λ s. P s.name)) [
-            | true ↦ of_name (head ts k) (called_name (head ts k)) (called-among P (head ts k) a)
+            | true ↦ signed_among P (head ts k) (called_name (head ts k)) (called-among P (head ts k) a)
             | false ↦ tt
           ]
     ]
-  where
-    of_name : (h : List Token) (o : Option Token) → MatchOption o (Unit {0}) P
-        → MatchOption (signed h o) (Unit {0}) (λ s. P s.name)
-    of_name h None p = tt
-    of_name h (Some t) p = p
-
-    of_opening : (o : Option (List Token)) → MatchOption o (Unit {0}) (AllByRecursion P)
-        → MatchOption (option_map_or (λ s. signed s (called_name s)) o None) (Unit {0}) (λ s. P s.name)
-    of_opening None p = tt
-    of_opening (Some s) p = of_name s (called_name s) (called-among P s p)
 
 -- heads are parts of the code
 module _ (P : Token → Type 0) (ts : List Token) (a : AllByRecursion P ts) where

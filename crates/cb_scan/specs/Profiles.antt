@@ -1,7 +1,7 @@
 -- What is found in a text by each profile. Macros, uses, includes, ranges and scopes have the same
 -- definitions in both, over the functions that the profile finds.
-use Rattle.std.specs.Prelude.{◌≡◌, ℕ, Bool, true, false, List, [], ◌∷◌, ◌++◌, None, map}
-use Rattle.std.specs.Prelude.{if◌then◌else◌}
+use Rattle.std.specs.Prelude.{◌≡◌, ℕ, Bool, true, false, List, [], ◌∷◌, ◌++◌, Option, Some, None}
+use Rattle.std.specs.Prelude.{map, if◌then◌else◌}
 use Rattle.cb_scan.specs.declared.facts.Call.{Call}
 use Rattle.cb_scan.specs.declared.facts.Def.{Def}
 use Rattle.cb_scan.specs.declared.facts.Include.{Include}
@@ -11,6 +11,7 @@ use Rattle.cb_scan.specs.declared.facts.Use.{Use}
 use Rattle.cb_scan.specs.declared.lex.piece.Piece.{Piece}
 use Rattle.cb_scan.specs.declared.rules.wide.def.Profile.{Profile}
 use Rattle.cb_scan.specs.declared.rules.wide.def.Profile.TheVariants.{Standard, Wide}
+use Rattle.cb_scan.specs.declared.rules.wide.def.Tag.{Tag}
 use Rattle.cb_scan.specs.declared.rules.wide.def.WideDef.{WideDef}
 use Rattle.cb_scan.specs.declared.rules.wide.def.WideKind.{WideKind}
 use Rattle.cb_scan.specs.declared.rules.wide.def.WideKind.TheVariants as wide
@@ -21,7 +22,7 @@ use Rattle.cb_scan.specs.rules.Scope.{name_around, ranges_of, scope_among}
 use Rattle.cb_scan.specs.rules.Uses.{calls_in, includes_with, macro_calls, uses_with}
 use Rattle.cb_scan.specs.rules.wide.Kinds.{functions_of, wide_found}
 use Rattle.cb_scan.specs.Definitions.{definitions_from}
-use Rattle.cb_scan.specs.Order.{call_key, in_order}
+use Rattle.cb_scan.specs.Order.{call_key, in_order, kind_rank}
 use Rattle.cb_scan.specs.TextFacts.{TextFacts}
 use Rattle.cb_scan.specs.steps.Cut.{pieces}
 
@@ -39,10 +40,17 @@ wide_rank wide.Variable = 8
 wide_rank wide.External = 9
 wide_rank wide.Prototype = 10
 
+-- a tag in numbers
+abbrev pub tag_key : Option Tag → List ℕ
+tag_key None = 0 ∷ []
+tag_key (Some tag) = 1 ∷ kind_rank tag.kind ∷ tag.name.start ∷ tag.name.end ∷ []
+
 -- definitions go by place, and at one place by kind; what is left of them makes no two equal in
 -- order
 abbrev pub wide_key : WideDef → List ℕ
-wide_key d = d.name.start ∷ wide_rank d.kind ∷ d.name.end ∷ d.line ∷ (if d.local then 1 else 0) ∷ []
+wide_key d =
+    d.name.start ∷ wide_rank d.kind ∷ d.name.end ∷ d.line ∷ (if d.local then 1 else 0)
+    ∷ tag_key d.tag
 
 -- a kind of the standard profile in the wide one
 abbrev pub wide_kind : Kind → WideKind

@@ -6,10 +6,10 @@ pub mod Contents
 pub mod Declarations
 pub mod Enumerators
 pub mod Functions
+pub mod Givens
 pub mod Heads
 pub mod Levels
 pub mod Lists
-pub mod Objects
 pub mod Openings
 pub mod Parts
 pub mod Pass

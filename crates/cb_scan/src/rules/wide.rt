@@ -11,7 +11,6 @@ pub(crate) mod head;
 pub(crate) mod level;
 pub(crate) mod levels;
 pub(crate) mod machine;
-pub(crate) mod objects;
 pub(crate) mod opening;
 pub(crate) mod part;
 pub(crate) mod pass;

@@ -1,6 +1,7 @@
 -- The pass of the wide profile over the tokens that are of no attribute.
 use Rattle.std.specs.Prelude.{ℕ, Bool, ◌&&◌, ◌==◌, List, [], ◌∷◌, ◌++◌, max, Option}
 use Rattle.std.specs.Prelude.{None, Some, if◌then◌else◌}
+use Rattle.std.specs.List.{flat_map}
 use Rattle.std.specs.Option.{is_none, option_map, option_to_list}
 use Rattle.cb_scan.specs.declared.facts.Def.{Def}
 use Rattle.cb_scan.specs.declared.lex.piece.Span.{Span}
@@ -17,7 +18,7 @@ use Rattle.cb_scan.specs.steps.wide.Declarations.{ends_part, given, grown}
 use Rattle.cb_scan.specs.steps.wide.Declarations.{may_name, next_in_file, next_part_of}
 use Rattle.cb_scan.specs.steps.wide.Functions.{found, next, next_depth, start}
 use Rattle.cb_scan.specs.steps.wide.Lists.{Lists}
-use Rattle.cb_scan.specs.steps.wide.Objects.{dropped_from, kept_outside, object_given, typedef_given}
+use Rattle.cb_scan.specs.steps.wide.Givens.{object_given, typedef_given}
 use Rattle.cb_scan.specs.steps.wide.Openings.{next_opening, tag_out}
 use Rattle.cb_scan.specs.Bytes.{close_brace}
 
@@ -31,16 +32,6 @@ part_at d x = if ends_part d x && may_name d then given d ∷ [] else []
 abbrev pub next_of_file : Declaration → Bool → List WideToken → WideToken → Declaration
 next_of_file d block xs x =
     next_in_file (if ends_part d x then next_part_of d x else grown d xs x) block x
-
--- what the parts give besides types, where functions have had these ranges
-abbrev pub objects_of : List Range → List Given → List WideDef
-objects_of ranges [] = []
-objects_of ranges (g ∷ gs) = kept_outside ranges (object_given g) ++ objects_of ranges gs
-
--- the types that they give
-abbrev pub typedefs_of : List Given → List WideDef
-typedefs_of [] = []
-typedefs_of (g ∷ gs) = typedef_given g ++ typedefs_of gs
 
 -- ---- the state
 
@@ -105,20 +96,14 @@ most_in p =
 
 -- ---- what is found
 
--- the objects without those of the head of a function that is found
-abbrev pub without_head : Option Def → List WideDef → List WideDef
-without_head None ds = ds
-without_head (Some f) ds = dropped_from f.name.start ds
-
 -- what is found with the first of these tokens
 abbrev pub next_lists : Lists → Pass → List WideToken → WideToken → Lists
 next_lists l p xs x = record {
   functions = l.functions ++ option_to_list (function_found p x);
   ranges = l.ranges ++ option_to_list (range_closed p x);
-  defs = ((l.defs ++ typedefs_of (parts_here p x)) ++ tag_out p.opening x)
+  defs = ((l.defs ++ flat_map typedef_given (parts_here p x)) ++ tag_out p.opening x)
       ++ defined_by p.levels xs x;
-  objects = without_head (function_found p x)
-      (objects_of l.ranges (parts_here p x) ++ l.objects);
+  objects = l.objects ++ flat_map object_given (parts_here p x);
 }
 
 -- ---- both

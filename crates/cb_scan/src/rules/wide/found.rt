@@ -1,31 +1,31 @@
 //! What the pass of the wide profile gathers.
 ghost use Rattle.std.specs.Prelude.{◌≡◌, ◌++◌, [], IfOk};
+ghost use Rattle.std.specs.List.{flat_map};
 ghost use Rattle.std.specs.Option.{option_to_list};
 ghost use Rattle.cb_scan.specs.steps.wide.Declarations.{given};
-ghost use Rattle.cb_scan.specs.steps.wide.Objects.{
+ghost use Rattle.cb_scan.specs.steps.wide.Givens.{
   object_given,
   typedef_given,
   variable_kind,
 };
-ghost use Rattle.cb_scan.specs.steps.wide.Pass.{objects_of, part_at, typedefs_of, without_head};
+ghost use Rattle.cb_scan.specs.steps.wide.Pass.{part_at};
 
 use crate::facts::Def;
 use crate::rules::scope::Range;
 use crate::rules::wide::declaration::Declaration;
 use crate::rules::wide::def::{WideDef, WideKind, def_of};
-use crate::rules::wide::objects::{Objects, is_in_last};
 use crate::rules::wide::token::WideToken;
 use std::alloc::{AllocError, Global};
 use std::marker::Model;
 
 /// Functions and their ranges; types, tags, enumerators and members; variables, external
-/// declarations and prototypes.
+/// declarations and prototypes, also those of the heads of functions.
 #[derive(Drop)]
 pub(crate) struct Found {
     pub functions: Vec<Def>,
     pub ranges: Vec<Range>,
     pub defs: Vec<WideDef>,
-    pub objects: Objects,
+    pub objects: Vec<WideDef>,
 }
 
 impl Model for Found {
@@ -37,7 +37,7 @@ impl Model for Found {
       functions = f.functions.items;
       ranges = f.ranges.items;
       defs = f.defs.items;
-      objects = f.objects;
+      objects = f.objects.items;
     } };
 }
 
@@ -96,7 +96,7 @@ impl Found {
             functions: Vec::new(alloc),
             ranges: Vec::new(alloc),
             defs: Vec::new(alloc),
-            objects: Objects::new(alloc),
+            objects: Vec::new(alloc),
         }
     }
 
@@ -118,9 +118,10 @@ impl Found {
         item: &WideToken,
     ) -> Result<(), AllocError>
         ensures { IfOk result (λ _. self.new ≡ record self.old {
-          defs = self.old.defs ++ typedefs_of (part_at declaration.now item.now);
-          objects = objects_of self.old.ranges (part_at declaration.now item.now)
-              ++ self.old.objects;
+          defs = self.old.defs
+              ++ flat_map typedef_given (part_at declaration.now item.now);
+          objects = self.old.objects
+              ++ flat_map object_given (part_at declaration.now item.now);
         }) }
     {
         if !declaration.ends_part(item) || !declaration.may_name() {
@@ -128,23 +129,19 @@ impl Found {
         }
         self.define(typedef_given(declaration))?;
         if let Some(def) = object_given(declaration) {
-            if !is_in_last(self.ranges.as_slice(), def.name.start) {
-                self.objects.push(def)?;
-            }
+            self.objects.push(def)?;
         }
         Ok(())
     }
 
-    /// A function, whose head goes on with no object.
+    /// A function, if there is one.
     pub(crate) fn begin_function(&mut self, def: Option<Def>) -> Result<(), AllocError>
         ensures { IfOk result (λ _. self.new ≡ record self.old {
           functions = self.old.functions ++ option_to_list def;
-          objects = without_head def self.old.objects;
         }) }
     {
         if let Some(def) = def {
             self.functions.push(def)?;
-            self.objects.drop_from(def.name.start);
         }
         Ok(())
     }

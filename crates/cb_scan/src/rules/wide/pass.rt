@@ -1,6 +1,8 @@
 //! The pass of the wide profile over the tokens that are of no attribute.
 ghost use Rattle.std.specs.Prelude.{◌≡◌, ◌+◌, ◌<◌, ◌≤◌, ◌^◌, ◌++◌, IfOk};
+ghost use Rattle.std.specs.List.{flat_map};
 ghost use Rattle.cb_scan.specs.steps.wide.Contents.{most_open, next_levels};
+ghost use Rattle.cb_scan.specs.steps.wide.Givens.{object_given, typedef_given};
 ghost use Rattle.cb_scan.specs.steps.wide.Pass.{
   function_found,
   is_block,
@@ -11,11 +13,9 @@ ghost use Rattle.cb_scan.specs.steps.wide.Pass.{
   next_lists,
   next_of_file,
   next_pass,
-  objects_of,
   parts_here,
   pass_start,
   range_closed,
-  typedefs_of,
 };
 
 use crate::facts::Def;
@@ -138,9 +138,8 @@ impl Pass {
             (λ _. self.new ≡ record self.old { file = next_file self.old ahead.now item.now }) }
         ensures small { IfOk result (λ _. self.new.file.count ≤ self.old.file.count + 1) }
         ensures found { IfOk result (λ _. found.new ≡ record found.old {
-          defs = found.old.defs ++ typedefs_of (parts_here self.old item.now);
-          objects = objects_of found.old.ranges (parts_here self.old item.now)
-              ++ found.old.objects;
+          defs = found.old.defs ++ flat_map typedef_given (parts_here self.old item.now);
+          objects = found.old.objects ++ flat_map object_given (parts_here self.old item.now);
         }) }
     {
         if !self.is_in_file() {
