@@ -1,24 +1,23 @@
 -- The calls in the bodies of functions are found as the tokens of the code are read.
-use Rattle.std.proofs.Common.{◌≡◌, ◌∙◌, ℕ, suc, ◌≤◌, Bool, true, false, List, [], ◌∷◌, ◌++◌, Option}
-use Rattle.std.proofs.Common.{None, Some, refl, sym, ap, subst, arith, drop, length, map, ⊎_elim}
+use Rattle.std.proofs.Common.{◌≡◌, ◌∙◌, ℕ, ◌≤◌, Bool, true, false, List, [], ◌∷◌, ◌++◌, Option}
+use Rattle.std.proofs.Common.{None, Some, refl, sym, ap, subst, arith, drop, length, ⊎_elim}
 use Rattle.std.proofs.lemmas.Bool.{cases_Bool}
 use Rattle.std.specs.Prelude.{◌&&◌, ◌==◌, if◌then◌else◌}
 use Rattle.std.specs.List.{AllByRecursion}
-use Rattle.std.specs.Option.{is_none, is_some, option_map, option_to_list}
+use Rattle.std.specs.Option.{is_none, option_map, option_to_list}
 use Rattle.cb_scan.specs.declared.facts.Call.{Call}
 use Rattle.cb_scan.specs.declared.facts.Def.{Def}
-use Rattle.cb_scan.specs.declared.lex.piece.Span.{Span}
 use Rattle.cb_scan.specs.declared.lex.token.Token.{Token}
 use Rattle.cb_scan.specs.declared.rules.wide.machine.WideMachine.{WideMachine}
 use Rattle.cb_scan.specs.declared.rules.wide.opening.Opening.{Opening}
-use Rattle.cb_scan.specs.declared.rules.wide.pass.Pass.{Pass}
 use Rattle.cb_scan.specs.declared.rules.wide.reader.Reader.{Reader}
 use Rattle.cb_scan.specs.declared.rules.wide.token.WideToken.{WideToken}
 use Rattle.cb_scan.specs.rules.Depth.{depth_after}
 use Rattle.cb_scan.specs.rules.Uses.{calls_in}
 use Rattle.cb_scan.specs.rules.wide.Attributes.{ends_attribute, without_attributes}
-use Rattle.cb_scan.specs.rules.wide.Bodies.{Body, opens_body}
+use Rattle.cb_scan.specs.rules.wide.Bodies.{Body}
 use Rattle.cb_scan.specs.rules.wide.Functions.{wide_functions}
+use Rattle.cb_scan.specs.rules.wide.Levels.{wide_tokens}
 use Rattle.cb_scan.specs.steps.Functions.{before_after, call_before}
 use Rattle.cb_scan.specs.steps.wide.Ahead.{up_to_mark}
 use Rattle.cb_scan.specs.steps.wide.Contents.{are_in_block}
@@ -29,27 +28,27 @@ use Rattle.cb_scan.specs.steps.wide.Functions.{start}
 use Rattle.cb_scan.specs.steps.wide.Heads.{head_from}
 use Rattle.cb_scan.specs.steps.wide.Lists.{Lists}
 use Rattle.cb_scan.specs.steps.wide.Openings.{next_opening}
-use Rattle.cb_scan.specs.steps.wide.Pass.{Taken, function_found, next_body, next_pass, pass_start}
+use Rattle.cb_scan.specs.steps.wide.Pass.{Taken, function_found, pass_start}
 use Rattle.cb_scan.specs.steps.wide.Pass.{take_all, take_first}
 use Rattle.cb_scan.specs.steps.wide.Ranges as inside
 use Rattle.cb_scan.specs.steps.wide.Ranges.{Inside, calls_from, later_opened, next_opened, outside}
-use Rattle.cb_scan.specs.steps.wide.Reading.{emptied, first_taken, held, item_of, passed, read_on}
+use Rattle.cb_scan.specs.steps.wide.Reading.{held, item_of, passed, read_on}
 use Rattle.cb_scan.specs.steps.wide.Reading.{reader_after, reader_start, taken_after, taken_at_end}
 use Rattle.cb_scan.specs.steps.wide.Reading.{the_taken, turned}
 use Rattle.cb_scan.specs.steps.wide.Sights.{opening_along}
 use Rattle.cb_scan.specs.steps.wide.Tokens.{tokens_from}
 use Rattle.cb_scan.proofs.Bodies.{def_name}
-use Rattle.cb_scan.proofs.WideBareRanges.{Fine, body_kept_inside, body_next, flat_after, given_here}
+use Rattle.cb_scan.proofs.WideBareRanges.{Fine, body_kept_inside, flat_after, given_here}
 use Rattle.cb_scan.proofs.WideBareRanges.{later_here, same_body}
 use Rattle.cb_scan.proofs.WideBodies.{Opens}
 use Rattle.cb_scan.proofs.WideFive.{machine_five}
-use Rattle.cb_scan.proofs.WideFunctions.{all}
 use Rattle.cb_scan.proofs.WideHeld.{emptied_is, held_before}
 use Rattle.cb_scan.proofs.WideInduction.{IsSame, coming, holds_at_start, later}
 use Rattle.cb_scan.proofs.WidePass.{block_is}
 use Rattle.cb_scan.proofs.WideRanges.{calls_are}
 use Rattle.cb_scan.proofs.WideSegments.{IsInner, after, after_depth, along, depth_inner}
-use Rattle.cb_scan.proofs.WideSegments.{depth_next_is, headed_all, machine_seen, next_inner, opens_nothing}
+use Rattle.cb_scan.proofs.WideSegments.{depth_next_is, headed_all, machine_seen}
+use Rattle.cb_scan.proofs.WideSegments.{next_inner, opens_nothing}
 use Rattle.cb_scan.proofs.WideTaken.{left_of, taken_of}
 use Rattle.cb_scan.proofs.WideTokens.{tokens_are}
 
@@ -365,12 +364,12 @@ module _ (bs : List Body) where
 
     -- the calls of the code
     pub calls_read_are : (ts : List Token) (l : Lists)
-        → Opens bs None (without_attributes (all text ts bs))
+        → Opens bs None (without_attributes (wide_tokens text ts))
         → calls_read text reader_start (the_taken pass_start l) None ts
-        ≡ calls_in ts (wide_functions ts (all text ts bs) bs)
+        ≡ calls_in ts (wide_functions ts (wide_tokens text ts) bs)
     unfolding AreCalls
     calls_read_are ts l opens =
         holds_at_start text AreCalls at_end at_mark within ts l None (λ flat. refl) opens
-        ∙ ap (calls_from outside (opened_from bs start (without_attributes (all text ts bs))))
+        ∙ ap (calls_from outside (opened_from bs start (without_attributes (wide_tokens text ts))))
         (tokens_are text ts)
         ∙ calls_are text ts bs

@@ -136,7 +136,8 @@ module _ (text : List ℕ) (Holds : Reader → Taken → List Token → List Wid
       }))
       (λ isnt.
       subst (Holds r t ts)
-      ((λ i. empty.no_bare i ++ kept_from (empty.no_attribute i) (empty.no_raw i ++ coming text r ts))
+      ((λ i. empty.no_bare i
+      ++ kept_from (empty.no_attribute i) (empty.no_raw i ++ coming text r ts))
       ∙ kept_from_start (coming text r ts))
       (reads.outer r t (record {
         few_raw = subst (λ l. length l ≤ 2) (sym empty.no_raw) (omega arith);

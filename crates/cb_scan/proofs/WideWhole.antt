@@ -55,7 +55,8 @@ module _ (text : List ℕ) where
   within : (r : Reader) (t : Taken) (token : Token) (ts : List Token)
       (bare rest : List WideToken) → length bare ≤ 5 → AllByRecursion IsInner bare
       → IsInner (item_of text r token) → taken_after text r t token ≡ taken_of t bare
-      → TakesAll (reader_after text r t token) (taken_after text r t token) ts (left_of bare ++ rest)
+      → TakesAll (reader_after text r t token) (taken_after text r t token) ts
+      (left_of bare ++ rest)
       → TakesAll r t (token ∷ ts) (bare ++ rest)
   unfolding read_all TakesAll
   within r t token ts bare rest few all inner taken same =
