@@ -148,7 +148,8 @@ fn put_fields<W: Write>(out: &mut Sink<W>, row: &TagRow<'_>) -> Result<(), Write
 pub fn put_extended<W: Write>(out: &mut Sink<W>, row: &TagRow<'_>) -> Result<(), WriteFault>
     ensures { Puts out.old out.new result (extended_line (tag_of row.now)) }
 {
-    put_around(out, &[row.name, b"\t", row.file, b"\t"], row.text, &[])?;
+    put_texts(out, &[row.name, b"\t", row.file, b"\t"])?;
+    put_address(out, row.text)?;
     put_fields(out, row)
 }
 
