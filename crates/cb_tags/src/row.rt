@@ -19,7 +19,7 @@ ghost use Rattle.cb_tags.specs.Writing.{Puts};
 use crate::address::put_address;
 use crate::sink::{Sink, WriteFault};
 use crate::tag_name::tag_name;
-use crate::text::put_texts;
+use crate::text::{put_text, put_texts};
 use cb_scan::Kind;
 use itoa::Buffer;
 use std::io::Write;
@@ -114,12 +114,12 @@ fn scope_word(kind: Kind) -> &'static [u8]
     }
 }
 
-/// Writes the field of a body.
-fn put_body<W: Write>(out: &mut Sink<W>, scope: &Scope<'_>) -> Result<(), WriteFault>
-    ensures { Puts out.old out.new result (scope_word scope.now.kind ++ scope.now.name.now) }
+/// Writes two texts.
+fn put_two<W: Write>(out: &mut Sink<W>, first: &[u8], second: &[u8]) -> Result<(), WriteFault>
+    ensures { Puts out.old out.new result (first.now ++ second.now) }
 {
-    put_texts(out, &[scope_word(scope.kind)])?;
-    put_texts(out, &[scope.name])
+    put_text(out, first)?;
+    put_text(out, second)
 }
 
 /// Writes the field of the body that a definition is in.
@@ -127,9 +127,24 @@ fn put_scope<W: Write>(out: &mut Sink<W>, row: &TagRow<'_>) -> Result<(), WriteF
     ensures { Puts out.old out.new result (scope_field (tag_of row.now)) }
 {
     match &row.scope {
-        Some(scope) => put_body(out, scope),
+        Some(scope) => put_two(out, scope_word(scope.kind), scope.name),
         None => Ok(()),
     }
+}
+
+/// Writes the field of the body that a definition is in, between other texts.
+fn put_scope_around<W: Write>(
+    out: &mut Sink<W>,
+    before: &[&[u8]],
+    row: &TagRow<'_>,
+    after: &[&[u8]],
+) -> Result<(), WriteFault>
+    ensures { Puts out.old out.new result (flat_map (λ part. part.now) before.now
+        ++ (scope_field (tag_of row.now) ++ flat_map (λ part. part.now) after.now)) }
+{
+    put_texts(out, before)?;
+    put_scope(out, row)?;
+    put_texts(out, after)
 }
 
 /// Writes the fields of an extended line.
@@ -138,9 +153,26 @@ fn put_fields<W: Write>(out: &mut Sink<W>, row: &TagRow<'_>) -> Result<(), Write
 {
     let mut digits = Buffer::new();
     let line = digits.format(row.line).as_bytes();
-    put_texts(out, &[b";\"\t", kind_letter(row.kind), b"\tline:", line])?;
-    put_scope(out, row)?;
-    put_texts(out, &[file_field(row), b"\n"])
+    put_scope_around(
+        out,
+        &[b";\"\t", kind_letter(row.kind), b"\tline:", line],
+        row,
+        &[file_field(row), b"\n"],
+    )
+}
+
+/// Writes the address of a row and the fields of its extended line, after other texts.
+fn put_row<W: Write>(
+    out: &mut Sink<W>,
+    before: &[&[u8]],
+    row: &TagRow<'_>,
+) -> Result<(), WriteFault>
+    ensures { Puts out.old out.new result (flat_map (λ part. part.now) before.now
+        ++ (address row.now.text.now ++ fields (tag_of row.now))) }
+{
+    put_texts(out, before)?;
+    put_address(out, row.text)?;
+    put_fields(out, row)
 }
 
 /// Writes the extended line of a row: name, file and address, then the fields for the kind, the
@@ -148,9 +180,7 @@ fn put_fields<W: Write>(out: &mut Sink<W>, row: &TagRow<'_>) -> Result<(), Write
 pub fn put_extended<W: Write>(out: &mut Sink<W>, row: &TagRow<'_>) -> Result<(), WriteFault>
     ensures { Puts out.old out.new result (extended_line (tag_of row.now)) }
 {
-    put_texts(out, &[row.name, b"\t", row.file, b"\t"])?;
-    put_address(out, row.text)?;
-    put_fields(out, row)
+    put_row(out, &[row.name, b"\t", row.file, b"\t"], row)
 }
 
 /// Writes the line of a row in a listing: name, line, file and text.
