@@ -1,16 +1,24 @@
 -- The tags of a world, and the texts of its tags file and of its listing.
 use Rattle.std.specs.Prelude.{ℕ, List, [], ◌++◌, map}
 use Rattle.std.specs.List.{flat_map}
+use Rattle.std.specs.Option.{option_map}
 use Rattle.cb_scan.specs.declared.facts.Def.{Def}
+use Rattle.cb_scan.specs.declared.facts.Tag as facts
 use Rattle.cb_scan.specs.Definitions.{definitions}
+use Rattle.cb_scan.specs.lex.Tokens.{bytes_of}
 use Rattle.cb_scan.specs.Lines.{line_text}
 use Rattle.cb_scan.specs.Order.{in_order}
-use Rattle.cb_tags.specs.TagLines.{Tag, plain_line, extended_line, listing_line, head_lines}
+use Rattle.cb_tags.specs.TagLines.{Tag, TagScope}
+use Rattle.cb_tags.specs.TagLines.{plain_line, extended_line, listing_line, head_lines}
 use Rattle.cb_tags.specs.TagNames.{tag_name}
 use Rattle.cb_desk.specs.declared.tags.Format.{Format}
 use Rattle.cb_desk.specs.declared.tags.Format.TheVariants.{Plain, Extended}
 use Rattle.cb_desk.specs.Answer.{name_of}
 use Rattle.cb_desk.specs.World.{World, File}
+
+-- the body that a definition of a file is in
+abbrev pub scope_in : File → facts.Tag → TagScope
+scope_in f t = record { kind = t.kind; name = bytes_of f.bytes t.name }
 
 -- a definition of a file as a tag
 abbrev pub tag_in : File → Def → Tag
@@ -21,6 +29,7 @@ tag_in f d = record {
   text = line_text f.bytes d.line;
   kind = d.kind;
   local = d.local;
+  scope = option_map (scope_in f) d.tag;
 }
 
 -- the tags of a file, by place

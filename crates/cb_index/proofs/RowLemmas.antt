@@ -12,14 +12,15 @@ use Rattle.std.proofs.Math.Nat.{min-eq_left}
 use Rattle.std.specs.Prelude.{cond, nat_eq, not, slice_get, slice_range, sum_by, Option, ◌&&◌}
 use Rattle.std.specs.Cmp.Lexicographic.{slice_cmp}
 use Rattle.std.specs.List.{AllByRecursion, flat_map}
-use Rattle.std.specs.Option.{option_map}
+use Rattle.std.specs.Option.{MatchOption, option_map}
 use Rattle.std.specs.Ordering.{is_gt, nat_cmp, ordering_then}
 use Rattle.std.specs.Str.{bytes_eq}
 use Rattle.std.specs.declared.cmp.Ordering.{Ordering}
 use Rattle.std.specs.declared.cmp.Ordering.TheVariants.{Less, Equal, Greater}
 use Rattle.cb_scan.specs.declared.facts.Def.{Def}
+use Rattle.cb_scan.specs.declared.facts.Tag as facts
 use Rattle.cb_scan.specs.declared.lex.piece.Span.{Span}
-use Rattle.cb_scan.specs.Definitions.{IsWithin, facts_of}
+use Rattle.cb_scan.specs.Definitions.{IsTagWithin, IsWithin, facts_of}
 use Rattle.cb_scan.specs.Keys.{key_prefix}
 use Rattle.cb_scan.specs.lex.Tokens.{bytes_of}
 use Rattle.cb_scan.specs.Order.{AreOrdered, goes_first, in_order}
@@ -36,9 +37,9 @@ use Rattle.cb_index.specs.Held.{AreRising, Lister, all_entries, entries_of, entr
 use Rattle.cb_index.specs.Orders.{def_key, def_prefix, defs_listed, numbered, tag_front, tag_key}
 use Rattle.cb_index.specs.Orders.{tag_prefix, tags_listed}
 use Rattle.cb_index.specs.Rows.{file_tags, file_tags_named, tag_in, tags_by_name, tags_by_tag_name}
-use Rattle.cb_index.specs.Rows.{tags_named}
+use Rattle.cb_index.specs.Rows.{scope_in, tags_named}
 use Rattle.cb_index.specs.Shelved.{IsIndexOf, with_facts}
-use Rattle.cb_index.specs.steps.Found.{tag_at, tag_in_text, tag_of_def}
+use Rattle.cb_index.specs.steps.Found.{scope_cut, tag_at, tag_in_text, tag_of_def}
 use Rattle.cb_index.specs.steps.Left.{entries_in, file_or_end}
 use Rattle.cb_index.specs.declared.entry.Entry.{Entry}
 use Rattle.cb_index.specs.declared.entry.Shown.{Shown}
@@ -216,16 +217,22 @@ module _ (a : Archived) (s : Shown) (text : List ℕ)
   entry prefix n =
       record { prefix = prefix; name = s.name; version = s.version; number = n; rows = 1 }
 
+  scope_is : (t : Option facts.Tag)
+      → MatchOption t (Unit {0}) (λ (x : facts.Tag). IsWithin text x.name)
+      → option_map (scope_cut text) t ≡ option_map (scope_in file) t
+  scope_is None within = refl
+  scope_is (Some t) within = λ i. Some (record { kind = t.kind; name = cut_is text t.name within i })
+
   module _ (prefix n : ℕ) (d : Def) (rest : List Def) (is : drop n (facts_of text).defs ≡ d ∷ rest)
       (within : IsWithin text d.name) where
     found_def : slice_get (facts_of text).defs n ≡ Some d
     found_def = at_front n (facts_of text).defs ∙ ap (λ l. slice_get l 0) is
 
-    tag_is : tag_at a (entry prefix n) ≡ tag_in file d
-    tag_is =
+    tag_is : IsTagWithin text d → tag_at a (entry prefix n) ≡ tag_in file d
+    tag_is tagged =
         ap (tag_in_text (name_of a s.name) n) there
         ∙ ap (tag_of_def (name_of a s.name) text) found_def
-        ∙ (λ i. record (tag_in file d) { name = cut_is text d.name within i })
+        ∙ (λ i. record (tag_in file d) { name = cut_is text d.name within i; scope = scope_is d.tag tagged i })
 
     key_is : key_of def_key a (entry prefix n) ≡ bytes_of text d.name
     key_is =
@@ -234,24 +241,24 @@ module _ (a : Archived) (s : Shown) (text : List ℕ)
         ∙ cut_is text d.name within
 
   tags_from : (prefixed : Def → ℕ) (n : ℕ) (defs : List Def) → drop n (facts_of text).defs ≡ defs
-      → AllByRecursion (λ (d : Def). IsWithin text d.name) defs
+      → AllByRecursion (λ (d : Def). IsWithin text d.name) defs → AllByRecursion (IsTagWithin text) defs
       → map (tag_at a) (map (entry_of s) (numbered n (map prefixed defs))) ≡ map (tag_in file) defs
-  tags_from prefixed n [] is within = refl
-  tags_from prefixed n (d ∷ defs) is within =
-      λ i. tag_is (prefixed d) n d defs is within.0 i
+  tags_from prefixed n [] is within tagged = refl
+  tags_from prefixed n (d ∷ defs) is within tagged =
+      λ i. tag_is (prefixed d) n d defs is within.0 tagged.0 i
       ∷ tags_from prefixed (suc n) defs
-      (drop_next n (facts_of text).defs ∙ ap (drop 1) is) within.1 i
+      (drop_next n (facts_of text).defs ∙ ap (drop 1) is) within.1 tagged.1 i
 
   tags_named_from : (name : List ℕ) (n : ℕ) (defs : List Def) → drop n (facts_of text).defs ≡ defs
-      → AllByRecursion (λ (d : Def). IsWithin text d.name) defs
+      → AllByRecursion (λ (d : Def). IsWithin text d.name) defs → AllByRecursion (IsTagWithin text) defs
       → map (tag_at a) (filter (has_key def_key a (key_prefix name) name)
       (map (entry_of s) (numbered n (map (def_prefix text) defs))))
       ≡ map (tag_in file) (filter (λ (d : Def). bytes_eq name (bytes_of text d.name)) defs)
-  tags_named_from name n [] is within = refl
-  tags_named_from name n (d ∷ defs) is within =
+  tags_named_from name n [] is within tagged = refl
+  tags_named_from name n (d ∷ defs) is within tagged =
       let later =
       tags_named_from name (suc n) defs
-      (drop_next n (facts_of text).defs ∙ ap (drop 1) is) within.1 in
+      (drop_next n (facts_of text).defs ∙ ap (drop 1) is) within.1 tagged.1 in
       let here = entry (def_prefix text d) n in
       let kept =
       filter (has_key def_key a (key_prefix name) name)
@@ -262,7 +269,7 @@ module _ (a : Archived) (s : Shown) (text : List ℕ)
       ∙ ap (bytes_eq name) (key_is (def_prefix text d) n d defs is within.0))
       ∙ kept_or_not (tag_at a) (tag_in file) (bytes_eq name (bytes_of text d.name)) here kept d
       (filter (λ (x : Def). bytes_eq name (bytes_of text x.name)) defs)
-      (tag_is (def_prefix text d) n d defs is within.0) later
+      (tag_is (def_prefix text d) n d defs is within.0 tagged.0) later
 
 module _ (a : Archived) where
   all_tags : (lister : Lister) (prefixed : List ℕ → Def → ℕ)
@@ -278,7 +285,7 @@ module _ (a : Archived) where
       map-append (tag_at a) (entries_of lister a s) (all_entries lister a shown)
       ∙ (λ i. (ap (λ o. map (tag_at a) (map (entry_of s) (lister o))) there
       ∙ ap (λ ps. map (tag_at a) (map (entry_of s) ps)) (some text)
-      ∙ tags_from a s text there (prefixed text) 0 (facts_of text).defs refl (facts_lie text).defs)
+      ∙ tags_from a s text there (prefixed text) 0 (facts_of text).defs refl (facts_lie text).defs (facts_lie text).tags)
       i
       ++ all_tags lister prefixed some shown all.1 i)
 
@@ -297,7 +304,7 @@ module _ (a : Archived) where
       ∙ map-append (tag_at a) (filter has (entries_of defs_listed a s))
       (filter has (all_entries defs_listed a shown))
       ∙ (λ i. (ap (λ o. map (tag_at a) (filter has (map (entry_of s) (defs_listed o)))) there
-      ∙ tags_named_from a s text there name 0 (facts_of text).defs refl (facts_lie text).defs) i
+      ∙ tags_named_from a s text there name 0 (facts_of text).defs refl (facts_lie text).defs (facts_lie text).tags) i
       ++ all_tags_named name shown all.1 i)
 
   module _ (shown : List Shown) (all : AllByRecursion (IsThere a) shown) (up : AreAscending a shown)

@@ -5,12 +5,13 @@ use Rattle.std.specs.Option.{option_map}
 use Rattle.std.specs.Str.{bytes_eq}
 use Rattle.cb_scan.specs.declared.facts.Call.{Call}
 use Rattle.cb_scan.specs.declared.facts.Def.{Def}
+use Rattle.cb_scan.specs.declared.facts.Tag as facts
 use Rattle.cb_scan.specs.declared.facts.Use.{Use}
 use Rattle.cb_scan.specs.Definitions.{facts_of}
 use Rattle.cb_scan.specs.lex.Tokens.{bytes_of}
 use Rattle.cb_scan.specs.Lines.{line_text}
 use Rattle.cb_scan.specs.Order.{in_order}
-use Rattle.cb_tags.specs.TagLines.{Tag}
+use Rattle.cb_tags.specs.TagLines.{Tag, TagScope}
 use Rattle.cb_tags.specs.TagNames.{tag_name}
 use Rattle.cb_index.specs.Files.{File}
 use Rattle.cb_index.specs.declared.kind.FactKind.{FactKind}
@@ -27,6 +28,10 @@ pub record Fact : Type 0 where
 
 -- ---- definitions
 
+-- the body that a definition of a file is in
+abbrev pub scope_in : File → facts.Tag → TagScope
+scope_in f t = record { kind = t.kind; name = bytes_of f.bytes t.name }
+
 -- a definition of a file as a tag
 abbrev pub tag_in : File → Def → Tag
 tag_in f d = record {
@@ -36,6 +41,7 @@ tag_in f d = record {
   text = line_text f.bytes d.line;
   kind = d.kind;
   local = d.local;
+  scope = option_map (scope_in f) d.tag;
 }
 
 -- the tags of a file, by place

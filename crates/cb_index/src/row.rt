@@ -58,7 +58,7 @@ fn start_of(span: Option<Span>) -> u32
     }
 }
 
-/// The kinds at one place: a function, a macro, a typedef, a structure, a union, an enumeration.
+/// The kinds at one place, in their order.
 fn rank_of(kind: Kind) -> u32
     ensures { result ≡ kind_rank kind }
 {
@@ -69,6 +69,11 @@ fn rank_of(kind: Kind) -> u32
         Kind::Struct => 3,
         Kind::Union => 4,
         Kind::Enum => 5,
+        Kind::Enumerator => 6,
+        Kind::Member => 7,
+        Kind::Variable => 8,
+        Kind::External => 9,
+        Kind::Prototype => 10,
     }
 }
 

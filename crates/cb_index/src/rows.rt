@@ -1,26 +1,27 @@
 //! The rows that entries stand for.
 ghost use Rattle.std.specs.Prelude.{◌≡◌};
-ghost use Rattle.std.specs.Option.{option_copied};
+ghost use Rattle.std.specs.Option.{option_copied, option_map};
 ghost use Rattle.cb_scan.specs.Definitions.{facts_of};
 ghost use Rattle.cb_scan.specs.Lines.{line_text};
-ghost use Rattle.cb_tags.specs.TagLines.{tag_of};
+ghost use Rattle.cb_tags.specs.TagLines.{tag_of, scope_of};
 ghost use Rattle.cb_index.specs.steps.Found.{
   fact_at,
   fact_of_call,
   fact_of_use,
   no_fact,
   no_tag,
+  scope_cut,
   tag_at,
   tag_of_def,
 };
 ghost use Rattle.cb_index.specs.steps.Left.{fact_of, fact_of_spot};
 
 use crate::archive::{Archive, Version};
-use crate::bytes::bytes_at;
+use crate::bytes::{bytes_at, cut};
 use crate::entry::Entry;
 use crate::kind::FactKind;
-use cb_scan::{Call, Def, Facts, Kind, Source, Use};
-use cb_tags::TagRow;
+use cb_scan::{Call, Def, Facts, Kind, Source, Tag, Use};
+use cb_tags::{Scope, TagRow};
 
 /// A use or a call. Of a call the name is the called one, and the scope the one that calls.
 #[derive(Clone, Copy, Debug)]
@@ -68,7 +69,19 @@ fn no_tag(file: &[u8]) -> TagRow<'_>
         text: b"",
         kind: Kind::Function,
         local: false,
+        scope: None,
     }
+}
+
+/// The body that a definition is in.
+fn scope_of(source: &Source, tag: Option<Tag>) -> Option<Scope<'_>>
+    ensures { option_map scope_of result ≡ option_map (scope_cut source.now) tag }
+{
+    let tag = tag?;
+    Some(Scope {
+        kind: tag.kind,
+        name: cut(source.bytes(), tag.name),
+    })
 }
 
 fn tag_of_def<'a>(file: &'a [u8], source: &'a Source, def: Option<&Def>) -> TagRow<'a>
@@ -82,6 +95,7 @@ fn tag_of_def<'a>(file: &'a [u8], source: &'a Source, def: Option<&Def>) -> TagR
             text: shown_line(source, def.line),
             kind: def.kind,
             local: def.local,
+            scope: scope_of(source, def.tag),
         },
         None => no_tag(file),
     }

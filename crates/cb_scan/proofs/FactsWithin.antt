@@ -14,7 +14,8 @@ use Rattle.cb_scan.specs.declared.lex.piece.Span.{Span}
 use Rattle.cb_scan.specs.declared.lex.token.Token.{Token}
 use Rattle.cb_scan.specs.declared.rules.scope.Range.{Range}
 use Rattle.cb_scan.specs.rules.Code.{code, directives, is_newline, logical_lines}
-use Rattle.cb_scan.specs.Definitions.{AreWithin, IsScopeWithin, IsWithin, calls, facts_of}
+use Rattle.cb_scan.specs.Definitions.{AreWithin, IsScopeWithin, IsTagWithin, IsWithin, calls}
+use Rattle.cb_scan.specs.Definitions.{facts_of, function_def}
 use Rattle.cb_scan.specs.Definitions.{definitions, definitions_from, macro_def, structure_def}
 use Rattle.cb_scan.specs.Definitions.{typedef_def}
 use Rattle.cb_scan.specs.rules.Depth.{no_token, token_at}
@@ -61,6 +62,11 @@ pub all_in_order : {X : Type 0} (key : X → List ℕ) (Q : X → Type 0) (xs : 
 unfolding in_order
 all_in_order key Q [] a = tt
 all_in_order key Q (x ∷ xs) a = all_put key Q x (in_order key xs) a.0 (all_in_order key Q xs a.1)
+
+all_made : {X Y : Type 0} (make : X → Y) (Q : Y → Type 0) → ((x : X) → Q (make x)) → (xs : List X)
+    → AllByRecursion Q (map make xs)
+all_made make Q holds [] = tt
+all_made make Q holds (x ∷ xs) = (holds x, all_made make Q holds xs)
 
 -- ---- functions, macros and calls
 all_function_names : (P : Token → Type 0) (ts : List Token) (k n : ℕ) → AllByRecursion P ts
@@ -347,6 +353,18 @@ module _ (text : List ℕ) where
       (defs_of_structures (structures (code text (pieces text)))
       (all_structures (TokenWithin text) (code text (pieces text)) code_tokens)))
 
+  tags_lie : AllByRecursion (IsTagWithin text) (definitions text)
+  unfolding definitions_from
+  tags_lie =
+      all_in_order def_key (IsTagWithin text) _
+      (all-append (IsTagWithin text) _ _
+      (all-append (IsTagWithin text) _ _
+      (all-append (IsTagWithin text) _ _
+      (all_made function_def (IsTagWithin text) (λ f. tt) (functions (code text (pieces text))))
+      (all_made macro_def (IsTagWithin text) (λ t. tt) (defined_macros text (pieces text))))
+      (all_made typedef_def (IsTagWithin text) (λ t. tt) (typedefs (code text (pieces text)))))
+      (all_made structure_def (IsTagWithin text) (λ s. tt) (structures (code text (pieces text)))))
+
   uses_lie : AllByRecursion (λ (u : Use). IsWithin text u.name × IsScopeWithin text u.scope) (uses text (pieces text))
   unfolding uses
   uses_lie = uses_within scopes_lie (flat_map used (logical_lines text (pieces text)))
@@ -372,6 +390,7 @@ module _ (text : List ℕ) where
   facts_lie = record {
     defs = all_implied (DefWithin text) (λ (d : Def). IsWithin text d.name) (λ d w. w.0)
         (definitions text) definitions_lie;
+    tags = tags_lie;
     lines = all_implied (DefWithin text) (λ (d : Def). IsLineOf text d.line) (λ d w. w.1)
         (definitions text) definitions_lie;
     uses = uses_lie;

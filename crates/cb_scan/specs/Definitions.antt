@@ -5,6 +5,7 @@ use Rattle.std.specs.Option.{MatchOption}
 use Rattle.cb_scan.specs.declared.facts.Call.{Call}
 use Rattle.cb_scan.specs.declared.facts.Def.{Def}
 use Rattle.cb_scan.specs.declared.facts.Include.{Include}
+use Rattle.cb_scan.specs.declared.facts.Tag.{Tag}
 use Rattle.cb_scan.specs.declared.facts.Use.{Use}
 use Rattle.cb_scan.specs.declared.facts.Kind.TheVariants as kind
 use Rattle.cb_scan.specs.declared.lex.piece.Piece.{Piece}
@@ -89,9 +90,14 @@ IsWithin text span = (span.start ≤ span.end) × (span.end ≤ length text)
 abbrev pub IsScopeWithin : List ℕ → Option Span → Type 0
 IsScopeWithin text scope = MatchOption scope (Unit {0}) (IsWithin text)
 
+-- the tag of a definition lies in the text, if there is one
+abbrev pub IsTagWithin : List ℕ → Def → Type 0
+IsTagWithin text d = MatchOption d.tag (Unit {0}) (λ (t : Tag). IsWithin text t.name)
+
 -- the spans of all facts lie in the text, and the lines of the definitions are lines of it
 pub record AreWithin (text : List ℕ) (f : TextFacts) : Type 0 where
   pub defs : AllByRecursion (λ (d : Def). IsWithin text d.name) f.defs
+  pub tags : AllByRecursion (IsTagWithin text) f.defs
   pub lines : AllByRecursion (λ (d : Def). IsLineOf text d.line) f.defs
   pub uses : AllByRecursion (λ (u : Use). IsWithin text u.name × IsScopeWithin text u.scope) f.uses
   pub calls : AllByRecursion (λ (c : Call). IsWithin text c.callee × IsWithin text c.caller) f.calls

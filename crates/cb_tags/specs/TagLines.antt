@@ -27,6 +27,10 @@ pub record Tag : Type 0 where
   pub local : Bool
   pub scope : Option TagScope
 
+-- what the body of a row says
+abbrev pub scope_of : Scope → TagScope
+scope_of s = record { kind = s.kind; name = s.name.now }
+
 -- what a row says
 abbrev pub tag_of : TagRow → Tag
 tag_of r = record {
@@ -36,7 +40,7 @@ tag_of r = record {
   text = r.text.now;
   kind = r.kind;
   local = r.local;
-  scope = option_map (λ (s : Scope). record { kind = s.kind; name = s.name.now }) r.scope;
+  scope = option_map scope_of r.scope;
 }
 
 -- the plain line (POSIX ctags): tag name, file and address, separated by tabs

@@ -4,11 +4,12 @@ use Rattle.std.specs.List.{flat_map}
 use Rattle.std.specs.Option.{option_map}
 use Rattle.cb_scan.specs.declared.facts.Call.{Call}
 use Rattle.cb_scan.specs.declared.facts.Def.{Def}
+use Rattle.cb_scan.specs.declared.facts.Tag as facts
 use Rattle.cb_scan.specs.declared.facts.Use.{Use}
 use Rattle.cb_scan.specs.declared.facts.Kind.TheVariants as kind
 use Rattle.cb_scan.specs.Definitions.{facts_of}
 use Rattle.cb_scan.specs.Lines.{line_text}
-use Rattle.cb_tags.specs.TagLines.{Tag}
+use Rattle.cb_tags.specs.TagLines.{Tag, TagScope}
 use Rattle.cb_index.specs.Archived.{Archived, name_of}
 use Rattle.cb_index.specs.Bytes.{cut}
 use Rattle.cb_index.specs.Rows.{Fact}
@@ -26,7 +27,11 @@ no_tag file = record {
   text = [];
   kind = kind.Function;
   local = false;
+  scope = None;
 }
+
+abbrev pub scope_cut : List ℕ → facts.Tag → TagScope
+scope_cut text t = record { kind = t.kind; name = cut text t.name }
 
 abbrev pub tag_of_def : List ℕ → List ℕ → Option Def → Tag
 tag_of_def file text None = no_tag file
@@ -37,6 +42,7 @@ tag_of_def file text (Some d) = record {
   text = line_text text d.line;
   kind = d.kind;
   local = d.local;
+  scope = option_map (scope_cut text) d.tag;
 }
 
 abbrev pub tag_in_text : List ℕ → ℕ → Option (List ℕ) → Tag

@@ -54,6 +54,7 @@ fn each_line_takes_a_long_text(rt: HostRuntime) -> Result<(), Fail> {
         text: text.as_slice(),
         kind: Kind::Macro,
         local: false,
+        scope: None,
     };
     let plain = around(rt.alloc(), b"x\ta.c\t/^", escaped.as_slice(), b"$/\n")?;
     assert!(rt; written(rt.alloc(), Form::Plain, &row)?.as_slice() == plain.as_slice());

@@ -53,6 +53,7 @@ const TWICE: TagRow<'static> = TagRow {
     text: b"#define TWICE(x) ((x) + add(x, 0))",
     kind: Kind::Macro,
     local: false,
+    scope: None,
 };
 
 const ADD: TagRow<'static> = TagRow {
@@ -62,6 +63,7 @@ const ADD: TagRow<'static> = TagRow {
     text: b"static int add(int a, int b) {",
     kind: Kind::Function,
     local: true,
+    scope: None,
 };
 
 const MAIN: TagRow<'static> = TagRow {
@@ -71,6 +73,7 @@ const MAIN: TagRow<'static> = TagRow {
     text: b"int main(void) {",
     kind: Kind::Function,
     local: false,
+    scope: None,
 };
 
 const WORD: TagRow<'static> = TagRow {
@@ -80,6 +83,7 @@ const WORD: TagRow<'static> = TagRow {
     text: b"\ttypedef unsigned long word; ",
     kind: Kind::Typedef,
     local: true,
+    scope: None,
 };
 
 const ESCAPED: TagRow<'static> = TagRow {
@@ -89,6 +93,7 @@ const ESCAPED: TagRow<'static> = TagRow {
     text: b"#define P(x) (x/2) \\$",
     kind: Kind::Macro,
     local: false,
+    scope: None,
 };
 
 #[test]
@@ -149,6 +154,7 @@ fn extended_lines(rt: HostRuntime) -> Result<(), Fail> {
             text: b"n {",
             kind,
             local: true,
+            scope: None,
         };
         assert_eq!(rt;
             written(rt.alloc(), Form::Extended, &row)?.as_slice(),
