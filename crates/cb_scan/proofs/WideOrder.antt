@@ -4,7 +4,6 @@ use Rattle.std.proofs.Common.{arith, append_assoc, map, subst, Option, Some, Non
 use Rattle.std.proofs.lemmas.List.Elements.{filter-append}
 use Rattle.std.proofs.lemmas.List.Sorted.{IsPermutation-append_left, IsPermutation-append_right}
 use Rattle.std.specs.Prelude.{◌||◌, ◌&&◌, cond, filter, not, if◌then◌else◌}
-
 use Rattle.std.specs.List.{AllByRecursion, flat_map}
 use Rattle.std.specs.List.Sorted.{IsPermutation}
 use Rattle.std.specs.Option.{option_map_or, option_or}

@@ -58,14 +58,14 @@ module _ (text : List ℕ) where
       elim (leaves_out a (x ∷ xs)) as (λ l. Rise n (cond l (kept_from next xs) (x ∷ kept_from next xs))) [
         | true ↦ rise_from n next (before_after b t) ts rising.2 from.1
         | false ↦ (
-            from.0,
-            (
-              counted_is b t,
-              rise_from (suc t.span.start) next (before_after b t) ts rising.2
-                  (all_implied (From t.span.end) (From (suc t.span.start)) (λ y le. omega (arith, le)) ts
-                  rising.1),
-            ),
-          )
+          from.0,
+          (
+            counted_is b t,
+            rise_from (suc t.span.start) next (before_after b t) ts rising.2
+                (all_implied (From t.span.end) (From (suc t.span.start)) (λ y le. omega (arith, le)) ts
+                rising.1),
+          ),
+        )
       ]
 
   read_from : (a : Attribute) (b : Before) (ts : List Token)
