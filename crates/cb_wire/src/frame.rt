@@ -59,12 +59,14 @@ pub struct Frames {
 }
 
 impl Frames {
-    ghost use Rattle.std.specs.Prelude.{◌≡◌, List, ℕ, Some};
+    ghost use Rattle.std.specs.Prelude.{◌≡◌, ◌≤◌, IfOk, List, ℕ, Some, vec_capacity};
     ghost use Rattle.cb_tags.specs.Readers.{WhateverFollows};
     ghost use Rattle.cb_wire.specs.Frames.{ReadsFrame, first};
 
     /// Room for a head, and for a body of 65,536 bytes.
-    pub fn new(alloc: Global) -> Result<Frames, AllocError> {
+    pub fn new(alloc: Global) -> Result<Frames, AllocError>
+        ensures room { IfOk result (λ frames. 65536 ≤ vec_capacity frames.body) }
+    {
         let head = Vec::with_capacity(alloc, MOST_HEAD)?;
         let body = Vec::with_capacity(alloc, 65_536)?;
         Ok(Frames { head, body })
