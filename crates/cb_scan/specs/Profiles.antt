@@ -1,6 +1,6 @@
 -- What is found in a text by each profile. Macros, uses, includes, ranges and scopes have the same
 -- definitions in both, over the functions that the profile finds.
-use Rattle.std.specs.Prelude.{◌≡◌, ℕ, Bool, true, false, List, ◌++◌, None}
+use Rattle.std.specs.Prelude.{◌≡◌, ℕ, Bool, true, false, not, filter, List, ◌++◌, None}
 use Rattle.cb_scan.specs.declared.facts.Call.{Call}
 use Rattle.cb_scan.specs.declared.facts.Def.{Def}
 use Rattle.cb_scan.specs.declared.facts.Include.{Include}
@@ -8,7 +8,7 @@ use Rattle.cb_scan.specs.declared.facts.Kind.{Kind}
 use Rattle.cb_scan.specs.declared.facts.Use.{Use}
 use Rattle.cb_scan.specs.declared.lex.piece.Piece.{Piece}
 use Rattle.cb_scan.specs.declared.profile.Profile.{Profile}
-use Rattle.cb_scan.specs.declared.profile.Profile.TheVariants.{Standard, Wide}
+use Rattle.cb_scan.specs.declared.profile.Profile.TheVariants.{Prototypes, Standard, Wide}
 use Rattle.cb_scan.specs.declared.facts.Kind.TheVariants as kind
 use Rattle.cb_scan.specs.rules.Code.{code}
 use Rattle.cb_scan.specs.rules.Functions.{Function, functions}
@@ -25,11 +25,23 @@ use Rattle.cb_scan.specs.steps.Cut.{pieces}
 abbrev pub functions_by : Profile → List ℕ → List Piece → List Function
 functions_by Standard text ps = functions (code text ps)
 functions_by Wide text ps = functions_of text ps
+functions_by Prototypes text ps = functions_of text ps
 
--- the definitions that it finds, by place
+-- an external declaration or a prototype: what it names is defined elsewhere
+abbrev pub is_declaration : Kind → Bool
+is_declaration kind.External = true
+is_declaration kind.Prototype = true
+is_declaration _ = false
+
+-- all that the rules of the wide profile find, by place
+abbrev pub all_definitions : List ℕ → List Piece → List Def
+all_definitions text ps = in_order def_key (wide_found text ps)
+
+-- the definitions that a profile finds, by place
 abbrev pub definitions_by : Profile → List ℕ → List Piece → List Def
 definitions_by Standard text ps = definitions_from text ps
-definitions_by Wide text ps = in_order def_key (wide_found text ps)
+definitions_by Wide text ps = filter (λ d. not (is_declaration d.kind)) (all_definitions text ps)
+definitions_by Prototypes text ps = all_definitions text ps
 
 -- what is found with these definitions and functions
 abbrev pub facts_with : List Def → List Function → List ℕ → List Piece → TextFacts

@@ -5,7 +5,9 @@
 pub enum Profile {
     /// Functions, macros, typedefs, structures, unions and enumerations.
     Standard,
-    /// These, enumerators, members, variables and prototypes; and functions and types that macros
-    /// hide from the standard one.
+    /// These, enumerators, members and variables; and functions and types that macros hide from the
+    /// standard one.
     Wide,
+    /// All that the wide one finds, external declarations and prototypes.
+    Prototypes,
 }
