@@ -4,7 +4,7 @@ ghost use Rattle.cb_desk.specs.Desk.{CountsUpTo};
 ghost use Rattle.cb_desk.specs.declared.limits.TheConstants.{MOST_BYTES};
 
 use cb_index::{Links, Version};
-use cb_scan::{Meter, Source, scan};
+use cb_scan::{Meter, Profile, Source, scan};
 use std::alloc::{AllocError, Global};
 
 /// The version of a source, which is scanned.
@@ -17,7 +17,7 @@ pub(crate) fn scanned_source(
     ensures meter { CountsUpTo (length source) meter.old meter.new result }
 {
     let _counted = meter.read();
-    let Ok(facts) = scan(alloc, meter, &source) else {
+    let Ok(facts) = scan(alloc, meter, Profile::Standard, &source) else {
         return Err(AllocError);
     };
     let Ok(links) = Links::new(alloc, &facts) else {

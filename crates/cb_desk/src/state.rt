@@ -28,7 +28,7 @@ ghost use Rattle.cb_desk.specs.steps.Walks.{timeline_in};
 use crate::history::History;
 use crate::{Bounds, Change, Field, Files, Format, Places, Refusal, Rows, TagRows};
 use cb_index::{FactKind, IndexKind};
-use cb_scan::{Meter, Source, scan};
+use cb_scan::{Meter, Profile, Source, scan};
 use std::alloc::{AllocError, Global};
 use std::marker::Model;
 
@@ -61,7 +61,7 @@ fn scan_file(alloc: Global, meter: &mut Meter, source: &Source) -> Result<u64, A
     ensures counted { meter.new ≡ counted meter.old (length source.now) }
     ensures found { IfOk result (λ found. found ≡ length (facts_of source.now).defs) }
 {
-    match scan(alloc, meter, source) {
+    match scan(alloc, meter, Profile::Standard, source) {
         Ok(facts) => Ok(facts.defs().len() as u64),
         Err(_) => Err(AllocError),
     }

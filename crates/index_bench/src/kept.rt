@@ -2,7 +2,7 @@
 
 use crate::failed::Failed;
 use cb_index::{Links, Room, Shelf, Shown, Version};
-use cb_scan::{Facts, Meter, Source, scan};
+use cb_scan::{Facts, Meter, Profile, Source, scan};
 use std::alloc::Global;
 
 /// More files than are measured.
@@ -67,7 +67,7 @@ impl Kept {
         bytes: Vec<u8>,
     ) -> Result<(), Failed> {
         let source = Source::new(alloc, bytes)?;
-        let facts = scan(alloc, &mut Meter::new(), &source)?;
+        let facts = scan(alloc, &mut Meter::new(), Profile::Standard, &source)?;
         let links = Links::new(alloc, &facts)?;
         self.counts.add(&source, &facts);
         let name = push_name(&mut self.shelf, name.to_vec(alloc)?)?;
