@@ -12,12 +12,14 @@ use clap::Error;
 use clap::error::ErrorKind;
 use std::alloc::{AllocError, Global};
 
-/// What the program is to do, within which bounds.
+/// What the program is to do, within which bounds. A list has the names of more files, one a line;
+/// the list `-` is standard input.
 #[derive(Debug, Drop)]
 pub enum Job {
     /// A session over standard input and output, with these files loaded first.
     Line {
         bounds: Bounds,
+        list: Option<String>,
         files: Vec<String>,
     },
     /// The rows that answer a question about these files. The pattern is not empty.
@@ -25,6 +27,7 @@ pub enum Job {
         bounds: Bounds,
         field: Field,
         pattern: String,
+        list: Option<String>,
         files: Vec<String>,
     },
     /// The tags of these files: a listing on standard output, or else a tags file of this name and
@@ -34,9 +37,14 @@ pub enum Job {
         listing: bool,
         tagsfile: String,
         format: Format,
+        list: Option<String>,
         files: Vec<String>,
     },
 }
+
+/// What is said of words without a file.
+const NO_FILE: &str =
+    "error: the following required arguments were not provided:\n  <FILE>...\n\nFor more information, try '--help'.\n";
 
 /// Why there is no job.
 #[derive(Debug, Drop)]
@@ -79,9 +87,8 @@ pub fn job_of(alloc: Global, words: &[String]) -> Result<Job, Usage>
     };
     match found {
         Some(job) => Ok(job),
-        // clap refuses words without a subcommand, other formats and other bounds, so no words lead
-        // here.
-        None => Err(Usage::Wrong(command.render_usage()?)),
+        // clap refuses other words, so only those without a file lead here.
+        None => Err(Usage::Wrong(String::from_str(alloc, NO_FILE)?)),
     }
 }
 

@@ -1,6 +1,6 @@
 //! The job of what clap found in the words.
 ghost use Rattle.std.specs.Prelude.{◌≡◌, ℕ, IfOk, MatchResult, Some, codes, map, string_bytes};
-ghost use Rattle.std.specs.Option.{MatchOption};
+ghost use Rattle.std.specs.Option.{MatchOption, option_map};
 ghost use Rattle.clap.specs.Words.{subcommand_rows_of};
 ghost use Rattle.cb_desk.specs.World.{WorldBounds};
 ghost use Rattle.cb_words.specs.Jobs.{
@@ -11,6 +11,8 @@ ghost use Rattle.cb_words.specs.Jobs.{
   field_of,
   first_or,
   format_number,
+  list_in,
+  names_files,
 };
 ghost use Rattle.cb_words.specs.Usages.{IsBadSearch};
 ghost use Rattle.cb_words.specs.declared.job.Job.{Job};
@@ -38,14 +40,17 @@ pub(crate) fn found_job(alloc: Global, matches: &ArgMatches<'_>) -> Result<Optio
     }
 }
 
-/// The search that was asked for, or `None` where there is no such bound. Its number is judged
-/// first, and then its pattern.
+/// The search that was asked for, or `None` where there is no file or no such bound. Its number
+/// is judged next, and then its pattern.
 fn find_job(alloc: Global, found: &ArgMatches<'_>) -> Result<Option<Job>, Usage>
     ensures { MatchResult result (λ job. MatchOption job
         ((job : Job) → IsJobOf (Some (codes "find", rows_in found.now)) job → ⊥)
         (IsJobOf (Some (codes "find", rows_in found.now))))
         (IsBadSearch (Some (codes "find", rows_in found.now))) }
 {
+    if !names_files(found) {
+        return Ok(None);
+    }
     let Some(field) = field_of(value_or(found, "num", "")) else {
         return Err(Usage::BadField);
     };
@@ -60,6 +65,7 @@ fn find_job(alloc: Global, found: &ArgMatches<'_>) -> Result<Option<Job>, Usage>
         bounds,
         field,
         pattern: String::from_str(alloc, pattern)?,
+        list: list_of(alloc, found)?,
         files: files_of(alloc, found)?,
     }))
 }
@@ -85,16 +91,20 @@ fn line_job(alloc: Global, found: &ArgMatches<'_>) -> Result<Option<Job>, AllocE
     };
     Ok(Some(Job::Line {
         bounds,
+        list: list_of(alloc, found)?,
         files: files_of(alloc, found)?,
     }))
 }
 
-/// The tags that were asked for, or `None` where there is no such format or bound.
+/// The tags that were asked for, or `None` where there is no file or no such format or bound.
 fn tags_job(alloc: Global, found: &ArgMatches<'_>) -> Result<Option<Job>, AllocError>
     ensures { IfOk result (λ job. MatchOption job
         ((job : Job) → IsJobOf (Some (codes "tags", rows_in found.now)) job → ⊥)
         (IsJobOf (Some (codes "tags", rows_in found.now)))) }
 {
+    if !names_files(found) {
+        return Ok(None);
+    }
     let Some(format) = format_of(value_or(found, "format", "1")) else {
         return Ok(None);
     };
@@ -106,6 +116,7 @@ fn tags_job(alloc: Global, found: &ArgMatches<'_>) -> Result<Option<Job>, AllocE
         listing: value_or(found, "listing", "false") == "true",
         tagsfile: String::from_str(alloc, value_or(found, "tagsfile", "tags"))?,
         format,
+        list: list_of(alloc, found)?,
         files: files_of(alloc, found)?,
     }))
 }
@@ -147,6 +158,23 @@ fn value_or<'a>(found: &ArgMatches<'a>, id: &str, text: &'a str) -> &'a str
     ensures { result.now ≡ first_or id.now text.entry.now (rows_in found.now) }
 {
     found.get_str(id).unwrap_or(text)
+}
+
+/// Whether a file or a list of files was given.
+fn names_files(found: &ArgMatches<'_>) -> bool
+    ensures { result ≡ names_files (rows_in found.now) }
+{
+    found.get_raw("files").is_some() || found.get_str("files_from").is_some()
+}
+
+/// The list of files that was given.
+fn list_of(alloc: Global, found: &ArgMatches<'_>) -> Result<Option<String>, AllocError>
+    ensures { IfOk result (λ list. option_map string_bytes list ≡ list_in (rows_in found.now)) }
+{
+    match found.get_str("files_from") {
+        Some(list) => Ok(Some(String::from_str(alloc, list)?)),
+        None => Ok(None),
+    }
 }
 
 /// The files that were given.
