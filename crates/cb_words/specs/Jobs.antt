@@ -1,6 +1,6 @@
 -- The command line: its subcommands, and the job that the words give.
-use Rattle.std.specs.Prelude.{◌≡◌, ◌≢◌, ℕ, Bool, List, [], ◌∷◌, Option, None, Some, true, false}
-use Rattle.std.specs.Prelude.{◌||◌, IsTrue, codes, is_some, map, string_bytes, unwrap_or}
+use Rattle.std.specs.Prelude.{◌≡◌, ◌≢◌, ◌+◌, ◌-◌, ℕ, Bool, List, [], ◌∷◌, Option, None, Some}
+use Rattle.std.specs.Prelude.{true, false, ◌||◌, codes, is_some, map, string_bytes, unwrap_or}
 use Rattle.std.specs.Option.{option_map}
 use Rattle.std.specs.Str.{bytes_eq}
 use Rattle.std.specs.Str.Parse.{digits_value, without_leading_plus}
@@ -127,33 +127,49 @@ abbrev pub Writes : ℕ → Text → ℕ → Type 0
 Writes most text n =
     IsUnsignedIn 1 most text × (n ≡ digits_value 10 (without_leading_plus text))
 
--- the bounds that were found; the history always has the standard one
+-- the most changes that can be undone in a session of at most so many files: those of the standard
+-- bounds, and one for each file more than these have, since each load is a change
+abbrev pub history_of : ℕ → ℕ
+history_of files = standard_bounds.history + (files - standard_bounds.files)
+
+-- the bounds that were found
 pub record AreBoundsOf (rows : List Row) (b : WorldBounds) : Type 0 where
   pub files : Writes most_files (first_or (codes "max_files") (codes "4096") rows) b.files
   pub file_bytes : Writes most_file_bytes
       (first_or (codes "max_file_bytes") (codes "1000000") rows) b.file_bytes
-  pub history : b.history ≡ standard_bounds.history
+  pub history : b.history ≡ history_of b.files
 
 -- the list of files that was found, if there is one
 abbrev pub list_in : List Row → Option Text
 list_in rows = first_of (codes "files_from") rows
 
+-- the name of a list that stands for standard input
+abbrev pub is_standard_input : Text → Bool
+is_standard_input name = bytes_eq name (codes "-")
+
+-- there is a list, and it is standard input
+abbrev pub reads_input : Option Text → Bool
+reads_input None = false
+reads_input (Some name) = is_standard_input name
+
 -- a file or a list of files was found, of which a search and tags need one
 abbrev pub names_files : List Row → Bool
 names_files rows = is_some (all_of (codes "files") rows) || is_some (list_in rows)
 
--- the job is the one of the subcommand that was found, and of what was found for its arguments
+-- the job is the one of the subcommand that was found, and of what was found for its arguments; a
+-- session reads its commands from standard input, and so no list
 abbrev pub IsJobOf : Option (Text × List Row) → Job → Type 0
 IsJobOf None job = ⊥
 IsJobOf (Some found) (Line bounds list files) =
     (found.0 ≡ codes "line")
     × AreBoundsOf found.1 bounds
+    × (reads_input (list_in found.1) ≡ false)
     × (option_map string_bytes list ≡ list_in found.1)
     × (map string_bytes files.items ≡ all_or_none (codes "files") found.1)
 IsJobOf (Some found) (Find bounds field pattern list files) =
     (found.0 ≡ codes "find")
     × AreBoundsOf found.1 bounds
-    × IsTrue (names_files found.1)
+    × (names_files found.1 ≡ true)
     × (option_map string_bytes list ≡ list_in found.1)
     × (field_of (first_or (codes "num") [] found.1) ≡ Some field)
     × (string_bytes pattern ≡ first_or (codes "pattern") [] found.1)
@@ -162,7 +178,7 @@ IsJobOf (Some found) (Find bounds field pattern list files) =
 IsJobOf (Some found) (Tags bounds listing tagsfile format list files) =
     (found.0 ≡ codes "tags")
     × AreBoundsOf found.1 bounds
-    × IsTrue (names_files found.1)
+    × (names_files found.1 ≡ true)
     × (option_map string_bytes list ≡ list_in found.1)
     × (listing ≡ bytes_eq (first_or (codes "listing") (codes "false") found.1) (codes "true"))
     × (string_bytes tagsfile ≡ first_or (codes "tagsfile") (codes "tags") found.1)

@@ -27,6 +27,11 @@ const VERSION: &str = "0.1.0";
 /// The numbers of the formats.
 static FORMATS: [&str; 2] = ["1", "2"];
 
+/// What is said of the list of a session, and of another list.
+const LIST: &str = "File with the names of more files, one a line";
+
+const LIST_OR_INPUT: &str = "File with the names of more files, one a line; - for standard input";
+
 /// The command of the program.
 pub(crate) fn browse_command<'a>(alloc: Global) -> Result<Command<'a>, AllocError>
     ensures { IfOk result (λ command. TakesFormats browse_app_of (app_of command)) }
@@ -48,7 +53,7 @@ fn line_command<'a>(alloc: Global) -> Result<Command<'a>, AllocError>
         .about("Reads commands from standard input and writes their replies")
         .after_help("Example: cbrowse line a.c");
     let command = with_bounds(alloc, command)?;
-    with_files(alloc, command, "C source to load first")
+    with_files(alloc, command, LIST, "C source to load first")
 }
 
 /// `find`: one search.
@@ -61,7 +66,7 @@ fn find_command<'a>(alloc: Global) -> Result<Command<'a>, AllocError>
     let command = with_num(alloc, command)?;
     let command = with_pattern(alloc, command)?;
     let command = with_bounds(alloc, command)?;
-    with_files(alloc, command, "C source to search")
+    with_files(alloc, command, LIST_OR_INPUT, "C source to search")
 }
 
 /// `tags`: a tags file, or a listing.
@@ -75,7 +80,12 @@ fn tags_command<'a>(alloc: Global) -> Result<Command<'a>, AllocError>
     let command = with_tagsfile(alloc, command)?;
     let command = with_format(alloc, command)?;
     let command = with_bounds(alloc, command)?;
-    with_files(alloc, command, "C source to write the tags of")
+    with_files(
+        alloc,
+        command,
+        LIST_OR_INPUT,
+        "C source to write the tags of",
+    )
 }
 
 /// Adds the number of the field.
@@ -195,22 +205,27 @@ fn with_most<'a>(
 fn with_files<'a>(
     alloc: Global,
     command: Command<'a>,
+    list: &'a str,
     help: &'a str,
 ) -> Result<Command<'a>, AllocError>
     ensures { IfOk result (λ more. app_of more ≡ with_files (app_of command.entry)) }
 {
-    let command = with_list(alloc, command)?;
+    let command = with_list(alloc, command, list)?;
     with_operands(alloc, command, help)
 }
 
 /// Adds `--files-from`.
-fn with_list<'a>(alloc: Global, command: Command<'a>) -> Result<Command<'a>, AllocError>
+fn with_list<'a>(
+    alloc: Global,
+    command: Command<'a>,
+    help: &'a str,
+) -> Result<Command<'a>, AllocError>
     ensures { IfOk result (λ more. app_of more ≡ with_rule (app_of command.entry) list_rule) }
 {
     let list = Arg::new(alloc, "files_from")
         .long("files-from")
         .value_name("LIST")
-        .help("File with the names of more files, one a line; - for standard input");
+        .help(help);
     command.arg(list)
 }
 
