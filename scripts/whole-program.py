@@ -7,8 +7,8 @@
 and standard error have, the exit status, and the tags file that is then there. Help and the texts
 on wrong words are compared whole or by their first line. After the rows come devices: a bound on
 the size of a file at each byte, standard input that fails after each byte, full devices, sources
-in the place of a tags file, a pipe as a file, 4,096 files and one more, and words that are not
-UTF-8. The exit status is 1 where a check failed.
+in the place of a tags file, a pipe as a file, 4,096 files and one more, lists as large as they may
+be, and words that are not UTF-8. The exit status is 1 where a check failed.
 """
 
 from __future__ import annotations
@@ -47,6 +47,16 @@ FILES = {
     "none.h": b"",
     "last.c": b" " * (1_000_000 - 20) + b"\nint last(void) {\n}\n",
     "big.c": b" " * 1_000_002,
+    # lists of files
+    "one.list": b"a.c",
+    "two.list": b"m.c\r\nn.c\n",
+    "none.list": b"",
+    "gone.list": b"a.c\nnone.c\n",
+    "gap.list": b"a.c\n\nm.c\n",
+    "big.list": b"big.c\n",
+    "quoted.list": b'"a.c"\n',
+    "return.list": b"a.c\r",
+    "latin.list": b"a.c\n\xe9.c\n",
 }
 PLAIN = b"""\
 Ma	a.c	/^int main(void) {$/
@@ -103,6 +113,7 @@ Arguments:
 Options:
       --max-files <N>       Most files, 1 to 1048576 [default: 4096]
       --max-file-bytes <N>  Most bytes of a file, 1 to 268435456 [default: 1000000]
+      --files-from <LIST>   File with the names of more files, one a line
   -h, --help                Print help
 
 Example: cbrowse line a.c
@@ -110,10 +121,10 @@ Example: cbrowse line a.c
 HELP_TAGS = b"""\
 Writes the tags of C sources to a tags file
 
-Usage: cbrowse tags [OPTIONS] <FILE>...
+Usage: cbrowse tags [OPTIONS] [FILE]...
 
 Arguments:
-  <FILE>...  C source to write the tags of
+  [FILE]...  C source to write the tags of
 
 Options:
   -x                        Write a listing to standard output instead
@@ -122,6 +133,7 @@ Options:
 [default: 1] [possible values: 1, 2]
       --max-files <N>       Most files, 1 to 1048576 [default: 4096]
       --max-file-bytes <N>  Most bytes of a file, 1 to 268435456 [default: 1000000]
+      --files-from <LIST>   File with the names of more files, one a line; - for standard input
   -h, --help                Print help
 
 Example: cbrowse tags a.c
@@ -129,17 +141,18 @@ Example: cbrowse tags a.c
 HELP_FIND = b"""\
 Writes the rows that answer one question about C sources
 
-Usage: cbrowse find [OPTIONS] <NUM> <PATTERN> <FILE>...
+Usage: cbrowse find [OPTIONS] <NUM> <PATTERN> [FILE]...
 
 Arguments:
   <NUM>      Field of the search: 0 uses of a name, 1 its definitions, 2 calls in a function, \
 3 calls of it, 4 a text, 7 file names, 8 includes
   <PATTERN>  What is searched for; after -- where it begins with -
-  <FILE>...  C source to search
+  [FILE]...  C source to search
 
 Options:
       --max-files <N>       Most files, 1 to 1048576 [default: 4096]
       --max-file-bytes <N>  Most bytes of a file, 1 to 268435456 [default: 1000000]
+      --files-from <LIST>   File with the names of more files, one a line; - for standard input
   -h, --help                Print help
 
 Example: cbrowse find 1 main a.c
@@ -278,6 +291,42 @@ ROWS = [
         Row([*words, "--max-files", "1048576", "--max-file-bytes", "268435456", "none.h"])
         for words in (["find", "1", "f"], ["tags", "-f", "-"])
     ),
+    # lists of files: their names stand behind the others, and in order
+    line(
+        b"1add\n1Mb\n:undo\n:undo\n1Mb\n1add\n",
+        b">> cscope: 1 lines\na.c add 4 static int add(int a, int b) {\n"
+        b">> cscope: 1 lines\nm.c Mb 1 int Mb(void) {\n>> cscope: done\n>> cscope: done\n"
+        b">> cscope: 0 lines\n>> cscope: 1 lines\na.c add 4 static int add(int a, int b) {\n>> ",
+        files=("--files-from", "two.list", "a.c"),
+    ),
+    line(b"7c\n", b">> cscope: 0 lines\n>> ", files=("--files-from=none.list",)),
+    Row(["tags", "--files-from", "one.list"], tags=("tags", PLAIN)),
+    Row(["tags", "-x", "a.c", "--files-from", "/dev/null"], LISTING),
+    Row(["tags", "--files-from", "none.list"], tags=("tags", b"")),
+    Row(["find", "0", "add", "--files-from", "-"], ROWS_OF_ADD, given=b"n.c\na.c\nm.c"),
+    Row(["find", "1", "Mb", "--files-from=two.list"], b"m.c Mb 1 int Mb(void) {\n"),
+    Row(["find", "1", "Mb", "--files-from", "none.list"]),
+    Row(["tags", "-f-", "--files-from", "-"], given=b""),
+    refused(["tags", "--files-from", "one.list", "a.c"], b"a.c: file exists"),
+    refused(["tags", "--files-from", "big.list", "a.txt"], b"a.txt: bad name"),
+    refused(["tags", "--files-from", "big.list", "m.c"], b"big.c: too large"),
+    refused(["tags", "a.c", "--max-files", "2", "--files-from", "two.list"], b"n.c: too many files"),
+    refused(["line", "none.c", "--files-from", "gone.list"], b"none.c: cannot be read"),
+    refused(["find", "1", "f", "m.c", "--files-from", "gone.list"], b"none.c: cannot be read"),
+    refused(["tags", "--files-from", "gap.list"], b": cannot be read"),
+    refused(["tags", "--files-from", "quoted.list"], b'"a.c": cannot be read'),
+    refused(["tags", "--files-from", "return.list"], b"a.c\\x0d: cannot be read"),
+    # lists that cannot be read
+    refused(["line", "--files-from", "none"], b"none: cannot be read"),
+    refused(["find", "1", "f", "none.c", "--files-from", "none"], b"none: cannot be read"),
+    refused(["tags", "a.txt", "--files-from", "d.c"], b"d.c: cannot be read"),
+    refused(["tags", "--files-from", "latin.list"], b"latin.list: cannot be read"),
+    refused(["tags", "--files-from", ""], b": cannot be read"),
+    refused(["line", "--files-from", "./-"], b"./-: cannot be read"),
+    wrong(["line", "--files-from", "-"], b"invalid value '-' for '--files-from <LIST>'"),
+    wrong(["line", "a.c", "--files-from=-"], b"invalid value '-' for '--files-from <LIST>'"),
+    refused(["find", "5", "f", "--files-from", "none"], NO_FIELD, 2),
+    refused(["find", "1", "", "--files-from", "none"], NO_PATTERN, 2),
     # files that cannot be read or loaded, or written
     refused(["tags", "a.c", "a.c"], b"a.c: file exists"),
     refused(["tags", "a.c", "a.txt", "a.c"], b"a.txt: bad name"),
@@ -296,11 +345,13 @@ ROWS = [
     # words that are wrong, and help
     wrong([], b"'cbrowse' requires a subcommand"),
     wrong(["search"], b"unrecognized subcommand 'search'"),
-    wrong(["find"], LACKS + b"  <NUM>\n  <PATTERN>\n  <FILE>...\n"),
-    wrong(["find", "1", "f"], LACKS + b"  <FILE>...\n"),
+    wrong(["find"], LACKS + b"  <NUM>\n  <PATTERN>\n"),
+    wrong(["find", "1", "f"], LACKS + b"  <FILE>... or --files-from <LIST>\n"),
+    wrong(["find", "5", "f"], LACKS + b"  <FILE>... or --files-from <LIST>\n"),
     wrong(["find", "4", "-x", "a.c"], b"unexpected argument '-x' found"),
     wrong(["line", "-x"], b"unexpected argument '-x' found"),
-    wrong(["tags"], LACKS + b"  <FILE>...\n"),
+    wrong(["tags"], LACKS + b"  <FILE>... or --files-from <LIST>\n"),
+    wrong(["tags", "--files-from"], b"a value is required for '--files-from <LIST>'"),
     wrong(
         ["tags", "--format", "3", "a.c"],
         b"invalid value '3' for '--format <FORMAT>'\n  [possible values: 1, 2]\n",
@@ -447,6 +498,13 @@ class Checks:
                 (started.returncode, out, said),
                 (1, meant, b"cbrowse: read fault\n"),
             )
+        near, far = os.openpty()
+        tty.setraw(far)
+        os.write(far, b"a.c\n")
+        os.close(far)
+        found = self.run(["tags", "-x", "--files-from", "-"], stdin=near)
+        os.close(near)
+        self.expect("a list that fails", found, (1, b"", b"cbrowse: -: cannot be read\n"))
 
     def full(self):
         """/dev/full as standard output and as the tags file."""
@@ -525,6 +583,39 @@ class Checks:
         )
 
 
+    def lists(self):
+        """Lists of more files than are in one history of 65,536 changes, and of the most bytes."""
+        bits = ("./", ".//")
+        names = ["".join(bits[n >> i & 1] for i in range(17)) + "none.h" for n in range(65_600)]
+        (self.folder / "many.list").write_text("\n".join(names))
+        words = ["line", "--max-files", "65601", "--files-from", "many.list"]
+        self.expect(
+            "65,600 files",
+            self.run(words, b":load n.c 0\n:undo\n:redo\n:load o.c 0\n"),
+            (
+                0,
+                b">> cscope: done\n" * 3 + b">> cscope: refused: too many files\n>> ",
+                b"",
+            ),
+        )
+        huge = self.folder / "huge.list"
+        huge.write_bytes(b"none.c\n")
+        for size, name in ((268_435_456, b"none.c"), (268_435_457, b"huge.list")):
+            os.truncate(huge, size)
+            self.expect(
+                ["a list of so many bytes", size],
+                self.run(["tags", "-x", "--files-from", "huge.list"]),
+                (1, b"", b"cbrowse: " + name + b": cannot be read\n"),
+            )
+        with open(huge, "rb") as file:
+            self.expect(
+                "such a list on standard input",
+                self.run(["tags", "-x", "--files-from", "-"], stdin=file),
+                (1, b"", b"cbrowse: -: cannot be read\n"),
+            )
+        huge.unlink()
+
+
 def main():
     parser = argparse.ArgumentParser(
         description=__doc__, formatter_class=argparse.RawDescriptionHelpFormatter
@@ -543,6 +634,7 @@ def main():
             checks.full,
             checks.sources,
             checks.pipes_and_many,
+            checks.lists,
         ):
             check()
     print(f"whole program: {checks.runs - checks.failed} passed, {checks.failed} failed")

@@ -9,12 +9,15 @@ _cbrowse() {
     case "$name $before" in
     "cbrowse line --max-files") kind=none ;;
     "cbrowse line --max-file-bytes") kind=none ;;
+    "cbrowse line --files-from") kind=files ;;
     "cbrowse find --max-files") kind=none ;;
     "cbrowse find --max-file-bytes") kind=none ;;
+    "cbrowse find --files-from") kind=files ;;
     "cbrowse tags -f") kind=files ;;
     "cbrowse tags --format") words='1 2' ;;
     "cbrowse tags --max-files") kind=none ;;
     "cbrowse tags --max-file-bytes") kind=none ;;
+    "cbrowse tags --files-from") kind=files ;;
     "cbrowse-tree -f") kind=files ;;
     "cbrowse-tree --format") words='1 2' ;;
     "cbrowse-tree -L") kind=files ;;
@@ -44,9 +47,9 @@ _cbrowse() {
         case $word in
         -*) case $name in
         'cbrowse') words='-h --help -V --version' ;;
-        'cbrowse line') words='--max-files --max-file-bytes -h --help' ;;
-        'cbrowse find') words='--max-files --max-file-bytes -h --help' ;;
-        'cbrowse tags') words='-x -f --format --max-files --max-file-bytes -h --help' ;;
+        'cbrowse line') words='--max-files --max-file-bytes --files-from -h --help' ;;
+        'cbrowse find') words='--max-files --max-file-bytes --files-from -h --help' ;;
+        'cbrowse tags') words='-x -f --format --max-files --max-file-bytes --files-from -h --help' ;;
         'cbrowse help') words='' ;;
         'cbrowse-tree') words='-f --format -x -L --questions --exclude -j --all --force --verbose --no-progress -S --sshloginfile --transfer -h --help --version' ;;
         'cbrowse-tree find') words='-f --format -x -L --questions --exclude -j --all --force --verbose --no-progress -S --sshloginfile --transfer -h --help --version' ;;

@@ -4,9 +4,8 @@
     make && verify/tools/lists-of-names.py
     verify/tools/lists-of-names.py --cbrowse PATH
 
-Long    more names than one command can be given: all are listed, and that a session takes the first
-        4,096 is told; line by line the first answer has two more rows that say so, whatever it
-        finds, and the next one has none.
+Long    more names than one command can be given, and more than a session takes that is given no
+        bounds: all are listed, and all are browsed, by one question and line by line.
 Odd     names with blanks, in quotes or not, and in UTF-8, files that are too large and folders are
         passed over, and told with how many they are, in each mode.
 None    a folder is no list: an old list stays, and the status is 1.
@@ -46,26 +45,20 @@ def long_list(place: Place) -> None:
             (inner / f"source_{folder * 1000 + number:07d}.c").touch()
     status, _, said = place.run("-b", "-R", below="long")
     lines = (place.folder / "long/cscope.out").read_text().splitlines()
-    check(
-        "70,001 names",
-        (status, len(lines)) == (0, 70001)
-        and said == "cbrowse-cscope: a session takes the first 4096 of 70001 files\n",
-        said,
-    )
-    found = place.run("-L", "-1", "f", "-R", below="long")
-    check("one of them is found", found == (0, ROW, left(65905, "more than 4096")), found)
-    told = (
-        b"cscope.out left-out 1 65905 files are left out: a session takes 4096\n"
-        b"cscope.out left-out 1 cbrowse-tree find answers about all\n"
-    )
-    for name, count, row in ("f", 1, ROW), ("none", 0, b""):
-        _, out, _ = place.run("-l", below="long", stdin=f"1{name}\n1f\n")
-        first = b">> cscope: %d lines\n" % (count + 2) + told + row
-        check(
-            f"told in the answer to 1{name}",
-            out == first + b">> cscope: 1 lines\n" + ROW + b">> ",
-            out,
-        )
+    check("70,001 names", (status, len(lines), said) == (0, 70001, ""), said)
+    last = inner / "source_0069999.c"
+    last.write_text("int last(void) {\n}\n")
+    row = f"{last.relative_to(place.folder / 'long')} last 1 int last(void) {{\n".encode()
+    for words in ["-R"], ["-f", "cscope.out"]:
+        found = place.run("-L", "-1", "last", *words, below="long")
+        check("the last of them is found", found == (0, row, ""), found)
+    found = place.run("-l", below="long", stdin="1last\n1f\n")
+    out = b">> cscope: 1 lines\n" + row + b">> cscope: 1 lines\n" + ROW + b">> "
+    check("line by line", found == (0, out, ""), found)
+    (inner / "source_0069998.c").write_bytes(b"\0\nint none(void) {\n}\n")
+    found = place.run("-l", below="long", stdin="1none\n1last\n")
+    out = b">> cscope: 0 lines\n>> cscope: 1 lines\n" + row + b">> "
+    check("one with a byte 0 is passed over", found == (0, out, ""), found)
 
 
 def odd_names(place: Place) -> None:

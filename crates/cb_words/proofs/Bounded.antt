@@ -1,13 +1,51 @@
--- Where no bounds are found there is no job.
-use Rattle.std.proofs.Common.{List, Some}
+-- Where no bounds, no files or no list that may be read are found there is no job.
+use Rattle.std.proofs.Common.{◌≡◌, ◌∙◌, ap, sym, ℕ, List, [], ◌∷◌, Some, true, false}
+use Rattle.std.proofs.Common.{codes, nat_eq}
+use Rattle.std.proofs.lemmas.Bool.{true≢false}
 use Rattle.clap.specs.Words.{Row, Text}
 use Rattle.cb_desk.specs.World.{WorldBounds}
-use Rattle.cb_words.specs.Jobs.{AreBoundsOf, IsJobOf}
+use Rattle.cb_words.specs.Jobs.{AreBoundsOf, IsJobOf, list_in, names_files, reads_input}
 use Rattle.cb_words.specs.declared.job.Job.{Job}
 use Rattle.cb_words.specs.declared.job.Job.TheVariants.{Line, Find, Tags}
 
 pub no_job : (found : Text × List Row) → ((b : WorldBounds) → AreBoundsOf found.1 b → ⊥)
     → (job : Job) → IsJobOf (Some found) job → ⊥
-no_job found none (Line bounds files) is = none bounds is.1
-no_job found none (Find bounds field pattern files) is = none bounds is.1
-no_job found none (Tags bounds listing tagsfile format files) is = none bounds is.1
+no_job found none (Line bounds list files) is = none bounds is.1
+no_job found none (Find bounds field pattern list files) is = none bounds is.1
+no_job found none (Tags bounds listing tagsfile format list files) is = none bounds is.1
+
+-- the names of the subcommands begin with three letters
+abbrev first : Text → ℕ
+first [] = 0
+first (b ∷ bs) = b
+
+find_or_line : codes "find" ≡ codes "line" → ⊥
+find_or_line e = true≢false (ap (λ name. nat_eq (first name) 102) e)
+
+find_or_tags : codes "find" ≡ codes "tags" → ⊥
+find_or_tags e = true≢false (ap (λ name. nat_eq (first name) 102) e)
+
+tags_or_line : codes "tags" ≡ codes "line" → ⊥
+tags_or_line e = true≢false (ap (λ name. nat_eq (first name) 116) e)
+
+-- a session reads no list from its input
+pub no_session : (rows : List Row) → reads_input (list_in rows) ≡ true
+    → (job : Job) → IsJobOf (Some (codes "line", rows)) job → ⊥
+no_session rows reads (Line bounds list files) is = true≢false (sym reads ∙ is.2)
+no_session rows reads (Find bounds field pattern list files) is = find_or_line (sym is.0)
+no_session rows reads (Tags bounds listing tagsfile format list files) is =
+    tags_or_line (sym is.0)
+
+-- a search and tags have a file, or a list of files
+pub no_search : (rows : List Row) → names_files rows ≡ false
+    → (job : Job) → IsJobOf (Some (codes "find", rows)) job → ⊥
+no_search rows none (Line bounds list files) is = find_or_line is.0
+no_search rows none (Find bounds field pattern list files) is = true≢false (sym is.2 ∙ none)
+no_search rows none (Tags bounds listing tagsfile format list files) is = find_or_tags is.0
+
+pub no_tags : (rows : List Row) → names_files rows ≡ false
+    → (job : Job) → IsJobOf (Some (codes "tags", rows)) job → ⊥
+no_tags rows none (Line bounds list files) is = tags_or_line is.0
+no_tags rows none (Find bounds field pattern list files) is = find_or_tags (sym is.0)
+no_tags rows none (Tags bounds listing tagsfile format list files) is =
+    true≢false (sym is.2 ∙ none)

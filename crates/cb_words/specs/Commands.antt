@@ -5,8 +5,9 @@ use Rattle.std.specs.Borrow.{Bor}
 use Rattle.clap.specs.Words.{App, Row, Text, found_of, new_app, rows_of, with_rule, with_subcommand}
 use Rattle.clap.specs.declared.builder.ValueParser.TheVariants.{Names}
 use Rattle.clap.specs.declared.ArgMatches.{ArgMatches}
-use Rattle.cb_words.specs.Jobs.{files_rule, find_app, format_rule, line_app}
-use Rattle.cb_words.specs.Jobs.{listing_rule, tagsfile_rule, with_bounds, with_version}
+use Rattle.cb_words.specs.Jobs.{find_app, format_rule, line_app}
+use Rattle.cb_words.specs.Jobs.{listing_rule, tagsfile_rule, with_bounds, with_files}
+use Rattle.cb_words.specs.Jobs.{with_version}
 
 -- a command with `--format`, which takes these texts alone
 abbrev pub with_format : App → Bor (List (Bor Text)) → App
@@ -15,8 +16,8 @@ with_format a choices = with_rule a (record format_rule { parser = Some (Names c
 -- `tags`, whose format is one of these texts
 abbrev pub tags_app_of : Bor (List (Bor Text)) → App
 tags_app_of choices =
-    with_rule (with_bounds (with_format (with_rule (with_rule (new_app (codes "tags")) listing_rule)
-    tagsfile_rule) choices)) (files_rule true)
+    with_files (with_bounds (with_format (with_rule (with_rule (new_app (codes "tags"))
+    listing_rule) tagsfile_rule) choices))
 
 -- the program's command, whose formats are these texts
 abbrev pub browse_app_of : Bor (List (Bor Text)) → App

@@ -1,6 +1,7 @@
 -- The command line: its subcommands, and the job that the words give.
-use Rattle.std.specs.Prelude.{◌≡◌, ◌≢◌, ℕ, Bool, List, [], ◌∷◌, Option, None, Some, true, false}
-use Rattle.std.specs.Prelude.{codes, map, string_bytes, unwrap_or}
+use Rattle.std.specs.Prelude.{◌≡◌, ◌≢◌, ◌+◌, ◌-◌, ℕ, Bool, List, [], ◌∷◌, Option, None, Some}
+use Rattle.std.specs.Prelude.{true, false, ◌||◌, codes, is_some, map, string_bytes, unwrap_or}
+use Rattle.std.specs.Option.{option_map}
 use Rattle.std.specs.Str.{bytes_eq}
 use Rattle.std.specs.Str.Parse.{digits_value, without_leading_plus}
 use Rattle.clap.specs.Words.{App, IsUnsignedIn, Row, Rule, Text, all_of, first_of, new_app}
@@ -15,10 +16,20 @@ use Rattle.cb_desk.specs.World.{WorldBounds, standard_bounds}
 use Rattle.cb_words.specs.declared.job.Job.{Job}
 use Rattle.cb_words.specs.declared.job.Job.TheVariants.{Line, Find, Tags}
 
--- `FILE..`, of which there may have to be one
-abbrev pub files_rule : Bool → Rule
-files_rule needed =
-    record (new_rule (codes "files")) { action = Some Append; value_names = 1; required = needed }
+-- `FILE..`
+abbrev pub files_rule : Rule
+files_rule = record (new_rule (codes "files")) { action = Some Append; value_names = 1 }
+
+-- `--files-from LIST`
+abbrev pub list_rule : Rule
+list_rule = record (new_rule (codes "files_from")) {
+  long = Some (codes "files-from");
+  value_names = 1;
+}
+
+-- a command with both
+abbrev pub with_files : App → App
+with_files a = with_rule (with_rule a list_rule) files_rule
 
 -- `-x`
 abbrev pub listing_rule : Rule
@@ -59,9 +70,10 @@ with_bounds a =
     (codes "4096"))) (most_rule (codes "max_file_bytes") (codes "max-file-bytes") most_file_bytes
     (codes "1000000"))
 
--- `line [--max-files N] [--max-file-bytes N] [FILE..]`: a session over standard input and output
+-- `line [--max-files N] [--max-file-bytes N] [--files-from LIST] [FILE..]`: a session over standard
+-- input and output
 abbrev pub line_app : App
-line_app = with_rule (with_bounds (new_app (codes "line"))) (files_rule false)
+line_app = with_files (with_bounds (new_app (codes "line")))
 
 -- NUM, the digit of a field, and PATTERN
 abbrev pub num_rule : Rule
@@ -70,18 +82,17 @@ num_rule = record (new_rule (codes "num")) { value_names = 1; required = true }
 abbrev pub pattern_rule : Rule
 pattern_rule = record (new_rule (codes "pattern")) { value_names = 1; required = true }
 
--- `find [--max-files N] [--max-file-bytes N] NUM PATTERN FILE..`: one search
+-- `find [--max-files N] [--max-file-bytes N] [--files-from LIST] NUM PATTERN [FILE..]`: one search
 abbrev pub find_app : App
 find_app =
-    with_rule (with_bounds (with_rule (with_rule (new_app (codes "find")) num_rule) pattern_rule))
-    (files_rule true)
+    with_files (with_bounds (with_rule (with_rule (new_app (codes "find")) num_rule) pattern_rule))
 
--- `tags [-x] [-f TAGSFILE] [--format FORMAT] [--max-files N] [--max-file-bytes N] FILE..`: a tags
--- file, or a listing
+-- `tags [-x] [-f TAGSFILE] [--format FORMAT] [--max-files N] [--max-file-bytes N]
+-- [--files-from LIST] [FILE..]`: a tags file, or a listing
 abbrev pub tags_app : App
 tags_app =
-    with_rule (with_bounds (with_rule (with_rule (with_rule (new_app (codes "tags")) listing_rule)
-    tagsfile_rule) format_rule)) (files_rule true)
+    with_files (with_bounds (with_rule (with_rule (with_rule (new_app (codes "tags")) listing_rule)
+    tagsfile_rule) format_rule))
 
 -- a command that needs one of its subcommands and tells its version
 abbrev pub with_version : App → App
@@ -116,30 +127,59 @@ abbrev pub Writes : ℕ → Text → ℕ → Type 0
 Writes most text n =
     IsUnsignedIn 1 most text × (n ≡ digits_value 10 (without_leading_plus text))
 
--- the bounds that were found; the history always has the standard one
+-- the most changes that can be undone in a session of at most so many files: those of the standard
+-- bounds, and one for each file more than these have, since each load is a change
+abbrev pub history_of : ℕ → ℕ
+history_of files = standard_bounds.history + (files - standard_bounds.files)
+
+-- the bounds that were found
 pub record AreBoundsOf (rows : List Row) (b : WorldBounds) : Type 0 where
   pub files : Writes most_files (first_or (codes "max_files") (codes "4096") rows) b.files
   pub file_bytes : Writes most_file_bytes
       (first_or (codes "max_file_bytes") (codes "1000000") rows) b.file_bytes
-  pub history : b.history ≡ standard_bounds.history
+  pub history : b.history ≡ history_of b.files
 
--- the job is the one of the subcommand that was found, and of what was found for its arguments
+-- the list of files that was found, if there is one
+abbrev pub list_in : List Row → Option Text
+list_in rows = first_of (codes "files_from") rows
+
+-- the name of a list that stands for standard input
+abbrev pub is_standard_input : Text → Bool
+is_standard_input name = bytes_eq name (codes "-")
+
+-- there is a list, and it is standard input
+abbrev pub reads_input : Option Text → Bool
+reads_input None = false
+reads_input (Some name) = is_standard_input name
+
+-- a file or a list of files was found, of which a search and tags need one
+abbrev pub names_files : List Row → Bool
+names_files rows = is_some (all_of (codes "files") rows) || is_some (list_in rows)
+
+-- the job is the one of the subcommand that was found, and of what was found for its arguments; a
+-- session reads its commands from standard input, and so no list
 abbrev pub IsJobOf : Option (Text × List Row) → Job → Type 0
 IsJobOf None job = ⊥
-IsJobOf (Some found) (Line bounds files) =
+IsJobOf (Some found) (Line bounds list files) =
     (found.0 ≡ codes "line")
     × AreBoundsOf found.1 bounds
+    × (reads_input (list_in found.1) ≡ false)
+    × (option_map string_bytes list ≡ list_in found.1)
     × (map string_bytes files.items ≡ all_or_none (codes "files") found.1)
-IsJobOf (Some found) (Find bounds field pattern files) =
+IsJobOf (Some found) (Find bounds field pattern list files) =
     (found.0 ≡ codes "find")
     × AreBoundsOf found.1 bounds
+    × (names_files found.1 ≡ true)
+    × (option_map string_bytes list ≡ list_in found.1)
     × (field_of (first_or (codes "num") [] found.1) ≡ Some field)
     × (string_bytes pattern ≡ first_or (codes "pattern") [] found.1)
     × (string_bytes pattern ≢ [])
     × (map string_bytes files.items ≡ all_or_none (codes "files") found.1)
-IsJobOf (Some found) (Tags bounds listing tagsfile format files) =
+IsJobOf (Some found) (Tags bounds listing tagsfile format list files) =
     (found.0 ≡ codes "tags")
     × AreBoundsOf found.1 bounds
+    × (names_files found.1 ≡ true)
+    × (option_map string_bytes list ≡ list_in found.1)
     × (listing ≡ bytes_eq (first_or (codes "listing") (codes "false") found.1) (codes "true"))
     × (string_bytes tagsfile ≡ first_or (codes "tagsfile") (codes "tags") found.1)
     × (format_number format ≡ first_or (codes "format") (codes "1") found.1)

@@ -8,32 +8,37 @@ mod command;
 mod matched;
 
 use cb_desk::{Bounds, Field, Format};
-use clap::Error;
 use clap::error::ErrorKind;
+use clap::{ArgMatches, Error};
 use std::alloc::{AllocError, Global};
 
-/// What the program is to do, within which bounds.
+/// What the program is to do, within which bounds. A list is a file with the names of more files,
+/// one a line.
 #[derive(Debug, Drop)]
 pub enum Job {
-    /// A session over standard input and output, with these files loaded first.
+    /// A session over standard input and output, with these files loaded first. Its list is not `-`.
     Line {
         bounds: Bounds,
+        list: Option<String>,
         files: Vec<String>,
     },
-    /// The rows that answer a question about these files. The pattern is not empty.
+    /// The rows that answer a question about these files. The pattern is not empty. The list `-` is
+    /// standard input.
     Find {
         bounds: Bounds,
         field: Field,
         pattern: String,
+        list: Option<String>,
         files: Vec<String>,
     },
     /// The tags of these files: a listing on standard output, or else a tags file of this name and
-    /// form.
+    /// form. The list `-` is standard input.
     Tags {
         bounds: Bounds,
         listing: bool,
         tagsfile: String,
         format: Format,
+        list: Option<String>,
         files: Vec<String>,
     },
 }
@@ -79,9 +84,18 @@ pub fn job_of(alloc: Global, words: &[String]) -> Result<Job, Usage>
     };
     match found {
         Some(job) => Ok(job),
-        // clap refuses words without a subcommand, other formats and other bounds, so no words lead
-        // here.
-        None => Err(Usage::Wrong(command.render_usage()?)),
+        None => Err(Usage::Wrong(String::from_str(alloc, no_job_text(&matches))?)),
+    }
+}
+
+/// What is said of words that clap takes and that give no job: clap refuses other formats and
+/// bounds, so what they lack is a file, or they ask for a session and a list on one input.
+fn no_job_text(matches: &ArgMatches<'_>) -> &'static str {
+    match matches.subcommand() {
+        Some(("line", _)) =>
+            "error: invalid value '-' for '--files-from <LIST>': standard input has the commands\n\nFor more information, try '--help'.\n",
+        _ =>
+            "error: the following required arguments were not provided:\n  <FILE>... or --files-from <LIST>\n\nFor more information, try '--help'.\n",
     }
 }
 

@@ -1,2 +1,3 @@
 mod Process
+pub mod Listing
 pub mod Working

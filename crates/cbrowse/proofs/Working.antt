@@ -17,7 +17,8 @@ use Rattle.cb_session.specs.Operands.{LoadsAll, Prepares, RefusedOperand, file_o
 use Rattle.cb_session.specs.States.{State}
 use Rattle.cb_tags.specs.Writers.{Writer}
 use Rattle.cbrowse.specs.declared.execute.finish.Finish.{Finish}
-use Rattle.cbrowse.specs.declared.execute.finish.Finish.TheVariants.{Ran, Unreadable, Unwritable}
+use Rattle.cbrowse.specs.declared.execute.finish.Finish.TheVariants.{Ran, Unreadable, Unlisted}
+use Rattle.cbrowse.specs.declared.execute.finish.Finish.TheVariants.{Unwritable}
 use Rattle.cb_words.specs.declared.job.Job.{Job}
 use Rattle.cb_words.specs.declared.job.Job.TheVariants.{Line, Find, Tags}
 use Rattle.cbrowse.specs.Messages.{bounds_of, files_of, most_line_bytes}
@@ -62,11 +63,11 @@ pub file_written : (job : Job) (lines limit : ℕ) (t : State) (feed feed' : Rea
     (old new : Writer) (ended : Ended) → writes_file job ≡ true
     → DoesJob job lines limit t feed feed' old new ended
     → (feed' ≡ feed) × WritesText (file_text job t.timeline.present) old new ended
-file_written (Line bounds files) lines limit t feed feed' old new ended writes does =
+file_written (Line bounds list files) lines limit t feed feed' old new ended writes does =
     absurd (true≢false (sym writes))
-file_written (Find bounds field pattern files) lines limit t feed feed' old new ended writes does =
+file_written (Find bounds field pattern list files) lines limit t feed feed' old new ended writes does =
     absurd (true≢false (sym writes))
-file_written (Tags bounds listing tagsfile format files) lines limit t feed feed' old new
+file_written (Tags bounds listing tagsfile format list files) lines limit t feed feed' old new
     ended writes does = does
 
 -- where a write failed the file can't be written
@@ -95,6 +96,8 @@ into_file job t feed feed' out Unwritable file writes reached makes same =
 into_file job t feed feed' out (Unreadable place) (Some file) writes reached makes same =
     absurd makes.1
 into_file job t feed feed' out (Unreadable place) None writes reached makes same = absurd makes
+into_file job t feed feed' out Unlisted (Some file) writes reached makes same = absurd makes.1
+into_file job t feed feed' out Unlisted None writes reached makes same = absurd makes
 
 -- a job over the input and the output
 pub over_both : (job : Job) (b : WorldBounds) (lines limit : ℕ) (t : State) (feed feed' : Reader)

@@ -14,16 +14,18 @@ use Rattle.cb_words.specs.declared.job.Usage.{Usage}
 use Rattle.cb_words.specs.declared.job.Usage.TheVariants.{Memory}
 use Rattle.cb_words.specs.Jobs.{browse_app, IsJobOf}
 use Rattle.cbrowse.specs.Messages.{Says, said_of, status_of, usage_said, usage_status}
-use Rattle.cbrowse.specs.Program.{LeavesAlone, Works}
+use Rattle.cbrowse.specs.Lists.{WorksListed}
+use Rattle.cbrowse.specs.Program.{LeavesAlone}
 use Rattle.cb_words.specs.Usages.{IsUsageOf, IsWordFault}
 
--- the job of the words is done, and the exit status and standard error tell how it ended
+-- the job of the words is done, with the names in its list, and the exit status and standard error
+-- tell how it ended
 abbrev pub EndsJob : List (List ℕ) → ℕ → Reader → Reader → Writer → Writer
     → Writer → Writer → Type 0
 EndsJob words status feed feed' out out' errors errors' =
-    (job : Job) × (end : Finish) × (file : Option Writer)
-    × IsJobOf (subcommand_of browse_app words) job
-    × Works job feed feed' out out' end file
+    (asked job : Job) × (end : Finish) × (file : Option Writer)
+    × IsJobOf (subcommand_of browse_app words) asked
+    × WorksListed asked job feed feed' out out' end file
     × (status ≡ status_of end) × Says errors errors' (said_of job end)
 
 -- the words give no job, input and output are left alone, and the exit status and standard error

@@ -1,3 +1,4 @@
 pub mod Endings
+pub mod Lists
 pub mod Messages
 pub mod Program

@@ -1,8 +1,10 @@
 -- How the program ends: its exit status and what it says on standard error.
 use Rattle.std.specs.Prelude.{◌≡◌, ◌==◌, ◌&&◌, ◌+◌, ◌/◌, ◌%◌, ℕ, Bool, false, not, nat_lt, List, []}
 use Rattle.std.specs.Prelude.{◌∷◌, ◌++◌, codes, decimal, map, max, string_bytes, if◌then◌else◌}
+use Rattle.std.specs.Prelude.{Option, unwrap_or}
 use Rattle.std.specs.Io.KnownBytes.{Appends}
 use Rattle.std.specs.List.{flat_map, slice_index_or}
+use Rattle.std.specs.Option.{option_map}
 use Rattle.cb_desk.specs.Refusals.{text_of}
 use Rattle.cb_desk.specs.World.{WorldBounds}
 use Rattle.cb_session.specs.declared.input.Ended.{Ended}
@@ -13,7 +15,8 @@ use Rattle.cb_session.specs.declared.input.Fault.TheVariants.{ManyLines}
 use Rattle.cb_tags.specs.Writers.{Writer}
 use Rattle.cb_tags.specs.Writing.{AppendsPrefix}
 use Rattle.cbrowse.specs.declared.execute.finish.Finish.{Finish}
-use Rattle.cbrowse.specs.declared.execute.finish.Finish.TheVariants.{Ran, Unreadable, Unwritable}
+use Rattle.cbrowse.specs.declared.execute.finish.Finish.TheVariants.{Ran, Unreadable, Unlisted}
+use Rattle.cbrowse.specs.declared.execute.finish.Finish.TheVariants.{Unwritable}
 use Rattle.cb_words.specs.declared.job.Job.{Job}
 use Rattle.cb_words.specs.declared.job.Job.TheVariants.{Line, Find, Tags}
 use Rattle.cb_words.specs.declared.job.Usage.{Usage}
@@ -22,15 +25,25 @@ use Rattle.cb_words.specs.declared.job.Usage.TheVariants.{Memory as NoMemory}
 
 -- the names of a job's files
 abbrev pub files_of : Job → List (List ℕ)
-files_of (Line bounds files) = map string_bytes files.items
-files_of (Find bounds field pattern files) = map string_bytes files.items
-files_of (Tags bounds listing tagsfile format files) = map string_bytes files.items
+files_of (Line bounds list files) = map string_bytes files.items
+files_of (Find bounds field pattern list files) = map string_bytes files.items
+files_of (Tags bounds listing tagsfile format list files) = map string_bytes files.items
+
+-- the name of a job's list of files
+abbrev pub list_of : Job → Option (List ℕ)
+list_of (Line bounds list files) = option_map string_bytes list
+list_of (Find bounds field pattern list files) = option_map string_bytes list
+list_of (Tags bounds listing tagsfile format list files) = option_map string_bytes list
+
+-- the same, or nothing
+abbrev pub list_name : Job → List ℕ
+list_name job = unwrap_or (list_of job) []
 
 -- the bounds of a job
 abbrev pub bounds_of : Job → WorldBounds
-bounds_of (Line bounds files) = bounds
-bounds_of (Find bounds field pattern files) = bounds
-bounds_of (Tags bounds listing tagsfile format files) = bounds
+bounds_of (Line bounds list files) = bounds
+bounds_of (Find bounds field pattern list files) = bounds
+bounds_of (Tags bounds listing tagsfile format list files) = bounds
 
 -- the most bytes of a line of a session: as many as a file may have, and never fewer than 1,000,000
 abbrev pub most_line_bytes : WorldBounds → ℕ
@@ -38,9 +51,9 @@ most_line_bytes b = max b.file_bytes 1000000
 
 -- the name of a job's tags file
 abbrev pub tagsfile_of : Job → List ℕ
-tagsfile_of (Line bounds files) = []
-tagsfile_of (Find bounds field pattern files) = []
-tagsfile_of (Tags bounds listing tagsfile format files) = string_bytes tagsfile
+tagsfile_of (Line bounds list files) = []
+tagsfile_of (Find bounds field pattern list files) = []
+tagsfile_of (Tags bounds listing tagsfile format list files) = string_bytes tagsfile
 
 -- a line that names the program
 abbrev pub error_line : List ℕ → List ℕ
@@ -89,6 +102,7 @@ abbrev pub said_of : Job → Finish → List ℕ
 said_of job (Ran ended) = run_said (most_line_bytes (bounds_of job)) (files_of job) ended
 said_of job (Unreadable place) =
     file_line (slice_index_or (files_of job) place []) (codes "cannot be read")
+said_of job Unlisted = file_line (list_name job) (codes "cannot be read")
 said_of job Unwritable = file_line (tagsfile_of job) (codes "cannot be written")
 
 -- the exit status of a run
@@ -102,6 +116,7 @@ run_status (Operand place why) = 1
 abbrev pub status_of : Finish → ℕ
 status_of (Ran ended) = run_status ended
 status_of (Unreadable place) = 1
+status_of Unlisted = 1
 status_of Unwritable = 1
 
 -- the exit status where there is no job

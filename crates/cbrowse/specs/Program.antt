@@ -26,7 +26,8 @@ use Rattle.cb_tags.specs.TagLines.{Tag}
 use Rattle.cb_tags.specs.Writers.{Writer}
 use Rattle.cb_tags.specs.Writing.{AppendsPrefix}
 use Rattle.cbrowse.specs.declared.execute.finish.Finish.{Finish}
-use Rattle.cbrowse.specs.declared.execute.finish.Finish.TheVariants.{Ran, Unreadable, Unwritable}
+use Rattle.cbrowse.specs.declared.execute.finish.Finish.TheVariants.{Ran, Unreadable, Unlisted}
+use Rattle.cbrowse.specs.declared.execute.finish.Finish.TheVariants.{Unwritable}
 use Rattle.cb_words.specs.declared.job.Job.{Job}
 use Rattle.cb_words.specs.declared.job.Job.TheVariants.{Line, Find, Tags}
 use Rattle.cbrowse.specs.Messages.{bounds_of, files_of, most_line_bytes}
@@ -66,20 +67,20 @@ WritesText text old new _ = ⊥
 
 -- a search has a pattern
 abbrev pub HasPattern : Job → Type 0
-HasPattern (Find bounds field pattern files) = string_bytes pattern ≢ []
+HasPattern (Find bounds field pattern list files) = string_bytes pattern ≢ []
 HasPattern _ = Unit {0}
 
 -- a job is done from a timeline: a session is served; the rows of a search and tags are written,
 -- and the reader is left alone
 abbrev pub DoesJob : Job → (lines limit : ℕ) → State → Reader → Reader → Writer → Writer
     → Ended → Type 0
-DoesJob (Line bounds files) lines limit s feed feed' old new ended =
+DoesJob (Line bounds list files) lines limit s feed feed' old new ended =
     (next : State) × Serves lines limit s next feed feed' old new ended
-DoesJob (Find bounds field pattern files) lines limit s feed feed' old new ended =
+DoesJob (Find bounds field pattern list files) lines limit s feed feed' old new ended =
     (feed' ≡ feed)
     × WritesText (flat_map row_line (answer s.timeline.present field (string_bytes pattern)))
     old new ended
-DoesJob (Tags bounds listing tagsfile format files) lines limit s feed feed' old new ended =
+DoesJob (Tags bounds listing tagsfile format list files) lines limit s feed feed' old new ended =
     (feed' ≡ feed) × WritesText (tags_output listing format s.timeline.present) old new ended
 
 -- ---- a job over files
@@ -90,9 +91,9 @@ is_standard_output name = bytes_eq name (codes "-")
 
 -- the job writes a tags file
 abbrev pub writes_file : Job → Bool
-writes_file (Line bounds files) = false
-writes_file (Find bounds field pattern files) = false
-writes_file (Tags bounds listing tagsfile format files) =
+writes_file (Line bounds list files) = false
+writes_file (Find bounds field pattern list files) = false
+writes_file (Tags bounds listing tagsfile format list files) =
     not (listing || is_standard_output (string_bytes tagsfile))
 
 -- a file of this name may be a C source
@@ -115,9 +116,9 @@ LeavesAlone feed feed' out out' = (feed' ≡ feed) × (out' ≡ out)
 
 -- the text of the tags file that a job writes
 abbrev pub file_text : Job → World → List ℕ
-file_text (Line bounds files) w = []
-file_text (Find bounds field pattern files) w = []
-file_text (Tags bounds listing tagsfile format files) w = tags_output listing format w
+file_text (Line bounds list files) w = []
+file_text (Find bounds field pattern list files) w = []
+file_text (Tags bounds listing tagsfile format list files) w = tags_output listing format w
 
 -- a writer that has taken nothing yet
 abbrev pub fresh : Option (List ℕ) → Writer
@@ -129,12 +130,14 @@ abbrev pub WritesFile : List ℕ → Writer → Writer → Finish → Type 0
 WritesFile text old new (Ran ended) = (ended ≡ Done) × WritesText text old new Done
 WritesFile text old new Unwritable = WritesText text old new (Fault Write)
 WritesFile text old new (Unreadable place) = ⊥
+WritesFile text old new Unlisted = ⊥
 
 -- no tags file was made: memory was refused, or the file can't be made
 abbrev pub MakesNone : Finish → Type 0
 MakesNone (Ran ended) = ended ≡ Fault Memory
 MakesNone Unwritable = Unit {0}
 MakesNone (Unreadable place) = ⊥
+MakesNone Unlisted = ⊥
 
 -- a tags file was made and the text was written into it, or the file can't be written; or none was
 -- made
@@ -158,6 +161,7 @@ abbrev pub StopsReading : List (List ℕ) → (read : List (List ℕ)) → Finis
 StopsReading files read (Ran ended) = ended ≡ Fault Memory
 StopsReading files read (Unreadable place) =
     (place < length files) × (read ≡ take place files)
+StopsReading files read Unlisted = ⊥
 StopsReading files read Unwritable = ⊥
 
 -- the files of a job under their names, in order, with some contents, and where their loads lead
@@ -200,6 +204,7 @@ Works job feed feed' out out' (Ran ended) file =
     × DoesLoaded job end feed feed' out out' ended file)
 Works job feed feed' out out' (Unreadable place) file =
     (place < length (files_of job)) × LeavesAlone feed feed' out out' × (file ≡ None)
+Works job feed feed' out out' Unlisted file = ⊥
 Works job feed feed' out out' Unwritable file =
     IsTrue (writes_file job)
     × ((s : State) × Reaches job (Ok s)

@@ -6,6 +6,7 @@ ghost use Rattle.std.specs.Option.{MatchOption};
 ghost use Rattle.cb_desk.specs.Answer.{answer};
 ghost use Rattle.cb_session.specs.Output.{row_line};
 ghost use Rattle.cbrowse.specs.Endings.{EndsJob, EndsProcess, EndsUsage, TakesWords};
+ghost use Rattle.cbrowse.specs.Lists.{WorksListed};
 ghost use Rattle.cbrowse.specs.Messages.{most_line_bytes, tagsfile_of};
 ghost use Rattle.cbrowse.specs.Program.{
   HasPattern,
@@ -25,9 +26,11 @@ ghost use Rattle.cb_session.specs.Writing.{Puts};
 
 mod files;
 mod finish;
+mod list;
 
 use crate::execute::files::{TagsFile, make_file, read_operands};
 use crate::execute::finish::{Finish, bounds_of, conclude, files_of, most_line_bytes};
+use crate::execute::list::take_list;
 use cb_desk::{Bounds, Desk, Field, Format, TagRows};
 use cb_session::{
     Ended, Fault, Limits, Session, prepare, put_answer, put_listing_file, put_tags_file,
@@ -260,6 +263,23 @@ fn work<R: Files + AllocGlobal, I: BufRead, O: Write>(
     }
 }
 
+/// Does a job, to which the names of its list were added, if it has one.
+fn work_listed<R: Files + AllocGlobal, I: BufRead, O: Write>(
+    rt: &R,
+    folder: &str,
+    job: &mut Job,
+    feed: &mut Feed<I>,
+    out: &mut Sink<O>,
+) -> (Finish, Option<Sink<TagsFile<R::File>>>)
+    requires { HasPattern job.old }
+    ensures { WorksListed job.old job.new feed.old feed.new out.old out.new result.0 result.1 }
+{
+    match take_list(rt, folder, job, feed) {
+        Ok(()) => work(rt, folder, job, feed, out),
+        Err(end) => (end, None),
+    }
+}
+
 /// Runs the program on these words, the first of which is its name, and answers its exit status.
 /// The text `folder` is put before the name of each file where it is opened.
 pub fn execute<R: Files + AllocGlobal, I: BufRead, O: Write, E: Write>(
@@ -276,8 +296,8 @@ pub fn execute<R: Files + AllocGlobal, I: BufRead, O: Write, E: Write>(
         errors.old errors.new }
 {
     match job_of(rt.alloc(), words) {
-        Ok(job) => {
-            let (end, _file) = work(rt, folder, &job, feed, out);
+        Ok(mut job) => {
+            let (end, _file) = work_listed(rt, folder, &mut job, feed, out);
             conclude(errors, &job, end)
         }
         Err(usage) => refuse(errors, &usage),

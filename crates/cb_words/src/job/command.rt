@@ -5,12 +5,14 @@ ghost use Rattle.cb_words.specs.Jobs.{
   files_rule,
   find_app,
   line_app,
+  list_rule,
   listing_rule,
   most_rule,
   num_rule,
   pattern_rule,
   tagsfile_rule,
   with_bounds,
+  with_files,
 };
 ghost use Rattle.cb_words.specs.Commands.{TakesFormats, browse_app_of, tags_app_of, with_format};
 
@@ -24,6 +26,11 @@ const VERSION: &str = "0.1.0";
 
 /// The numbers of the formats.
 static FORMATS: [&str; 2] = ["1", "2"];
+
+/// What is said of the list of a session, and of another list.
+const LIST: &str = "File with the names of more files, one a line";
+
+const LIST_OR_INPUT: &str = "File with the names of more files, one a line; - for standard input";
 
 /// The command of the program.
 pub(crate) fn browse_command<'a>(alloc: Global) -> Result<Command<'a>, AllocError>
@@ -46,7 +53,7 @@ fn line_command<'a>(alloc: Global) -> Result<Command<'a>, AllocError>
         .about("Reads commands from standard input and writes their replies")
         .after_help("Example: cbrowse line a.c");
     let command = with_bounds(alloc, command)?;
-    with_files(alloc, command, "C source to load first", false)
+    with_files(alloc, command, LIST, "C source to load first")
 }
 
 /// `find`: one search.
@@ -59,7 +66,7 @@ fn find_command<'a>(alloc: Global) -> Result<Command<'a>, AllocError>
     let command = with_num(alloc, command)?;
     let command = with_pattern(alloc, command)?;
     let command = with_bounds(alloc, command)?;
-    with_files(alloc, command, "C source to search", true)
+    with_files(alloc, command, LIST_OR_INPUT, "C source to search")
 }
 
 /// `tags`: a tags file, or a listing.
@@ -73,7 +80,12 @@ fn tags_command<'a>(alloc: Global) -> Result<Command<'a>, AllocError>
     let command = with_tagsfile(alloc, command)?;
     let command = with_format(alloc, command)?;
     let command = with_bounds(alloc, command)?;
-    with_files(alloc, command, "C source to write the tags of", true)
+    with_files(
+        alloc,
+        command,
+        LIST_OR_INPUT,
+        "C source to write the tags of",
+    )
 }
 
 /// Adds the number of the field.
@@ -189,20 +201,45 @@ fn with_most<'a>(
     command.arg(most)
 }
 
-/// Adds the files.
+/// Adds `--files-from` and the files.
 fn with_files<'a>(
     alloc: Global,
     command: Command<'a>,
+    list: &'a str,
     help: &'a str,
-    required: bool,
 ) -> Result<Command<'a>, AllocError>
-    ensures { IfOk result
-        (λ more. app_of more ≡ with_rule (app_of command.entry) (files_rule required)) }
+    ensures { IfOk result (λ more. app_of more ≡ with_files (app_of command.entry)) }
+{
+    let command = with_list(alloc, command, list)?;
+    with_operands(alloc, command, help)
+}
+
+/// Adds `--files-from`.
+fn with_list<'a>(
+    alloc: Global,
+    command: Command<'a>,
+    help: &'a str,
+) -> Result<Command<'a>, AllocError>
+    ensures { IfOk result (λ more. app_of more ≡ with_rule (app_of command.entry) list_rule) }
+{
+    let list = Arg::new(alloc, "files_from")
+        .long("files-from")
+        .value_name("LIST")
+        .help(help);
+    command.arg(list)
+}
+
+/// Adds the files.
+fn with_operands<'a>(
+    alloc: Global,
+    command: Command<'a>,
+    help: &'a str,
+) -> Result<Command<'a>, AllocError>
+    ensures { IfOk result (λ more. app_of more ≡ with_rule (app_of command.entry) files_rule) }
 {
     let files = Arg::new(alloc, "files")
         .value_name("FILE")
         .action(ArgAction::Append)
-        .required(required)
         .help(help);
     command.arg(files)
 }

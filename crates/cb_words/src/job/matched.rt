@@ -1,7 +1,18 @@
 //! The job of what clap found in the words.
-ghost use Rattle.std.specs.Prelude.{◌≡◌, ℕ, IfOk, MatchResult, Some, codes, map, string_bytes};
-ghost use Rattle.std.specs.Option.{MatchOption};
-ghost use Rattle.clap.specs.Words.{subcommand_rows_of};
+ghost use Rattle.std.specs.Prelude.{
+  ◌≡◌,
+  ◌≤◌,
+  ℕ,
+  IfOk,
+  MatchResult,
+  Some,
+  codes,
+  is_some,
+  map,
+  string_bytes,
+};
+ghost use Rattle.std.specs.Option.{MatchOption, option_map};
+ghost use Rattle.clap.specs.Words.{all_of, subcommand_rows_of};
 ghost use Rattle.cb_desk.specs.World.{WorldBounds};
 ghost use Rattle.cb_words.specs.Jobs.{
   AreBoundsOf,
@@ -11,6 +22,11 @@ ghost use Rattle.cb_words.specs.Jobs.{
   field_of,
   first_or,
   format_number,
+  history_of,
+  list_in,
+  most_files,
+  names_files,
+  reads_input,
 };
 ghost use Rattle.cb_words.specs.Usages.{IsBadSearch};
 ghost use Rattle.cb_words.specs.declared.job.Job.{Job};
@@ -38,14 +54,17 @@ pub(crate) fn found_job(alloc: Global, matches: &ArgMatches<'_>) -> Result<Optio
     }
 }
 
-/// The search that was asked for, or `None` where there is no such bound. Its number is judged
-/// first, and then its pattern.
+/// The search that was asked for, or `None` where there is no file or no such bound. Its number
+/// is judged next, and then its pattern.
 fn find_job(alloc: Global, found: &ArgMatches<'_>) -> Result<Option<Job>, Usage>
     ensures { MatchResult result (λ job. MatchOption job
         ((job : Job) → IsJobOf (Some (codes "find", rows_in found.now)) job → ⊥)
         (IsJobOf (Some (codes "find", rows_in found.now))))
         (IsBadSearch (Some (codes "find", rows_in found.now))) }
 {
+    if !names_files(found) {
+        return Ok(None);
+    }
     let Some(field) = field_of(value_or(found, "num", "")) else {
         return Err(Usage::BadField);
     };
@@ -60,6 +79,7 @@ fn find_job(alloc: Global, found: &ArgMatches<'_>) -> Result<Option<Job>, Usage>
         bounds,
         field,
         pattern: String::from_str(alloc, pattern)?,
+        list: list_of(alloc, found)?,
         files: files_of(alloc, found)?,
     }))
 }
@@ -74,27 +94,35 @@ fn field_of(num: &str) -> Option<Field>
     }
 }
 
-/// The session that was asked for, or `None` where there is no such bound.
+/// The session that was asked for, or `None` where its list would be standard input or there is no
+/// such bound.
 fn line_job(alloc: Global, found: &ArgMatches<'_>) -> Result<Option<Job>, AllocError>
     ensures { IfOk result (λ job. MatchOption job
         ((job : Job) → IsJobOf (Some (codes "line", rows_in found.now)) job → ⊥)
         (IsJobOf (Some (codes "line", rows_in found.now)))) }
 {
+    if reads_input(found) {
+        return Ok(None);
+    }
     let Some(bounds) = bounds_of(found) else {
         return Ok(None);
     };
     Ok(Some(Job::Line {
         bounds,
+        list: list_of(alloc, found)?,
         files: files_of(alloc, found)?,
     }))
 }
 
-/// The tags that were asked for, or `None` where there is no such format or bound.
+/// The tags that were asked for, or `None` where there is no file or no such format or bound.
 fn tags_job(alloc: Global, found: &ArgMatches<'_>) -> Result<Option<Job>, AllocError>
     ensures { IfOk result (λ job. MatchOption job
         ((job : Job) → IsJobOf (Some (codes "tags", rows_in found.now)) job → ⊥)
         (IsJobOf (Some (codes "tags", rows_in found.now)))) }
 {
+    if !names_files(found) {
+        return Ok(None);
+    }
     let Some(format) = format_of(value_or(found, "format", "1")) else {
         return Ok(None);
     };
@@ -106,6 +134,7 @@ fn tags_job(alloc: Global, found: &ArgMatches<'_>) -> Result<Option<Job>, AllocE
         listing: value_or(found, "listing", "false") == "true",
         tagsfile: String::from_str(alloc, value_or(found, "tagsfile", "tags"))?,
         format,
+        list: list_of(alloc, found)?,
         files: files_of(alloc, found)?,
     }))
 }
@@ -139,7 +168,16 @@ fn bounds_of(found: &ArgMatches<'_>) -> Option<Bounds>
 {
     let files = count_of(value_or(found, "max_files", "4096"), MOST_FILES)?;
     let file_bytes = count_of(value_or(found, "max_file_bytes", "1000000"), MOST_BYTES)?;
-    Some(Bounds::new(files, file_bytes, Bounds::standard().history()))
+    Some(Bounds::new(files, file_bytes, history_of(files)))
+}
+
+/// The history of a session of at most so many files. Each load is a change.
+fn history_of(files: u32) -> u32
+    requires { files ≤ most_files }
+    ensures { result ≡ history_of files }
+{
+    let standard = Bounds::standard();
+    standard.history() + files.saturating_sub(standard.files())
 }
 
 /// The first value of an argument, or this text where it has none.
@@ -147,6 +185,47 @@ fn value_or<'a>(found: &ArgMatches<'a>, id: &str, text: &'a str) -> &'a str
     ensures { result.now ≡ first_or id.now text.entry.now (rows_in found.now) }
 {
     found.get_str(id).unwrap_or(text)
+}
+
+/// The name of the list of files that was given.
+fn list_name<'a>(found: &ArgMatches<'a>) -> Option<&'a str>
+    ensures { option_map (λ list. list.now) result ≡ list_in (rows_in found.now) }
+{
+    found.get_str("files_from")
+}
+
+/// Whether a file was given.
+fn has_files(found: &ArgMatches<'_>) -> bool
+    ensures { result ≡ is_some (all_of (codes "files") (rows_in found.now)) }
+{
+    found.get_raw("files").is_some()
+}
+
+/// Whether a file or a list of files was given.
+fn names_files(found: &ArgMatches<'_>) -> bool
+    ensures { result ≡ names_files (rows_in found.now) }
+{
+    has_files(found) || list_name(found).is_some()
+}
+
+/// Whether the list of files that was given is standard input.
+fn reads_input(found: &ArgMatches<'_>) -> bool
+    ensures { result ≡ reads_input (list_in (rows_in found.now)) }
+{
+    match list_name(found) {
+        Some(list) => list == "-",
+        None => false,
+    }
+}
+
+/// The list of files that was given.
+fn list_of(alloc: Global, found: &ArgMatches<'_>) -> Result<Option<String>, AllocError>
+    ensures { IfOk result (λ list. option_map string_bytes list ≡ list_in (rows_in found.now)) }
+{
+    match list_name(found) {
+        Some(list) => Ok(Some(String::from_str(alloc, list)?)),
+        None => Ok(None),
+    }
 }
 
 /// The files that were given.

@@ -32,10 +32,10 @@ use std::io::{self, BufWriter, ErrorKind, Read, Write};
 use std::rt::Files;
 
 /// The end of a job for which memory was refused.
-const OUT_OF_MEMORY: Finish = Finish::Ran(Ended::Fault(Fault::Memory));
+pub(crate) const OUT_OF_MEMORY: Finish = Finish::Ran(Ended::Fault(Fault::Memory));
 
 /// The path of a file: the folder's text and its name.
-fn path_of(alloc: Global, folder: &str, name: &str) -> Result<String, AllocError> {
+pub(crate) fn path_of(alloc: Global, folder: &str, name: &str) -> Result<String, AllocError> {
     let mut path = String::from_str(alloc, folder)?;
     path.push_str(name)?;
     Ok(path)
@@ -49,28 +49,29 @@ fn most_read(bounds: Bounds) -> u64
     bounds.file_bytes() as u64 + 1
 }
 
-/// The bytes that are left, at most `most_read`. There is room for as many, and for one more that
-/// would show that there are more, before the first is read.
-fn read_whole<F: Read + Drop>(
-    alloc: Global,
-    bounds: Bounds,
-    file: F,
-    size: u64,
-) -> io::Result<Vec<u8>>
+/// The bytes that are left, at most so many. There is room for as many, and for one more that would
+/// show that there are more, before the first is read.
+fn read_whole<F: Read + Drop>(alloc: Global, most: u64, file: F, size: u64) -> io::Result<Vec<u8>>
+    requires { most < 2 ^ 33 }
     ensures { IfOk result (λ bytes.
-        IfSome (F.remaining file) (λ left. bytes.items ≡ take (most_read bounds) left)) }
+        IfSome (F.remaining file) (λ left. bytes.items ≡ take most left)) }
 {
-    let most = most_read(bounds);
     let mut bytes = Vec::with_capacity(alloc, size.min(most) as usize + 1)?;
     file.take(most).read_to_end(&mut bytes)?;
     Ok(bytes)
 }
 
-/// The first bytes of a file.
-fn read_file<R: Files + AllocGlobal>(rt: &R, bounds: Bounds, path: &str) -> io::Result<Vec<u8>> {
+/// The first bytes of a file, at most so many.
+pub(crate) fn read_file<R: Files + AllocGlobal>(
+    rt: &R,
+    most: u64,
+    path: &str,
+) -> io::Result<Vec<u8>>
+    requires { most < 2 ^ 33 }
+{
     let file = fs::open(rt, path)?;
     let size = file.metadata()?.len();
-    read_whole(rt.alloc(), bounds, file, size)
+    read_whole(rt.alloc(), most, file, size)
 }
 
 /// Reads one file.
@@ -83,7 +84,7 @@ fn read_operand<R: Files + AllocGlobal>(
     ensures { IfOk result (λ o. o.name.items ≡ name.now) }
 {
     let path = path_of(rt.alloc(), folder, name)?;
-    let bytes = read_file(rt, bounds, path.as_str())?;
+    let bytes = read_file(rt, most_read(bounds), path.as_str())?;
     let name = Vec::from_slice(rt.alloc(), name.as_bytes())?;
     Ok(Operand { name, bytes })
 }

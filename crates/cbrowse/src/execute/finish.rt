@@ -1,6 +1,7 @@
 //! How the program ends: its exit status, and what it says on standard error.
 ghost use Rattle.std.specs.Prelude.{◌≡◌, ◌<◌, [], map, string_bytes};
 ghost use Rattle.std.specs.List.{slice_index_or};
+ghost use Rattle.std.specs.Option.{option_map};
 ghost use Rattle.cb_tags.specs.Writing.{Puts};
 ghost use Rattle.cbrowse.specs.Messages.{
   Says,
@@ -13,6 +14,8 @@ ghost use Rattle.cbrowse.specs.Messages.{
   told_name,
   bounds_of,
   files_of,
+  list_name,
+  list_of,
   most_line_bytes,
   tagsfile_of,
   run_said,
@@ -37,6 +40,8 @@ pub(crate) enum Finish {
     Ran(Ended),
     /// The file at this place of its files, counted from 0, cannot be read.
     Unreadable(usize),
+    /// Its list of files cannot be read.
+    Unlisted,
     /// Its tags file cannot be made or written.
     Unwritable,
 }
@@ -49,6 +54,27 @@ pub(crate) fn files_of(job: &Job) -> &[String]
         Job::Line { files, .. } => files.as_slice(),
         Job::Find { files, .. } => files.as_slice(),
         Job::Tags { files, .. } => files.as_slice(),
+    }
+}
+
+/// The name of a job's list of files.
+pub(crate) fn list_of(job: &Job) -> Option<&str>
+    ensures { option_map (λ list. list.now) result ≡ list_of job.now }
+{
+    match job {
+        Job::Line { list, .. } => list.as_deref(),
+        Job::Find { list, .. } => list.as_deref(),
+        Job::Tags { list, .. } => list.as_deref(),
+    }
+}
+
+/// The same, or nothing.
+fn list_name(job: &Job) -> &[u8]
+    ensures { result.now ≡ list_name job.now }
+{
+    match list_of(job) {
+        Some(list) => list.as_bytes(),
+        None => b"",
     }
 }
 
@@ -108,6 +134,7 @@ fn status(finish: Finish) -> u8
     match finish {
         Finish::Ran(ended) => run_status(ended),
         Finish::Unreadable(_) => 1,
+        Finish::Unlisted => 1,
         Finish::Unwritable => 1,
     }
 }
@@ -244,6 +271,7 @@ fn put_finish<E: Write>(errors: &mut Sink<E>, job: &Job, finish: Finish) -> Resu
         Finish::Unreadable(place) => {
             put_file_error(errors, name_at(files_of(job), place), b"cannot be read")
         }
+        Finish::Unlisted => put_file_error(errors, list_name(job), b"cannot be read"),
         Finish::Unwritable => put_file_error(errors, tagsfile_of(job), b"cannot be written"),
     }
 }

@@ -5,10 +5,11 @@ pub returns-in-Ok : goal.returns-in-Ok
 returns-in-Ok g c =
     inl (
       c.in-Ok.job,
-      c.work-end.result.0,
-      c.work-end.result.1,
+      c.work_listed-end.new.job,
+      c.work_listed-end.result.0,
+      c.work_listed-end.result.1,
       c.in-Ok.ensures,
-      c.work-end.ensures,
+      c.work_listed-end.ensures,
       c.conclude.ensures.status,
       c.conclude.ensures.said,
     )

@@ -1,4 +1,4 @@
-use Rattle.std.proofs.Common.{codes}
+use Rattle.std.proofs.Common.{codes, sym}
 use Rattle.cb_words.specs.Commands.{rows_in}
 use Rattle.cb_words.proofs.Bounded.{no_job}
 use Rattle.cb_words.proofs.job.matched.line_job.Goals as goal
