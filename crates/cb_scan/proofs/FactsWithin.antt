@@ -1,10 +1,9 @@
 -- What is found in a text lies in it, and its definitions are on lines of it.
 use Rattle.std.proofs.Common.{ltb-true, ◌≡◌, ◌≤◌, ◌<◌, ◌+◌, ◌-◌, ℕ, zero, suc, true, false, List}
-use Rattle.std.proofs.Common.{[], ◌∷◌, Some, None, refl, sym, subst, map, length, arith}
+use Rattle.std.proofs.Common.{[], ◌∷◌, ◌++◌, Option, Some, None, refl, sym, subst, map, length, arith}
 use Rattle.std.specs.Prelude.{◌&&◌, cond, find, nat_lt, not}
 use Rattle.std.specs.List.{AllByRecursion, flat_map, range_with_len}
 use Rattle.std.specs.Option.{MatchOption, option_map, option_map_or}
-use Rattle.std.proofs.lemmas.List.{map-append}
 use Rattle.std.proofs.lemmas.List.Concat.{flat_map-append}
 use Rattle.cb_scan.specs.declared.facts.Call.{Call}
 use Rattle.cb_scan.specs.declared.facts.Def.{Def}
@@ -14,8 +13,8 @@ use Rattle.cb_scan.specs.declared.lex.piece.Span.{Span}
 use Rattle.cb_scan.specs.declared.lex.token.Token.{Token}
 use Rattle.cb_scan.specs.declared.rules.scope.Range.{Range}
 use Rattle.cb_scan.specs.rules.Code.{code, directives, is_newline, logical_lines}
-use Rattle.cb_scan.specs.Definitions.{AreWithin, IsScopeWithin, IsTagWithin, IsWithin, calls}
-use Rattle.cb_scan.specs.Definitions.{facts_of, function_def}
+use Rattle.cb_scan.specs.Definitions.{AreWithin, IsScopeWithin, IsTagWithin, IsWithin}
+use Rattle.cb_scan.specs.Definitions.{function_def}
 use Rattle.cb_scan.specs.Definitions.{definitions, definitions_from, macro_def, structure_def}
 use Rattle.cb_scan.specs.Definitions.{typedef_def}
 use Rattle.cb_scan.specs.rules.Depth.{no_token, token_at}
@@ -26,24 +25,35 @@ use Rattle.cb_scan.specs.rules.Macros.{macro_names as defined_macros, macro_name
 use Rattle.cb_scan.specs.rules.Macros.{macros, plain_macro_of}
 use Rattle.cb_scan.specs.Order.{call_key, def_key, goes_first, in_order, put}
 use Rattle.cb_scan.specs.lex.Pieces.{LiesIn}
-use Rattle.cb_scan.specs.rules.Scope.{function_range, function_ranges, holds, macro_ranges, name_around, scope}
+use Rattle.cb_scan.specs.rules.Scope.{function_range, holds, macro_ranges, name_around, ranges_of}
+use Rattle.cb_scan.specs.rules.Scope.{scope_among}
+use Rattle.cb_scan.specs.rules.wide.Bodies.{bodies}
+use Rattle.cb_scan.specs.rules.wide.Kinds.{bare_tokens, functions_of, wide_found, wide_function_def}
+use Rattle.cb_scan.specs.rules.wide.Kinds.{wide_macro_def}
+use Rattle.cb_scan.specs.Profiles.{all_definitions, definitions_by, facts_in, functions_by}
+use Rattle.cb_scan.specs.Profiles.{is_declaration}
+use Rattle.cb_scan.specs.declared.facts.Kind.TheVariants as kind
+use Rattle.cb_scan.specs.declared.profile.Profile.{Profile}
+use Rattle.cb_scan.specs.declared.profile.Profile.TheVariants.{Prototypes, Standard, Wide}
 use Rattle.cb_scan.specs.lex.Tokens.{bytes_of, has_kind, is_mark, is_name_token, is_str}
 use Rattle.cb_scan.specs.lex.Tokens.{kind_is_define, kind_is_include}
 use Rattle.cb_scan.specs.steps.Quote.{is_closed}
 use Rattle.cb_scan.specs.steps.Cut.{pieces}
 use Rattle.cb_scan.specs.rules.Structures.{Structure, structures}
 use Rattle.cb_scan.specs.rules.Typedefs.{typedefs}
-use Rattle.cb_scan.specs.rules.Uses.{call_at, call_of, calls_among, calls_of_function}
-use Rattle.cb_scan.specs.rules.Uses.{header_between, header_of, include_of, includes, is_call, used}
-use Rattle.cb_scan.specs.rules.Uses.{uses}
+use Rattle.cb_scan.specs.rules.Uses.{call_at, call_of, calls_among, calls_in, calls_of_function}
+use Rattle.cb_scan.specs.rules.Uses.{header_between, header_of, include_of, includes_with, is_call}
+use Rattle.cb_scan.specs.rules.Uses.{macro_calls, use_of, used, uses_with}
 use Rattle.cb_scan.proofs.MacroLines.{range_names}
 use Rattle.cb_scan.specs.rules.OldStyle.{semicolons_before}
 use Rattle.cb_scan.proofs.FunctionsRise.{all_implied, named_before}
 use Rattle.cb_scan.proofs.Rising.{all-prefix, all-picked, macro_picks, macro_names, names_flat}
 use Rattle.cb_scan.proofs.Rising.{only_directives, used_picks}
 use Rattle.cb_scan.proofs.PieceLists.{pieces-lie}
-use Rattle.cb_scan.proofs.WithinLemmas.{DefWithin, TokenWithin, all-append, all-joined, all-split}
-use Rattle.cb_scan.proofs.WithinLemmas.{code-within, found_among, functions-lie, head_of_all}
+use Rattle.cb_scan.proofs.WideWithin.{DefLies, code_defs_lie, function_defs_lie, lies_alone}
+use Rattle.cb_scan.proofs.WideWithin.{names_of_all, wide_names_lie}
+use Rattle.cb_scan.proofs.WithinLemmas.{DefWithin, TokenWithin, all-append, all-filter, all-joined}
+use Rattle.cb_scan.proofs.WithinLemmas.{all-split, code-within, found_among, functions-lie, head_of_all}
 use Rattle.cb_scan.proofs.WithinLemmas.{heads_of_all, lines-within}
 use Rattle.cb_scan.proofs.StructureLemmas.{all_structures, structure_name}
 use Rattle.cb_scan.proofs.TypedefsWithin.{SpanWithin, at_any, all_typedefs}
@@ -69,16 +79,6 @@ all_made make Q holds [] = tt
 all_made make Q holds (x ∷ xs) = (holds x, all_made make Q holds xs)
 
 -- ---- functions, macros and calls
-all_function_names : (P : Token → Type 0) (ts : List Token) (k n : ℕ) → AllByRecursion P ts
-    → AllByRecursion P (map (λ (f : Function). f.name) (flat_map (function_at ts) (range_with_len k n)))
-all_function_names P ts k zero a = tt
-all_function_names P ts k (suc n) a =
-    subst (AllByRecursion P)
-    (sym (map-append (λ (f : Function). f.name) (function_at ts k)
-    (flat_map (function_at ts) (range_with_len (k + 1) n))))
-    (all-append P _ _ (named_before P ts k (head_of_all P ts a k) (heads_of_all P ts a (semicolons_before ts k)))
-    (all_function_names P ts (k + 1) n a))
-
 module _ (P : Token → Type 0) where
   with_arguments : (l : List Token) → AllByRecursion P l → AllByRecursion P (map (λ (m : Macro). m.name) (macro_of l))
   with_arguments [] a = tt
@@ -200,23 +200,23 @@ module _ (text : List ℕ) where
       (found_among (λ r. IsWithin text r.name) (holds place) ranges a)
 
   -- the scope of a place lies in the text
-  scope_within : AllByRecursion (λ (r : Range). IsWithin text r.name) (macro_ranges text (pieces text))
-      → AllByRecursion (λ (r : Range). IsWithin text r.name) (function_ranges text (pieces text)) → (place : ℕ)
-      → IsScopeWithin text (scope text (pieces text) place)
-  scope_within ms fs place =
+  scope_within : (fs : List Function)
+      → AllByRecursion (λ (r : Range). IsWithin text r.name) (macro_ranges text (pieces text))
+      → AllByRecursion (λ (r : Range). IsWithin text r.name) (ranges_of text (pieces text) fs)
+      → (place : ℕ) → IsScopeWithin text (scope_among text (pieces text) fs place)
+  scope_within fs of_macros of_functions place =
       elim (name_around (macro_ranges text (pieces text)) place) as (λ o. IsScopeWithin text o
       → IsScopeWithin text (option_map_or (λ name. Some name) o
-      (name_around (function_ranges text (pieces text)) place))) [
-        | None ↦ λ _. around_within (function_ranges text (pieces text)) place fs
+      (name_around (ranges_of text (pieces text) fs) place))) [
+        | None ↦ λ _. around_within (ranges_of text (pieces text) fs) place of_functions
         | Some s ↦ λ p. p
-      ] (around_within (macro_ranges text (pieces text)) place ms)
+      ] (around_within (macro_ranges text (pieces text)) place of_macros)
 
-  uses_within : ((place : ℕ) → IsScopeWithin text (scope text (pieces text) place)) → (ts : List Token)
+  uses_within : (s : ℕ → Option Span) → ((place : ℕ) → IsScopeWithin text (s place)) → (ts : List Token)
       → AllByRecursion (SpanWithin text) ts
-      → AllByRecursion (λ (u : Use). IsWithin text u.name × IsScopeWithin text u.scope)
-      (map (λ (t : Token). record { name = t.span; line = t.line; scope = scope text (pieces text) t.span.start }) ts)
-  uses_within scopes [] a = tt
-  uses_within scopes (t ∷ ts) a = ((a.0, scopes t.span.start), uses_within scopes ts a.1)
+      → AllByRecursion (λ (u : Use). IsWithin text u.name × IsScopeWithin text u.scope) (map (use_of s) ts)
+  uses_within s scopes [] a = tt
+  uses_within s scopes (t ∷ ts) a = ((a.0, scopes t.span.start), uses_within s scopes ts a.1)
 
   -- ---- includes
   between_within : (start end line : ℕ) → end ≤ length text
@@ -280,12 +280,12 @@ module _ (text : List ℕ) where
       all-append (λ (i : Include). IsWithin text i.header) (include_of text l) _ (include_within l parts.0)
       (headers_within ls parts.1)
 
-  includes_within : ((place : ℕ) → IsScopeWithin text (scope text (pieces text) place)) → (is : List Include)
-      → AllByRecursion (λ (i : Include). IsWithin text i.header) is
+  includes_within : (s : ℕ → Option Span) → ((place : ℕ) → IsScopeWithin text (s place))
+      → (is : List Include) → AllByRecursion (λ (i : Include). IsWithin text i.header) is
       → AllByRecursion (λ (i : Include). IsWithin text i.header × IsScopeWithin text i.scope)
-      (map (λ (i : Include). record i { scope = scope text (pieces text) i.header.start }) is)
-  includes_within scopes [] a = tt
-  includes_within scopes (i ∷ is) a = ((a.0, scopes i.header.start), includes_within scopes is a.1)
+      (map (λ (i : Include). record i { scope = s i.header.start }) is)
+  includes_within s scopes [] a = tt
+  includes_within s scopes (i ∷ is) a = ((a.0, scopes i.header.start), includes_within s scopes is a.1)
 
   -- ---- all facts
   span_within : (t : Token) → TokenWithin text t → SpanWithin text t
@@ -320,10 +320,9 @@ module _ (text : List ℕ) where
   directive_tokens : AllByRecursion (TokenWithin text) (flat_map (λ l. l) (directives text (pieces text)))
   directive_tokens = only_directives (logical_lines text (pieces text)) (TokenWithin text) line_tokens
 
-  function_names : AllByRecursion (SpanWithin text)
-      (map (λ (f : Function). f.name) (functions (code text (pieces text))))
-  function_names = all_function_names (SpanWithin text) (code text (pieces text)) 0 (length (code text (pieces text)))
-      (spans_of (code text (pieces text)) code_tokens)
+  -- macros
+  macros_lie : AllByRecursion (TokenWithin text) (defined_macros text (pieces text))
+  macros_lie = all_macro_names (TokenWithin text) (directives text (pieces text)) directive_tokens
 
   macro_tokens : AllByRecursion (TokenWithin text) (map (λ (m : Macro). m.name) (macros text (pieces text)))
   macro_tokens = subst (AllByRecursion (TokenWithin text)) (names_flat (directives text (pieces text)))
@@ -332,13 +331,7 @@ module _ (text : List ℕ) where
   origin : IsWithin text no_token.span
   origin = (omega (arith), omega (arith))
 
-  scopes_lie : (place : ℕ) → IsScopeWithin text (scope text (pieces text) place)
-  scopes_lie = scope_within
-      (named_ranges (macro_ranges text (pieces text))
-      (subst (AllByRecursion (IsWithin text)) (sym (range_names text (pieces text)))
-      (spans_of_macros (macros text (pieces text)) (spans_of _ macro_tokens))))
-      (named_ranges_of_functions (functions (code text (pieces text))) function_names)
-
+  -- ---- by the standard profile
   definitions_lie : AllByRecursion (DefWithin text) (definitions text)
   unfolding definitions_from
   definitions_lie =
@@ -346,8 +339,7 @@ module _ (text : List ℕ) where
       (all-append (DefWithin text) _ _
       (all-append (DefWithin text) _ _
       (all-append (DefWithin text) _ _ (functions-lie text (pieces-lie text))
-      (defs_of_macros (defined_macros text (pieces text))
-      (all_macro_names (TokenWithin text) (directives text (pieces text)) directive_tokens)))
+      (defs_of_macros (defined_macros text (pieces text)) macros_lie))
       (defs_of_tokens (typedefs (code text (pieces text)))
       (all_typedefs (TokenWithin text) (code text (pieces text)) code_tokens)))
       (defs_of_structures (structures (code text (pieces text)))
@@ -365,35 +357,102 @@ module _ (text : List ℕ) where
       (all_made typedef_def (IsTagWithin text) (λ t. tt) (typedefs (code text (pieces text)))))
       (all_made structure_def (IsTagWithin text) (λ s. tt) (structures (code text (pieces text)))))
 
-  uses_lie : AllByRecursion (λ (u : Use). IsWithin text u.name × IsScopeWithin text u.scope) (uses text (pieces text))
-  unfolding uses
-  uses_lie = uses_within scopes_lie (flat_map used (logical_lines text (pieces text)))
-      (all-picked used used_picks (SpanWithin text) (logical_lines text (pieces text)) (spans_of _ line_tokens))
+  function_names : AllByRecursion (TokenWithin text)
+      (map (λ (f : Function). f.name) (functions (code text (pieces text))))
+  function_names =
+      let ts = code text (pieces text) in
+      names_of_all (TokenWithin text) (function_at ts)
+      (λ k. named_before (TokenWithin text) ts k (head_of_all (TokenWithin text) ts code_tokens k)
+      (heads_of_all (TokenWithin text) ts code_tokens (semicolons_before ts k))) 0 (length ts)
 
-  calls_lie : AllByRecursion (λ (c : Call). IsWithin text c.callee × IsWithin text c.caller) (calls text (pieces text))
-  unfolding calls
-  calls_lie =
-      all_in_order call_key (λ (c : Call). IsWithin text c.callee × IsWithin text c.caller) _
-      (all-append (λ (c : Call). IsWithin text c.callee × IsWithin text c.caller) _ _
-      (calls_of_all (IsWithin text) (code text (pieces text))
-      (functions (code text (pieces text))) origin function_names (spans_of (code text (pieces text)) code_tokens))
-      (calls_of_lines (IsWithin text) (directives text (pieces text)) (spans_of _ directive_tokens)))
+  -- ---- by the wide profile
+  macro_defs_lie : (ts : List Token) → AllByRecursion (TokenWithin text) ts
+      → AllByRecursion (DefLies text) (map wide_macro_def ts)
+  macro_defs_lie [] a = tt
+  macro_defs_lie (t ∷ ts) a = (lies_alone text kind.Macro false t a.0, macro_defs_lie ts a.1)
 
-  includes_lie : AllByRecursion (λ (i : Include). IsWithin text i.header × IsScopeWithin text i.scope)
-      (includes text (pieces text))
-  unfolding includes
-  includes_lie = includes_within scopes_lie _
-      (headers_within (directives text (pieces text)) (spans_of _ directive_tokens))
+  wide_names : AllByRecursion (TokenWithin text)
+      (map (λ (f : Function). f.name) (functions_of text (pieces text)))
+  wide_names =
+      let ts = code text (pieces text) in
+      wide_names_lie text ts code_tokens (bodies (bare_tokens text ts))
 
-  -- what is found in a text lies in it, and its definitions are on lines of it
-  pub facts_lie : AreWithin text (facts_of text)
-  facts_lie = record {
-    defs = all_implied (DefWithin text) (λ (d : Def). IsWithin text d.name) (λ d w. w.0)
-        (definitions text) definitions_lie;
-    tags = tags_lie;
-    lines = all_implied (DefWithin text) (λ (d : Def). IsLineOf text d.line) (λ d w. w.1)
-        (definitions text) definitions_lie;
-    uses = uses_lie;
-    calls = calls_lie;
-    includes = includes_lie;
-  }
+  all_definitions_lie : AllByRecursion (DefLies text) (all_definitions text (pieces text))
+  all_definitions_lie =
+      let ts = code text (pieces text) in
+      let fs = functions_of text (pieces text) in
+      let ms = defined_macros text (pieces text) in
+      all_in_order def_key (DefLies text) (wide_found text (pieces text))
+      (all-append (DefLies text) (map wide_function_def fs ++ map wide_macro_def ms) _
+      (all-append (DefLies text) (map wide_function_def fs) (map wide_macro_def ms)
+      (function_defs_lie text fs wide_names) (macro_defs_lie ms macros_lie))
+      (code_defs_lie text ts code_tokens (ranges_of text (pieces text) fs)))
+
+  -- ---- by each
+  names_by : (profile : Profile) → AllByRecursion (TokenWithin text)
+      (map (λ (f : Function). f.name) (functions_by profile text (pieces text)))
+  names_by Standard = function_names
+  names_by Wide = wide_names
+  names_by Prototypes = wide_names
+
+  both : (ds : List Def) → AllByRecursion (DefWithin text) ds → AllByRecursion (IsTagWithin text) ds
+      → AllByRecursion (DefLies text) ds
+  both [] a b = tt
+  both (d ∷ ds) a b = ((a.0, b.0), both ds a.1 b.1)
+
+  definitions_by_lie : (profile : Profile)
+      → AllByRecursion (DefLies text) (definitions_by profile text (pieces text))
+  definitions_by_lie Standard = both (definitions text) definitions_lie tags_lie
+  definitions_by_lie Wide =
+      all-filter (DefLies text) (λ d. not (is_declaration d.kind)) (all_definitions text (pieces text))
+      all_definitions_lie
+  definitions_by_lie Prototypes = all_definitions_lie
+
+  module _ (fs : List Function)
+      (names : AllByRecursion (TokenWithin text) (map (λ (f : Function). f.name) fs)) where
+    name_spans : AllByRecursion (SpanWithin text) (map (λ (f : Function). f.name) fs)
+    name_spans = spans_of (map (λ (f : Function). f.name) fs) names
+
+    scopes_lie : (place : ℕ) → IsScopeWithin text (scope_among text (pieces text) fs place)
+    scopes_lie = scope_within fs
+        (named_ranges (macro_ranges text (pieces text))
+        (subst (AllByRecursion (IsWithin text)) (sym (range_names text (pieces text)))
+        (spans_of_macros (macros text (pieces text)) (spans_of _ macro_tokens))))
+        (named_ranges_of_functions fs name_spans)
+
+    uses_lie : AllByRecursion (λ (u : Use). IsWithin text u.name × IsScopeWithin text u.scope)
+        (uses_with (scope_among text (pieces text) fs) text (pieces text))
+    uses_lie =
+        uses_within (scope_among text (pieces text) fs) scopes_lie
+        (flat_map used (logical_lines text (pieces text)))
+        (all-picked used used_picks (SpanWithin text) (logical_lines text (pieces text)) (spans_of _ line_tokens))
+
+    calls_lie : AllByRecursion (λ (c : Call). IsWithin text c.callee × IsWithin text c.caller)
+        (in_order call_key (calls_in (code text (pieces text)) fs ++ macro_calls (macros text (pieces text))))
+    calls_lie =
+        all_in_order call_key (λ (c : Call). IsWithin text c.callee × IsWithin text c.caller) _
+        (all-append (λ (c : Call). IsWithin text c.callee × IsWithin text c.caller) _ _
+        (calls_of_all (IsWithin text) (code text (pieces text)) fs origin name_spans
+        (spans_of (code text (pieces text)) code_tokens))
+        (calls_of_lines (IsWithin text) (directives text (pieces text)) (spans_of _ directive_tokens)))
+
+    includes_lie : AllByRecursion (λ (i : Include). IsWithin text i.header × IsScopeWithin text i.scope)
+        (includes_with (scope_among text (pieces text) fs) text (pieces text))
+    includes_lie =
+        includes_within (scope_among text (pieces text) fs) scopes_lie _
+        (headers_within (directives text (pieces text)) (spans_of _ directive_tokens))
+
+-- what is found in a text lies in it, and its definitions are on lines of it
+pub facts_lie : (profile : Profile) (text : List ℕ) → AreWithin text (facts_in profile text)
+facts_lie profile text =
+    let defs = definitions_by profile text (pieces text) in
+    let fs = functions_by profile text (pieces text) in
+    let lie = definitions_by_lie text profile in
+    record {
+      defs = all_implied (DefLies text) (λ (d : Def). IsWithin text d.name) (λ d w. w.0.0) defs lie;
+      tags = all_implied (DefLies text) (IsTagWithin text) (λ d w. w.1) defs lie;
+      lines = all_implied (DefLies text) (λ (d : Def). IsLineOf text d.line) (λ d w. w.0.1) defs lie;
+      uses = uses_lie text fs (names_by text profile);
+      calls = calls_lie text fs (names_by text profile);
+      includes = includes_lie text fs (names_by text profile);
+    }

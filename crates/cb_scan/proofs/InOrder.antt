@@ -1,8 +1,8 @@
 -- The facts of a text are in order.
-use Rattle.std.proofs.Common.{◌≡◌, ◌∙◌, ◌⊎◌, ◌≤◌, ◌<◌, ℕ, true, List, [], ◌∷◌, drop, map, refl, sym}
+use Rattle.std.proofs.Common.{◌≡◌, ◌∙◌, ◌⊎◌, ◌≤◌, ◌<◌, ℕ, Bool, true, false, List, [], ◌∷◌, drop, map, refl, sym}
 use Rattle.std.proofs.Common.{ap, inl, inr, arith, ⊎_elim}
 use Rattle.std.proofs.lemmas.Bool.{cases_Bool, cond-false, cond-true, eqb-true, false≢true, ltb-true}
-use Rattle.std.specs.Prelude.{◌==◌, cond, nat_lt, not}
+use Rattle.std.specs.Prelude.{◌==◌, cond, filter, nat_lt, not}
 use Rattle.std.specs.Cmp.Lexicographic.{slice_cmp}
 use Rattle.std.specs.List.{AllByRecursion}
 use Rattle.std.specs.Ordering.{is_gt, nat_cmp, ordering_then}
@@ -11,14 +11,19 @@ use Rattle.cb_scan.specs.steps.Cut.{pieces}
 use Rattle.cb_scan.specs.declared.facts.Call.{Call}
 use Rattle.cb_scan.specs.declared.facts.Def.{Def}
 use Rattle.cb_scan.specs.declared.facts.Include.{Include}
-use Rattle.cb_scan.specs.declared.lex.token.Token.{Token}
-use Rattle.cb_scan.specs.Definitions.{calls, definitions_from, facts_of}
-use Rattle.cb_scan.specs.Order.{AreInOrder, AreOrdered, IsDefBefore, call_key, def_key, goes_first, kind_rank}
-use Rattle.cb_scan.specs.rules.Scope.{scope}
-use Rattle.cb_scan.specs.rules.Uses.{includes, uses}
+use Rattle.cb_scan.specs.declared.profile.Profile.{Profile}
+use Rattle.cb_scan.specs.declared.profile.Profile.TheVariants.{Prototypes, Standard, Wide}
+use Rattle.cb_scan.specs.Definitions.{definitions_from}
+use Rattle.cb_scan.specs.Order.{AreInOrder, AreOrdered, IsDefBefore, call_key, def_key, goes_first, in_order, kind_rank}
+use Rattle.cb_scan.specs.Profiles.{all_definitions, definitions_by, facts_in, functions_by}
+use Rattle.cb_scan.specs.Profiles.{is_declaration}
+use Rattle.cb_scan.specs.rules.Scope.{scope_among}
+use Rattle.cb_scan.specs.rules.Uses.{use_of}
+use Rattle.cb_scan.specs.rules.wide.Kinds.{wide_found}
 use Rattle.cb_scan.specs.steps.Scopes.{include_place, token_place}
 use Rattle.cb_scan.proofs.OrderLemmas.{Sorted, in_order_sorted}
 use Rattle.cb_scan.proofs.ScopeLemmas.{Ordered, headers_in_order, names_in_order}
+use Rattle.cb_scan.proofs.WithinLemmas.{all-filter}
 
 -- the first number of a key decides, and at equal ones the rest
 first_decides : (a b : ℕ) (xs ys : List ℕ) → not (is_gt (slice_cmp nat_cmp (a ∷ xs) (b ∷ ys))) ≡ true
@@ -83,16 +88,41 @@ module _ {A B : Type 0} (place : A → ℕ) (give : A → B) (place_of : B → �
   places_ordered p (x ∷ xs) o =
       (none_before (place_of (give x)) (place x) xs (omega (arith, kept x)) o.1, places_ordered (place x) xs o.1)
 
+-- what passes a test is ordered as it was
+kept_ordered : {X : Type 0} (R : X → X → Type 0) (test : X → Bool) (xs : List X) → AreOrdered R xs
+    → AreOrdered R (filter test xs)
+unfolding AreOrdered
+kept_ordered R test [] s = tt
+kept_ordered R test (x ∷ xs) s =
+    elim (test x) as (λ b. AreOrdered R (cond b (x ∷ filter test xs) (filter test xs))) [
+      | true ↦ (all-filter (R x) test xs s.0, kept_ordered R test xs s.1)
+      | false ↦ kept_ordered R test xs s.1
+    ]
+
+pub ordered_defs : (ds : List Def) → AreOrdered IsDefBefore (in_order def_key ds)
+ordered_defs ds = sorted_ordered def_key IsDefBefore def_before _ (in_order_sorted def_key ds)
+
+-- the definitions of each profile are in order
+definitions_ordered : (profile : Profile) (text : List ℕ)
+    → AreOrdered IsDefBefore (definitions_by profile text (pieces text))
+unfolding definitions_from
+definitions_ordered Standard text = ordered_defs _
+definitions_ordered Wide text =
+    kept_ordered IsDefBefore (λ d. not (is_declaration d.kind)) (all_definitions text (pieces text))
+    (ordered_defs (wide_found text (pieces text)))
+definitions_ordered Prototypes text = ordered_defs (wide_found text (pieces text))
+
 -- the facts of a text are in order
-pub facts_in_order : (text : List ℕ) → AreInOrder (facts_of text)
-unfolding definitions_from calls uses includes
-facts_in_order text = record {
-  defs = sorted_ordered def_key IsDefBefore def_before _ (in_order_sorted def_key _);
-  uses = places_ordered token_place
-      (λ (t : Token). record { name = t.span; line = t.line; scope = scope text (pieces text) t.span.start })
-      (λ u. u.name.start) (λ t. refl) 0 _ (names_in_order text);
-  calls = sorted_ordered call_key (λ c d. c.callee.start ≤ d.callee.start) call_before _ (in_order_sorted call_key _);
-  includes = places_ordered include_place
-      (λ (i : Include). record i { scope = scope text (pieces text) i.header.start }) (λ i. i.header.start)
-      (λ i. refl) 0 _ (headers_in_order text);
-}
+pub facts_in_order : (profile : Profile) (text : List ℕ) → AreInOrder (facts_in profile text)
+facts_in_order profile text =
+    let s = scope_among text (pieces text) (functions_by profile text (pieces text)) in
+    record {
+      defs = definitions_ordered profile text;
+      uses = places_ordered token_place (use_of s) (λ u. u.name.start) (λ t. refl) 0 _
+          (names_in_order text);
+      calls = sorted_ordered call_key (λ c d. c.callee.start ≤ d.callee.start) call_before _
+          (in_order_sorted call_key _);
+      includes = places_ordered include_place
+          (λ (i : Include). record i { scope = s i.header.start }) (λ i. i.header.start)
+          (λ i. refl) 0 _ (headers_in_order text);
+    }

@@ -35,9 +35,11 @@ pub mod Rising
 pub mod ScopeLemmas
 pub mod Stages
 pub mod StructureLemmas
+pub mod Together
 pub mod TypedefLemmas
 pub mod TypedefsWithin
 pub mod WideAhead
+pub mod WideAscend
 pub mod WideAttributes
 pub mod WideBareRanges
 pub mod WideBlocks
@@ -53,6 +55,7 @@ pub mod WideFile
 pub mod WideFive
 pub mod WideFunctions
 pub mod WideFunctionsRise
+pub mod WideGathered
 pub mod WideHeads
 pub mod WideHeld
 pub mod WideInduction
@@ -74,10 +77,12 @@ pub mod WideSegments
 pub mod WideSights
 pub mod WideSigns
 pub mod WideStack
+pub mod WideStaying
 pub mod WideTails
 pub mod WideTaken
 pub mod WideTokens
 pub mod WideWhole
+pub mod WideWithin
 pub mod Windows
 pub mod WithinLemmas
 pub mod WordLemmas

@@ -16,7 +16,9 @@ use Rattle.cb_scan.specs.rules.Code.{code, directives, logical_lines}
 use Rattle.cb_scan.specs.rules.Functions.{Function, functions}
 use Rattle.cb_scan.specs.rules.Macros.{Macro, macros}
 use Rattle.cb_scan.specs.rules.Scope.{function_range, function_ranges, holds, macro_ranges, name_around}
-use Rattle.cb_scan.specs.rules.Uses.{header_between, header_of, include_of, includes, used, uses}
+use Rattle.cb_scan.specs.rules.Scope.{ranges_of, scope_among}
+use Rattle.cb_scan.specs.rules.Uses.{header_between, header_of, include_of, includes_with, used}
+use Rattle.cb_scan.specs.rules.Uses.{uses_with}
 use Rattle.cb_scan.specs.lex.Tokens.{bytes_of, has_kind, is_mark, is_str, kind_is_include}
 use Rattle.cb_scan.specs.steps.Quote.{is_closed}
 use Rattle.cb_scan.specs.steps.Scopes.{first_around, include_place, include_with, reached, scoped, token_place, use_of}
@@ -90,17 +92,17 @@ first_decides q (r ∷ rs) a =
     not_le m n is = ⊎_elim (λ lt. lt) (λ le. absurd (true≢false (sym (le-leb m n le) ∙ is))) (cases_lt n m)
 
 -- what was left after a place serves every place after it
-record Serves (p : ℕ) (left all : List Range) : Type 0 where
-  ascends : Ascending left
-  finds : (q : ℕ) → p ≤ q → find (holds q) left ≡ find (holds q) all
+pub record Serves (p : ℕ) (left all : List Range) : Type 0 where
+  pub ascends : Ascending left
+  pub finds : (q : ℕ) → p ≤ q → find (holds q) left ≡ find (holds q) all
 
-serves_on : (p q : ℕ) (left all : List Range) → p ≤ q → Serves p left all → Serves q (reached q left) all
+pub serves_on : (p q : ℕ) (left all : List Range) → p ≤ q → Serves p left all → Serves q (reached q left) all
 serves_on p q left all le s = record {
   ascends = ascending_reached q left s.ascends;
   finds = λ k h. find_reached q k left h ∙ s.finds k (omega arith);
 }
 
-serves_name : (p q : ℕ) (left all : List Range) → p ≤ q → Serves p left all
+pub serves_name : (p q : ℕ) (left all : List Range) → p ≤ q → Serves p left all
     → first_around q (reached q left) ≡ name_around all q
 serves_name p q left all le s = first_decides q left s.ascends ∙ ap (option_map (λ (r : Range). r.name)) (s.finds q le)
 
@@ -197,14 +199,13 @@ pub names_in_order : (text : List ℕ) → Ordered token_place 0 (flat_map used 
 names_in_order text = tokens_ordered 0 (flat_map used (logical_lines text (pieces text)))
     (from_zero (flat_map used (logical_lines text (pieces text)))) (used_rise text)
 
-pub uses_scoped : (text : List ℕ)
-    → scoped token_place use_of (function_ranges text (pieces text))
+pub uses_scoped : (text : List ℕ) (fs : List Function) → Ascending (ranges_of text (pieces text) fs)
+    → scoped token_place use_of (ranges_of text (pieces text) fs)
     (macro_ranges text (pieces text)) (flat_map used (logical_lines text (pieces text)))
-    ≡ uses text (pieces text)
-unfolding uses
-uses_scoped text =
-    scoped_all token_place use_of (function_ranges text (pieces text)) (macro_ranges text (pieces text))
-    (flat_map used (logical_lines text (pieces text))) (functions_ascend text) (macros_ascend text)
+    ≡ uses_with (scope_among text (pieces text) fs) text (pieces text)
+uses_scoped text fs ascend =
+    scoped_all token_place use_of (ranges_of text (pieces text) fs) (macro_ranges text (pieces text))
+    (flat_map used (logical_lines text (pieces text))) ascend (macros_ascend text)
     (names_in_order text)
 
 -- ---- includes
@@ -282,11 +283,11 @@ pub headers_in_order : (text : List ℕ)
 headers_in_order text = includes_ordered text 0 (directives text (pieces text))
     (from_zero (flat_map (λ l. l) (directives text (pieces text)))) (directive_tokens_rise text)
 
-pub includes_scoped : (text : List ℕ)
-    → scoped include_place include_with (function_ranges text (pieces text)) (macro_ranges text (pieces text))
-    (flat_map (include_of text) (directives text (pieces text))) ≡ includes text (pieces text)
-unfolding includes
-includes_scoped text =
-    scoped_all include_place include_with (function_ranges text (pieces text)) (macro_ranges text (pieces text))
-    (flat_map (include_of text) (directives text (pieces text))) (functions_ascend text) (macros_ascend text)
+pub includes_scoped : (text : List ℕ) (fs : List Function) → Ascending (ranges_of text (pieces text) fs)
+    → scoped include_place include_with (ranges_of text (pieces text) fs) (macro_ranges text (pieces text))
+    (flat_map (include_of text) (directives text (pieces text)))
+    ≡ includes_with (scope_among text (pieces text) fs) text (pieces text)
+includes_scoped text fs ascend =
+    scoped_all include_place include_with (ranges_of text (pieces text) fs) (macro_ranges text (pieces text))
+    (flat_map (include_of text) (directives text (pieces text))) ascend (macros_ascend text)
     (headers_in_order text)

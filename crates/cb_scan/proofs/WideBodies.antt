@@ -47,7 +47,7 @@ use Rattle.cb_scan.proofs.WideStack.{next_are_places, opens_from, places, stack_
 abbrev pub body_here : List WideToken → Placed → List Body
 body_here before p = if p.item.counted then body_after p before else []
 
-pub bodies_from : List WideToken → List Placed → List Body
+abbrev pub bodies_from : List WideToken → List Placed → List Body
 bodies_from before [] = []
 bodies_from before (p ∷ ps) = body_here before p ++ bodies_from (p.item ∷ before) ps
 

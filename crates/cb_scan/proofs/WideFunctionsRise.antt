@@ -124,7 +124,7 @@ module _ (text : List ℕ) (ts : List Token) (bs : List Body) where
   abbrev all : List WideToken
   all = wide_tokens text ts
 
-  plain_is : plain all ≡ ts
+  pub plain_is : plain all ≡ ts
   plain_is = sym (ap plain (tokens_are text ts)) ∙ plain_tokens text Anything ts
 
   wide_head_all : (P : Token → Type 0) (k : ℕ) → AllByRecursion P (head ts k)
@@ -146,7 +146,7 @@ module _ (text : List ℕ) (ts : List Token) (bs : List Body) where
       signature_of_head P (wide_head ts all k) (map (λ j. plain (wide_head ts all j)) (semicolons_before ts k))
       (wide_head_all P k has) (segments_all P (semicolons_before ts k) segs)
 
-  named : (P : Token → Type 0) (k : ℕ) → AllByRecursion P (head ts k) → AllOfAll P (segments ts k)
+  pub named : (P : Token → Type 0) (k : ℕ) → AllByRecursion P (head ts k) → AllOfAll P (segments ts k)
       → AllByRecursion P (map (λ (f : Function). f.name) (wide_function_at ts all bs k))
   named P k has segs =
       by_cases (is_counted ts k && depth ts k == 0 && not (opens_body bs (token_at ts k).span.start))

@@ -11,7 +11,8 @@ use Rattle.cb_scan.specs.declared.facts.Kind.TheVariants as kind
 use Rattle.cb_scan.specs.declared.lex.piece.Piece.{Piece}
 use Rattle.cb_scan.specs.declared.lex.piece.Span.{Span}
 use Rattle.cb_scan.specs.declared.lex.token.Token.{Token}
-use Rattle.cb_scan.specs.declared.profile.Profile.TheVariants.{Standard, Wide}
+use Rattle.cb_scan.specs.declared.profile.Profile.{Profile}
+use Rattle.cb_scan.specs.declared.profile.Profile.TheVariants.{Prototypes, Standard}
 use Rattle.cb_scan.specs.declared.facts.Tag.{Tag}
 use Rattle.cb_scan.specs.declared.facts.Def.{Def}
 use Rattle.cb_scan.specs.declared.rules.wide.token.WideToken.{WideToken}
@@ -47,19 +48,19 @@ uses_alike : (s r : ℕ → Option Span) (ts : List Token)
 uses_alike s r [] = refl
 uses_alike s r (t ∷ ts) = ap (λ us. use_alone (use_of s t) ∷ us) (uses_alike s r ts)
 
-pub same_uses : (text : List ℕ)
-    → map use_alone (facts_in Standard text).uses ≡ map use_alone (facts_in Wide text).uses
-same_uses text = uses_alike _ _ _
+pub same_uses : (profile : Profile) (text : List ℕ)
+    → map use_alone (facts_in profile text).uses ≡ map use_alone (facts_in Standard text).uses
+same_uses profile text = uses_alike _ _ _
 
 includes_alike : (s r : ℕ → Option Span) (is : List Include)
     → map include_alone (map (λ (i : Include). record i { scope = s i.header.start }) is)
     ≡ map include_alone (map (λ (i : Include). record i { scope = r i.header.start }) is)
 includes_alike s r [] = refl
-includes_alike s r (i ∷ is) = ap (λ rest. include_alone i ∷ rest) (includes_alike s r is)
+includes_alike s r (i ∷ is) = ap (λ l. include_alone i ∷ l) (includes_alike s r is)
 
-pub same_includes : (text : List ℕ)
-    → map include_alone (facts_in Standard text).includes ≡ map include_alone (facts_in Wide text).includes
-same_includes text = includes_alike _ _ _
+pub same_includes : (profile : Profile) (text : List ℕ)
+    → map include_alone (facts_in profile text).includes ≡ map include_alone (facts_in Standard text).includes
+same_includes profile text = includes_alike _ _ _
 
 -- ---- variables and prototypes
 
@@ -198,5 +199,5 @@ module _ (text : List ℕ) (ps : List Piece) where
       (all_map wide_macro_def (λ t. refl) (macro_names text ps)))
       from_code
 
-  pub all_beside : AllByRecursion (IsBesideFunctions text ps) (definitions_by Wide text ps)
+  pub all_beside : AllByRecursion (IsBesideFunctions text ps) (definitions_by Prototypes text ps)
   all_beside = all_in_order def_key Beside (wide_found text ps) all_found

@@ -21,6 +21,24 @@ pub enum Kind {
     Prototype,
 }
 
+impl Kind {
+    ghost use Rattle.cb_scan.specs.Profiles.{is_declaration, is_object};
+
+    /// An external declaration or a prototype: what it names is defined elsewhere.
+    pub fn is_declaration(self) -> bool
+        ensures { result ≡ is_declaration self }
+    {
+        matches!(self, Kind::External | Kind::Prototype)
+    }
+
+    /// A variable, an external declaration or a prototype.
+    pub(crate) fn is_object(self) -> bool
+        ensures { result ≡ is_object self }
+    {
+        matches!(self, Kind::Variable | Kind::External | Kind::Prototype)
+    }
+}
+
 /// The tag of a structure, union or enumeration, and which of them it is.
 #[derive(Clone, Copy, Debug, PartialEq, Eq)]
 pub struct Tag {

@@ -63,7 +63,7 @@ pub(crate) struct LineLists {
     pub includes: Vec<Include>,
 }
 
-fn push_some<T: Drop>(list: &mut Vec<T>, item: Option<T>) -> Result<(), AllocError>
+pub(crate) fn push_some<T: Drop>(list: &mut Vec<T>, item: Option<T>) -> Result<(), AllocError>
     ensures { IfOk result (λ _. list.new.items ≡ list.old.items ++ option_to_list item) }
 {
     if let Some(item) = item {

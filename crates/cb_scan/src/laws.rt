@@ -2,13 +2,14 @@
 ghost use Rattle.std.specs.Prelude.{◌≡◌, ◌↔◌, ℕ, true, List, length, map};
 ghost use Rattle.std.specs.List.{AllByRecursion};
 ghost use Rattle.cb_scan.specs.declared.lex.piece.Piece.{Piece};
-ghost use Rattle.cb_scan.specs.declared.profile.Profile.TheVariants.{Standard, Wide};
+ghost use Rattle.cb_scan.specs.declared.profile.Profile.{Profile};
+ghost use Rattle.cb_scan.specs.declared.profile.Profile.TheVariants.{Prototypes, Standard};
 ghost use Rattle.cb_scan.specs.lex.Pieces.{IsPieces, Adjoin, LiesIn};
-ghost use Rattle.cb_scan.specs.Definitions.{facts_from, facts_of};
 ghost use Rattle.cb_scan.specs.lex.Lexeme.{IsClosedLiteral};
 ghost use Rattle.cb_scan.specs.Order.{AreInOrder};
 ghost use Rattle.cb_scan.specs.Profiles.{
   definitions_by,
+  facts_by,
   facts_in,
   include_alone,
   use_alone,
@@ -33,10 +34,10 @@ pub fn pieces_in_order()
     ensures order { (text : List ℕ) → Adjoin 0 (length text) (pieces text) }
 {}
 
-/// The facts of a text follow from any list of its pieces, however it was found.
+/// What a profile finds in a text follows from any list of its pieces, however it was found.
 pub fn facts_are()
-    ensures { (text : List ℕ) (ps : List Piece) → IsPieces text ps
-        → facts_of text ≡ facts_from text ps }
+    ensures { (profile : Profile) (text : List ℕ) (ps : List Piece) → IsPieces text ps
+        → facts_in profile text ≡ facts_by profile text ps }
 {}
 
 /// A string is found closed exactly if it is a literal whatever follows it.
@@ -44,28 +45,24 @@ pub fn closed_strings()
     ensures { (bytes : List ℕ) → (is_closed bytes ≡ true) ↔ IsClosedLiteral 34 bytes }
 {}
 
-/// The facts of a text are in order: each of the four lists ascends by place, and definitions at
-/// one place go by kind.
+/// What a profile finds in a text is in order: each of the four lists ascends by place, and
+/// definitions at one place go by kind.
 pub fn facts_in_order()
-    ensures { (text : List ℕ) → AreInOrder (facts_of text) }
+    ensures { (profile : Profile) (text : List ℕ) → AreInOrder (facts_in profile text) }
 {}
 
-/// The standard profile finds what a scan finds.
-pub fn standard_profile()
-    ensures { (text : List ℕ) → facts_in Standard text ≡ facts_of text }
-{}
-
-/// Both profiles find the same uses and includes, their scopes aside.
+/// All profiles find the same uses and includes, their scopes aside.
 pub fn profiles_agree()
-    ensures uses { (text : List ℕ) → map use_alone (facts_in Standard text).uses
-        ≡ map use_alone (facts_in Wide text).uses }
-    ensures includes { (text : List ℕ) → map include_alone (facts_in Standard text).includes
-        ≡ map include_alone (facts_in Wide text).includes }
+    ensures uses { (profile : Profile) (text : List ℕ)
+        → map use_alone (facts_in profile text).uses
+        ≡ map use_alone (facts_in Standard text).uses }
+    ensures includes { (profile : Profile) (text : List ℕ)
+        → map include_alone (facts_in profile text).includes
+        ≡ map include_alone (facts_in Standard text).includes }
 {}
 
-/// Variables, external declarations and prototypes of the wide profile lie in the range of no
-/// function.
+/// Variables, external declarations and prototypes lie in the range of no function.
 pub fn objects_beside_functions()
     ensures { (text : List ℕ) → AllByRecursion (IsBesideFunctions text (pieces text))
-        (definitions_by Wide text (pieces text)) }
+        (definitions_by Prototypes text (pieces text)) }
 {}

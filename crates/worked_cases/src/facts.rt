@@ -50,6 +50,11 @@ fn kind_letter(kind: Kind) -> u8 {
         Kind::Struct => b's',
         Kind::Union => b'u',
         Kind::Enum => b'g',
+        Kind::Enumerator => b'e',
+        Kind::Member => b'm',
+        Kind::Variable => b'v',
+        Kind::External => b'x',
+        Kind::Prototype => b'p',
     }
 }
 

@@ -6,6 +6,7 @@ pub mod Contents
 pub mod Declarations
 pub mod Enumerators
 pub mod Functions
+pub mod Gathering
 pub mod Givens
 pub mod Heads
 pub mod Levels

@@ -33,7 +33,7 @@ pub(crate) struct Around<'a> {
 }
 
 /// The ranges without those at the beginning that end by a place.
-fn reached(ranges: &[Range], place: u32) -> &[Range]
+pub(crate) fn reached(ranges: &[Range], place: u32) -> &[Range]
     ensures { result.now ≡ reached place ranges.now }
 {
     for (i, range) in ranges.iter().enumerate() {
@@ -45,7 +45,7 @@ fn reached(ranges: &[Range], place: u32) -> &[Range]
 }
 
 /// The name of the first range, if it has begun by a place.
-fn first_around(ranges: &[Range], place: u32) -> Option<Span>
+pub(crate) fn first_around(ranges: &[Range], place: u32) -> Option<Span>
     ensures { result ≡ first_around place ranges.now }
 {
     match ranges {

@@ -1,7 +1,8 @@
 //! The wide profile: enumerators, members, variables and prototypes, and the names of functions and
-//! typedefs by the same rules. Nothing scans by it yet.
+//! typedefs by the same rules.
 pub(crate) mod ahead;
 pub(crate) mod attribute;
+pub(crate) mod beside;
 pub(crate) mod called;
 pub(crate) mod declaration;
 pub(crate) mod def;

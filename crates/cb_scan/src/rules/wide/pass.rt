@@ -1,6 +1,8 @@
 //! The pass of the wide profile over the tokens that are of no attribute.
 ghost use Rattle.std.specs.Prelude.{◌≡◌, ◌+◌, ◌<◌, ◌≤◌, ◌^◌, ◌++◌, IfOk};
 ghost use Rattle.std.specs.List.{flat_map};
+ghost use Rattle.std.specs.Option.{option_map};
+ghost use Rattle.cb_scan.specs.steps.Functions.{range_to};
 ghost use Rattle.cb_scan.specs.steps.wide.Contents.{most_open, next_levels};
 ghost use Rattle.cb_scan.specs.steps.wide.Givens.{object_given, typedef_given};
 ghost use Rattle.cb_scan.specs.steps.wide.Pass.{
@@ -123,6 +125,16 @@ impl Pass {
             })
         } else {
             None
+        }
+    }
+
+    /// The range of the function whose body the end of the text ends.
+    pub(crate) fn left_open(&self, end: u32) -> Option<Range>
+        ensures { result ≡ option_map (range_to end) self.now.body }
+    {
+        match self.body {
+            Some(name) => Some(Range { name, end }),
+            None => None,
         }
     }
 

@@ -17,7 +17,7 @@ use Rattle.cb_scan.specs.steps.Lined.{Within}
 use Rattle.cb_scan.specs.steps.Functions.{calls_from, defs_from, ranges_from}
 use Rattle.cb_scan.specs.steps.Structures.{structures_from}
 use Rattle.cb_scan.specs.steps.Typedefs.{nesting_of, typedef_defs_from}
-use Rattle.cb_scan.proofs.scanner.gather.Given as goal
+use Rattle.cb_scan.proofs.scanner.standard.gather.Given as goal
 
 abbrev pub invariant-loop-lined : goal.invariant-loop-lined
 invariant-loop-lined l = record {

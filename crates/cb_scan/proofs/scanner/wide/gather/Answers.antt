@@ -1,23 +1,25 @@
-use Rattle.std.proofs.Common.{◌≡◌, ◌∙◌, ◌++◌, true, None, length, sym, ap, subst, arith}
+use Rattle.std.proofs.Common.{◌≡◌, ◌∙◌, ◌++◌, true, None, Some, length, sym, ap, subst, arith}
 use Rattle.std.specs.List.{AllByRecursion}
 use Rattle.std.specs.Option.{option_to_list}
 use Rattle.cb_scan.specs.declared.rules.directives.Stage.TheVariants.{Start}
 use Rattle.cb_scan.specs.lex.Tokens.{is_significant}
+use Rattle.cb_scan.specs.rules.Code.{code}
 use Rattle.cb_scan.specs.steps.Cut.{pieces}
 use Rattle.cb_scan.specs.steps.Directives.{code_out, include_out, is_code, macro_call_out}
 use Rattle.cb_scan.specs.steps.Directives.{macro_out, no_range, nothing, range_finish, use_out}
 use Rattle.cb_scan.specs.steps.Directives.{walk}
+use Rattle.cb_scan.specs.steps.Functions.{call_before}
 use Rattle.cb_scan.specs.steps.Lined.{Within}
-use Rattle.cb_scan.specs.steps.Functions.{called, calls_from, closed, defs_from, found, ranges_from}
-use Rattle.cb_scan.specs.declared.rules.structures.Naming.TheVariants.{Nothing}
-use Rattle.cb_scan.specs.steps.Structures.{structure_found, structures_from}
-use Rattle.cb_scan.specs.steps.Typedefs.{typedef_defs_from, typedefs_out}
-use Rattle.cb_scan.proofs.CodeLines.{uses_are}
+use Rattle.cb_scan.specs.steps.wide.Pass.{most_in}
+use Rattle.cb_scan.specs.steps.wide.Reading.{held_len, most_left_out, reader_start, the_taken}
+use Rattle.cb_scan.proofs.CodeLines.{code_is, uses_are}
 use Rattle.cb_scan.proofs.IncludeLines.{includes_are}
 use Rattle.cb_scan.proofs.MacroLines.{macro_calls_are, macro_ranges_are, macros_are}
-use Rattle.cb_scan.proofs.GatherLemmas.{appended, calls_found, code_on, walk_on, functions_found}
-use Rattle.cb_scan.proofs.GatherLemmas.{ranges_found, structures_found, typedefs_found}
-use Rattle.cb_scan.proofs.scanner.gather.Goals as goal
+use Rattle.cb_scan.proofs.GatherLemmas.{appended, code_on, walk_on}
+use Rattle.cb_scan.proofs.WideCallsRead.{calls_read}
+use Rattle.cb_scan.proofs.WideGathered.{beginning}
+use Rattle.cb_scan.proofs.WideWhole.{read_all}
+use Rattle.cb_scan.proofs.scanner.wide.gather.Goals as goal
 
 -- nothing is gathered yet, and all is still to come
 pub loop-lined-init : goal.loop-lined-init
@@ -25,21 +27,17 @@ loop-lined-init c =
     let text = c.args.text.now in
     let source = c.into_iter-lined-iterator.ensures.into_iter_gives ∙ c.lined_pieces-lined-items.ensures.value in
     let bounds = c.lined_pieces-lined-items.ensures in
-    let code = c.new-code.ensures in
+    let reader = c.new-reader.ensures in
+    let pass = c.new-pass.ensures in
+    let found = c.new-found.ensures in
     let lines = c.new-lines.ensures in
-    let machine = c.start.ensures in
     record {
-      functions_found = (λ i. code.functions i ++ defs_from (machine i) (walk code_out nothing text Start (source i)))
-          ∙ functions_found text;
-      ranges_found = (λ i. code.ranges i
-          ++ ranges_from (length text) (machine i) (walk code_out nothing text Start (source i))) ∙ ranges_found text;
-      calls_found = (λ i. code.calls i ++ calls_from (machine i) (walk code_out nothing text Start (source i)))
-          ∙ calls_found text;
-      typedefs_found = (λ i. code.typedefs i
-          ++ typedef_defs_from (machine i) None (code.pending i) (walk code_out nothing text Start (source i)))
-          ∙ typedefs_found text;
-      structures_found = (λ i. code.structures i
-          ++ structures_from Nothing (walk code_out nothing text Start (source i))) ∙ structures_found text;
+      read = (λ i. read_all text (reader i) (the_taken (pass i) (found i))
+          (walk code_out nothing text Start (source i)))
+          ∙ ap (read_all text reader_start beginning) (code_is text (pieces text));
+      calls_found = (λ i. c.new-calls.ensures i ++ calls_read text (reader i) (the_taken (pass i) (found i)) None
+          (walk code_out nothing text Start (source i)))
+          ∙ ap (calls_read text reader_start beginning None) (code_is text (pieces text));
       names_found = (λ i. lines.names i ++ walk use_out nothing text Start (source i)) ∙ uses_are text (pieces text);
       macros_found = (λ i. lines.macros i ++ walk macro_out nothing text Start (source i))
           ∙ macros_are text (pieces text);
@@ -55,12 +53,21 @@ loop-lined-init c =
         arith,
         bounds.len,
         ap length c.into_iter-lined-iterator.ensures.into_iter_gives,
-        ap (λ m. m.depth) machine,
+        ap most_in pass,
+        ap held_len reader,
       );
-      nested = omega (arith, bounds.len, ap length c.into_iter-lined-iterator.ensures.into_iter_gives);
+      left_out = omega (
+        arith,
+        bounds.len,
+        ap length c.into_iter-lined-iterator.ensures.into_iter_gives,
+        ap most_left_out reader,
+      );
+      raw = omega (arith, ap (λ r. length r.raw) reader);
+      bare = omega (arith, ap (λ r. length r.bare) reader);
     }
 
 pub loop-lined-preserved-in-Continue-branch-2 : goal.loop-lined-preserved-in-Continue-branch-2
+unfolding read_all calls_read
 loop-lined-preserved-in-Continue-branch-2 c =
     let text = c.args.text.now in
     let so_far = c.loop-lined.invariant in
@@ -70,34 +77,24 @@ loop-lined-preserved-in-Continue-branch-2 c =
     let token_is = c.token_of-token.ensures in
     let line_is = c.in_ok-add.ensures.line in
     let code_is : is_code c.add.new.line ≡ true = sym c.is_code.ensures ∙ c.if-is_code.true in
+    let told = c.in_ok-push_some.ensures in
     let code = c.in_ok-add-2.ensures in
     let lines = c.in_ok-add.ensures in
     let on = code_on text c.loop-lined.line c.add.new.line c.token_of-token.result c.in-Some.lined
     c.loop-lined.lined-iterator c.next.new.self all_is is token_is line_is code_is in
     let rest = walk code_out nothing text c.add.new.line c.next.new.self in
-    let m = c.loop-lined.state.machine in
-    let t = c.token_of-token.result in
+    let r = c.loop-lined.reader in
+    let t = the_taken c.loop-lined.pass c.loop-lined.found in
+    let token = c.token_of-token.result in
     record {
-      functions_found = appended _ _ _ _ _ _ code.functions
-          (ap (defs_from m) on ∙ ap (λ k. option_to_list (found m t) ++ defs_from k rest) (sym code.machine))
-          so_far.functions_found;
-      ranges_found = appended _ _ _ _ _ _ code.ranges
-          (ap (ranges_from (length text) m) on
-          ∙ ap (λ k. option_to_list (closed m t) ++ ranges_from (length text) k rest) (sym code.machine))
-          so_far.ranges_found;
-      calls_found = appended _ _ _ _ _ _ code.calls
-          (ap (calls_from m) on ∙ ap (λ k. option_to_list (called m t) ++ calls_from k rest) (sym code.machine))
+      read = (λ i. read_all text (code.reader i) (code.taken i) rest)
+          ∙ sym (ap (read_all text r t) on) ∙ so_far.read;
+      calls_found = appended _ _ _ _ _ _ (told ∙ ap (λ o. c.loop-lined.calls.items ++ option_to_list o)
+          c.call_before.ensures)
+          (ap (calls_read text r t c.loop-lined.last) on
+          ∙ (λ i. option_to_list (call_before c.loop-lined.pass.body c.loop-lined.last token)
+          ++ calls_read text (sym code.reader i) (sym code.taken i) (Some token) rest))
           so_far.calls_found;
-      typedefs_found = appended _ _ _ _ _ _ code.typedefs
-          (ap (typedef_defs_from m c.loop-lined.state.declared c.loop-lined.code.pending.items) on
-          ∙ (λ i. typedefs_out m c.loop-lined.state.declared c.loop-lined.code.pending.items t
-          ++ typedef_defs_from (sym code.machine i) (sym code.declared i) (sym code.pending i) rest))
-          so_far.typedefs_found;
-      structures_found = appended _ _ _ _ _ _ code.structures
-          (ap (structures_from c.loop-lined.state.naming) on
-          ∙ ap (λ n. option_to_list (structure_found c.loop-lined.state.naming t) ++ structures_from n rest)
-          (sym code.naming))
-          so_far.structures_found;
       names_found = appended _ _ _ _ _ _ lines.names
           (walk_on use_out nothing text _ _ _ _ _ _ all_is is token_is line_is) so_far.names_found;
       macros_found = appended _ _ _ _ _ _ lines.macros
@@ -110,6 +107,8 @@ loop-lined-preserved-in-Continue-branch-2 c =
       includes_found = appended _ _ _ _ _ _ lines.includes
           (walk_on (include_out text) nothing text _ _ _ _ _ _ all_is is token_is line_is) so_far.includes_found;
       within = (subst (AllByRecursion (Within text)) all_is so_far.within).1;
-      room = omega (arith, ap length all_is, code.deep, so_far.room);
-      nested = omega (arith, ap length all_is, code.nested, so_far.nested);
+      room = omega (arith, ap length all_is, code.small, so_far.room);
+      left_out = omega (arith, ap length all_is, code.left_out, so_far.left_out);
+      raw = code.raw;
+      bare = code.bare;
     }

@@ -1,0 +1,112 @@
+//! What the standard profile finds: one pass over the pieces of a text.
+ghost use Rattle.std.specs.Prelude.{◌≡◌, ◌≤◌, length, map, IfOk};
+ghost use Rattle.cb_scan.specs.declared.profile.Profile.TheVariants.{Standard};
+ghost use Rattle.cb_scan.specs.declared.source.TheConstants.{MOST_BYTES};
+ghost use Rattle.std.specs.List.{flat_map};
+ghost use Rattle.cb_scan.specs.rules.Code.{code, directives, logical_lines};
+ghost use Rattle.cb_scan.specs.Definitions.{function_def, macro_def, structure_def, typedef_def};
+ghost use Rattle.cb_scan.specs.rules.Functions.{functions};
+ghost use Rattle.cb_scan.specs.rules.Macros.{macro_names, macros};
+ghost use Rattle.cb_scan.specs.rules.Scope.{function_ranges, macro_ranges};
+ghost use Rattle.cb_scan.specs.rules.Structures.{structures};
+ghost use Rattle.cb_scan.specs.rules.Typedefs.{typedefs};
+ghost use Rattle.cb_scan.specs.rules.Uses.{function_calls, include_of, macro_calls, used};
+ghost use Rattle.cb_scan.specs.steps.Cut.{pieces};
+ghost use Rattle.cb_scan.specs.Profiles.{facts_in};
+
+use crate::facts::Facts;
+use crate::gather::{CodeLists, CodeState, LineLists};
+use crate::lex::lined::lined_pieces;
+use crate::lex::piece::Class;
+use crate::lex::token::token_of;
+use crate::rules::directives::Stage;
+use crate::rules::functions::Machine;
+use crate::rules::order::ordered_defs;
+use crate::rules::structures::Naming;
+use crate::scanner::is_significant;
+use crate::scanner::together::facts_with;
+use std::alloc::{AllocError, Global};
+
+/// What one pass gathers.
+#[derive(Drop)]
+struct Gathered {
+    code: CodeLists,
+    lines: LineLists,
+}
+
+/// The one pass over a text: each piece is looked at once.
+fn gather(alloc: Global, text: &[u8]) -> Result<Gathered, AllocError>
+    requires { length text.now ≤ MOST_BYTES }
+    ensures functions { IfOk result
+        (λ g. g.code.functions.items
+        ≡ map function_def (functions (code text.now (pieces text.now)))) }
+    ensures function_ranges { IfOk result
+        (λ g. g.code.ranges.items ≡ function_ranges text.now (pieces text.now)) }
+    ensures function_calls { IfOk result
+        (λ g. g.code.calls.items ≡ function_calls (code text.now (pieces text.now))) }
+    ensures typedefs { IfOk result
+        (λ g. g.code.typedefs.items
+        ≡ map typedef_def (typedefs (code text.now (pieces text.now)))) }
+    ensures structures { IfOk result
+        (λ g. g.code.structures.items
+        ≡ map structure_def (structures (code text.now (pieces text.now)))) }
+    ensures names { IfOk result
+        (λ g. g.lines.names.items ≡ flat_map used (logical_lines text.now (pieces text.now))) }
+    ensures macros { IfOk result
+        (λ g. g.lines.macros.items ≡ map macro_def (macro_names text.now (pieces text.now))) }
+    ensures macro_ranges { IfOk result
+        (λ g. g.lines.ranges.items ≡ macro_ranges text.now (pieces text.now)) }
+    ensures macro_calls { IfOk result
+        (λ g. g.lines.calls.items ≡ macro_calls (macros text.now (pieces text.now))) }
+    ensures includes { IfOk result
+        (λ g. g.lines.includes.items
+        ≡ flat_map (include_of text.now) (directives text.now (pieces text.now))) }
+{
+    let mut code = CodeLists::new(alloc);
+    let mut lines = LineLists::new(alloc);
+    let mut line = Stage::Start;
+    let mut state = CodeState {
+        machine: Machine::start(),
+        declared: None,
+        naming: Naming::Nothing,
+    };
+    for lined in lined_pieces(text) {
+        if is_significant(lined.piece.class) {
+            let token = token_of(text, &lined);
+            lines.add(text, &mut line, &token)?;
+            if line.is_code() {
+                code.add(&mut state, &token)?;
+            }
+        } else if lined.piece.class == Class::Newline {
+            lines.end(&line, lined.piece.span.start)?;
+            line = Stage::Start;
+        }
+    }
+    lines.end(&line, text.len() as u32)?;
+    code.end(&state.machine, text.len() as u32)?;
+    Ok(Gathered { code, lines })
+}
+
+/// What the standard profile finds in a text.
+pub(crate) fn facts_in(alloc: Global, text: &[u8]) -> Result<Facts, AllocError>
+    requires { length text.now ≤ MOST_BYTES }
+    ensures { IfOk result (λ f. f ≡ facts_in Standard text.now) }
+{
+    let gathered = gather(alloc, text)?;
+    let code = &gathered.code;
+    let defs = ordered_defs(
+        alloc,
+        code.functions.as_slice(),
+        gathered.lines.macros.as_slice(),
+        code.typedefs.as_slice(),
+        code.structures.as_slice(),
+    )?;
+    let facts = facts_with(
+        alloc,
+        defs,
+        code.ranges.as_slice(),
+        code.calls.as_slice(),
+        &gathered.lines,
+    )?;
+    Ok(facts)
+}

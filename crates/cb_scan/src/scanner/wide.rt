@@ -1,0 +1,137 @@
+//! What the wide profile finds: one pass over the pieces of a text.
+ghost use Rattle.std.specs.Prelude.{◌≡◌, ◌≤◌, length, map, IfOk};
+ghost use Rattle.cb_scan.specs.declared.source.TheConstants.{MOST_BYTES};
+ghost use Rattle.std.specs.List.{flat_map};
+ghost use Rattle.std.specs.List.Sorted.{IsPermutation};
+ghost use Rattle.cb_scan.specs.Definitions.{macro_def};
+ghost use Rattle.cb_scan.specs.Profiles.{facts_in};
+ghost use Rattle.cb_scan.specs.rules.Code.{code, directives, logical_lines};
+ghost use Rattle.cb_scan.specs.rules.Macros.{macro_names, macros};
+ghost use Rattle.cb_scan.specs.rules.Scope.{macro_ranges, ranges_of};
+ghost use Rattle.cb_scan.specs.rules.Uses.{calls_in, include_of, macro_calls, used};
+ghost use Rattle.cb_scan.specs.rules.wide.Kinds.{functions_of, wide_function_def};
+ghost use Rattle.cb_scan.specs.steps.Cut.{pieces};
+ghost use Rattle.cb_scan.specs.steps.Functions.{call_before};
+ghost use Rattle.cb_scan.specs.steps.wide.Gathering.{declared_in, objects_in, profile_with};
+
+use crate::facts::{Call, Facts};
+use crate::gather::{LineLists, push_some};
+use crate::lex::lined::lined_pieces;
+use crate::lex::piece::{Class, Span};
+use crate::lex::token::{Token, token_of};
+use crate::rules::directives::Stage;
+use crate::rules::order::ordered_defs;
+use crate::rules::wide::beside::staying;
+use crate::rules::wide::found::Found;
+use crate::rules::wide::pass::Pass;
+use crate::rules::wide::reader::Reader;
+use crate::scanner::is_significant;
+use crate::scanner::together::facts_with;
+use std::alloc::{AllocError, Global};
+
+/// What one pass gathers: what the code defines, its calls, and the lists of all lines.
+#[derive(Drop)]
+struct Gathered {
+    found: Found,
+    calls: Vec<Call>,
+    lines: LineLists,
+}
+
+/// The call of the token before in a body, if it is one.
+#[inline(always)]
+fn call_before(body: Option<Span>, last: Option<Token>, token: &Token) -> Option<Call>
+    ensures { result ≡ call_before body last token.now }
+{
+    match (body, last) {
+        (Some(caller), Some(name)) if name.is_name() && token.is_mark(b'(') => Some(Call {
+            callee: name.span,
+            line: name.line,
+            caller,
+        }),
+        _ => None,
+    }
+}
+
+/// The one pass over a text: each piece is looked at once.
+fn gather(alloc: Global, text: &[u8]) -> Result<Gathered, AllocError>
+    requires { length text.now ≤ MOST_BYTES }
+    ensures functions { IfOk result
+        (λ g. g.found.functions
+        ≡ map wide_function_def (functions_of text.now (pieces text.now))) }
+    ensures ranges { IfOk result
+        (λ g. g.found.ranges
+        ≡ ranges_of text.now (pieces text.now) (functions_of text.now (pieces text.now))) }
+    ensures defs { IfOk result
+        (λ g. IsPermutation g.found.defs (declared_in text.now (pieces text.now))) }
+    ensures objects { IfOk result
+        (λ g. g.found.objects ≡ objects_in text.now (pieces text.now)) }
+    ensures calls { IfOk result
+        (λ g. g.calls.items ≡ calls_in (code text.now (pieces text.now))
+        (functions_of text.now (pieces text.now))) }
+    ensures names { IfOk result
+        (λ g. g.lines.names.items ≡ flat_map used (logical_lines text.now (pieces text.now))) }
+    ensures macros { IfOk result
+        (λ g. g.lines.macros.items ≡ map macro_def (macro_names text.now (pieces text.now))) }
+    ensures macro_ranges { IfOk result
+        (λ g. g.lines.ranges.items ≡ macro_ranges text.now (pieces text.now)) }
+    ensures macro_calls { IfOk result
+        (λ g. g.lines.calls.items ≡ macro_calls (macros text.now (pieces text.now))) }
+    ensures includes { IfOk result
+        (λ g. g.lines.includes.items
+        ≡ flat_map (include_of text.now) (directives text.now (pieces text.now))) }
+{
+    let mut reader = Reader::new();
+    let mut pass = Pass::new(alloc);
+    let mut found = Found::new(alloc);
+    let mut calls = Vec::new(alloc);
+    let mut last = None;
+    let mut lines = LineLists::new(alloc);
+    let mut line = Stage::Start;
+    for lined in lined_pieces(text) {
+        if is_significant(lined.piece.class) {
+            let token = token_of(text, &lined);
+            lines.add(text, &mut line, &token)?;
+            if line.is_code() {
+                push_some(&mut calls, call_before(pass.body, last, &token))?;
+                reader.add(&mut pass, &mut found, text, &token)?;
+                last = Some(token);
+            }
+        } else if lined.piece.class == Class::Newline {
+            lines.end(&line, lined.piece.span.start)?;
+            line = Stage::Start;
+        }
+    }
+    lines.end(&line, text.len() as u32)?;
+    reader.finish(&mut pass, &mut found)?;
+    found.end_function(pass.left_open(text.len() as u32))?;
+    Ok(Gathered {
+        found,
+        calls,
+        lines,
+    })
+}
+
+/// What the wide profile finds in a text, with or without external declarations and prototypes.
+pub(crate) fn facts_in(alloc: Global, prototypes: bool, text: &[u8]) -> Result<Facts, AllocError>
+    requires { length text.now ≤ MOST_BYTES }
+    ensures { IfOk result (λ f. f ≡ facts_in (profile_with prototypes) text.now) }
+{
+    let gathered = gather(alloc, text)?;
+    let found = &gathered.found;
+    let all = ordered_defs(
+        alloc,
+        found.functions.as_slice(),
+        gathered.lines.macros.as_slice(),
+        found.defs.as_slice(),
+        found.objects.as_slice(),
+    )?;
+    let defs = staying(alloc, prototypes, found.ranges.as_slice(), all.as_slice())?;
+    let facts = facts_with(
+        alloc,
+        defs,
+        found.ranges.as_slice(),
+        gathered.calls.as_slice(),
+        &gathered.lines,
+    )?;
+    Ok(facts)
+}
