@@ -125,6 +125,7 @@ fn fact_rows<'a, 'p>(shelf: &'a Shelf, kind: FactKind, pattern: &'p [u8]) -> Fac
         (field_rows shelf.now.archive.profile (asked_by kind) pattern.now) (files shelf.now)) }
 {
     let _totals = shelf.totals();
+    let _shown = shelf.shown();
     FactRows::new(shelf.facts(kind, pattern).spots(), is_named(kind))
 }
 

@@ -1,6 +1,6 @@
 //! Texts with their facts, and shelves and archives that keep them.
 use cb_index::{Archive, Links, Room, Shelf, Shown, Version};
-use cb_scan::{Meter, Source, scan};
+use cb_scan::{Meter, Profile, Source, scan};
 use std::alloc::Global;
 use std::test::Fail;
 
@@ -24,9 +24,9 @@ const ROOM: Room = Room {
 /// A text with its facts.
 fn version_of(alloc: Global, text: &[u8]) -> Result<Version, Fail> {
     let source = Source::new(alloc, text.to_vec(alloc)?)?;
-    let facts = scan(alloc, &mut Meter::new(), &source)?;
+    let facts = scan(alloc, &mut Meter::new(), Profile::Standard, &source)?;
     match Links::new(alloc, &facts) {
-        Ok(links) => Ok(Version::new(source, facts, links)),
+        Ok(links) => Ok(Version::new(Profile::Standard, source, facts, links)),
         Err(_) => Err(Fail::from("out of memory")),
     }
 }
@@ -54,6 +54,9 @@ fn keep_version(alloc: Global, shelf: &mut Shelf, text: &[u8], room: &Room) -> R
         Err(_) => return Err(Fail::from("no memory")),
     }
     let version = version_of(alloc, text)?;
+    if version.profile() != shelf.archive().profile() {
+        return Err(Fail::from("another profile"));
+    }
     Ok(shelf.push_version(version))
 }
 
@@ -81,6 +84,9 @@ pub(super) fn keep_in(alloc: Global, archive: &mut Archive, name: &[u8]) -> Resu
     }
     let name = name.to_vec(alloc)?;
     let version = version_of(alloc, FIRST)?;
+    if version.profile() != archive.profile() {
+        return Err(Fail::from("another profile"));
+    }
     Ok(Shown {
         name: archive.push_name(name),
         version: archive.push_version(version),
