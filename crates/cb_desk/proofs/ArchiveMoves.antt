@@ -9,9 +9,11 @@ use Rattle.cb_scan.proofs.FunctionsRise.{all_implied}
 use Rattle.cb_index.specs.Archived.{Archived, name_of}
 use Rattle.cb_index.specs.Files.{AreApart, call_count, def_count, files_of, shown_name, total}
 use Rattle.cb_index.specs.Files.{use_count}
+use Rattle.cb_index.specs.Scanned.{Scanned}
 use Rattle.cb_index.specs.declared.entry.Shown.{Shown}
 use Rattle.cb_index.proofs.InOrderLemmas.{in_order_cong}
 use Rattle.cb_index.proofs.FrontLemmas.{get_or_front, get_or_left, slice_get_front, slice_get_left}
+use Rattle.cb_index.proofs.TextLemmas.{same_text}
 use Rattle.cb_desk.specs.declared.spot.NumberedPlace.{NumberedPlace}
 use Rattle.cb_desk.specs.Timeline.{IsValidTimeline}
 use Rattle.cb_desk.specs.Turns.{touched}
@@ -23,8 +25,9 @@ use Rattle.cb_desk.proofs.AllUsed.{all_used}
 use Rattle.cb_desk.proofs.TurnLemmas.{all_from_order}
 use Rattle.cb_desk.proofs.WalkLemmas.{back_more, kept_back, kept_on, line, on_more}
 
--- two archives agree on so many first names and texts, which the second has
+-- two archives have one profile and agree on so many first names and texts, which the second has
 pub record Agree (a b : Archived) (n v : ℕ) : Type 0 where
+  pub profile : b.profile ≡ a.profile
   pub names : (i : ℕ) → i < n → name_of b i ≡ name_of a i
   pub texts : (i : ℕ) → i < v → slice_get b.texts i ≡ slice_get a.texts i
   pub bytes : (i : ℕ) → i < v → slice_index_or b.texts i [] ≡ slice_index_or a.texts i []
@@ -33,12 +36,13 @@ pub record Agree (a b : Archived) (n v : ℕ) : Type 0 where
 
 -- so does an archive that keeps the first ones and has others behind them
 pub agree_kept : (a b : Archived) (n v : ℕ) (names texts : List (List ℕ)) → n ≤ length a.names
-    → v ≤ length a.texts
+    → v ≤ length a.texts → b.profile ≡ a.profile
     → b.names ≡ take n a.names ++ names → b.texts ≡ take v a.texts ++ texts → Agree a b n v
-agree_kept a b n v names texts some more is are =
+agree_kept a b n v names texts some more profile is are =
     let long : length (take n a.names) ≡ n = length-take-le n a.names some in
     let wide : length (take v a.texts) ≡ v = length-take-le v a.texts more in
     record {
+      profile = profile;
       names = λ i below.
           ap (λ xs. slice_index_or xs i []) is
           ∙ get_or_left (take n a.names) names i (omega (arith, long, below))
@@ -77,11 +81,12 @@ module _ (a b : Archived) (n v : ℕ) (agree : Agree a b n v) where
   places_same (p ∷ ps) all = λ i.
       record { file = agree.names p.name all.0 i; line = p.line } ∷ places_same ps all.1 i
 
-  pub total_same : (count : Option (List ℕ) → ℕ) (ss : List Shown) → AllByRecursion Below ss
+  pub total_same : (count : Option Scanned → ℕ) (ss : List Shown) → AllByRecursion Below ss
       → total count b ss ≡ total count a ss
   total_same count [] all = refl
   total_same count (s ∷ ss) all = λ i.
-      count (agree.texts s.version all.0.1 i) + total_same count ss all.1 i
+      count (same_text a b agree.profile s.version (agree.texts s.version all.0.1) i)
+      + total_same count ss all.1 i
 
   -- ---- their order
   names_same : (ss : List Shown) → AllByRecursion Below ss
@@ -124,6 +129,7 @@ module _ (a b : Archived) (n v : ℕ) (agree : Agree a b n v) where
     pub world_same : world_in b w ≡ world_in a w
     world_same =
         λ i. record {
+          profile = agree.profile i;
           bounds = w.bounds;
           files = files_same w.shown below_shown i;
           wanted = w.wanted;
@@ -245,9 +251,11 @@ module _ (a b : Archived) (n v : ℕ) (agree : Agree a b n v) where
         ∷ walk_same (other a t w) ts few_then low_then is.3 i)
 
 -- ---- only the room of an archive changes
-module _ (a b : Archived) (names : b.names ≡ a.names) (texts : b.texts ≡ a.texts) where
+module _ (a b : Archived) (profile : b.profile ≡ a.profile) (names : b.names ≡ a.names)
+    (texts : b.texts ≡ a.texts) where
   pub agree_all : Agree a b (length a.names) (length a.texts)
   agree_all = record {
+    profile = profile;
     names = λ i below. ap (λ xs. slice_index_or xs i []) names;
     texts = λ i below. ap (λ xs. slice_get xs i) texts;
     bytes = λ i below. ap (λ xs. slice_index_or xs i []) texts;
@@ -300,7 +308,7 @@ module _ (a b : Archived) (names : b.names ≡ a.names) (texts : b.texts ≡ a.t
 
 -- the timeline stays where only room changes
 module _ (k l : Kept) (records : List Turn) (done : ℕ) (now : l.now ≡ k.now)
-    (names : l.archive.names ≡ k.archive.names)
+    (profile : l.archive.profile ≡ k.archive.profile) (names : l.archive.names ≡ k.archive.names)
     (texts : l.archive.texts ≡ k.archive.texts) (rooms : KeepsRooms k.rooms l.rooms)
     (is : IsRecorded (record { kept = k; records = records; done = done })) where
   abbrev before : Recorded
@@ -318,27 +326,27 @@ module _ (k l : Kept) (records : List Turn) (done : ℕ) (now : l.now ≡ k.now)
       ∙ (λ i. record {
         past =
             walk_same k.archive l.archive (length k.archive.names) (length k.archive.texts)
-            (agree_all k.archive l.archive names texts) k.rooms k.now
+            (agree_all k.archive l.archive profile names texts) k.rooms k.now
             (turns_back before) present_there.names present_there.versions is.back i;
         present =
             world_same k.archive l.archive (length k.archive.names) (length k.archive.texts)
-            (agree_all k.archive l.archive names texts) k.now
+            (agree_all k.archive l.archive profile names texts) k.now
             present_there present_there.names present_there.versions i;
         future =
-            walk_on_moved k.archive l.archive names texts k.rooms k.now (turns_on before) is.on i;
+            walk_on_moved k.archive l.archive profile names texts k.rooms k.now (turns_on before) is.on i;
       })
 
   leads_back : LeadsBack l.rooms l.archive l.now (turns_back after_room)
   leads_back = subst (λ w. LeadsBack l.rooms l.archive w (turns_back before)) (sym now)
       (back_more k.rooms l.rooms l.archive k.now (turns_back before) rooms
       (back_same k.archive l.archive (length k.archive.names) (length k.archive.texts)
-      (agree_all k.archive l.archive names texts) k.rooms k.now
+      (agree_all k.archive l.archive profile names texts) k.rooms k.now
       (turns_back before) present_there.names present_there.versions is.back))
 
   leads_on : LeadsOn l.rooms l.archive l.now (turns_on after_room)
   leads_on = subst (λ w. LeadsOn l.rooms l.archive w (turns_on before)) (sym now)
       (on_more k.rooms l.rooms l.archive k.now (turns_on before) rooms
-      (on_moved k.archive l.archive names texts k.rooms k.now (turns_on before) is.on))
+      (on_moved k.archive l.archive profile names texts k.rooms k.now (turns_on before) is.on))
 
   pub same_recorded : IsRecorded after_room
   same_recorded = record {

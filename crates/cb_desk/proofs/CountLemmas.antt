@@ -11,6 +11,7 @@ use Rattle.std.proofs.lemmas.List.{length-map, map-append}
 use Rattle.std.proofs.lemmas.List.Elements.{filter-append}
 use Rattle.std.proofs.lemmas.List.Sums.{sum_by-cons}
 use Rattle.std.proofs.lemmas.Slice.Eq.{bytes_eq-Decides}
+use Rattle.cb_scan.specs.declared.profile.Profile.{Profile}
 use Rattle.cb_scan.specs.Lines.{line_text}
 use Rattle.cb_index.specs.Counts.{rows_in_files, same_row, unlike, unlike_in_files}
 use Rattle.cb_index.specs.Rows.{Fact, call_in, calls_in, calls_of, file_calls_in, file_calls_of}
@@ -181,35 +182,35 @@ agree-callers : (file : File) (f g : Fact) → IsIn file f → IsIn file g
 agree-callers file f g one other =
     two-columns _ _ _ _ (files-same file f g one other) (texts-same file f g one other)
 
-module _ (p : List ℕ) (files : List File) (up : IsAscending files) where
-  uses-distinct : map row_around (unlike_in_files Uses (file_uses_of p) files)
-      ≡ distinct (map row_around (uses_of p files))
+module _ (by : Profile) (p : List ℕ) (files : List File) (up : IsAscending files) where
+  uses-distinct : map row_around (unlike_in_files Uses (file_uses_of by p) files)
+      ≡ distinct (map row_around (uses_of by p files))
   unfolding uses_of
   uses-distinct =
-      files-distinct Uses row_around (λ f. refl) agree-uses (file_uses_of p)
+      files-distinct Uses row_around (λ f. refl) agree-uses (file_uses_of by p)
       (λ file. all-in file (use_in file) (λ u. (refl, refl)) _) files up
 
-  callees-distinct : map row_around (unlike_in_files Callees (file_calls_of p) files)
-      ≡ distinct (map row_around (calls_of p files))
+  callees-distinct : map row_around (unlike_in_files Callees (file_calls_of by p) files)
+      ≡ distinct (map row_around (calls_of by p files))
   unfolding calls_of
   callees-distinct =
-      files-distinct Callees row_around (λ f. refl) agree-callees (file_calls_of p)
+      files-distinct Callees row_around (λ f. refl) agree-callees (file_calls_of by p)
       (λ file. all-in file (call_in file) (λ c. (refl, refl)) _) files up
 
-  callers-distinct : map row_named (unlike_in_files Callers (file_calls_in p) files)
-      ≡ distinct (map row_named (calls_in p files))
+  callers-distinct : map row_named (unlike_in_files Callers (file_calls_in by p) files)
+      ≡ distinct (map row_named (calls_in by p files))
   unfolding calls_in
   callers-distinct =
-      files-distinct Callers row_named (λ f. refl) agree-callers (file_calls_in p)
+      files-distinct Callers row_named (λ f. refl) agree-callers (file_calls_in by p)
       (λ file. all-in file (call_in file) (λ c. (refl, refl)) _) files up
 
   -- by kind: of facts with equal rows only the first has one
   pub facts-distinct : (kind : FactKind)
-      → map (row_shown (is_named kind)) (unlike_in_files kind (file_facts kind p) files)
-      ≡ distinct (flat_map (field_rows (asked_by kind) p) files)
-  facts-distinct Uses = uses-distinct ∙ ap distinct (symbol-rows p files)
-  facts-distinct Callees = callees-distinct ∙ ap distinct (calling-rows p files)
-  facts-distinct Callers = callers-distinct ∙ ap distinct (called-rows p files)
+      → map (row_shown (is_named kind)) (unlike_in_files kind (file_facts by kind p) files)
+      ≡ distinct (flat_map (field_rows by (asked_by kind) p) files)
+  facts-distinct Uses = uses-distinct ∙ ap distinct (symbol-rows by p files)
+  facts-distinct Callees = callees-distinct ∙ ap distinct (calling-rows by p files)
+  facts-distinct Callers = callers-distinct ∙ ap distinct (called-rows by p files)
 
 -- ---- as many rows as an index counts, and few
 pub index-counts : (sort : FactKind) (facts : File → List Fact) (files : List File)

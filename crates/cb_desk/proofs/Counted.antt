@@ -15,7 +15,8 @@ use Rattle.cb_desk.specs.declared.refusal.Refusal.TheVariants.{NothingWanted, No
 use Rattle.cb_desk.specs.declared.refusal.Refusal.TheVariants.{StackEmpty, NothingToUndo}
 use Rattle.cb_desk.specs.declared.refusal.Refusal.TheVariants.{NothingToRedo, HistoryFull}
 use Rattle.cb_desk.specs.declared.refusal.Refusal.TheVariants.{OutOfMemory, NoSuchField}
-use Rattle.cb_scan.specs.Definitions.{facts_of}
+use Rattle.cb_scan.specs.declared.profile.Profile.{Profile}
+use Rattle.cb_scan.specs.Profiles.{facts_in}
 use Rattle.cb_desk.specs.Desk.{Counts, CountsUpTo, IsBetween, bytes_in, counted, definitions_in}
 use Rattle.cb_desk.specs.World.{File}
 
@@ -109,13 +110,13 @@ module _ (old m all new : ℕ) (f : File) (rest : List File)
   counts_bound = subst (λ n. n ≤ 2 ^ 64 - 1) (sym is) (counted_bound m (length f.bytes))
 
 -- the definitions of one were counted, and those of the rest are to come
-pub finds_next : (n then all : ℕ) (f : File) (rest : List File) (some : ℕ)
-    → counted n (definitions_in (f ∷ rest)) ≡ counted 0 all
-    → some ≡ length (facts_of f.bytes).defs → then ≡ counted n some
-    → counted then (definitions_in rest) ≡ counted 0 all
-finds_next n then all f rest some finds is now =
-    ap (λ k. counted k (definitions_in rest)) (now ∙ ap (counted n) is)
-    ∙ counted_twice n (length (facts_of f.bytes).defs) (definitions_in rest) ∙ finds
+pub finds_next : (by : Profile) (n then all : ℕ) (f : File) (rest : List File) (some : ℕ)
+    → counted n (definitions_in by (f ∷ rest)) ≡ counted 0 all
+    → some ≡ length (facts_in by f.bytes).defs → then ≡ counted n some
+    → counted then (definitions_in by rest) ≡ counted 0 all
+finds_next by n then all f rest some finds is now =
+    ap (λ k. counted k (definitions_in by rest)) (now ∙ ap (counted n) is)
+    ∙ counted_twice n (length (facts_in by f.bytes).defs) (definitions_in by rest) ∙ finds
 
 pub finds_bound : (n then some : ℕ) → then ≡ counted n some → then ≤ 2 ^ 64 - 1
 finds_bound n then some is = subst (λ k. k ≤ 2 ^ 64 - 1) (sym is) (counted_bound n some)

@@ -6,8 +6,9 @@ use Rattle.std.specs.List.{flat_map}
 use Rattle.std.specs.Option.{option_map}
 use Rattle.std.specs.Str.{bytes_eq}
 use Rattle.std.proofs.lemmas.List.{map-append}
+use Rattle.cb_scan.specs.declared.profile.Profile.{Profile}
 use Rattle.cb_scan.specs.declared.facts.Def.{Def}
-use Rattle.cb_scan.specs.Definitions.{definitions}
+use Rattle.cb_scan.specs.Profiles.{facts_in}
 use Rattle.cb_tags.specs.TagLines.{Tag}
 use Rattle.cb_index.specs.Rows.{file_tags_named, tag_in, tags_named}
 use Rattle.cb_desk.specs.Answer.{defines, name_of}
@@ -41,12 +42,13 @@ module _ (name : List ℕ) where
         | false ↦ places-from f ds
       ])
 
-  tag-places : (fs : List File) → map place_of_tag (tags_named name fs) ≡ places fs name
+  tag-places : (by : Profile) (fs : List File)
+      → map place_of_tag (tags_named by name fs) ≡ places by fs name
   unfolding tags_named
-  tag-places [] = refl
-  tag-places (f ∷ fs) =
-      map-append place_of_tag (file_tags_named name f) (flat_map (file_tags_named name) fs)
-      ∙ (λ i. places-from f (definitions f.bytes) i ++ tag-places fs i)
+  tag-places by [] = refl
+  tag-places by (f ∷ fs) =
+      map-append place_of_tag (file_tags_named by name f) (flat_map (file_tags_named by name) fs)
+      ∙ (λ i. places-from f (facts_in by f.bytes).defs i ++ tag-places by fs i)
 
 get-map : {X Y : Type 0} (g : X → Y) (n : ℕ) (xs : List X)
     → option_map g (slice_get xs n) ≡ slice_get (map g xs) n
@@ -55,11 +57,12 @@ get-map g zero (x ∷ xs) = refl
 get-map g (suc n) (x ∷ xs) = get-map g n xs
 
 -- the nth place is that of the nth tag
-pub nth-place : (name : List ℕ) (fs : List File) (n : ℕ) (t : Option Tag) → 0 < n
-    → t ≡ slice_get (tags_named name fs) (n - 1)
-    → option_map place_of_tag t ≡ nth n (places fs name)
-nth-place name fs zero t some is = absurd (omega (arith, some))
-nth-place name fs (suc n) t some is =
+pub nth-place : (by : Profile) (name : List ℕ) (fs : List File) (n : ℕ) (t : Option Tag) → 0 < n
+    → t ≡ slice_get (tags_named by name fs) (n - 1)
+    → option_map place_of_tag t ≡ nth n (places by fs name)
+nth-place by name fs zero t some is = absurd (omega (arith, some))
+nth-place by name fs (suc n) t some is =
     ap (option_map place_of_tag) is ∙ ap (λ m. option_map place_of_tag
-    (slice_get (tags_named name fs) m)) (let e : suc n - 1 ≡ n = omega arith in e)
-    ∙ get-map place_of_tag n (tags_named name fs) ∙ ap (λ l. slice_get l n) (tag-places name fs)
+    (slice_get (tags_named by name fs) m)) (let e : suc n - 1 ≡ n = omega arith in e)
+    ∙ get-map place_of_tag n (tags_named by name fs)
+    ∙ ap (λ l. slice_get l n) (tag-places name by fs)

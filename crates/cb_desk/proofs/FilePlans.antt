@@ -52,7 +52,7 @@ module _ (k : Kept) (p : Planned) (kept : IsKept k.rooms k.archive k.now)
   pub agree : Agree k.archive a n v
   agree =
       agree_kept k.archive a n v p.names p.texts kept.there.names kept.there.versions
-      keeps.names keeps.texts
+      keeps.profile keeps.names keeps.texts
 
   pub all_below : AllByRecursion (λ (s : Shown). (s.name < n) × (s.version < v)) k.now.shown
   all_below = below_shown k.archive a n v agree k.now kept.there (omega arith) (omega arith)
@@ -144,6 +144,7 @@ module _ (k : Kept) (p : Planned) (kept : IsKept k.rooms k.archive k.now)
         (λ s is. (omega (arith, is.0, names), omega (arith, is.1, versions))) k.now.shown all_below
 
     pub file_leads : LeadsTo k p (record {
+      profile = k.archive.profile;
       bounds = k.now.bounds;
       files = fs;
       wanted = next;
@@ -175,6 +176,7 @@ module _ (k : Kept) (p : Planned) (kept : IsKept k.rooms k.archive k.now)
         versions = omega (arith, versions, text_count);
       };
       world = λ i. record {
+        profile = keeps.profile i;
         bounds = k.now.bounds;
         files = files_are i;
         wanted = wanted i;
@@ -213,7 +215,7 @@ module _ (k : Kept) (p : Planned) (kept : IsKept k.rooms k.archive k.now)
 module _ (k : Kept) (p : Planned) (h : Shown) (marks frames : Edits)
     (kept : IsKept k.rooms k.archive k.now)
     (ascending : AreAscending k.archive k.now.shown) (among : IsAmong k.now.shown h)
-    (names : p.names ≡ []) (texts : p.texts ≡ [])
+    (profile : p.profile ≡ k.archive.profile) (names : p.names ≡ []) (texts : p.texts ≡ [])
     (turn : p.turn ≡ record {
       hides = h ∷ [];
       shows = [];
@@ -232,6 +234,7 @@ module _ (k : Kept) (p : Planned) (h : Shown) (marks frames : Edits)
 
   abbrev planned : Planned
   planned = record {
+    profile = k.archive.profile;
     names = [];
     texts = [];
     turn = record {
@@ -246,9 +249,11 @@ module _ (k : Kept) (p : Planned) (h : Shown) (marks frames : Edits)
   }
 
   is_planned : p ≡ planned
-  is_planned = λ i. record { names = names i; texts = texts i; turn = turn i }
+  is_planned = λ i.
+      record { profile = profile i; names = names i; texts = texts i; turn = turn i }
 
-  unload_leads : IsPlan k planned (unloaded (world_in k.archive k.now) name)
+  unload_leads : (a : Archived) → Keeps k.archive k.now planned a
+      → LeadsTo k planned (unloaded (world_in k.archive k.now) name) a
   unload_leads a keeps =
       let rest = without (h ∷ []) k.now.shown in
       let hides = hides_one a k.now.shown h among.0 among.1 (up k planned kept ascending a keeps) in
@@ -274,13 +279,13 @@ module _ (k : Kept) (p : Planned) (h : Shown) (marks frames : Edits)
   pub unload_planned : IsPlan k p (unloaded (world_in k.archive k.now) name)
   unload_planned =
       subst (λ q. IsPlan k q (unloaded (world_in k.archive k.now) name))
-      (sym is_planned) unload_leads
+      (sym is_planned) (refl, unload_leads)
 
 -- ---- a file comes
 module _ (k : Kept) (p : Planned) (name text : List ℕ) (kept : IsKept k.rooms k.archive k.now)
     (ascending : AreAscending k.archive k.now.shown)
     (fresh : has_file (files_of k.archive k.now.shown) name ≡ false)
-    (names : p.names ≡ name ∷ []) (texts : p.texts ≡ text ∷ []) (number version : ℕ)
+    (profile : p.profile ≡ k.archive.profile) (names : p.names ≡ name ∷ []) (texts : p.texts ≡ text ∷ []) (number version : ℕ)
     (turn : p.turn ≡ record {
       hides = [];
       shows = record { name = k.now.names; version = k.now.versions } ∷ [];
@@ -296,6 +301,7 @@ module _ (k : Kept) (p : Planned) (name text : List ℕ) (kept : IsKept k.rooms 
 
   abbrev planned_load : Planned
   planned_load = record {
+    profile = k.archive.profile;
     names = name ∷ [];
     texts = text ∷ [];
     turn = record {
@@ -310,9 +316,11 @@ module _ (k : Kept) (p : Planned) (name text : List ℕ) (kept : IsKept k.rooms 
   }
 
   is_planned_load : p ≡ planned_load
-  is_planned_load = λ i. record { names = names i; texts = texts i; turn = turn i }
+  is_planned_load = λ i.
+      record { profile = profile i; names = names i; texts = texts i; turn = turn i }
 
-  load_leads : IsPlan k planned_load (loaded (world_in k.archive k.now) name text)
+  load_leads : (a : Archived) → Keeps k.archive k.now planned_load a
+      → LeadsTo k planned_load (loaded (world_in k.archive k.now) name text) a
   load_leads a keeps =
       let rest = without [] k.now.shown in
       let all = all_below k planned_load kept ascending a keeps in
@@ -348,13 +356,13 @@ module _ (k : Kept) (p : Planned) (name text : List ℕ) (kept : IsKept k.rooms 
   pub load_planned : IsPlan k p (loaded (world_in k.archive k.now) name text)
   load_planned =
       subst (λ q. IsPlan k q (loaded (world_in k.archive k.now) name text))
-      (sym is_planned_load) load_leads
+      (sym is_planned_load) (refl, load_leads)
 
 -- ---- a file has other bytes
 module _ (k : Kept) (p : Planned) (h : Shown) (text : List ℕ) (marks frames : Edits)
     (kept : IsKept k.rooms k.archive k.now)
     (ascending : AreAscending k.archive k.now.shown) (among : IsAmong k.now.shown h)
-    (names : p.names ≡ []) (texts : p.texts ≡ text ∷ []) (version : ℕ)
+    (profile : p.profile ≡ k.archive.profile) (names : p.names ≡ []) (texts : p.texts ≡ text ∷ []) (version : ℕ)
     (turn : p.turn ≡ record {
       hides = h ∷ [];
       shows = record { name = h.name; version = k.now.versions } ∷ [];
@@ -377,6 +385,7 @@ module _ (k : Kept) (p : Planned) (h : Shown) (text : List ℕ) (marks frames : 
 
   abbrev planned_reload : Planned
   planned_reload = record {
+    profile = k.archive.profile;
     names = [];
     texts = text ∷ [];
     turn = record {
@@ -391,9 +400,11 @@ module _ (k : Kept) (p : Planned) (h : Shown) (text : List ℕ) (marks frames : 
   }
 
   is_planned_reload : p ≡ planned_reload
-  is_planned_reload = λ i. record { names = names i; texts = texts i; turn = turn i }
+  is_planned_reload = λ i.
+      record { profile = profile i; names = names i; texts = texts i; turn = turn i }
 
-  reload_leads : IsPlan k planned_reload (reloaded (world_in k.archive k.now) reloaded_name text)
+  reload_leads : (a : Archived) → Keeps k.archive k.now planned_reload a
+      → LeadsTo k planned_reload (reloaded (world_in k.archive k.now) reloaded_name text) a
   reload_leads a keeps =
       let rest = without (h ∷ []) k.now.shown in
       let all = all_below k planned_reload kept ascending a keeps in
@@ -434,14 +445,14 @@ module _ (k : Kept) (p : Planned) (h : Shown) (text : List ℕ) (marks frames : 
   pub reload_planned : IsPlan k p (reloaded (world_in k.archive k.now) reloaded_name text)
   reload_planned =
       subst (λ q. IsPlan k q (reloaded (world_in k.archive k.now) reloaded_name text))
-      (sym is_planned_reload) reload_leads
+      (sym is_planned_reload) (refl, reload_leads)
 
 -- ---- a file gets another name
 module _ (k : Kept) (p : Planned) (h : Shown) (new_bytes : List ℕ) (marks frames : Edits)
     (kept : IsKept k.rooms k.archive k.now)
     (ascending : AreAscending k.archive k.now.shown) (among : IsAmong k.now.shown h)
     (fresh : has_file (files_of k.archive k.now.shown) new_bytes ≡ false)
-    (names : p.names ≡ new_bytes ∷ []) (texts : p.texts ≡ []) (number : ℕ)
+    (profile : p.profile ≡ k.archive.profile) (names : p.names ≡ new_bytes ∷ []) (texts : p.texts ≡ []) (number : ℕ)
     (turn : p.turn ≡ record {
       hides = h ∷ [];
       shows = record { name = k.now.names; version = h.version } ∷ [];
@@ -467,6 +478,7 @@ module _ (k : Kept) (p : Planned) (h : Shown) (new_bytes : List ℕ) (marks fram
 
   abbrev planned_rename : Planned
   planned_rename = record {
+    profile = k.archive.profile;
     names = new_bytes ∷ [];
     texts = [];
     turn = record {
@@ -481,7 +493,8 @@ module _ (k : Kept) (p : Planned) (h : Shown) (new_bytes : List ℕ) (marks fram
   }
 
   is_planned_rename : p ≡ planned_rename
-  is_planned_rename = λ i. record { names = names i; texts = texts i; turn = turn i }
+  is_planned_rename = λ i.
+      record { profile = profile i; names = names i; texts = texts i; turn = turn i }
 
   module _ (a : Archived) (keeps : Keeps k.archive k.now planned_rename a) where
     named : name_of a k.now.names ≡ new_bytes
@@ -585,4 +598,4 @@ module _ (k : Kept) (p : Planned) (h : Shown) (new_bytes : List ℕ) (marks fram
   pub rename_planned : IsPlan k p (renamed (world_in k.archive k.now) old_bytes new_bytes)
   rename_planned =
       subst (λ q. IsPlan k q (renamed (world_in k.archive k.now) old_bytes new_bytes))
-      (sym is_planned_rename) rename_leads
+      (sym is_planned_rename) (refl, rename_leads)

@@ -6,6 +6,7 @@ use Rattle.std.specs.List.{AllByRecursion, flat_map}
 use Rattle.std.specs.List.Sorted.{IsStrictlySortedBy}
 use Rattle.std.proofs.lemmas.Map.Text.{is_eq-slice_cmp}
 use Rattle.std.proofs.lemmas.Slice.Eq.{bytes_eq-Decides}
+use Rattle.cb_scan.specs.declared.profile.Profile.{Profile}
 use Rattle.cb_scan.specs.Lines.{line_text}
 use Rattle.cb_desk.specs.declared.found.Found.{Found}
 use Rattle.cb_desk.specs.declared.rows.Field.{Field}
@@ -73,49 +74,49 @@ module _ (all : List File) where
       all-join (HasText shown_text) (rows_of f) (flat_map rows_of fs) (each f own.0)
       (rows-texted rows_of each fs own.1)
 
-names-texted : (p : List ℕ) (fs : List File)
-    → AllByRecursion (HasText (λ file line. unknown)) (flat_map (field_rows FileName p) fs)
-names-texted p [] = tt
-names-texted p (f ∷ fs) =
+names-texted : (by : Profile) (p : List ℕ) (fs : List File)
+    → AllByRecursion (HasText (λ file line. unknown)) (flat_map (field_rows by FileName p) fs)
+names-texted by p [] = tt
+names-texted by p (f ∷ fs) =
     all-join (HasText (λ file line. unknown)) (file_rows p f.name)
-    (flat_map (field_rows FileName p) fs)
+    (flat_map (field_rows by FileName p) fs)
     (elim (holds p f.name) as
     (λ b. AllByRecursion (HasText (λ file line. unknown)) (cond b (file_row f.name ∷ []) [])) [
       | true ↦ (refl, tt)
       | false ↦ tt
-    ]) (names-texted p fs)
+    ]) (names-texted by p fs)
 
-pub line-texts : (field : Field) (p : List ℕ) (fs : List File) → IsAscending fs
-    → HaveLineTexts (flat_map (field_rows field p) fs)
-line-texts Symbol p fs up = (
+pub line-texts : (by : Profile) (field : Field) (p : List ℕ) (fs : List File) → IsAscending fs
+    → HaveLineTexts (flat_map (field_rows by field p) fs)
+line-texts by Symbol p fs up = (
   shown_text fs,
-  rows-texted fs (field_rows Symbol p)
+  rows-texted fs (field_rows by Symbol p)
       (λ f own. facts-texted (shown_text fs) f (own-lines fs f own) _) fs (texts-own fs up),
 )
-line-texts Definition p fs up = (
+line-texts by Definition p fs up = (
   shown_text fs,
-  rows-texted fs (field_rows Definition p)
+  rows-texted fs (field_rows by Definition p)
       (λ f own. facts-texted (shown_text fs) f (own-lines fs f own) _) fs (texts-own fs up),
 )
-line-texts Called p fs up = (
+line-texts by Called p fs up = (
   shown_text fs,
-  rows-texted fs (field_rows Called p)
+  rows-texted fs (field_rows by Called p)
       (λ f own. facts-texted (shown_text fs) f (own-lines fs f own) _) fs (texts-own fs up),
 )
-line-texts Calling p fs up = (
+line-texts by Calling p fs up = (
   shown_text fs,
-  rows-texted fs (field_rows Calling p)
+  rows-texted fs (field_rows by Calling p)
       (λ f own. facts-texted (shown_text fs) f (own-lines fs f own) _) fs (texts-own fs up),
 )
-line-texts Including p fs up = (
+line-texts by Including p fs up = (
   shown_text fs,
-  rows-texted fs (field_rows Including p)
+  rows-texted fs (field_rows by Including p)
       (λ f own. facts-texted (shown_text fs) f (own-lines fs f own) _) fs (texts-own fs up),
 )
-line-texts Text p fs up = (
+line-texts by Text p fs up = (
   shown_text fs,
   rows-texted fs (text_rows_in p)
       (λ f own. lines-texted (shown_text fs) f (own-lines fs f own) (lines_with p f.bytes)) fs
       (texts-own fs up),
 )
-line-texts FileName p fs up = ((λ file line. unknown), names-texted p fs)
+line-texts by FileName p fs up = ((λ file line. unknown), names-texted by p fs)

@@ -10,6 +10,7 @@ use Rattle.std.proofs.lemmas.Bool.{true≢false}
 use Rattle.std.specs.List.{AllByRecursion, list_any}
 use Rattle.cb_scan.specs.Order.{AreOrdered, in_order}
 use Rattle.cb_scan.proofs.FunctionsRise.{all_implied}
+use Rattle.cb_index.specs.Scanned.{Scanned}
 use Rattle.cb_index.specs.Archived.{Archived}
 use Rattle.cb_index.specs.Files.{AreApart, AreAscending, IsThere, call_count, def_count, files_of}
 use Rattle.cb_index.specs.Files.{is_shown, shown_name, total, use_count}
@@ -134,18 +135,19 @@ none_shown a (s ∷ ss) = none_shown a ss
 
 pub can_show_loaded : (old s : Shelved) (shown : List Shown) (n : Totals) (entries : ℕ)
     → old.shown ≡ [] → s.shown ≡ old.shown
-    → s.archive.names ≡ old.archive.names → s.archive.texts ≡ old.archive.texts
+    → s.archive.profile ≡ old.archive.profile → s.archive.names ≡ old.archive.names
+    → s.archive.texts ≡ old.archive.texts
     → AllByRecursion (IsThere old.archive) shown → AreAscending old.archive shown
     → AreTotals old.archive shown n → entries ≡ length shown
     → entries ≤ s.entry_room → n.defs ≤ s.def_room → n.uses ≤ s.use_room → n.calls ≤ s.call_room
     → CanShow s shown
-can_show_loaded old s shown n entries none same names texts there up are count
+can_show_loaded old s shown n entries none same profile names texts there up are count
     files defs uses calls =
     let empty : s.shown ≡ [] = same ∙ none in
-    let now : (f : Option (List ℕ) → ℕ) → total f s.archive s.shown ≡ 0 = λ f.
+    let now : (f : Option Scanned → ℕ) → total f s.archive s.shown ≡ 0 = λ f.
     ap (total f s.archive) empty in
-    let all : (f : Option (List ℕ) → ℕ) → total f old.archive shown ≡ total f s.archive shown =
-    λ f. same_total f old.archive s.archive (sym texts) shown in
+    let all : (f : Option Scanned → ℕ) → total f old.archive shown ≡ total f s.archive shown =
+    λ f. same_total f old.archive s.archive (sym profile) (sym texts) shown in
     record {
       there = all_implied (IsThere old.archive) (IsThere s.archive)
           (λ t is. (
@@ -174,7 +176,8 @@ shown_as_loaded s shown none up =
     ∙ settled (shown_name s.archive) shown (ascending_sorted s.archive shown up)
 
 -- ---- an archive with other room
-module _ (bounds : WorldBounds) (a b : Archived) (names : b.names ≡ a.names)
+module _ (bounds : WorldBounds) (a b : Archived) (profile : b.profile ≡ a.profile)
+    (names : b.names ≡ a.names)
     (texts : b.texts ≡ a.texts)
     (shown : List Shown) (records : List Turn)
     (is : IsRecorded (loads_recorded bounds a shown records)) where
@@ -189,9 +192,9 @@ module _ (bounds : WorldBounds) (a b : Archived) (names : b.names ≡ a.names)
   same_rooms : KeepsRooms (just_room a shown) (just_room b shown)
   same_rooms = record {
     files = omega arith;
-    defs = let e = same_total def_count a b (sym texts) shown in omega (arith, e);
-    uses = let e = same_total use_count a b (sym texts) shown in omega (arith, e);
-    calls = let e = same_total call_count a b (sym texts) shown in omega (arith, e);
+    defs = let e = same_total def_count a b (sym profile) (sym texts) shown in omega (arith, e);
+    uses = let e = same_total use_count a b (sym profile) (sym texts) shown in omega (arith, e);
+    calls = let e = same_total call_count a b (sym profile) (sym texts) shown in omega (arith, e);
     marks = omega arith;
     frames = omega arith;
   }
@@ -199,25 +202,25 @@ module _ (bounds : WorldBounds) (a b : Archived) (names : b.names ≡ a.names)
   pub roomier_recorded : IsRecorded (loads_recorded bounds b shown records)
   roomier_recorded =
       same_recorded before (loads_recorded bounds b shown records).kept records
-      (length records) same_now names texts same_rooms is
+      (length records) same_now profile names texts same_rooms is
 
   pub roomier_timeline : timeline_in (loads_recorded bounds b shown records)
       ≡ timeline_in (loads_recorded bounds a shown records)
   roomier_timeline =
       same_timeline before (loads_recorded bounds b shown records).kept records
-      (length records) same_now names texts same_rooms is
+      (length records) same_now profile names texts same_rooms is
 
 pub roomier : (bounds : WorldBounds) (a b : Archived) (hidden shown : List Shown)
-    (records : List Turn) → b.names ≡ a.names
+    (records : List Turn) → b.profile ≡ a.profile → b.names ≡ a.names
     → b.texts ≡ a.texts
     → AreLoaded bounds a hidden shown records → AreLoaded bounds b hidden shown records
-roomier bounds a b hidden shown records names texts is = record {
+roomier bounds a b hidden shown records profile names texts is = record {
   hidden = is.hidden;
   names = ap length names ∙ is.names;
   versions = ap length texts ∙ is.versions;
   files = is.files;
   ascending = subst (λ ns. AreAscending (record a { names = ns }) shown) (sym names) is.ascending;
-  recorded = roomier_recorded bounds a b names texts shown records is.recorded;
+  recorded = roomier_recorded bounds a b profile names texts shown records is.recorded;
 }
 
 -- the record that takes a load back
@@ -255,27 +258,28 @@ turn_back u count named kept is =
 module _ (bounds : WorldBounds) (a : Archived) (hidden shown : List Shown) (records : List Turn)
     (k : Kept)
     (is : AreLoaded bounds a hidden shown records)
-    (now : k.now ≡ loaded_numbers bounds a shown) (names : k.archive.names ≡ a.names)
+    (now : k.now ≡ loaded_numbers bounds a shown) (profile : k.archive.profile ≡ a.profile)
+    (names : k.archive.names ≡ a.names)
     (texts : k.archive.texts ≡ a.texts)
     (rooms : KeepsRooms (just_room a shown) k.rooms) where
   pub shown_recorded : IsRecorded (record { kept = k; records = records; done = length records })
   shown_recorded =
       same_recorded (loads_recorded bounds a shown records).kept k records
-      (length records) now names texts rooms is.recorded
+      (length records) now profile names texts rooms is.recorded
 
   pub shown_timeline : timeline_in (record { kept = k; records = records; done = length records })
       ≡ timeline_in (loads_recorded bounds a shown records)
   shown_timeline =
       same_timeline (loads_recorded bounds a shown records).kept k records
-      (length records) now names texts rooms is.recorded
+      (length records) now profile names texts rooms is.recorded
 
 pub rooms_kept : (a : Archived) (s : Shelved) (shown : List Shown) (r : Rooms)
-    → s.archive.texts ≡ a.texts → HasRoomToShow s shown
+    → s.archive.profile ≡ a.profile → s.archive.texts ≡ a.texts → HasRoomToShow s shown
     → r.files ≡ s.entry_room → r.defs ≡ s.def_room → r.uses ≡ s.use_room → r.calls ≡ s.call_room
     → KeepsRooms (just_room a shown) r
-rooms_kept a s shown r texts has files defs uses calls =
-    let all : (f : Option (List ℕ) → ℕ) → total f s.archive shown ≡ total f a shown =
-    λ f. same_total f s.archive a texts shown in
+rooms_kept a s shown r profile texts has files defs uses calls =
+    let all : (f : Option Scanned → ℕ) → total f s.archive shown ≡ total f a shown =
+    λ f. same_total f s.archive a profile texts shown in
     record {
       files = let h = has.files in omega (arith, h, files);
       defs = let h = has.defs in let e = all def_count in omega (arith, h, e, defs);
@@ -289,7 +293,8 @@ rooms_kept a s shown r texts has files defs uses calls =
 module _ (bounds : WorldBounds) (a b : Archived) (hidden shown : List Shown) (records : List Turn)
     (name text : List ℕ)
     (is : AreLoaded bounds a hidden shown records)
-    (names : b.names ≡ a.names ++ name ∷ []) (texts : b.texts ≡ a.texts ++ text ∷ [])
+    (profile : b.profile ≡ a.profile) (names : b.names ≡ a.names ++ name ∷ [])
+    (texts : b.texts ≡ a.texts ++ text ∷ [])
     (fresh : has_file (files_of a shown) name ≡ false)
     (valid : IsValidWorld (loaded (world_in a (loaded_numbers bounds a shown)) name text))
     (few : length records < bounds.history) where
@@ -314,7 +319,12 @@ module _ (bounds : WorldBounds) (a b : Archived) (hidden shown : List Shown) (re
   }
 
   abbrev p : Planned
-  p = record { names = name ∷ []; texts = text ∷ []; turn = to_new }
+  p = record {
+    profile = a.profile;
+    names = name ∷ [];
+    texts = text ∷ [];
+    turn = to_new;
+  }
 
   abbrev v : World
   v = loaded (world_in a (loaded_numbers bounds a shown)) name text
@@ -331,17 +341,18 @@ module _ (bounds : WorldBounds) (a b : Archived) (hidden shown : List Shown) (re
   plan : IsPlan k p v
   plan =
       load_planned k p name text (kept_back k.rooms a k.now (turns_back h) is.recorded.back)
-      is.ascending fresh refl refl
+      is.ascending fresh refl refl refl
       (length a.names + 1) (length a.texts + 1) refl refl refl
 
   keeps : Keeps a k.now p b
   keeps = record {
+    profile = profile;
     names = names ∙ ap (λ l. l ++ name ∷ []) (sym (take-length a.names));
     texts = texts ∙ ap (λ l. l ++ text ∷ []) (sym (take-length a.texts));
   }
 
   leads : LeadsTo k p v b
-  leads = plan b keeps
+  leads = plan.1 b keeps
 
   pub apart_then : AreApart b (shown ++ new ∷ [])
   apart_then = subst (λ l. AreApart b (l ++ new ∷ [])) (without_none shown) leads.turn.apart_then
@@ -351,22 +362,23 @@ module _ (bounds : WorldBounds) (a b : Archived) (hidden shown : List Shown) (re
       up k p (kept_back k.rooms a k.now (turns_back h) is.recorded.back) is.ascending b keeps
 
   -- ---- room
-  count_then : (count : Option (List ℕ) → ℕ)
+  count_then : (count : Option Scanned → ℕ)
       → total count b shown_then ≡ total count b shown + total count b (new ∷ [])
   count_then count =
       total_in_order count b (shown_name b) (shown ++ new ∷ [])
       ∙ total_append count b shown (new ∷ [])
 
-  count_before : (count : Option (List ℕ) → ℕ) → total count a shown ≡ total count b shown
+  count_before : (count : Option Scanned → ℕ) → total count a shown ≡ total count b shown
   count_before count =
-      total_more count a b (text ∷ []) texts shown
+      total_more count a b (text ∷ []) profile texts shown
       (all_implied (λ (s : Shown). (s.name < length a.names) × (s.version < length a.texts))
       (λ (s : Shown). s.version < length a.texts)
       (λ s at. at.1) shown there.shown)
 
-  counted_as : (count : Option (List ℕ) → ℕ) (ss : List Shown)
-      → total count (with_texts (texts_with k p)) ss ≡ total count b ss
-  counted_as count ss = same_total count (with_texts (texts_with k p)) b (sym keeps.texts) ss
+  counted_as : (count : Option Scanned → ℕ) (ss : List Shown)
+      → total count (archive_with k p) ss ≡ total count b ss
+  counted_as count ss =
+      same_total count (archive_with k p) b (sym keeps.profile) (sym keeps.texts) ss
 
   long_then : length shown_then ≡ length shown + 1
   long_then = length_in_order (shown_name b) (shown ++ new ∷ []) ∙ length-append shown (new ∷ [])
@@ -386,12 +398,12 @@ module _ (bounds : WorldBounds) (a b : Archived) (hidden shown : List Shown) (re
     versions = length a.texts + 1;
     names = length a.names + 1;
     entries = length shown + 1;
-    defs = total def_count (with_texts (texts_with k p)) shown
-        + total def_count (with_texts (texts_with k p)) (new ∷ []);
-    uses = total use_count (with_texts (texts_with k p)) shown
-        + total use_count (with_texts (texts_with k p)) (new ∷ []);
-    calls = total call_count (with_texts (texts_with k p)) shown
-        + total call_count (with_texts (texts_with k p)) (new ∷ []);
+    defs = total def_count (archive_with k p) shown
+        + total def_count (archive_with k p) (new ∷ []);
+    uses = total use_count (archive_with k p) shown
+        + total use_count (archive_with k p) (new ∷ []);
+    calls = total call_count (archive_with k p) shown
+        + total call_count (archive_with k p) (new ∷ []);
   }
 
   fits : HasRoomFor room_then a k.now p
@@ -434,10 +446,10 @@ module _ (bounds : WorldBounds) (a b : Archived) (hidden shown : List Shown) (re
   }
 
   roomy_is : IsRecorded (record { kept = roomy; records = records; done = length records })
-  roomy_is = same_recorded k roomy records (length records) refl refl refl grows is.recorded
+  roomy_is = same_recorded k roomy records (length records) refl refl refl refl grows is.recorded
 
   roomy_plan : IsPlan roomy p v
-  roomy_plan = plan_moved k roomy p v refl refl refl plan
+  roomy_plan = plan_moved k roomy p v refl refl refl refl plan
 
   short : length (timeline_in
       (record { kept = roomy; records = records; done = length records })).past < bounds.history

@@ -9,7 +9,7 @@ use Rattle.cb_desk.specs.Step.{Step, refusal_of, after, step}
 use Rattle.cb_desk.specs.Timeline.{Timeline, IsValidTimeline, moved_on, advanced, changed, back_to}
 use Rattle.cb_desk.specs.Timeline.{IsValidBeside, undone, on_to, redone, Changes, Moves}
 use Rattle.cb_desk.specs.Laws.{UndoTakesBack, RedoTakesBack}
-use Rattle.cb_desk.proofs.StepsValid.{step-bounds, step_keeps_valid}
+use Rattle.cb_desk.proofs.StepsValid.{step-bounds, step-profile, step_keeps_valid}
 use Rattle.cb_desk.proofs.Valid.{all-along}
 
 same-Ok : (a b : Timeline) (r : Result Timeline Refusal) → r ≡ Ok a → r ≡ Ok b → a ≡ b
@@ -66,21 +66,31 @@ redo_takes_back = record {
   redo = λ t u h. undo-redone t.future t u refl h;
 }
 
--- valid beside a world, and beside one with the same bounds
-beside : (v w : World) → v.bounds ≡ w.bounds → (ws : List World)
+-- two worlds have one profile and the same bounds
+abbrev pub AreAlike : World → World → Type 0
+AreAlike v w = (v.profile ≡ w.profile) × (v.bounds ≡ w.bounds)
+
+turned-alike : (v w : World) → AreAlike v w → AreAlike w v
+turned-alike v w same = (sym same.0, sym same.1)
+
+-- valid beside a world, and beside one like it
+beside : (v w : World) → AreAlike v w → (ws : List World)
     → AllByRecursion (IsValidBeside v) ws → AllByRecursion (IsValidBeside w) ws
 beside v w same ws all =
-    all-along (IsValidBeside v) (IsValidBeside w) ws (λ x is. (is.0, is.1 ∙ same)) all
+    all-along (IsValidBeside v) (IsValidBeside w) ws
+    (λ x is. (is.0, (is.1.0 ∙ same.0, is.1.1 ∙ same.1))) all
 
 -- a change of a valid timeline to a valid world
 pub moved_on-valid : (t : Timeline) (w : World) → IsValidTimeline t → IsValidWorld w
-    → w.bounds ≡ t.present.bounds → length t.past < t.present.bounds.history
+    → AreAlike w t.present → length t.past < t.present.bounds.history
     → IsValidTimeline (moved_on t w)
 moved_on-valid t w valid next same short = record {
-  before = ((valid.now, sym same), beside t.present w (sym same) t.past valid.before);
+  before =
+      let other = turned-alike w t.present same in
+      ((valid.now, other), beside t.present w other t.past valid.before);
   now = next;
   later = tt;
-  bounded = let e = ap (λ (b : WorldBounds). b.history) same in omega (arith, short, e);
+  bounded = let e = ap (λ (b : WorldBounds). b.history) same.1 in omega (arith, short, e);
 }
 
 pub change_keeps_valid : (t u : Timeline) (s : Step) → IsValidTimeline t → changed t s ≡ Ok u
@@ -90,7 +100,8 @@ change_keeps_valid t u s valid h =
     let found = advanced-Ok t u (step t.present s) h in
     rw found.2.is (moved_on-valid t found.0 valid
     (step_keeps_valid t.present found.0 s valid.now found.1)
-    (step-bounds t.present found.0 s found.1) found.2.short)
+    (step-profile t.present found.0 s found.1, step-bounds t.present found.0 s found.1)
+    found.2.short)
 
 back-valid : (past : List World) (t u : Timeline) → t.past ≡ past → IsValidTimeline t
     → back_to past t ≡ Ok u → IsValidTimeline u
@@ -100,14 +111,14 @@ back-valid (w ∷ ws) t u e valid h =
     same-Ok _ u (back_to (w ∷ ws) t) refl h in
     let worlds : AllByRecursion (IsValidBeside t.present) (w ∷ ws) =
     subst (AllByRecursion (IsValidBeside t.present)) e valid.before in
-    let same = sym worlds.0.1 in
+    let same = turned-alike w t.present worlds.0.1 in
     subst IsValidTimeline is (record {
       before = beside t.present w same ws worlds.1;
       now = worlds.0.0;
       later = ((valid.now, same), beside t.present w same t.future valid.later);
       bounded =
           let bounded = valid.bounded in let long : length t.past ≡ length (w ∷ ws) = ap length e in
-          let most = ap (λ (b : WorldBounds). b.history) same in
+          let most = ap (λ (b : WorldBounds). b.history) same.1 in
           omega (arith, bounded, long, most);
     })
 
@@ -123,14 +134,14 @@ on-valid (w ∷ ws) t u e valid h =
     same-Ok _ u (on_to (w ∷ ws) t) refl h in
     let worlds : AllByRecursion (IsValidBeside t.present) (w ∷ ws) =
     subst (AllByRecursion (IsValidBeside t.present)) e valid.later in
-    let same = sym worlds.0.1 in
+    let same = turned-alike w t.present worlds.0.1 in
     subst IsValidTimeline is (record {
       before = ((valid.now, same), beside t.present w same t.past valid.before);
       now = worlds.0.0;
       later = beside t.present w same ws worlds.1;
       bounded =
           let bounded = valid.bounded in let long : length t.future ≡ length (w ∷ ws) =
-          ap length e in let most = ap (λ (b : WorldBounds). b.history) same in
+          ap length e in let most = ap (λ (b : WorldBounds). b.history) same.1 in
           omega (arith, bounded, long, most);
     })
 

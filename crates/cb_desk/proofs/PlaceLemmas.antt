@@ -7,8 +7,9 @@ use Rattle.std.specs.Cmp.Lexicographic.{slice_cmp}
 use Rattle.std.proofs.lemmas.Slice.Eq.{bytes_eq-Decides}
 use Rattle.std.proofs.lemmas.Map.Text.{is_eq-slice_cmp}
 use Rattle.std.specs.List.Sorted.{IsStrictlySortedBy}
+use Rattle.cb_scan.specs.declared.profile.Profile.{Profile}
 use Rattle.cb_scan.specs.declared.facts.Def.{Def}
-use Rattle.cb_scan.specs.Definitions.{definitions}
+use Rattle.cb_scan.specs.Profiles.{facts_in}
 use Rattle.cb_scan.specs.Lines.{IsLineOf}
 use Rattle.bstr.specs.Text.{lines_of, without_terminator}
 use Rattle.std.proofs.lemmas.List.{length-map}
@@ -291,7 +292,7 @@ own-texts (f ∷ files) up = (
       (λ g below own. rw (less-differs f g below) own) up.0 (own-texts files up.1),
 )
 
-module _ (files : List File) (name : List ℕ) where
+module _ (by : Profile) (files : List File) (name : List ℕ) where
   frames-of : (f : File) → text_of_file files f.name ≡ f.bytes → (ds : List Def)
       → AllByRecursion (λ (d : Def). IsLineOf f.bytes d.line) ds
       → AllByRecursion (IsPlaceOf files)
@@ -302,13 +303,13 @@ module _ (files : List File) (name : List ℕ) where
 
   places-of : (some : List File) → AllByRecursion
       (λ (f : File). text_of_file files f.name ≡ f.bytes) some
-      → AllByRecursion (IsPlaceOf files) (places some name)
+      → AllByRecursion (IsPlaceOf files) (places by some name)
   places-of [] own = tt
   places-of (f ∷ some) own =
-      all-join (IsPlaceOf files) (places_in name f) (places some name)
-      (frames-of f own.0 (filter (defines f.bytes name) (definitions f.bytes))
+      all-join (IsPlaceOf files) (places_in by name f) (places by some name)
+      (frames-of f own.0 (filter (defines f.bytes name) (facts_in by f.bytes).defs)
       (all-filter (λ (d : Def). IsLineOf f.bytes d.line) (defines f.bytes name)
-      (definitions f.bytes) (facts_lie f.bytes).lines))
+      (facts_in by f.bytes).defs (facts_lie by f.bytes).lines))
       (places-of some own.1)
 
 pub at-place : {X : Type 0} (P : X → Type 0) (xs : List X) (i : ℕ) (x : X) → AllByRecursion P xs
@@ -318,12 +319,12 @@ at-place P (y ∷ xs) zero x all e = let same : y ≡ x = cc in subst P same all
 at-place P (y ∷ xs) (suc i) x all e = at-place P xs i x all.1 e
 
 -- the nth place of a name is a line that is there
-pub nth-place : (files : List File) (name : List ℕ) (n : ℕ) (f : Place) → IsAscending files
-    → nth n (places files name) ≡ Some f → IsPlaceOf files f
-nth-place files name zero f up e = cc
-nth-place files name (suc n) f up e =
-    at-place (IsPlaceOf files) (places files name) n f
-    (places-of files name files (own-texts files up)) e
+pub nth-place : (by : Profile) (files : List File) (name : List ℕ) (n : ℕ) (f : Place) → IsAscending files
+    → nth n (places by files name) ≡ Some f → IsPlaceOf files f
+nth-place by files name zero f up e = cc
+nth-place by files name (suc n) f up e =
+    at-place (IsPlaceOf files) (places by files name) n f
+    (places-of by files name files (own-texts files up)) e
 
 pub all-take : {X : Type 0} (P : X → Type 0) (n : ℕ) (xs : List X) → AllByRecursion P xs
     → AllByRecursion P (take n xs)

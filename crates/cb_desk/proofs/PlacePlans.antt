@@ -100,7 +100,8 @@ without_none (s ∷ shown) = ap (λ xs. s ∷ xs) (without_none shown)
 
 module _ (k : Kept) (p : Planned) (wanted : Option (Option (List ℕ))) (marks frames : Edits)
     (kept : IsKept k.rooms k.archive k.now)
-    (ascending : AreAscending k.archive k.now.shown) (names : p.names ≡ []) (texts : p.texts ≡ [])
+    (ascending : AreAscending k.archive k.now.shown) (profile : p.profile ≡ k.archive.profile)
+    (names : p.names ≡ []) (texts : p.texts ≡ [])
     (turn : p.turn ≡ record {
       hides = [];
       shows = [];
@@ -127,7 +128,7 @@ module _ (k : Kept) (p : Planned) (wanted : Option (Option (List ℕ))) (marks f
     agree : Agree k.archive a k.now.names k.now.versions
     agree =
         agree_kept k.archive a k.now.names k.now.versions p.names p.texts kept.there.names
-        kept.there.versions keeps.names keeps.texts
+        kept.there.versions keeps.profile keeps.names keeps.texts
 
     all_below : AllByRecursion
         (λ (s : Shown). (s.name < k.now.names) × (s.version < k.now.versions)) k.now.shown
@@ -181,6 +182,7 @@ module _ (k : Kept) (p : Planned) (wanted : Option (Option (List ℕ))) (marks f
         versions = agree.text_count;
       };
       world = λ i. record {
+        profile = keeps.profile i;
         bounds = k.now.bounds;
         files =
             (ap (files_of a) shown_same
@@ -217,9 +219,9 @@ module _ (k : Kept) (p : Planned) (wanted : Option (Option (List ℕ))) (marks f
     }
 
   pub places_planned : IsPlan k p (with_places k.archive k.now wanted marks frames)
-  places_planned a keeps =
+  places_planned = (profile, λ a keeps.
       subst (λ t. LeadsTo k (record p { turn = t })
-      (with_places k.archive k.now wanted marks frames) a) (sym turn) (leads a keeps)
+      (with_places k.archive k.now wanted marks frames) a) (sym turn) (leads a keeps))
 
 -- ---- edits that make one list from another
 pub are_edits : (names : ℕ) (es : Edits) (ps qs : List NumberedPlace) → IsDifference es ps qs

@@ -46,10 +46,10 @@ module _ (k l : Kept) (records : List Turn) (done : ℕ) (p : Planned)
     agree =
         let there = (kept_back k.rooms k.archive k.now (turns_back from) is.back).there in
         agree_kept k.archive l.archive k.now.names k.now.versions p.names p.texts there.names
-        there.versions keeps.names keeps.texts
+        there.versions keeps.profile keeps.names keeps.texts
 
     leads : LeadsTo k p v l.archive
-    leads = plan l.archive keeps
+    leads = plan.1 l.archive keeps
 
     pub next_is : timeline_in to ≡ record (timeline_in from) { future = v ∷ [] }
     next_is =
@@ -97,7 +97,14 @@ module _ (k l : Kept) (records : List Turn) (done : ℕ) (p : Planned)
           valid = subst IsValidTimeline (sym next_is) (record {
             before = is.valid.before;
             now = is.valid.now;
-            later = ((valid, sym (ap (λ (w : World). w.bounds) leads.world)), tt);
+            later = (
+              (
+                valid,
+                sym (ap (λ (w : World). w.profile) leads.world) ∙ keeps.profile,
+                sym (ap (λ (w : World). w.bounds) leads.world),
+              ),
+              tt,
+            );
             bounded = omega (arith, short);
           });
         }
@@ -132,29 +139,33 @@ refused_as A B (Err e) is b = b
 
 -- a plan stays one where only room changes
 pub plan_moved : (k l : Kept) (p : Planned) (v : World) → l.now ≡ k.now
+    → l.archive.profile ≡ k.archive.profile
     → l.archive.names ≡ k.archive.names → l.archive.texts ≡ k.archive.texts
     → IsPlan k p v → IsPlan l p v
-plan_moved k l p v now names texts plan a keeps =
+plan_moved k l p v now profile names texts plan = (plan.0 ∙ sym profile, λ a keeps.
     let kept : Keeps k.archive k.now p a = record {
+      profile = keeps.profile ∙ profile;
       names = keeps.names ∙ (λ i. take (now i).names (names i) ++ p.names);
       texts = keeps.texts ∙ (λ i. take (now i).versions (texts i) ++ p.texts);
     } in
-    let leads = plan a kept in
+    let leads = plan.1 a kept in
     record {
       turn = subst (λ w. IsTurn a p.turn w) (sym now) leads.turn;
       there = subst (λ w. AreThere a (other a p.turn w)) (sym now) leads.there;
       world = ap (λ w. world_in a (other a p.turn w)) now ∙ leads.world;
       next = subst (λ w. IsNext w (other a p.turn w)) (sym now) leads.next;
       all = subst (λ w. UsesAll a (other a p.turn w)) (sym now) leads.all;
-    }
+    })
 
 -- and so does room
-pub room_moved : (k l : Kept) (p : Planned) → l.now ≡ k.now → l.archive.names ≡ k.archive.names
+pub room_moved : (k l : Kept) (p : Planned) → l.now ≡ k.now
+    → l.archive.profile ≡ k.archive.profile → l.archive.names ≡ k.archive.names
     → l.archive.texts ≡ k.archive.texts
     → HasRoomFor l.rooms k.archive k.now p → HasRoomFor l.rooms l.archive l.now p
-room_moved k l p now names texts room a keeps =
+room_moved k l p now profile names texts room a keeps =
     subst (λ w. Fits l.rooms a (other a p.turn w)) (sym now)
     (room a (record {
+      profile = keeps.profile ∙ profile;
       names = keeps.names ∙ (λ i. take (now i).names (names i) ++ p.names);
       texts = keeps.texts ∙ (λ i. take (now i).versions (texts i) ++ p.texts);
     }))

@@ -130,7 +130,7 @@ module _ (b a : Archived) (n v : ℕ) (same : Agree b a n v) (marks : List Numbe
 module _ (k : Kept) (p : Planned) (old new : List ℕ) (rs : List Renewal)
     (marks frames : Edits) (versions : ℕ)
     (kept : IsKept k.rooms k.archive k.now) (ascending : AreAscending k.archive k.now.shown)
-    (names : p.names ≡ [])
+    (profile : p.profile ≡ k.archive.profile) (names : p.names ≡ [])
     (texts : p.texts ≡ texts_of (files_changed k.archive k.now.marks old new k.now.shown))
     (same : IsPermutation
     (renewals k.now.versions (filter (has_mark k.archive k.now.marks) k.now.shown)) rs)
@@ -159,6 +159,7 @@ module _ (k : Kept) (p : Planned) (old new : List ℕ) (rs : List Renewal)
 
   abbrev planned : Planned
   planned = record {
+    profile = k.archive.profile;
     names = [];
     texts = news;
     turn = record {
@@ -173,7 +174,8 @@ module _ (k : Kept) (p : Planned) (old new : List ℕ) (rs : List Renewal)
   }
 
   is_planned : p ≡ planned
-  is_planned = λ i. record { names = names i; texts = texts i; turn = turn i }
+  is_planned = λ i.
+      record { profile = profile i; names = names i; texts = texts i; turn = turn i }
 
   news_long : length news ≡ length marked
   news_long =
@@ -262,4 +264,4 @@ module _ (k : Kept) (p : Planned) (old new : List ℕ) (rs : List Renewal)
       subst (λ fs. IsPlan k p (with_files (world_in k.archive k.now) fs))
       (world_replaced k.archive k.now old new)
       (subst (λ q. IsPlan k q (with_files (world_in k.archive k.now) then)) (sym is_planned)
-      (λ a keeps. replace_leads a keeps))
+      (refl, λ a keeps. replace_leads a keeps))

@@ -3,6 +3,7 @@ use Rattle.std.proofs.Common.{◌≡◌, ◌∙◌, ◌≤◌, ◌<◌, ◌+◌,
 use Rattle.std.proofs.Common.{filter, not, cond, arith, true, false, length-append, Bool}
 use Rattle.std.specs.Prelude.{◌^◌, Err, MatchOption, None, Ok, OnOk, Option, Result}
 use Rattle.cb_scan.proofs.FunctionsRise.{all_implied}
+use Rattle.cb_index.specs.Scanned.{Scanned}
 use Rattle.cb_index.specs.Archived.{Archived}
 use Rattle.cb_index.specs.Files.{call_count, def_count, shown_name, total, use_count}
 use Rattle.cb_index.specs.Names.{is_among, names_of}
@@ -17,7 +18,7 @@ use Rattle.cb_index.proofs.TotalLemmas.{total_in_order, total_more}
 use Rattle.cb_desk.specs.steps.Plans.{HasRoomFor, Keeps, Planned}
 use Rattle.cb_desk.specs.steps.Records.{AreThere, Kept, Rooms, other, without}
 use Rattle.cb_desk.specs.steps.Room.{IsCountable, IsRoomFor, fact_count, facts_with, texts_with}
-use Rattle.cb_desk.specs.steps.Room.{with_texts}
+use Rattle.cb_desk.specs.steps.Room.{archive_with, with_texts}
 use Rattle.cb_desk.specs.steps.Edits.{more}
 use Rattle.cb_desk.proofs.PlacePlans.{edited_length}
 
@@ -31,15 +32,16 @@ module _ (q : Shown → Bool) where
       [ true ↦ omega (arith, later) | false ↦ omega (arith, later) ]
 
 -- what is shown has as many facts among the texts that the present world and a plan use
-pub shown_total : (count : Option (List ℕ) → ℕ) (k : Kept) (p : Planned) → AreThere k.archive k.now
-    → total count k.archive k.now.shown ≡ total count (with_texts (texts_with k p)) k.now.shown
+pub shown_total : (count : Option Scanned → ℕ) (k : Kept) (p : Planned) → AreThere k.archive k.now
+    → total count k.archive k.now.shown ≡ total count (archive_with k p) k.now.shown
 shown_total count k p there =
-    let front : Archived = with_texts (take k.now.versions k.archive.texts) in
-    total_front count k.archive front k.now.versions refl k.now.shown
+    let front : Archived =
+    with_texts k.archive.profile (take k.now.versions k.archive.texts) in
+    total_front count k.archive front k.now.versions refl refl k.now.shown
     (all_implied (λ (s : Shown). (s.name < k.now.names) × (s.version < k.now.versions))
     (λ (s : Shown). s.version < k.now.versions)
     (λ s at. at.1) k.now.shown there.shown)
-    ∙ total_more count front (with_texts (texts_with k p)) p.texts refl k.now.shown
+    ∙ total_more count front (archive_with k p) p.texts refl refl k.now.shown
     (all_implied (λ (s : Shown). (s.name < k.now.names) × (s.version < k.now.versions))
     (λ (s : Shown). s.version < length front.texts)
     (λ s at. length_front k.now.versions k.archive.texts s.version at.1
@@ -49,9 +51,9 @@ shown_total count k p there =
 -- facts that are no number together are not countable
 pub not_countable : (k : Kept) (p : Planned) (now : Totals) → AreThere k.archive k.now
     → AreTotals k.archive k.now.shown now
-    → 2 ^ 64 ≤ facts_with now (fact_count (texts_with k p) p.turn.shows) → IsCountable k p → ⊥
+    → 2 ^ 64 ≤ facts_with now (fact_count (archive_with k p) p.turn.shows) → IsCountable k p → ⊥
 not_countable k p now there are many is =
-    let texts = with_texts (texts_with k p) in
+    let texts = archive_with k p in
     let d = are.defs ∙ shown_total def_count k p there in
     let u = are.uses ∙ shown_total use_count k p there in
     let c = are.calls ∙ shown_total call_count k p there in
@@ -74,9 +76,9 @@ pub room_asked : (k : Kept) (p : Planned) (r : Room) (now : Totals) → AreThere
     → AreTotals k.archive k.now.shown now
     → r.names ≡ k.now.names + length p.names → r.versions ≡ k.now.versions + length p.texts
     → r.entries ≡ length k.now.shown + length p.turn.shows
-    → r.defs ≡ now.defs + total def_count (with_texts (texts_with k p)) p.turn.shows
-    → r.uses ≡ now.uses + total use_count (with_texts (texts_with k p)) p.turn.shows
-    → r.calls ≡ now.calls + total call_count (with_texts (texts_with k p)) p.turn.shows
+    → r.defs ≡ now.defs + total def_count (archive_with k p) p.turn.shows
+    → r.uses ≡ now.uses + total use_count (archive_with k p) p.turn.shows
+    → r.calls ≡ now.calls + total call_count (archive_with k p) p.turn.shows
     → IsRoomFor k p r
 room_asked k p r now there are names versions entries defs uses calls = record {
   names = names;
@@ -89,9 +91,9 @@ room_asked k p r now there are names versions entries defs uses calls = record {
 
 -- ---- room as a plan asks for it
 module _ (k : Kept) (p : Planned) (a : Archived) (keeps : Keeps k.archive k.now p a) where
-  counted_then : (count : Option (List ℕ) → ℕ) (room : ℕ)
-      → total count (with_texts (texts_with k p)) k.now.shown
-      + total count (with_texts (texts_with k p)) p.turn.shows ≤ room
+  counted_then : (count : Option Scanned → ℕ) (room : ℕ)
+      → total count (archive_with k p) k.now.shown
+      + total count (archive_with k p) p.turn.shows ≤ room
       → total count a (other a p.turn k.now).shown ≤ room
   counted_then count room some =
       let left = without p.turn.hides k.now.shown in
@@ -101,8 +103,8 @@ module _ (k : Kept) (p : Planned) (a : Archived) (keeps : Keeps k.archive k.now 
       let fewer =
       total_filter count a (λ (s : Shown). not (is_among (names_of p.turn.hides) s.name))
       k.now.shown in
-      let now = same_total count a (with_texts (texts_with k p)) keeps.texts k.now.shown in
-      let more = same_total count a (with_texts (texts_with k p)) keeps.texts p.turn.shows in
+      let now = same_total count a (archive_with k p) keeps.profile keeps.texts k.now.shown in
+      let more = same_total count a (archive_with k p) keeps.profile keeps.texts p.turn.shows in
       omega (arith, all, fewer, now, more, some)
 
 pub has_room : (k : Kept) (p : Planned) (r : Room) (rooms : Rooms) → IsRoomFor k p r

@@ -1,13 +1,15 @@
 -- How many rows a question can have.
-use Rattle.std.proofs.Common.{ℕ, ◌≤◌, ◌<◌, ◌^◌, true, false, cond, List, [], ◌∷◌, map, filter}
-use Rattle.std.proofs.Common.{length, length-append, arith, Option, None, Some, slice_get, subst}
-use Rattle.std.specs.List.{flat_map}
-use Rattle.std.specs.Option.{unwrap_or}
+use Rattle.std.proofs.Common.{◌≡◌, ◌∙◌, ℕ, ◌≤◌, ◌<◌, ◌^◌, true, false, cond, List, [], ◌∷◌, map}
+use Rattle.std.proofs.Common.{filter, length, length-append, arith, Some, subst, sym, ap}
+use Rattle.std.specs.List.{AllByRecursion, flat_map}
 use Rattle.std.proofs.lemmas.List.{length-map}
-use Rattle.std.proofs.lemmas.Option.{unwrap_or-slice_get}
+use Rattle.cb_scan.specs.declared.profile.Profile.{Profile}
+use Rattle.cb_scan.specs.declared.profile.Profile.TheVariants.{Standard}
 use Rattle.cb_scan.specs.Definitions.{facts_of}
-use Rattle.cb_index.specs.Archived.{Archived, name_of}
-use Rattle.cb_index.specs.Files.{count_for, file_of, files_of, total}
+use Rattle.cb_scan.specs.Profiles.{facts_in, include_alone}
+use Rattle.cb_scan.specs.TextFacts.{TextFacts}
+use Rattle.cb_index.specs.Archived.{Archived, text_at, text_of}
+use Rattle.cb_index.specs.Files.{IsThere, count_for, file_of, files_of, total}
 use Rattle.cb_index.specs.Shelved.{AreTotals}
 use Rattle.cb_index.specs.declared.entry.Shown.{Shown}
 use Rattle.cb_index.specs.declared.kind.FactKind.{FactKind}
@@ -24,7 +26,9 @@ use Rattle.cb_desk.specs.Answer.{bytes_of, field_rows, file_row, found_called, f
 use Rattle.cb_desk.specs.Answer.{found_include, found_use, found_row, found_rows, is_asked}
 use Rattle.cb_desk.specs.Search.{holds}
 use Rattle.cb_desk.specs.World.{AreValidFiles, File, widest_bounds}
-use Rattle.cb_scan.proofs.FactsFew.{calls-few, flat-few, includes-few, uses-few}
+use Rattle.cb_scan.proofs.FactsFew.{flat-few, includes-few}
+use Rattle.cb_scan.proofs.WideLaws.{same_includes, standard_is}
+use Rattle.cb_index.proofs.TextLemmas.{text_there}
 use Rattle.cb_desk.proofs.Valid.{all-along, length-kept}
 
 found-few : (field : Field) (p : List ℕ) (f : File) (xs : List Found)
@@ -38,130 +42,112 @@ found-few field p f xs =
     )
 
 -- ---- uses and calls are no more than those that a shelf counts
-abbrev bytes_if : Option (List ℕ) → List ℕ
-bytes_if o = unwrap_or o []
-
-module _ (p name : List ℕ) where
-  abbrev file_if : Option (List ℕ) → File
-  file_if o = record { name = name; bytes = bytes_if o }
-
-  uses-below : (o : Option (List ℕ))
-      → length (field_rows Symbol p (file_if o)) ≤ count_for (Facts Uses) o
-  uses-below None =
+module _ (by : Profile) (p : List ℕ) (f : File) where
+  uses-below : length (field_rows by Symbol p f) ≤ length (facts_in by f.bytes).uses
+  uses-below =
       omega (
         arith,
-        found-few Symbol p (file_if None) (map found_use (facts_of []).uses),
-        length-map (facts_of []).uses found_use,
-        uses-few [],
-      )
-  uses-below (Some text) =
-      omega (
-        arith,
-        found-few Symbol p (file_if (Some text)) (map found_use (facts_of text).uses),
-        length-map (facts_of text).uses found_use,
+        found-few Symbol p f (map found_use (facts_in by f.bytes).uses),
+        length-map (facts_in by f.bytes).uses found_use,
       )
 
-  called-below : (o : Option (List ℕ))
-      → length (field_rows Called p (file_if o)) ≤ count_for (Facts Callers) o
-  called-below None =
+  called-below : length (field_rows by Called p f) ≤ length (facts_in by f.bytes).calls
+  called-below =
       omega (
         arith,
-        found-few Called p (file_if None) (map found_called (facts_of []).calls),
-        length-map (facts_of []).calls found_called,
-        calls-few [],
-      )
-  called-below (Some text) =
-      omega (
-        arith,
-        found-few Called p (file_if (Some text)) (map found_called (facts_of text).calls),
-        length-map (facts_of text).calls found_called,
+        found-few Called p f (map found_called (facts_in by f.bytes).calls),
+        length-map (facts_in by f.bytes).calls found_called,
       )
 
-  calling-below : (o : Option (List ℕ))
-      → length (field_rows Calling p (file_if o)) ≤ count_for (Facts Callees) o
-  calling-below None =
+  calling-below : length (field_rows by Calling p f) ≤ length (facts_in by f.bytes).calls
+  calling-below =
       omega (
         arith,
-        found-few Calling p (file_if None) (map found_calling (facts_of []).calls),
-        length-map (facts_of []).calls found_calling,
-        calls-few [],
-      )
-  calling-below (Some text) =
-      omega (
-        arith,
-        found-few Calling p (file_if (Some text)) (map found_calling (facts_of text).calls),
-        length-map (facts_of text).calls found_calling,
+        found-few Calling p f (map found_calling (facts_in by f.bytes).calls),
+        length-map (facts_in by f.bytes).calls found_calling,
       )
 
-  facts-below : (kind : FactKind) (o : Option (List ℕ))
-      → length (field_rows (asked_by kind) p (file_if o)) ≤ count_for (Facts kind) o
-  facts-below Uses o = uses-below o
-  facts-below Callees o = calling-below o
-  facts-below Callers o = called-below o
+facts-below : (kind : FactKind) (p : List ℕ) (a : Archived) (s : Shown)
+    → length (field_rows a.profile (asked_by kind) p (file_of a s))
+    ≤ count_for (Facts kind) (Some (text_of a s.version))
+facts-below Uses p a s = uses-below a.profile p (file_of a s)
+facts-below Callees p a s = calling-below a.profile p (file_of a s)
+facts-below Callers p a s = called-below a.profile p (file_of a s)
 
 rows-total : (kind : FactKind) (p : List ℕ) (a : Archived) (shown : List Shown)
-    → length (flat_map (field_rows (asked_by kind) p) (files_of a shown))
+    → AllByRecursion (IsThere a) shown
+    → length (flat_map (field_rows a.profile (asked_by kind) p) (files_of a shown))
     ≤ total (count_for (Facts kind)) a shown
-rows-total kind p a [] = omega arith
-rows-total kind p a (s ∷ shown) =
-    let here : length (field_rows (asked_by kind) p (file_of a s))
-    ≤ count_for (Facts kind) (slice_get a.texts s.version) =
-    subst (λ bytes. length (field_rows (asked_by kind) p
-    (record { name = name_of a s.name; bytes = bytes }))
-    ≤ count_for (Facts kind) (slice_get a.texts s.version))
-    (unwrap_or-slice_get a.texts s.version [])
-    (facts-below p (name_of a s.name) kind (slice_get a.texts s.version)) in
+rows-total kind p a [] there = omega arith
+rows-total kind p a (s ∷ shown) there =
+    let here : length (field_rows a.profile (asked_by kind) p (file_of a s))
+    ≤ count_for (Facts kind) (text_at a s.version) =
+    subst (λ o. length (field_rows a.profile (asked_by kind) p (file_of a s))
+    ≤ count_for (Facts kind) o)
+    (sym (text_there a s.version there.0.1)) (facts-below kind p a s) in
     omega (
       arith,
-      length-append (field_rows (asked_by kind) p (file_of a s))
-          (flat_map (field_rows (asked_by kind) p) (files_of a shown)),
+      length-append (field_rows a.profile (asked_by kind) p (file_of a s))
+          (flat_map (field_rows a.profile (asked_by kind) p) (files_of a shown)),
       here,
-      rows-total kind p a shown,
+      rows-total kind p a shown there.1,
     )
 
 pub fact-rows-few : (kind : FactKind) (p : List ℕ) (a : Archived) (shown : List Shown) (n : Totals)
+    → AllByRecursion (IsThere a) shown
     → AreTotals a shown n → n.uses < 2 ^ 64 → n.calls < 2 ^ 64
-    → length (flat_map (field_rows (asked_by kind) p) (files_of a shown)) < 2 ^ 64
-fact-rows-few Uses p a shown n are uses calls =
-    let e = are.uses in omega (arith, e, uses, rows-total Uses p a shown)
-fact-rows-few Callees p a shown n are uses calls =
-    let e = are.calls in omega (arith, e, calls, rows-total Callees p a shown)
-fact-rows-few Callers p a shown n are uses calls =
-    let e = are.calls in omega (arith, e, calls, rows-total Callers p a shown)
+    → length (flat_map (field_rows a.profile (asked_by kind) p) (files_of a shown)) < 2 ^ 64
+fact-rows-few Uses p a shown n there are uses calls =
+    let e = are.uses in omega (arith, e, uses, rows-total Uses p a shown there)
+fact-rows-few Callees p a shown n there are uses calls =
+    let e = are.calls in omega (arith, e, calls, rows-total Callees p a shown there)
+fact-rows-few Callers p a shown n there are uses calls =
+    let e = are.calls in omega (arith, e, calls, rows-total Callers p a shown there)
 
 -- ---- includes, and names of files
-including-few : (p : List ℕ) (f : File) → length f.bytes ≤ MOST_BYTES
-    → length (field_rows Including p f) ≤ MOST_BYTES
-including-few p f size =
+-- every profile finds as many includes as the standard one
+as-many : (by : Profile) (text : List ℕ)
+    → length (facts_in by text).includes ≡ length (facts_of text).includes
+as-many by text =
+    sym (length-map (facts_in by text).includes include_alone)
+    ∙ ap length (same_includes by text)
+    ∙ length-map (facts_in Standard text).includes include_alone
+    ∙ ap (λ (f : TextFacts). length f.includes) (standard_is text)
+
+including-few : (by : Profile) (p : List ℕ) (f : File) → length f.bytes ≤ MOST_BYTES
+    → length (field_rows by Including p f) ≤ MOST_BYTES
+including-few by p f size =
     omega (
       arith,
-      found-few Including p f (map found_include (facts_of f.bytes).includes),
-      length-map (facts_of f.bytes).includes found_include,
+      found-few Including p f (map found_include (facts_in by f.bytes).includes),
+      length-map (facts_in by f.bytes).includes found_include,
+      as-many by f.bytes,
       includes-few f.bytes,
       size,
     )
 
-names-few : (p : List ℕ) (f : File) → length f.bytes ≤ MOST_BYTES
-    → length (field_rows FileName p f) ≤ MOST_BYTES
-names-few p f size =
+names-few : (by : Profile) (p : List ℕ) (f : File) → length f.bytes ≤ MOST_BYTES
+    → length (field_rows by FileName p f) ≤ MOST_BYTES
+names-few by p f size =
     elim (holds p f.name) as (λ b. length (cond b (file_row f.name ∷ []) []) ≤ MOST_BYTES)
     [ true ↦ omega arith | false ↦ omega arith ]
 
-all-few : (field : Field) (p : List ℕ)
-    → ((f : File) → length f.bytes ≤ MOST_BYTES → length (field_rows field p f) ≤ MOST_BYTES)
+all-few : (by : Profile) (field : Field) (p : List ℕ)
+    → ((f : File) → length f.bytes ≤ MOST_BYTES → length (field_rows by field p f) ≤ MOST_BYTES)
     → (fs : List File) → AreValidFiles widest_bounds fs
-    → length (flat_map (field_rows field p) fs) < 2 ^ 64
-all-few field p each fs valid =
+    → length (flat_map (field_rows by field p) fs) < 2 ^ 64
+all-few by field p each fs valid =
     let count = valid.count in
-    let few = flat-few (field_rows field p) MOST_BYTES fs
+    let few = flat-few (field_rows by field p) MOST_BYTES fs
     (all-along (λ (f : File). length f.bytes ≤ MOST_BYTES)
-    (λ f. length (field_rows field p f) ≤ MOST_BYTES) fs each valid.sizes) in
+    (λ f. length (field_rows by field p f) ≤ MOST_BYTES) fs each valid.sizes) in
     omega (arith, count, few)
 
-pub including-rows-few : (p : List ℕ) (fs : List File) → AreValidFiles widest_bounds fs
-    → length (flat_map (field_rows Including p) fs) < 2 ^ 64
-including-rows-few p fs valid = all-few Including p (including-few p) fs valid
+pub including-rows-few : (by : Profile) (p : List ℕ) (fs : List File)
+    → AreValidFiles widest_bounds fs
+    → length (flat_map (field_rows by Including p) fs) < 2 ^ 64
+including-rows-few by p fs valid = all-few by Including p (including-few by p) fs valid
 
-pub name-rows-few : (p : List ℕ) (fs : List File) → AreValidFiles widest_bounds fs
-    → length (flat_map (field_rows FileName p) fs) < 2 ^ 64
-name-rows-few p fs valid = all-few FileName p (names-few p) fs valid
+pub name-rows-few : (by : Profile) (p : List ℕ) (fs : List File) → AreValidFiles widest_bounds fs
+    → length (flat_map (field_rows by FileName p) fs) < 2 ^ 64
+name-rows-few by p fs valid = all-few by FileName p (names-few by p) fs valid

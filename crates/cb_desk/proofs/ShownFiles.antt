@@ -5,6 +5,7 @@ use Rattle.std.specs.Cmp.Lexicographic.{slice_cmp}
 use Rattle.std.specs.List.{AllByRecursion}
 use Rattle.std.specs.List.Sorted.{IsStrictlySortedBy}
 use Rattle.std.specs.Option.{option_map}
+use Rattle.cb_scan.specs.declared.profile.Profile.{Profile}
 use Rattle.cb_scan.specs.Order.{AreOrdered}
 use Rattle.cb_index.specs.Archived.{Archived, name_of}
 use Rattle.cb_index.specs.Files.{AreAscending, files_of}
@@ -15,9 +16,10 @@ use Rattle.cb_desk.specs.steps.Lent.{without_facts}
 use Rattle.cb_desk.specs.steps.Named.{file_named}
 
 -- without their facts they are the files
-pub bare-files : (fs : List File) → map without_facts (map with_facts fs) ≡ fs
-bare-files [] = refl
-bare-files (f ∷ fs) = ap (λ l. f ∷ l) (bare-files fs)
+pub bare-files : (by : Profile) (fs : List File)
+    → map without_facts (map (with_facts by) fs) ≡ fs
+bare-files by [] = refl
+bare-files by (f ∷ fs) = ap (λ l. f ∷ l) (bare-files by fs)
 
 module _ (a : Archived) where
   all-above : (s : Shown) (shown : List Shown) → AllByRecursion

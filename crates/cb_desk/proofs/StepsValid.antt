@@ -278,8 +278,8 @@ after-valid w (replace text) valid due =
     replaced-world w w.wanted text valid
     (short-first (is_short text) (marked_refusal w w.wanted w.marks text) due)
 after-valid w (tag name n) valid due =
-    push-valid w (nth n (places w.files name)) valid
-    (λ f e. nth-place w.files name n f valid.files.ascending e)
+    push-valid w (nth n (places w.profile w.files name)) valid
+    (λ f e. nth-place w.profile w.files name n f valid.files.ascending e)
 after-valid w pop valid due = record {
   bounds = valid.bounds;
   files = valid.files;
@@ -310,7 +310,7 @@ after-bounds w (want text) = refl
 after-bounds w (mark n) = toggled-bounds w (nth n (wanted_places w))
 after-bounds w mark_all = refl
 after-bounds w (replace text) = replaced-bounds w w.wanted text
-after-bounds w (tag name n) = pushed-bounds w (nth n (places w.files name))
+after-bounds w (tag name n) = pushed-bounds w (nth n (places w.profile w.files name))
 after-bounds w pop = refl
 
 pub step-bounds : (w v : World) (s : Step) → step w s ≡ Ok v → v.bounds ≡ w.bounds
@@ -318,6 +318,38 @@ unfolding step
 step-bounds w v s h =
     ap (λ (x : World). x.bounds) (not-refused (refusal_of w s) (after w s) v h).1
     ∙ after-bounds w s
+
+-- and the profile
+toggled-profile : (w : World) (o : Option Place) → (toggled_at w o).profile ≡ w.profile
+toggled-profile w None = refl
+toggled-profile w (Some p) = refl
+
+pushed-profile : (w : World) (o : Option Place) → (pushed w o).profile ≡ w.profile
+pushed-profile w None = refl
+pushed-profile w (Some f) = refl
+
+replaced-profile : (w : World) (o : Option (List ℕ)) (new : List ℕ)
+    → (replaced_on_marks w o new).profile ≡ w.profile
+replaced-profile w None new = refl
+replaced-profile w (Some old) new = refl
+
+pub after-profile : (w : World) (s : Step) → (after w s).profile ≡ w.profile
+after-profile w (load name bytes) = refl
+after-profile w (reload name bytes) = refl
+after-profile w (unload name) = refl
+after-profile w (rename old new) = refl
+after-profile w (want text) = refl
+after-profile w (mark n) = toggled-profile w (nth n (wanted_places w))
+after-profile w mark_all = refl
+after-profile w (replace text) = replaced-profile w w.wanted text
+after-profile w (tag name n) = pushed-profile w (nth n (places w.profile w.files name))
+after-profile w pop = refl
+
+pub step-profile : (w v : World) (s : Step) → step w s ≡ Ok v → v.profile ≡ w.profile
+unfolding step
+step-profile w v s h =
+    ap (λ (x : World). x.profile) (not-refused (refusal_of w s) (after w s) v h).1
+    ∙ after-profile w s
 
 pub step_keeps_valid : StepKeepsValid
 unfolding step

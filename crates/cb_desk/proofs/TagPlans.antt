@@ -4,8 +4,9 @@ use Rattle.std.proofs.Common.{◌∷◌, map, filter, length, subst, Some, None,
 use Rattle.std.specs.Prelude.{◌||◌, cond, slice_index_or}
 use Rattle.std.specs.List.{AllByRecursion, Contains}
 use Rattle.std.proofs.lemmas.Slice.Eq.{bytes_eq-Decides}
+use Rattle.cb_scan.specs.declared.profile.Profile.{Profile}
 use Rattle.cb_scan.specs.declared.facts.Def.{Def}
-use Rattle.cb_scan.specs.Definitions.{definitions}
+use Rattle.cb_scan.specs.Profiles.{facts_in}
 use Rattle.cb_desk.specs.Answer.{defines}
 use Rattle.cb_desk.specs.Places.{nth}
 use Rattle.cb_desk.specs.Stack.{places, places_in}
@@ -26,7 +27,7 @@ all_contained P xs x all has = subst P has.2 (at xs all has.0 has.1)
 itself : (f : File) → is_named f.name f ≡ true
 itself f = (bytes_eq-Decides f.name f.name).1 refl
 
-module _ (name : List ℕ) where
+module _ (by : Profile) (name : List ℕ) where
   all_of_file : (f : File) (ds : List Def)
       → AllByRecursion (λ (p : Place). p.file ≡ f.name)
       (map (λ (d : Def). record { file = f.name; line = d.line }) ds)
@@ -35,18 +36,18 @@ module _ (name : List ℕ) where
 
   -- every such place is in one of the files
   all_placed : (files : List File)
-      → AllByRecursion (λ (p : Place). has_file files p.file ≡ true) (places files name)
+      → AllByRecursion (λ (p : Place). has_file files p.file ≡ true) (places by files name)
   all_placed [] = tt
   all_placed (f ∷ files) =
-      all-join (λ (p : Place). has_file (f ∷ files) p.file ≡ true) (places_in name f)
-      (places files name)
+      all-join (λ (p : Place). has_file (f ∷ files) p.file ≡ true) (places_in by name f)
+      (places by files name)
       (all-along (λ (p : Place). p.file ≡ f.name)
-      (λ (p : Place). has_file (f ∷ files) p.file ≡ true) (places_in name f)
+      (λ (p : Place). has_file (f ∷ files) p.file ≡ true) (places_in by name f)
       (λ p is. ap (λ n. is_named n f || has_file files n) is
       ∙ ap (λ b. b || has_file files f.name) (itself f))
-      (all_of_file f (filter (defines f.bytes name) (definitions f.bytes))))
+      (all_of_file f (filter (defines f.bytes name) (facts_in by f.bytes).defs)))
       (all-along (λ (p : Place). has_file files p.file ≡ true)
-      (λ (p : Place). has_file (f ∷ files) p.file ≡ true) (places files name)
+      (λ (p : Place). has_file (f ∷ files) p.file ≡ true) (places by files name)
       (λ p is. ap (λ b. is_named p.file f || b) is ∙ or_true (is_named p.file f))
       (all_placed files))
     where
@@ -63,11 +64,11 @@ module _ (name : List ℕ) where
       same x y e = cc
   got P (q ∷ ps) (suc k) p all is = got P ps k p all.1 is
 
-  pub nth_is_placed : (files : List File) (n : ℕ) (p : Place) → nth n (places files name) ≡ Some p
+  pub nth_is_placed : (files : List File) (n : ℕ) (p : Place) → nth n (places by files name) ≡ Some p
       → has_file files p.file ≡ true
   nth_is_placed files zero p is = cc
   nth_is_placed files (suc n) p is =
-      got (λ (q : Place). has_file files q.file ≡ true) (places files name) n p
+      got (λ (q : Place). has_file files q.file ≡ true) (places by files name) n p
       (all_placed files) is
 
 -- ---- the file of a name

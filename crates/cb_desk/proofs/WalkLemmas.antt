@@ -7,6 +7,7 @@ use Rattle.std.proofs.Math.Seq.{drop-cons}
 use Rattle.std.proofs.lemmas.List.{reverse-append, take_more, take_more_set, take-set, drop-set}
 use Rattle.std.proofs.lemmas.List.{drop-set-lt, drop_all, length-map, length-reverse, length-set}
 use Rattle.std.specs.List.Sorted.{IsStrictlySortedBy}
+use Rattle.cb_scan.specs.declared.profile.Profile.{Profile}
 use Rattle.cb_scan.specs.Order.{in_order}
 use Rattle.cb_index.specs.Archived.{Archived}
 use Rattle.cb_index.specs.Files.{AreApart, shown_name}
@@ -344,19 +345,20 @@ redo_nothing h all =
     rw none refl
 
 -- the world without a file is within reach
-empty_is_valid : (b : WorldBounds) → AreBounds b → IsValidWorld (empty_world b)
+empty_is_valid : (p : Profile) (b : WorldBounds) → AreBounds b → IsValidWorld (empty_world p b)
 unfolding IsStrictlySortedBy
-empty_is_valid b bounds = record {
+empty_is_valid p b bounds = record {
   bounds = bounds;
   files = record { names = tt; sizes = tt; count = omega arith; ascending = tt };
   marks = refl;
   frames = tt;
 }
 
-pub new_valid : (b : WorldBounds) → AreBounds b → IsValidTimeline (new_timeline b)
-new_valid b bounds = record {
+pub new_valid : (p : Profile) (b : WorldBounds) → AreBounds b
+    → IsValidTimeline (new_timeline p b)
+new_valid p b bounds = record {
   before = tt;
-  now = empty_is_valid b bounds;
+  now = empty_is_valid p b bounds;
   later = tt;
   bounded = omega arith;
 }
@@ -370,7 +372,7 @@ nothing_recorded b bounds k is names texts = record {
   used = all_used (record { kept = k; records = []; done = 0 }) no_past no_future;
   back = no_past;
   on = no_future;
-  valid = rw is (new_valid b bounds);
+  valid = rw is (new_valid k.archive.profile b bounds);
 }
   where
     none : IsKept k.rooms k.archive k.now

@@ -4,12 +4,13 @@ use Rattle.std.specs.Prelude.{Some, None, List, [], ◌∷◌, length, drop, fil
 use Rattle.std.specs.Prelude.{map, codes, slice_range}
 use Rattle.std.specs.List.{flat_map}
 use Rattle.std.specs.Str.{bytes_eq}
+use Rattle.cb_scan.specs.declared.profile.Profile.{Profile}
 use Rattle.cb_scan.specs.declared.facts.Call.{Call}
 use Rattle.cb_scan.specs.declared.facts.Def.{Def}
 use Rattle.cb_scan.specs.declared.facts.Include.{Include}
 use Rattle.cb_scan.specs.declared.facts.Use.{Use}
 use Rattle.cb_scan.specs.declared.lex.piece.Span.{Span}
-use Rattle.cb_scan.specs.Definitions.{facts_of}
+use Rattle.cb_scan.specs.Profiles.{facts_in, is_declaration}
 use Rattle.cb_scan.specs.Lines.{line_text}
 use Rattle.cb_scan.specs.TextFacts.{TextFacts}
 use Rattle.cb_desk.specs.declared.found.Found.{Found}
@@ -112,10 +113,14 @@ found_calling c = record { key = c.callee; function = Some c.caller; line = c.li
 abbrev pub found_include : Include → Found
 found_include i = record { key = i.header; function = i.scope; line = i.line }
 
--- the facts that a field asks for, by place
+-- what a definition names is defined there, and not only declared
+abbrev pub is_defined : Def → Bool
+is_defined d = not (is_declaration d.kind)
+
+-- the facts that a field asks for, by place; of what is only declared none is a definition
 abbrev pub found_in : Field → TextFacts → List Found
 found_in Symbol facts = map found_use facts.uses
-found_in Definition facts = map found_def facts.defs
+found_in Definition facts = map found_def (filter is_defined facts.defs)
 found_in Called facts = map found_called facts.calls
 found_in Calling facts = map found_calling facts.calls
 found_in Including facts = map found_include facts.includes
@@ -150,9 +155,9 @@ abbrev pub found_rows : Field → List ℕ → File → List Found → List Answ
 found_rows field pattern f xs =
     map (found_row f) (filter (λ (x : Found). is_asked field pattern (bytes_of f.bytes x.key)) xs)
 
--- the rows of the facts of a file that a pattern asks for
-abbrev pub fact_rows : Field → List ℕ → File → List AnswerRow
-fact_rows field pattern f = found_rows field pattern f (found_in field (facts_of f.bytes))
+-- the rows of the facts of a file that a pattern asks for, by a profile
+abbrev pub fact_rows : Profile → Field → List ℕ → File → List AnswerRow
+fact_rows p field pattern f = found_rows field pattern f (found_in field (facts_in p f.bytes))
 
 -- ---- the answer
 
@@ -169,14 +174,14 @@ abbrev pub file_rows : (pattern name : List ℕ) → List AnswerRow
 file_rows pattern name = if holds pattern name then file_row name ∷ [] else []
 
 -- the rows of a field in a file
-abbrev pub field_rows : Field → List ℕ → File → List AnswerRow
-field_rows Text pattern f = text_rows_in pattern f
-field_rows FileName pattern f = file_rows pattern f.name
-field_rows field pattern f = fact_rows field pattern f
+abbrev pub field_rows : Profile → Field → List ℕ → File → List AnswerRow
+field_rows p Text pattern f = text_rows_in pattern f
+field_rows p FileName pattern f = file_rows pattern f.name
+field_rows p field pattern f = fact_rows p field pattern f
 
 -- all rows of a field, by file and place, equal ones included
 abbrev pub all_rows : World → Field → List ℕ → List AnswerRow
-all_rows w field pattern = flat_map (field_rows field pattern) w.files
+all_rows w field pattern = flat_map (field_rows w.profile field pattern) w.files
 
 -- the answer of a world to a question
 abbrev pub answer : World → Field → List ℕ → List AnswerRow

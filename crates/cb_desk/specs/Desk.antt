@@ -3,7 +3,8 @@
 use Rattle.std.specs.Prelude.{◌≡◌, ◌≤◌, ◌+◌, ◌-◌, ◌^◌, ℕ, Bool, min, List, [], ◌∷◌, length, filter}
 use Rattle.std.specs.Prelude.{map, Option, None, Some, Result, Ok, Err}
 use Rattle.std.specs.List.{list_any}
-use Rattle.cb_scan.specs.Definitions.{facts_of}
+use Rattle.cb_scan.specs.declared.profile.Profile.{Profile}
+use Rattle.cb_scan.specs.Profiles.{facts_in}
 use Rattle.cb_desk.specs.declared.refusal.Refusal.{Refusal}
 use Rattle.cb_desk.specs.declared.refusal.Refusal.TheVariants.{OutOfMemory}
 use Rattle.cb_desk.specs.Marks.{replaced_file}
@@ -30,10 +31,10 @@ abbrev pub bytes_in : List File → ℕ
 bytes_in [] = 0
 bytes_in (f ∷ files) = length f.bytes + bytes_in files
 
--- how many definitions files have
-abbrev pub definitions_in : List File → ℕ
-definitions_in [] = 0
-definitions_in (f ∷ files) = length (facts_of f.bytes).defs + definitions_in files
+-- how many definitions a profile finds in files
+abbrev pub definitions_in : Profile → List File → ℕ
+definitions_in p [] = 0
+definitions_in p (f ∷ files) = length (facts_in p f.bytes).defs + definitions_in p files
 
 -- a file has a mark
 abbrev pub is_marked : List Place → File → Bool

@@ -101,6 +101,7 @@ replace_refusal w new = if is_short new then marked_refusal w w.wanted w.marks n
 -- that is gone leaves the stack
 abbrev pub with_files : World → List File → World
 with_files w files = record {
+  profile = w.profile;
   bounds = w.bounds;
   files = files;
   wanted = None;

@@ -2,8 +2,9 @@
 use Rattle.std.specs.Prelude.{ℕ, ◌-◌, List, [], ◌∷◌, ◌++◌, length, take, Option, None}
 use Rattle.std.specs.Prelude.{Some, filter, map}
 use Rattle.std.specs.List.{flat_map}
+use Rattle.cb_scan.specs.declared.profile.Profile.{Profile}
 use Rattle.cb_scan.specs.declared.facts.Def.{Def}
-use Rattle.cb_scan.specs.Definitions.{definitions}
+use Rattle.cb_scan.specs.Profiles.{facts_in}
 use Rattle.cb_desk.specs.declared.refusal.Refusal.{Refusal}
 use Rattle.cb_desk.specs.declared.refusal.Refusal.TheVariants.{NoSuchDefinition, StackEmpty}
 use Rattle.cb_desk.specs.Answer.{defines}
@@ -11,15 +12,15 @@ use Rattle.cb_desk.specs.World.{World, File, Place}
 
 -- ---- the place of a definition
 
--- the places of the definitions of a name in a file
-abbrev pub places_in : List ℕ → File → List Place
-places_in name f =
+-- the places of the definitions of a name in a file, all that the profile finds
+abbrev pub places_in : Profile → List ℕ → File → List Place
+places_in p name f =
     map (λ (d : Def). record { file = f.name; line = d.line })
-    (filter (defines f.bytes name) (definitions f.bytes))
+    (filter (defines f.bytes name) (facts_in p f.bytes).defs)
 
 -- those of all files, by file and place; equal ones all count
-abbrev pub places : List File → List ℕ → List Place
-places files name = flat_map (places_in name) files
+abbrev pub places : Profile → List File → List ℕ → List Place
+places p files name = flat_map (places_in p name) files
 
 -- ---- push
 

@@ -43,7 +43,7 @@ place_of w (want text) = None
 place_of w (mark n) = nth n (wanted_places w)
 place_of w mark_all = None
 place_of w (replace text) = None
-place_of w (tag name n) = nth n (places w.files name)
+place_of w (tag name n) = nth n (places w.profile w.files name)
 place_of w pop = None
 
 -- why a step is refused

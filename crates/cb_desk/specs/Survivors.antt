@@ -6,6 +6,7 @@ use Rattle.cb_desk.specs.declared.refusal.Refusal.{Refusal}
 use Rattle.cb_desk.specs.Step.{Step, step}
 use Rattle.cb_desk.specs.Timeline.{Timeline, new_timeline, changed, undone, redone, judged}
 use Rattle.cb_desk.specs.World.{World, WorldBounds, empty_world}
+use Rattle.cb_scan.specs.declared.profile.Profile.{Profile}
 
 -- a move that is asked for; a change says whether memory was refused to it
 pub data Move : Type 0 where
@@ -19,9 +20,9 @@ or_before w (Ok v) = v
 or_before w (Err r) = w
 
 -- the world after some changes, of which the last one comes first
-unfoldable pub replay : WorldBounds → List Step → World
-replay b [] = empty_world b
-replay b (s ∷ earlier) = or_before (replay b earlier) (step (replay b earlier) s)
+unfoldable pub replay : Profile → WorldBounds → List Step → World
+replay p b [] = empty_world p b
+replay p b (s ∷ earlier) = or_before (replay p b earlier) (step (replay p b earlier) s)
 
 -- the changes that are done, and those that are undone; each list has its nearest change first
 pub record Kept : Type 0 where
@@ -50,40 +51,40 @@ done_again k [] = k
 done_again k (s ∷ later) = record { done = s ∷ k.done; undone = later }
 
 -- the changes after a move; what memory refused does nothing
-abbrev pub kept_by : WorldBounds → Kept → Move → Kept
-kept_by b k (change true s) = k
-kept_by b k (change false s) = joined b k s (step (replay b k.done) s)
-kept_by b k undo = taken_back k k.done
-kept_by b k redo = done_again k k.undone
+abbrev pub kept_by : Profile → WorldBounds → Kept → Move → Kept
+kept_by p b k (change true s) = k
+kept_by p b k (change false s) = joined b k s (step (replay p b k.done) s)
+kept_by p b k undo = taken_back k k.done
+kept_by p b k redo = done_again k k.undone
 
 -- the changes after some moves, in their order
-unfoldable pub kept_after : WorldBounds → Kept → List Move → Kept
-kept_after b k [] = k
-kept_after b k (m ∷ ms) = kept_after b (kept_by b k m) ms
+unfoldable pub kept_after : Profile → WorldBounds → Kept → List Move → Kept
+kept_after p b k [] = k
+kept_after p b k (m ∷ ms) = kept_after p b (kept_by p b k m) ms
 
 -- the changes that survive some moves of a new timeline, the last one first
-abbrev pub survivors : WorldBounds → List Move → List Step
-survivors b ms = (kept_after b none_kept ms).done
+abbrev pub survivors : Profile → WorldBounds → List Move → List Step
+survivors p b ms = (kept_after p b none_kept ms).done
 
 -- ---- where they lead
 
 -- the worlds before that of some changes, the nearest first: their replays without the last,
 -- without the last two, and so on
-unfoldable pub worlds_before : WorldBounds → List Step → List World
-worlds_before b [] = []
-worlds_before b (s ∷ earlier) = replay b earlier ∷ worlds_before b earlier
+unfoldable pub worlds_before : Profile → WorldBounds → List Step → List World
+worlds_before p b [] = []
+worlds_before p b (s ∷ earlier) = replay p b earlier ∷ worlds_before p b earlier
 
 -- the worlds that changes which are done again lead to, the nearest first
-unfoldable pub worlds_after : WorldBounds → List Step → List Step → List World
-worlds_after b done [] = []
-worlds_after b done (s ∷ later) = replay b (s ∷ done) ∷ worlds_after b (s ∷ done) later
+unfoldable pub worlds_after : Profile → WorldBounds → List Step → List Step → List World
+worlds_after p b done [] = []
+worlds_after p b done (s ∷ later) = replay p b (s ∷ done) ∷ worlds_after p b (s ∷ done) later
 
 -- the timeline that the changes say
-abbrev pub timeline_of : WorldBounds → Kept → Timeline
-timeline_of b k = record {
-  past = worlds_before b k.done;
-  present = replay b k.done;
-  future = worlds_after b k.done k.undone;
+abbrev pub timeline_of : Profile → WorldBounds → Kept → Timeline
+timeline_of p b k = record {
+  past = worlds_before p b k.done;
+  present = replay p b k.done;
+  future = worlds_after p b k.done k.undone;
 }
 
 -- ---- the same on timelines
@@ -108,5 +109,5 @@ moved_after t (m ∷ ms) = moved_after (moved_by t m) ms
 -- replays of what comes before each of them, and the future that of what is undone
 abbrev pub TimelineIsReplayed : Type 0
 TimelineIsReplayed =
-    (b : WorldBounds) (ms : List Move)
-    → moved_after (new_timeline b) ms ≡ timeline_of b (kept_after b none_kept ms)
+    (p : Profile) (b : WorldBounds) (ms : List Move)
+    → moved_after (new_timeline p b) ms ≡ timeline_of p b (kept_after p b none_kept ms)

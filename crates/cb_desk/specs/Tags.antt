@@ -2,12 +2,13 @@
 use Rattle.std.specs.Prelude.{ℕ, List, [], ◌++◌, map}
 use Rattle.std.specs.List.{flat_map}
 use Rattle.std.specs.Option.{option_map}
+use Rattle.cb_scan.specs.declared.profile.Profile.{Profile}
 use Rattle.cb_scan.specs.declared.facts.Def.{Def}
 use Rattle.cb_scan.specs.declared.facts.Tag as facts
-use Rattle.cb_scan.specs.Definitions.{definitions}
 use Rattle.cb_scan.specs.lex.Tokens.{bytes_of}
 use Rattle.cb_scan.specs.Lines.{line_text}
 use Rattle.cb_scan.specs.Order.{in_order}
+use Rattle.cb_scan.specs.Profiles.{facts_in}
 use Rattle.cb_tags.specs.TagLines.{Tag, TagScope}
 use Rattle.cb_tags.specs.TagLines.{plain_line, extended_line, listing_line, head_lines}
 use Rattle.cb_tags.specs.TagNames.{tag_name}
@@ -32,9 +33,9 @@ tag_in f d = record {
   scope = option_map (scope_in f) d.tag;
 }
 
--- the tags of a file, by place
-abbrev pub file_tags : File → List Tag
-file_tags f = map (tag_in f) (definitions f.bytes)
+-- the tags of a file, by place: all definitions of the profile
+abbrev pub file_tags : Profile → File → List Tag
+file_tags p f = map (tag_in f) (facts_in p f.bytes).defs
 
 -- what tags are ordered by (POSIX ctags, tags(5)): the tag name in a plain file, the name in an
 -- extended one and in a listing
@@ -45,7 +46,7 @@ tag_key Extended t = t.name
 -- the tags of a world: every definition, in the order of the keys, and those of one key by file
 -- and place
 unfoldable pub tags : Format → World → List Tag
-tags format w = in_order (tag_key format) (flat_map file_tags w.files)
+tags format w = in_order (tag_key format) (flat_map (file_tags w.profile) w.files)
 
 -- the line of a tag in a format
 abbrev pub tag_line : Format → Tag → List ℕ

@@ -8,6 +8,7 @@ use Rattle.cb_desk.specs.declared.refusal.Refusal.TheVariants.{NothingToUndo, No
 use Rattle.cb_desk.specs.declared.refusal.Refusal.TheVariants.{HistoryFull, OutOfMemory}
 use Rattle.cb_desk.specs.World.{World, WorldBounds, empty_world, IsValidWorld}
 use Rattle.cb_desk.specs.Step.{Step, step}
+use Rattle.cb_scan.specs.declared.profile.Profile.{Profile}
 
 -- the past and the future, each with its nearest world first, and the present
 pub record Timeline : Type 0 where
@@ -15,15 +16,16 @@ pub record Timeline : Type 0 where
   pub present : World
   pub future : List World
 
--- within some bounds no file, no past and no future
-abbrev pub new_timeline : WorldBounds → Timeline
-new_timeline b = record { past = []; present = empty_world b; future = [] }
+-- by a profile and within some bounds no file, no past and no future
+abbrev pub new_timeline : Profile → WorldBounds → Timeline
+new_timeline p b = record { past = []; present = empty_world p b; future = [] }
 
--- a world is valid, and has the bounds of another one
+-- a world is valid, and has the profile and the bounds of another one
 abbrev pub IsValidBeside : World → World → Type 0
-IsValidBeside present w = IsValidWorld w × (w.bounds ≡ present.bounds)
+IsValidBeside present w =
+    IsValidWorld w × ((w.profile ≡ present.profile) × (w.bounds ≡ present.bounds))
 
--- every world is valid within the same bounds, and there are not too many
+-- every world is valid, of the same profile and within the same bounds, and there are not too many
 pub record IsValidTimeline (t : Timeline) : Type 0 where
   pub before : AllByRecursion (IsValidBeside t.present) t.past
   pub now : IsValidWorld t.present

@@ -1,4 +1,4 @@
--- The files of a session at one moment within their bounds, the text that is wanted with the lines
+-- The files of a session at one moment, by a profile and within bounds, the text that is wanted with the lines
 -- that are marked for a change, and the tag stack.
 use Rattle.std.specs.Prelude.{◌≡◌, ℕ, suc, ◌≤◌, ◌-◌, ◌^◌, ◌==◌, Bool, ◌&&◌, not, nat_le, List, []}
 use Rattle.std.specs.Prelude.{◌∷◌, ◌++◌, length, map, IsTrue, Option, None, Some, if◌then◌else◌}
@@ -7,6 +7,7 @@ use Rattle.std.specs.List.Sorted.{IsStrictlySortedBy}
 use Rattle.std.specs.Str.{bytes_eq}
 use Rattle.std.specs.Ordering.{nat_cmp}
 use Rattle.std.specs.Cmp.Lexicographic.{slice_cmp}
+use Rattle.cb_scan.specs.declared.profile.Profile.{Profile}
 use Rattle.cb_scan.specs.Bytes.{line_feed}
 use Rattle.cb_scan.specs.Lines.{IsLineOf, line_text}
 use Rattle.cb_index.specs.Files.{File as IndexFile}
@@ -43,9 +44,11 @@ pub record AreBounds (b : WorldBounds) : Type 0 where
 abbrev pub standard_bounds : WorldBounds
 standard_bounds = record { files = 4096; file_bytes = 1000000; history = 65536 }
 
--- its bounds; the files, ascending by the bytes of their names; the wanted text, and the marks,
--- ascending by file and line; the frames of the tag stack, bottom first
+-- the profile by which its files are scanned; its bounds; the files, ascending by the bytes of their
+-- names; the wanted text, and the marks, ascending by file and line; the frames of the tag stack,
+-- bottom first
 pub record World : Type 0 where
+  pub profile : Profile
   pub bounds : WorldBounds
   pub files : List File
   pub wanted : Option (List ℕ)
@@ -53,8 +56,9 @@ pub record World : Type 0 where
   pub frames : List Place
 
 -- the world without a file
-abbrev pub empty_world : WorldBounds → World
-empty_world b = record { bounds = b; files = []; wanted = None; marks = []; frames = [] }
+abbrev pub empty_world : Profile → WorldBounds → World
+empty_world p b =
+    record { profile = p; bounds = b; files = []; wanted = None; marks = []; frames = [] }
 
 -- a file has that name
 abbrev pub is_named : List ℕ → File → Bool

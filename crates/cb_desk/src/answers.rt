@@ -1,4 +1,5 @@
 //! The answers of a desk, row by row, from what a shelf shows. None of them takes memory or scans.
+mod defined;
 mod definitions;
 mod distinct;
 mod fact_rows;

@@ -25,6 +25,7 @@ use crate::record::Record;
 use crate::spot::NumberedPlace;
 use crate::{Bounds, Change, Refusal};
 use cb_index::IndexKind;
+use cb_scan::Profile;
 use std::alloc::{AllocError, Global};
 use std::marker::Model;
 
@@ -52,13 +53,13 @@ impl Model for History {
 
 impl History {
     /// The world without a file, with no past and no future. It takes no memory.
-    pub(crate) fn new(alloc: Global, bounds: Bounds) -> History
-        ensures timeline { timeline_in result ≡ new_timeline bounds }
+    pub(crate) fn new(alloc: Global, bounds: Bounds, profile: Profile) -> History
+        ensures timeline { timeline_in result ≡ new_timeline profile bounds }
         ensures turns { result.kept.turns ≡ 0 }
     {
         let _files = bounds.files();
         History {
-            present: Present::new(alloc, bounds),
+            present: Present::new(alloc, bounds, profile),
             records: Vec::new(alloc),
             done: 0,
         }

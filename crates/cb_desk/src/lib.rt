@@ -16,6 +16,7 @@ pub mod laws;
 mod limits;
 mod line;
 mod loading;
+mod new_versions;
 mod place_edits;
 mod place_list;
 mod places;

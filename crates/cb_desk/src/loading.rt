@@ -34,7 +34,7 @@ use crate::record::Record;
 use crate::scanned::scanned;
 use crate::{Bounds, Desk, Refusal};
 use cb_index::{Room, Shelf, Shown, Version, put_all_shown, totals_of};
-use cb_scan::Meter;
+use cb_scan::{Meter, Profile};
 use std::alloc::{AllocError, Global};
 use std::marker::Model;
 
@@ -81,6 +81,7 @@ fn make_room(
         (length shelf.new.archive.texts < shelf.new.archive.version_room) }
     ensures entry { OnOk result (length shown.new.items < vec_capacity shown.new) }
     ensures record_room { OnOk result (length records.new.items < vec_capacity records.new) }
+    ensures same_profile { shelf.new.archive.profile ≡ shelf.old.archive.profile }
     ensures same_names { shelf.new.archive.names ≡ shelf.old.archive.names }
     ensures same_texts { shelf.new.archive.texts ≡ shelf.old.archive.texts }
     ensures same_shown { shelf.new.shown ≡ shelf.old.shown }
@@ -110,6 +111,7 @@ fn show(shelf: &mut Shelf, shown: &[Shown]) -> Result<(), AllocError>
     requires there { AllByRecursion (IsThere shelf.old.archive) shown.now }
     requires ascending { AreAscending shelf.old.archive shown.now }
     ensures shown { OnOk result (shelf.new.shown ≡ shown.now) }
+    ensures profile { shelf.new.archive.profile ≡ shelf.old.archive.profile }
     ensures names { shelf.new.archive.names ≡ shelf.old.archive.names }
     ensures texts { shelf.new.archive.texts ≡ shelf.old.archive.texts }
     ensures room { OnOk result (HasRoomToShow shelf.new shown.now) }
@@ -139,16 +141,17 @@ fn show(shelf: &mut Shelf, shown: &[Shown]) -> Result<(), AllocError>
 }
 
 impl Loading {
-    /// Nothing is loaded yet, within these bounds. It takes no memory.
-    pub fn new(alloc: Global, bounds: Bounds) -> Loading
-        ensures timeline { result.timeline ≡ new_timeline bounds }
+    /// Nothing is loaded yet, within these bounds; files are scanned by the profile. It takes no
+    /// memory.
+    pub fn new(alloc: Global, bounds: Bounds, profile: Profile) -> Loading
+        ensures timeline { result.timeline ≡ new_timeline profile bounds }
         ensures meter { result.meter ≡ 0 }
         ensures turns { result.turns ≡ 0 }
     {
         let _files = bounds.files();
         Loading {
             bounds,
-            shelf: Shelf::new(alloc),
+            shelf: Shelf::new(alloc, profile),
             shown: Vec::new(alloc),
             records: Vec::new(alloc),
             meter: Meter::new(),
@@ -166,11 +169,13 @@ impl Loading {
     /// Adds a version under a name that no file has.
     fn add(&mut self, alloc: Global, name: Vec<u8>, version: Version) -> Result<(), AllocError>
         requires fresh { has_file self.old.timeline.present.files name.items ≡ false }
-        requires valid { IsValidWorld (loaded self.old.timeline.present name.items version) }
+        requires profile { version.profile ≡ self.old.timeline.present.profile }
+        requires valid { IsValidWorld
+            (loaded self.old.timeline.present name.items version.bytes) }
         requires few { length self.old.timeline.past
             < self.old.timeline.present.bounds.history }
         ensures timeline { MatchResult result (λ _. self.new.timeline ≡ moved_on self.old.timeline
-            (loaded self.old.timeline.present name.items version))
+            (loaded self.old.timeline.present name.items version.bytes))
             (λ _. self.new.timeline ≡ self.old.timeline) }
         ensures meter { self.new.meter ≡ self.old.meter }
         ensures turns { self.new.turns ≡ self.old.turns }
@@ -214,7 +219,7 @@ impl Loading {
             return Err(Refusal::HistoryFull);
         }
         let name = Vec::from_slice(alloc, name)?;
-        let version = scanned(alloc, &mut self.meter, bytes)?;
+        let version = scanned(alloc, &mut self.meter, self.shelf.archive().profile(), bytes)?;
         self.add(alloc, name, version)?;
         Ok(())
     }

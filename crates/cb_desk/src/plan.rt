@@ -1,13 +1,13 @@
 //! What a change brings and does, before anything moves.
+use crate::new_versions::NewVersions;
 use crate::record::Record;
-use cb_index::Version;
 use std::marker::Model;
 
 /// Names and versions that the archive is to keep, and the record that leads to the new world.
 #[derive(Drop)]
 pub(crate) struct Plan {
     pub(crate) names: Vec<Vec<u8>>,
-    pub(crate) versions: Vec<Version>,
+    pub(crate) versions: NewVersions,
     pub(crate) record: Record,
 }
 
@@ -18,8 +18,9 @@ impl Model for Plan {
     ghost Value = { Planned };
 
     ghost view = { λ p. record {
+      profile = p.versions.profile;
       names = map (λ n. n.items) p.names.items;
-      texts = p.versions.items;
+      texts = p.versions.texts;
       turn = p.record;
     } };
 }

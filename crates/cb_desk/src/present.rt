@@ -53,11 +53,13 @@ mod replaced;
 mod replacement;
 
 use crate::Bounds;
+use crate::new_versions::NewVersions;
 use crate::place_edits::PlaceEdits;
 use crate::place_list::PlaceList;
 use crate::plan::Plan;
 use crate::record::Record;
-use cb_index::{IndexKind, Room, Shelf, Shown, Version};
+use cb_index::{IndexKind, Room, Shelf, Shown};
+use cb_scan::Profile;
 use counts::with_versions;
 use std::alloc::{AllocError, Global};
 use std::marker::Model;
@@ -155,6 +157,7 @@ fn keep_names(shelf: &mut Shelf, names: Vec<Vec<u8>>)
     requires { length shelf.old.archive.names + length names.items ≤ shelf.old.archive.name_room }
     ensures names { shelf.new.archive.names
         ≡ shelf.old.archive.names ++ map (λ n. n.items) names.items }
+    ensures profile { shelf.new.archive.profile ≡ shelf.old.archive.profile }
     ensures texts { shelf.new.archive.texts ≡ shelf.old.archive.texts }
     ensures shown { shelf.new.shown ≡ shelf.old.shown }
     ensures turns { shelf.new.turns ≡ shelf.old.turns }
@@ -162,21 +165,6 @@ fn keep_names(shelf: &mut Shelf, names: Vec<Vec<u8>>)
 {
     for name in names {
         let _ = shelf.push_name(name);
-    }
-}
-
-/// Keeps versions, in the room that is there.
-fn keep_versions(shelf: &mut Shelf, versions: Vec<Version>)
-    requires { length shelf.old.archive.texts + length versions.items
-        ≤ shelf.old.archive.version_room }
-    ensures texts { shelf.new.archive.texts ≡ shelf.old.archive.texts ++ versions.items }
-    ensures names { shelf.new.archive.names ≡ shelf.old.archive.names }
-    ensures shown { shelf.new.shown ≡ shelf.old.shown }
-    ensures turns { shelf.new.turns ≡ shelf.old.turns }
-    ensures room { KeepsRoom shelf.old shelf.new }
-{
-    for version in versions {
-        let _ = shelf.push_version(version);
     }
 }
 
@@ -190,7 +178,8 @@ fn sum(number: u32, count: usize) -> Option<u32>
 
 impl Present {
     /// The world without a file. It takes no memory.
-    pub(crate) fn new(alloc: Global, bounds: Bounds) -> Present
+    pub(crate) fn new(alloc: Global, bounds: Bounds, profile: Profile) -> Present
+        ensures profile { result.archive.profile ≡ profile }
         ensures now { result.now ≡ no_numbers bounds }
         ensures names { result.archive.names ≡ [] }
         ensures texts { result.archive.texts ≡ [] }
@@ -198,7 +187,7 @@ impl Present {
     {
         Present {
             bounds,
-            shelf: Shelf::new(alloc),
+            shelf: Shelf::new(alloc, profile),
             wanted: None,
             marks: PlaceList::new(alloc),
             frames: PlaceList::new(alloc),
@@ -227,6 +216,13 @@ impl Present {
             names: count,
             versions: count,
         }
+    }
+
+    /// The profile by which its files are scanned.
+    pub(crate) fn profile(&self) -> Profile
+        ensures { result ≡ self.now.archive.profile }
+    {
+        self.shelf.archive().profile()
     }
 
     /// Its bounds.
@@ -268,14 +264,15 @@ impl Present {
     /// The room for what a plan brings, for all that is shown and for all that it shows, if its
     /// numbers are.
     fn room_for(&self, plan: &Plan) -> Option<Room>
-        requires { AreThere self.now.archive self.now.now }
+        requires there { AreThere self.now.archive self.now.now }
+        requires profile { plan.now.profile ≡ self.now.archive.profile }
         ensures { MatchOption result (IsCountable self.now plan.now → ⊥)
             (IsRoomFor self.now plan.now) }
     {
         let archive = self.shelf.archive();
         let shown = self.shelf.shown();
         let shows = plan.record.shows.as_slice();
-        let news = plan.versions.as_slice();
+        let news = &plan.versions;
         let now = self.shelf.totals();
         let all = with_versions(archive, self.versions, news, shows, now)?;
         Some(Room {
@@ -290,13 +287,15 @@ impl Present {
 
     /// Makes room for the world that a plan leads to, and for what it brings.
     pub(crate) fn reserve_for(&mut self, plan: &Plan) -> Result<(), AllocError>
-        requires { AreThere self.old.archive self.old.now }
+        requires there { AreThere self.old.archive self.old.now }
+        requires profile { plan.now.profile ≡ self.old.archive.profile }
         ensures names { OnOk result
             (self.old.now.names + length plan.now.names ≤ self.new.archive.name_room) }
         ensures versions { OnOk result
             (self.old.now.versions + length plan.now.texts ≤ self.new.archive.version_room) }
         ensures fits { OnOk result
             (HasRoomFor self.new.rooms self.old.archive self.old.now plan.now) }
+        ensures same_profile { self.new.archive.profile ≡ self.old.archive.profile }
         ensures same_names { self.new.archive.names ≡ self.old.archive.names }
         ensures same_texts { self.new.archive.texts ≡ self.old.archive.texts }
         ensures now { self.new.now ≡ self.old.now }
@@ -314,21 +313,23 @@ impl Present {
 
     /// Drops from the archive what only later worlds use, and keeps new names and versions, in the
     /// room that is there.
-    pub(crate) fn keep(&mut self, names: Vec<Vec<u8>>, versions: Vec<Version>)
+    pub(crate) fn keep(&mut self, names: Vec<Vec<u8>>, versions: NewVersions)
+        requires profile { versions.profile ≡ self.old.archive.profile }
         requires there { AreThere self.old.archive self.old.now }
         requires names { self.old.now.names + length names.items ≤ self.old.archive.name_room }
-        requires versions { self.old.now.versions + length versions.items
+        requires versions { self.old.now.versions + length versions.texts
             ≤ self.old.archive.version_room }
+        ensures profile { self.new.archive.profile ≡ self.old.archive.profile }
         ensures names { self.new.archive.names
             ≡ take self.old.now.names self.old.archive.names ++ map (λ n. n.items) names.items }
         ensures texts { self.new.archive.texts
-            ≡ take self.old.now.versions self.old.archive.texts ++ versions.items }
+            ≡ take self.old.now.versions self.old.archive.texts ++ versions.texts }
         ensures now { self.new.now ≡ self.old.now }
         ensures turns { self.new.turns ≡ self.old.turns }
         ensures rooms { KeepsRooms self.old.rooms self.new.rooms }
     {
         self.shelf.truncate(self.versions, self.names);
         keep_names(&mut self.shelf, names);
-        keep_versions(&mut self.shelf, versions);
+        versions.keep_in(&mut self.shelf);
     }
 }

@@ -7,38 +7,42 @@ use cb_index::{Links, Version};
 use cb_scan::{Meter, Profile, Source, scan};
 use std::alloc::{AllocError, Global};
 
-/// The version of a source, which is scanned.
+/// The version of a source, which is scanned by a profile.
 pub(crate) fn scanned_source(
     alloc: Global,
     meter: &mut Meter,
+    profile: Profile,
     source: Source,
 ) -> Result<Version, AllocError>
-    ensures value { IfOk result (λ version. version ≡ source) }
+    ensures profile { IfOk result (λ version. version.profile ≡ profile) }
+    ensures value { IfOk result (λ version. version.bytes ≡ source) }
     ensures meter { CountsUpTo (length source) meter.old meter.new result }
 {
     let _counted = meter.read();
-    let Ok(facts) = scan(alloc, meter, Profile::Standard, &source) else {
+    let Ok(facts) = scan(alloc, meter, profile, &source) else {
         return Err(AllocError);
     };
     let Ok(links) = Links::new(alloc, &facts) else {
         return Err(AllocError);
     };
-    Ok(Version::new(source, facts, links))
+    Ok(Version::new(profile, source, facts, links))
 }
 
-/// The version of a text, which is scanned.
+/// The version of a text, which is scanned by a profile.
 pub(crate) fn scanned(
     alloc: Global,
     meter: &mut Meter,
+    profile: Profile,
     text: Vec<u8>,
 ) -> Result<Version, AllocError>
     requires { length text.items ≤ MOST_BYTES }
-    ensures value { IfOk result (λ version. version ≡ text.items) }
+    ensures profile { IfOk result (λ version. version.profile ≡ profile) }
+    ensures value { IfOk result (λ version. version.bytes ≡ text.items) }
     ensures meter { CountsUpTo (length text.items) meter.old meter.new result }
 {
     let _counted = meter.read();
     let Ok(source) = Source::new(alloc, text) else {
         return Err(AllocError);
     };
-    scanned_source(alloc, meter, source)
+    scanned_source(alloc, meter, profile, source)
 }

@@ -1,7 +1,7 @@
 //! The state of a session.
 ghost use Rattle.std.specs.Prelude.{◌≡◌, ◌≢◌, [], IfErr, IfOk, length};
 ghost use Rattle.std.specs.Option.{option_copied};
-ghost use Rattle.cb_scan.specs.Definitions.{facts_of};
+ghost use Rattle.cb_scan.specs.Profiles.{facts_in};
 ghost use Rattle.cb_desk.specs.Answer.{answer};
 ghost use Rattle.cb_desk.specs.Desk.{
   Counts,
@@ -57,39 +57,50 @@ impl Model for Desk {
 }
 
 /// Scans a file, and drops what is found: how many definitions that is.
-fn scan_file(alloc: Global, meter: &mut Meter, source: &Source) -> Result<u64, AllocError>
+fn scan_file(
+    alloc: Global,
+    meter: &mut Meter,
+    profile: Profile,
+    source: &Source,
+) -> Result<u64, AllocError>
     ensures counted { meter.new ≡ counted meter.old (length source.now) }
-    ensures found { IfOk result (λ found. found ≡ length (facts_of source.now).defs) }
+    ensures found { IfOk result (λ found. found ≡ length (facts_in profile source.now).defs) }
 {
-    match scan(alloc, meter, Profile::Standard, source) {
+    match scan(alloc, meter, profile, source) {
         Ok(facts) => Ok(facts.defs().len() as u64),
         Err(_) => Err(AllocError),
     }
 }
 
 /// Scans files, and drops what is found: how many definitions that is, up to the greatest number.
-fn scan_files(alloc: Global, meter: &mut Meter, files: Files<'_>) -> Result<u64, AllocError>
+fn scan_files(
+    alloc: Global,
+    meter: &mut Meter,
+    profile: Profile,
+    files: Files<'_>,
+) -> Result<u64, AllocError>
     ensures meter { CountsUpTo (bytes_in files.entry) meter.old meter.new result }
-    ensures found { IfOk result (λ found. found ≡ counted 0 (definitions_in files.entry)) }
+    ensures found { IfOk result (λ found. found ≡ counted 0 (definitions_in profile files.entry)) }
 {
     let _counted = meter.read();
     let mut found = 0u64;
     for (_, source) in files {
-        let more = scan_file(alloc, meter, source)?;
+        let more = scan_file(alloc, meter, profile, source)?;
         found = found.saturating_add(more);
     }
     Ok(found)
 }
 
 impl Desk {
-    /// The empty world within these bounds, with no past and no future. It takes no memory.
-    pub fn new(alloc: Global, bounds: Bounds) -> Desk
-        ensures timeline { result.timeline ≡ new_timeline bounds }
+    /// The empty world within these bounds, with no past and no future. All its files are scanned
+    /// by the profile. It takes no memory.
+    pub fn new(alloc: Global, bounds: Bounds, profile: Profile) -> Desk
+        ensures timeline { result.timeline ≡ new_timeline profile bounds }
         ensures meter { result.meter ≡ 0 }
         ensures turns { result.turns ≡ 0 }
     {
         Desk {
-            history: History::new(alloc, bounds),
+            history: History::new(alloc, bounds, profile),
             meter: Meter::new(),
         }
     }
@@ -160,7 +171,7 @@ impl Desk {
         ensures memory { IfErr result (λ r. r ≡ Refusal.OutOfMemory) }
     {
         let files = self.history.present().files();
-        scan_files(alloc, &mut self.meter, files)?;
+        scan_files(alloc, &mut self.meter, self.profile(), files)?;
         Ok(())
     }
 
@@ -176,6 +187,13 @@ impl Desk {
         ensures { result ≡ self.now.turns }
     {
         self.history.present().turns()
+    }
+
+    /// The profile by which all its files are scanned.
+    pub fn profile(&self) -> Profile
+        ensures { result ≡ self.now.timeline.present.profile }
+    {
+        self.history.present().profile()
     }
 
     /// The bounds of all its worlds.

@@ -4,18 +4,18 @@ use Rattle.std.specs.Prelude.{◌&&◌, nat_eq, slice_get, Option}
 use Rattle.std.specs.Str.{bytes_eq}
 use Rattle.cb_scan.specs.declared.facts.Call.{Call}
 use Rattle.cb_scan.specs.declared.facts.Use.{Use}
-use Rattle.cb_scan.specs.Definitions.{facts_of}
+use Rattle.cb_index.specs.Scanned.{Scanned, facts_of}
 use Rattle.cb_index.specs.Counts.{column, function_of, same_row}
 use Rattle.cb_index.specs.steps.Found.{fact_at, fact_of_call, fact_of_use}
 use Rattle.cb_index.specs.declared.kind.FactKind.{FactKind}
 use Rattle.cb_index.specs.declared.kind.FactKind.TheVariants.{Uses, Callees, Callers}
 
-module _ (file other text : List ℕ) where
-  use_line : (u : Option Use) → (fact_of_use file text u).line ≡ (fact_of_use other text u).line
+module _ (file other : List ℕ) (text : Scanned) where
+  use_line : (u : Option Use) → (fact_of_use file text.bytes u).line ≡ (fact_of_use other text.bytes u).line
   use_line None = refl
   use_line (Some u) = refl
 
-  call_line : (c : Option Call) → (fact_of_call file text c).line ≡ (fact_of_call other text c).line
+  call_line : (c : Option Call) → (fact_of_call file text.bytes c).line ≡ (fact_of_call other text.bytes c).line
   call_line None = refl
   call_line (Some c) = refl
 
@@ -26,17 +26,17 @@ module _ (file other text : List ℕ) where
   line_is Callers item = call_line (slice_get (facts_of text).calls item)
 
   use_function : (u : Option Use)
-      → column (fact_of_use file text u).scope ≡ column (fact_of_use other text u).scope
+      → column (fact_of_use file text.bytes u).scope ≡ column (fact_of_use other text.bytes u).scope
   use_function None = refl
   use_function (Some u) = refl
 
   callee_function : (c : Option Call)
-      → column (fact_of_call file text c).scope ≡ column (fact_of_call other text c).scope
+      → column (fact_of_call file text.bytes c).scope ≡ column (fact_of_call other text.bytes c).scope
   callee_function None = refl
   callee_function (Some c) = refl
 
   caller_function : (c : Option Call)
-      → (fact_of_call file text c).name ≡ (fact_of_call other text c).name
+      → (fact_of_call file text.bytes c).name ≡ (fact_of_call other text.bytes c).name
   caller_function None = refl
   caller_function (Some c) = refl
 

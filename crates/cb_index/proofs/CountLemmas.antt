@@ -5,12 +5,12 @@ use Rattle.std.proofs.lemmas.List.{length-map}
 use Rattle.std.proofs.lemmas.List.Elements.{filter-append}
 use Rattle.std.proofs.lemmas.List.Concat.{flat_map-append}
 use Rattle.std.proofs.lemmas.List.Sums.{sum_by-append, sum_by-cons}
-use Rattle.std.proofs.lemmas.Option.{slice_get-get_or}
 use Rattle.std.specs.Prelude.{cond, nat_eq, slice_get, sum_by, ◌&&◌}
 use Rattle.std.specs.List.{AllByRecursion}
 use Rattle.std.specs.Str.{bytes_eq}
 use Rattle.cb_scan.specs.Keys.{key_prefix}
-use Rattle.cb_index.specs.Archived.{Archived, name_of}
+use Rattle.cb_index.specs.Scanned.{Scanned}
+use Rattle.cb_index.specs.Archived.{Archived, name_of, text_at, text_of}
 use Rattle.cb_index.specs.Counts.{row_count, rows_in_files, same_row, unlike, unlike_in_files}
 use Rattle.cb_index.specs.Entries.{Keyer, has_key}
 use Rattle.cb_index.specs.Files.{AreAscending, File, IsThere, files_of}
@@ -32,6 +32,7 @@ use Rattle.cb_index.proofs.FirstLemmas.{at_most_one, prefix_and_key}
 use Rattle.cb_index.proofs.NewRowLemmas.{rows_new}
 use Rattle.cb_index.proofs.RiseLemmas.{firsts_rise}
 use Rattle.cb_index.proofs.RowLemmas.{kept_key}
+use Rattle.cb_index.proofs.TextLemmas.{text_there}
 
 -- ---- the rows of elements, by what tells them apart
 filter_map : {X Y : Type 0} (p : Y → Bool) (f : X → Y) (xs : List X)
@@ -72,7 +73,7 @@ module _ {X : Type 0} where
         ∙ length-map (apart (λ x y. same_row sort (g x) (g y)) xs) g)
 
 -- ---- the file name plays no part
-module _ (file other text : List ℕ) where
+module _ (file other : List ℕ) (text : Scanned) where
   pub in_any_file : (sort : FactKind) (items : List ℕ)
       → length (unlike sort (map (fact_at sort file text) items))
       ≡ length (unlike sort (map (fact_at sort other text) items))
@@ -81,8 +82,8 @@ module _ (file other text : List ℕ) where
       (same_anywhere file other text sort)
 
 -- ---- one version
-module _ (sort : FactKind) (a : Archived) (s : Shown) (text : List ℕ)
-    (there : slice_get a.texts s.version ≡ Some text)
+module _ (sort : FactKind) (a : Archived) (s : Shown) (text : Scanned)
+    (there : text_at a s.version ≡ Some text)
     (key : List ℕ) where
   abbrev keyer : Keyer
   keyer = item_keyer sort
@@ -151,11 +152,12 @@ module _ (sort : FactKind) (a : Archived) (key : List ℕ) where
   has_it = has_key (item_keyer sort) a (key_prefix key) key
 
   abbrev rows : File → List Fact
-  rows = file_facts sort key
+  rows = file_facts a.profile sort key
 
-  known : (s : Shown) (text : List ℕ) → slice_get a.texts s.version ≡ Some text
+  known : (s : Shown) (text : Scanned) → text_at a s.version ≡ Some text
       → sum_by (λ (e : Entry). e.rows) (filter has_it (entries_of (firsts_in sort) a s))
-      ≡ length (unlike sort (rows (record { name = name_of a s.name; bytes = text })))
+      ≡ length (unlike sort (file_facts text.profile sort key
+      (record { name = name_of a s.name; bytes = text.bytes })))
   known s text there =
       let same : entries_of (firsts_in sort) a s ≡ map (entry_of s) (firsts sort text) =
       ap (λ o. map (entry_of s) (firsts_in sort o)) there in
@@ -169,9 +171,9 @@ module _ (sort : FactKind) (a : Archived) (key : List ℕ) where
       ≡ rows_in_files sort rows (files_of a shown)
   all_counted [] all = refl
   all_counted (s ∷ shown) all =
-      let text = get_or a.texts s.version [] in
-      let file : File = record { name = name_of a s.name; bytes = text } in
-      let here = known s text (slice_get-get_or a.texts s.version [] all.0.1) in
+      let text = text_of a s.version in
+      let file : File = record { name = name_of a s.name; bytes = text.bytes } in
+      let here = known s text (text_there a s.version all.0.1) in
       ap (sum_by (λ (e : Entry). e.rows)) (filter-append has_it (entries_of (firsts_in sort) a s)
       (all_entries (firsts_in sort) a shown))
       ∙ sum_by-append (λ (e : Entry). e.rows) (filter has_it (entries_of (firsts_in sort) a s))
@@ -184,16 +186,17 @@ module _ (sort : FactKind) (a : Archived) (key : List ℕ) where
       → IsIndexOf (item_keyer sort) (firsts_in sort) a shown es
       → sum_by (λ (e : Entry). e.rows)
       (filter (has_key (item_keyer sort) a (key_prefix key) key) es)
-      ≡ rows_in_files sort (file_facts sort key) (files_of a shown)
+      ≡ rows_in_files sort (file_facts a.profile sort key) (files_of a shown)
   facts_counted shown all up es is =
       ap (sum_by (λ (e : Entry). e.rows)) (kept_key (item_keyer sort) a (firsts_in sort)
       (firsts_rise sort) shown up (key_prefix key) key es is)
       ∙ all_counted shown all
 
   -- ---- those that are no repeats
-  known_new : (s : Shown) (text : List ℕ) → slice_get a.texts s.version ≡ Some text
+  known_new : (s : Shown) (text : Scanned) → text_at a s.version ≡ Some text
       → given_in false sort a (filter has_it (entries_of (firsts_in sort) a s))
-      ≡ unlike sort (rows (record { name = name_of a s.name; bytes = text }))
+      ≡ unlike sort (file_facts text.profile sort key
+      (record { name = name_of a s.name; bytes = text.bytes }))
   known_new s text there =
       let same : entries_of (firsts_in sort) a s ≡ map (entry_of s) (firsts sort text) =
       ap (λ o. map (entry_of s) (firsts_in sort o)) there in
@@ -207,8 +210,8 @@ module _ (sort : FactKind) (a : Archived) (key : List ℕ) where
       ≡ unlike_in_files sort rows (files_of a shown)
   all_new [] all = refl
   all_new (s ∷ shown) all =
-      let text = get_or a.texts s.version [] in
-      let here = known_new s text (slice_get-get_or a.texts s.version [] all.0.1) in
+      let text = text_of a s.version in
+      let here = known_new s text (text_there a s.version all.0.1) in
       ap (given_in false sort a) (filter-append has_it (entries_of (firsts_in sort) a s)
       (all_entries (firsts_in sort) a shown))
       ∙ flat_map-append (given_at false sort a) (filter has_it (entries_of (firsts_in sort) a s))
@@ -219,7 +222,7 @@ module _ (sort : FactKind) (a : Archived) (key : List ℕ) where
       → (es : List Entry)
       → IsIndexOf (item_keyer sort) (firsts_in sort) a shown es
       → given_in false sort a (filter (has_key (item_keyer sort) a (key_prefix key) key) es)
-      ≡ unlike_in_files sort (file_facts sort key) (files_of a shown)
+      ≡ unlike_in_files sort (file_facts a.profile sort key) (files_of a shown)
   facts_new shown all up es is =
       ap (given_in false sort a) (kept_key (item_keyer sort) a (firsts_in sort)
       (firsts_rise sort) shown up (key_prefix key) key es is)

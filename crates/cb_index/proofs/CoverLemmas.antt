@@ -16,6 +16,7 @@ use Rattle.cb_scan.specs.Order.{AreOrdered, goes_first, in_order, put}
 use Rattle.cb_scan.proofs.FactsWithin.{all_in_order}
 use Rattle.cb_scan.proofs.FunctionsRise.{all_implied}
 use Rattle.cb_scan.proofs.OrderLemmas.{in_order_sum}
+use Rattle.cb_index.specs.Scanned.{Scanned}
 use Rattle.cb_index.specs.Archived.{Archived, name_of}
 use Rattle.cb_index.specs.Entries.{Keyer, sort_key}
 use Rattle.cb_index.specs.Files.{AreApart, AreAscending, is_shown, shown_key, shown_name}
@@ -485,8 +486,8 @@ module _ (keyer : Keyer) (lister : Lister) (a : Archived) where
       omega (arith, all, both)
 
   -- what is held and what waits have no more entries than there are facts
-  pub covers_fits : (count : Option (List ℕ) → ℕ)
-      → ((t : Option (List ℕ)) → length (lister t) ≤ count t)
+  pub covers_fits : (count : Option Scanned → ℕ)
+      → ((t : Option Scanned) → length (lister t) ≤ count t)
       → (shown : List Shown) (x : Indexed) (n room : ℕ) → n ≡ total count a shown → n ≤ room
       → Covers keyer lister a shown x
       → length x.held + length (all_entries lister a x.pending) ≤ room

@@ -11,11 +11,11 @@ use Rattle.std.specs.Prelude.{cond, not, ◌&&◌, Option}
 use Rattle.std.specs.List.{AllByRecursion}
 use Rattle.std.specs.Option.{option_copied}
 use Rattle.std.specs.Ordering.{is_lt}
-use Rattle.cb_scan.specs.Definitions.{facts_of}
 use Rattle.cb_scan.specs.Order.{AreOrdered, goes_first, in_order, put}
 use Rattle.cb_scan.proofs.FactsWithin.{all_in_order, all_put}
 use Rattle.cb_scan.proofs.OrderLemmas.{Sorted, both_first, first_trans, goes_itself}
 use Rattle.cb_scan.proofs.OrderLemmas.{in_order_sorted, other_first}
+use Rattle.cb_index.specs.Scanned.{Scanned, facts_of}
 use Rattle.cb_index.specs.Archived.{Archived}
 use Rattle.cb_index.specs.Entries.{file_key, sort_key}
 use Rattle.cb_index.specs.Files.{AreAscending}
@@ -159,7 +159,7 @@ module _ (a : Archived) where
       true≢false (sym (ap is_lt (subst (ComesFirst a e) (sym is) first))
       ∙ ap is_lt (tied_itself nat_list_cmp_total (file_key a e)))
 
-rising_defs : (by : Bool) (t : Option (List ℕ)) → AreRising (lister_of (def_kind by) t)
+rising_defs : (by : Bool) (t : Option Scanned) → AreRising (lister_of (def_kind by) t)
 rising_defs false t = defs_rise t
 rising_defs true t = tags_rise t
 
@@ -315,8 +315,8 @@ asked_first kind a key es =
     (is_asked kind a key) es)
 
 -- the entries of a version that is there
-pub listed_defs : (by : Bool) (text : List ℕ)
-    → numbered 0 (map (prefixed by text) (facts_of text).defs) ≡ lister_of (def_kind by) (Some text)
+pub listed_defs : (by : Bool) (text : Scanned)
+    → numbered 0 (map (prefixed by text.bytes) (facts_of text).defs) ≡ lister_of (def_kind by) (Some text)
 listed_defs false text = refl
 listed_defs true text = refl
 

@@ -4,19 +4,20 @@ use Rattle.std.proofs.Common.{◌∷◌, ◌++◌, Some, None, refl, ap, length,
 use Rattle.std.proofs.Common.{get_or, arith}
 use Rattle.std.proofs.lemmas.List.Concat.{flat_map-append}
 use Rattle.std.proofs.lemmas.List.Elements.{filter-append}
-use Rattle.std.proofs.lemmas.Option.{slice_get-get_or}
 use Rattle.std.specs.Prelude.{cond, nat_eq, slice_get, Option, ◌&&◌}
 use Rattle.std.specs.List.{AllByRecursion, flat_map, range_with_len}
 use Rattle.std.specs.Option.{option_map}
 use Rattle.std.specs.Str.{bytes_eq}
 use Rattle.cb_scan.specs.declared.facts.Call.{Call}
 use Rattle.cb_scan.specs.declared.facts.Use.{Use}
+use Rattle.cb_scan.specs.declared.profile.Profile.{Profile}
 use Rattle.cb_scan.specs.declared.lex.piece.Span.{Span}
-use Rattle.cb_scan.specs.Definitions.{IsScopeWithin, IsWithin, facts_of}
+use Rattle.cb_scan.specs.Definitions.{IsScopeWithin, IsWithin}
 use Rattle.cb_scan.specs.Keys.{key_prefix}
 use Rattle.cb_scan.specs.lex.Tokens.{bytes_of}
-use Rattle.cb_scan.proofs.FactsWithin.{facts_lie}
-use Rattle.cb_index.specs.Archived.{Archived, name_of}
+use Rattle.cb_index.proofs.Shim.{facts_lie}
+use Rattle.cb_index.specs.Scanned.{Scanned, facts_of}
+use Rattle.cb_index.specs.Archived.{Archived, name_of, text_at, text_of}
 use Rattle.cb_index.specs.Bytes.{bytes_at, cut}
 use Rattle.cb_index.specs.Entries.{has_key}
 use Rattle.cb_index.specs.Files.{AreAscending, File, IsThere, files_of}
@@ -41,6 +42,7 @@ use Rattle.cb_index.proofs.RangeItems.{range_next}
 use Rattle.cb_index.proofs.RestLemmas.{at_front, drop_next}
 use Rattle.cb_index.proofs.RiseLemmas.{firsts_rise}
 use Rattle.cb_index.proofs.RowLemmas.{cut_is, kept_key}
+use Rattle.cb_index.proofs.TextLemmas.{text_there}
 
 -- ---- the facts of numbers
 module _ {X : Type 0} (fact : ℕ → Fact) (row : X → Fact) (key_of_x : X → List ℕ)
@@ -74,8 +76,8 @@ module _ {X : Type 0} (fact : ℕ → Fact) (row : X → Fact) (key_of_x : X →
       (numbers_rows has (suc n) xs rows.1 tests.1)
 
 -- ---- one version
-module _ {X : Type 0} (sort : FactKind) (a : Archived) (s : Shown) (text : List ℕ)
-    (there : slice_get a.texts s.version ≡ Some text) (row : X → Fact)
+module _ {X : Type 0} (sort : FactKind) (a : Archived) (s : Shown) (text : Scanned)
+    (there : text_at a s.version ≡ Some text) (row : X → Fact)
     (key_of_x : X → List ℕ) (key : List ℕ) (xs : List X)
     (count_is : item_count sort text ≡ length xs)
     (rows : Rows (fact_at sort (name_of a s.name) text) row key_of_x key 0 xs)
@@ -94,45 +96,45 @@ pub scope_is : (text : List ℕ) (scope : Option Span) → IsScopeWithin text sc
 scope_is text None within = refl
 scope_is text (Some span) within = ap (λ b. Some b) (cut_is text span within)
 
-module _ (a : Archived) (s : Shown) (text : List ℕ)
-    (there : slice_get a.texts s.version ≡ Some text) (key : List ℕ) where
+module _ (a : Archived) (s : Shown) (text : Scanned)
+    (there : text_at a s.version ≡ Some text) (key : List ℕ) where
   abbrev file : File
-  file = record { name = name_of a s.name; bytes = text }
+  file = record { name = name_of a s.name; bytes = text.bytes }
 
   use_tests : (n : ℕ) (us : List Use) → drop n (facts_of text).uses ≡ us
-      → AllByRecursion (λ (u : Use). IsWithin text u.name × IsScopeWithin text u.scope) us
+      → AllByRecursion (λ (u : Use). IsWithin text.bytes u.name × IsScopeWithin text.bytes u.scope) us
       → Tests (fact_at Uses (name_of a s.name) text) (use_in file)
-      (λ (u : Use). bytes_of text u.name) key (has Uses text key) n us
+      (λ (u : Use). bytes_of text.bytes u.name) key (has Uses text key) n us
   use_tests n [] is within = tt
   use_tests n (u ∷ us) is within = (
-    ap (bytes_eq key) (ap (λ o. bytes_at text (option_map (λ (x : Use). x.name) o))
+    ap (bytes_eq key) (ap (λ o. bytes_at text.bytes (option_map (λ (x : Use). x.name) o))
         (at_front n (facts_of text).uses ∙ ap (λ l. slice_get l 0) is)
-        ∙ cut_is text u.name within.0.0),
+        ∙ cut_is text.bytes u.name within.0.0),
     use_tests (suc n) us (drop_next n (facts_of text).uses ∙ ap (drop 1) is) within.1,
   )
 
   use_rows : (n : ℕ) (us : List Use) → drop n (facts_of text).uses ≡ us
-      → AllByRecursion (λ (u : Use). IsWithin text u.name × IsScopeWithin text u.scope) us
+      → AllByRecursion (λ (u : Use). IsWithin text.bytes u.name × IsScopeWithin text.bytes u.scope) us
       → Rows (fact_at Uses (name_of a s.name) text) (use_in file)
-      (λ (u : Use). bytes_of text u.name) key n us
+      (λ (u : Use). bytes_of text.bytes u.name) key n us
   use_rows n [] is within = tt
   use_rows n (u ∷ us) is within = (
-    ap (fact_of_use (name_of a s.name) text)
+    ap (fact_of_use (name_of a s.name) text.bytes)
         (at_front n (facts_of text).uses ∙ ap (λ l. slice_get l 0) is)
         ∙ (λ i. record (use_in file u) {
-          name = cut_is text u.name within.0.0 i;
-          scope = scope_is text u.scope within.0.1 i;
+          name = cut_is text.bytes u.name within.0.0 i;
+          scope = scope_is text.bytes u.scope within.0.1 i;
         }),
     use_rows (suc n) us (drop_next n (facts_of text).uses ∙ ap (drop 1) is) within.1,
   )
 
   uses_searched : map (fact_at Uses (name_of a s.name) text) (items_with Uses text key)
-      ≡ file_uses_of key file
+      ≡ file_uses_of text.profile key file
   uses_searched =
-      version_searched Uses a s text there (use_in file) (λ (u : Use). bytes_of text u.name) key
+      version_searched Uses a s text there (use_in file) (λ (u : Use). bytes_of text.bytes u.name) key
       (facts_of text).uses refl
-      (use_rows 0 (facts_of text).uses refl (facts_lie text).uses)
-      (use_tests 0 (facts_of text).uses refl (facts_lie text).uses)
+      (use_rows 0 (facts_of text).uses refl (facts_lie text.profile text.bytes).uses)
+      (use_tests 0 (facts_of text).uses refl (facts_lie text.profile text.bytes).uses)
 
   -- ---- calls
   module _ (n : ℕ) (c : Call) (cs : List Call) (is : drop n (facts_of text).calls ≡ c ∷ cs) where
@@ -142,81 +144,81 @@ module _ (a : Archived) (s : Shown) (text : List ℕ)
     next_call : drop (suc n) (facts_of text).calls ≡ cs
     next_call = drop_next n (facts_of text).calls ∙ ap (drop 1) is
 
-    call_is : IsWithin text c.callee × IsWithin text c.caller
-        → fact_of_call (name_of a s.name) text (slice_get (facts_of text).calls n) ≡ call_in file c
+    call_is : IsWithin text.bytes c.callee × IsWithin text.bytes c.caller
+        → fact_of_call (name_of a s.name) text.bytes (slice_get (facts_of text).calls n) ≡ call_in file c
     call_is within =
-        ap (fact_of_call (name_of a s.name) text) found_call
+        ap (fact_of_call (name_of a s.name) text.bytes) found_call
         ∙ (λ i. record (call_in file c) {
-          name = cut_is text c.callee within.0 i;
-          scope = Some (cut_is text c.caller within.1 i);
+          name = cut_is text.bytes c.callee within.0 i;
+          scope = Some (cut_is text.bytes c.caller within.1 i);
         })
 
   abbrev pub CallsWithin : List Call → Type 0
-  CallsWithin cs = AllByRecursion (λ (c : Call). IsWithin text c.callee × IsWithin text c.caller) cs
+  CallsWithin cs = AllByRecursion (λ (c : Call). IsWithin text.bytes c.callee × IsWithin text.bytes c.caller) cs
 
   callee_tests : (n : ℕ) (cs : List Call) → drop n (facts_of text).calls ≡ cs → CallsWithin cs
       → Tests (fact_at Callees (name_of a s.name) text) (call_in file)
-      (λ (c : Call). bytes_of text c.callee) key (has Callees text key) n cs
+      (λ (c : Call). bytes_of text.bytes c.callee) key (has Callees text key) n cs
   callee_tests n [] is within = tt
   callee_tests n (c ∷ cs) is within = (
     ap (bytes_eq key)
-        (ap (λ o. bytes_at text (option_map (λ (x : Call). x.callee) o)) (found_call n c cs is)
-        ∙ cut_is text c.callee within.0.0),
+        (ap (λ o. bytes_at text.bytes (option_map (λ (x : Call). x.callee) o)) (found_call n c cs is)
+        ∙ cut_is text.bytes c.callee within.0.0),
     callee_tests (suc n) cs (next_call n c cs is) within.1,
   )
 
   caller_tests : (n : ℕ) (cs : List Call) → drop n (facts_of text).calls ≡ cs → CallsWithin cs
       → Tests (fact_at Callers (name_of a s.name) text) (call_in file)
-      (λ (c : Call). bytes_of text c.caller) key (has Callers text key) n cs
+      (λ (c : Call). bytes_of text.bytes c.caller) key (has Callers text key) n cs
   caller_tests n [] is within = tt
   caller_tests n (c ∷ cs) is within = (
     ap (bytes_eq key)
-        (ap (λ o. bytes_at text (option_map (λ (x : Call). x.caller) o)) (found_call n c cs is)
-        ∙ cut_is text c.caller within.0.1),
+        (ap (λ o. bytes_at text.bytes (option_map (λ (x : Call). x.caller) o)) (found_call n c cs is)
+        ∙ cut_is text.bytes c.caller within.0.1),
     caller_tests (suc n) cs (next_call n c cs is) within.1,
   )
 
   callee_rows : (n : ℕ) (cs : List Call) → drop n (facts_of text).calls ≡ cs → CallsWithin cs
       → Rows (fact_at Callees (name_of a s.name) text) (call_in file)
-      (λ (c : Call). bytes_of text c.callee) key n cs
+      (λ (c : Call). bytes_of text.bytes c.callee) key n cs
   callee_rows n [] is within = tt
   callee_rows n (c ∷ cs) is within =
       (call_is n c cs is within.0, callee_rows (suc n) cs (next_call n c cs is) within.1)
 
   caller_rows : (n : ℕ) (cs : List Call) → drop n (facts_of text).calls ≡ cs → CallsWithin cs
       → Rows (fact_at Callers (name_of a s.name) text) (call_in file)
-      (λ (c : Call). bytes_of text c.caller) key n cs
+      (λ (c : Call). bytes_of text.bytes c.caller) key n cs
   caller_rows n [] is within = tt
   caller_rows n (c ∷ cs) is within =
       (call_is n c cs is within.0, caller_rows (suc n) cs (next_call n c cs is) within.1)
 
   callees_searched : map (fact_at Callees (name_of a s.name) text) (items_with Callees text key)
-      ≡ file_calls_of key file
+      ≡ file_calls_of text.profile key file
   callees_searched =
-      version_searched Callees a s text there (call_in file) (λ (c : Call). bytes_of text c.callee)
+      version_searched Callees a s text there (call_in file) (λ (c : Call). bytes_of text.bytes c.callee)
       key (facts_of text).calls refl
-      (callee_rows 0 (facts_of text).calls refl (facts_lie text).calls)
-      (callee_tests 0 (facts_of text).calls refl (facts_lie text).calls)
+      (callee_rows 0 (facts_of text).calls refl (facts_lie text.profile text.bytes).calls)
+      (callee_tests 0 (facts_of text).calls refl (facts_lie text.profile text.bytes).calls)
 
   callers_searched : map (fact_at Callers (name_of a s.name) text) (items_with Callers text key)
-      ≡ file_calls_in key file
+      ≡ file_calls_in text.profile key file
   callers_searched =
-      version_searched Callers a s text there (call_in file) (λ (c : Call). bytes_of text c.caller)
+      version_searched Callers a s text there (call_in file) (λ (c : Call). bytes_of text.bytes c.caller)
       key (facts_of text).calls refl
-      (caller_rows 0 (facts_of text).calls refl (facts_lie text).calls)
-      (caller_tests 0 (facts_of text).calls refl (facts_lie text).calls)
+      (caller_rows 0 (facts_of text).calls refl (facts_lie text.profile text.bytes).calls)
+      (caller_tests 0 (facts_of text).calls refl (facts_lie text.profile text.bytes).calls)
 
   -- ---- by kind
   pub one_searched : (kind : FactKind)
       → map (fact_at kind (name_of a s.name) text) (items_with kind text key)
-      ≡ file_facts kind key file
+      ≡ file_facts text.profile kind key file
   one_searched Uses = uses_searched
   one_searched Callees = callees_searched
   one_searched Callers = callers_searched
 
   pub one_facts : (kind : FactKind)
       → facts_in kind a (filter (has_key (item_keyer kind) a (key_prefix key) key)
-      (entries_of (firsts_in kind) a s)) ≡ file_facts kind key file
+      (entries_of (firsts_in kind) a s)) ≡ file_facts text.profile kind key file
   one_facts kind =
       ap (λ o. facts_in kind a (filter (has_key (item_keyer kind) a (key_prefix key) key)
       (map (entry_of s) (firsts_in kind o)))) there
@@ -230,17 +232,17 @@ module _ (a : Archived) (s : Shown) (text : List ℕ)
       ∙ one_searched kind
 
 -- ---- all versions
-pub named_apart : (kind : FactKind) (key : List ℕ) (fs : List File)
-    → flat_map (file_facts kind key) fs ≡ facts_named kind key fs
+pub named_apart : (p : Profile) (kind : FactKind) (key : List ℕ) (fs : List File)
+    → flat_map (file_facts p kind key) fs ≡ facts_named p kind key fs
 unfolding uses_of calls_of calls_in
-named_apart Uses key fs = refl
-named_apart Callees key fs = refl
-named_apart Callers key fs = refl
+named_apart p Uses key fs = refl
+named_apart p Callees key fs = refl
+named_apart p Callers key fs = refl
 
 module _ (kind : FactKind) (a : Archived) (key : List ℕ) where
   all_facts : (shown : List Shown) → AllByRecursion (IsThere a) shown
       → facts_in kind a (filter (has_key (item_keyer kind) a (key_prefix key) key)
-      (all_entries (firsts_in kind) a shown)) ≡ flat_map (file_facts kind key) (files_of a shown)
+      (all_entries (firsts_in kind) a shown)) ≡ flat_map (file_facts a.profile kind key) (files_of a shown)
   all_facts [] all = refl
   all_facts (s ∷ shown) all =
       let has = has_key (item_keyer kind) a (key_prefix key) key in
@@ -248,22 +250,22 @@ module _ (kind : FactKind) (a : Archived) (key : List ℕ) where
       (filter-append has (entries_of (firsts_in kind) a s) (all_entries (firsts_in kind) a shown))
       ∙ flat_map-append (facts_at kind a) (filter has (entries_of (firsts_in kind) a s))
       (filter has (all_entries (firsts_in kind) a shown))
-      ∙ (λ i. one_facts a s (get_or a.texts s.version [])
-      (slice_get-get_or a.texts s.version [] all.0.1) key kind i
+      ∙ (λ i. one_facts a s (text_of a s.version)
+      (text_there a s.version all.0.1) key kind i
       ++ all_facts shown all.1 i)
 
   pub rows_of_facts : (shown : List Shown) → AllByRecursion (IsThere a) shown → AreAscending a shown
       → (es : List Entry)
       → IsIndexOf (item_keyer kind) (firsts_in kind) a shown es
       → facts_in kind a (filter (has_key (item_keyer kind) a (key_prefix key) key) es)
-      ≡ facts_named kind key (files_of a shown)
+      ≡ facts_named a.profile kind key (files_of a shown)
   rows_of_facts shown all up es is =
       ap (facts_in kind a) (kept_key (item_keyer kind) a (firsts_in kind) (firsts_rise kind) shown
       up (key_prefix key) key es is)
-      ∙ all_facts shown all ∙ named_apart kind key (files_of a shown)
+      ∙ all_facts shown all ∙ named_apart a.profile kind key (files_of a shown)
 
 -- ---- where all are given
-given_all : (sort : FactKind) (file : List ℕ) (item : ℕ) (text : Option (List ℕ))
+given_all : (sort : FactKind) (file : List ℕ) (item : ℕ) (text : Option Scanned)
     → given_in_text true sort file item text ≡ facts_in_text sort file item text
 given_all sort _ item None = refl
 given_all sort file item (Some text) =
@@ -277,4 +279,4 @@ pub all_given : (sort : FactKind) (a : Archived) (es : List Entry)
     → given_in true sort a es ≡ facts_in sort a es
 all_given sort a es =
     λ i. flat_map
-    (λ (e : Entry). given_all sort (name_of a e.name) e.number (slice_get a.texts e.version) i) es
+    (λ (e : Entry). given_all sort (name_of a e.name) e.number (text_at a e.version) i) es

@@ -12,6 +12,7 @@ use Rattle.std.specs.Prelude.{cond, nat_eq, ◌&&◌}
 use Rattle.std.specs.List.{flat_map, range_with_len}
 use Rattle.std.specs.Str.{bytes_eq}
 use Rattle.cb_scan.specs.Keys.{key_prefix}
+use Rattle.cb_index.specs.Scanned.{Scanned}
 use Rattle.cb_index.specs.Firsts.{listed}
 use Rattle.cb_index.specs.Held.{entry_of}
 use Rattle.cb_index.specs.Items.{have_one_key, is_first, item_count, item_key, later}
@@ -37,7 +38,7 @@ pub at_number : (len i : ℕ) → i < len → get_or (range_with_len 0 len) i 0 
 at_number len i below = omega (arith, get_or-range_with_len 0 len i 0 below)
 
 -- ---- items of one key
-module _ (sort : FactKind) (text key : List ℕ) where
+module _ (sort : FactKind) (text : Scanned) (key : List ℕ) where
   abbrev pub has : ℕ → Bool
   has item = bytes_eq key (item_key sort text item)
 

@@ -2,8 +2,10 @@
 use Rattle.std.proofs.Common.{◌≡◌, List, [], ◌∷◌, ◌++◌, refl, map}
 use Rattle.std.specs.List.{AllByRecursion}
 use Rattle.cb_scan.specs.declared.facts.Include.{Include}
-use Rattle.cb_scan.specs.Definitions.{IsScopeWithin, IsWithin, facts_of}
-use Rattle.cb_scan.proofs.FactsWithin.{facts_lie}
+use Rattle.cb_scan.specs.declared.profile.Profile.{Profile}
+use Rattle.cb_scan.specs.Profiles.{facts_in}
+use Rattle.cb_scan.specs.Definitions.{IsScopeWithin, IsWithin}
+use Rattle.cb_index.proofs.Shim.{facts_lie}
 use Rattle.cb_index.specs.Files.{File}
 use Rattle.cb_index.specs.Includes.{all_includes, include_in}
 use Rattle.cb_index.specs.Shelved.{with_facts}
@@ -23,10 +25,11 @@ module _ (f : File) where
       let later = includes_from is within.1 in
       λ k. record (include_in f i) { name = header k; scope = scope k } ∷ later k
 
-pub includes_are : (fs : List File) → includes_in (map with_facts fs) ≡ all_includes fs
+pub includes_are : (p : Profile) (fs : List File)
+    → includes_in (map (with_facts p) fs) ≡ all_includes p fs
 unfolding all_includes
-includes_are [] = refl
-includes_are (f ∷ fs) =
-    let here = includes_from f (facts_of f.bytes).includes (facts_lie f.bytes).includes in
-    let later = includes_are fs in
+includes_are p [] = refl
+includes_are p (f ∷ fs) =
+    let here = includes_from f (facts_in p f.bytes).includes (facts_lie p f.bytes).includes in
+    let later = includes_are p fs in
     λ k. here k ++ later k

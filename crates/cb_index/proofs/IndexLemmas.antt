@@ -20,7 +20,8 @@ use Rattle.std.specs.declared.cmp.Ordering.TheVariants.{Less, Equal}
 use Rattle.cb_scan.specs.Order.{AreOrdered, in_order}
 use Rattle.cb_scan.proofs.FunctionsRise.{all_implied}
 use Rattle.cb_scan.proofs.WithinLemmas.{all-append}
-use Rattle.cb_index.specs.Archived.{Archived, name_of}
+use Rattle.cb_index.specs.Scanned.{Scanned}
+use Rattle.cb_index.specs.Archived.{Archived, name_of, text_at}
 use Rattle.cb_index.specs.Entries.{Keyer, file_key, numbers, sort_key}
 use Rattle.cb_index.specs.Files.{AreApart, AreAscending, shown_under, total}
 use Rattle.cb_index.specs.Held.{AreRising, Listed, Lister, all_entries, entries_of, entry_of}
@@ -185,7 +186,7 @@ module _ (a : Archived) (name : ℕ) where
 -- ---- the archive changes elsewhere
 abbrev pub IsSame : Archived → Archived → Shown → Type 0
 IsSame a b s =
-    (slice_get b.texts s.version ≡ slice_get a.texts s.version)
+    (text_at b s.version ≡ text_at a s.version)
     × (name_of b s.name ≡ name_of a s.name)
 
 module _ (keyer : Keyer) (lister : Lister) (a b : Archived) where
@@ -199,8 +200,8 @@ module _ (keyer : Keyer) (lister : Lister) (a b : Archived) where
       → sort_key keyer a e ≡ sort_key keyer b e
   unfolding sort_key
   same_key s same e of =
-      let text : slice_get a.texts e.version ≡ slice_get b.texts e.version =
-      ap (slice_get a.texts) of.1 ∙ sym same.0 ∙ sym (ap (slice_get b.texts) of.1) in
+      let text : text_at a e.version ≡ text_at b e.version =
+      ap (text_at a) of.1 ∙ sym same.0 ∙ sym (ap (text_at b) of.1) in
       let name : name_of a e.name ≡ name_of b e.name =
       ap (name_of a) of.0 ∙ sym same.1 ∙ sym (ap (name_of b) of.0) in
       λ i. e.prefix
@@ -225,17 +226,17 @@ module _ (keyer : Keyer) (lister : Lister) (a b : Archived) where
       ∙ ap (in_order (sort_key keyer b)) (sym (same_entries shown all))
 
 -- ---- there is room for the entries where there is room for the facts
-module _ (lister : Lister) (count : Option (List ℕ) → ℕ)
-    (fewer : (t : Option (List ℕ)) → length (lister t) ≤ count t) (a : Archived) where
+module _ (lister : Lister) (count : Option Scanned → ℕ)
+    (fewer : (t : Option Scanned) → length (lister t) ≤ count t) (a : Archived) where
   pub length_all : (shown : List Shown) → length (all_entries lister a shown) ≤ total count a shown
   length_all [] = omega arith
   length_all (s ∷ shown) =
       let both : length (entries_of lister a s ++ all_entries lister a shown)
       ≡ length (entries_of lister a s) + length (all_entries lister a shown) =
       length-append (entries_of lister a s) (all_entries lister a shown) in
-      let one : length (entries_of lister a s) ≡ length (lister (slice_get a.texts s.version)) =
+      let one : length (entries_of lister a s) ≡ length (lister (text_at a s.version)) =
       length-map (listed_of lister a s.version) (entry_of s) in
-      omega (arith, both, one, fewer (slice_get a.texts s.version), length_all shown)
+      omega (arith, both, one, fewer (text_at a s.version), length_all shown)
 
 -- ---- the entries of one version after another
 module _ (lister : Lister) (a : Archived) (shown : List Shown) (i : ℕ) (d : Shown)
@@ -307,7 +308,7 @@ module _ (a : Archived) where
   one_ordered s [] up = tt
   one_ordered s (item ∷ items) up = (behind s item items up.0, one_ordered s items up.1)
 
-  module _ (lister : Lister) (rising : (t : Option (List ℕ)) → AreRising (lister t)) where
+  module _ (lister : Lister) (rising : (t : Option Scanned) → AreRising (lister t)) where
     later_files : (s : Shown) (e : Entry) → e.name ≡ s.name → (shown : List Shown)
         → AllByRecursion
         (λ (t : Shown). slice_cmp nat_cmp (name_of a s.name) (name_of a t.name) ≡ Less) shown
@@ -328,7 +329,7 @@ module _ (a : Archived) where
     all_ordered [] up = tt
     all_ordered (s ∷ shown) up =
         ordered-append (ComesFirst a) (entries_of lister a s) (all_entries lister a shown)
-        (one_ordered s (listed_of lister a s.version) (rising (slice_get a.texts s.version)))
+        (one_ordered s (listed_of lister a s.version) (rising (text_at a s.version)))
         (all_ordered shown up.1)
         (all_implied (IsUnder s) (λ e. AllByRecursion (ComesFirst a e) (all_entries lister a shown))
         (λ e of. later_files s e of.0 shown up.0)

@@ -8,6 +8,7 @@ use Rattle.std.specs.Str.{bytes_eq}
 use Rattle.std.proofs.lemmas.List.FromFn.{get_or-map-range_with_len, length-map-range_with_len}
 use Rattle.std.specs.Cmp.Lexicographic.{same_text}
 use Rattle.cb_scan.specs.declared.facts.Def.{Def}
+use Rattle.cb_index.specs.Scanned.{Scanned}
 use Rattle.cb_index.specs.Firsts.{listed}
 use Rattle.cb_index.specs.Held.{Listed}
 use Rattle.cb_index.specs.Items.{have_one_key, is_first, item_count, item_key, later}
@@ -89,7 +90,7 @@ stands_first p k (suc n) j rest is =
           }
     ]) refl is
 
-module _ (sort : FactKind) (text : List ℕ) where
+module _ (sort : FactKind) (text : Scanned) where
   abbrev count : ℕ
   count = item_count sort text
 
@@ -197,13 +198,13 @@ module _ (sort : FactKind) (text : List ℕ) where
       ap (map (listed sort text)) (kept_passed (is_first sort text) k count below is)
 
 -- ---- links
-pub laid_for : (sort : FactKind) (text : List ℕ) (l : Linked) → AreLaid text l
+pub laid_for : (sort : FactKind) (text : Scanned) (l : Linked) → AreLaid text l
     → AreLinks sort text (links_for sort l)
 laid_for Uses text l laid = laid.uses
 laid_for Callees text l laid = laid.callees
 laid_for Callers text l laid = laid.callers
 
-laid_at : (sort : FactKind) (text : List ℕ) (links : List Link) (item : ℕ) (link : Link)
+laid_at : (sort : FactKind) (text : Scanned) (links : List Link) (item : ℕ) (link : Link)
     → links ≡ links_of sort text → item < length links
     → get_or links item link ≡ link_of sort text item
 unfolding links_of
@@ -216,7 +217,7 @@ laid_at sort text links item link all there =
     ∙ get_or-map-range_with_len (link_of sort text) 0 count item item link below (omega arith)
 
 -- a link that is laid is the one of its item
-pub link_is : (sort : FactKind) (text : List ℕ) (links : List Link) (item : ℕ) (link : Link)
+pub link_is : (sort : FactKind) (text : Scanned) (links : List Link) (item : ℕ) (link : Link)
     → AreLinks sort text links → item < length links → link ≡ get_or links item link
     → link ≡ link_of sort text item
 link_is sort text links item link laid there is =

@@ -43,6 +43,7 @@ use Rattle.cb_index.proofs.InOrderLemmas.{all_filter}
 use Rattle.cb_index.proofs.IndexLemmas.{IsSame}
 use Rattle.cb_index.proofs.ListedLemmas.{apart_both, ascending_in_order}
 use Rattle.cb_index.proofs.RowLemmas.{again}
+use Rattle.cb_index.proofs.TextLemmas.{same_text}
 
 -- ---- indexes by kind
 -- an index of a kind is one of its own kind
@@ -113,9 +114,9 @@ module _ (a b : Archived) where
   }
 
   -- the same names and texts
-  pub kept_moved : (shown : List Shown) (xs : List Indexed) → b.names ≡ a.names → b.texts ≡ a.texts
-      → AreKept a shown xs → AreKept b shown xs
-  kept_moved shown xs names texts kept =
+  pub kept_moved : (shown : List Shown) (xs : List Indexed) → b.profile ≡ a.profile
+      → b.names ≡ a.names → b.texts ≡ a.texts → AreKept a shown xs → AreKept b shown xs
+  kept_moved shown xs profile names texts kept =
       let there : AllByRecursion (IsThere b) shown =
       all_implied (IsThere a) (IsThere b)
       (λ s is. (
@@ -124,22 +125,27 @@ module _ (a b : Archived) where
       )) shown kept.there in
       let same : AllByRecursion (IsSame a b) shown =
       all_implied (IsThere a) (IsSame a b)
-      (λ s is. (ap (λ l. slice_get l s.version) texts, ap (λ l. get_or l s.name []) names))
+      (λ s is. (
+        same_text a b profile s.version (ap (λ l. slice_get l s.version) texts),
+        ap (λ l. get_or l s.name []) names,
+      ))
       shown kept.there in
       kept_same shown xs same there kept
 
 -- ---- more is kept
 module _ (a b : Archived) (shown : List Shown) (xs : List Indexed)
     (names texts : List (List ℕ)) where
-  pub kept_more : b.names ≡ a.names ++ names → b.texts ≡ a.texts ++ texts → AreKept a shown xs
-      → AreKept b shown xs
-  kept_more named kept_texts kept =
+  pub kept_more : b.profile ≡ a.profile → b.names ≡ a.names ++ names → b.texts ≡ a.texts ++ texts
+      → AreKept a shown xs → AreKept b shown xs
+  kept_more profile named kept_texts kept =
       let name_count = length-append a.names names in
       let text_count = length-append a.texts texts in
       kept_same a b shown xs
       (all_implied (IsThere a) (IsSame a b)
       (λ s is. (
-        ap (λ l. slice_get l s.version) kept_texts ∙ slice_get_left a.texts texts s.version is.1,
+        same_text a b profile s.version
+            (ap (λ l. slice_get l s.version) kept_texts
+            ∙ slice_get_left a.texts texts s.version is.1),
         ap (λ l. get_or l s.name []) named ∙ get_or_left a.names names s.name is.0,
       )) shown kept.there)
       (all_implied (IsThere a) (IsThere b)
@@ -157,14 +163,15 @@ module _ (a b : Archived) (shown : List Shown) (xs : List Indexed) (versions nam
   both (s ∷ ss) p q = ((p.0, q.0), both ss p.1 q.1)
 
   pub kept_front : AllByRecursion (λ (s : Shown). (s.version < versions) × (s.name < names)) shown
-      → b.names ≡ take names a.names → b.texts ≡ take versions a.texts → AreKept a shown xs
-      → AreKept b shown xs
-  kept_front below named kept_texts kept =
+      → b.profile ≡ a.profile → b.names ≡ take names a.names → b.texts ≡ take versions a.texts
+      → AreKept a shown xs → AreKept b shown xs
+  kept_front below profile named kept_texts kept =
       kept_same a b shown xs
       (all_implied (λ (s : Shown). (s.version < versions) × (s.name < names)) (IsSame a b)
       (λ s is. (
-        ap (λ l. slice_get l s.version) kept_texts
-            ∙ slice_get_front versions a.texts s.version is.0,
+        same_text a b profile s.version
+            (ap (λ l. slice_get l s.version) kept_texts
+            ∙ slice_get_front versions a.texts s.version is.0),
         ap (λ l. get_or l s.name []) named ∙ get_or_front names a.names s.name is.1,
       )) shown below)
       (all_implied (λ (s : Shown). IsThere a s × ((s.version < versions) × (s.name < names)))

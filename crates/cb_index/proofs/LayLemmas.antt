@@ -20,7 +20,8 @@ use Rattle.cb_scan.specs.Order.{AreOrdered, goes_first, in_order, put}
 use Rattle.cb_scan.proofs.FactsWithin.{all_in_order}
 use Rattle.cb_scan.proofs.KeyOrder.{then_assoc}
 use Rattle.cb_scan.proofs.OrderLemmas.{Sorted, both_first, in_order_sorted}
-use Rattle.cb_index.specs.Archived.{Archived}
+use Rattle.cb_index.specs.Scanned.{Scanned}
+use Rattle.cb_index.specs.Archived.{Archived, text_at}
 use Rattle.cb_index.specs.Entries.{file_key, has_key, key_of, sort_key}
 use Rattle.cb_index.specs.Items.{have_one_key, is_first, item_count, item_key, later}
 use Rattle.cb_index.specs.Links.{first_or_none, link_of, links_of}
@@ -191,7 +192,7 @@ or_true : (b c : Bool) → c ≡ true → (b || (c || false)) ≡ true
 or_true true c is = refl
 or_true false c is = ap (λ d. d || false) is
 
-module _ (sort : FactKind) (text : List ℕ) where
+module _ (sort : FactKind) (text : Scanned) where
   abbrev have : ℕ → ℕ → Bool
   have = have_one_key sort text
 
@@ -209,7 +210,7 @@ module _ (sort : FactKind) (text : List ℕ) where
   have_not x y isnt =
       not_true (have y x) (λ is. sym (are_one x y (sym (have_is y x is))) ∙ isnt)
 
-  module _ (a : Archived) (version : ℕ) (there : slice_get a.texts version ≡ Some text) where
+  module _ (a : Archived) (version : ℕ) (there : text_at a version ≡ Some text) where
     abbrev entry : ℕ → Entry
     entry = item_entry sort text version
 

@@ -32,8 +32,10 @@ pub mod RowOrderLemmas
 pub mod RowsAscendLemmas
 pub mod RunLemmas
 pub mod SearchLemmas
+pub mod Shim
 pub mod SortLemmas
 pub mod SortedLemmas
 pub mod SpreadLemmas
 pub mod TableLemmas
+pub mod TextLemmas
 pub mod TotalLemmas

@@ -11,6 +11,7 @@ use Rattle.std.proofs.lemmas.Slice.Eq.{bytes_eq-Decides}
 use Rattle.std.specs.Prelude.{cond}
 use Rattle.std.specs.List.{range_with_len}
 use Rattle.std.specs.Str.{bytes_eq}
+use Rattle.cb_index.specs.Scanned.{Scanned}
 use Rattle.cb_index.specs.Counts.{key_facts, row_count, same_row, unlike}
 use Rattle.cb_index.specs.Items.{have_one_key, is_first, item_count, item_key, later}
 use Rattle.cb_index.specs.Repeats.{any_below, have_one_row, is_repeat}
@@ -94,7 +95,7 @@ none_below p (suc n) none =
     none_below p n (λ k low. none k (omega (arith, low)))
     ∙ sym (ap (λ b. b || any_below p n) (none n (omega arith)))
 
-module _ (file : List ℕ) (sort : FactKind) (text : List ℕ) where
+module _ (file : List ℕ) (sort : FactKind) (text : Scanned) where
   -- all items of one key are few
   pub key_few : (item : ℕ)
       → length (key_facts sort text item) ≤ suc (item_count sort text - suc item)
@@ -218,7 +219,7 @@ module _ (file : List ℕ) (sort : FactKind) (text : List ℕ) where
         let same = length-map (items_from sort text first) own in
         omega (arith, most, same, few)
 
-pub rows_counted : (sort : FactKind) (text : List ℕ) (first : ℕ) → is_first sort text first ≡ true
+pub rows_counted : (sort : FactKind) (text : Scanned) (first : ℕ) → is_first sort text first ≡ true
     → length (filter (λ i. not (is_repeat sort text i)) (items_from sort text first))
     ≡ row_count sort text first
 unfolding row_count

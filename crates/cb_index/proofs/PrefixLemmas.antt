@@ -14,12 +14,12 @@ use Rattle.std.specs.declared.cmp.Ordering.{Ordering}
 use Rattle.std.specs.declared.cmp.Ordering.TheVariants.{Less, Equal, Greater}
 use Rattle.cb_scan.specs.declared.facts.Def.{Def}
 use Rattle.cb_scan.specs.declared.lex.piece.Span.{Span}
-use Rattle.cb_scan.specs.Definitions.{facts_of}
 use Rattle.cb_scan.specs.Keys.{key_prefix}
 use Rattle.cb_scan.proofs.KeyOrder.{prefix_first, same_number, then_assoc}
 use Rattle.cb_scan.proofs.WithinLemmas.{all-append, all-drop, all-take}
 use Rattle.cb_tags.specs.TagNames.{base_name, tag_name, without_c}
-use Rattle.cb_index.specs.Archived.{Archived, AreBytes, name_of}
+use Rattle.cb_index.specs.Scanned.{Scanned, facts_of}
+use Rattle.cb_index.specs.Archived.{Archived, AreBytes, name_of, scanned_in, text_at}
 use Rattle.cb_index.specs.Bytes.{bytes_at, cut}
 use Rattle.cb_index.specs.Entries.{Keyer, has_key, key_of}
 use Rattle.cb_index.specs.Held.{Lister, all_entries, entries_of, entry_of}
@@ -30,11 +30,14 @@ use Rattle.cb_index.specs.declared.entry.Shown.{Shown}
 use Rattle.cb_index.proofs.RestLemmas.{at_front, drop_next}
 
 -- ---- bytes of a text
-text_of : (n : ℕ) (texts : List (List ℕ)) (text : List ℕ) → slice_get texts n ≡ Some text
-    → AllByRecursion AreBytes texts → AreBytes text
-text_of n [] text is all = cc
-text_of zero (t ∷ texts) text is all = let same : t ≡ text = cc in subst AreBytes same all.0
-text_of (suc n) (t ∷ texts) text is all = text_of n texts text is all.1
+module _ (a : Archived) where
+  bytes_there : (n : ℕ) (texts : List (List ℕ)) (text : Scanned)
+      → option_map (scanned_in a) (slice_get texts n) ≡ Some text
+      → AllByRecursion AreBytes texts → AreBytes text.bytes
+  bytes_there n [] text is all = cc
+  bytes_there zero (t ∷ texts) text is all =
+      let same : scanned_in a t ≡ text = cc in subst (λ (x : Scanned). AreBytes x.bytes) same all.0
+  bytes_there (suc n) (t ∷ texts) text is all = bytes_there n texts text is all.1
 
 cut_bytes : (text : List ℕ) (span : Span) → AreBytes text → AreBytes (cut text span)
 cut_bytes text span bytes =
@@ -186,21 +189,21 @@ key_decides front keyer a key e told = by_key (bytes_eq key (key_of keyer a e)) 
 -- ---- an order in which an entry is a definition
 pub record IsTold (front : List ℕ → List ℕ) (keyer : Keyer)
     (prefixed : List ℕ → Def → ℕ) : Type 0 where
-  pub prefix : (text file : List ℕ) (n : ℕ) (d : Def) → slice_get (facts_of text).defs n ≡ Some d
-      → prefixed text d ≡ key_prefix (front (keyer (Some text) file n))
-  pub bytes : (text file : List ℕ) (n : ℕ) → AreBytes text
+  pub prefix : (text : Scanned) (file : List ℕ) (n : ℕ) (d : Def) → slice_get (facts_of text).defs n ≡ Some d
+      → prefixed text.bytes d ≡ key_prefix (front (keyer (Some text) file n))
+  pub bytes : (text : Scanned) (file : List ℕ) (n : ℕ) → AreBytes text.bytes
       → AreBytes (front (keyer (Some text) file n))
 
-name_is : (text file : List ℕ) (n : ℕ) (d : Def) → slice_get (facts_of text).defs n ≡ Some d
-    → cut text d.name ≡ def_key (Some text) file n
-name_is text file n d is = sym (ap (λ o. bytes_at text (option_map (λ (x : Def). x.name) o)) is)
+name_is : (text : Scanned) (file : List ℕ) (n : ℕ) (d : Def) → slice_get (facts_of text).defs n ≡ Some d
+    → cut text.bytes d.name ≡ def_key (Some text) file n
+name_is text file n d is = sym (ap (λ o. bytes_at text.bytes (option_map (λ (x : Def). x.name) o)) is)
 
 pub names_told : IsTold (λ key. key) def_key def_prefix
 unfolding def_prefix
 names_told = record {
   prefix = λ text file n d is. ap key_prefix (name_is text file n d is);
   bytes = λ text file n bytes.
-      span_bytes text (option_map (λ (x : Def). x.name) (slice_get (facts_of text).defs n)) bytes;
+      span_bytes text.bytes (option_map (λ (x : Def). x.name) (slice_get (facts_of text).defs n)) bytes;
 }
 
 pub tags_told : IsTold tag_front tag_key tag_prefix
@@ -210,25 +213,25 @@ tags_told = record {
       ap (λ name. key_prefix (tag_front (tag_name name []))) (name_is text file n d is)
       ∙ ap key_prefix (any_file (def_key (Some text) file n) [] file);
   bytes = λ text file n bytes. tag_bytes (def_key (Some text) file n) file
-      (span_bytes text (option_map (λ (x : Def). x.name) (slice_get (facts_of text).defs n)) bytes);
+      (span_bytes text.bytes (option_map (λ (x : Def). x.name) (slice_get (facts_of text).defs n)) bytes);
 }
 
 module _ (front : List ℕ → List ℕ) (keyer : Keyer) (prefixed : List ℕ → Def → ℕ)
     (told : IsTold front keyer prefixed) where
-  module _ (a : Archived) (s : Shown) (text : List ℕ)
-      (there : slice_get a.texts s.version ≡ Some text) where
+  module _ (a : Archived) (s : Shown) (text : Scanned)
+      (there : text_at a s.version ≡ Some text) where
     -- the prefix of a definition is that of its key
     pub entry_told : (n : ℕ) (d : Def) (rest : List Def) → drop n (facts_of text).defs ≡ d ∷ rest
-        → prefixed text d
-        ≡ key_prefix (front (keyer (slice_get a.texts s.version) (name_of a s.name) n))
+        → prefixed text.bytes d
+        ≡ key_prefix (front (keyer (text_at a s.version) (name_of a s.name) n))
     entry_told n d rest is =
         told.prefix text (name_of a s.name) n d
         (at_front n (facts_of text).defs ∙ ap (λ l. slice_get l 0) is)
         ∙ sym (ap (λ o. key_prefix (front (keyer o (name_of a s.name) n))) there)
 
-    told_from : AreBytes text → (n : ℕ) (defs : List Def) → drop n (facts_of text).defs ≡ defs
+    told_from : AreBytes text.bytes → (n : ℕ) (defs : List Def) → drop n (facts_of text).defs ≡ defs
         → AllByRecursion (HasPrefix front keyer a)
-        (map (entry_of s) (numbered n (map (prefixed text) defs)))
+        (map (entry_of s) (numbered n (map (prefixed text.bytes) defs)))
     told_from bytes n [] is = tt
     told_from bytes n (d ∷ defs) is = (
       (
@@ -239,17 +242,17 @@ module _ (front : List ℕ → List ℕ) (keyer : Keyer) (prefixed : List ℕ �
       told_from bytes (suc n) defs (drop_next n (facts_of text).defs ∙ ap (drop 1) is),
     )
 
-  module _ (lister : Lister) (none : lister None ≡ []) (some : (text : List ℕ)
-      → lister (Some text) ≡ numbered 0 (map (prefixed text) (facts_of text).defs))
+  module _ (lister : Lister) (none : lister None ≡ []) (some : (text : Scanned)
+      → lister (Some text) ≡ numbered 0 (map (prefixed text.bytes) (facts_of text).defs))
       (a : Archived) (bytes : AllByRecursion AreBytes a.texts) where
-    told_of : (s : Shown) (o : Option (List ℕ)) → slice_get a.texts s.version ≡ o
+    told_of : (s : Shown) (o : Option Scanned) → text_at a s.version ≡ o
         → AllByRecursion (HasPrefix front keyer a) (map (entry_of s) (lister o))
     told_of s None there =
         subst (λ ps. AllByRecursion (HasPrefix front keyer a) (map (entry_of s) ps)) (sym none) tt
     told_of s (Some text) there =
         subst (λ ps. AllByRecursion (HasPrefix front keyer a) (map (entry_of s) ps))
         (sym (some text))
-        (told_from a s text there (text_of s.version a.texts text there bytes) 0
+        (told_from a s text there (bytes_there a s.version a.texts text there bytes) 0
         (facts_of text).defs refl)
 
     pub all_told : (shown : List Shown)
@@ -257,7 +260,7 @@ module _ (front : List ℕ → List ℕ) (keyer : Keyer) (prefixed : List ℕ �
     all_told [] = tt
     all_told (s ∷ shown) =
         all-append (HasPrefix front keyer a) (entries_of lister a s) (all_entries lister a shown)
-        (told_of s (slice_get a.texts s.version) refl) (all_told shown)
+        (told_of s (text_at a s.version) refl) (all_told shown)
 
 -- ---- the two orders
 module _ (a : Archived) (bytes : AllByRecursion AreBytes a.texts) (shown : List Shown) where

@@ -15,7 +15,7 @@ use Rattle.std.proofs.lemmas.Slice.Eq.{bytes_eq-Decides}
 use Rattle.cb_scan.specs.declared.facts.Call.{Call}
 use Rattle.cb_scan.specs.declared.facts.Use.{Use}
 use Rattle.cb_scan.specs.declared.lex.piece.Span.{Span}
-use Rattle.cb_scan.specs.Definitions.{facts_of}
+use Rattle.cb_index.specs.Scanned.{Scanned, facts_of}
 use Rattle.cb_index.specs.Bytes.{bytes_at, cut}
 use Rattle.cb_index.specs.Counts.{column, function_of, same_row}
 use Rattle.cb_index.specs.Items.{have_one_key, item_count, item_key}
@@ -65,7 +65,7 @@ pub any_none : (p : ℕ → Bool) (n : ℕ) → n ≡ 0 → false ≡ any_below 
 unfolding any_below
 any_none p n is = ap (any_below p) (sym is)
 
-module _ (sort : FactKind) (text : List ℕ) where
+module _ (sort : FactKind) (text : Scanned) where
   abbrev n : ℕ
   n = item_count sort text
 
@@ -352,22 +352,22 @@ module _ (sort : FactKind) (text : List ℕ) where
               })
 
 -- ---- a name at one place of the text
-module _ (text : List ℕ) where
+module _ (text : Scanned) where
   abbrev shown_in : FactKind → Option Span → List ℕ
-  shown_in Uses span = column (option_map (cut text) span)
-  shown_in Callees span = column (option_map (cut text) span)
-  shown_in Callers span = bytes_at text span
+  shown_in Uses span = column (option_map (cut text.bytes) span)
+  shown_in Callees span = column (option_map (cut text.bytes) span)
+  shown_in Callers span = bytes_at text.bytes span
 
-  of_use : (u : Option Use) → column (fact_of_use [] text u).scope ≡ shown_in Uses (scope_of u)
+  of_use : (u : Option Use) → column (fact_of_use [] text.bytes u).scope ≡ shown_in Uses (scope_of u)
   of_use None = refl
   of_use (Some u) = refl
 
-  of_callee : (c : Option Call) → column (fact_of_call [] text c).scope
+  of_callee : (c : Option Call) → column (fact_of_call [] text.bytes c).scope
       ≡ shown_in Callees (option_map (λ (d : Call). d.caller) c)
   of_callee None = refl
   of_callee (Some c) = refl
 
-  of_caller : (c : Option Call) → (fact_of_call [] text c).name
+  of_caller : (c : Option Call) → (fact_of_call [] text.bytes c).name
       ≡ shown_in Callers (option_map (λ (d : Call). d.callee) c)
   of_caller None = refl
   of_caller (Some c) = refl
@@ -388,21 +388,21 @@ module _ (text : List ℕ) where
       (shown_is sort j ∙ ap (shown_in sort) (sym is) ∙ sym (shown_is sort i)))
 
 -- ---- what is laid
-pub all_found : (sort : FactKind) (text : List ℕ) (repeats : List Bool) (count : ℕ)
+pub all_found : (sort : FactKind) (text : Scanned) (repeats : List Bool) (count : ℕ)
     → repeats ≡ map (is_repeat sort text) (range_with_len 0 count) → count ≡ item_count sort text
     → repeats ≡ repeats_of sort text
 unfolding repeats_of
 all_found sort text repeats count found all =
     found ∙ ap (λ n. map (is_repeat sort text) (range_with_len 0 n)) all
 
-pub repeats_laid : (sort : FactKind) (text : List ℕ) (l : Linked) → AreLaid text l
+pub repeats_laid : (sort : FactKind) (text : Scanned) (l : Linked) → AreLaid text l
     → AreRepeats sort text (repeats_for sort l)
 repeats_laid Uses text l laid = laid.use_repeats
 repeats_laid Callees text l laid = laid.callee_repeats
 repeats_laid Callers text l laid = laid.caller_repeats
 
 -- what is laid of an item is whether it is a repeat
-pub repeat_is : (sort : FactKind) (text : List ℕ) (repeats : List Bool) (item : ℕ) (repeat : Bool)
+pub repeat_is : (sort : FactKind) (text : Scanned) (repeats : List Bool) (item : ℕ) (repeat : Bool)
     → AreRepeats sort text repeats → item < length repeats → repeat ≡ get_or repeats item repeat
     → repeat ≡ is_repeat sort text item
 unfolding repeats_of

@@ -3,8 +3,8 @@ use Rattle.std.proofs.Common.{◌<◌, ℕ, zero, suc, Bool, true, false, List, 
 use Rattle.std.proofs.Common.{filter, subst, sym, arith}
 use Rattle.std.specs.Prelude.{Option, cond}
 use Rattle.std.specs.List.{AllByRecursion, range_with_len}
-use Rattle.cb_scan.specs.Definitions.{facts_of}
 use Rattle.cb_scan.specs.Order.{AreOrdered}
+use Rattle.cb_index.specs.Scanned.{Scanned, facts_of}
 use Rattle.cb_index.specs.Firsts.{listed}
 use Rattle.cb_index.specs.Held.{AreRising, Listed}
 use Rattle.cb_index.specs.Items.{is_first, item_count}
@@ -25,18 +25,18 @@ numbered_rise number [] = tt
 numbered_rise number (p ∷ ps) =
     (above number (suc number) ps (omega arith), numbered_rise (suc number) ps)
 
-pub defs_rise : (t : Option (List ℕ)) → AreRising (defs_listed t)
+pub defs_rise : (t : Option Scanned) → AreRising (defs_listed t)
 unfolding AreOrdered
 defs_rise None = tt
-defs_rise (Some text) = numbered_rise 0 (map (def_prefix text) (facts_of text).defs)
+defs_rise (Some text) = numbered_rise 0 (map (def_prefix text.bytes) (facts_of text).defs)
 
-pub tags_rise : (t : Option (List ℕ)) → AreRising (tags_listed t)
+pub tags_rise : (t : Option Scanned) → AreRising (tags_listed t)
 unfolding AreOrdered
 tags_rise None = tt
-tags_rise (Some text) = numbered_rise 0 (map (tag_prefix text) (facts_of text).defs)
+tags_rise (Some text) = numbered_rise 0 (map (tag_prefix text.bytes) (facts_of text).defs)
 
 -- ---- uses and calls: the first of each key has one
-module _ (sort : FactKind) (text : List ℕ) (keeps : ℕ → Bool) where
+module _ (sort : FactKind) (text : Scanned) (keeps : ℕ → Bool) where
   kept_above : (least n len : ℕ) → least < n
       → AllByRecursion (λ (j : Listed). least < j.number)
       (map (listed sort text) (filter keeps (range_with_len n len)))
@@ -68,7 +68,7 @@ module _ (sort : FactKind) (text : List ℕ) (keeps : ℕ → Bool) where
       step true rest = (kept_above n (suc n) len (omega arith), rest)
       step false rest = rest
 
-pub firsts_rise : (sort : FactKind) (t : Option (List ℕ)) → AreRising (firsts_in sort t)
+pub firsts_rise : (sort : FactKind) (t : Option Scanned) → AreRising (firsts_in sort t)
 unfolding AreOrdered
 firsts_rise sort None = tt
 firsts_rise sort (Some text) = kept_rise sort text (is_first sort text) 0 (item_count sort text)

@@ -6,7 +6,6 @@ use Rattle.std.proofs.lemmas.Bool.Decides.{Decides-eqb}
 use Rattle.std.proofs.lemmas.Cmp.{nat_cmp_total, nat_list_cmp_total, tied_itself}
 use Rattle.std.proofs.lemmas.List.{map-append}
 use Rattle.std.proofs.lemmas.List.Elements.{filter-append}
-use Rattle.std.proofs.lemmas.Option.{slice_get-get_or}
 use Rattle.std.proofs.lemmas.Slice.Eq.{bytes_eq-Decides}
 use Rattle.std.proofs.Math.Nat.{min-eq_left}
 use Rattle.std.specs.Prelude.{cond, nat_eq, not, slice_get, slice_range, sum_by, Option, ◌&&◌}
@@ -20,16 +19,17 @@ use Rattle.std.specs.declared.cmp.Ordering.TheVariants.{Less, Equal, Greater}
 use Rattle.cb_scan.specs.declared.facts.Def.{Def}
 use Rattle.cb_scan.specs.declared.facts.Tag as facts
 use Rattle.cb_scan.specs.declared.lex.piece.Span.{Span}
-use Rattle.cb_scan.specs.Definitions.{IsTagWithin, IsWithin, facts_of}
+use Rattle.cb_scan.specs.Definitions.{IsTagWithin, IsWithin}
 use Rattle.cb_scan.specs.Keys.{key_prefix}
 use Rattle.cb_scan.specs.lex.Tokens.{bytes_of}
 use Rattle.cb_scan.specs.Order.{AreOrdered, goes_first, in_order}
-use Rattle.cb_scan.proofs.FactsWithin.{facts_lie}
+use Rattle.cb_index.proofs.Shim.{facts_lie}
 use Rattle.cb_scan.proofs.KeyOrder.{then_assoc}
 use Rattle.cb_scan.proofs.OrderLemmas.{in_order_sum}
 use Rattle.cb_tags.specs.TagLines.{Tag}
 use Rattle.cb_tags.specs.TagNames.{tag_name}
-use Rattle.cb_index.specs.Archived.{Archived, AreBytes, name_of}
+use Rattle.cb_index.specs.Scanned.{Scanned, facts_of}
+use Rattle.cb_index.specs.Archived.{Archived, AreBytes, name_of, text_at, text_of}
 use Rattle.cb_index.specs.Bytes.{bytes_at, cut}
 use Rattle.cb_index.specs.Entries.{Keyer, file_key, has_key, key_of, sort_key}
 use Rattle.cb_index.specs.Files.{AreAscending, File, IsThere, file_of, files_of}
@@ -51,6 +51,7 @@ use Rattle.cb_index.proofs.PrefixLemmas.{names_told, prefixes_first, tag_front_f
 use Rattle.cb_index.proofs.PrefixLemmas.{tag_names_told, whole_first}
 use Rattle.cb_index.proofs.RestLemmas.{at_front, drop_next}
 use Rattle.cb_index.proofs.RiseLemmas.{defs_rise, tags_rise}
+use Rattle.cb_index.proofs.TextLemmas.{text_there}
 
 -- ---- an index is in order
 pub again : (keyer : Keyer) (lister : Lister) (a : Archived) (shown : List Shown) (es : List Entry)
@@ -138,7 +139,7 @@ module _ (keyer : Keyer) (a : Archived) where
       settled Equal p is = is
       settled Greater p is = refl
 
-  module _ (lister : Lister) (rising : (t : Option (List ℕ)) → AreRising (lister t))
+  module _ (lister : Lister) (rising : (t : Option Scanned) → AreRising (lister t))
       (shown : List Shown) (up : AreAscending a shown) where
     -- the entries of a key in an index are those of the versions, one after the other
     pub kept_key : (prefix : ℕ) (key : List ℕ) (es : List Entry) → IsIndexOf keyer lister a shown es
@@ -173,28 +174,28 @@ found_name : (file text : List ℕ) (d : Option Def)
 found_name file text None = refl
 found_name file text (Some d) = refl
 
-key_name : (file : List ℕ) (number : ℕ) (text : Option (List ℕ))
+key_name : (file : List ℕ) (number : ℕ) (text : Option Scanned)
     → def_key text file number ≡ (tag_in_text file number text).name
 key_name file number None = refl
-key_name file number (Some text) = found_name file text (slice_get (facts_of text).defs number)
+key_name file number (Some text) = found_name file text.bytes (slice_get (facts_of text).defs number)
 
 found_file : (file text : List ℕ) (d : Option Def) → file ≡ (tag_of_def file text d).file
 found_file file text None = refl
 found_file file text (Some d) = refl
 
-key_file : (file : List ℕ) (number : ℕ) (text : Option (List ℕ))
+key_file : (file : List ℕ) (number : ℕ) (text : Option Scanned)
     → file ≡ (tag_in_text file number text).file
 key_file file number None = refl
-key_file file number (Some text) = found_file file text (slice_get (facts_of text).defs number)
+key_file file number (Some text) = found_file file text.bytes (slice_get (facts_of text).defs number)
 
 pub key_is_name : (a : Archived) (e : Entry) → key_of def_key a e ≡ (tag_at a e).name
-key_is_name a e = key_name (name_of a e.name) e.number (slice_get a.texts e.version)
+key_is_name a e = key_name (name_of a e.name) e.number (text_at a e.version)
 
 pub key_is_tag_name : (a : Archived) (e : Entry)
     → key_of tag_key a e ≡ tag_name (tag_at a e).name (tag_at a e).file
 key_is_tag_name a e =
-    λ i. tag_name (key_name (name_of a e.name) e.number (slice_get a.texts e.version) i)
-    (key_file (name_of a e.name) e.number (slice_get a.texts e.version) i)
+    λ i. tag_name (key_name (name_of a e.name) e.number (text_at a e.version) i)
+    (key_file (name_of a e.name) e.number (text_at a e.version) i)
 
 all_of : {X : Type 0} (P : X → Type 0) → ((x : X) → P x) → (xs : List X) → AllByRecursion P xs
 all_of P holds [] = tt
@@ -208,40 +209,40 @@ module _ {X Y Z : Type 0} (f : X → Z) (g : Y → Z) where
   kept_or_not true x xs y ys here later = λ i. here i ∷ later i
   kept_or_not false x xs y ys here later = later
 
-module _ (a : Archived) (s : Shown) (text : List ℕ)
-    (there : slice_get a.texts s.version ≡ Some text) where
+module _ (a : Archived) (s : Shown) (text : Scanned)
+    (there : text_at a s.version ≡ Some text) where
   abbrev file : File
-  file = record { name = name_of a s.name; bytes = text }
+  file = record { name = name_of a s.name; bytes = text.bytes }
 
   abbrev entry : ℕ → ℕ → Entry
   entry prefix n =
       record { prefix = prefix; name = s.name; version = s.version; number = n; rows = 1 }
 
   scope_is : (t : Option facts.Tag)
-      → MatchOption t (Unit {0}) (λ (x : facts.Tag). IsWithin text x.name)
-      → option_map (scope_cut text) t ≡ option_map (scope_in file) t
+      → MatchOption t (Unit {0}) (λ (x : facts.Tag). IsWithin text.bytes x.name)
+      → option_map (scope_cut text.bytes) t ≡ option_map (scope_in file) t
   scope_is None within = refl
-  scope_is (Some t) within = λ i. Some (record { kind = t.kind; name = cut_is text t.name within i })
+  scope_is (Some t) within = λ i. Some (record { kind = t.kind; name = cut_is text.bytes t.name within i })
 
   module _ (prefix n : ℕ) (d : Def) (rest : List Def) (is : drop n (facts_of text).defs ≡ d ∷ rest)
-      (within : IsWithin text d.name) where
+      (within : IsWithin text.bytes d.name) where
     found_def : slice_get (facts_of text).defs n ≡ Some d
     found_def = at_front n (facts_of text).defs ∙ ap (λ l. slice_get l 0) is
 
-    tag_is : IsTagWithin text d → tag_at a (entry prefix n) ≡ tag_in file d
+    tag_is : IsTagWithin text.bytes d → tag_at a (entry prefix n) ≡ tag_in file d
     tag_is tagged =
         ap (tag_in_text (name_of a s.name) n) there
-        ∙ ap (tag_of_def (name_of a s.name) text) found_def
-        ∙ (λ i. record (tag_in file d) { name = cut_is text d.name within i; scope = scope_is d.tag tagged i })
+        ∙ ap (tag_of_def (name_of a s.name) text.bytes) found_def
+        ∙ (λ i. record (tag_in file d) { name = cut_is text.bytes d.name within i; scope = scope_is d.tag tagged i })
 
-    key_is : key_of def_key a (entry prefix n) ≡ bytes_of text d.name
+    key_is : key_of def_key a (entry prefix n) ≡ bytes_of text.bytes d.name
     key_is =
         ap (λ o. def_key o (name_of a s.name) n) there
-        ∙ ap (λ o. bytes_at text (option_map (λ (x : Def). x.name) o)) found_def
-        ∙ cut_is text d.name within
+        ∙ ap (λ o. bytes_at text.bytes (option_map (λ (x : Def). x.name) o)) found_def
+        ∙ cut_is text.bytes d.name within
 
   tags_from : (prefixed : Def → ℕ) (n : ℕ) (defs : List Def) → drop n (facts_of text).defs ≡ defs
-      → AllByRecursion (λ (d : Def). IsWithin text d.name) defs → AllByRecursion (IsTagWithin text) defs
+      → AllByRecursion (λ (d : Def). IsWithin text.bytes d.name) defs → AllByRecursion (IsTagWithin text.bytes) defs
       → map (tag_at a) (map (entry_of s) (numbered n (map prefixed defs))) ≡ map (tag_in file) defs
   tags_from prefixed n [] is within tagged = refl
   tags_from prefixed n (d ∷ defs) is within tagged =
@@ -250,68 +251,68 @@ module _ (a : Archived) (s : Shown) (text : List ℕ)
       (drop_next n (facts_of text).defs ∙ ap (drop 1) is) within.1 tagged.1 i
 
   tags_named_from : (name : List ℕ) (n : ℕ) (defs : List Def) → drop n (facts_of text).defs ≡ defs
-      → AllByRecursion (λ (d : Def). IsWithin text d.name) defs → AllByRecursion (IsTagWithin text) defs
+      → AllByRecursion (λ (d : Def). IsWithin text.bytes d.name) defs → AllByRecursion (IsTagWithin text.bytes) defs
       → map (tag_at a) (filter (has_key def_key a (key_prefix name) name)
-      (map (entry_of s) (numbered n (map (def_prefix text) defs))))
-      ≡ map (tag_in file) (filter (λ (d : Def). bytes_eq name (bytes_of text d.name)) defs)
+      (map (entry_of s) (numbered n (map (def_prefix text.bytes) defs))))
+      ≡ map (tag_in file) (filter (λ (d : Def). bytes_eq name (bytes_of text.bytes d.name)) defs)
   tags_named_from name n [] is within tagged = refl
   tags_named_from name n (d ∷ defs) is within tagged =
       let later =
       tags_named_from name (suc n) defs
       (drop_next n (facts_of text).defs ∙ ap (drop 1) is) within.1 tagged.1 in
-      let here = entry (def_prefix text d) n in
+      let here = entry (def_prefix text.bytes d) n in
       let kept =
       filter (has_key def_key a (key_prefix name) name)
-      (map (entry_of s) (numbered (suc n) (map (def_prefix text) defs))) in
+      (map (entry_of s) (numbered (suc n) (map (def_prefix text.bytes) defs))) in
       ap (λ b. map (tag_at a) (cond b (here ∷ kept) kept))
       (key_decides (λ key. key) def_key a name here
       (entry_told (λ key. key) def_key def_prefix names_told a s text there n d defs is)
-      ∙ ap (bytes_eq name) (key_is (def_prefix text d) n d defs is within.0))
-      ∙ kept_or_not (tag_at a) (tag_in file) (bytes_eq name (bytes_of text d.name)) here kept d
-      (filter (λ (x : Def). bytes_eq name (bytes_of text x.name)) defs)
-      (tag_is (def_prefix text d) n d defs is within.0 tagged.0) later
+      ∙ ap (bytes_eq name) (key_is (def_prefix text.bytes d) n d defs is within.0))
+      ∙ kept_or_not (tag_at a) (tag_in file) (bytes_eq name (bytes_of text.bytes d.name)) here kept d
+      (filter (λ (x : Def). bytes_eq name (bytes_of text.bytes x.name)) defs)
+      (tag_is (def_prefix text.bytes d) n d defs is within.0 tagged.0) later
 
 module _ (a : Archived) where
   all_tags : (lister : Lister) (prefixed : List ℕ → Def → ℕ)
-      → ((text : List ℕ)
-      → lister (Some text) ≡ numbered 0 (map (prefixed text) (facts_of text).defs))
+      → ((text : Scanned)
+      → lister (Some text) ≡ numbered 0 (map (prefixed text.bytes) (facts_of text).defs))
       → (shown : List Shown) → AllByRecursion (IsThere a) shown
-      → map (tag_at a) (all_entries lister a shown) ≡ flat_map file_tags (files_of a shown)
+      → map (tag_at a) (all_entries lister a shown) ≡ flat_map (file_tags a.profile) (files_of a shown)
   all_tags lister prefixed some [] all = refl
   all_tags lister prefixed some (s ∷ shown) all =
-      let text = get_or a.texts s.version [] in
-      let there : slice_get a.texts s.version ≡ Some text =
-      slice_get-get_or a.texts s.version [] all.0.1 in
+      let text = text_of a s.version in
+      let there : text_at a s.version ≡ Some text =
+      text_there a s.version all.0.1 in
       map-append (tag_at a) (entries_of lister a s) (all_entries lister a shown)
       ∙ (λ i. (ap (λ o. map (tag_at a) (map (entry_of s) (lister o))) there
       ∙ ap (λ ps. map (tag_at a) (map (entry_of s) ps)) (some text)
-      ∙ tags_from a s text there (prefixed text) 0 (facts_of text).defs refl (facts_lie text).defs (facts_lie text).tags)
+      ∙ tags_from a s text there (prefixed text.bytes) 0 (facts_of text).defs refl (facts_lie text.profile text.bytes).defs (facts_lie text.profile text.bytes).tags)
       i
       ++ all_tags lister prefixed some shown all.1 i)
 
   all_tags_named : (name : List ℕ) (shown : List Shown) → AllByRecursion (IsThere a) shown
       → map (tag_at a)
       (filter (has_key def_key a (key_prefix name) name) (all_entries defs_listed a shown))
-      ≡ flat_map (file_tags_named name) (files_of a shown)
+      ≡ flat_map (file_tags_named a.profile name) (files_of a shown)
   all_tags_named name [] all = refl
   all_tags_named name (s ∷ shown) all =
-      let text = get_or a.texts s.version [] in
-      let there : slice_get a.texts s.version ≡ Some text =
-      slice_get-get_or a.texts s.version [] all.0.1 in
+      let text = text_of a s.version in
+      let there : text_at a s.version ≡ Some text =
+      text_there a s.version all.0.1 in
       let has = has_key def_key a (key_prefix name) name in
       ap (map (tag_at a))
       (filter-append has (entries_of defs_listed a s) (all_entries defs_listed a shown))
       ∙ map-append (tag_at a) (filter has (entries_of defs_listed a s))
       (filter has (all_entries defs_listed a shown))
       ∙ (λ i. (ap (λ o. map (tag_at a) (filter has (map (entry_of s) (defs_listed o)))) there
-      ∙ tags_named_from a s text there name 0 (facts_of text).defs refl (facts_lie text).defs (facts_lie text).tags) i
+      ∙ tags_named_from a s text there name 0 (facts_of text).defs refl (facts_lie text.profile text.bytes).defs (facts_lie text.profile text.bytes).tags) i
       ++ all_tags_named name shown all.1 i)
 
   module _ (shown : List Shown) (all : AllByRecursion (IsThere a) shown) (up : AreAscending a shown)
       (es : List Entry) where
     module _ (bytes : AllByRecursion AreBytes a.texts) where
       pub rows_by_name : IsIndexOf def_key defs_listed a shown es
-          → map (tag_at a) es ≡ tags_by_name (files_of a shown)
+          → map (tag_at a) es ≡ tags_by_name a.profile (files_of a shown)
       unfolding tags_by_name
       rows_by_name is =
           ap (map (tag_at a)) (kept_order def_key a defs_listed defs_rise shown up
@@ -324,7 +325,7 @@ module _ (a : Archived) where
           (all_tags defs_listed def_prefix (λ text. refl) shown all)
 
       pub rows_by_tag_name : IsIndexOf tag_key tags_listed a shown es
-          → map (tag_at a) es ≡ tags_by_tag_name (files_of a shown)
+          → map (tag_at a) es ≡ tags_by_tag_name a.profile (files_of a shown)
       unfolding tags_by_tag_name
       rows_by_tag_name is =
           ap (map (tag_at a)) (kept_order tag_key a tags_listed tags_rise shown up tag_front
@@ -338,7 +339,7 @@ module _ (a : Archived) where
 
     pub rows_named : (name : List ℕ) → IsIndexOf def_key defs_listed a shown es
         → map (tag_at a) (filter (has_key def_key a (key_prefix name) name) es)
-        ≡ tags_named name (files_of a shown)
+        ≡ tags_named a.profile name (files_of a shown)
     unfolding tags_named
     rows_named name is =
         ap (map (tag_at a)) (kept_key def_key a defs_listed defs_rise shown up
@@ -346,9 +347,9 @@ module _ (a : Archived) where
 
 -- ---- the files that are shown
 pub entries_are : (a : Archived) (shown : List Shown) → AllByRecursion (IsThere a) shown
-    → entries_in a shown ≡ map with_facts (files_of a shown)
+    → entries_in a shown ≡ map (with_facts a.profile) (files_of a shown)
 entries_are a [] all = refl
 entries_are a (s ∷ shown) all =
     ap (λ o. file_or_end (name_of a s.name) o (entries_in a shown))
-    (slice_get-get_or a.texts s.version [] all.0.1)
+    (text_there a s.version all.0.1)
     ∙ ap (λ l. with_facts (file_of a s) ∷ l) (entries_are a shown all.1)

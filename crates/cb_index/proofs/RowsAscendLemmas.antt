@@ -16,17 +16,17 @@ use Rattle.std.specs.Ordering.{nat_cmp, ordering_then}
 use Rattle.std.specs.Str.{bytes_eq}
 use Rattle.std.specs.declared.cmp.Ordering.{Ordering}
 use Rattle.std.specs.declared.cmp.Ordering.TheVariants.{Less, Equal}
-use Rattle.cb_scan.specs.Definitions.{facts_of}
 use Rattle.cb_scan.specs.Order.{AreOrdered, IsDefBefore, kind_rank}
 use Rattle.cb_scan.specs.declared.facts.Call.{Call}
 use Rattle.cb_scan.specs.declared.facts.Def.{Def}
 use Rattle.cb_scan.specs.declared.facts.Kind.TheVariants.{Function}
 use Rattle.cb_scan.specs.declared.facts.Use.{Use}
 use Rattle.cb_scan.specs.declared.lex.piece.Span.{Span}
-use Rattle.cb_scan.proofs.InOrder.{facts_in_order}
+use Rattle.cb_index.proofs.Shim.{facts_in_order}
 use Rattle.cb_scan.proofs.FunctionsRise.{all_implied}
 use Rattle.cb_scan.proofs.WithinLemmas.{all-append}
-use Rattle.cb_index.specs.Archived.{Archived, name_of}
+use Rattle.cb_index.specs.Scanned.{Scanned, facts_of}
+use Rattle.cb_index.specs.Archived.{Archived, name_of, text_at}
 use Rattle.cb_index.specs.Files.{AreAscending, count_for}
 use Rattle.cb_index.specs.Kinds.{keyer_of}
 use Rattle.cb_index.specs.RowOrders.{Placer, call_start, def_rank, def_start, rank_for, rank_of}
@@ -82,7 +82,7 @@ or_same m n upward =
     ⊎_elim (λ less. inl less) (λ same. inr (omega (arith, same, upward), omega arith))
     (cases_lt m n)
 
-module _ (text : List ℕ) (i j : ℕ) (upward : i < j) where
+module _ (text : Scanned) (i j : ℕ) (upward : i < j) where
   defs_before : j < length (facts_of text).defs → StandsBefore def_start def_rank (Some text) i j
   defs_before below =
       let defs = (facts_of text).defs in
@@ -98,7 +98,7 @@ module _ (text : List ℕ) (i j : ℕ) (upward : i < j) where
       ⊎_elim
       (λ less. inl (omega (arith, s, t, less)))
       (λ same. inr (s ∙ same.0 ∙ sym t, omega (arith, q, r, same.1)))
-      (two_at IsDefBefore defs (facts_in_order text).defs i j d upward below)
+      (two_at IsDefBefore defs (facts_in_order text.profile text.bytes).defs i j d upward below)
 
   uses_before : j < length (facts_of text).uses
       → StandsBefore use_start (rank_for (Facts Uses)) (Some text) i j
@@ -112,7 +112,7 @@ module _ (text : List ℕ) (i j : ℕ) (upward : i < j) where
       ap span (slice_get-get_or uses j d below) in
       let up =
       two_at (λ (u v : Use). u.name.start ≤ v.name.start) uses
-      (facts_in_order text).uses i j d upward below in
+      (facts_in_order text.profile text.bytes).uses i j d upward below in
       or_same (use_start (Some text) i) (use_start (Some text) j) (omega (arith, s, t, up))
 
   calls_before : j < length (facts_of text).calls
@@ -127,10 +127,10 @@ module _ (text : List ℕ) (i j : ℕ) (upward : i < j) where
       ap span (slice_get-get_or calls j d below) in
       let up =
       two_at (λ (u v : Call). u.callee.start ≤ v.callee.start) calls
-      (facts_in_order text).calls i j d upward below in
+      (facts_in_order text.profile text.bytes).calls i j d upward below in
       or_same (call_start (Some text) i) (call_start (Some text) j) (omega (arith, s, t, up))
 
-items_before : (kind : IndexKind) (t : Option (List ℕ)) (i j : ℕ) → i < j → j < count_for kind t
+items_before : (kind : IndexKind) (t : Option Scanned) (i j : ℕ) → i < j → j < count_for kind t
     → StandsBefore (start_for kind) (rank_for kind) t i j
 items_before DefsByName None i j upward below = absurd (omega (arith, below))
 items_before DefsByName (Some text) i j upward below = defs_before text i j upward below
@@ -165,10 +165,10 @@ module _ (kind : IndexKind) (a : Archived) (key : List ℕ) where
 
   -- in one file
   by_item : (s : Shown) (i j : ℕ) → Has (row_under s i) → Has (row_under s j) → i < j
-      → StandsBefore (start_for kind) (rank_for kind) (slice_get a.texts s.version) i j
+      → StandsBefore (start_for kind) (rank_for kind) (text_at a s.version) i j
       → Follows (row_under s i) (row_under s j)
   by_item s i j has_i has_j upward stands =
-      let t = slice_get a.texts s.version in
+      let t = text_at a s.version in
       let keys =
       tied_texts (row_key (keyer_of kind) a (row_under s i))
       (row_key (keyer_of kind) a (row_under s j)) (has_i ∙ sym has_j) in
@@ -202,7 +202,7 @@ module _ (kind : IndexKind) (a : Archived) (key : List ℕ) where
     has item = bytes_eq key (row_key (keyer_of kind) a (row_under s item))
 
     abbrev count : ℕ
-    count = count_for kind (slice_get a.texts s.version)
+    count = count_for kind (text_at a s.version)
 
     abbrev rows_from : ℕ → ℕ → List Row
     rows_from k m = map (row_under s) (filter has (range_with_len k m))
@@ -240,7 +240,7 @@ module _ (kind : IndexKind) (a : Archived) (key : List ℕ) where
           rows_hold (Follows (row_under s k)) (suc k)
               (λ item low below here.
               by_item s k item (has_it k is) (has_it item here) (omega (arith, low))
-              (items_before kind (slice_get a.texts s.version) k item (omega (arith, low)) below))
+              (items_before kind (text_at a s.version) k item (omega (arith, low)) below))
               m (suc k) (omega arith) (omega (arith, within)),
           later,
         )
@@ -275,7 +275,7 @@ module _ (kind : IndexKind) (a : Archived) (key : List ℕ) where
   rows_ordered (s ∷ shown) up =
       ordered-append Follows (rows_with (keyer_of kind) (count_for kind) a key s)
       (rows_of_key kind a key shown)
-      (file_ordered s (count_for kind (slice_get a.texts s.version)) 0 (omega arith))
+      (file_ordered s (count_for kind (text_at a s.version)) 0 (omega arith))
       (rows_ordered shown up.1)
       (all_implied (λ (r : Row). (r.name ≡ s.name) × Has r)
       (λ r. AllByRecursion (Follows r) (rows_of_key kind a key shown))

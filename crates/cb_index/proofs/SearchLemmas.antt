@@ -6,10 +6,10 @@ use Rattle.std.proofs.lemmas.Bool.{cases_lt}
 use Rattle.std.proofs.lemmas.List.{length-map}
 use Rattle.std.proofs.lemmas.List.Elements.{filter_agree}
 use Rattle.std.proofs.lemmas.List.Sums.{sum_by-cons}
-use Rattle.std.proofs.lemmas.Option.{slice_get-get_or}
 use Rattle.std.specs.Prelude.{cond, slice_get, sum_by}
 use Rattle.std.specs.List.{AllByRecursion, flat_map, range_with_len}
-use Rattle.cb_index.specs.Archived.{Archived, name_of}
+use Rattle.cb_index.specs.Scanned.{Scanned}
+use Rattle.cb_index.specs.Archived.{Archived, name_of, text_at, text_of}
 use Rattle.cb_index.specs.Counts.{row_count, rows_in_files, unlike, unlike_in_files}
 use Rattle.cb_index.specs.Files.{File, IsThere, files_of}
 use Rattle.cb_index.specs.Items.{have_one_key, is_first, item_count, later}
@@ -24,8 +24,9 @@ use Rattle.cb_index.proofs.FactLemmas.{named_apart, one_searched}
 use Rattle.cb_index.proofs.FirstLemmas.{has, is_first_of_key, same_test}
 use Rattle.cb_index.proofs.NewRowLemmas.{rows_counted, rows_new}
 use Rattle.cb_index.proofs.RangeItems.{range_next}
+use Rattle.cb_index.proofs.TextLemmas.{text_there}
 
-module _ (sort : FactKind) (text key : List ℕ) where
+module _ (sort : FactKind) (text : Scanned) (key : List ℕ) where
   -- the items from one on that have the key
   abbrev pub with_from : ℕ → List ℕ
   with_from k = filter (has sort text key) (range_with_len k (item_count sort text - k))
@@ -128,17 +129,17 @@ module _ (kind : FactKind) (a : Archived) (key : List ℕ) where
   all_kept [] = refl
   all_kept (i ∷ items) = ap (λ l. i ∷ l) (all_kept items)
 
-  module _ (s : Shown) (text : List ℕ) (there : slice_get a.texts s.version ≡ Some text) where
+  module _ (s : Shown) (text : Scanned) (there : text_at a s.version ≡ Some text) where
     abbrev file : File
-    file = record { name = name_of a s.name; bytes = text }
+    file = record { name = name_of a s.name; bytes = text.bytes }
 
-    one_all : searched_at true kind a key s ≡ file_facts kind key file
+    one_all : searched_at true kind a key s ≡ file_facts text.profile kind key file
     one_all =
         ap (searched_in_text true kind (name_of a s.name) key) there
         ∙ ap (map (fact_at kind (name_of a s.name) text)) (all_kept (items_with kind text key))
         ∙ one_searched a s text there key kind
 
-    one_new : searched_at false kind a key s ≡ unlike kind (file_facts kind key file)
+    one_new : searched_at false kind a key s ≡ unlike kind (file_facts text.profile kind key file)
     one_new =
         ap (searched_in_text false kind (name_of a s.name) key) there
         ∙ searched_new kind text key (name_of a s.name)
@@ -146,33 +147,33 @@ module _ (kind : FactKind) (a : Archived) (key : List ℕ) where
 
   all_searched : (shown : List Shown) → AllByRecursion (IsThere a) shown
       → flat_map (searched_at true kind a key) shown
-      ≡ flat_map (file_facts kind key) (files_of a shown)
+      ≡ flat_map (file_facts a.profile kind key) (files_of a shown)
   all_searched [] all = refl
   all_searched (s ∷ shown) all =
-      λ i. one_all s (get_or a.texts s.version []) (slice_get-get_or a.texts s.version [] all.0.1) i
+      λ i. one_all s (text_of a s.version) (text_there a s.version all.0.1) i
       ++ all_searched shown all.1 i
 
   pub facts_searched : (shown : List Shown) → AllByRecursion (IsThere a) shown
-      → flat_map (searched_at true kind a key) shown ≡ facts_named kind key (files_of a shown)
-  facts_searched shown all = all_searched shown all ∙ named_apart kind key (files_of a shown)
+      → flat_map (searched_at true kind a key) shown ≡ facts_named a.profile kind key (files_of a shown)
+  facts_searched shown all = all_searched shown all ∙ named_apart a.profile kind key (files_of a shown)
 
   pub new_searched : (shown : List Shown) → AllByRecursion (IsThere a) shown
       → flat_map (searched_at false kind a key) shown
-      ≡ unlike_in_files kind (file_facts kind key) (files_of a shown)
+      ≡ unlike_in_files kind (file_facts a.profile kind key) (files_of a shown)
   new_searched [] all = refl
   new_searched (s ∷ shown) all =
-      λ i. one_new s (get_or a.texts s.version []) (slice_get-get_or a.texts s.version [] all.0.1) i
+      λ i. one_new s (text_of a s.version) (text_there a s.version all.0.1) i
       ++ new_searched shown all.1 i
 
   pub counted_searched : (shown : List Shown) → AllByRecursion (IsThere a) shown
       → sum_by (searched_count kind a key) shown
-      ≡ rows_in_files kind (file_facts kind key) (files_of a shown)
+      ≡ rows_in_files kind (file_facts a.profile kind key) (files_of a shown)
   counted_searched [] all = refl
   counted_searched (s ∷ shown) all =
-      let text = get_or a.texts s.version [] in
-      let file : File = record { name = name_of a s.name; bytes = text } in
-      let here = ap length (one_new s text (slice_get-get_or a.texts s.version [] all.0.1)) in
+      let text = text_of a s.version in
+      let file : File = record { name = name_of a s.name; bytes = text.bytes } in
+      let here = ap length (one_new s text (text_there a s.version all.0.1)) in
       sum_by-cons (searched_count kind a key) s shown
       ∙ (λ i. here i + counted_searched shown all.1 i)
-      ∙ sym (sum_by-cons (λ (f : File). length (unlike kind (file_facts kind key f))) file
+      ∙ sym (sum_by-cons (λ (f : File). length (unlike kind (file_facts a.profile kind key f))) file
       (files_of a shown))

@@ -3,14 +3,13 @@ use Rattle.std.proofs.Common.{◌≡◌, ◌∙◌, ℕ, suc, Bool, true, false,
 use Rattle.std.proofs.Common.{refl, sym, ap, length, map, drop, filter, get_or, arith}
 use Rattle.std.proofs.lemmas.List.Concat.{flat_map-append}
 use Rattle.std.proofs.lemmas.List.Elements.{filter-append, filter_agree}
-use Rattle.std.proofs.lemmas.Option.{slice_get-get_or}
 use Rattle.std.specs.Prelude.{cond, nat_eq, slice_get, Option, ◌&&◌}
 use Rattle.std.specs.List.{AllByRecursion, flat_map, range_with_len}
 use Rattle.std.specs.Str.{bytes_eq}
 use Rattle.cb_scan.specs.declared.facts.Def.{Def}
-use Rattle.cb_scan.specs.Definitions.{facts_of}
 use Rattle.cb_scan.specs.Keys.{key_prefix}
-use Rattle.cb_index.specs.Archived.{Archived, name_of}
+use Rattle.cb_index.specs.Scanned.{Scanned, facts_of}
+use Rattle.cb_index.specs.Archived.{Archived, name_of, text_at, text_of}
 use Rattle.cb_index.specs.Entries.{Keyer, has_key}
 use Rattle.cb_index.specs.Files.{IsThere, count_for, def_count}
 use Rattle.cb_index.specs.Firsts.{firsts}
@@ -33,10 +32,11 @@ use Rattle.cb_index.proofs.RangeItems.{range_next}
 use Rattle.cb_index.proofs.RestLemmas.{drop_next}
 use Rattle.cb_index.proofs.RiseLemmas.{defs_rise, firsts_rise, tags_rise}
 use Rattle.cb_index.proofs.RowLemmas.{kept_key}
+use Rattle.cb_index.proofs.TextLemmas.{text_there}
 
 -- ---- one version
-module _ (a : Archived) (s : Shown) (text : List ℕ)
-    (there : slice_get a.texts s.version ≡ Some text) (key : List ℕ) where
+module _ (a : Archived) (s : Shown) (text : Scanned)
+    (there : text_at a s.version ≡ Some text) (key : List ℕ) where
   -- where an entry is the first item of a key
   first_rows : (sort : FactKind) (keyer : Keyer)
       → ((item : ℕ) → keyer (Some text) (name_of a s.name) item ≡ item_key sort text item)
@@ -60,22 +60,22 @@ module _ (a : Archived) (s : Shown) (text : List ℕ)
     has_front e = has_key keyer a (key_prefix (front key)) key e
 
     def_rows : (n : ℕ) (ds : List Def) → drop n (facts_of text).defs ≡ ds
-        → rows_in None a (filter has_front (map (entry_of s) (numbered n (map (prefixed text) ds))))
+        → rows_in None a (filter has_front (map (entry_of s) (numbered n (map (prefixed text.bytes) ds))))
         ≡ map (row_under s) (filter
-        ((λ item. bytes_eq key (keyer (slice_get a.texts s.version) (name_of a s.name) item)))
+        ((λ item. bytes_eq key (keyer (text_at a s.version) (name_of a s.name) item)))
         (range_with_len n (length ds)))
     def_rows n [] is = refl
     def_rows n (d ∷ ds) is =
         let has : ℕ → Bool = λ item.
-        bytes_eq key (keyer (slice_get a.texts s.version) (name_of a s.name) item) in
+        bytes_eq key (keyer (text_at a s.version) (name_of a s.name) item) in
         let e : Entry = record {
-          prefix = prefixed text d;
+          prefix = prefixed text.bytes d;
           name = s.name;
           version = s.version;
           number = n;
           rows = 1;
         } in
-        let es = filter has_front (map (entry_of s) (numbered (suc n) (map (prefixed text) ds))) in
+        let es = filter has_front (map (entry_of s) (numbered (suc n) (map (prefixed text.bytes) ds))) in
         ap (λ b. rows_in None a (cond b (e ∷ es) es))
         (key_decides front keyer a key e
         (entry_told front keyer prefixed told a s text there n d ds is))
@@ -121,7 +121,7 @@ module _ (a : Archived) (s : Shown) (text : List ℕ)
   def_version : (front : List ℕ → List ℕ) (keyer : Keyer) (prefixed : List ℕ → Def → ℕ)
       → IsTold front keyer prefixed
       → (lister : Lister)
-      → lister (Some text) ≡ numbered 0 (map (prefixed text) (facts_of text).defs)
+      → lister (Some text) ≡ numbered 0 (map (prefixed text.bytes) (facts_of text).defs)
       → rows_in None a
       (filter (has_key keyer a (key_prefix (front key)) key) (entries_of lister a s))
       ≡ rows_with keyer def_count a key s
@@ -132,13 +132,13 @@ module _ (a : Archived) (s : Shown) (text : List ℕ)
       (filter (has_key keyer a (key_prefix (front key)) key) (map (entry_of s) ps))) some
       ∙ def_rows front keyer prefixed told 0 (facts_of text).defs refl
       ∙ ap (λ t. map (row_under s)
-      (filter ((λ item. bytes_eq key (keyer (slice_get a.texts s.version) (name_of a s.name) item)))
+      (filter ((λ item. bytes_eq key (keyer (text_at a s.version) (name_of a s.name) item)))
       (range_with_len 0 (def_count t)))) (sym there)
 
 -- ---- all versions
 module _ (sort : Option FactKind) (keyer : Keyer) (lister : Lister)
-    (rising : (t : Option (List ℕ)) → AreRising (lister t)) (prefix : List ℕ → ℕ) (count : Counter)
-    (one : (a : Archived) (s : Shown) (text : List ℕ) → slice_get a.texts s.version ≡ Some text
+    (rising : (t : Option Scanned) → AreRising (lister t)) (prefix : List ℕ → ℕ) (count : Counter)
+    (one : (a : Archived) (s : Shown) (text : Scanned) → text_at a s.version ≡ Some text
     → (key : List ℕ)
     → rows_in sort a (filter (has_key keyer a (prefix key) key) (entries_of lister a s))
     ≡ rows_with keyer count a key s) where
@@ -151,7 +151,7 @@ module _ (sort : Option FactKind) (keyer : Keyer) (lister : Lister)
       ap (rows_in sort a) (filter-append has (entries_of lister a s) (all_entries lister a shown))
       ∙ flat_map-append (rows_at sort a) (filter has (entries_of lister a s))
       (filter has (all_entries lister a shown))
-      ∙ (λ i. one a s (get_or a.texts s.version []) (slice_get-get_or a.texts s.version [] all.0.1)
+      ∙ (λ i. one a s (text_of a s.version) (text_there a s.version all.0.1)
       key i ++ all_rows a key shown all.1 i)
 
   pub index_rows : SpreadsBy keyer lister prefix sort count

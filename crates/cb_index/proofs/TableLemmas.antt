@@ -12,6 +12,7 @@ use Rattle.std.proofs.lemmas.List.FromFn.{fill_by_all, get_or-map-range_with_len
 use Rattle.std.proofs.lemmas.List.FromFn.{length-map-range_with_len}
 use Rattle.std.proofs.lemmas.Slice.Eq.{bytes_eq-Decides}
 use Rattle.cb_scan.specs.Keys.{key_prefix}
+use Rattle.cb_index.specs.Scanned.{Scanned}
 use Rattle.cb_index.specs.Items.{have_one_key, item_count, item_key, later}
 use Rattle.cb_index.specs.Links.{first_or_none, link_of, links_of}
 use Rattle.cb_index.specs.declared.entry.Entry.{Entry}
@@ -34,24 +35,24 @@ differ a b isnt = not_true (nat_eq a b) (λ is. absurd (isnt ((Decides-eqb a b).
 
 -- where a search for the next item of the key of an item has come to: an item of its place with all
 -- that are left, or none
-pub record IsAhead (sort : FactKind) (text : List ℕ) (item at : ℕ) : Type 0 where
+pub record IsAhead (sort : FactKind) (text : Scanned) (item at : ℕ) : Type 0 where
   pub behind : item < at
   pub within : at < item_count sort text
   pub place : item_place sort text at ≡ item_place sort text item
   pub left : first_or_none (later sort text item) ≡ first_or_none (later_from sort text item at)
 
-pub record Reached (sort : FactKind) (text : List ℕ) (item at : ℕ) : Type 0 where
+pub record Reached (sort : FactKind) (text : Scanned) (item at : ℕ) : Type 0 where
   pub none : at ≡ 0 → first_or_none (later sort text item) ≡ 0
   pub some : 0 < at → IsAhead sort text item at
 
 -- an entry of the table, after an item was chained and before it is in front of its place
-pub record IsHalf (sort : FactKind) (text : List ℕ) (from item : ℕ) (e : Entry) : Type 0 where
+pub record IsHalf (sort : FactKind) (text : Scanned) (from item : ℕ) (e : Entry) : Type 0 where
   pub prefix : e.prefix ≡ key_prefix (item_key sort text item)
   pub number : e.number ≡ item
   pub head : e.version ≡ first_in sort text item (suc from)
   pub behind : from ≤ item → e.name ≡ first_in sort text (item_place sort text item) (suc item)
 
-module _ (sort : FactKind) (text : List ℕ) where
+module _ (sort : FactKind) (text : Scanned) where
   abbrev n : ℕ
   n = item_count sort text
 

@@ -9,6 +9,7 @@ use Rattle.cb_index.specs.Files.{File}
 use Rattle.cb_index.specs.Rows.{Fact}
 use Rattle.cb_index.specs.steps.Found.{fact_at}
 use Rattle.cb_index.specs.steps.Spread.{items_from}
+use Rattle.cb_index.specs.Scanned.{Scanned}
 use Rattle.cb_index.specs.declared.kind.FactKind.{FactKind}
 use Rattle.cb_index.specs.declared.kind.FactKind.TheVariants.{Uses, Callees, Callers}
 
@@ -34,11 +35,11 @@ unlike sort [] = []
 unlike sort (f ∷ fs) = f ∷ filter (λ g. not (same_row sort f g)) (unlike sort fs)
 
 -- the facts of an item and of those behind it that have its key; the file name plays no part here
-abbrev pub key_facts : FactKind → List ℕ → ℕ → List Fact
+abbrev pub key_facts : FactKind → Scanned → ℕ → List Fact
 key_facts sort text item = map (fact_at sort [] text) (items_from sort text item)
 
 -- how many rows they have
-unfoldable pub row_count : FactKind → List ℕ → ℕ → ℕ
+unfoldable pub row_count : FactKind → Scanned → ℕ → ℕ
 row_count sort text item = length (unlike sort (key_facts sort text item))
 
 -- how many rows facts of one key have in files

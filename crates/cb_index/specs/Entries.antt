@@ -1,21 +1,21 @@
 -- Entries and their order.
 use Rattle.std.specs.Prelude.{ℕ, suc, Bool, ◌&&◌, nat_eq, List, [], ◌∷◌, ◌++◌, map, Option}
-use Rattle.std.specs.Prelude.{slice_get}
 use Rattle.std.specs.Cmp.Lexicographic.{slice_cmp}
 use Rattle.std.specs.Ordering.{nat_cmp, ordering_then}
 use Rattle.std.specs.Str.{bytes_eq}
 use Rattle.std.specs.declared.cmp.Ordering.{Ordering}
-use Rattle.cb_index.specs.Archived.{Archived, name_of}
+use Rattle.cb_index.specs.Archived.{Archived, name_of, text_at}
+use Rattle.cb_index.specs.Scanned.{Scanned}
 use Rattle.cb_index.specs.declared.entry.Entry.{Entry}
 
 -- what an order reads of an entry: from the text of its version (if it is there), the name of its
 -- file and its number, its key
 abbrev pub Keyer : Type 0
-Keyer = Option (List ℕ) → List ℕ → ℕ → List ℕ
+Keyer = Option Scanned → List ℕ → ℕ → List ℕ
 
 -- the key of an entry
 abbrev pub key_of : Keyer → Archived → Entry → List ℕ
-key_of keyer a e = keyer (slice_get a.texts e.version) (name_of a e.name) e.number
+key_of keyer a e = keyer (text_at a e.version) (name_of a e.name) e.number
 
 -- the numbers of an entry; of one version its own numbers go by place
 abbrev pub numbers : Entry → List ℕ

@@ -1,14 +1,14 @@
 -- The files that are shown.
 use Rattle.std.specs.Prelude.{ℕ, suc, Bool, false, ◌≡◌, ◌<◌, ◌+◌, List, [], ◌∷◌, ◌++◌, Option, Some}
-use Rattle.std.specs.Prelude.{None, length, map, nat_eq, slice_get, slice_index_or, if◌then◌else◌}
+use Rattle.std.specs.Prelude.{None, length, map, nat_eq, if◌then◌else◌}
 use Rattle.std.specs.Cmp.Lexicographic.{slice_cmp}
 use Rattle.std.specs.List.{list_any}
 use Rattle.std.specs.Ordering.{nat_cmp}
 use Rattle.std.specs.Str.{bytes_eq}
 use Rattle.std.specs.declared.cmp.Ordering.TheVariants.{Less}
-use Rattle.cb_scan.specs.Definitions.{facts_of}
 use Rattle.cb_scan.specs.Order.{AreOrdered}
-use Rattle.cb_index.specs.Archived.{Archived, name_of}
+use Rattle.cb_index.specs.Archived.{Archived, name_of, text_at, text_of}
+use Rattle.cb_index.specs.Scanned.{Scanned, facts_of}
 use Rattle.cb_index.specs.declared.entry.Shown.{Shown}
 use Rattle.cb_index.specs.declared.kind.FactKind.TheVariants.{Uses, Callees, Callers}
 use Rattle.cb_index.specs.declared.kind.IndexKind.{IndexKind}
@@ -21,7 +21,7 @@ pub record File : Type 0 where
 
 -- the file that a version under a name is
 abbrev pub file_of : Archived → Shown → File
-file_of a s = record { name = name_of a s.name; bytes = slice_index_or a.texts s.version [] }
+file_of a s = record { name = name_of a s.name; bytes = (text_of a s.version).bytes }
 
 -- the files of these versions under these names
 abbrev pub files_of : Archived → List Shown → List File
@@ -62,20 +62,20 @@ shown_key a s = map suc (name_of a s.name) ++ 0 ∷ s.name ∷ s.version ∷ []
 -- ---- how many facts there are
 
 -- the definitions, uses and calls of a text, if it is there
-abbrev pub def_count : Option (List ℕ) → ℕ
+abbrev pub def_count : Option Scanned → ℕ
 def_count None = 0
 def_count (Some text) = length (facts_of text).defs
 
-abbrev pub use_count : Option (List ℕ) → ℕ
+abbrev pub use_count : Option Scanned → ℕ
 use_count None = 0
 use_count (Some text) = length (facts_of text).uses
 
-abbrev pub call_count : Option (List ℕ) → ℕ
+abbrev pub call_count : Option Scanned → ℕ
 call_count None = 0
 call_count (Some text) = length (facts_of text).calls
 
 -- the facts of a text to which an index leads
-abbrev pub count_for : IndexKind → Option (List ℕ) → ℕ
+abbrev pub count_for : IndexKind → Option Scanned → ℕ
 count_for DefsByName = def_count
 count_for DefsByTagName = def_count
 count_for (Facts Uses) = use_count
@@ -83,6 +83,6 @@ count_for (Facts Callees) = call_count
 count_for (Facts Callers) = call_count
 
 -- the number of facts that are shown
-abbrev pub total : (Option (List ℕ) → ℕ) → Archived → List Shown → ℕ
+abbrev pub total : (Option Scanned → ℕ) → Archived → List Shown → ℕ
 total count a [] = 0
-total count a (s ∷ shown) = count (slice_get a.texts s.version) + total count a shown
+total count a (s ∷ shown) = count (text_at a s.version) + total count a shown

@@ -5,10 +5,11 @@ use Rattle.cb_scan.specs.Keys.{key_prefix}
 use Rattle.cb_index.specs.Counts.{row_count}
 use Rattle.cb_index.specs.Held.{Listed}
 use Rattle.cb_index.specs.Items.{is_first, item_count, item_key}
+use Rattle.cb_index.specs.Scanned.{Scanned}
 use Rattle.cb_index.specs.declared.kind.FactKind.{FactKind}
 
 -- an item, with the prefix of its key, and how many rows it and those behind it of its key have
-abbrev pub listed : FactKind → List ℕ → ℕ → Listed
+abbrev pub listed : FactKind → Scanned → ℕ → Listed
 listed sort text item = record {
   number = item;
   prefix = key_prefix (item_key sort text item);
@@ -16,7 +17,7 @@ listed sort text item = record {
 }
 
 -- the first items of all keys
-abbrev pub firsts : FactKind → List ℕ → List Listed
+abbrev pub firsts : FactKind → Scanned → List Listed
 firsts sort text =
     map (listed sort text)
     (filter (is_first sort text) (range_with_len 0 (item_count sort text)))

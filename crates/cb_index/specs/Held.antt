@@ -1,8 +1,9 @@
 -- What an index holds.
-use Rattle.std.specs.Prelude.{ℕ, ◌<◌, List, Option, map, slice_get}
+use Rattle.std.specs.Prelude.{ℕ, ◌<◌, List, Option, map}
 use Rattle.std.specs.List.{flat_map}
 use Rattle.cb_scan.specs.Order.{AreOrdered}
-use Rattle.cb_index.specs.Archived.{Archived}
+use Rattle.cb_index.specs.Archived.{Archived, text_at}
+use Rattle.cb_index.specs.Scanned.{Scanned}
 use Rattle.cb_index.specs.declared.entry.Entry.{Entry}
 use Rattle.cb_index.specs.declared.entry.Shown.{Shown}
 use Rattle.cb_index.specs.declared.kind.IndexKind.{IndexKind}
@@ -34,11 +35,11 @@ AreRising items = AreOrdered (λ (i j : Listed). i.number < j.number) items
 
 -- the items of a text that have entries, if it is there
 abbrev pub Lister : Type 0
-Lister = Option (List ℕ) → List Listed
+Lister = Option Scanned → List Listed
 
 -- those of a version
 abbrev pub listed_of : Lister → Archived → ℕ → List Listed
-listed_of lister a version = lister (slice_get a.texts version)
+listed_of lister a version = lister (text_at a version)
 
 -- the entry of an item of a version under a name
 abbrev pub entry_of : Shown → Listed → Entry

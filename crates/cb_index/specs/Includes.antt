@@ -1,9 +1,10 @@
--- The includes of files.
+-- The includes of files, by a profile.
 use Rattle.std.specs.Prelude.{List, map}
 use Rattle.std.specs.List.{flat_map}
 use Rattle.std.specs.Option.{option_map}
 use Rattle.cb_scan.specs.declared.facts.Include.{Include}
-use Rattle.cb_scan.specs.Definitions.{facts_of}
+use Rattle.cb_scan.specs.declared.profile.Profile.{Profile}
+use Rattle.cb_scan.specs.Profiles.{facts_in}
 use Rattle.cb_scan.specs.lex.Tokens.{bytes_of}
 use Rattle.cb_scan.specs.Lines.{line_text}
 use Rattle.cb_index.specs.Files.{File}
@@ -20,9 +21,9 @@ include_in f i = record {
 }
 
 -- the includes of a file, by place
-abbrev pub file_includes : File → List Fact
-file_includes f = map (include_in f) (facts_of f.bytes).includes
+abbrev pub file_includes : Profile → File → List Fact
+file_includes p f = map (include_in f) (facts_in p f.bytes).includes
 
 -- those of all files, by file and place
-unfoldable pub all_includes : List File → List Fact
-all_includes fs = flat_map file_includes fs
+unfoldable pub all_includes : Profile → List File → List Fact
+all_includes p fs = flat_map (file_includes p) fs

@@ -7,9 +7,9 @@ use Rattle.std.specs.Str.{bytes_eq}
 use Rattle.cb_scan.specs.declared.facts.Call.{Call}
 use Rattle.cb_scan.specs.declared.facts.Use.{Use}
 use Rattle.cb_scan.specs.declared.lex.piece.Span.{Span}
-use Rattle.cb_scan.specs.Definitions.{facts_of}
 use Rattle.cb_scan.specs.TextFacts.{TextFacts}
 use Rattle.cb_index.specs.Bytes.{bytes_at}
+use Rattle.cb_index.specs.Scanned.{Scanned, facts_of}
 use Rattle.cb_index.specs.declared.kind.FactKind.{FactKind}
 use Rattle.cb_index.specs.declared.kind.FactKind.TheVariants.{Uses, Callees, Callers}
 
@@ -29,25 +29,25 @@ item_span Callees = callee_span
 item_span Callers = caller_span
 
 -- the key of an item
-abbrev pub item_key : FactKind → List ℕ → ℕ → List ℕ
-item_key sort text item = bytes_at text (item_span sort (facts_of text) item)
+abbrev pub item_key : FactKind → Scanned → ℕ → List ℕ
+item_key sort text item = bytes_at text.bytes (item_span sort (facts_of text) item)
 
 -- how many items a text has
-abbrev pub item_count : FactKind → List ℕ → ℕ
+abbrev pub item_count : FactKind → Scanned → ℕ
 item_count Uses text = length (facts_of text).uses
 item_count Callees text = length (facts_of text).calls
 item_count Callers text = length (facts_of text).calls
 
 -- whether two items have one key
-abbrev pub have_one_key : FactKind → List ℕ → ℕ → ℕ → Bool
+abbrev pub have_one_key : FactKind → Scanned → ℕ → ℕ → Bool
 have_one_key sort text i j = bytes_eq (item_key sort text i) (item_key sort text j)
 
 -- whether no item before an item has its key
-unfoldable pub is_first : FactKind → List ℕ → ℕ → Bool
+unfoldable pub is_first : FactKind → Scanned → ℕ → Bool
 is_first sort text item = not (list_any (have_one_key sort text item) (range_with_len 0 item))
 
 -- the items behind an item that have its key
-unfoldable pub later : FactKind → List ℕ → ℕ → List ℕ
+unfoldable pub later : FactKind → Scanned → ℕ → List ℕ
 later sort text item =
     filter (have_one_key sort text item)
     (range_with_len (suc item) (item_count sort text - suc item))

@@ -15,6 +15,7 @@ pub mod Orders
 pub mod Repeats
 pub mod RowOrders
 pub mod Rows
+pub mod Scanned
 pub mod Shelved
 pub mod Spreads
 pub mod steps

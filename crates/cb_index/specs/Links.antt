@@ -3,6 +3,7 @@ use Rattle.std.specs.Prelude.{ℕ, Bool, ◌≡◌, ◌⊎◌, List, [], ◌∷�
 use Rattle.std.specs.List.{range_with_len}
 use Rattle.cb_index.specs.Items.{is_first, item_count, later}
 use Rattle.cb_index.specs.Repeats.{AreRepeats}
+use Rattle.cb_index.specs.Scanned.{Scanned}
 use Rattle.cb_index.specs.declared.links.Link.{Link}
 use Rattle.cb_index.specs.declared.kind.FactKind.{FactKind}
 use Rattle.cb_index.specs.declared.kind.FactKind.TheVariants.{Uses, Callees, Callers}
@@ -13,16 +14,16 @@ first_or_none [] = 0
 first_or_none (item ∷ items) = item
 
 -- the link of an item: the next item of its key, and whether none before it has that key
-abbrev pub link_of : FactKind → List ℕ → ℕ → Link
+abbrev pub link_of : FactKind → Scanned → ℕ → Link
 link_of sort text item =
     record { next = first_or_none (later sort text item); first = is_first sort text item }
 
 -- the links of all items
-unfoldable pub links_of : FactKind → List ℕ → List Link
+unfoldable pub links_of : FactKind → Scanned → List Link
 links_of sort text = map (link_of sort text) (range_with_len 0 (item_count sort text))
 
 -- these are the links of all items, or none are laid
-abbrev pub AreLinks : FactKind → List ℕ → List Link → Type 0
+abbrev pub AreLinks : FactKind → Scanned → List Link → Type 0
 AreLinks sort text links = (links ≡ []) ⊎ (links ≡ links_of sort text)
 
 -- the links of uses, of calls by the called name, and of calls by the name that calls, and which of
@@ -70,7 +71,7 @@ with_repeats Callees repeats l = record l { callee_repeats = repeats }
 with_repeats Callers repeats l = record l { caller_repeats = repeats }
 
 -- of each sort the links of all items of a text are laid, or none, and so are the repeats
-pub record AreLaid (text : List ℕ) (l : Linked) : Type 0 where
+pub record AreLaid (text : Scanned) (l : Linked) : Type 0 where
   pub uses : AreLinks Uses text l.uses
   pub callees : AreLinks Callees text l.callees
   pub callers : AreLinks Callers text l.callers

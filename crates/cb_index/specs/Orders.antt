@@ -5,7 +5,6 @@ use Rattle.std.specs.Prelude.{slice_get, if◌then◌else◌}
 use Rattle.std.specs.Option.{option_map}
 use Rattle.cb_scan.specs.declared.facts.Def.{Def}
 use Rattle.cb_scan.specs.declared.lex.piece.Span.{Span}
-use Rattle.cb_scan.specs.Definitions.{facts_of}
 use Rattle.cb_scan.specs.Keys.{key_prefix}
 use Rattle.cb_scan.specs.TextFacts.{TextFacts}
 use Rattle.cb_tags.specs.TagNames.{tag_name}
@@ -14,6 +13,7 @@ use Rattle.cb_index.specs.Entries.{Keyer}
 use Rattle.cb_index.specs.Firsts.{firsts}
 use Rattle.cb_index.specs.Held.{Listed, Lister, entry_of}
 use Rattle.cb_index.specs.Items.{item_key}
+use Rattle.cb_index.specs.Scanned.{Scanned, facts_of}
 use Rattle.cb_index.specs.declared.entry.Entry.{Entry}
 use Rattle.cb_index.specs.declared.entry.Shown.{Shown}
 use Rattle.cb_index.specs.declared.kind.FactKind.{FactKind}
@@ -25,7 +25,7 @@ def_span f item = option_map (λ (d : Def). d.name) (slice_get f.defs item)
 -- ---- uses and calls: an entry is the first item of a key
 
 -- the key of an item of a text, if that is there
-abbrev pub key_in : FactKind → Option (List ℕ) → ℕ → List ℕ
+abbrev pub key_in : FactKind → Option Scanned → ℕ → List ℕ
 key_in sort None item = []
 key_in sort (Some text) item = item_key sort text item
 
@@ -37,9 +37,9 @@ firsts_in sort None = []
 firsts_in sort (Some text) = firsts sort text
 
 -- ---- definitions by name: an entry is a definition
-abbrev pub name_in : Option (List ℕ) → ℕ → List ℕ
+abbrev pub name_in : Option Scanned → ℕ → List ℕ
 name_in None number = []
-name_in (Some text) number = bytes_at text (def_span (facts_of text) number)
+name_in (Some text) number = bytes_at text.bytes (def_span (facts_of text) number)
 
 abbrev pub def_key : Keyer
 def_key text file number = name_in text number
@@ -55,7 +55,7 @@ numbered number (p ∷ ps) =
 
 abbrev pub defs_listed : Lister
 defs_listed None = []
-defs_listed (Some text) = numbered 0 (map (def_prefix text) (facts_of text).defs)
+defs_listed (Some text) = numbered 0 (map (def_prefix text.bytes) (facts_of text).defs)
 
 -- ---- definitions by tag name: an entry is a definition
 abbrev pub tag_key : Keyer
@@ -85,4 +85,4 @@ def_entry by_tag_name text s number d =
 
 abbrev pub tags_listed : Lister
 tags_listed None = []
-tags_listed (Some text) = numbered 0 (map (tag_prefix text) (facts_of text).defs)
+tags_listed (Some text) = numbered 0 (map (tag_prefix text.bytes) (facts_of text).defs)

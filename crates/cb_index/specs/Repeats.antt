@@ -4,6 +4,7 @@ use Rattle.std.specs.List.{range_with_len}
 use Rattle.cb_index.specs.Counts.{same_row}
 use Rattle.cb_index.specs.Items.{have_one_key, item_count}
 use Rattle.cb_index.specs.steps.Found.{fact_at}
+use Rattle.cb_index.specs.Scanned.{Scanned}
 use Rattle.cb_index.specs.declared.kind.FactKind.{FactKind}
 
 -- whether one of the numbers below one passes a test
@@ -12,18 +13,18 @@ any_below p zero = false
 any_below p (suc n) = p n || any_below p n
 
 -- whether two items have one key, and equal rows under it
-abbrev pub have_one_row : FactKind → List ℕ → ℕ → ℕ → Bool
+abbrev pub have_one_row : FactKind → Scanned → ℕ → ℕ → Bool
 have_one_row sort text i j =
     same_row sort (fact_at sort [] text j) (fact_at sort [] text i) && have_one_key sort text i j
 
 -- whether an item before an item has its key and its row
-abbrev pub is_repeat : FactKind → List ℕ → ℕ → Bool
+abbrev pub is_repeat : FactKind → Scanned → ℕ → Bool
 is_repeat sort text item = any_below (have_one_row sort text item) item
 
 -- the same of all items
-unfoldable pub repeats_of : FactKind → List ℕ → List Bool
+unfoldable pub repeats_of : FactKind → Scanned → List Bool
 repeats_of sort text = map (is_repeat sort text) (range_with_len 0 (item_count sort text))
 
 -- these tell of all items whether they are repeats, or of none
-abbrev pub AreRepeats : FactKind → List ℕ → List Bool → Type 0
+abbrev pub AreRepeats : FactKind → Scanned → List Bool → Type 0
 AreRepeats sort text repeats = (repeats ≡ []) ⊎ (repeats ≡ repeats_of sort text)

@@ -7,12 +7,12 @@ use Rattle.std.specs.Str.{bytes_eq}
 use Rattle.std.specs.declared.cmp.Ordering.{Ordering}
 use Rattle.cb_scan.specs.declared.facts.Def.{Def}
 use Rattle.cb_scan.specs.declared.lex.piece.Span.{Span}
-use Rattle.cb_scan.specs.Definitions.{facts_of}
 use Rattle.cb_scan.specs.Order.{kind_rank}
-use Rattle.cb_index.specs.Archived.{Archived, name_of}
+use Rattle.cb_index.specs.Archived.{Archived, name_of, text_at}
 use Rattle.cb_index.specs.Entries.{Keyer}
 use Rattle.cb_index.specs.Items.{callee_span, use_span}
 use Rattle.cb_index.specs.Orders.{def_span}
+use Rattle.cb_index.specs.Scanned.{Scanned, facts_of}
 use Rattle.cb_index.specs.declared.entry.Shown.{Shown}
 use Rattle.cb_index.specs.Kinds.{keyer_of}
 use Rattle.cb_index.specs.declared.kind.FactKind.TheVariants.{Uses, Callees, Callers}
@@ -23,20 +23,20 @@ use Rattle.cb_index.specs.declared.row.Row.{Row}
 -- what an order reads of a fact beside its key: from the text of its version (if it is there) and
 -- its number, where it begins, or the rank of its kind
 abbrev pub Placer : Type 0
-Placer = Option (List ℕ) → ℕ → ℕ
+Placer = Option Scanned → ℕ → ℕ
 
 -- how many facts of its sort a text has, if it is there
 abbrev pub Counter : Type 0
-Counter = Option (List ℕ) → ℕ
+Counter = Option Scanned → ℕ
 
 -- the key of a row
 abbrev pub row_key : Keyer → Archived → Row → List ℕ
-row_key keyer a r = keyer (slice_get a.texts r.version) (name_of a r.name) r.item
+row_key keyer a r = keyer (text_at a r.version) (name_of a r.name) r.item
 
 -- what orders rows of one key in one file: place, kind, and then the numbers of the row
 abbrev pub row_numbers : Placer → Placer → Archived → Row → List ℕ
 row_numbers start rank a r =
-    start (slice_get a.texts r.version) r.item ∷ rank (slice_get a.texts r.version) r.item
+    start (text_at a r.version) r.item ∷ rank (text_at a r.version) r.item
     ∷ r.name ∷ r.version ∷ r.item ∷ []
 
 -- two rows: by key, by file name, and then by those numbers
@@ -54,7 +54,7 @@ row_under s item = record { name = s.name; version = s.version; item = item }
 abbrev pub rows_with : Keyer → Counter → Archived → List ℕ → Shown → List Row
 rows_with keyer count a key s =
     map (row_under s) (filter (λ item. bytes_eq key (row_key keyer a (row_under s item)))
-    (range_with_len 0 (count (slice_get a.texts s.version))))
+    (range_with_len 0 (count (text_at a s.version))))
 
 -- where a span begins; 0 where there is none
 abbrev pub start_of : Option Span → ℕ

@@ -1,4 +1,4 @@
--- The rows of files.
+-- The rows of files, by the profile that finds them.
 use Rattle.std.specs.Prelude.{ℕ, List, Option, Some, map, filter}
 use Rattle.std.specs.List.{flat_map}
 use Rattle.std.specs.Option.{option_map}
@@ -7,7 +7,8 @@ use Rattle.cb_scan.specs.declared.facts.Call.{Call}
 use Rattle.cb_scan.specs.declared.facts.Def.{Def}
 use Rattle.cb_scan.specs.declared.facts.Tag as facts
 use Rattle.cb_scan.specs.declared.facts.Use.{Use}
-use Rattle.cb_scan.specs.Definitions.{facts_of}
+use Rattle.cb_scan.specs.declared.profile.Profile.{Profile}
+use Rattle.cb_scan.specs.Profiles.{facts_in}
 use Rattle.cb_scan.specs.lex.Tokens.{bytes_of}
 use Rattle.cb_scan.specs.Lines.{line_text}
 use Rattle.cb_scan.specs.Order.{in_order}
@@ -45,27 +46,28 @@ tag_in f d = record {
 }
 
 -- the tags of a file, by place
-abbrev pub file_tags : File → List Tag
-file_tags f = map (tag_in f) (facts_of f.bytes).defs
+abbrev pub file_tags : Profile → File → List Tag
+file_tags p f = map (tag_in f) (facts_in p f.bytes).defs
 
 -- those of a name
-abbrev pub file_tags_named : List ℕ → File → List Tag
-file_tags_named name f =
+abbrev pub file_tags_named : Profile → List ℕ → File → List Tag
+file_tags_named p name f =
     map (tag_in f) (filter (λ (d : Def). bytes_eq name (bytes_of f.bytes d.name))
-    (facts_of f.bytes).defs)
+    (facts_in p f.bytes).defs)
 
 -- the tags of a name in all files, by file and place
-unfoldable pub tags_named : List ℕ → List File → List Tag
-tags_named name fs = flat_map (file_tags_named name) fs
+unfoldable pub tags_named : Profile → List ℕ → List File → List Tag
+tags_named p name fs = flat_map (file_tags_named p name) fs
 
 -- all tags by name, and those of one name by file and place
-unfoldable pub tags_by_name : List File → List Tag
-tags_by_name fs = in_order (λ (t : Tag). t.name) (flat_map file_tags fs)
+unfoldable pub tags_by_name : Profile → List File → List Tag
+tags_by_name p fs = in_order (λ (t : Tag). t.name) (flat_map (file_tags p) fs)
 
 -- all tags by the name that a plain tags file has for them, and those of one such name by file and
 -- place
-unfoldable pub tags_by_tag_name : List File → List Tag
-tags_by_tag_name fs = in_order (λ (t : Tag). tag_name t.name t.file) (flat_map file_tags fs)
+unfoldable pub tags_by_tag_name : Profile → List File → List Tag
+tags_by_tag_name p fs =
+    in_order (λ (t : Tag). tag_name t.name t.file) (flat_map (file_tags p) fs)
 
 -- ---- uses and calls
 
@@ -90,40 +92,40 @@ call_in f c = record {
 }
 
 -- the uses of a name in a file, by place
-abbrev pub file_uses_of : List ℕ → File → List Fact
-file_uses_of name f =
+abbrev pub file_uses_of : Profile → List ℕ → File → List Fact
+file_uses_of p name f =
     map (use_in f) (filter (λ (u : Use). bytes_eq name (bytes_of f.bytes u.name))
-    (facts_of f.bytes).uses)
+    (facts_in p f.bytes).uses)
 
 -- the calls of a name in a file, by place
-abbrev pub file_calls_of : List ℕ → File → List Fact
-file_calls_of name f =
+abbrev pub file_calls_of : Profile → List ℕ → File → List Fact
+file_calls_of p name f =
     map (call_in f) (filter (λ (c : Call). bytes_eq name (bytes_of f.bytes c.callee))
-    (facts_of f.bytes).calls)
+    (facts_in p f.bytes).calls)
 
 -- the calls that stand in what has that name, by place
-abbrev pub file_calls_in : List ℕ → File → List Fact
-file_calls_in name f =
+abbrev pub file_calls_in : Profile → List ℕ → File → List Fact
+file_calls_in p name f =
     map (call_in f) (filter (λ (c : Call). bytes_eq name (bytes_of f.bytes c.caller))
-    (facts_of f.bytes).calls)
+    (facts_in p f.bytes).calls)
 
 -- the same in all files, by file and place
-unfoldable pub uses_of : List ℕ → List File → List Fact
-uses_of name fs = flat_map (file_uses_of name) fs
+unfoldable pub uses_of : Profile → List ℕ → List File → List Fact
+uses_of p name fs = flat_map (file_uses_of p name) fs
 
-unfoldable pub calls_of : List ℕ → List File → List Fact
-calls_of name fs = flat_map (file_calls_of name) fs
+unfoldable pub calls_of : Profile → List ℕ → List File → List Fact
+calls_of p name fs = flat_map (file_calls_of p name) fs
 
-unfoldable pub calls_in : List ℕ → List File → List Fact
-calls_in name fs = flat_map (file_calls_in name) fs
+unfoldable pub calls_in : Profile → List ℕ → List File → List Fact
+calls_in p name fs = flat_map (file_calls_in p name) fs
 
 -- ---- by kind
-abbrev pub file_facts : FactKind → List ℕ → File → List Fact
-file_facts Uses = file_uses_of
-file_facts Callees = file_calls_of
-file_facts Callers = file_calls_in
+abbrev pub file_facts : Profile → FactKind → List ℕ → File → List Fact
+file_facts p Uses = file_uses_of p
+file_facts p Callees = file_calls_of p
+file_facts p Callers = file_calls_in p
 
-abbrev pub facts_named : FactKind → List ℕ → List File → List Fact
-facts_named Uses = uses_of
-facts_named Callees = calls_of
-facts_named Callers = calls_in
+abbrev pub facts_named : Profile → FactKind → List ℕ → List File → List Fact
+facts_named p Uses = uses_of p
+facts_named p Callees = calls_of p
+facts_named p Callers = calls_in p

@@ -2,7 +2,8 @@
 use Rattle.std.specs.Prelude.{ℕ, ◌≡◌, ◌≤◌, ◌+◌, ◌^◌, ◌⊎◌, ◌++◌, false, List, length, map}
 use Rattle.std.specs.Prelude.{max}
 use Rattle.std.specs.List.{AllByRecursion, list_any}
-use Rattle.cb_scan.specs.Definitions.{facts_of}
+use Rattle.cb_scan.specs.declared.profile.Profile.{Profile}
+use Rattle.cb_scan.specs.Profiles.{facts_in}
 use Rattle.cb_scan.specs.Order.{in_order}
 use Rattle.cb_scan.specs.TextFacts.{TextFacts}
 use Rattle.cb_index.specs.Archived.{Archived}
@@ -34,14 +35,14 @@ pub record Shelved : Type 0 where
 abbrev pub files : Shelved → List File
 files s = files_of s.archive s.shown
 
--- a file that is shown, and what is found in it
+-- a file that is shown, and what a profile finds in it
 pub record ShownFile : Type 0 where
   pub name : List ℕ
   pub bytes : List ℕ
   pub facts : TextFacts
 
-abbrev pub with_facts : File → ShownFile
-with_facts f = record { name = f.name; bytes = f.bytes; facts = facts_of f.bytes }
+abbrev pub with_facts : Profile → File → ShownFile
+with_facts p f = record { name = f.name; bytes = f.bytes; facts = facts_in p f.bytes }
 
 -- versions can be shown together: their numbers are there, no two of them have one file name, no
 -- file of such a name is shown, and there is room for all

@@ -16,15 +16,15 @@ ghost use Rattle.std.specs.Prelude.{
   IfOk,
   OnOk,
   OnErr,
-  slice_get,
   slice_index_or,
 };
 ghost use Rattle.std.specs.Option.{option_copied};
-ghost use Rattle.cb_scan.specs.Definitions.{facts_of};
 ghost use Rattle.std.specs.List.{AllByRecursion};
-ghost use Rattle.cb_index.specs.Archived.{AreBytes, name_of};
+ghost use Rattle.cb_scan.specs.Profiles.{facts_in};
+ghost use Rattle.cb_index.specs.Archived.{AreBytes, name_of, text_at, text_of};
 ghost use Rattle.cb_index.specs.Links.{link_of, nothing_laid};
 ghost use Rattle.cb_index.specs.Repeats.{is_repeat};
+ghost use Rattle.cb_index.specs.Scanned.{facts_of};
 ghost use Rattle.cb_index.specs.steps.Laying.{AreSorted, item_entries};
 
 use crate::bytes::read_bytes;
@@ -33,56 +33,69 @@ use crate::items::item_count;
 use crate::kind::FactKind;
 use crate::links::{Link, Links};
 use crate::memory::OutOfMemory;
-use cb_scan::{Facts, Source};
+use crate::scanned::ScannedSource;
+use cb_scan::{Facts, Profile, Source};
 use std::alloc::Global;
 use std::marker::Model;
 
-/// A source with the facts of its text, and links between those of one key. Its value is the text:
-/// whether links are laid is only a matter of time.
+/// A source with what its profile finds in it, and links between facts of one key. Its value is the
+/// profile and the text: whether links are laid is only a matter of time.
 #[derive(Debug, Drop)]
 pub struct Version {
-    source: Source,
-    facts: Facts,
+    text: ScannedSource,
     links: Links,
 }
 
 impl Model for Version {
-    ghost use Rattle.std.specs.Prelude.{List, ℕ, ◌≡◌};
-    ghost use Rattle.cb_scan.specs.Definitions.{facts_of};
     ghost use Rattle.cb_index.specs.Links.{AreLaid};
+    ghost use Rattle.cb_index.specs.Scanned.{Scanned};
 
-    ghost Value = { List ℕ };
+    ghost Value = { Scanned };
 
-    ghost view = { λ v. v.source };
+    ghost view = { λ v. v.text };
 
-    ghost invariant = { λ v. (v.facts ≡ facts_of v.source) × AreLaid v.source v.links };
+    ghost invariant = { λ v. AreLaid v.text v.links };
 }
 
 impl Version {
-    /// The version of a source, with its facts and with room for links.
-    pub fn new(source: Source, facts: Facts, links: Links) -> Version
-        requires facts { facts ≡ facts_of source }
+    /// The version of a source, with what a profile finds in it and with room for links.
+    pub fn new(profile: Profile, source: Source, facts: Facts, links: Links) -> Version
+        requires facts { facts ≡ facts_in profile source }
         requires links { links ≡ nothing_laid }
-        ensures { result ≡ source }
+        ensures profile { result.profile ≡ profile }
+        ensures bytes { result.bytes ≡ source }
     {
         Version {
-            source,
-            facts,
+            text: ScannedSource::new(profile, source, facts),
             links,
         }
     }
 
-    pub fn source(&self) -> &Source
+    /// The source with its facts.
+    pub(crate) fn text(&self) -> &ScannedSource
         ensures { result.now ≡ self.now }
     {
-        &self.source
+        &self.text
     }
 
-    /// The facts of its text.
+    /// The profile by which it was scanned.
+    pub fn profile(&self) -> Profile
+        ensures { result ≡ self.now.profile }
+    {
+        self.text.profile()
+    }
+
+    pub fn source(&self) -> &Source
+        ensures { result.now ≡ self.now.bytes }
+    {
+        self.text.source()
+    }
+
+    /// What is found in its text.
     pub fn facts(&self) -> &Facts
         ensures { result.now ≡ facts_of self.now }
     {
-        &self.facts
+        self.text.facts()
     }
 
     /// The link of an item, if links are laid.
@@ -110,8 +123,7 @@ impl Version {
         requires entries { entries.old ≡ item_entries sort self.old 0 }
         ensures { self.new ≡ self.old }
     {
-        self.links
-            .find_repeats(sort, &self.source, &self.facts, entries);
+        self.links.find_repeats(sort, &self.text, entries);
     }
 
     /// Whether its links of a sort are not laid, and there is room for them.
@@ -131,8 +143,7 @@ impl Version {
         requires { entries.old ≡ item_entries sort self.old 0 }
         ensures { self.new ≡ self.old }
     {
-        self.links
-            .lay_by_table(sort, &self.source, &self.facts, entries)
+        self.links.lay_by_table(sort, &self.text, entries)
     }
 
     /// Lays the links of a sort by the entries of all items, in order, if there is room.
@@ -140,13 +151,15 @@ impl Version {
         requires { AreSorted sort self.old entries.now }
         ensures { self.new ≡ self.old }
     {
-        self.links.lay(sort, &self.source, &self.facts, entries);
+        self.links.lay(sort, &self.text, entries);
     }
 }
 
-/// File names and versions of texts with their facts, each under a number, from 0.
+/// File names, and versions of texts with what one profile finds in them, each under a number,
+/// from 0.
 #[derive(Debug, Drop)]
 pub struct Archive {
+    profile: Profile,
     names: Vec<Vec<u8>>,
     versions: Vec<Version>,
 }
@@ -154,30 +167,40 @@ pub struct Archive {
 impl Model for Archive {
     ghost use Rattle.std.specs.Prelude.{map, min, vec_capacity};
     ghost use Rattle.std.specs.List.{AllByRecursion};
-    ghost use Rattle.cb_index.specs.Archived.{AreBytes, Archived};
+    ghost use Rattle.cb_index.specs.Archived.{Archived, IsVersionBy};
 
     ghost Value = { Archived };
 
     ghost view = { λ a. record {
+      profile = a.profile;
       names = map (λ n. n.items) a.names.items;
-      texts = a.versions.items;
+      texts = map (λ v. v.bytes) a.versions.items;
       name_room = min (vec_capacity a.names) 4294967295;
       version_room = min (vec_capacity a.versions) 4294967295;
     } };
 
-    ghost invariant = { λ a. AllByRecursion AreBytes a.versions.items };
+    ghost invariant = { λ a. AllByRecursion (IsVersionBy a.profile) a.versions.items };
 }
 
 impl Archive {
-    /// An archive that keeps nothing. It takes no memory.
-    pub fn new(alloc: Global) -> Archive
+    /// An archive for texts that are scanned by a profile; it keeps nothing. It takes no memory.
+    pub fn new(alloc: Global, profile: Profile) -> Archive
+        ensures profile { result.profile ≡ profile }
         ensures names { result.names ≡ [] }
         ensures texts { result.texts ≡ [] }
     {
         Archive {
+            profile,
             names: Vec::new(alloc),
             versions: Vec::new(alloc),
         }
+    }
+
+    /// The profile by which all its texts are scanned.
+    pub fn profile(&self) -> Profile
+        ensures { result ≡ self.now.profile }
+    {
+        self.profile
     }
 
     /// Makes room for that many names and versions in all. What is kept stays, also where memory is
@@ -185,6 +208,7 @@ impl Archive {
     pub fn reserve(&mut self, names: u32, versions: u32) -> Result<(), OutOfMemory>
         ensures names { OnOk result (names ≤ self.new.name_room) }
         ensures versions { OnOk result (versions ≤ self.new.version_room) }
+        ensures same_profile { self.new.profile ≡ self.old.profile }
         ensures same_names { self.new.names ≡ self.old.names }
         ensures same_texts { self.new.texts ≡ self.old.texts }
         ensures name_room { self.old.name_room ≤ self.new.name_room }
@@ -205,6 +229,7 @@ impl Archive {
     pub fn push_name(&mut self, name: Vec<u8>) -> u32
         requires { length self.old.names < self.old.name_room }
         ensures value { result ≡ length self.old.names }
+        ensures profile { self.new.profile ≡ self.old.profile }
         ensures names { self.new.names ≡ self.old.names ++ name.items ∷ [] }
         ensures texts { self.new.texts ≡ self.old.texts }
         ensures room { self.old.name_room ≤ self.new.name_room }
@@ -219,9 +244,11 @@ impl Archive {
 
     /// Keeps a version under the number that is answered: the count of versions before.
     pub fn push_version(&mut self, version: Version) -> u32
-        requires { length self.old.texts < self.old.version_room }
+        requires profile { version.profile ≡ self.old.profile }
+        requires room { length self.old.texts < self.old.version_room }
         ensures value { result ≡ length self.old.texts }
-        ensures texts { self.new.texts ≡ self.old.texts ++ version ∷ [] }
+        ensures profile { self.new.profile ≡ self.old.profile }
+        ensures texts { self.new.texts ≡ self.old.texts ++ version.bytes ∷ [] }
         ensures names { self.new.names ≡ self.old.names }
         ensures room { self.old.version_room ≤ self.new.version_room }
         ensures name_room { self.new.name_room ≡ self.old.name_room }
@@ -236,6 +263,7 @@ impl Archive {
 
     /// Keeps only the first `versions` versions and the first `names` names.
     pub fn truncate(&mut self, versions: u32, names: u32)
+        ensures profile { self.new.profile ≡ self.old.profile }
         ensures texts { self.new.texts ≡ take versions self.old.texts }
         ensures names { self.new.names ≡ take names self.old.names }
         ensures name_room { self.new.name_room ≡ self.old.name_room }
@@ -288,7 +316,7 @@ impl Archive {
     /// The facts of the source under a number.
     pub fn facts(&self, version: u32) -> &Facts
         requires { version < length self.now.texts }
-        ensures { result.now ≡ facts_of (slice_index_or self.now.texts version []) }
+        ensures { result.now ≡ facts_of (text_of self.now version) }
     {
         self.versions[version as usize].facts()
     }
@@ -303,7 +331,7 @@ impl Archive {
     ) -> bool
         requires there { version < length self.old.texts }
         requires entries { entries.old
-            ≡ item_entries sort (slice_index_or self.old.texts version []) 0 }
+            ≡ item_entries sort (text_of self.old version) 0 }
         ensures { self.new ≡ self.old }
     {
         self.versions[version as usize].lay_by_table(sort, entries)
@@ -312,7 +340,7 @@ impl Archive {
     /// Lays links of a version by the entries of all items, in order, if there is room.
     pub(crate) fn lay_links(&mut self, version: u32, sort: FactKind, entries: &[Entry])
         requires there { version < length self.old.texts }
-        requires entries { AreSorted sort (slice_index_or self.old.texts version []) entries.now }
+        requires entries { AreSorted sort (text_of self.old version) entries.now }
         ensures { self.new ≡ self.old }
     {
         self.versions[version as usize].lay_links(sort, entries);
@@ -322,7 +350,7 @@ impl Archive {
     pub(crate) fn find_repeats(&mut self, version: u32, sort: FactKind, entries: &mut [Entry])
         requires there { version < length self.old.texts }
         requires entries { entries.old
-            ≡ item_entries sort (slice_index_or self.old.texts version []) 0 }
+            ≡ item_entries sort (text_of self.old version) 0 }
         ensures { self.new ≡ self.old }
     {
         self.versions[version as usize].find_repeats(sort, entries);
@@ -330,7 +358,7 @@ impl Archive {
 
     /// The version under a number, if it is there.
     pub(crate) fn version(&self, version: u32) -> Option<&Version>
-        ensures { option_copied result ≡ slice_get self.now.texts version }
+        ensures { option_copied result ≡ text_at self.now version }
     {
         self.versions.get(version as usize)
     }

@@ -101,7 +101,7 @@ fn first_include<'a>(entries: Entries<'a>) -> Option<Step<'a>>
 impl Shelf {
     /// The includes of the files that are shown, by file and place.
     pub fn includes(&self) -> IncludeRows<'_>
-        ensures { includes_left result ≡ all_includes (files self.now) }
+        ensures { includes_left result ≡ all_includes self.now.archive.profile (files self.now) }
     {
         IncludeRows {
             begun: None,

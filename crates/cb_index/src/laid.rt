@@ -13,7 +13,6 @@ ghost use Rattle.std.specs.Prelude.{
   vec_capacity,
 };
 ghost use Rattle.std.specs.List.{AllByRecursion};
-ghost use Rattle.cb_scan.specs.Definitions.{facts_of};
 ghost use Rattle.cb_index.specs.Items.{item_count};
 ghost use Rattle.cb_index.specs.Links.{links_of};
 ghost use Rattle.cb_index.specs.steps.Laying.{
@@ -33,38 +32,35 @@ use crate::entry::Entry;
 use crate::items::{item_count, item_key, item_span};
 use crate::kind::{FactKind, IndexKind};
 use crate::links::Link;
+use crate::scanned::ScannedSource;
 use crate::sort::sort;
-use cb_scan::{Facts, Source, key_prefix};
+use cb_scan::key_prefix;
 
 /// Whether two entries of items have one key. Their prefixes are compared first.
 pub(crate) fn entries_match(
     sort: FactKind,
-    source: &Source,
-    facts: &Facts,
+    text: &ScannedSource,
     a: Entry,
     b: Entry,
 ) -> bool
-    requires { facts.now ≡ facts_of source.now }
-    ensures { result ≡ entries_match sort source.now a b }
+    ensures { result ≡ entries_match sort text.now a b }
 {
     a.prefix == b.prefix
-        && bytes_at(source.bytes(), item_span(sort, facts, a.number))
-            == bytes_at(source.bytes(), item_span(sort, facts, b.number))
+        && bytes_at(text.source().bytes(), item_span(sort, text.facts(), a.number))
+            == bytes_at(text.source().bytes(), item_span(sort, text.facts(), b.number))
 }
 
 /// The item of the entry that follows an entry, if it has its key.
 fn next_item(
     sort: FactKind,
-    source: &Source,
-    facts: &Facts,
+    text: &ScannedSource,
     entry: Entry,
     behind: &[Entry],
 ) -> Option<u32>
-    requires { facts.now ≡ facts_of source.now }
-    ensures { result ≡ next_item sort source.now entry behind.now }
+    ensures { result ≡ next_item sort text.now entry behind.now }
 {
     match behind.first() {
-        Some(next) if entries_match(sort, source, facts, entry, *next) => Some(next.number),
+        Some(next) if entries_match(sort, text, entry, *next) => Some(next.number),
         _ => None,
     }
 }
@@ -83,19 +79,17 @@ fn link_to(next: Option<u32>, first: bool) -> Link
 #[tactic(auto, unfolding(crate::specs::steps::Laying::with_each))]
 pub(crate) fn set_each(
     sort: FactKind,
-    source: &Source,
-    facts: &Facts,
+    text: &ScannedSource,
     entries: &[Entry],
     links: &mut [Link],
 )
-    requires facts { facts.now ≡ facts_of source.now }
     requires numbers { AllByRecursion (λ (e : Entry). e.number < length links.old) entries.now }
-    ensures links { links.new ≡ with_each sort source.now true entries.now links.old }
+    ensures links { links.new ≡ with_each sort text.now true entries.now links.old }
     ensures len { length links.new ≡ length links.old }
 {
     let mut first = true;
     for (i, entry) in entries.iter().enumerate() {
-        let next = next_item(sort, source, facts, *entry, &entries[i + 1..]);
+        let next = next_item(sort, text, *entry, &entries[i + 1..]);
         links[entry.number as usize] = link_to(next, first);
         first = next.is_none();
     }
@@ -118,20 +112,18 @@ pub(crate) fn fill(links: &mut Vec<Link>, count: usize)
 /// Lays links by the entries of all items, in order; none where there is too little room.
 pub(crate) fn lay_in(
     sort: FactKind,
-    source: &Source,
-    facts: &Facts,
+    text: &ScannedSource,
     entries: &[Entry],
     links: &mut Vec<Link>,
 )
-    requires facts { facts.now ≡ facts_of source.now }
-    requires entries { AreSorted sort source.now entries.now }
-    ensures { (links.new.items ≡ links.old.items) ⊎ (links.new.items ≡ links_of sort source.now) }
+    requires entries { AreSorted sort text.now entries.now }
+    ensures { (links.new.items ≡ links.old.items) ⊎ (links.new.items ≡ links_of sort text.now) }
 {
     if links.capacity() < entries.len() {
         return;
     }
     fill(links, entries.len());
-    set_each(sort, source, facts, entries, links.as_mut_slice());
+    set_each(sort, text, entries, links.as_mut_slice());
 }
 
 /// Appends the entries of all items of a version.

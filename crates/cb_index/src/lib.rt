@@ -10,6 +10,7 @@
 mod archive;
 mod bytes;
 mod room;
+mod scanned;
 
 // What is shown of it, with how many facts, and what it lends row by row.
 mod entries;

@@ -1,6 +1,5 @@
 //! What a version keeps so that items of one key are found without a search.
 ghost use Rattle.std.specs.Prelude.{◌≡◌, ◌⊎◌, [], true, IfOk};
-ghost use Rattle.cb_scan.specs.Definitions.{facts_of};
 ghost use Rattle.cb_index.specs.Links.{
   links_for,
   links_of,
@@ -17,8 +16,9 @@ use crate::kind::FactKind;
 use crate::laid::lay_in;
 use crate::memory::OutOfMemory;
 use crate::repeats::find_repeats;
+use crate::scanned::ScannedSource;
 use crate::table::lay_in_table;
-use cb_scan::{Facts, Source};
+use cb_scan::Facts;
 use std::alloc::Global;
 use std::marker::Model;
 
@@ -117,22 +117,20 @@ impl Links {
     pub(crate) fn find_repeats(
         &mut self,
         sort: FactKind,
-        source: &Source,
-        facts: &Facts,
+        text: &ScannedSource,
         entries: &mut [Entry],
     )
-        requires facts { facts.now ≡ facts_of source.now }
-        requires entries { entries.old ≡ item_entries sort source.now 0 }
+        requires entries { entries.old ≡ item_entries sort text.now 0 }
         ensures { (self.new ≡ with_repeats sort [] self.old)
-            ⊎ (self.new ≡ with_repeats sort (repeats_of sort source.now) self.old) }
+            ⊎ (self.new ≡ with_repeats sort (repeats_of sort text.now) self.old) }
     {
         match sort {
-            FactKind::Uses => find_repeats(sort, source, facts, entries, &mut self.use_repeats),
+            FactKind::Uses => find_repeats(sort, text, entries, &mut self.use_repeats),
             FactKind::Callees => {
-                find_repeats(sort, source, facts, entries, &mut self.callee_repeats)
+                find_repeats(sort, text, entries, &mut self.callee_repeats)
             }
             FactKind::Callers => {
-                find_repeats(sort, source, facts, entries, &mut self.caller_repeats)
+                find_repeats(sort, text, entries, &mut self.caller_repeats)
             }
         }
     }
@@ -151,16 +149,15 @@ impl Links {
 
     /// Lays the links of a sort by the entries of all items, in order; none where there is too
     /// little room.
-    pub(crate) fn lay(&mut self, sort: FactKind, source: &Source, facts: &Facts, entries: &[Entry])
-        requires facts { facts.now ≡ facts_of source.now }
-        requires entries { AreSorted sort source.now entries.now }
+    pub(crate) fn lay(&mut self, sort: FactKind, text: &ScannedSource, entries: &[Entry])
+        requires entries { AreSorted sort text.now entries.now }
         ensures { (self.new ≡ self.old)
-            ⊎ (self.new ≡ with_links sort (links_of sort source.now) self.old) }
+            ⊎ (self.new ≡ with_links sort (links_of sort text.now) self.old) }
     {
         match sort {
-            FactKind::Uses => lay_in(sort, source, facts, entries, &mut self.uses),
-            FactKind::Callees => lay_in(sort, source, facts, entries, &mut self.callees),
-            FactKind::Callers => lay_in(sort, source, facts, entries, &mut self.callers),
+            FactKind::Uses => lay_in(sort, text, entries, &mut self.uses),
+            FactKind::Callees => lay_in(sort, text, entries, &mut self.callees),
+            FactKind::Callers => lay_in(sort, text, entries, &mut self.callers),
         }
     }
 
@@ -169,23 +166,21 @@ impl Links {
     pub(crate) fn lay_by_table(
         &mut self,
         sort: FactKind,
-        source: &Source,
-        facts: &Facts,
+        text: &ScannedSource,
         entries: &mut [Entry],
     ) -> bool
-        requires facts { facts.now ≡ facts_of source.now }
-        requires entries { entries.old ≡ item_entries sort source.now 0 }
+        requires entries { entries.old ≡ item_entries sort text.now 0 }
         ensures { (self.new ≡ with_links sort [] self.old)
-            ⊎ (self.new ≡ with_links sort (links_of sort source.now) self.old) }
+            ⊎ (self.new ≡ with_links sort (links_of sort text.now) self.old) }
     {
         let looks = entries.len().saturating_mul(LOOKS_PER_ITEM);
         match sort {
-            FactKind::Uses => { lay_in_table(sort, source, facts, entries, &mut self.uses, looks) }
+            FactKind::Uses => { lay_in_table(sort, text, entries, &mut self.uses, looks) }
             FactKind::Callees => {
-                lay_in_table(sort, source, facts, entries, &mut self.callees, looks)
+                lay_in_table(sort, text, entries, &mut self.callees, looks)
             }
             FactKind::Callers => {
-                lay_in_table(sort, source, facts, entries, &mut self.callers, looks)
+                lay_in_table(sort, text, entries, &mut self.callers, looks)
             }
         }
     }

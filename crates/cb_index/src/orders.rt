@@ -9,14 +9,13 @@ ghost use Rattle.std.specs.Prelude.{
   [],
   length,
   map,
-  slice_get,
   vec_len,
   vec_capacity,
 };
 ghost use Rattle.std.specs.Cmp.Lexicographic.{slice_cmp};
 ghost use Rattle.std.specs.Ordering.{nat_cmp};
-ghost use Rattle.cb_scan.specs.Definitions.{facts_of};
 ghost use Rattle.cb_tags.specs.TagNames.{tag_name};
+ghost use Rattle.cb_index.specs.Archived.{text_at};
 ghost use Rattle.cb_index.specs.Entries.{key_of};
 ghost use Rattle.cb_index.specs.Firsts.{firsts};
 ghost use Rattle.cb_index.specs.Held.{entries_of, entry_of, listed_of};
@@ -32,6 +31,7 @@ ghost use Rattle.cb_index.specs.Orders.{
   tag_front,
   tag_prefix,
 };
+ghost use Rattle.cb_index.specs.Scanned.{facts_of};
 
 use crate::archive::{Archive, Version};
 use crate::bytes::{bytes_at, cut};
@@ -56,7 +56,7 @@ pub(crate) fn def_span(facts: &Facts, item: u32) -> Option<Span>
 
 /// The key of an item, in the text of its version.
 pub(crate) fn key_in(kind: FactKind, archive: &Archive, version: u32, item: u32) -> &[u8]
-    ensures { result.now ≡ key_in kind (slice_get archive.now.texts version) item }
+    ensures { result.now ≡ key_in kind (text_at archive.now version) item }
 {
     match archive.version(version) {
         Some(version) => item_key(kind, version, item),
@@ -66,7 +66,7 @@ pub(crate) fn key_in(kind: FactKind, archive: &Archive, version: u32, item: u32)
 
 /// The name of a definition, in the text of its version.
 pub(crate) fn name_in(archive: &Archive, version: u32, item: u32) -> &[u8]
-    ensures { result.now ≡ def_key (slice_get archive.now.texts version) [] item }
+    ensures { result.now ≡ def_key (text_at archive.now version) [] item }
 {
     match archive.version(version) {
         Some(version) => bytes_at(version.source().bytes(), def_span(version.facts(), item)),

@@ -21,10 +21,10 @@ ghost use Rattle.std.specs.Prelude.{
   MatchOption,
 };
 ghost use Rattle.std.specs.Str.{bytes_eq};
-ghost use Rattle.cb_scan.specs.Definitions.{facts_of};
 ghost use Rattle.cb_index.specs.Counts.{function_of};
 ghost use Rattle.cb_index.specs.Items.{item_count};
 ghost use Rattle.cb_index.specs.Repeats.{have_one_row, is_repeat, repeats_of};
+ghost use Rattle.cb_index.specs.Scanned.{Scanned};
 ghost use Rattle.cb_index.specs.declared.kind.FactKind.{FactKind};
 ghost use Rattle.cb_index.specs.steps.Found.{fact_at};
 ghost use Rattle.cb_index.specs.steps.Given.{given_left};
@@ -45,8 +45,9 @@ use crate::entry::Entry;
 use crate::items::{Chain, item_span};
 use crate::kind::FactKind;
 use crate::rows::{FactSpot, fact_in};
+use crate::scanned::ScannedSource;
 use crate::table::{key_end, mixed};
-use cb_scan::{Facts, Source, Span, key_prefix};
+use cb_scan::{Facts, Span, key_prefix};
 
 /// The name in the function column.
 fn function_of<'a>(sort: FactKind, spot: FactSpot<'a>) -> &'a [u8]
@@ -87,29 +88,27 @@ fn have_one_span(sort: FactKind, facts: &Facts, a: u32, b: u32) -> bool
 
 /// Whether two items show one name. Its bytes are looked at only where it stands at two places: a
 /// name may be long, and around many items.
-fn have_one_function(sort: FactKind, source: &Source, facts: &Facts, a: u32, b: u32) -> bool
-    requires { facts.now ≡ facts_of source.now }
-    ensures { result ≡ bytes_eq (function_of sort (fact_at sort [] source.now b))
-        (function_of sort (fact_at sort [] source.now a)) }
+fn have_one_function(sort: FactKind, text: &ScannedSource, a: u32, b: u32) -> bool
+    ensures { result ≡ bytes_eq (function_of sort (fact_at sort [] text.now b))
+        (function_of sort (fact_at sort [] text.now a)) }
 {
-    if have_one_span(sort, facts, a, b) {
+    if have_one_span(sort, text.facts(), a, b) {
         return true;
     }
-    let one = fact_in(sort, b"", source, facts, a);
-    let other = fact_in(sort, b"", source, facts, b);
+    let one = fact_in(sort, b"", text, a);
+    let other = fact_in(sort, b"", text, b);
     function_of(sort, other) == function_of(sort, one)
 }
 
 /// Whether two items have one key, and equal rows under it.
-fn have_one_row(sort: FactKind, source: &Source, facts: &Facts, a: u32, b: u32) -> bool
-    requires { facts.now ≡ facts_of source.now }
-    ensures { result ≡ have_one_row sort source.now a b }
+fn have_one_row(sort: FactKind, text: &ScannedSource, a: u32, b: u32) -> bool
+    ensures { result ≡ have_one_row sort text.now a b }
 {
-    let one = fact_in(sort, b"", source, facts, a);
-    let other = fact_in(sort, b"", source, facts, b);
-    (other.line == one.line && have_one_function(sort, source, facts, a, b))
-        && bytes_at(source.bytes(), item_span(sort, facts, a))
-            == bytes_at(source.bytes(), item_span(sort, facts, b))
+    let one = fact_in(sort, b"", text, a);
+    let other = fact_in(sort, b"", text, b);
+    (other.line == one.line && have_one_function(sort, text, a, b))
+        && bytes_at(text.source().bytes(), item_span(sort, text.facts(), a))
+            == bytes_at(text.source().bytes(), item_span(sort, text.facts(), b))
 }
 
 /// Bytes as a number of 32 bits.
@@ -131,38 +130,35 @@ fn place_among(key: &[u8], function: &[u8], line: u32, count: usize) -> usize
 }
 
 /// The place of the row of an item.
-fn row_place(sort: FactKind, source: &Source, facts: &Facts, item: u32, count: usize) -> usize
-    requires facts { facts.now ≡ facts_of source.now }
-    requires count { count ≡ item_count sort source.now }
+fn row_place(sort: FactKind, text: &ScannedSource, item: u32, count: usize) -> usize
+    requires count { count ≡ item_count sort text.now }
     requires some { 0 < count }
-    ensures value { result ≡ row_place sort source.now item }
+    ensures value { result ≡ row_place sort text.now item }
     ensures within { result < count }
 {
-    let fact = fact_in(sort, b"", source, facts, item);
-    let key = bytes_at(source.bytes(), item_span(sort, facts, item));
+    let fact = fact_in(sort, b"", text, item);
+    let key = bytes_at(text.source().bytes(), item_span(sort, text.facts(), item));
     place_among(key, function_of(sort, fact), fact.line, count)
 }
 
 /// Whether an item is a repeat, by the items of its place from the last one on.
 fn find_row(
     sort: FactKind,
-    source: &Source,
-    facts: &Facts,
+    text: &ScannedSource,
     entries: &[Entry],
     item: usize,
     last: u32,
 ) -> bool
-    requires facts { facts.now ≡ facts_of source.now }
-    requires item { item < item_count sort source.now }
+    requires item { item < item_count sort text.now }
     requires few { length entries.now < 2 ^ 32 }
-    requires seen { AreSeen sort source.now item entries.now }
-    requires last { last ≡ last_at sort source.now (row_place sort source.now item) item }
-    ensures { result ≡ is_repeat sort source.now item }
+    requires seen { AreSeen sort text.now item entries.now }
+    requires last { last ≡ last_at sort text.now (row_place sort text.now item) item }
+    ensures { result ≡ is_repeat sort text.now item }
 {
     let mut at = last;
     while at != 0 {
         let other = at - 1;
-        if have_one_row(sort, source, facts, item as u32, other) {
+        if have_one_row(sort, text, item as u32, other) {
             return true;
         }
         at = entries[other as usize].name;
@@ -175,7 +171,7 @@ fn stand(entries: &mut [Entry], item: usize, place: usize)
     requires item { item < length entries.old }
     requires place { place < length entries.old }
     requires few { length entries.old < 2 ^ 32 }
-    ensures { (sort : FactKind) (text : List ℕ) → item < item_count sort text
+    ensures { (sort : FactKind) (text : Scanned) → item < item_count sort text
         → place ≡ row_place sort text item → is_repeat sort text item ≡ false
         → AreSeen sort text item entries.old → AreSeen sort text (suc item) entries.new }
 {
@@ -198,17 +194,16 @@ fn stand(entries: &mut [Entry], item: usize, place: usize)
 }
 
 /// Whether an item is a repeat; if not, it is put into its place.
-fn see(sort: FactKind, source: &Source, facts: &Facts, entries: &mut [Entry], item: usize) -> bool
-    requires facts { facts.now ≡ facts_of source.now }
-    requires item { item < item_count sort source.now }
+fn see(sort: FactKind, text: &ScannedSource, entries: &mut [Entry], item: usize) -> bool
+    requires item { item < item_count sort text.now }
     requires few { length entries.old < 2 ^ 32 }
-    requires seen { AreSeen sort source.now item entries.old }
-    ensures value { result ≡ is_repeat sort source.now item }
-    ensures seen { AreSeen sort source.now (suc item) entries.new }
+    requires seen { AreSeen sort text.now item entries.old }
+    ensures value { result ≡ is_repeat sort text.now item }
+    ensures seen { AreSeen sort text.now (suc item) entries.new }
     ensures len { length entries.new ≡ length entries.old }
 {
-    let place = row_place(sort, source, facts, item as u32, entries.len());
-    if find_row(sort, source, facts, entries, item, entries[place].version) {
+    let place = row_place(sort, text, item as u32, entries.len());
+    if find_row(sort, text, entries, item, entries[place].version) {
         return true;
     }
     stand(entries, item, place);
@@ -219,21 +214,19 @@ fn see(sort: FactKind, source: &Source, facts: &Facts, entries: &mut [Entry], it
 /// of them.
 pub(crate) fn find_repeats(
     sort: FactKind,
-    source: &Source,
-    facts: &Facts,
+    text: &ScannedSource,
     entries: &mut [Entry],
     repeats: &mut Vec<bool>,
 )
-    requires facts { facts.now ≡ facts_of source.now }
-    requires entries { entries.old ≡ item_entries sort source.now 0 }
-    ensures { (repeats.new.items ≡ []) ⊎ (repeats.new.items ≡ repeats_of sort source.now) }
+    requires entries { entries.old ≡ item_entries sort text.now 0 }
+    ensures { (repeats.new.items ≡ []) ⊎ (repeats.new.items ≡ repeats_of sort text.now) }
 {
     repeats.truncate(0);
     if entries.len() > u32::MAX as usize || repeats.capacity() < entries.len() {
         return;
     }
     for item in 0..entries.len() {
-        let repeat = see(sort, source, facts, entries, item);
+        let repeat = see(sort, text, entries, item);
         let _ = repeats.push(repeat);
     }
 }
@@ -242,7 +235,7 @@ pub(crate) fn find_repeats(
 fn have_row(sort: FactKind, version: &Version, a: u32, b: u32) -> bool
     ensures { result ≡ have_one_row sort version.now a b }
 {
-    have_one_row(sort, version.source(), version.facts(), a, b)
+    have_one_row(sort, version.text(), a, b)
 }
 
 /// Whether an item is a repeat, by a search.

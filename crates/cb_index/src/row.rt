@@ -1,9 +1,9 @@
 //! Rows, and the five orders of them.
-ghost use Rattle.std.specs.Prelude.{◌≡◌, ◌∷◌, [], slice_get};
+ghost use Rattle.std.specs.Prelude.{◌≡◌, ◌∷◌, []};
 ghost use Rattle.std.specs.Cmp.Lexicographic.{slice_cmp};
 ghost use Rattle.std.specs.Ordering.{nat_cmp, ordering_then};
 ghost use Rattle.cb_scan.specs.Order.{kind_rank};
-ghost use Rattle.cb_index.specs.Archived.{name_of};
+ghost use Rattle.cb_index.specs.Archived.{name_of, text_at};
 ghost use Rattle.cb_index.specs.Files.{count_for};
 ghost use Rattle.cb_index.specs.Kinds.{keyer_of};
 ghost use Rattle.cb_index.specs.RowOrders.{
@@ -88,7 +88,7 @@ fn def_rank(version: &Version, item: u32) -> u32
 
 /// Where the fact of a row begins.
 fn start(kind: IndexKind, archive: &Archive, row: Row) -> u32
-    ensures { result ≡ start_for kind (slice_get archive.now.texts row.version) row.item }
+    ensures { result ≡ start_for kind (text_at archive.now row.version) row.item }
 {
     match archive.version(row.version) {
         Some(version) => match kind {
@@ -109,7 +109,7 @@ fn start(kind: IndexKind, archive: &Archive, row: Row) -> u32
 
 /// The rank of the kind of a definition at its place; uses and calls have none.
 fn rank(kind: IndexKind, archive: &Archive, row: Row) -> u32
-    ensures { result ≡ rank_for kind (slice_get archive.now.texts row.version) row.item }
+    ensures { result ≡ rank_for kind (text_at archive.now row.version) row.item }
 {
     match kind {
         IndexKind::Facts(_) => 0,
@@ -186,7 +186,7 @@ pub trait RowOrder {
 
     /// How many facts of the order's kind a version has; none where it is not there.
     fn items(archive: &Archive, version: u32) -> u32
-        ensures { result ≡ count_for kind (slice_get archive.now.texts version) }
+        ensures { result ≡ count_for kind (text_at archive.now version) }
     {
         count_of(Self::kind(), archive, version) as u32
     }

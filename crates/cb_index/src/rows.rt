@@ -1,7 +1,6 @@
 //! The rows that entries stand for.
 ghost use Rattle.std.specs.Prelude.{◌≡◌};
 ghost use Rattle.std.specs.Option.{option_copied, option_map};
-ghost use Rattle.cb_scan.specs.Definitions.{facts_of};
 ghost use Rattle.cb_scan.specs.Lines.{line_text};
 ghost use Rattle.cb_tags.specs.TagLines.{tag_of, scope_of};
 ghost use Rattle.cb_index.specs.steps.Found.{
@@ -20,7 +19,8 @@ use crate::archive::{Archive, Version};
 use crate::bytes::{bytes_at, cut};
 use crate::entry::Entry;
 use crate::kind::FactKind;
-use cb_scan::{Call, Def, Facts, Kind, Source, Tag, Use};
+use crate::scanned::ScannedSource;
+use cb_scan::{Call, Def, Kind, Source, Tag, Use};
 use cb_tags::{Scope, TagRow};
 
 /// A use or a call. Of a call the name is the called one, and the scope the one that calls.
@@ -182,13 +182,13 @@ impl<'a> FactSpot<'a> {
 pub(crate) fn fact_in<'a>(
     sort: FactKind,
     file: &'a [u8],
-    source: &'a Source,
-    facts: &Facts,
+    text: &'a ScannedSource,
     item: u32,
 ) -> FactSpot<'a>
-    requires { facts.now ≡ facts_of source.now }
-    ensures { fact_of_spot result ≡ fact_at sort file.now source.now item }
+    ensures { fact_of_spot result ≡ fact_at sort file.now text.now item }
 {
+    let source = text.source();
+    let facts = text.facts();
     match sort {
         FactKind::Uses => fact_of_use(file, source, facts.uses().get(item as usize)),
         FactKind::Callees => fact_of_call(file, source, facts.calls().get(item as usize)),
@@ -205,5 +205,5 @@ pub(crate) fn fact_at<'a>(
 ) -> FactSpot<'a>
     ensures { fact_of_spot result ≡ fact_at sort file.now version.now item }
 {
-    fact_in(sort, file, version.source(), version.facts(), item)
+    fact_in(sort, file, version.text(), item)
 }

@@ -73,6 +73,7 @@ use crate::names::Names;
 use crate::room::Room;
 use crate::tags::{Defs, TagRows};
 use crate::totals::{Totals, totals_of};
+use cb_scan::Profile;
 use std::alloc::Global;
 use std::marker::Model;
 
@@ -154,14 +155,15 @@ fn read_room(room: Room)
 
 impl Shelf {
     /// A shelf that keeps and shows nothing. It takes no memory.
-    pub fn new(alloc: Global) -> Shelf
+    pub fn new(alloc: Global, profile: Profile) -> Shelf
+        ensures profile { result.archive.profile ≡ profile }
         ensures names { result.archive.names ≡ [] }
         ensures texts { result.archive.texts ≡ [] }
         ensures shown { result.shown ≡ [] }
         ensures turns { result.turns ≡ 0 }
     {
         Shelf {
-            archive: Archive::new(alloc),
+            archive: Archive::new(alloc, profile),
             shown: Vec::new(alloc),
             indexes: [
                 Index::new(alloc, IndexKind::DefsByName),
@@ -225,6 +227,7 @@ impl Shelf {
         ensures defs { OnOk result (room.now.defs ≤ self.new.def_room) }
         ensures uses { OnOk result (room.now.uses ≤ self.new.use_room) }
         ensures calls { OnOk result (room.now.calls ≤ self.new.call_room) }
+        ensures same_profile { self.new.archive.profile ≡ self.old.archive.profile }
         ensures same_names { self.new.archive.names ≡ self.old.archive.names }
         ensures same_texts { self.new.archive.texts ≡ self.old.archive.texts }
         ensures same_shown { self.new.shown ≡ self.old.shown }
@@ -250,6 +253,7 @@ impl Shelf {
     pub fn push_name(&mut self, name: Vec<u8>) -> u32
         requires { length self.old.archive.names < self.old.archive.name_room }
         ensures value { result ≡ length self.old.archive.names }
+        ensures profile { self.new.archive.profile ≡ self.old.archive.profile }
         ensures names { self.new.archive.names ≡ self.old.archive.names ++ name.items ∷ [] }
         ensures texts { self.new.archive.texts ≡ self.old.archive.texts }
         ensures shown { self.new.shown ≡ self.old.shown }
@@ -261,9 +265,11 @@ impl Shelf {
 
     /// Keeps a version under the number that is answered: the count of versions before.
     pub fn push_version(&mut self, version: Version) -> u32
-        requires { length self.old.archive.texts < self.old.archive.version_room }
+        requires profile { version.profile ≡ self.old.archive.profile }
+        requires room { length self.old.archive.texts < self.old.archive.version_room }
         ensures value { result ≡ length self.old.archive.texts }
-        ensures texts { self.new.archive.texts ≡ self.old.archive.texts ++ version ∷ [] }
+        ensures profile { self.new.archive.profile ≡ self.old.archive.profile }
+        ensures texts { self.new.archive.texts ≡ self.old.archive.texts ++ version.bytes ∷ [] }
         ensures names { self.new.archive.names ≡ self.old.archive.names }
         ensures shown { self.new.shown ≡ self.old.shown }
         ensures turns { self.new.turns ≡ self.old.turns }
@@ -276,6 +282,7 @@ impl Shelf {
     pub fn truncate(&mut self, versions: u32, names: u32)
         requires { AllByRecursion (λ (s : Shown). (s.version < versions) × (s.name < names))
             self.old.shown }
+        ensures profile { self.new.archive.profile ≡ self.old.archive.profile }
         ensures texts { self.new.archive.texts ≡ take versions self.old.archive.texts }
         ensures names { self.new.archive.names ≡ take names self.old.archive.names }
         ensures shown { self.new.shown ≡ self.old.shown }
@@ -396,7 +403,7 @@ impl Shelf {
 
     /// The files that are shown, by name, each with what is found in it.
     pub fn entries(&self) -> Entries<'_>
-        ensures { entries_left result ≡ map with_facts (files self.now) }
+        ensures { entries_left result ≡ map (with_facts self.now.archive.profile) (files self.now) }
     {
         Entries {
             archive: &self.archive,
@@ -447,21 +454,21 @@ impl Shelf {
 
     /// The definitions of a name, by file and place.
     pub fn defs<'a, 'p>(&'a self, name: &'p [u8]) -> TagRows<'a, 'p>
-        ensures { tags_left result ≡ tags_named name.now (files self.now) }
+        ensures { tags_left result ≡ tags_named self.now.archive.profile name.now (files self.now) }
     {
         self.in_order(false, Some(name))
     }
 
     /// All definitions, by name.
     pub fn all_defs(&self) -> TagRows<'_, '_>
-        ensures { tags_left result ≡ tags_by_name (files self.now) }
+        ensures { tags_left result ≡ tags_by_name self.now.archive.profile (files self.now) }
     {
         self.in_order(false, None)
     }
 
     /// All definitions, by the names that a plain tags file has for them.
     pub fn tags(&self) -> TagRows<'_, '_>
-        ensures { tags_left result ≡ tags_by_tag_name (files self.now) }
+        ensures { tags_left result ≡ tags_by_tag_name self.now.archive.profile (files self.now) }
     {
         self.in_order(true, None)
     }
@@ -469,11 +476,12 @@ impl Shelf {
     /// The uses or calls of a kind that have a key, by file and place. They are looked up in the
     /// index, or searched in the files where some are pending.
     pub fn facts<'a, 'p>(&'a self, kind: FactKind, key: &'p [u8]) -> FactRows<'a, 'p>
-        ensures rows { facts_left result ≡ facts_named kind key.now (files self.now) }
-        ensures new { facts_new result ≡ unlike_in_files kind (file_facts kind key.now)
-            (files self.now) }
-        ensures counted { facts_counted result ≡ rows_in_files kind (file_facts kind key.now)
-            (files self.now) }
+        ensures rows { facts_left result
+            ≡ facts_named self.now.archive.profile kind key.now (files self.now) }
+        ensures new { facts_new result ≡ unlike_in_files kind
+            (file_facts self.now.archive.profile kind key.now) (files self.now) }
+        ensures counted { facts_counted result ≡ rows_in_files kind
+            (file_facts self.now.archive.profile kind key.now) (files self.now) }
     {
         let index = self.index(IndexKind::Facts(kind));
         if index.is_flushed() {
@@ -484,21 +492,21 @@ impl Shelf {
 
     /// The uses of a name, by file and place.
     pub fn uses<'a, 'p>(&'a self, name: &'p [u8]) -> FactRows<'a, 'p>
-        ensures { facts_left result ≡ uses_of name.now (files self.now) }
+        ensures { facts_left result ≡ uses_of self.now.archive.profile name.now (files self.now) }
     {
         self.facts(FactKind::Uses, name)
     }
 
     /// The calls of a name, by file and place.
     pub fn calling<'a, 'p>(&'a self, name: &'p [u8]) -> FactRows<'a, 'p>
-        ensures { facts_left result ≡ calls_of name.now (files self.now) }
+        ensures { facts_left result ≡ calls_of self.now.archive.profile name.now (files self.now) }
     {
         self.facts(FactKind::Callees, name)
     }
 
     /// The calls that stand in what has that name, by file and place.
     pub fn called_by<'a, 'p>(&'a self, name: &'p [u8]) -> FactRows<'a, 'p>
-        ensures { facts_left result ≡ calls_in name.now (files self.now) }
+        ensures { facts_left result ≡ calls_in self.now.archive.profile name.now (files self.now) }
     {
         self.facts(FactKind::Callers, name)
     }

@@ -16,9 +16,9 @@ ghost use Rattle.std.specs.Prelude.{
   length,
   IfSome,
 };
-ghost use Rattle.cb_scan.specs.Definitions.{facts_of};
 ghost use Rattle.cb_index.specs.Items.{item_count, later};
 ghost use Rattle.cb_index.specs.Links.{first_or_none, links_of};
+ghost use Rattle.cb_index.specs.Scanned.{Scanned};
 ghost use Rattle.cb_index.specs.steps.Laying.{item_entries};
 ghost use Rattle.cb_index.specs.declared.kind.FactKind.{FactKind};
 ghost use Rattle.cb_index.specs.steps.Table.{
@@ -37,7 +37,8 @@ use crate::items::item_span;
 use crate::kind::FactKind;
 use crate::laid::{entries_match, fill};
 use crate::links::Link;
-use cb_scan::{Facts, Source, key_prefix};
+use crate::scanned::ScannedSource;
+use cb_scan::key_prefix;
 
 /// An odd number whose bits look like chance: 2^64 over the golden ratio.
 const SPREAD: u64 = 0x9e37_79b9_7f4a_7c15;
@@ -80,18 +81,16 @@ fn place_of(key: &[u8], count: usize) -> usize
 /// place from the first one on, at as many in all as are left; none where it gives up.
 fn find_next(
     sort: FactKind,
-    source: &Source,
-    facts: &Facts,
+    text: &ScannedSource,
     entries: &[Entry],
     item: usize,
     first: u32,
     left: &mut usize,
 ) -> Option<u32>
-    requires facts { facts.now ≡ facts_of source.now }
-    requires item { item < item_count sort source.now }
-    requires noted { AreNoted sort source.now (suc item) entries.now }
-    requires first { first ≡ first_in sort source.now (item_place sort source.now item) (suc item) }
-    ensures { IfSome result (λ next. next ≡ first_or_none (later sort source.now item)) }
+    requires item { item < item_count sort text.now }
+    requires noted { AreNoted sort text.now (suc item) entries.now }
+    requires first { first ≡ first_in sort text.now (item_place sort text.now item) (suc item) }
+    ensures { IfSome result (λ next. next ≡ first_or_none (later sort text.now item)) }
 {
     let mut at = first;
     while at != 0 {
@@ -100,7 +99,7 @@ fn find_next(
         }
         *left -= 1;
         let entry = entries[at as usize];
-        if entries_match(sort, source, facts, entries[item], entry) {
+        if entries_match(sort, text, entries[item], entry) {
             return Some(at);
         }
         at = entry.name;
@@ -112,7 +111,7 @@ fn find_next(
 fn note(entries: &mut [Entry], item: usize, place: usize)
     requires item { item < length entries.old }
     requires place { place < length entries.old }
-    ensures { (sort : FactKind) (text : List ℕ) → item < item_count sort text
+    ensures { (sort : FactKind) (text : Scanned) → item < item_count sort text
         → place ≡ item_place sort text item → AreNoted sort text (suc item) entries.old
         → AreNoted sort text item entries.new }
 {
@@ -138,7 +137,7 @@ fn note(entries: &mut [Entry], item: usize, place: usize)
 fn link(links: &mut [Link], item: usize, next: u32)
     requires item { item < length links.old }
     requires next { next < length links.old }
-    ensures { (sort : FactKind) (text : List ℕ) → item < item_count sort text
+    ensures { (sort : FactKind) (text : Scanned) → item < item_count sort text
         → next ≡ first_or_none (later sort text item) → AreLinked sort text (suc item) links.old
         → AreLinked sort text item links.new }
 {
@@ -155,26 +154,23 @@ fn link(links: &mut [Link], item: usize, next: u32)
 /// Sets the link of an item and notes it, if the search for the next one of its key ends in time.
 fn link_item(
     sort: FactKind,
-    source: &Source,
-    facts: &Facts,
+    text: &ScannedSource,
     entries: &mut [Entry],
     links: &mut [Link],
     item: usize,
     left: &mut usize,
 ) -> bool
-    requires facts { facts.now ≡ facts_of source.now }
-    requires item { item < item_count sort source.now }
-    requires noted { AreNoted sort source.now (suc item) entries.old }
-    requires linked { AreLinked sort source.now (suc item) links.old }
-    ensures noted { result ≡ true → AreNoted sort source.now item entries.new }
-    ensures linked { result ≡ true → AreLinked sort source.now item links.new }
+    requires item { item < item_count sort text.now }
+    requires noted { AreNoted sort text.now (suc item) entries.old }
+    requires linked { AreLinked sort text.now (suc item) links.old }
+    ensures noted { result ≡ true → AreNoted sort text.now item entries.new }
+    ensures linked { result ≡ true → AreLinked sort text.now item links.new }
 {
-    let key = bytes_at(source.bytes(), item_span(sort, facts, entries[item].number));
+    let key = bytes_at(text.source().bytes(), item_span(sort, text.facts(), entries[item].number));
     let place = place_of(key, entries.len());
     match find_next(
         sort,
-        source,
-        facts,
+        text,
         entries,
         item,
         entries[place].version,
@@ -193,22 +189,20 @@ fn link_item(
 /// `looks` looks.
 fn link_each(
     sort: FactKind,
-    source: &Source,
-    facts: &Facts,
+    text: &ScannedSource,
     entries: &mut [Entry],
     links: &mut [Link],
     looks: usize,
 ) -> bool
-    requires facts { facts.now ≡ facts_of source.now }
-    requires entries { entries.old ≡ item_entries sort source.now 0 }
+    requires entries { entries.old ≡ item_entries sort text.now 0 }
     requires links { length links.old ≡ length entries.old }
-    ensures { result ≡ true → links.new ≡ links_of sort source.now }
+    ensures { result ≡ true → links.new ≡ links_of sort text.now }
 {
     let mut left = looks;
     let mut item = entries.len();
     while item > 0 {
         item -= 1;
-        if !link_item(sort, source, facts, entries, links, item, &mut left) {
+        if !link_item(sort, text, entries, links, item, &mut left) {
             return false;
         }
     }
@@ -219,15 +213,13 @@ fn link_each(
 /// false, and none are laid, where these are too few or where there is too little room.
 pub(crate) fn lay_in_table(
     sort: FactKind,
-    source: &Source,
-    facts: &Facts,
+    text: &ScannedSource,
     entries: &mut [Entry],
     links: &mut Vec<Link>,
     looks: usize,
 ) -> bool
-    requires facts { facts.now ≡ facts_of source.now }
-    requires entries { entries.old ≡ item_entries sort source.now 0 }
-    ensures laid { result ≡ true → links.new.items ≡ links_of sort source.now }
+    requires entries { entries.old ≡ item_entries sort text.now 0 }
+    ensures laid { result ≡ true → links.new.items ≡ links_of sort text.now }
     ensures none { result ≡ false → links.new.items ≡ [] }
 {
     links.truncate(0);
@@ -235,7 +227,7 @@ pub(crate) fn lay_in_table(
         return false;
     }
     fill(links, entries.len());
-    if link_each(sort, source, facts, entries, links.as_mut_slice(), looks) {
+    if link_each(sort, text, entries, links.as_mut_slice(), looks) {
         return true;
     }
     links.truncate(0);

@@ -1,5 +1,6 @@
 //! How many facts versions have together.
-ghost use Rattle.std.specs.Prelude.{◌≡◌, ◌+◌, ◌-◌, ◌^◌, ◌≤◌, ◌<◌, slice_get, MatchOption};
+ghost use Rattle.std.specs.Prelude.{◌≡◌, ◌+◌, ◌-◌, ◌^◌, ◌≤◌, ◌<◌, MatchOption};
+ghost use Rattle.cb_index.specs.Archived.{text_at};
 ghost use Rattle.cb_index.specs.Files.{call_count, count_for, def_count, total, use_count};
 ghost use Rattle.cb_index.specs.Shelved.{AreTotals, AreTooMany};
 
@@ -17,7 +18,7 @@ pub struct Totals {
 
 /// How many facts of its kind a version has.
 pub(crate) fn count_of(kind: IndexKind, archive: &Archive, version: u32) -> usize
-    ensures value { result ≡ count_for kind (slice_get archive.now.texts version) }
+    ensures value { result ≡ count_for kind (text_at archive.now version) }
     ensures few { result < 2 ^ 32 }
 {
     match archive.version(version) {
@@ -108,12 +109,12 @@ impl Totals {
 
     /// The totals with the facts of a version less.
     pub(crate) fn without(self, archive: &Archive, version: u32) -> Totals
-        requires defs { def_count (slice_get archive.now.texts version) ≤ self.defs }
-        requires uses { use_count (slice_get archive.now.texts version) ≤ self.uses }
-        requires calls { call_count (slice_get archive.now.texts version) ≤ self.calls }
-        ensures defs { result.defs + def_count (slice_get archive.now.texts version) ≡ self.defs }
-        ensures uses { result.uses + use_count (slice_get archive.now.texts version) ≡ self.uses }
-        ensures calls { result.calls + call_count (slice_get archive.now.texts version)
+        requires defs { def_count (text_at archive.now version) ≤ self.defs }
+        requires uses { use_count (text_at archive.now version) ≤ self.uses }
+        requires calls { call_count (text_at archive.now version) ≤ self.calls }
+        ensures defs { result.defs + def_count (text_at archive.now version) ≡ self.defs }
+        ensures uses { result.uses + use_count (text_at archive.now version) ≡ self.uses }
+        ensures calls { result.calls + call_count (text_at archive.now version)
             ≡ self.calls }
     {
         Totals {

@@ -17,6 +17,7 @@ use Rattle.cb_session.specs.Operands.{first_refused, memory_refused}
 use Rattle.cb_session.specs.States.{State}
 use Rattle.cb_session.specs.steps.Starts.{Starts}
 use Rattle.cb_desk.proofs.Moves.{advanced-Ok}
+use Rattle.cb_scan.specs.declared.profile.Profile.{Profile}
 
 -- a load that was made is as it was meant
 accepted : (t u : Timeline) (name bytes : List ℕ) (x : Unit {0})
@@ -124,16 +125,16 @@ last_of_all place t u f (g ∷ fs) end is (first_loaded {u = v} made rest) n e =
 last_of_all place t u f fs end is (first_refused why) n e = cc
 last_of_all place t u f fs end is (memory_refused would) n e = cc
 
-last_refused : (b : WorldBounds) (u : Timeline) (all : List File) (n : ℕ)
-    → Loads 0 (new_timeline b) all (Ok u)
+last_refused : (p : Profile) (b : WorldBounds) (u : Timeline) (all : List File) (n : ℕ)
+    → Loads 0 (new_timeline p b) all (Ok u)
     → n + 1 ≡ length u.past
-    → Loads 0 (new_timeline b) all (Err (record { place = n; why = OutOfMemory }))
-last_refused b u [] n loads long =
-    let none = past_of_all 0 (new_timeline b) u [] (Ok u) refl loads in
+    → Loads 0 (new_timeline p b) all (Err (record { place = n; why = OutOfMemory }))
+last_refused p b u [] n loads long =
+    let none = past_of_all 0 (new_timeline p b) u [] (Ok u) refl loads in
     absurd (omega (arith, none, long))
-last_refused b u (f ∷ fs) n loads long =
-    let count = past_of_all 0 (new_timeline b) u (f ∷ fs) (Ok u) refl loads in
-    last_of_all 0 (new_timeline b) u f fs (Ok u) refl loads n (omega (arith, count, long))
+last_refused p b u (f ∷ fs) n loads long =
+    let count = past_of_all 0 (new_timeline p b) u (f ∷ fs) (Ok u) refl loads in
+    last_of_all 0 (new_timeline p b) u f fs (Ok u) refl loads n (omega (arith, count, long))
 
 long_past : (ws : List World) → (ws ≡ [] → ⊥) → 1 ≤ length ws
 long_past [] some = absurd (some refl)
@@ -160,18 +161,18 @@ no_files : (fs : List File) → length fs ≡ 0 → fs ≡ []
 no_files [] none = refl
 no_files (f ∷ fs) none = absurd (omega (arith, none))
 
-pub starts_all : (b : WorldBounds) (l : Loaded) (place : ℕ) (all left : List File)
+pub starts_all : (p : Profile) (b : WorldBounds) (l : Loaded) (place : ℕ) (all left : List File)
     (r : Result State Ended)
-    → Goes place (new_timeline b) l.timeline all left → length left ≡ 0
+    → Goes place (new_timeline p b) l.timeline all left → length left ≡ 0
     → place ≡ length l.timeline.past
     → counted l.meter (bytes_in left) ≡ counted 0 (bytes_in all)
     → l.meter ≤ 2 ^ 64 - 1 → l.turns ≡ 0
-    → Starts l place r → Prepares b all r
-starts_all b l place all left (Ok s) goes none placed scanned fits hidden is =
-    let loads : Loads 0 (new_timeline b) all (Ok s.timeline) =
-    ends place (new_timeline b) l.timeline s.timeline all left goes none is.0 in
+    → Starts l place r → Prepares p b all r
+starts_all p b l place all left (Ok s) goes none placed scanned fits hidden is =
+    let loads : Loads 0 (new_timeline p b) all (Ok s.timeline) =
+    ends place (new_timeline p b) l.timeline s.timeline all left goes none is.0 in
     let many : length s.timeline.past ≡ 0 + length all =
-    past_of_all 0 (new_timeline b) s.timeline all (Ok s.timeline) refl loads in
+    past_of_all 0 (new_timeline p b) s.timeline all (Ok s.timeline) refl loads in
     let same : length s.timeline.past ≡ length l.timeline.past =
     ap (λ (t : Timeline). length t.past) is.0 in
     let count : place ≡ length all = omega (arith, many, same, placed) in (
@@ -180,15 +181,15 @@ starts_all b l place all left (Ok s) goes none placed scanned fits hidden is =
           ∙ ap (λ fs. counted l.meter (bytes_in fs)) (sym (no_files left none)) ∙ scanned,
       is.2 ∙ (λ i. counted (hidden i) (count i)),
     )
-starts_all b l place all left (Err (StoppedAt at why)) goes none placed scanned fits hidden is =
+starts_all p b l place all left (Err (StoppedAt at why)) goes none placed scanned fits hidden is =
     let last = is.0 in
-    let loads : Loads 0 (new_timeline b) all (Err (record { place = at; why = OutOfMemory })) =
-    last_refused b l.timeline all
-    at (ends place (new_timeline b) l.timeline l.timeline all left goes none refl)
+    let loads : Loads 0 (new_timeline p b) all (Err (record { place = at; why = OutOfMemory })) =
+    last_refused p b l.timeline all
+    at (ends place (new_timeline p b) l.timeline l.timeline all left goes none refl)
     (omega (arith, last, placed)) in
-    subst (λ w. Loads 0 (new_timeline b) all (Err (record { place = at; why = w }))) (sym is.1)
+    subst (λ w. Loads 0 (new_timeline p b) all (Err (record { place = at; why = w }))) (sym is.1)
     loads
-starts_all b l place all left (Err Done) goes none placed scanned fits hidden is = absurd is
-starts_all b l place all left (Err Cut) goes none placed scanned fits hidden is = absurd is
-starts_all b l place all left (Err (Fault fault)) goes none placed scanned fits hidden is =
+starts_all p b l place all left (Err Done) goes none placed scanned fits hidden is = absurd is
+starts_all p b l place all left (Err Cut) goes none placed scanned fits hidden is = absurd is
+starts_all p b l place all left (Err (Fault fault)) goes none placed scanned fits hidden is =
     absurd is

@@ -11,36 +11,37 @@ use Rattle.cb_session.specs.States.{State}
 use Rattle.cb_tags.proofs.Follows.{Follows-nothing, Follows-so}
 use Rattle.cb_session.proofs.Rounds.{session_run}
 use Rattle.cb_tags.specs.Writers.{Writer}
+use Rattle.cb_scan.specs.declared.profile.Profile.{Profile}
 
 -- the operands were loaded
-pub Follows-loaded : (b : WorldBounds) (files : List File) (lines limit : ℕ) (t : State)
-    (feed after : Reader)
-    (old new : Writer) (ended : Ended) (next : State) → LoadsAll b files (Ok t)
+pub Follows-loaded : (by : Profile) (b : WorldBounds) (files : List File) (lines limit : ℕ)
+    (t : State) (feed after : Reader)
+    (old new : Writer) (ended : Ended) (next : State) → LoadsAll by b files (Ok t)
     → WhateverFollows feed after
     (λ bytes at. LeavesSession (inputs lines limit bytes) t next at old new ended)
-    → WhateverFollows feed after (λ bytes at. Runs b files lines limit bytes at old new ended)
-Follows-loaded b files lines limit t feed after old new ended next loads s =
+    → WhateverFollows feed after (λ bytes at. Runs by b files lines limit bytes at old new ended)
+Follows-loaded by b files lines limit t feed after old new ended next loads s =
     Follows-so feed after
     (λ bytes at. LeavesSession (inputs lines limit bytes) t next at old new ended)
-    (λ bytes at. Runs b files lines limit bytes at old new ended) s
+    (λ bytes at. Runs by b files lines limit bytes at old new ended) s
     (λ bytes at run.
     (Ok t, loads, session_run (inputs lines limit bytes) t next at old new ended run))
 
 -- an operand was refused
-pub Runs-refused : (b : WorldBounds) (files : List File) (lines limit : ℕ)
+pub Runs-refused : (by : Profile) (b : WorldBounds) (files : List File) (lines limit : ℕ)
     (bytes : List ℕ) (at : Reader)
-    (out : Writer) (ended : Ended) → Prepares b files (Err ended)
-    → at.bytes ≡ Some bytes → Runs b files lines limit bytes at out out ended
-Runs-refused b files lines limit bytes at out (Operand place why) p known =
+    (out : Writer) (ended : Ended) → Prepares by b files (Err ended)
+    → at.bytes ≡ Some bytes → Runs by b files lines limit bytes at out out ended
+Runs-refused by b files lines limit bytes at out (Operand place why) p known =
     (Err (record { place = place; why = why }), p, (refl, known, refl))
-Runs-refused b files lines limit bytes at out Done p known = absurd p
-Runs-refused b files lines limit bytes at out Cut p known = absurd p
-Runs-refused b files lines limit bytes at out (Fault fault) p known = absurd p
+Runs-refused by b files lines limit bytes at out Done p known = absurd p
+Runs-refused by b files lines limit bytes at out Cut p known = absurd p
+Runs-refused by b files lines limit bytes at out (Fault fault) p known = absurd p
 
-pub Follows-refused : (b : WorldBounds) (files : List File) (lines limit : ℕ)
+pub Follows-refused : (by : Profile) (b : WorldBounds) (files : List File) (lines limit : ℕ)
     (feed : Reader) (out : Writer)
-    (ended : Ended) → Prepares b files (Err ended)
-    → WhateverFollows feed feed (λ bytes at. Runs b files lines limit bytes at out out ended)
-Follows-refused b files lines limit feed out ended p =
-    Follows-nothing feed (λ bytes at. Runs b files lines limit bytes at out out ended)
-    (λ bytes at. Runs-refused b files lines limit bytes at out ended p)
+    (ended : Ended) → Prepares by b files (Err ended)
+    → WhateverFollows feed feed (λ bytes at. Runs by b files lines limit bytes at out out ended)
+Follows-refused by b files lines limit feed out ended p =
+    Follows-nothing feed (λ bytes at. Runs by b files lines limit bytes at out out ended)
+    (λ bytes at. Runs-refused by b files lines limit bytes at out ended p)

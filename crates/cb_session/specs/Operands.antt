@@ -14,6 +14,7 @@ use Rattle.cb_session.specs.Inputs.{inputs}
 use Rattle.cb_session.specs.Serving.{LeavesRun}
 use Rattle.cb_session.specs.States.{State}
 use Rattle.cb_tags.specs.Writers.{Writer}
+use Rattle.cb_scan.specs.declared.profile.Profile.{Profile}
 
 -- the file that an operand is
 abbrev pub file_of_operand : Operand → File
@@ -39,20 +40,20 @@ pub data Loads : ℕ → Timeline → List File → Result Timeline RefusedOpera
       → IsOk (changed t (load f.name f.bytes))
       → Loads place t (f ∷ fs) (Err (record { place = place; why = OutOfMemory }))
 
--- the operands are loads of a new timeline within some bounds: each text is scanned once, and each
--- file is shown once
-abbrev pub LoadsAll : WorldBounds → List File → Result State RefusedOperand → Type 0
-LoadsAll b files (Ok s) =
-    Loads 0 (new_timeline b) files (Ok s.timeline)
+-- the operands are loads of a new timeline, by a profile and within some bounds: each text is
+-- scanned once, and each file is shown once
+abbrev pub LoadsAll : Profile → WorldBounds → List File → Result State RefusedOperand → Type 0
+LoadsAll p b files (Ok s) =
+    Loads 0 (new_timeline p b) files (Ok s.timeline)
     × (s.meter ≡ counted 0 (bytes_in files)) × (s.turns ≡ counted 0 (length files))
-LoadsAll b files (Err stop) = Loads 0 (new_timeline b) files (Err stop)
+LoadsAll p b files (Err stop) = Loads 0 (new_timeline p b) files (Err stop)
 
 -- all operands are loaded; or the first that is refused ends the run
-abbrev pub Prepares : WorldBounds → List File → Result State Ended → Type 0
-Prepares b files (Ok s) = LoadsAll b files (Ok s)
-Prepares b files (Err (StoppedAt place why)) =
-    LoadsAll b files (Err (record { place = place; why = why }))
-Prepares b files (Err _) = ⊥
+abbrev pub Prepares : Profile → WorldBounds → List File → Result State Ended → Type 0
+Prepares p b files (Ok s) = LoadsAll p b files (Ok s)
+Prepares p b files (Err (StoppedAt place why)) =
+    LoadsAll p b files (Err (record { place = place; why = why }))
+Prepares p b files (Err _) = ⊥
 
 -- a run over these bytes, which allows so many lines and at most `limit` bytes in each of them and
 -- in each block, that begins where the loads lead; where one is refused nothing is read and nothing
@@ -64,9 +65,9 @@ RunsFrom (Ok s) lines limit bytes feed old new ended =
 RunsFrom (Err stop) lines limit bytes feed old new ended =
     (ended ≡ StoppedAt stop.place stop.why) × (feed.bytes ≡ Some bytes) × (new ≡ old)
 
--- a run with operands, within some bounds
-abbrev pub Runs : WorldBounds → List File → (lines limit : ℕ) → List ℕ → Reader
+-- a run with operands, by a profile and within some bounds
+abbrev pub Runs : Profile → WorldBounds → List File → (lines limit : ℕ) → List ℕ → Reader
     → Writer → Writer → Ended → Type 0
-Runs b files lines limit bytes feed old new ended =
-    (end : Result State RefusedOperand) × LoadsAll b files end
+Runs p b files lines limit bytes feed old new ended =
+    (end : Result State RefusedOperand) × LoadsAll p b files end
     × RunsFrom end lines limit bytes feed old new ended

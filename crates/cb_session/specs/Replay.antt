@@ -9,27 +9,28 @@ use Rattle.cb_desk.specs.World.{File, WorldBounds}
 use Rattle.cb_session.specs.Operands.{Loads}
 use Rattle.cb_session.specs.Output.{exchange, first_refusal, later_refusals, output}
 use Rattle.cb_session.specs.Requests.{Request, change, undo, redo}
+use Rattle.cb_scan.specs.declared.profile.Profile.{Profile}
 
 -- the changes after a request; only changes, undo and redo move anything
-abbrev pub kept_by_request : WorldBounds → Bool → Kept → Request → Kept
-kept_by_request b out_of_memory k (change s) = kept_by b k (move.change out_of_memory s)
-kept_by_request b out_of_memory k undo = kept_by b k move.undo
-kept_by_request b out_of_memory k redo = kept_by b k move.redo
-kept_by_request b out_of_memory k _ = k
+abbrev pub kept_by_request : Profile → WorldBounds → Bool → Kept → Request → Kept
+kept_by_request p b out_of_memory k (change s) = kept_by p b k (move.change out_of_memory s)
+kept_by_request p b out_of_memory k undo = kept_by p b k move.undo
+kept_by_request p b out_of_memory k redo = kept_by p b k move.redo
+kept_by_request p b out_of_memory k _ = k
 
 -- the output of requests behind some changes; the list says which of them memory refused
-unfoldable pub replayed_output : WorldBounds → List Bool → Kept → List Request → List ℕ
-replayed_output b refusals k [] = []
-replayed_output b refusals k (e ∷ es) =
-    exchange (first_refusal refusals) (timeline_of b k) e
-    ++ replayed_output b (later_refusals refusals)
-    (kept_by_request b (first_refusal refusals) k e) es
+unfoldable pub replayed_output : Profile → WorldBounds → List Bool → Kept → List Request → List ℕ
+replayed_output p b refusals k [] = []
+replayed_output p b refusals k (e ∷ es) =
+    exchange (first_refusal refusals) (timeline_of p b k) e
+    ++ replayed_output p b (later_refusals refusals)
+    (kept_by_request p b (first_refusal refusals) k e) es
 
 -- the output of a run is that
 abbrev pub OutputIsReplayed : Type 0
 OutputIsReplayed =
-    (b : WorldBounds) (refusals : List Bool) (k : Kept) (es : List Request)
-    → output refusals (timeline_of b k) es ≡ replayed_output b refusals k es
+    (p : Profile) (b : WorldBounds) (refusals : List Bool) (k : Kept) (es : List Request)
+    → output refusals (timeline_of p b k) es ≡ replayed_output p b refusals k es
 
 -- an operand is a change like any other
 abbrev pub load_of : File → Move
@@ -38,5 +39,5 @@ load_of f = move.change false (load f.name f.bytes)
 -- a run begins where the loads of its operands lead
 abbrev pub OperandsAreReplayed : Type 0
 OperandsAreReplayed =
-    (b : WorldBounds) (files : List File) (t : Timeline) → Loads 0 (new_timeline b) files (Ok t)
-    → t ≡ timeline_of b (kept_after b none_kept (map load_of files))
+    (p : Profile) (b : WorldBounds) (files : List File) (t : Timeline) → Loads 0 (new_timeline p b) files (Ok t)
+    → t ≡ timeline_of p b (kept_after p b none_kept (map load_of files))

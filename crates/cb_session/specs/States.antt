@@ -6,6 +6,7 @@ use Rattle.cb_desk.specs.Turns.{Turns}
 use Rattle.cb_desk.specs.World.{WorldBounds}
 use Rattle.cb_session.specs.Output.{first_refusal, later_refusals, outcome}
 use Rattle.cb_session.specs.Requests.{Request, change, rebuild, redo, undo}
+use Rattle.cb_scan.specs.declared.profile.Profile.{Profile}
 
 -- the worlds of a session; how many bytes it has scanned; how often a file was shown or hidden
 pub record State : Type 0 where
@@ -17,9 +18,9 @@ pub record State : Type 0 where
 abbrev pub state_of : DeskState → State
 state_of d = record { timeline = d.timeline; meter = d.meter; turns = d.turns }
 
--- within some bounds no file and no past, and nothing was scanned or shown
-abbrev pub new_state : WorldBounds → State
-new_state b = record { timeline = new_timeline b; meter = 0; turns = 0 }
+-- by a profile and within some bounds no file and no past, and nothing was scanned or shown
+abbrev pub new_state : Profile → WorldBounds → State
+new_state p b = record { timeline = new_timeline p b; meter = 0; turns = 0 }
 
 -- a rebuild scans so many bytes, or no more where memory was refused
 abbrev pub RebuildCounts : Bool → (all old new : ℕ) → Type 0

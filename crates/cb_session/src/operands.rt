@@ -7,6 +7,7 @@ ghost use Rattle.cb_session.specs.steps.Starts.{Starts};
 
 use crate::{Ended, Limits, Session};
 use cb_desk::{Bounds, Loading, Refusal};
+use cb_scan::Profile;
 use cb_tags::{Feed, Sink};
 use std::alloc::Global;
 use std::io::{BufRead, Write};
@@ -21,13 +22,18 @@ pub struct Operand {
 /// Files that are to be loaded, in order.
 pub type Operands = Vec<Operand>;
 
-/// A session within these bounds in which the operands are loaded, each as a change that can be
-/// taken back. The first refusal ends it; memory that is refused when all are there is refused to
+/// A session within these bounds, and by a profile, in which the operands are loaded, each as a
+/// change that can be taken back. The first refusal ends it; memory that is refused when all are there is refused to
 /// the last one.
-pub fn prepare(alloc: Global, bounds: Bounds, operands: Operands) -> Result<Session, Ended>
-    ensures { Prepares bounds (map file_of_operand operands.items) result }
+pub fn prepare(
+    alloc: Global,
+    bounds: Bounds,
+    profile: Profile,
+    operands: Operands,
+) -> Result<Session, Ended>
+    ensures { Prepares profile bounds (map file_of_operand operands.items) result }
 {
-    let mut loading = Loading::new(alloc, bounds);
+    let mut loading = Loading::new(alloc, bounds, profile);
     let mut place = 0u32;
     for operand in operands {
         let Operand { name, bytes } = operand;
@@ -55,22 +61,23 @@ fn session_of(alloc: Global, loading: Loading, count: u32) -> Result<Session, En
 pub fn run<R: BufRead, W: Write>(
     alloc: Global,
     bounds: Bounds,
+    profile: Profile,
     limits: &Limits,
     feed: &mut Feed<R>,
     out: &mut Sink<W>,
     operands: Operands,
 ) -> Ended
     ensures output { (bytes : List ℕ) → feed.old.bytes ≡ Some bytes
-        → Runs bounds (map file_of_operand operands.items) limits.now.lines limits.now.line bytes
-        feed.new out.old out.new result }
+        → Runs profile bounds (map file_of_operand operands.items) limits.now.lines
+        limits.now.line bytes feed.new out.old out.new result }
     ensures every_input { WhateverFollows feed.old feed.new (λ bytes left.
-        Runs bounds (map file_of_operand operands.items) limits.now.lines limits.now.line bytes
-        left out.old out.new result) }
+        Runs profile bounds (map file_of_operand operands.items) limits.now.lines
+        limits.now.line bytes left out.old out.new result) }
     ensures failed { IfFault result (HasFailed feed.new out.new) }
     ensures told { Tells feed.old feed.new out.old out.new (fault_of result) }
     ensures handed_on { HandsOn out.new result }
 {
-    match prepare(alloc, bounds, operands) {
+    match prepare(alloc, bounds, profile, operands) {
         Ok(mut session) => session.serve(alloc, limits, feed, out),
         Err(ended) => ended,
     }

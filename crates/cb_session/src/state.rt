@@ -16,6 +16,7 @@ use crate::queries::{put_listing, put_query, put_tags};
 use crate::reply::{put_move, put_prompt, put_refusal};
 use crate::{Command, Ended, Fault, Going, Input, Intake, Limits};
 use cb_desk::{Bounds, Change, Desk, Field};
+use cb_scan::Profile;
 use cb_tags::{Feed, Sink};
 use std::alloc::Global;
 use std::io::{BufRead, Write};
@@ -36,12 +37,13 @@ impl Model for Session {
 }
 
 impl Session {
-    /// A session within these bounds, with no file and no past. It takes no memory.
-    pub fn new(alloc: Global, bounds: Bounds) -> Session
-        ensures { result ≡ new_state bounds }
+    /// A session within these bounds, with no file and no past. Its files are scanned by the
+    /// profile. It takes no memory.
+    pub fn new(alloc: Global, bounds: Bounds, profile: Profile) -> Session
+        ensures { result ≡ new_state profile bounds }
     {
         Session {
-            desk: Desk::new(alloc, bounds),
+            desk: Desk::new(alloc, bounds, profile),
         }
     }
 

@@ -5,6 +5,7 @@ use Rattle.std.proofs.Common.{None, Result, Ok, Err}
 use Rattle.std.proofs.lemmas.Bool.{true≢false}
 use Rattle.std.proofs.lemmas.List.{length-map, take-map}
 use Rattle.std.specs.Global.{Global}
+use Rattle.cb_scan.specs.declared.profile.Profile.TheVariants.{Standard}
 use Rattle.cb_desk.specs.World.{WorldBounds}
 use Rattle.cb_session.specs.declared.input.Ended.{Ended}
 use Rattle.cb_session.specs.declared.input.Fault.{Fault as WhatFailed}
@@ -30,11 +31,11 @@ use Rattle.cbrowse.specs.Program.{most_lines, writes_file}
 pub reaches : (job : Job) (ops : List Operand) (b : WorldBounds)
     (end : Result State RefusedOperand) → b ≡ bounds_of job
     → map (λ o. o.name.items) ops ≡ files_of job
-    → LoadsAll b (map file_of_operand ops) end → Reaches job end
+    → LoadsAll Standard b (map file_of_operand ops) end → Reaches job end
 reaches job ops b end same named loads = (
   map file_of_operand ops,
   names ops ∙ named,
-  subst (λ x. LoadsAll x (map file_of_operand ops) end) same loads,
+  subst (λ x. LoadsAll Standard x (map file_of_operand ops) end) same loads,
 )
   where
     names : (os : List Operand)
@@ -46,7 +47,7 @@ reaches job ops b end same named loads = (
 pub stopped : (job : Job) (ops : List Operand) (b : WorldBounds) (feed : Reader) (out : Writer)
     (ended : Ended) → b ≡ bounds_of job
     → map (λ o. o.name.items) ops ≡ files_of job
-    → Prepares b (map file_of_operand ops) (Err ended)
+    → Prepares Standard b (map file_of_operand ops) (Err ended)
     → (end : Result State RefusedOperand) × Reaches job end
     × DoesLoaded job end feed feed out out ended None
 stopped job ops b feed out (StoppedAt place why) same named p = (

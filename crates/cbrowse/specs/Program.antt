@@ -8,6 +8,7 @@ use Rattle.std.specs.Str.{bytes_eq}
 use Rattle.std.specs.declared.fs.attrs.Metadata.{Metadata}
 use Rattle.std.specs.declared.fs.options.OpenOptions.{OpenOptions}
 use Rattle.std.specs.Io.KnownBytes.{Appends}
+use Rattle.cb_scan.specs.declared.profile.Profile.TheVariants.{Standard}
 use Rattle.cb_desk.specs.Answer.{answer}
 use Rattle.cb_desk.specs.declared.tags.Format.{Format}
 use Rattle.cb_desk.specs.declared.tags.Format.TheVariants.{Extended}
@@ -165,11 +166,11 @@ StopsReading files read Unlisted = ⊥
 StopsReading files read Unwritable = ⊥
 
 -- the files of a job under their names, in order, with some contents, and where their loads lead
--- within the bounds of the job
+-- by the standard profile, within the bounds of the job
 abbrev pub Reaches : Job → Result State RefusedOperand → Type 0
 Reaches job end =
     (files : List File) × (map (λ f. f.name) files ≡ files_of job)
-    × LoadsAll (bounds_of job) files end
+    × LoadsAll Standard (bounds_of job) files end
 
 -- the job is done from a state: into a tags file, which leaves standard output alone, or over the
 -- input and output, and then no file is made

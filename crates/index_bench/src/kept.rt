@@ -48,7 +48,7 @@ pub(crate) struct Kept {
 impl Kept {
     pub(crate) fn new(alloc: Global) -> Kept {
         Kept {
-            shelf: Shelf::new(alloc),
+            shelf: Shelf::new(alloc, Profile::Standard),
             files: Vec::new(alloc),
             counts: Counts {
                 bytes: 0,
@@ -71,7 +71,8 @@ impl Kept {
         let links = Links::new(alloc, &facts)?;
         self.counts.add(&source, &facts);
         let name = push_name(&mut self.shelf, name.to_vec(alloc)?)?;
-        let version = push_version(&mut self.shelf, Version::new(source, facts, links))?;
+        let version = Version::new(Profile::Standard, source, facts, links);
+        let version = push_version(&mut self.shelf, version)?;
         self.files.push(Shown { name, version })?;
         Ok(())
     }
@@ -123,7 +124,9 @@ fn push_name(shelf: &mut Shelf, name: Vec<u8>) -> Result<u32, Failed> {
 
 /// Keeps a version.
 fn push_version(shelf: &mut Shelf, version: Version) -> Result<u32, Failed> {
-    if shelf.archive().version_count() >= MOST as usize {
+    if shelf.archive().version_count() >= MOST as usize
+        || version.profile() != shelf.archive().profile()
+    {
         return Err(Failed);
     }
     match shelf.reserve(&KEPT) {

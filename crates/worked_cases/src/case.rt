@@ -4,6 +4,7 @@ use crate::ended::put_end;
 use crate::escapes::put_line;
 use crate::failed::Failed;
 use cb_desk::Bounds;
+use cb_scan::Profile;
 use cb_session::{Ended, Fault, Limits, Operand, Operands, run};
 use cb_tags::{Feed, Sink};
 use std::alloc::Global;
@@ -252,5 +253,13 @@ fn run_into<R: BufRead, W: Write + Drop>(
     writer: W,
 ) -> Ended {
     let mut out = Sink::new(writer);
-    run(alloc, bounds, limits, feed, &mut out, operands)
+    run(
+        alloc,
+        bounds,
+        Profile::Standard,
+        limits,
+        feed,
+        &mut out,
+        operands,
+    )
 }

@@ -1,7 +1,8 @@
 -- What iterators over a shelf still give.
-use Rattle.std.specs.Prelude.{ℕ, Bool, true, false, List, filter, map}
+use Rattle.std.specs.Prelude.{ℕ, Bool, true, false, not, List, filter, map}
 use Rattle.std.specs.List.{flat_map}
 use Rattle.cb_scan.specs.Lines.{line_text}
+use Rattle.cb_scan.specs.Profiles.{is_declaration}
 use Rattle.cb_tags.specs.TagLines.{Tag}
 use Rattle.cb_index.specs.Counts.{column}
 use Rattle.cb_index.specs.Rows.{Fact}
@@ -12,6 +13,7 @@ use Rattle.cb_index.specs.steps.Includes.{includes_left}
 use Rattle.cb_index.specs.steps.Left.{entries_left, tags_left}
 use Rattle.cb_desk.specs.Answer.{AnswerRow, file_rows, is_header, unindented}
 use Rattle.cb_desk.specs.World.{File}
+use Rattle.cb_desk.specs.declared.answers.defined.DefinedRows.{DefinedRows}
 use Rattle.cb_desk.specs.declared.answers.found.FoundRows.{FoundRows}
 use Rattle.cb_desk.specs.declared.answers.found.FoundRows.TheVariants.{Defs, Headers, Names}
 use Rattle.cb_desk.specs.declared.answers.headers.HeaderRows.{HeaderRows}
@@ -70,6 +72,10 @@ spot_row s = record {
   text = spot_text s.line s.text;
 }
 
+-- the definitions that are no declarations
+abbrev pub defined_left : DefinedRows → List Tag
+defined_left r = filter (λ (t : Tag). not (is_declaration t.kind)) (tags_left r.rest)
+
 -- the includes that a pattern asks for
 abbrev pub headers_left : HeaderRows → List Fact
 headers_left r = filter (λ (f : Fact). is_header r.pattern.now f.name) (includes_left r.rest)
@@ -80,6 +86,6 @@ names_left r = flat_map (λ (f : ShownFile). file_rows r.pattern.now f.name) (en
 
 -- the rows of a question
 abbrev pub found_left : FoundRows → List AnswerRow
-found_left (Defs r) = map row_of_tag (tags_left r)
+found_left (Defs r) = map row_of_tag (defined_left r)
 found_left (Headers r) = map row_around (headers_left r)
 found_left (Names r) = names_left r

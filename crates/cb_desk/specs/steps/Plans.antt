@@ -3,7 +3,9 @@ use Rattle.std.specs.Prelude.{◌≡◌, ◌<◌, ℕ, Bool, List, ◌++◌, map
 use Rattle.std.specs.Prelude.{slice_get, Option, Some, if◌then◌else◌}
 use Rattle.std.specs.List.{AllByRecursion}
 use Rattle.std.specs.Str.{bytes_eq}
+use Rattle.cb_scan.specs.declared.profile.Profile.{Profile}
 use Rattle.cb_index.specs.Archived.{Archived, name_of}
+use Rattle.cb_index.specs.Scanned.{Scanned}
 use Rattle.cb_index.specs.declared.entry.Shown.{Shown}
 use Rattle.cb_desk.specs.declared.spot.NumberedPlace.{NumberedPlace}
 use Rattle.cb_desk.specs.steps.Edits.{Edits, edited, turned_edits}
@@ -12,14 +14,25 @@ use Rattle.cb_desk.specs.steps.Records.{other_wanted, place_in, world_in}
 use Rattle.cb_desk.specs.steps.Walks.{IsNext, UsesAll}
 use Rattle.cb_desk.specs.World.{World, place_key}
 
--- new names and texts, and the turn
+-- a text is scanned by this profile
+abbrev pub IsOf : Profile → Scanned → Type 0
+IsOf profile text = text.profile ≡ profile
+
+-- texts of one profile
+pub record NewTexts : Type 0 where
+  pub profile : Profile
+  pub texts : List (List ℕ)
+
+-- the profile of new texts; new names and texts, and the turn
 pub record Planned : Type 0 where
+  pub profile : Profile
   pub names : List (List ℕ)
   pub texts : List (List ℕ)
   pub turn : Turn
 
--- an archive keeps what a world and those before it use, and has what is new behind it
+-- an archive keeps its profile and what a world and those before it use, and has what is new behind it
 pub record Keeps (old : Archived) (w : Numbered) (p : Planned) (new : Archived) : Type 0 where
+  pub profile : new.profile ≡ old.profile
   pub names : new.names ≡ take w.names old.names ++ p.names
   pub texts : new.texts ≡ take w.versions old.texts ++ p.texts
 
@@ -31,9 +44,12 @@ pub record LeadsTo (k : Kept) (p : Planned) (v : World) (a : Archived) : Type 0 
   pub next : IsNext k.now (other a p.turn k.now)
   pub all : UsesAll a (other a p.turn k.now)
 
--- the turn leads to that world in every such archive
+-- the new texts have the profile of the archive, and the turn leads to that world in every archive
+-- that keeps them
 abbrev pub IsPlan : Kept → Planned → World → Type 0
-IsPlan k p v = (a : Archived) → Keeps k.archive k.now p a → LeadsTo k p v a
+IsPlan k p v =
+    (p.profile ≡ k.archive.profile)
+    × ((a : Archived) → Keeps k.archive k.now p a → LeadsTo k p v a)
 
 -- there is room for the world that the turn leads to, in every such archive
 abbrev pub HasRoomFor : Rooms → Archived → Numbered → Planned → Type 0

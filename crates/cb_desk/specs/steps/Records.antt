@@ -1,11 +1,11 @@
 -- Worlds in numbers, and what leads from one to another.
 use Rattle.std.specs.Prelude.{◌≡◌, ◌≤◌, ◌<◌, ◌+◌, ◌*◌, ℕ, List, [], ◌++◌, length, map}
 use Rattle.std.specs.Prelude.{filter, not, Option, None}
-use Rattle.std.specs.Prelude.{Some, slice_index_or, if◌then◌else◌}
+use Rattle.std.specs.Prelude.{Some, if◌then◌else◌}
 use Rattle.std.specs.List.{AllByRecursion, flat_map, list_any}
 use Rattle.std.specs.List.Sorted.{IsStrictlyIncreasing}
 use Rattle.cb_scan.specs.Order.{in_order, put}
-use Rattle.cb_index.specs.Archived.{Archived, name_of}
+use Rattle.cb_index.specs.Archived.{Archived, name_of, text_of}
 use Rattle.cb_index.specs.Files.{AreApart, call_count, def_count, files_of}
 use Rattle.cb_index.specs.Files.{shown_name, total, use_count}
 use Rattle.cb_index.specs.Names.{is_among, names_of}
@@ -46,6 +46,7 @@ place_in a p = record { file = name_of a p.name; line = p.line }
 
 abbrev pub world_in : Archived → Numbered → World
 world_in a w = record {
+  profile = a.profile;
   bounds = w.bounds;
   files = files_of a w.shown;
   wanted = w.wanted;
@@ -198,4 +199,4 @@ held_by text name bytes = map (λ n. record { name = name; line = n }) (lines_wi
 -- those of all files that are shown
 abbrev pub held_numbers : Archived → List ℕ → List Shown → List NumberedPlace
 held_numbers a text shown =
-    flat_map (λ (s : Shown). held_by text s.name (slice_index_or a.texts s.version [])) shown
+    flat_map (λ (s : Shown). held_by text s.name (text_of a s.version).bytes) shown

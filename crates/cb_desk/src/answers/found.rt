@@ -14,18 +14,19 @@ ghost use Rattle.cb_desk.specs.steps.Lent.{
   spot_row,
 };
 
+use crate::answers::defined::DefinedRows;
 use crate::answers::headers::HeaderRows;
 use crate::answers::names::NameRows;
 use crate::answers::row_spot::{RowSpot, SpotText};
 use crate::rows::{RefRow, unindented};
-use cb_index::{FactRow, FactSpot, TagRows};
+use cb_index::{FactRow, FactSpot};
 use cb_tags::TagRow;
 
 /// The rows of a question, by file and place.
 #[derive(Clone, Copy)]
 pub(crate) enum FoundRows<'a, 'p> {
     /// Definitions.
-    Defs(TagRows<'a, 'p>),
+    Defs(DefinedRows<'a, 'p>),
     /// Includes.
     Headers(HeaderRows<'a, 'p>),
     /// Files.

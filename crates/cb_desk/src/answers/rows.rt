@@ -9,6 +9,7 @@ ghost use Rattle.cb_desk.specs.Models.{row_of};
 ghost use Rattle.cb_desk.specs.World.{AreValidFiles, widest_bounds};
 ghost use Rattle.cb_desk.specs.steps.Lent.{asked_by, found_left, is_named};
 
+use crate::answers::defined::DefinedRows;
 use crate::answers::distinct::DistinctSpots;
 use crate::answers::fact_rows::FactRows;
 use crate::answers::files::Files;
@@ -49,7 +50,8 @@ impl<'a, 'p> Rows<'a, 'p> {
     pub(crate) fn new(shelf: &'a Shelf, field: Field, pattern: &'p [u8]) -> Rows<'a, 'p>
         requires some { pattern.now ≢ [] }
         requires valid { AreValidFiles widest_bounds (files shelf.now) }
-        ensures { result ≡ distinct (flat_map (field_rows field pattern.now) (files shelf.now)) }
+        ensures { result ≡ distinct
+            (flat_map (field_rows shelf.now.archive.profile field pattern.now) (files shelf.now)) }
     {
         let files = Files::new(shelf);
         match field {
@@ -119,10 +121,11 @@ fn is_named(kind: FactKind) -> bool
 /// The rows of the uses or calls of a kind that have a name as their key.
 fn fact_rows<'a, 'p>(shelf: &'a Shelf, kind: FactKind, pattern: &'p [u8]) -> FactRows<'a, 'p>
     requires valid { AreValidFiles widest_bounds (files shelf.now) }
-    ensures { result
-        ≡ distinct (flat_map (field_rows (asked_by kind) pattern.now) (files shelf.now)) }
+    ensures { result ≡ distinct (flat_map
+        (field_rows shelf.now.archive.profile (asked_by kind) pattern.now) (files shelf.now)) }
 {
     let _totals = shelf.totals();
+    let _shown = shelf.shown();
     FactRows::new(shelf.facts(kind, pattern).spots(), is_named(kind))
 }
 
@@ -133,14 +136,15 @@ fn found_rows<'a, 'p>(shelf: &'a Shelf, field: Field, pattern: &'p [u8]) -> Foun
     requires no_called { field ≢ Field.Called }
     requires no_calling { field ≢ Field.Calling }
     requires valid { AreValidFiles widest_bounds (files shelf.now) }
-    ensures rows { found_left result ≡ flat_map (field_rows field pattern.now) (files shelf.now) }
+    ensures rows { found_left result
+        ≡ flat_map (field_rows shelf.now.archive.profile field pattern.now) (files shelf.now) }
     ensures few { length (found_left result) < 2 ^ 64 }
 {
     match field {
         Field::Definition => {
-            let rows = shelf.defs(pattern);
-            let _count = rows.len();
-            FoundRows::Defs(rows)
+            let rest = shelf.defs(pattern);
+            let _count = rest.len();
+            FoundRows::Defs(DefinedRows { rest })
         }
         Field::Including => FoundRows::Headers(HeaderRows {
             rest: shelf.includes(),

@@ -94,7 +94,7 @@ impl Present {
         ensures meter { CountsUpTo (length bytes.items) meter.old meter.new result }
     {
         let _counted = meter.read();
-        let version = scanned(alloc, meter, bytes)?;
+        let version = scanned(alloc, meter, self.profile(), bytes)?;
         self.plan_load(alloc, name, version)
     }
 
@@ -119,7 +119,7 @@ impl Present {
         let Some(shown) = shown_as(&self.shelf, name) else {
             unreachable!()
         };
-        let version = scanned(alloc, meter, bytes)?;
+        let version = scanned(alloc, meter, self.profile(), bytes)?;
         self.plan_reload(alloc, shown, version)
     }
 

@@ -1,28 +1,36 @@
 //! How many facts versions have.
 ghost use Rattle.std.specs.Prelude.{◌≡◌, ◌≤◌, ◌++◌, ◌^◌, length, map, take, slice_get, MatchOption};
 ghost use Rattle.std.specs.Option.{option_copied, option_map};
-ghost use Rattle.cb_scan.specs.Definitions.{facts_of};
-ghost use Rattle.cb_desk.specs.steps.Room.{AreCounted, AreMore, AreTooMany, fact_count, facts_with};
+ghost use Rattle.cb_scan.specs.Profiles.{facts_in};
+ghost use Rattle.cb_desk.specs.steps.Room.{
+  AreCounted,
+  AreMore,
+  AreTooMany,
+  fact_count,
+  facts_with,
+  with_texts,
+};
 
-use cb_index::{Archive, Shown, Totals, Version};
+use crate::new_versions::NewVersions;
+use cb_index::{Archive, Shown, Totals};
 use cb_scan::Facts;
 
 /// The facts of a version: one of the first `kept`, or one that is new.
 fn facts_at<'a>(
     archive: &'a Archive,
     kept: u32,
-    news: &'a [Version],
+    news: &'a NewVersions,
     version: u32,
 ) -> Option<&'a Facts>
-    requires { kept ≤ length archive.now.texts }
-    ensures { option_copied result
-        ≡ option_map facts_of (slice_get (take kept archive.now.texts ++ news.now) version) }
+    requires kept { kept ≤ length archive.now.texts }
+    requires profile { news.now.profile ≡ archive.now.profile }
+    ensures { option_copied result ≡ option_map (facts_in archive.now.profile)
+        (slice_get (take kept archive.now.texts ++ news.now.texts) version) }
 {
     if version < kept {
         return Some(archive.facts(version));
     }
-    let new = news.get((version - kept) as usize)?;
-    Some(new.facts())
+    news.facts((version - kept) as usize)
 }
 
 /// The totals with facts added, if they are numbers.
@@ -41,15 +49,17 @@ fn with_facts(totals: Totals, facts: &Facts) -> Option<Totals>
 pub(crate) fn with_versions(
     archive: &Archive,
     kept: u32,
-    news: &[Version],
+    news: &NewVersions,
     shown: &[Shown],
     before: Totals,
 ) -> Option<Totals>
-    requires { kept ≤ length archive.now.texts }
+    requires kept { kept ≤ length archive.now.texts }
+    requires profile { news.now.profile ≡ archive.now.profile }
     ensures { MatchOption result
-        (2 ^ 64 ≤ facts_with before
-        (fact_count (take kept archive.now.texts ++ news.now) shown.now))
-        (AreCounted (take kept archive.now.texts ++ news.now) shown.now before) }
+        (2 ^ 64 ≤ facts_with before (fact_count (with_texts archive.now.profile
+        (take kept archive.now.texts ++ news.now.texts)) shown.now))
+        (AreCounted (with_texts archive.now.profile
+        (take kept archive.now.texts ++ news.now.texts)) shown.now before) }
 {
     let mut totals = before;
     for s in shown {

@@ -9,6 +9,7 @@ ghost use Rattle.cb_desk.specs.steps.Plans.{IsAmong, IsPlan, places_without};
 ghost use Rattle.cb_desk.specs.steps.Records.{world_in};
 ghost use Rattle.cb_desk.specs.steps.Walks.{IsKept};
 
+use crate::new_versions::NewVersions;
 use crate::place_edits::{PlaceEdits, difference};
 use crate::plan::Plan;
 use crate::present::moved::{edits_moved, edits_renumbered};
@@ -74,7 +75,7 @@ impl Present {
         let frames = edits_without(alloc, archive, hides.name, self.frames.as_slice())?;
         Ok(Plan {
             names: Vec::new(alloc),
-            versions: Vec::new(alloc),
+            versions: NewVersions::none(alloc, self.shelf.archive().profile()),
             record: Record {
                 hides: only_one(alloc, hides)?,
                 shows: Vec::new(alloc),
@@ -96,8 +97,9 @@ impl Present {
     ) -> Result<Plan, AllocError>
         requires kept { IsKept self.now.rooms self.now.archive self.now.now }
         requires fresh { has_file (files_of self.now.archive self.now.now.shown) name.now ≡ false }
+        requires profile { version.profile ≡ self.now.archive.profile }
         ensures { IfOk result (λ p. IsPlan self.now p
-            (loaded (world_in self.now.archive self.now.now) name.now version)) }
+            (loaded (world_in self.now.archive self.now.now) name.now version.bytes)) }
     {
         let _shown = self.shelf.shown();
         let new = Shown {
@@ -108,7 +110,7 @@ impl Present {
         let versions = sum(self.versions, 1).ok_or(AllocError)?;
         Ok(Plan {
             names: only_one(alloc, Vec::from_slice(alloc, name)?)?,
-            versions: only_one(alloc, version)?,
+            versions: NewVersions::one(alloc, version)?,
             record: Record {
                 hides: Vec::new(alloc),
                 shows: only_one(alloc, new)?,
@@ -130,9 +132,10 @@ impl Present {
     ) -> Result<Plan, AllocError>
         requires kept { IsKept self.now.rooms self.now.archive self.now.now }
         requires among { IsAmong self.now.now.shown file }
+        requires profile { version.profile ≡ self.now.archive.profile }
         ensures { IfOk result
             (λ p. IsPlan self.now p (reloaded (world_in self.now.archive self.now.now)
-            (name_of self.now.archive file.name) version)) }
+            (name_of self.now.archive file.name) version.bytes)) }
     {
         let _shown = self.shelf.shown();
         let archive = self.shelf.archive();
@@ -145,7 +148,7 @@ impl Present {
         let versions = sum(self.versions, 1).ok_or(AllocError)?;
         Ok(Plan {
             names: Vec::new(alloc),
-            versions: only_one(alloc, version)?,
+            versions: NewVersions::one(alloc, version)?,
             record: Record {
                 hides: only_one(alloc, file)?,
                 shows: only_one(alloc, changed)?,
@@ -196,7 +199,7 @@ impl Present {
         let names = sum(self.names, 1).ok_or(AllocError)?;
         Ok(Plan {
             names: only_one(alloc, Vec::from_slice(alloc, new)?)?,
-            versions: Vec::new(alloc),
+            versions: NewVersions::none(alloc, self.shelf.archive().profile()),
             record: Record {
                 hides: only_one(alloc, old)?,
                 shows: only_one(alloc, moved)?,

@@ -13,6 +13,7 @@ ghost use Rattle.cb_desk.specs.steps.Texts.{bytes_if_other};
 ghost use Rattle.cb_desk.specs.steps.Walks.{IsKept};
 
 use crate::answers::{nth_definition, shown_as};
+use crate::new_versions::NewVersions;
 use crate::place_edits::{PlaceEdits, difference, popped, pushed};
 use crate::plan::Plan;
 use crate::present::Present;
@@ -40,7 +41,7 @@ impl Present {
         let _shown = self.shelf.shown();
         Ok(Plan {
             names: Vec::new(alloc),
-            versions: Vec::new(alloc),
+            versions: NewVersions::none(alloc, self.shelf.archive().profile()),
             record: Record {
                 hides: Vec::new(alloc),
                 shows: Vec::new(alloc),
@@ -58,7 +59,8 @@ impl Present {
     pub(crate) fn nth_tag(&mut self, name: &[u8], n: u64) -> Option<NumberedPlace>
         requires { IsKept self.old.rooms self.old.archive self.old.now }
         ensures place { option_map (place_in self.old.archive) result
-            ≡ nth n (places (world_in self.old.archive self.old.now).files name.now) }
+            ≡ nth n (places self.old.archive.profile
+            (world_in self.old.archive self.old.now).files name.now) }
         ensures there { MatchOption result ⊤ (λ (p : NumberedPlace). p.name < self.old.now.names) }
         ensures still { IsStill self.old self.new }
     {

@@ -64,7 +64,7 @@ pub(crate) fn load_refusal(
     requires there { AllByRecursion (IsThere archive.now) shown.now }
     requires ascending { AreAscending archive.now shown.now }
     ensures { result ≡ load_refusal
-        (record (empty_world bounds) { files = files_of archive.now shown.now })
+        (record (empty_world archive.now.profile bounds) { files = files_of archive.now shown.now })
         name.now bytes.now }
 {
     if !is_file_name(name) {

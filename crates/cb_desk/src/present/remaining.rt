@@ -5,18 +5,19 @@ ghost use Rattle.cb_desk.specs.steps.Edits.{IsDifference};
 ghost use Rattle.cb_desk.specs.steps.Records.{place_in};
 ghost use Rattle.cb_desk.specs.steps.Replaced.{files_then, staying, stays_in, texts_of};
 
+use crate::new_versions::NewVersions;
 use crate::place_edits::{PlaceEdits, difference};
 use crate::present::marked_files::index_for;
 use crate::present::replaced::Replacing;
 use crate::spot::NumberedPlace;
-use cb_index::{Shown, Version};
+use cb_index::Shown;
 use std::alloc::{AllocError, Global};
 
 impl<'a> Replacing<'a> {
     /// Whether a place stays a line where some files get new versions. In other files it does.
-    fn stays(self, changed: &[Shown], versions: &[Version], place: NumberedPlace) -> bool
+    fn stays(self, changed: &[Shown], versions: &NewVersions, place: NumberedPlace) -> bool
         requires ascending { AreAscending self.archive.now changed.now }
-        requires versions { versions.now ≡ texts_of
+        requires versions { versions.now.texts ≡ texts_of
             (files_then self.archive.now self.marks.now self.old.now self.new.now changed.now) }
         ensures { result ≡ stays_in (files_then self.entry.archive.now self.entry.marks.now
             self.entry.old.now self.entry.new.now changed.now)
@@ -25,7 +26,7 @@ impl<'a> Replacing<'a> {
         let name = self.archive.name(place.name);
         let index = index_for(self.archive, changed, name);
         if index < changed.len() && self.archive.name(changed[index].name) == name {
-            1 <= place.line && place.line <= versions[index].source().line_count()
+            1 <= place.line && place.line <= versions.source(index).line_count()
         } else {
             true
         }
@@ -36,11 +37,11 @@ impl<'a> Replacing<'a> {
         self,
         alloc: Global,
         changed: &[Shown],
-        versions: &[Version],
+        versions: &NewVersions,
         places: &[NumberedPlace],
     ) -> Result<Vec<NumberedPlace>, AllocError>
         requires ascending { AreAscending self.archive.now changed.now }
-        requires versions { versions.now ≡ texts_of
+        requires versions { versions.now.texts ≡ texts_of
             (files_then self.archive.now self.marks.now self.old.now self.new.now changed.now) }
         ensures { IfOk result (λ kept. kept.items ≡ staying self.entry.archive.now
             (files_then self.entry.archive.now self.entry.marks.now self.entry.old.now
@@ -61,11 +62,11 @@ impl<'a> Replacing<'a> {
         self,
         alloc: Global,
         changed: &[Shown],
-        versions: &[Version],
+        versions: &NewVersions,
         places: &[NumberedPlace],
     ) -> Result<PlaceEdits, AllocError>
         requires ascending { AreAscending self.archive.now changed.now }
-        requires versions { versions.now ≡ texts_of
+        requires versions { versions.now.texts ≡ texts_of
             (files_then self.archive.now self.marks.now self.old.now self.new.now changed.now) }
         ensures { IfOk result (λ edits. IsDifference edits places.now
             (staying self.entry.archive.now (files_then self.entry.archive.now

@@ -15,6 +15,7 @@ ghost use Rattle.cb_desk.specs.steps.Replaced.{files_changed, has_mark, texts_of
 ghost use Rattle.cb_desk.specs.steps.Walks.{IsKept};
 
 use crate::Refusal;
+use crate::new_versions::NewVersions;
 use crate::place_edits::difference;
 use crate::plan::Plan;
 use crate::present::refusals::is_short;
@@ -22,7 +23,7 @@ use crate::present::renewal::{new_versions, old_versions, sorted_renewals};
 use crate::present::replaced::Replacing;
 use crate::present::{Present, sum};
 use crate::record::Record;
-use cb_index::{Shown, Version};
+use cb_index::Shown;
 use cb_scan::Meter;
 use std::alloc::{AllocError, Global};
 
@@ -77,7 +78,7 @@ impl Present {
         alloc: Global,
         replacing: Replacing<'_>,
         marked: &[Shown],
-        made: Vec<Version>,
+        made: NewVersions,
     ) -> Result<Plan, AllocError>
         requires kept { IsKept self.now.rooms self.now.archive self.now.now }
         requires valid { IsValidWorld (world_in self.now.archive self.now.now) }
@@ -86,7 +87,8 @@ impl Present {
         requires marks { replacing.marks.now ≡ self.now.now.marks }
         requires marked { marked.now
             ≡ filter (has_mark self.now.archive self.now.now.marks) self.now.now.shown }
-        requires versions { made.items ≡ texts_of (files_changed self.now.archive self.now.now.marks
+        requires profile { made.profile ≡ self.now.archive.profile }
+        requires versions { made.texts ≡ texts_of (files_changed self.now.archive self.now.now.marks
             replacing.old.now replacing.new.now self.now.now.shown) }
         ensures { IfOk result
             (λ p. IsPlan self.now p (with_files (world_in self.now.archive self.now.now)
@@ -96,7 +98,7 @@ impl Present {
         let versions = sum(self.versions, made.len()).ok_or(AllocError)?;
         let renewals = sorted_renewals(alloc, marked, self.versions)?;
         let places = self.frames.as_slice();
-        let frames = replacing.edits_staying(alloc, marked, made.as_slice(), places)?;
+        let frames = replacing.edits_staying(alloc, marked, &made, places)?;
         let marks = difference(alloc, None, self.marks.as_slice(), &[])?;
         Ok(Plan {
             names: Vec::new(alloc),

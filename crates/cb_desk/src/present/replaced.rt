@@ -31,6 +31,7 @@ ghost use Rattle.cb_desk.specs.steps.Replaced.{
   texts_of,
 };
 
+use crate::new_versions::NewVersions;
 use crate::present::marked_files::{MarkedFiles, count_in};
 use crate::present::replacement::{replaced_len, replaced_text};
 use crate::scanned::scanned_source;
@@ -154,14 +155,16 @@ impl<'a> Replacing<'a> {
         file: Shown,
     ) -> Result<Version, AllocError>
         requires { IsThere self.archive.now file }
-        ensures value { IfOk result (λ version. version ≡ (file_then self.entry.archive.now
+        ensures profile { IfOk result
+            (λ version. version.profile ≡ self.entry.archive.now.profile) }
+        ensures value { IfOk result (λ version. version.bytes ≡ (file_then self.entry.archive.now
             self.entry.marks.now self.entry.old.now self.entry.new.now file).bytes) }
         ensures meter { CountsUpTo (length (file_then self.entry.archive.now self.entry.marks.now
             self.entry.old.now self.entry.new.now file).bytes) meter.old meter.new result }
     {
         let _counted = meter.read();
         let source = self.source_then(alloc, file)?;
-        scanned_source(alloc, meter, source)
+        scanned_source(alloc, meter, self.archive.profile(), source)
     }
 
     /// The new versions of files. Their contents are scanned.
@@ -170,16 +173,17 @@ impl<'a> Replacing<'a> {
         alloc: Global,
         meter: &mut Meter,
         files: &[Shown],
-    ) -> Result<Vec<Version>, AllocError>
+    ) -> Result<NewVersions, AllocError>
         requires { AllByRecursion (IsThere self.archive.now) files.now }
-        ensures versions { IfOk result (λ made. made.items
+        ensures profile { IfOk result (λ made. made.profile ≡ self.entry.archive.now.profile) }
+        ensures versions { IfOk result (λ made. made.texts
             ≡ texts_of (files_then self.entry.archive.now self.entry.marks.now self.entry.old.now
             self.entry.new.now files.now)) }
         ensures meter { CountsUpTo (bytes_in (files_then self.entry.archive.now self.entry.marks.now
             self.entry.old.now self.entry.new.now files.now)) meter.old meter.new result }
     {
         let _counted = meter.read();
-        let mut made = Vec::new(alloc);
+        let mut made = NewVersions::none(alloc, self.archive.profile());
         let mut rest = files;
         while let Some((file, more)) = rest.split_first() {
             made.push(self.version_then(alloc, meter, *file)?)?;

@@ -7,13 +7,13 @@ use Rattle.cb_scan.specs.declared.facts.Def.{Def}
 use Rattle.cb_scan.specs.declared.facts.Tag as facts
 use Rattle.cb_scan.specs.declared.facts.Use.{Use}
 use Rattle.cb_scan.specs.declared.facts.Kind.TheVariants as kind
-use Rattle.cb_scan.specs.Definitions.{facts_of}
 use Rattle.cb_scan.specs.Lines.{line_text}
 use Rattle.cb_tags.specs.TagLines.{Tag, TagScope}
-use Rattle.cb_index.specs.Archived.{Archived, name_of}
+use Rattle.cb_index.specs.Archived.{Archived, name_of, text_at}
 use Rattle.cb_index.specs.Bytes.{cut}
 use Rattle.cb_index.specs.Rows.{Fact}
 use Rattle.cb_index.specs.steps.Spread.{items_from}
+use Rattle.cb_index.specs.Scanned.{Scanned, facts_of}
 use Rattle.cb_index.specs.declared.entry.Entry.{Entry}
 use Rattle.cb_index.specs.declared.kind.FactKind.{FactKind}
 use Rattle.cb_index.specs.declared.kind.FactKind.TheVariants.{Uses, Callees, Callers}
@@ -45,13 +45,14 @@ tag_of_def file text (Some d) = record {
   scope = option_map (scope_cut text) d.tag;
 }
 
-abbrev pub tag_in_text : List ℕ → ℕ → Option (List ℕ) → Tag
+abbrev pub tag_in_text : List ℕ → ℕ → Option Scanned → Tag
 tag_in_text file number None = no_tag file
-tag_in_text file number (Some text) = tag_of_def file text (slice_get (facts_of text).defs number)
+tag_in_text file number (Some text) =
+    tag_of_def file text.bytes (slice_get (facts_of text).defs number)
 
 -- the tag of an entry
 abbrev pub tag_at : Archived → Entry → Tag
-tag_at a e = tag_in_text (name_of a e.name) e.number (slice_get a.texts e.version)
+tag_at a e = tag_in_text (name_of a e.name) e.number (text_at a e.version)
 
 -- ---- uses and calls
 abbrev pub no_fact : List ℕ → Fact
@@ -78,19 +79,19 @@ fact_of_call file text (Some c) = record {
 }
 
 -- the fact of an item
-abbrev pub fact_at : FactKind → List ℕ → List ℕ → ℕ → Fact
-fact_at Uses file text item = fact_of_use file text (slice_get (facts_of text).uses item)
-fact_at Callees file text item = fact_of_call file text (slice_get (facts_of text).calls item)
-fact_at Callers file text item = fact_of_call file text (slice_get (facts_of text).calls item)
+abbrev pub fact_at : FactKind → List ℕ → Scanned → ℕ → Fact
+fact_at Uses file text item = fact_of_use file text.bytes (slice_get (facts_of text).uses item)
+fact_at Callees file text item = fact_of_call file text.bytes (slice_get (facts_of text).calls item)
+fact_at Callers file text item = fact_of_call file text.bytes (slice_get (facts_of text).calls item)
 
-abbrev pub facts_in_text : FactKind → List ℕ → ℕ → Option (List ℕ) → List Fact
+abbrev pub facts_in_text : FactKind → List ℕ → ℕ → Option Scanned → List Fact
 facts_in_text sort file number None = []
 facts_in_text sort file number (Some text) =
     map (fact_at sort file text) (items_from sort text number)
 
 -- the facts of an entry
 abbrev pub facts_at : FactKind → Archived → Entry → List Fact
-facts_at sort a e = facts_in_text sort (name_of a e.name) e.number (slice_get a.texts e.version)
+facts_at sort a e = facts_in_text sort (name_of a e.name) e.number (text_at a e.version)
 
 abbrev pub facts_in : FactKind → Archived → List Entry → List Fact
 facts_in sort a es = flat_map (facts_at sort a) es

@@ -1,19 +1,20 @@
 -- How links are laid: by the entries of all items of a version, in order.
 use Rattle.std.specs.Prelude.{ℕ, ◌≡◌, ◌&&◌, Bool, true, false, nat_eq, if◌then◌else◌, List, [], ◌∷◌}
-use Rattle.std.specs.Prelude.{Option, Some, None, map, slice_get, slice_set}
+use Rattle.std.specs.Prelude.{Option, Some, None, map, slice_set}
 use Rattle.std.specs.List.{range_with_len}
 use Rattle.cb_scan.specs.Keys.{key_prefix}
 use Rattle.cb_scan.specs.Order.{in_order}
-use Rattle.cb_index.specs.Archived.{Archived}
+use Rattle.cb_index.specs.Archived.{Archived, text_at}
 use Rattle.cb_index.specs.Entries.{sort_key}
 use Rattle.cb_index.specs.Items.{have_one_key, item_count, item_key}
 use Rattle.cb_index.specs.Orders.{item_keyer}
+use Rattle.cb_index.specs.Scanned.{Scanned}
 use Rattle.cb_index.specs.declared.entry.Entry.{Entry}
 use Rattle.cb_index.specs.declared.links.Link.{Link}
 use Rattle.cb_index.specs.declared.kind.FactKind.{FactKind}
 
 -- the entry of an item of a version, under the name 0; its rows are not counted
-abbrev pub item_entry : FactKind → List ℕ → ℕ → ℕ → Entry
+abbrev pub item_entry : FactKind → Scanned → ℕ → ℕ → Entry
 item_entry sort text version item = record {
   prefix = key_prefix (item_key sort text item);
   name = 0;
@@ -23,32 +24,32 @@ item_entry sort text version item = record {
 }
 
 -- those of all items
-abbrev pub item_entries : FactKind → List ℕ → ℕ → List Entry
+abbrev pub item_entries : FactKind → Scanned → ℕ → List Entry
 item_entries sort text version =
     map (item_entry sort text version) (range_with_len 0 (item_count sort text))
 
 -- these are the entries of all items of a version that an archive keeps, under a number
 pub record AreListed (sort : FactKind) (a : Archived) (version number : ℕ) (es : List Entry)
     : Type 0 where
-  pub text : List ℕ
-  pub there : slice_get a.texts version ≡ Some text
+  pub text : Scanned
+  pub there : text_at a version ≡ Some text
   pub entries : es ≡ item_entries sort text number
 
 -- these are the entries of all items of a text in the order of an archive that keeps it
-pub record AreSorted (sort : FactKind) (text : List ℕ) (entries : List Entry) : Type 0 where
+pub record AreSorted (sort : FactKind) (text : Scanned) (entries : List Entry) : Type 0 where
   pub archive : Archived
   pub version : ℕ
-  pub there : slice_get archive.texts version ≡ Some text
+  pub there : text_at archive version ≡ Some text
   pub order : entries
       ≡ in_order (sort_key (item_keyer sort) archive) (item_entries sort text version)
 
 -- whether two entries of items have one key
-abbrev pub entries_match : FactKind → List ℕ → Entry → Entry → Bool
+abbrev pub entries_match : FactKind → Scanned → Entry → Entry → Bool
 entries_match sort text e f =
     nat_eq e.prefix f.prefix && have_one_key sort text e.number f.number
 
 -- the item of the entry that follows an entry, if it has its key
-abbrev pub next_item : FactKind → List ℕ → Entry → List Entry → Option ℕ
+abbrev pub next_item : FactKind → Scanned → Entry → List Entry → Option ℕ
 next_item sort text e [] = None
 next_item sort text e (f ∷ es) = if entries_match sort text e f then Some f.number else None
 
@@ -63,7 +64,7 @@ starts None = true
 starts (Some item) = false
 
 -- links with those of entries set, from whether the first of these is the first of its key
-unfoldable pub with_each : FactKind → List ℕ → Bool → List Entry → List Link → List Link
+unfoldable pub with_each : FactKind → Scanned → Bool → List Entry → List Link → List Link
 with_each sort text first [] links = links
 with_each sort text first (e ∷ es) links =
     with_each sort text (starts (next_item sort text e es)) es

@@ -1,14 +1,13 @@
 -- What iterators still give.
 use Rattle.std.specs.Prelude.{ℕ, Bool, true, false, List, [], ◌∷◌, ◌++◌, Option, Some, None, length}
-use Rattle.std.specs.Prelude.{map, slice_get, sum_by}
+use Rattle.std.specs.Prelude.{map, sum_by}
 use Rattle.std.specs.Borrow.{Bor}
 use Rattle.std.specs.List.{flat_map}
 use Rattle.std.specs.Option.{option_map}
-use Rattle.cb_scan.specs.Definitions.{facts_of}
 use Rattle.cb_scan.specs.Lines.{line_text}
 use Rattle.cb_scan.specs.TextFacts.{TextFacts}
 use Rattle.cb_tags.specs.TagLines.{Tag}
-use Rattle.cb_index.specs.Archived.{Archived, name_of}
+use Rattle.cb_index.specs.Archived.{Archived, name_of, text_at}
 use Rattle.cb_index.specs.Rows.{Fact}
 use Rattle.cb_index.specs.Shelved.{ShownFile}
 use Rattle.cb_index.specs.steps.DefSearch.{search_left}
@@ -16,6 +15,7 @@ use Rattle.cb_index.specs.steps.Found.{fact_at, tag_at}
 use Rattle.cb_index.specs.steps.Given.{given_in, given_left}
 use Rattle.cb_index.specs.steps.Runs.{run_entries}
 use Rattle.cb_index.specs.steps.Searched.{searched_at, searched_count}
+use Rattle.cb_index.specs.Scanned.{Scanned, facts_of}
 use Rattle.cb_index.specs.declared.entries.Entries.{Entries}
 use Rattle.cb_index.specs.declared.entry.Entry.{Entry}
 use Rattle.cb_index.specs.declared.entry.Shown.{Shown}
@@ -108,15 +108,15 @@ abbrev pub shown_file : Bor (List ℕ) × Bor (List ℕ) × Bor TextFacts → Sh
 shown_file t = record { name = t.0.now; bytes = t.1.now; facts = t.2.now }
 
 -- a file and those after it, if its version is there
-abbrev pub file_or_end : List ℕ → Option (List ℕ) → List ShownFile → List ShownFile
+abbrev pub file_or_end : List ℕ → Option Scanned → List ShownFile → List ShownFile
 file_or_end name None rest = []
 file_or_end name (Some text) rest =
-    record { name = name; bytes = text; facts = facts_of text } ∷ rest
+    record { name = name; bytes = text.bytes; facts = facts_of text } ∷ rest
 
 abbrev pub entries_in : Archived → List Shown → List ShownFile
 entries_in a [] = []
 entries_in a (s ∷ shown) =
-    file_or_end (name_of a s.name) (slice_get a.texts s.version) (entries_in a shown)
+    file_or_end (name_of a s.name) (text_at a s.version) (entries_in a shown)
 
 abbrev pub entries_left : Entries → List ShownFile
 entries_left e = entries_in e.archive.now e.shown.now

@@ -13,6 +13,7 @@ use Rattle.cb_index.specs.Items.{callee_span, caller_span, item_count, item_key}
 use Rattle.cb_index.specs.Repeats.{have_one_row, is_repeat}
 use Rattle.cb_index.specs.steps.Found.{fact_at}
 use Rattle.cb_index.specs.steps.Table.{key_end, mixed}
+use Rattle.cb_index.specs.Scanned.{Scanned}
 use Rattle.cb_index.specs.declared.entry.Entry.{Entry}
 use Rattle.cb_index.specs.declared.kind.FactKind.{FactKind}
 use Rattle.cb_index.specs.declared.kind.FactKind.TheVariants.{Uses, Callees, Callers}
@@ -36,24 +37,24 @@ unfoldable pub place_among : (key function : List ℕ) → (line count : ℕ) �
 place_among key function line count = mixed (hash key) (hash function) line % count
 
 -- the place of the row of an item
-abbrev pub row_place : FactKind → List ℕ → ℕ → ℕ
+abbrev pub row_place : FactKind → Scanned → ℕ → ℕ
 row_place sort text item =
     place_among (item_key sort text item) (function_of sort (fact_at sort [] text item))
     (fact_at sort [] text item).line (item_count sort text)
 
 -- whether an item stands in a place
-abbrev pub stands_at : FactKind → List ℕ → ℕ → ℕ → Bool
+abbrev pub stands_at : FactKind → Scanned → ℕ → ℕ → Bool
 stands_at sort text place item =
     nat_eq (row_place sort text item) place && not (is_repeat sort text item)
 
 -- one more than the last item of a place below one; 0 where there is none
-unfoldable pub last_at : FactKind → List ℕ → ℕ → ℕ → ℕ
+unfoldable pub last_at : FactKind → Scanned → ℕ → ℕ → ℕ
 last_at sort text place zero = 0
 last_at sort text place (suc k) =
     if stands_at sort text place k then suc k else last_at sort text place k
 
 -- whether one of the items of the place of an item below one has the row of the item
-unfoldable pub any_at : FactKind → List ℕ → ℕ → ℕ → Bool
+unfoldable pub any_at : FactKind → Scanned → ℕ → ℕ → Bool
 any_at sort text item zero = false
 any_at sort text item (suc k) =
     (stands_at sort text (row_place sort text item) k && have_one_row sort text item k)
@@ -61,13 +62,13 @@ any_at sort text item (suc k) =
 
 -- an entry of the table, after the items below one were seen: it has the last item of its place,
 -- and the last one before its own item in the place of that
-pub record IsSeen (sort : FactKind) (text : List ℕ) (to item : ℕ) (e : Entry) : Type 0 where
+pub record IsSeen (sort : FactKind) (text : Scanned) (to item : ℕ) (e : Entry) : Type 0 where
   pub head : e.version ≡ last_at sort text item to
   pub behind : item < to → is_repeat sort text item ≡ false
       → e.name ≡ last_at sort text (row_place sort text item) item
 
 -- a table, after the items below one were seen
-pub record AreSeen (sort : FactKind) (text : List ℕ) (to : ℕ) (es : List Entry) : Type 0 where
+pub record AreSeen (sort : FactKind) (text : Scanned) (to : ℕ) (es : List Entry) : Type 0 where
   pub count : length es ≡ item_count sort text
   pub each : (item : ℕ) (d : Entry) → item < item_count sort text
       → IsSeen sort text to item (slice_index_or es item d)

@@ -1,18 +1,19 @@
 -- Entries spread out into their rows.
-use Rattle.std.specs.Prelude.{ℕ, List, [], ◌∷◌, Option, Some, None, map, slice_get}
+use Rattle.std.specs.Prelude.{ℕ, List, [], ◌∷◌, Option, Some, None, map}
 use Rattle.std.specs.List.{flat_map}
-use Rattle.cb_index.specs.Archived.{Archived}
+use Rattle.cb_index.specs.Archived.{Archived, text_at}
 use Rattle.cb_index.specs.Items.{later}
+use Rattle.cb_index.specs.Scanned.{Scanned}
 use Rattle.cb_index.specs.declared.entry.Entry.{Entry}
 use Rattle.cb_index.specs.declared.row.Row.{Row}
 use Rattle.cb_index.specs.declared.kind.FactKind.{FactKind}
 
 -- an item and those behind it that have its key
-abbrev pub items_from : FactKind → List ℕ → ℕ → List ℕ
+abbrev pub items_from : FactKind → Scanned → ℕ → List ℕ
 items_from sort text item = item ∷ later sort text item
 
 -- the same in a text, if it is there
-abbrev pub items_in_text : FactKind → ℕ → Option (List ℕ) → List ℕ
+abbrev pub items_in_text : FactKind → ℕ → Option Scanned → List ℕ
 items_in_text sort item None = []
 items_in_text sort item (Some text) = items_from sort text item
 
@@ -20,7 +21,7 @@ items_in_text sort item (Some text) = items_from sort text item
 -- have its key
 abbrev pub items_at : Option FactKind → Archived → Entry → List ℕ
 items_at None a e = e.number ∷ []
-items_at (Some sort) a e = items_in_text sort e.number (slice_get a.texts e.version)
+items_at (Some sort) a e = items_in_text sort e.number (text_at a e.version)
 
 -- an item of an entry as a row
 abbrev pub row_of : Entry → ℕ → Row

@@ -26,7 +26,7 @@ fn version_of(alloc: Global, text: &[u8]) -> Result<Version, Fail> {
     let source = Source::new(alloc, text.to_vec(alloc)?)?;
     let facts = scan(alloc, &mut Meter::new(), Profile::Standard, &source)?;
     match Links::new(alloc, &facts) {
-        Ok(links) => Ok(Version::new(source, facts, links)),
+        Ok(links) => Ok(Version::new(Profile::Standard, source, facts, links)),
         Err(_) => Err(Fail::from("out of memory")),
     }
 }
@@ -54,6 +54,9 @@ fn keep_version(alloc: Global, shelf: &mut Shelf, text: &[u8], room: &Room) -> R
         Err(_) => return Err(Fail::from("no memory")),
     }
     let version = version_of(alloc, text)?;
+    if version.profile() != shelf.archive().profile() {
+        return Err(Fail::from("another profile"));
+    }
     Ok(shelf.push_version(version))
 }
 
@@ -81,6 +84,9 @@ pub(super) fn keep_in(alloc: Global, archive: &mut Archive, name: &[u8]) -> Resu
     }
     let name = name.to_vec(alloc)?;
     let version = version_of(alloc, FIRST)?;
+    if version.profile() != archive.profile() {
+        return Err(Fail::from("another profile"));
+    }
     Ok(Shown {
         name: archive.push_name(name),
         version: archive.push_version(version),

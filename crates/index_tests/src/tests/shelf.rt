@@ -1,6 +1,7 @@
 //! What a shelf shows, on files whose facts are worked out by hand.
 use super::kept::{FIRST, OTHER, keep};
 use cb_index::{FactKind, FactRows, IndexKind, Shelf, Shown, TagRows, Totals, are_rising};
+use cb_scan::Profile;
 use std::alloc::Global;
 use std::process::Abort;
 use std::test::Fail;
@@ -157,7 +158,7 @@ fn show_and_hide(rt: &impl Abort, alloc: Global, shelf: &mut Shelf) -> Result<()
 
 #[test]
 fn show_and_hide_change_what_is_shown(rt: HostRuntime) -> Result<(), Fail> {
-    let mut shelf = Shelf::new(rt.alloc());
+    let mut shelf = Shelf::new(rt.alloc(), Profile::Standard);
     assert_eq!(rt; shelf.turns(), 0);
     show_and_hide(&rt, rt.alloc(), &mut shelf)
 }

@@ -9,8 +9,8 @@ show_all-requires c =
     search rules in
     can_show_loaded c.args.shelf.now c.reserve.new.self c.args.shown.now c.in_ok-totals.totals
     c.in_ok-entries.entries
-    c.requires.hidden c.reserve.ensures.same_shown c.reserve.ensures.same_names
-    c.reserve.ensures.same_texts c.requires.there c.requires.ascending
+    c.requires.hidden c.reserve.ensures.same_shown c.reserve.ensures.same_profile
+    c.reserve.ensures.same_names c.reserve.ensures.same_texts c.requires.there c.requires.ascending
     are (search rules) (search rules) (search rules) (search rules) (search rules)
 
 pub returns-clause-shown : goal.returns-clause-shown

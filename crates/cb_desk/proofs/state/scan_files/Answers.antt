@@ -17,14 +17,14 @@ loop-source-preserved c =
     let least = c.loop-source.invariant.least in
     let fits = c.loop-source.invariant.fits in
     let finds =
-    subst (λ fs. counted c.loop-source.found (definitions_in fs) ≡ counted 0
-    (definitions_in c.args.files)) c.in-Some.ensures.steps c.loop-source.invariant.finds in
+    subst (λ fs. counted c.loop-source.found (definitions_in c.args.profile fs) ≡ counted 0
+    (definitions_in c.args.profile c.args.files)) c.in-Some.ensures.steps c.loop-source.invariant.finds in
     record {
       counts = counts_next old m all _ f _ counts c.in_ok-more.ensures.counted;
       least = counts_least old m all _ f _ counts c.in_ok-more.ensures.counted least fits;
       fits = counts_bound old m all _ f _ counts c.in_ok-more.ensures.counted;
       finds =
-          finds_next c.loop-source.found _ (definitions_in c.args.files) f _ _ finds
+          finds_next c.args.profile c.loop-source.found _ (definitions_in c.args.profile c.args.files) f _ _ finds
           c.in_ok-more.ensures.found c.saturating_add-found.ensures;
       few = finds_bound c.loop-source.found _ _ c.saturating_add-found.ensures;
     }
@@ -53,5 +53,5 @@ pub returns-clause-found : goal.returns-clause-found
 returns-clause-found c =
     let n = c.loop-source.found in
     sym (counted_none n c.loop-source.invariant.few)
-    ∙ ap (λ fs. counted n (definitions_in fs)) (sym c.in-None.ensures.steps.0)
+    ∙ ap (λ fs. counted n (definitions_in c.args.profile fs)) (sym c.in-None.ensures.steps.0)
     ∙ c.loop-source.invariant.finds

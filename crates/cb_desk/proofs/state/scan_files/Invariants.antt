@@ -7,7 +7,7 @@ invariant-loop-source l = record {
   counts : counted l.meter (bytes_in l.source-iterator) ≡ counted l.fn.meter (bytes_in l.fn.files);
   least : l.fn.meter ≤ l.meter;
   fits : l.meter ≤ 2 ^ 64 - 1;
-  finds : counted l.found (definitions_in l.source-iterator)
-      ≡ counted 0 (definitions_in l.fn.files);
+  finds : counted l.found (definitions_in l.profile l.source-iterator)
+      ≡ counted 0 (definitions_in l.profile l.fn.files);
   few : l.found ≤ 2 ^ 64 - 1;
 }

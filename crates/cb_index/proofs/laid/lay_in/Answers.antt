@@ -12,27 +12,27 @@ use Rattle.cb_index.proofs.laid.lay_in.Goals as goal
 pub set_each-requires-clause-numbers : goal.set_each-requires-clause-numbers
 set_each-requires-clause-numbers c =
     let r = c.requires.entries in
-    let count : length c.args.entries.now ≡ item_count c.args.sort c.args.source.now =
-    entry_count c.args.sort c.args.source.now r.archive r.version r.there
+    let count : length c.args.entries.now ≡ item_count c.args.sort c.args.text.now =
+    entry_count c.args.sort c.args.text.now r.archive r.version r.there
     c.args.entries.now r.order in
-    let size : item_count c.args.sort c.args.source.now ≡ length c.as_mut_slice.result.now =
+    let size : item_count c.args.sort c.args.text.now ≡ length c.as_mut_slice.result.now =
     sym count ∙ sym c.fill.ensures ∙ ap length (sym c.as_mut_slice.ensures.value) in
     subst (λ n. AllByRecursion (λ (e : Entry). e.number < n) c.args.entries.now) size
-    (numbers_within c.args.sort c.args.source.now r.archive r.version r.there
+    (numbers_within c.args.sort c.args.text.now r.archive r.version r.there
     c.args.entries.now r.order)
 
 pub returns : goal.returns
 returns c =
     let r = c.requires.entries in
-    let count : length c.args.entries.now ≡ item_count c.args.sort c.args.source.now =
-    entry_count c.args.sort c.args.source.now r.archive r.version r.there
+    let count : length c.args.entries.now ≡ item_count c.args.sort c.args.text.now =
+    entry_count c.args.sort c.args.text.now r.archive r.version r.there
     c.args.entries.now r.order in
-    let size : length c.as_mut_slice.result.now ≡ item_count c.args.sort c.args.source.now =
+    let size : length c.as_mut_slice.result.now ≡ item_count c.args.sort c.args.text.now =
     ap length c.as_mut_slice.ensures.value ∙ c.fill.ensures ∙ count in
-    let laid : with_each c.args.sort c.args.source.now true c.args.entries.now
+    let laid : with_each c.args.sort c.args.text.now true c.args.entries.now
     c.as_mut_slice.result.now
-    ≡ links_of c.args.sort c.args.source.now =
-    laid_is c.args.sort c.args.source.now r.archive r.version r.there c.args.entries.now r.order
+    ≡ links_of c.args.sort c.args.text.now =
+    laid_is c.args.sort c.args.text.now r.archive r.version r.there c.args.entries.now r.order
     c.as_mut_slice.result.now size in
     let back : take c.fill.new.links.len
     (c.set_each.new.links ++ drop (length c.set_each.new.links) c.fill.new.links.items)

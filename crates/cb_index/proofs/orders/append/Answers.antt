@@ -1,7 +1,8 @@
 use Rattle.std.proofs.Common.{◌≡◌, ◌∙◌, ◌+◌, ◌≤◌, ap, length, subst, sym, vec_capacity, vec_len}
 use Rattle.std.proofs.Common.{arith}
 use Rattle.std.specs.Prelude.{slice_get}
-use Rattle.cb_scan.specs.Definitions.{facts_of}
+use Rattle.cb_index.specs.Archived.{text_at}
+use Rattle.cb_index.specs.Scanned.{Scanned, facts_of}
 use Rattle.cb_index.specs.Held.{listed_of}
 use Rattle.cb_index.specs.Kinds.{lister_of}
 use Rattle.cb_index.specs.Orders.{def_prefix, defs_listed, tag_prefix, tags_listed}
@@ -16,9 +17,9 @@ append_defs-requires-clause-room c =
     subst (λ k. vec_len c.args.entries.now + length (listed_of (lister_of k) c.args.archive.now
     c.args.shown.version) ≤ vec_capacity c.args.entries.now) c.in-DefsByName.is c.requires in
     let count : length c.defs_of.result.now
-    ≡ length (defs_listed (slice_get c.args.archive.now.texts c.args.shown.version)) =
+    ≡ length (defs_listed (text_at c.args.archive.now c.args.shown.version)) =
     ap length c.defs_of.ensures.value
-    ∙ sym (length_numbered (def_prefix text) 0 (facts_of text).defs)
+    ∙ sym (length_numbered (def_prefix text.bytes) 0 (facts_of text).defs)
     ∙ ap (λ t. length (defs_listed t)) c.in-Some.ensures in
     omega (arith, count, room)
 
@@ -30,8 +31,8 @@ append_defs-requires-in-DefsByTagName-clause-room c =
     subst (λ k. vec_len c.args.entries.now + length (listed_of (lister_of k) c.args.archive.now
     c.args.shown.version) ≤ vec_capacity c.args.entries.now) c.in-DefsByTagName.is c.requires in
     let count : length c.defs_of-in-DefsByTagName.result.now
-    ≡ length (tags_listed (slice_get c.args.archive.now.texts c.args.shown.version)) =
+    ≡ length (tags_listed (text_at c.args.archive.now c.args.shown.version)) =
     ap length c.defs_of-in-DefsByTagName.ensures.value
-    ∙ sym (length_numbered (tag_prefix text) 0 (facts_of text).defs)
+    ∙ sym (length_numbered (tag_prefix text.bytes) 0 (facts_of text).defs)
     ∙ ap (λ t. length (tags_listed t)) c.in-Some.ensures in
     omega (arith, count, room)

@@ -8,7 +8,7 @@ use Rattle.cb_index.proofs.repeats.find_repeats.Goals as goal
 
 pub loop-item-init : goal.loop-item-init
 loop-item-init c =
-    let seen = none_seen c.args.sort c.args.source.now c.args.entries.now c.requires.entries in
+    let seen = none_seen c.args.sort c.args.text.now c.args.entries.now c.requires.entries in
     let count = seen.count in
     record {
       found = c.truncate.ensures.items;
@@ -20,7 +20,7 @@ loop-item-init c =
 pub loop-item-preserved : goal.loop-item-preserved
 loop-item-preserved c =
     let sort = c.args.sort in
-    let text = c.args.source.now in
+    let text = c.args.text.now in
     let i = c.loop-item.item in
     let next : suc i ≡ i + 1 = omega arith in
     let count = c.loop-item.invariant.seen.count in
@@ -35,7 +35,7 @@ loop-item-preserved c =
 
 pub returns : goal.returns
 returns c =
-    let seen = none_seen c.args.sort c.args.source.now c.args.entries.now c.requires.entries in
+    let seen = none_seen c.args.sort c.args.text.now c.args.entries.now c.requires.entries in
     let count = seen.count in
-    inr (all_found c.args.sort c.args.source.now c.loop-item.repeats.items c.loop-item.item
+    inr (all_found c.args.sort c.args.text.now c.loop-item.repeats.items c.loop-item.item
     c.loop-item.invariant.found (omega (arith, count)))

@@ -7,8 +7,8 @@ use Rattle.cb_index.proofs.repeats.find_repeats.Given as goal
 
 abbrev pub invariant-loop-item : goal.invariant-loop-item
 invariant-loop-item l = record {
-  found : l.repeats.items ≡ map (is_repeat l.sort l.source) (range_with_len 0 l.item);
-  seen : AreSeen l.sort l.source l.item l.entries;
+  found : l.repeats.items ≡ map (is_repeat l.sort l.text) (range_with_len 0 l.item);
+  seen : AreSeen l.sort l.text l.item l.entries;
   few : length l.entries < 2 ^ 32;
-  room : vec_len l.repeats + (item_count l.sort l.source - l.item) ≤ vec_capacity l.repeats;
+  room : vec_len l.repeats + (item_count l.sort l.text - l.item) ≤ vec_capacity l.repeats;
 }

@@ -7,7 +7,7 @@ use Rattle.cb_index.proofs.repeats.find_row.Goals as goal
 
 pub loop-at-init : goal.loop-at-init
 loop-at-init c =
-    search_begun c.args.sort c.args.source.now c.args.item c.args.last c.requires.last
+    search_begun c.args.sort c.args.text.now c.args.item c.args.last c.requires.last
 
 pub overflow_cast-item : goal.overflow_cast-item
 overflow_cast-item c = omega (arith, c.requires.item, c.requires.seen.count, c.requires.few)
@@ -15,7 +15,7 @@ overflow_cast-item c = omega (arith, c.requires.item, c.requires.seen.count, c.r
 pub returns-then-have_one_row : goal.returns-then-have_one_row
 returns-then-have_one_row c =
     let at = c.loop-at.at in
-    search_found c.args.sort c.args.source.now c.args.item at (at - 1) c.loop-at.invariant
+    search_found c.args.sort c.args.text.now c.args.item at (at - 1) c.loop-at.invariant
     (omega (arith, c.loop-at-test.true))
     (sym c.have_one_row.ensures ∙ c.if-have_one_row.true)
 
@@ -23,7 +23,7 @@ pub loop-at-smaller : goal.loop-at-smaller
 loop-at-smaller c =
     let d : Entry = record { prefix = 0; name = 0; version = 0; number = 0; rows = 0 } in
     let sort = c.args.sort in
-    let text = c.args.source.now in
+    let text = c.args.text.now in
     let at = c.loop-at.at in
     let is : at ≡ suc (at - 1) = omega (arith, c.loop-at-test.true) in
     let low = at_low sort text c.args.item at (at - 1) c.loop-at.invariant is in
@@ -35,7 +35,7 @@ pub loop-at-preserved : goal.loop-at-preserved
 loop-at-preserved c =
     let d : Entry = record { prefix = 0; name = 0; version = 0; number = 0; rows = 0 } in
     let sort = c.args.sort in
-    let text = c.args.source.now in
+    let text = c.args.text.now in
     let at = c.loop-at.at in
     let is : at ≡ suc (at - 1) = omega (arith, c.loop-at-test.true) in
     let low = at_low sort text c.args.item at (at - 1) c.loop-at.invariant is in
@@ -46,5 +46,5 @@ loop-at-preserved c =
 
 pub returns : goal.returns
 returns c =
-    search_ended c.args.sort c.args.source.now c.args.item c.loop-at.at c.loop-at.invariant
+    search_ended c.args.sort c.args.text.now c.args.item c.loop-at.at c.loop-at.invariant
     (omega (arith, c.loop-at-test.false))

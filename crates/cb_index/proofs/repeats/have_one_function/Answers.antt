@@ -9,9 +9,9 @@ returns-then-have_one_span c =
     let sort = c.args.sort in
     let a = c.args.a in
     let b = c.args.b in
-    let f = c.args.facts.now in
+    let f = c.facts.result.now in
     let same : function_span sort f a ≡ function_span sort f b =
     c.have_one_span.ensures c.if-have_one_span.true in
-    one_function c.args.source.now sort a b
-    (sym (ap (λ (t : TextFacts). function_span sort t a) c.requires) ∙ same
-    ∙ ap (λ (t : TextFacts). function_span sort t b) c.requires)
+    one_function c.args.text.now sort a b
+    (sym (ap (λ (t : TextFacts). function_span sort t a) c.facts.ensures) ∙ same
+    ∙ ap (λ (t : TextFacts). function_span sort t b) c.facts.ensures)

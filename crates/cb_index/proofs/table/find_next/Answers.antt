@@ -6,14 +6,14 @@ use Rattle.cb_index.proofs.table.find_next.Goals as goal
 
 pub loop-at-init : goal.loop-at-init
 loop-at-init c =
-    reach_begun c.args.sort c.args.source.now c.args.item c.args.first c.requires.item
+    reach_begun c.args.sort c.args.text.now c.args.item c.args.first c.requires.item
     c.requires.first
 
 pub returns-then-entries_match : goal.returns-then-entries_match
 returns-then-entries_match c =
     let d : Entry = record { prefix = 0; name = 0; version = 0; number = 0; rows = 0 } in
     let sort = c.args.sort in
-    let text = c.args.source.now in
+    let text = c.args.text.now in
     let i = c.args.item in
     let at = c.loop-at.at in
     let some : 0 < at = omega (arith, c.loop-at-test.true) in
@@ -29,7 +29,7 @@ pub loop-at-preserved : goal.loop-at-preserved
 loop-at-preserved c =
     let d : Entry = record { prefix = 0; name = 0; version = 0; number = 0; rows = 0 } in
     let sort = c.args.sort in
-    let text = c.args.source.now in
+    let text = c.args.text.now in
     let i = c.args.item in
     let at = c.loop-at.at in
     let some : 0 < at = omega (arith, c.loop-at-test.true) in

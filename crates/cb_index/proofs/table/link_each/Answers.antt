@@ -7,7 +7,7 @@ use Rattle.cb_index.proofs.table.link_each.Goals as goal
 pub loop-item-init : goal.loop-item-init
 loop-item-init c =
     let sort = c.args.sort in
-    let text = c.args.source.now in
+    let text = c.args.text.now in
     let noted = none_noted sort text c.args.entries.now c.requires.entries in
     let count : item_count sort text ≡ length c.args.entries.now = sym noted.count in
     record {
@@ -20,7 +20,7 @@ loop-item-init c =
 pub returns : goal.returns
 returns c =
     let sort = c.args.sort in
-    let text = c.args.source.now in
+    let text = c.args.text.now in
     let none : c.loop-item.item ≡ 0 = omega (arith, c.loop-item-test.false) in
     λ is. all_linked sort text c.loop-item.links
     (subst (λ n. AreLinked sort text n c.loop-item.links) none c.loop-item.invariant.linked)

@@ -5,9 +5,9 @@ use Rattle.cb_index.proofs.table.link_each.Given as goal
 
 abbrev pub invariant-loop-item : goal.invariant-loop-item
 invariant-loop-item l = record {
-  within : l.item ≤ item_count l.sort l.source;
-  noted : AreNoted l.sort l.source l.item l.entries;
-  linked : AreLinked l.sort l.source l.item l.links;
+  within : l.item ≤ item_count l.sort l.text;
+  noted : AreNoted l.sort l.text l.item l.entries;
+  linked : AreLinked l.sort l.text l.item l.links;
 }
 
 abbrev pub decreases-loop-item : goal.decreases-loop-item

@@ -7,6 +7,6 @@ link-requires-clause-next c =
     omega (
       arith,
       c.requires.linked.count,
-      next_below c.args.sort c.args.source.now c.args.item c.in-Some.next c.requires.item
+      next_below c.args.sort c.args.text.now c.args.item c.in-Some.next c.requires.item
           c.in-Some.ensures,
     )

@@ -51,7 +51,7 @@ returns c =
     let none =
     length-map items file_of_operand ∙ sym c.loop-operand.invariant.counted
     ∙ c.in-None.ensures.steps.0 in
-    starts_all _ _ c.loop-operand.place (map file_of_operand c.args.operands.items)
+    starts_all _ _ _ c.loop-operand.place (map file_of_operand c.args.operands.items)
     (map file_of_operand items) c.session_of.result
     c.loop-operand.invariant.goes none c.loop-operand.invariant.placed
     c.loop-operand.invariant.scanned c.loop-operand.invariant.fits c.loop-operand.invariant.hidden

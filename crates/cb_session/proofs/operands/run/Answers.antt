@@ -17,18 +17,18 @@ returns-in-Ok-clause-output g c = λ bytes e. (
 
 pub returns-in-Ok-clause-every_input : goal.returns-in-Ok-clause-every_input
 returns-in-Ok-clause-every_input g c =
-    Follows-loaded _ _ c.args.limits.now.lines c.args.limits.now.line c.in-Ok.session
+    Follows-loaded _ _ _ c.args.limits.now.lines c.args.limits.now.line c.in-Ok.session
     c.args.feed.now
     c.serve.new.feed c.args.out.now c.serve.new.out c.serve.result
     c.serve.new.self c.in-Ok.ensures c.serve.ensures.0.every_input
 
 pub returns-in-Err-clause-every_input : goal.returns-in-Err-clause-every_input
 returns-in-Err-clause-every_input g c =
-    Follows-refused _ _ c.args.limits.now.lines c.args.limits.now.line c.args.feed.now
+    Follows-refused _ _ _ c.args.limits.now.lines c.args.limits.now.line c.args.feed.now
     c.args.out.now
     c.in-Err.ended c.in-Err.ensures
 
 pub returns-in-Err-clause-output : goal.returns-in-Err-clause-output
 returns-in-Err-clause-output g c = λ bytes e.
-    Runs-refused _ _ c.args.limits.now.lines c.args.limits.now.line bytes c.args.feed.now
+    Runs-refused _ _ _ c.args.limits.now.lines c.args.limits.now.line bytes c.args.feed.now
     c.args.out.now c.in-Err.ended c.in-Err.ensures e

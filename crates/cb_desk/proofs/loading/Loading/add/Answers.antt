@@ -27,7 +27,8 @@ invariant_of-self c =
     (roomier c.self.inside.bounds c.self.inside.shelf.archive c.make_room.new.shelf.archive
     c.self.inside.shelf.shown
     c.self.inside.shown.items c.self.inside.records.items
-    c.make_room.ensures.same_names c.make_room.ensures.same_texts c.self.invariant)
+    c.make_room.ensures.same_profile c.make_room.ensures.same_names
+    c.make_room.ensures.same_texts c.self.invariant)
 
 pub returns-in_err-make_room-clause-timeline : goal.returns-in_err-make_room-clause-timeline
 returns-in_err-make_room-clause-timeline c =
@@ -37,9 +38,17 @@ returns-in_err-make_room-clause-timeline c =
     (c.make_room.ensures.same_list i) (c.make_room.ensures.same_records i)))
     ∙ roomier_timeline c.self.inside.bounds c.self.inside.shelf.archive
     c.make_room.new.shelf.archive
-    c.make_room.ensures.same_names c.make_room.ensures.same_texts
+    c.make_room.ensures.same_profile c.make_room.ensures.same_names
+    c.make_room.ensures.same_texts
     c.self.inside.shown.items c.self.inside.records.items c.self.invariant.recorded
     ∙ ap (λ (l : Loaded). l.timeline) c.self.view_is)
+
+-- the version has the profile of the archive
+pub push_version-requires-clause-profile : goal.push_version-requires-clause-profile
+push_version-requires-clause-profile c =
+    c.requires.profile
+    ∙ sym (ap (λ (l : Loaded). l.timeline.present.profile) c.self.view_is)
+    ∙ sym (c.push_name.ensures.profile ∙ c.make_room.ensures.same_profile)
 
 -- the new name is one that no file has
 pub put_all_shown-requires-clause-ascending : goal.put_all_shown-requires-clause-ascending
@@ -49,8 +58,11 @@ put_all_shown-requires-clause-ascending c =
     let records = c.self.inside.records.items in
     let b = c.push_version.new.self.archive in
     let name = c.args.name.items in
-    let text = c.args.version in
+    let text = c.args.version.bytes in
     let is = c.self.invariant in
+    let profile : b.profile ≡ a.profile =
+    c.push_version.ensures.profile ∙ c.push_name.ensures.profile
+    ∙ c.make_room.ensures.same_profile in
     let names : b.names ≡ a.names ++ name ∷ [] =
     c.push_version.ensures.names ∙ c.push_name.ensures.names
     ∙ ap (λ l. l ++ name ∷ []) c.make_room.ensures.same_names in
@@ -70,7 +82,7 @@ put_all_shown-requires-clause-ascending c =
     (sym c.self.view_is) c.requires.few) in
     rw (c.archive.ensures, c.make_room.ensures.same_list)
     (ascending_before c.self.inside.bounds a b c.self.inside.shelf.shown shown records
-    name text is names
+    name text is profile names
     texts fresh valid few)
 
 pub put_all_shown-requires-clause-apart : goal.put_all_shown-requires-clause-apart
@@ -80,8 +92,11 @@ put_all_shown-requires-clause-apart c =
     let records = c.self.inside.records.items in
     let b = c.push_version.new.self.archive in
     let name = c.args.name.items in
-    let text = c.args.version in
+    let text = c.args.version.bytes in
     let is = c.self.invariant in
+    let profile : b.profile ≡ a.profile =
+    c.push_version.ensures.profile ∙ c.push_name.ensures.profile
+    ∙ c.make_room.ensures.same_profile in
     let names : b.names ≡ a.names ++ name ∷ [] =
     c.push_version.ensures.names ∙ c.push_name.ensures.names
     ∙ ap (λ l. l ++ name ∷ []) c.make_room.ensures.same_names in
@@ -105,7 +120,7 @@ put_all_shown-requires-clause-apart c =
     (record { name = length a.names; version = length a.texts }) =
     (λ i. record { name = named i; version = kept i }) in
     rw (c.archive.ensures, c.make_room.ensures.same_list, one)
-    (apart_then c.self.inside.bounds a b c.self.inside.shelf.shown shown records name text is names
+    (apart_then c.self.inside.bounds a b c.self.inside.shelf.shown shown records name text is profile names
     texts fresh valid few)
 
 -- one file more is loaded
@@ -116,8 +131,11 @@ invariant_of-self-2 c =
     let records = c.self.inside.records.items in
     let b = c.push_version.new.self.archive in
     let name = c.args.name.items in
-    let text = c.args.version in
+    let text = c.args.version.bytes in
     let is = c.self.invariant in
+    let profile : b.profile ≡ a.profile =
+    c.push_version.ensures.profile ∙ c.push_name.ensures.profile
+    ∙ c.make_room.ensures.same_profile in
     let names : b.names ≡ a.names ++ name ∷ [] =
     c.push_version.ensures.names ∙ c.push_name.ensures.names
     ∙ ap (λ l. l ++ name ∷ []) c.make_room.ensures.same_names in
@@ -175,7 +193,7 @@ invariant_of-self-2 c =
     c.push_reserved.ensures.items ∙ ap (λ l. l ++ u ∷ []) c.make_room.ensures.same_records in
     rw (hidden, pushed)
     (one_more c.self.inside.bounds a b c.self.inside.shelf.shown shown records
-    name text is names texts
+    name text is profile names texts
     fresh valid few _ u list
     (turn_back u c.len-count.result named kept turn))
 
@@ -186,8 +204,11 @@ returns-clause-timeline c =
     let records = c.self.inside.records.items in
     let b = c.push_version.new.self.archive in
     let name = c.args.name.items in
-    let text = c.args.version in
+    let text = c.args.version.bytes in
     let is = c.self.invariant in
+    let profile : b.profile ≡ a.profile =
+    c.push_version.ensures.profile ∙ c.push_name.ensures.profile
+    ∙ c.make_room.ensures.same_profile in
     let names : b.names ≡ a.names ++ name ∷ [] =
     c.push_version.ensures.names ∙ c.push_name.ensures.names
     ∙ ap (λ l. l ++ name ∷ []) c.make_room.ensures.same_names in
@@ -243,7 +264,7 @@ returns-clause-timeline c =
     c.push_reserved.ensures.items ∙ ap (λ l. l ++ u ∷ []) c.make_room.ensures.same_records in
     rw (pushed)
     (one_more_timeline_as c.self.inside.bounds a b c.self.inside.shelf.shown shown records
-    name text is names texts
+    name text is profile names texts
     fresh valid few _ u list
     (turn_back u c.len-count.result named kept turn)
     ∙ ap (λ (l : Loaded). moved_on l.timeline (after l.timeline.present name text)) c.self.view_is)

@@ -42,17 +42,20 @@ loaded-requires c =
       names = (count ∙ sym c.self.invariant.names) i;
       versions = (count ∙ sym c.self.invariant.versions) i;
     }) in
+    let profile : c.loaded-present.result.archive.profile ≡ a.profile =
+    ap (λ (x : Archived). x.profile) c.loaded-present.ensures.archive ∙ c.show.ensures.profile in
     let names : c.loaded-present.result.archive.names ≡ a.names =
     ap (λ (x : Archived). x.names) c.loaded-present.ensures.archive ∙ c.show.ensures.names in
     let texts : c.loaded-present.result.archive.texts ≡ a.texts =
     ap (λ (x : Archived). x.texts) c.loaded-present.ensures.archive ∙ c.show.ensures.texts in
     let rooms =
-    rooms_kept a c.show.new.shelf shown c.loaded-present.result.rooms c.show.ensures.texts has
+    rooms_kept a c.show.new.shelf shown c.loaded-present.result.rooms c.show.ensures.profile
+    c.show.ensures.texts has
     c.loaded-present.ensures.files c.loaded-present.ensures.defs c.loaded-present.ensures.uses
     c.loaded-present.ensures.calls in
     shown_recorded c.self.inside.bounds a c.self.inside.shelf.shown shown records
     c.loaded-present.result
-    c.self.invariant now names texts rooms
+    c.self.invariant now profile names texts rooms
 
 pub over-requires : goal.over-requires
 over-requires c =
@@ -69,18 +72,21 @@ over-requires c =
       names = (count ∙ sym c.self.invariant.names) i;
       versions = (count ∙ sym c.self.invariant.versions) i;
     }) in
+    let profile : c.loaded-present.result.archive.profile ≡ a.profile =
+    ap (λ (x : Archived). x.profile) c.loaded-present.ensures.archive ∙ c.show.ensures.profile in
     let names : c.loaded-present.result.archive.names ≡ a.names =
     ap (λ (x : Archived). x.names) c.loaded-present.ensures.archive ∙ c.show.ensures.names in
     let texts : c.loaded-present.result.archive.texts ≡ a.texts =
     ap (λ (x : Archived). x.texts) c.loaded-present.ensures.archive ∙ c.show.ensures.texts in
     let rooms =
-    rooms_kept a c.show.new.shelf shown c.loaded-present.result.rooms c.show.ensures.texts has
+    rooms_kept a c.show.new.shelf shown c.loaded-present.result.rooms c.show.ensures.profile
+    c.show.ensures.texts has
     c.loaded-present.ensures.files c.loaded-present.ensures.defs c.loaded-present.ensures.uses
     c.loaded-present.ensures.calls in
     subst IsValidTimeline (sym c.loaded.ensures.timeline)
     (shown_recorded c.self.inside.bounds a c.self.inside.shelf.shown shown records
     c.loaded-present.result
-    c.self.invariant now names texts rooms).valid
+    c.self.invariant now profile names texts rooms).valid
 
 pub returns : goal.returns
 returns c =
@@ -99,18 +105,21 @@ returns c =
       names = (count ∙ sym c.self.invariant.names) i;
       versions = (count ∙ sym c.self.invariant.versions) i;
     }) in
+    let profile : c.loaded-present.result.archive.profile ≡ a.profile =
+    ap (λ (x : Archived). x.profile) c.loaded-present.ensures.archive ∙ c.show.ensures.profile in
     let names : c.loaded-present.result.archive.names ≡ a.names =
     ap (λ (x : Archived). x.names) c.loaded-present.ensures.archive ∙ c.show.ensures.names in
     let texts : c.loaded-present.result.archive.texts ≡ a.texts =
     ap (λ (x : Archived). x.texts) c.loaded-present.ensures.archive ∙ c.show.ensures.texts in
     let rooms =
-    rooms_kept a c.show.new.shelf shown c.loaded-present.result.rooms c.show.ensures.texts has
+    rooms_kept a c.show.new.shelf shown c.loaded-present.result.rooms c.show.ensures.profile
+    c.show.ensures.texts has
     c.loaded-present.ensures.files c.loaded-present.ensures.defs c.loaded-present.ensures.uses
     c.loaded-present.ensures.calls in (
       c.over.ensures.timeline ∙ c.loaded.ensures.timeline
           ∙ shown_timeline c.self.inside.bounds a c.self.inside.shelf.shown shown records
           c.loaded-present.result
-          c.self.invariant now names texts rooms
+          c.self.invariant now profile names texts rooms
           ∙ ap (λ (l : Loaded). l.timeline) c.self.view_is,
       c.over.ensures.meter ∙ ap (λ (l : Loaded). l.meter) c.self.view_is,
       c.over.ensures.turns ∙ c.loaded.ensures.turns ∙ c.loaded-present.ensures.turns

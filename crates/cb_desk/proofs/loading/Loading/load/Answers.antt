@@ -27,7 +27,8 @@ returns-in-Some-clause-timeline c =
     let same = ap (λ (l : Loaded). l.timeline.present) c.self.view_is in
     let found : c.load_refusal.result ≡ refusal_of w s =
     c.load_refusal.ensures
-    ∙ (λ i. load_refusal (record (empty_world c.self.inside.bounds) {
+    ∙ (λ i. load_refusal (record (empty_world (c.archive-archive.ensures i).profile
+    c.self.inside.bounds) {
       files = files_of (c.archive-archive.ensures i)
           (c.as_slice-shown.ensures.value i);
     }) c.args.name.now (c.as_slice.ensures.value i)) in
@@ -42,7 +43,8 @@ returns-then-is_full-clause-timeline c =
     let same = ap (λ (l : Loaded). l.timeline.present) c.self.view_is in
     let found : c.load_refusal.result ≡ refusal_of w s =
     c.load_refusal.ensures
-    ∙ (λ i. load_refusal (record (empty_world c.self.inside.bounds) {
+    ∙ (λ i. load_refusal (record (empty_world (c.archive-archive.ensures i).profile
+    c.self.inside.bounds) {
       files = files_of (c.archive-archive.ensures i)
           (c.as_slice-shown.ensures.value i);
     }) c.args.name.now (c.as_slice.ensures.value i)) in
@@ -58,7 +60,8 @@ returns-in_err-name-clause-timeline c =
     let same = ap (λ (l : Loaded). l.timeline.present) c.self.view_is in
     let found : c.load_refusal.result ≡ refusal_of w s =
     c.load_refusal.ensures
-    ∙ (λ i. load_refusal (record (empty_world c.self.inside.bounds) {
+    ∙ (λ i. load_refusal (record (empty_world (c.archive-archive.ensures i).profile
+    c.self.inside.bounds) {
       files = files_of (c.archive-archive.ensures i)
           (c.as_slice-shown.ensures.value i);
     }) c.args.name.now (c.as_slice.ensures.value i)) in
@@ -76,7 +79,8 @@ returns-in_err-version-clause-timeline c =
     let same = ap (λ (l : Loaded). l.timeline.present) c.self.view_is in
     let found : c.load_refusal.result ≡ refusal_of w s =
     c.load_refusal.ensures
-    ∙ (λ i. load_refusal (record (empty_world c.self.inside.bounds) {
+    ∙ (λ i. load_refusal (record (empty_world (c.archive-archive.ensures i).profile
+    c.self.inside.bounds) {
       files = files_of (c.archive-archive.ensures i)
           (c.as_slice-shown.ensures.value i);
     }) c.args.name.now (c.as_slice.ensures.value i)) in
@@ -94,7 +98,8 @@ add-requires-clause-fresh c =
     let same = ap (λ (l : Loaded). l.timeline.present) c.self.view_is in
     let found : c.load_refusal.result ≡ refusal_of w s =
     c.load_refusal.ensures
-    ∙ (λ i. load_refusal (record (empty_world c.self.inside.bounds) {
+    ∙ (λ i. load_refusal (record (empty_world (c.archive-archive.ensures i).profile
+    c.self.inside.bounds) {
       files = files_of (c.archive-archive.ensures i)
           (c.as_slice-shown.ensures.value i);
     }) c.args.name.now (c.as_slice.ensures.value i)) in
@@ -110,7 +115,8 @@ add-requires-clause-valid c =
     let same = ap (λ (l : Loaded). l.timeline.present) c.self.view_is in
     let found : c.load_refusal.result ≡ refusal_of w s =
     c.load_refusal.ensures
-    ∙ (λ i. load_refusal (record (empty_world c.self.inside.bounds) {
+    ∙ (λ i. load_refusal (record (empty_world (c.archive-archive.ensures i).profile
+    c.self.inside.bounds) {
       files = files_of (c.archive-archive.ensures i)
           (c.as_slice-shown.ensures.value i);
     }) c.args.name.now (c.as_slice.ensures.value i)) in
@@ -133,7 +139,8 @@ returns-in_err-add-clause-timeline c =
     let same = ap (λ (l : Loaded). l.timeline.present) c.self.view_is in
     let found : c.load_refusal.result ≡ refusal_of w s =
     c.load_refusal.ensures
-    ∙ (λ i. load_refusal (record (empty_world c.self.inside.bounds) {
+    ∙ (λ i. load_refusal (record (empty_world (c.archive-archive.ensures i).profile
+    c.self.inside.bounds) {
       files = files_of (c.archive-archive.ensures i)
           (c.as_slice-shown.ensures.value i);
     }) c.args.name.now (c.as_slice.ensures.value i)) in
@@ -151,7 +158,8 @@ returns-clause-timeline c =
     let same = ap (λ (l : Loaded). l.timeline.present) c.self.view_is in
     let found : c.load_refusal.result ≡ refusal_of w s =
     c.load_refusal.ensures
-    ∙ (λ i. load_refusal (record (empty_world c.self.inside.bounds) {
+    ∙ (λ i. load_refusal (record (empty_world (c.archive-archive.ensures i).profile
+    c.self.inside.bounds) {
       files = files_of (c.archive-archive.ensures i)
           (c.as_slice-shown.ensures.value i);
     }) c.args.name.now (c.as_slice.ensures.value i)) in

@@ -14,7 +14,7 @@ returns-clause-place c =
     let k = c.args.self.now in
     let files = files_of k.archive k.now.shown in
     let file = c.in_ok-file.file.now in
-    let place : nth c.args.n (places files c.args.name.now)
+    let place : nth c.args.n (places k.archive.profile files c.args.name.now)
     ≡ Some (record { file = file; line = c.in_ok-file.line }) = search rules in
     let found : Some (file_of k.archive c.in_ok-found.found) ≡ file_named files file =
     search rules in
@@ -27,10 +27,10 @@ returns-in_err-found-clause-place c =
     let k = c.args.self.now in
     let files = files_of k.archive k.now.shown in
     let file = c.in_ok-file.file.now in
-    let place : nth c.args.n (places files c.args.name.now)
+    let place : nth c.args.n (places k.archive.profile files c.args.name.now)
     ≡ Some (record { file = file; line = c.in_ok-file.line }) = search rules in
     let none : None ≡ file_named files file = search rules in
-    absurd (is_there files file none (nth_is_placed c.args.name.now files c.args.n _ place))
+    absurd (is_there files file none (nth_is_placed k.archive.profile c.args.name.now files c.args.n _ place))
 
 pub returns-clause-there : goal.returns-clause-there
 returns-clause-there c =

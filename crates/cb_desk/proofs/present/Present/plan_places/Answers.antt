@@ -6,5 +6,5 @@ use Rattle.cb_desk.proofs.present.Present.plan_places.Goals as goal
 pub returns : goal.returns
 returns c =
     places_planned c.args.self.now _ (bytes_if_other c.args.wanted) c.args.marks c.args.frames
-    c.requires.kept (search rules) (search rules) (search rules)
+    c.requires.kept (search rules) (search rules) (search rules) (search rules)
     (search rules) c.requires.marks c.requires.frames

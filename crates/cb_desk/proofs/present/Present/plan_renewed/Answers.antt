@@ -43,5 +43,5 @@ returns c =
     (subst (IsDifference frames c.as_slice-places.result.now) stay c.in_ok-frames.ensures) in
     replace_planned k _ r.old.now r.new.now c.in_ok-renewals.renewals.items
     c.in_ok-marks.marks frames c.in_ok-versions.versions
-    c.requires.kept c.requires.ascending (search rules) (search rules) (search rules) (search rules)
+    c.requires.kept c.requires.ascending c.requires.profile (search rules) (search rules) (search rules) (search rules)
     (search rules) (search rules) (search rules) are_frames

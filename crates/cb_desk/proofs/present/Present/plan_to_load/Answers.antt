@@ -17,7 +17,7 @@ returns-clause-plan c =
     let k = c.args.self.now in
     let name = c.args.name.now in
     let w = world_in k.archive k.now in
-    ok_along (λ p. IsPlan k p (loaded w name c.in_ok-version.version))
+    ok_along (λ p. IsPlan k p (loaded w name c.in_ok-version.version.bytes))
     (λ p. IsPlan k p (loaded w name c.args.bytes.items)) c.plan_load.result
     (λ p is. subst (λ text. IsPlan k p (loaded w name text)) c.in_ok-version.ensures.value is)
     c.plan_load.ensures

@@ -23,7 +23,7 @@ returns-clause-plan c =
     let files = files_of k.archive k.now.shown in
     let name = c.args.name.now in
     let shown = c.in-Some.shown in
-    let version = c.in_ok-version.version in
+    let version = c.in_ok-version.version.bytes in
     let found : Some (file_of k.archive shown) ≡ file_named files name = search rules in
     let named : name_of k.archive shown.name ≡ name =
     has_that_name (file_of k.archive shown) files name found in

@@ -5,7 +5,7 @@ use Rattle.cb_desk.proofs.present.counts.with_versions.Given as goal
 
 abbrev pub invariant-loop-s : goal.invariant-loop-s
 invariant-loop-s l =
-    let texts = with_texts (take l.kept l.archive.texts ++ l.news) in
+    let texts = with_texts l.archive.profile (take l.kept l.archive.texts ++ l.news.texts) in
     record {
       defs : l.totals.defs + total def_count texts (drop l.s-index l.shown)
           ≡ l.fn.before.defs + total def_count texts l.shown;
@@ -14,4 +14,5 @@ invariant-loop-s l =
       calls : l.totals.calls + total call_count texts (drop l.s-index l.shown)
           ≡ l.fn.before.calls + total call_count texts l.shown;
       kept : l.kept ≤ length l.archive.texts;
+      profile : l.news.profile ≡ l.archive.profile;
     }

@@ -12,7 +12,7 @@ use Rattle.cb_desk.specs.steps.Walks.{timeline_in}
 use Rattle.cb_desk.proofs.Counted.{refused_after, refused_between, refused_counts}
 use Rattle.cb_desk.proofs.LoadingLemmas.{below_most}
 use Rattle.cb_desk.proofs.Moves.{refused, full, moved_on-valid, no-memory, valid-after, done}
-use Rattle.cb_desk.proofs.StepsValid.{after-bounds}
+use Rattle.cb_desk.proofs.StepsValid.{after-bounds, after-profile}
 use Rattle.cb_desk.proofs.state.Desk.change.Goals as goal
 
 abbrev world_of : Kept → World
@@ -210,4 +210,9 @@ invariant_of-self-2 c =
     subst IsValidTimeline (sym (c.in_ok-go.ensures.timeline (after w s) plan))
     (moved_on-valid (timeline_in h) (after w s)
     (subst IsValidTimeline (sym c.place_of-place.ensures.still.timeline) c.self.invariant)
-    next (after-bounds w s ∙ ap (λ (x : World). x.bounds) own) short)
+    next
+    (
+      after-profile w s ∙ ap (λ (x : World). x.profile) own,
+      after-bounds w s ∙ ap (λ (x : World). x.bounds) own,
+    )
+    short)

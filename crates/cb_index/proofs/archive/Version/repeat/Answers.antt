@@ -7,9 +7,9 @@ pub returns-in-Some : goal.returns-in-Some
 returns-in-Some c =
     let found = c.in-Some.ensures.lookup in
     let sort = c.args.sort in
-    let text = c.self.inside.source in
+    let text = c.self.inside.text in
     let item = c.args.item in
-    let laid = repeats_laid sort text c.self.inside.links c.self.invariant.1 in
+    let laid = repeats_laid sort text c.self.inside.links c.self.invariant in
     repeat_is sort text c.repeats.result.now item c.in-Some.repeat.now
     (subst (AreRepeats sort text) (sym c.repeats.ensures) laid) found.3.0 found.1
     ∙ ap (λ t. is_repeat sort t item) c.self.view_is

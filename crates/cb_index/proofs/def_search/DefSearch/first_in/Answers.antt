@@ -14,7 +14,7 @@ returns c =
     let text = c.in-Some.version.now in
     let bytes = c.bytes-text.result.now in
     let defs = c.defs_of-defs.result.now in
-    let same : bytes ≡ text = c.bytes-text.ensures.value ∙ c.source.ensures in
+    let same : bytes ≡ text.bytes = c.bytes-text.ensures.value ∙ c.source.ensures in
     ap (λ ds. first_among s c.loop-i.first
     (map (entry_of one) (numbered c.loop-i.i (map (prefixed by bytes) ds))))
     (sym (drop_of_length-le defs c.loop-i-test.false))

@@ -9,10 +9,10 @@ pub invariant_of-self : goal.invariant_of-self
 invariant_of-self c = (
   kept_more c.self.inside.archive c.push_name.new.self c.self.inside.shown.items
       c.self.inside.indexes
-      (c.args.name.items ∷ []) [] c.push_name.ensures.names
+      (c.args.name.items ∷ []) [] c.push_name.ensures.profile c.push_name.ensures.names
       (c.push_name.ensures.texts ∙ sym (append-nil _)) c.self.invariant.0,
   totals_moved c.self.inside.archive c.push_name.new.self c.self.inside.shown.items
       _ c.self.inside.totals
-      c.push_name.ensures.texts refl c.self.invariant.1,
+      c.push_name.ensures.profile c.push_name.ensures.texts refl c.self.invariant.1,
   c.self.invariant.2,
 )

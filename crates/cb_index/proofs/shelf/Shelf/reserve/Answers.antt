@@ -9,10 +9,10 @@ use Rattle.cb_index.proofs.shelf.Shelf.reserve.Goals as goal
 pub invariant_of-self : goal.invariant_of-self
 invariant_of-self c =
     let x = c.self.inside in (
-      kept_moved x.archive c.reserve.new.self x.shown.items x.indexes c.reserve.ensures.same_names
+      kept_moved x.archive c.reserve.new.self x.shown.items x.indexes c.reserve.ensures.same_profile c.reserve.ensures.same_names
           c.reserve.ensures.same_texts c.self.invariant.0,
       totals_moved x.archive c.reserve.new.self x.shown.items _ x.totals
-          c.reserve.ensures.same_texts refl c.self.invariant.1,
+          c.reserve.ensures.same_profile c.reserve.ensures.same_texts refl c.self.invariant.1,
       c.self.invariant.2,
     )
 
@@ -23,11 +23,11 @@ invariant_of-self-in-Err-reserve c =
     let items = c.reserve-2.ensures.items in
     let within = c.self.invariant.2 in (
       kept_moved x.archive c.reserve.new.self c.reserve-2.new.self.items x.indexes
-          c.reserve.ensures.same_names c.reserve.ensures.same_texts
+          c.reserve.ensures.same_profile c.reserve.ensures.same_names c.reserve.ensures.same_texts
           (kept_list x.archive x.shown.items c.reserve-2.new.self.items x.indexes
           items c.self.invariant.0),
       totals_moved x.archive c.reserve.new.self x.shown.items _ x.totals
-          c.reserve.ensures.same_texts items c.self.invariant.1,
+          c.reserve.ensures.same_profile c.reserve.ensures.same_texts items c.self.invariant.1,
       record {
         entries = let count = ap length items in omega (arith, within.entries, count);
         defs = within.defs;
@@ -46,11 +46,11 @@ invariant_of-self-in_err-reserve_each c =
     let same = c.reserve_each.ensures.same in
     let within = c.self.invariant.2 in (
       kept_moved x.archive c.reserve.new.self c.reserve-2.new.self.items c.reserve_each.new.indexes
-          c.reserve.ensures.same_names c.reserve.ensures.same_texts
+          c.reserve.ensures.same_profile c.reserve.ensures.same_names c.reserve.ensures.same_texts
           (kept_as x.archive x.shown.items c.reserve-2.new.self.items x.indexes
           c.reserve_each.new.indexes items same c.self.invariant.0),
       totals_moved x.archive c.reserve.new.self x.shown.items _ x.totals
-          c.reserve.ensures.same_texts items c.self.invariant.1,
+          c.reserve.ensures.same_profile c.reserve.ensures.same_texts items c.self.invariant.1,
       record {
         entries = let count = ap length items in omega (arith, within.entries, count);
         defs = within.defs;
@@ -71,11 +71,11 @@ invariant_of-self-2 c =
     let within = c.self.invariant.2 in
     let larger = larger_fits c.larger-room.result x.room c.args.room.now c.larger-room.ensures in (
       kept_moved x.archive c.reserve.new.self c.reserve-2.new.self.items c.reserve_each.new.indexes
-          c.reserve.ensures.same_names c.reserve.ensures.same_texts
+          c.reserve.ensures.same_profile c.reserve.ensures.same_names c.reserve.ensures.same_texts
           (kept_as x.archive x.shown.items c.reserve-2.new.self.items x.indexes
           c.reserve_each.new.indexes items same c.self.invariant.0),
       totals_moved x.archive c.reserve.new.self x.shown.items _ x.totals
-          c.reserve.ensures.same_texts items c.self.invariant.1,
+          c.reserve.ensures.same_profile c.reserve.ensures.same_texts items c.self.invariant.1,
       record {
         entries =
             let count = ap length items in omega (arith, within.entries, count, larger.entries);

@@ -7,7 +7,8 @@ use Rattle.cb_desk.proofs.present.replaced.Replacing.versions_then.Given as goal
 
 abbrev pub invariant-loop-file : goal.invariant-loop-file
 invariant-loop-file l = record {
-  versions : l.made.items ++ texts_of
+  profile : l.made.profile ≡ l.self.archive.now.profile;
+  versions : l.made.texts ++ texts_of
       (files_then l.self.archive.now l.self.marks.now l.self.old.now l.self.new.now l.rest)
       ≡ texts_of (files_then l.self.archive.now l.self.marks.now l.self.old.now
       l.self.new.now l.files);
