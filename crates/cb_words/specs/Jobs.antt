@@ -8,6 +8,8 @@ use Rattle.clap.specs.Words.{App, IsUnsignedIn, Row, Rule, Text, all_of, first_o
 use Rattle.clap.specs.Words.{new_rule, with_rule, with_subcommand}
 use Rattle.clap.specs.declared.builder.ArgAction.TheVariants.{Append, SetTrue}
 use Rattle.clap.specs.declared.builder.ValueParser.TheVariants.{Unsigned}
+use Rattle.cb_scan.specs.declared.profile.Profile.{Profile}
+use Rattle.cb_scan.specs.declared.profile.Profile.TheVariants.{Prototypes, Standard, Wide}
 use Rattle.cb_desk.specs.Answer.{field_of_digit}
 use Rattle.cb_desk.specs.declared.rows.Field.{Field}
 use Rattle.cb_desk.specs.declared.tags.Format.{Format}
@@ -46,6 +48,14 @@ abbrev pub format_rule : Rule
 format_rule = record (new_rule (codes "format"))
     { long = Some (codes "format"); value_names = 1; defaults = codes "1" ∷ [] }
 
+-- an option without a value
+abbrev pub flag_rule : Text → Rule
+flag_rule id = record (new_rule id) { long = Some id; action = Some SetTrue }
+
+-- a command with `--wide` and `--prototypes`
+abbrev pub with_profile : App → App
+with_profile a = with_rule (with_rule a (flag_rule (codes "wide"))) (flag_rule (codes "prototypes"))
+
 -- the most files, and the most bytes of a file, that bounds may have
 abbrev pub most_files : ℕ
 most_files = 1048576
@@ -70,10 +80,10 @@ with_bounds a =
     (codes "4096"))) (most_rule (codes "max_file_bytes") (codes "max-file-bytes") most_file_bytes
     (codes "1000000"))
 
--- `line [--max-files N] [--max-file-bytes N] [--files-from LIST] [FILE..]`: a session over standard
+-- `line [--wide] [--prototypes] [--max-files N] [--max-file-bytes N] [--files-from LIST] [FILE..]`: a session over standard
 -- input and output
 abbrev pub line_app : App
-line_app = with_files (with_bounds (new_app (codes "line")))
+line_app = with_files (with_bounds (with_profile (new_app (codes "line"))))
 
 -- NUM, the digit of a field, and PATTERN
 abbrev pub num_rule : Rule
@@ -82,17 +92,18 @@ num_rule = record (new_rule (codes "num")) { value_names = 1; required = true }
 abbrev pub pattern_rule : Rule
 pattern_rule = record (new_rule (codes "pattern")) { value_names = 1; required = true }
 
--- `find [--max-files N] [--max-file-bytes N] [--files-from LIST] NUM PATTERN [FILE..]`: one search
+-- `find [--wide] [--prototypes] [--max-files N] [--max-file-bytes N] [--files-from LIST] NUM PATTERN [FILE..]`: one search
 abbrev pub find_app : App
 find_app =
-    with_files (with_bounds (with_rule (with_rule (new_app (codes "find")) num_rule) pattern_rule))
+    with_files (with_bounds (with_profile (with_rule (with_rule (new_app (codes "find")) num_rule)
+    pattern_rule)))
 
--- `tags [-x] [-f TAGSFILE] [--format FORMAT] [--max-files N] [--max-file-bytes N]
+-- `tags [-x] [-f TAGSFILE] [--format FORMAT] [--wide] [--prototypes] [--max-files N] [--max-file-bytes N]
 -- [--files-from LIST] [FILE..]`: a tags file, or a listing
 abbrev pub tags_app : App
 tags_app =
-    with_files (with_bounds (with_rule (with_rule (with_rule (new_app (codes "tags")) listing_rule)
-    tagsfile_rule) format_rule))
+    with_files (with_bounds (with_profile (with_rule (with_rule (with_rule (new_app (codes "tags"))
+    listing_rule) tagsfile_rule) format_rule)))
 
 -- a command that needs one of its subcommands and tells its version
 abbrev pub with_version : App → App
@@ -139,6 +150,21 @@ pub record AreBoundsOf (rows : List Row) (b : WorldBounds) : Type 0 where
       (first_or (codes "max_file_bytes") (codes "1000000") rows) b.file_bytes
   pub history : b.history ≡ history_of b.files
 
+-- an option without a value was found
+abbrev pub is_set : Text → List Row → Bool
+is_set id rows = bytes_eq (first_or id (codes "false") rows) (codes "true")
+
+-- the profile of `--wide` and `--prototypes`, of which the second needs the first
+abbrev pub profile_for : (wide prototypes : Bool) → Option Profile
+profile_for false false = Some Standard
+profile_for true false = Some Wide
+profile_for true true = Some Prototypes
+profile_for false true = None
+
+-- the profile that was found
+abbrev pub profile_in : List Row → Option Profile
+profile_in rows = profile_for (is_set (codes "wide") rows) (is_set (codes "prototypes") rows)
+
 -- the list of files that was found, if there is one
 abbrev pub list_in : List Row → Option Text
 list_in rows = first_of (codes "files_from") rows
@@ -160,27 +186,30 @@ names_files rows = is_some (all_of (codes "files") rows) || is_some (list_in row
 -- session reads its commands from standard input, and so no list
 abbrev pub IsJobOf : Option (Text × List Row) → Job → Type 0
 IsJobOf None job = ⊥
-IsJobOf (Some found) (Line bounds list files) =
+IsJobOf (Some found) (Line bounds profile list files) =
     (found.0 ≡ codes "line")
     × AreBoundsOf found.1 bounds
+    × (profile_in found.1 ≡ Some profile)
     × (reads_input (list_in found.1) ≡ false)
     × (option_map string_bytes list ≡ list_in found.1)
     × (map string_bytes files.items ≡ all_or_none (codes "files") found.1)
-IsJobOf (Some found) (Find bounds field pattern list files) =
+IsJobOf (Some found) (Find bounds profile field pattern list files) =
     (found.0 ≡ codes "find")
     × AreBoundsOf found.1 bounds
+    × (profile_in found.1 ≡ Some profile)
     × (names_files found.1 ≡ true)
     × (option_map string_bytes list ≡ list_in found.1)
     × (field_of (first_or (codes "num") [] found.1) ≡ Some field)
     × (string_bytes pattern ≡ first_or (codes "pattern") [] found.1)
     × (string_bytes pattern ≢ [])
     × (map string_bytes files.items ≡ all_or_none (codes "files") found.1)
-IsJobOf (Some found) (Tags bounds listing tagsfile format list files) =
+IsJobOf (Some found) (Tags bounds profile listing tagsfile format list files) =
     (found.0 ≡ codes "tags")
     × AreBoundsOf found.1 bounds
+    × (profile_in found.1 ≡ Some profile)
     × (names_files found.1 ≡ true)
     × (option_map string_bytes list ≡ list_in found.1)
-    × (listing ≡ bytes_eq (first_or (codes "listing") (codes "false") found.1) (codes "true"))
+    × (listing ≡ is_set (codes "listing") found.1)
     × (string_bytes tagsfile ≡ first_or (codes "tagsfile") (codes "tags") found.1)
     × (format_number format ≡ first_or (codes "format") (codes "1") found.1)
     × (map string_bytes files.items ≡ all_or_none (codes "files") found.1)

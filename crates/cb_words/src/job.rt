@@ -8,17 +8,19 @@ mod command;
 mod matched;
 
 use cb_desk::{Bounds, Field, Format};
+use cb_scan::Profile;
 use clap::error::ErrorKind;
 use clap::{ArgMatches, Error};
 use std::alloc::{AllocError, Global};
 
-/// What the program is to do, within which bounds. A list is a file with the names of more files,
+/// What the program is to do, within which bounds, and by which profile. A list is a file with the names of more files,
 /// one a line.
 #[derive(Debug, Drop)]
 pub enum Job {
     /// A session over standard input and output, with these files loaded first. Its list is not `-`.
     Line {
         bounds: Bounds,
+        profile: Profile,
         list: Option<String>,
         files: Vec<String>,
     },
@@ -26,6 +28,7 @@ pub enum Job {
     /// standard input.
     Find {
         bounds: Bounds,
+        profile: Profile,
         field: Field,
         pattern: String,
         list: Option<String>,
@@ -35,6 +38,7 @@ pub enum Job {
     /// form. The list `-` is standard input.
     Tags {
         bounds: Bounds,
+        profile: Profile,
         listing: bool,
         tagsfile: String,
         format: Format,
@@ -89,9 +93,12 @@ pub fn job_of(alloc: Global, words: &[String]) -> Result<Job, Usage>
 }
 
 /// What is said of words that clap takes and that give no job: clap refuses other formats and
-/// bounds, so what they lack is a file, or they ask for a session and a list on one input.
+/// bounds, so what they lack is `--wide` or a file, or they ask for a session and a list on one
+/// input.
 fn no_job_text(matches: &ArgMatches<'_>) -> &'static str {
     match matches.subcommand() {
+        Some((_, found)) if matched::profile_of(found).is_none() =>
+            "error: the following required arguments were not provided:\n  --wide\n\nFor more information, try '--help'.\n",
         Some(("line", _)) =>
             "error: invalid value '-' for '--files-from <LIST>': standard input has the commands\n\nFor more information, try '--help'.\n",
         _ =>

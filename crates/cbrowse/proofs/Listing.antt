@@ -9,15 +9,15 @@ use Rattle.cbrowse.specs.Program.{HasPattern}
 -- a search keeps its pattern
 keeps_pattern : (asked : Job) (names : List (List ℕ)) (job : Job) → HasPattern asked
     → HasMore asked names job → HasPattern job
-keeps_pattern (Find bounds field pattern list files) names
-    (Find bounds' field' pattern' list' files') has more =
+keeps_pattern (Find bounds profile field pattern list files) names
+    (Find bounds profile' field' pattern' list' files') has more =
     subst (λ text. string_bytes text ≢ []) (sym more.2) has
-keeps_pattern (Line bounds list files) names (Find bounds' field' pattern' list' files') has more =
+keeps_pattern (Line bounds profile list files) names (Find bounds profile' field' pattern' list' files') has more =
     absurd more
-keeps_pattern (Tags bounds listing tagsfile format list files) names
-    (Find bounds' field' pattern' list' files') has more = absurd more
-keeps_pattern asked names (Line bounds' list' files') has more = tt
-keeps_pattern asked names (Tags bounds' listing' tagsfile' format' list' files') has more = tt
+keeps_pattern (Tags bounds profile listing tagsfile format list files) names
+    (Find bounds profile' field' pattern' list' files') has more = absurd more
+keeps_pattern asked names (Line bounds profile' list' files') has more = tt
+keeps_pattern asked names (Tags bounds profile' listing' tagsfile' format' list' files') has more = tt
 
 pub has_pattern : (list : Option (List ℕ)) (asked : Job) (feed feed' : Reader) (job : Job)
     → HasPattern asked → TakesList list asked feed feed' job → HasPattern job

@@ -5,7 +5,7 @@ use Rattle.std.proofs.Common.{None, Result, Ok, Err}
 use Rattle.std.proofs.lemmas.Bool.{true≢false}
 use Rattle.std.proofs.lemmas.List.{length-map, take-map}
 use Rattle.std.specs.Global.{Global}
-use Rattle.cb_scan.specs.declared.profile.Profile.TheVariants.{Standard}
+use Rattle.cb_scan.specs.declared.profile.Profile.{Profile}
 use Rattle.cb_desk.specs.World.{WorldBounds}
 use Rattle.cb_session.specs.declared.input.Ended.{Ended}
 use Rattle.cb_session.specs.declared.input.Fault.{Fault as WhatFailed}
@@ -22,20 +22,21 @@ use Rattle.cbrowse.specs.declared.execute.finish.Finish.TheVariants.{Ran, Unread
 use Rattle.cbrowse.specs.declared.execute.finish.Finish.TheVariants.{Unwritable}
 use Rattle.cb_words.specs.declared.job.Job.{Job}
 use Rattle.cb_words.specs.declared.job.Job.TheVariants.{Line, Find, Tags}
-use Rattle.cbrowse.specs.Messages.{bounds_of, files_of, most_line_bytes}
+use Rattle.cbrowse.specs.Messages.{bounds_of, files_of, most_line_bytes, profile_of}
 use Rattle.cbrowse.specs.Program.{DoesFrom, DoesInto, DoesJob, DoesLoaded, MakesFile, Reaches}
 use Rattle.cbrowse.specs.Program.{Works, WritesFile, WritesText, file_text}
 use Rattle.cbrowse.specs.Program.{most_lines, writes_file}
 
 -- operands under the names of a job's files are contents of those files
-pub reaches : (job : Job) (ops : List Operand) (b : WorldBounds)
-    (end : Result State RefusedOperand) → b ≡ bounds_of job
+pub reaches : (job : Job) (ops : List Operand) (b : WorldBounds) (p : Profile)
+    (end : Result State RefusedOperand) → b ≡ bounds_of job → p ≡ profile_of job
     → map (λ o. o.name.items) ops ≡ files_of job
-    → LoadsAll Standard b (map file_of_operand ops) end → Reaches job end
-reaches job ops b end same named loads = (
+    → LoadsAll p b (map file_of_operand ops) end → Reaches job end
+reaches job ops b p end same alike named loads = (
   map file_of_operand ops,
   names ops ∙ named,
-  subst (λ x. LoadsAll Standard x (map file_of_operand ops) end) same loads,
+  subst (λ q. LoadsAll q (bounds_of job) (map file_of_operand ops) end) alike
+      (subst (λ x. LoadsAll p x (map file_of_operand ops) end) same loads),
 )
   where
     names : (os : List Operand)
@@ -44,31 +45,31 @@ reaches job ops b end same named loads = (
     names (o ∷ os) = ap (λ ns. o.name.items ∷ ns) (names os)
 
 -- an operand was refused
-pub stopped : (job : Job) (ops : List Operand) (b : WorldBounds) (feed : Reader) (out : Writer)
-    (ended : Ended) → b ≡ bounds_of job
+pub stopped : (job : Job) (ops : List Operand) (b : WorldBounds) (p : Profile) (feed : Reader)
+    (out : Writer) (ended : Ended) → b ≡ bounds_of job → p ≡ profile_of job
     → map (λ o. o.name.items) ops ≡ files_of job
-    → Prepares Standard b (map file_of_operand ops) (Err ended)
+    → Prepares p b (map file_of_operand ops) (Err ended)
     → (end : Result State RefusedOperand) × Reaches job end
     × DoesLoaded job end feed feed out out ended None
-stopped job ops b feed out (StoppedAt place why) same named p = (
+stopped job ops b p feed out (StoppedAt place why) same alike named at = (
   Err (record { place = place; why = why }),
-  reaches job ops b (Err (record { place = place; why = why })) same named p,
+  reaches job ops b p (Err (record { place = place; why = why })) same alike named at,
   (refl, (refl, refl), refl),
 )
-stopped job ops b feed out Done same named p = absurd p
-stopped job ops b feed out Cut same named p = absurd p
-stopped job ops b feed out (Fault fault) same named p = absurd p
+stopped job ops b p feed out Done same alike named at = absurd at
+stopped job ops b p feed out Cut same alike named at = absurd at
+stopped job ops b p feed out (Fault fault) same alike named at = absurd at
 
 -- a job that writes a tags file writes its text, and leaves the reader alone
 pub file_written : (job : Job) (lines limit : ℕ) (t : State) (feed feed' : Reader)
     (old new : Writer) (ended : Ended) → writes_file job ≡ true
     → DoesJob job lines limit t feed feed' old new ended
     → (feed' ≡ feed) × WritesText (file_text job t.timeline.present) old new ended
-file_written (Line bounds list files) lines limit t feed feed' old new ended writes does =
+file_written (Line bounds profile list files) lines limit t feed feed' old new ended writes does =
     absurd (true≢false (sym writes))
-file_written (Find bounds field pattern list files) lines limit t feed feed' old new ended writes does =
+file_written (Find bounds profile field pattern list files) lines limit t feed feed' old new ended writes does =
     absurd (true≢false (sym writes))
-file_written (Tags bounds listing tagsfile format list files) lines limit t feed feed' old new
+file_written (Tags bounds profile listing tagsfile format list files) lines limit t feed feed' old new
     ended writes does = does
 
 -- where a write failed the file can't be written

@@ -45,14 +45,14 @@ HasNoList false feed feed' end = IsNoList end × (feed' ≡ feed)
 
 -- the same job, over its files and behind them files with these names
 abbrev pub HasMore : Job → List (List ℕ) → Job → Type 0
-HasMore (Line bounds list files) names (Line bounds' list' files') =
+HasMore (Line bounds profile list files) names (Line bounds profile' list' files') =
     (bounds' ≡ bounds) × (list' ≡ list)
     × (map string_bytes files'.items ≡ map string_bytes files.items ++ names)
-HasMore (Find bounds field pattern list files) names (Find bounds' field' pattern' list' files') =
+HasMore (Find bounds profile field pattern list files) names (Find bounds profile' field' pattern' list' files') =
     (bounds' ≡ bounds) × (field' ≡ field) × (pattern' ≡ pattern) × (list' ≡ list)
     × (map string_bytes files'.items ≡ map string_bytes files.items ++ names)
-HasMore (Tags bounds listing tagsfile format list files) names
-    (Tags bounds' listing' tagsfile' format' list' files') =
+HasMore (Tags bounds profile listing tagsfile format list files) names
+    (Tags bounds profile' listing' tagsfile' format' list' files') =
     (bounds' ≡ bounds) × (listing' ≡ listing) × (tagsfile' ≡ tagsfile) × (format' ≡ format)
     × (list' ≡ list) × (map string_bytes files'.items ≡ map string_bytes files.items ++ names)
 HasMore _ names _ = ⊥

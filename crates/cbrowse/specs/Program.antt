@@ -8,7 +8,6 @@ use Rattle.std.specs.Str.{bytes_eq}
 use Rattle.std.specs.declared.fs.attrs.Metadata.{Metadata}
 use Rattle.std.specs.declared.fs.options.OpenOptions.{OpenOptions}
 use Rattle.std.specs.Io.KnownBytes.{Appends}
-use Rattle.cb_scan.specs.declared.profile.Profile.TheVariants.{Standard}
 use Rattle.cb_desk.specs.Answer.{answer}
 use Rattle.cb_desk.specs.declared.tags.Format.{Format}
 use Rattle.cb_desk.specs.declared.tags.Format.TheVariants.{Extended}
@@ -31,7 +30,7 @@ use Rattle.cbrowse.specs.declared.execute.finish.Finish.TheVariants.{Ran, Unread
 use Rattle.cbrowse.specs.declared.execute.finish.Finish.TheVariants.{Unwritable}
 use Rattle.cb_words.specs.declared.job.Job.{Job}
 use Rattle.cb_words.specs.declared.job.Job.TheVariants.{Line, Find, Tags}
-use Rattle.cbrowse.specs.Messages.{bounds_of, files_of, most_line_bytes}
+use Rattle.cbrowse.specs.Messages.{bounds_of, files_of, most_line_bytes, profile_of}
 
 -- the most lines that a session of the program reads
 abbrev pub most_lines : ℕ
@@ -68,20 +67,20 @@ WritesText text old new _ = ⊥
 
 -- a search has a pattern
 abbrev pub HasPattern : Job → Type 0
-HasPattern (Find bounds field pattern list files) = string_bytes pattern ≢ []
+HasPattern (Find bounds profile field pattern list files) = string_bytes pattern ≢ []
 HasPattern _ = Unit {0}
 
 -- a job is done from a timeline: a session is served; the rows of a search and tags are written,
 -- and the reader is left alone
 abbrev pub DoesJob : Job → (lines limit : ℕ) → State → Reader → Reader → Writer → Writer
     → Ended → Type 0
-DoesJob (Line bounds list files) lines limit s feed feed' old new ended =
+DoesJob (Line bounds profile list files) lines limit s feed feed' old new ended =
     (next : State) × Serves lines limit s next feed feed' old new ended
-DoesJob (Find bounds field pattern list files) lines limit s feed feed' old new ended =
+DoesJob (Find bounds profile field pattern list files) lines limit s feed feed' old new ended =
     (feed' ≡ feed)
     × WritesText (flat_map row_line (answer s.timeline.present field (string_bytes pattern)))
     old new ended
-DoesJob (Tags bounds listing tagsfile format list files) lines limit s feed feed' old new ended =
+DoesJob (Tags bounds profile listing tagsfile format list files) lines limit s feed feed' old new ended =
     (feed' ≡ feed) × WritesText (tags_output listing format s.timeline.present) old new ended
 
 -- ---- a job over files
@@ -92,9 +91,9 @@ is_standard_output name = bytes_eq name (codes "-")
 
 -- the job writes a tags file
 abbrev pub writes_file : Job → Bool
-writes_file (Line bounds list files) = false
-writes_file (Find bounds field pattern list files) = false
-writes_file (Tags bounds listing tagsfile format list files) =
+writes_file (Line bounds profile list files) = false
+writes_file (Find bounds profile field pattern list files) = false
+writes_file (Tags bounds profile listing tagsfile format list files) =
     not (listing || is_standard_output (string_bytes tagsfile))
 
 -- a file of this name may be a C source
@@ -117,9 +116,9 @@ LeavesAlone feed feed' out out' = (feed' ≡ feed) × (out' ≡ out)
 
 -- the text of the tags file that a job writes
 abbrev pub file_text : Job → World → List ℕ
-file_text (Line bounds list files) w = []
-file_text (Find bounds field pattern list files) w = []
-file_text (Tags bounds listing tagsfile format list files) w = tags_output listing format w
+file_text (Line bounds profile list files) w = []
+file_text (Find bounds profile field pattern list files) w = []
+file_text (Tags bounds profile listing tagsfile format list files) w = tags_output listing format w
 
 -- a writer that has taken nothing yet
 abbrev pub fresh : Option (List ℕ) → Writer
@@ -166,11 +165,11 @@ StopsReading files read Unlisted = ⊥
 StopsReading files read Unwritable = ⊥
 
 -- the files of a job under their names, in order, with some contents, and where their loads lead
--- by the standard profile, within the bounds of the job
+-- by the profile of the job, within its bounds
 abbrev pub Reaches : Job → Result State RefusedOperand → Type 0
 Reaches job end =
     (files : List File) × (map (λ f. f.name) files ≡ files_of job)
-    × LoadsAll Standard (bounds_of job) files end
+    × LoadsAll (profile_of job) (bounds_of job) files end
 
 -- the job is done from a state: into a tags file, which leaves standard output alone, or over the
 -- input and output, and then no file is made

@@ -29,10 +29,9 @@ mod finish;
 mod list;
 
 use crate::execute::files::{TagsFile, make_file, read_operands};
-use crate::execute::finish::{Finish, bounds_of, conclude, files_of, most_line_bytes};
+use crate::execute::finish::{Finish, bounds_of, conclude, files_of, most_line_bytes, profile_of};
 use crate::execute::list::take_list;
 use cb_desk::{Bounds, Desk, Field, Format, TagRows};
-use cb_scan::Profile;
 use cb_session::{
     Ended, Fault, Limits, Session, prepare, put_answer, put_listing_file, put_tags_file,
 };
@@ -244,7 +243,7 @@ fn work<R: Files + AllocGlobal, I: BufRead, O: Write>(
         Ok(()) => {}
         Err(end) => return (end, None),
     }
-    let session = match prepare(rt.alloc(), bounds, Profile::Standard, operands) {
+    let session = match prepare(rt.alloc(), bounds, profile_of(job), operands) {
         Ok(session) => session,
         Err(ended) => return (Finish::Ran(ended), None),
     };

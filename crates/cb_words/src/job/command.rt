@@ -4,6 +4,7 @@ ghost use Rattle.clap.specs.Words.{app_of, with_rule};
 ghost use Rattle.cb_words.specs.Jobs.{
   files_rule,
   find_app,
+  flag_rule,
   line_app,
   list_rule,
   listing_rule,
@@ -13,6 +14,7 @@ ghost use Rattle.cb_words.specs.Jobs.{
   tagsfile_rule,
   with_bounds,
   with_files,
+  with_profile,
 };
 ghost use Rattle.cb_words.specs.Commands.{TakesFormats, browse_app_of, tags_app_of, with_format};
 
@@ -52,6 +54,7 @@ fn line_command<'a>(alloc: Global) -> Result<Command<'a>, AllocError>
     let command = Command::new(alloc, "line")
         .about("Reads commands from standard input and writes their replies")
         .after_help("Example: cbrowse line a.c");
+    let command = with_profile(alloc, command)?;
     let command = with_bounds(alloc, command)?;
     with_files(alloc, command, LIST, "C source to load first")
 }
@@ -65,6 +68,7 @@ fn find_command<'a>(alloc: Global) -> Result<Command<'a>, AllocError>
         .after_help("Example: cbrowse find 1 main a.c");
     let command = with_num(alloc, command)?;
     let command = with_pattern(alloc, command)?;
+    let command = with_profile(alloc, command)?;
     let command = with_bounds(alloc, command)?;
     with_files(alloc, command, LIST_OR_INPUT, "C source to search")
 }
@@ -79,6 +83,7 @@ fn tags_command<'a>(alloc: Global) -> Result<Command<'a>, AllocError>
     let command = with_listing(alloc, command)?;
     let command = with_tagsfile(alloc, command)?;
     let command = with_format(alloc, command)?;
+    let command = with_profile(alloc, command)?;
     let command = with_bounds(alloc, command)?;
     with_files(
         alloc,
@@ -199,6 +204,41 @@ fn with_most<'a>(
         .default_value(option.default)
         .help(option.help);
     command.arg(most)
+}
+
+/// Adds `--wide` and `--prototypes`.
+fn with_profile<'a>(alloc: Global, command: Command<'a>) -> Result<Command<'a>, AllocError>
+    ensures { IfOk result (λ more. app_of more ≡ with_profile (app_of command.entry)) }
+{
+    let command = with_flag(
+        alloc,
+        command,
+        "wide",
+        "Find enumerators, members and variables too, and names that macros hide",
+    )?;
+    with_flag(
+        alloc,
+        command,
+        "prototypes",
+        "With --wide: find external declarations and prototypes too",
+    )
+}
+
+/// Adds an option without a value.
+fn with_flag<'a>(
+    alloc: Global,
+    command: Command<'a>,
+    id: &'a str,
+    help: &'a str,
+) -> Result<Command<'a>, AllocError>
+    ensures { IfOk result
+        (λ more. app_of more ≡ with_rule (app_of command.entry) (flag_rule id.now)) }
+{
+    let flag = Arg::new(alloc, id)
+        .long(id)
+        .action(ArgAction::SetTrue)
+        .help(help);
+    command.arg(flag)
 }
 
 /// Adds `--files-from` and the files.

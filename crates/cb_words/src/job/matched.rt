@@ -23,9 +23,11 @@ ghost use Rattle.cb_words.specs.Jobs.{
   first_or,
   format_number,
   history_of,
+  is_set,
   list_in,
   most_files,
   names_files,
+  profile_in,
   reads_input,
 };
 ghost use Rattle.cb_words.specs.Usages.{IsBadSearch};
@@ -35,6 +37,7 @@ ghost use Rattle.cb_words.specs.Commands.{rows_in};
 
 use crate::job::{Job, Usage};
 use cb_desk::{Bounds, Field, Format, MOST_BYTES, MOST_FILES};
+use cb_scan::Profile;
 use clap::ArgMatches;
 use std::alloc::{AllocError, Global};
 
@@ -54,8 +57,8 @@ pub(crate) fn found_job(alloc: Global, matches: &ArgMatches<'_>) -> Result<Optio
     }
 }
 
-/// The search that was asked for, or `None` where there is no file or no such bound. Its number
-/// is judged next, and then its pattern.
+/// The search that was asked for, or `None` where there is no file or no such bound or profile. Its
+/// number is judged after the file, and then its pattern.
 fn find_job(alloc: Global, found: &ArgMatches<'_>) -> Result<Option<Job>, Usage>
     ensures { MatchResult result (λ job. MatchOption job
         ((job : Job) → IsJobOf (Some (codes "find", rows_in found.now)) job → ⊥)
@@ -75,8 +78,12 @@ fn find_job(alloc: Global, found: &ArgMatches<'_>) -> Result<Option<Job>, Usage>
     let Some(bounds) = bounds_of(found) else {
         return Ok(None);
     };
+    let Some(profile) = profile_of(found) else {
+        return Ok(None);
+    };
     Ok(Some(Job::Find {
         bounds,
+        profile,
         field,
         pattern: String::from_str(alloc, pattern)?,
         list: list_of(alloc, found)?,
@@ -94,8 +101,8 @@ fn field_of(num: &str) -> Option<Field>
     }
 }
 
-/// The session that was asked for, or `None` where its list would be standard input or there is no
-/// such bound.
+/// The session that was asked for, or `None` where its list would be standard input, or there is no
+/// such bound or profile.
 fn line_job(alloc: Global, found: &ArgMatches<'_>) -> Result<Option<Job>, AllocError>
     ensures { IfOk result (λ job. MatchOption job
         ((job : Job) → IsJobOf (Some (codes "line", rows_in found.now)) job → ⊥)
@@ -107,14 +114,19 @@ fn line_job(alloc: Global, found: &ArgMatches<'_>) -> Result<Option<Job>, AllocE
     let Some(bounds) = bounds_of(found) else {
         return Ok(None);
     };
+    let Some(profile) = profile_of(found) else {
+        return Ok(None);
+    };
     Ok(Some(Job::Line {
         bounds,
+        profile,
         list: list_of(alloc, found)?,
         files: files_of(alloc, found)?,
     }))
 }
 
-/// The tags that were asked for, or `None` where there is no file or no such format or bound.
+/// The tags that were asked for, or `None` where there is no file or no such format, bound or
+/// profile.
 fn tags_job(alloc: Global, found: &ArgMatches<'_>) -> Result<Option<Job>, AllocError>
     ensures { IfOk result (λ job. MatchOption job
         ((job : Job) → IsJobOf (Some (codes "tags", rows_in found.now)) job → ⊥)
@@ -129,9 +141,13 @@ fn tags_job(alloc: Global, found: &ArgMatches<'_>) -> Result<Option<Job>, AllocE
     let Some(bounds) = bounds_of(found) else {
         return Ok(None);
     };
+    let Some(profile) = profile_of(found) else {
+        return Ok(None);
+    };
     Ok(Some(Job::Tags {
         bounds,
-        listing: value_or(found, "listing", "false") == "true",
+        profile,
+        listing: is_set(found, "listing"),
         tagsfile: String::from_str(alloc, value_or(found, "tagsfile", "tags"))?,
         format,
         list: list_of(alloc, found)?,
@@ -178,6 +194,25 @@ fn history_of(files: u32) -> u32
 {
     let standard = Bounds::standard();
     standard.history() + files.saturating_sub(standard.files())
+}
+
+/// Whether an option without a value was given.
+fn is_set(found: &ArgMatches<'_>, id: &str) -> bool
+    ensures { result ≡ is_set id.now (rows_in found.now) }
+{
+    value_or(found, id, "false") == "true"
+}
+
+/// The profile that was asked for, or `None` where prototypes were, and not the wide one.
+pub(crate) fn profile_of(found: &ArgMatches<'_>) -> Option<Profile>
+    ensures { result ≡ profile_in (rows_in found.now) }
+{
+    match (is_set(found, "wide"), is_set(found, "prototypes")) {
+        (false, false) => Some(Profile::Standard),
+        (true, false) => Some(Profile::Wide),
+        (true, true) => Some(Profile::Prototypes),
+        (false, true) => None,
+    }
 }
 
 /// The first value of an argument, or this text where it has none.
