@@ -83,7 +83,7 @@ pub(crate) fn set_each(
     entries: &[Entry],
     links: &mut [Link],
 )
-    requires numbers { AllByRecursion (λ (e : Entry). e.number < length links.old) entries.now }
+    requires { AllByRecursion (λ (e : Entry). e.number < length links.old) entries.now }
     ensures links { links.new ≡ with_each sort text.now true entries.now links.old }
     ensures len { length links.new ≡ length links.old }
 {
@@ -116,7 +116,7 @@ pub(crate) fn lay_in(
     entries: &[Entry],
     links: &mut Vec<Link>,
 )
-    requires entries { AreSorted sort text.now entries.now }
+    requires { AreSorted sort text.now entries.now }
     ensures { (links.new.items ≡ links.old.items) ⊎ (links.new.items ≡ links_of sort text.now) }
 {
     if links.capacity() < entries.len() {

@@ -120,7 +120,7 @@ impl Links {
         text: &ScannedSource,
         entries: &mut [Entry],
     )
-        requires entries { entries.old ≡ item_entries sort text.now 0 }
+        requires { entries.old ≡ item_entries sort text.now 0 }
         ensures { (self.new ≡ with_repeats sort [] self.old)
             ⊎ (self.new ≡ with_repeats sort (repeats_of sort text.now) self.old) }
     {
@@ -150,7 +150,7 @@ impl Links {
     /// Lays the links of a sort by the entries of all items, in order; none where there is too
     /// little room.
     pub(crate) fn lay(&mut self, sort: FactKind, text: &ScannedSource, entries: &[Entry])
-        requires entries { AreSorted sort text.now entries.now }
+        requires { AreSorted sort text.now entries.now }
         ensures { (self.new ≡ self.old)
             ⊎ (self.new ≡ with_links sort (links_of sort text.now) self.old) }
     {
@@ -169,7 +169,7 @@ impl Links {
         text: &ScannedSource,
         entries: &mut [Entry],
     ) -> bool
-        requires entries { entries.old ≡ item_entries sort text.now 0 }
+        requires { entries.old ≡ item_entries sort text.now 0 }
         ensures { (self.new ≡ with_links sort [] self.old)
             ⊎ (self.new ≡ with_links sort (links_of sort text.now) self.old) }
     {

@@ -218,7 +218,7 @@ pub(crate) fn find_repeats(
     entries: &mut [Entry],
     repeats: &mut Vec<bool>,
 )
-    requires entries { entries.old ≡ item_entries sort text.now 0 }
+    requires { entries.old ≡ item_entries sort text.now 0 }
     ensures { (repeats.new.items ≡ []) ⊎ (repeats.new.items ≡ repeats_of sort text.now) }
 {
     repeats.truncate(0);

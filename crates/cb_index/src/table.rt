@@ -218,7 +218,7 @@ pub(crate) fn lay_in_table(
     links: &mut Vec<Link>,
     looks: usize,
 ) -> bool
-    requires entries { entries.old ≡ item_entries sort text.now 0 }
+    requires { entries.old ≡ item_entries sort text.now 0 }
     ensures laid { result ≡ true → links.new.items ≡ links_of sort text.now }
     ensures none { result ≡ false → links.new.items ≡ [] }
 {
