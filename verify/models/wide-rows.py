@@ -3,11 +3,11 @@
 
     verify/models/wide-rows.py
 
-The texts and what is found in them are in `wide-rows.txt`; its head tells the form. For each text
-the definitions of both models (`wide_model.py`, `wide_pass.py`) have to be these by place. The tags
+The texts and what is found in them are in `data/facts-wide.txt` of `worked_cases`, whose README
+tells the form. For each text the definitions of both models (`wide_model.py`, `wide_pass.py`) have to be these by place. The tags
 file in the plain and the extended format, the listing and the rows of field 1 have to be, byte for
 byte, those that are put together here from the definitions by hand. Each difference is told, and
-the exit status is 1 if there is one. The program is not asked: it does not have this profile yet.
+the exit status is 1 if there is one. The scanner is compared with the same texts by the gate.
 """
 
 from __future__ import annotations
@@ -27,6 +27,7 @@ from shared import TOP, Report  # noqa: E402
 sys.path.insert(0, str(TOP / "scripts"))
 from cases import plain  # noqa: E402
 
+TEXTS = TOP / "crates/worked_cases/data/facts-wide.txt"
 FILE = b"w.c"
 
 
@@ -40,19 +41,21 @@ class Row(NamedTuple):
     local: bool
 
 
-def row_of(line: str) -> Row:
-    kind, name, number, *more = line.encode().split(b" ")
+def row_of(words: str) -> Row:
+    name, kind, number, *more = words.encode().split(b" ")
     scope = b"".join(more)
     is_local = scope == b"static"
     return Row(kind, name, int(number), b"" if is_local else scope, is_local)
 
 
 def cases():
-    """What each text shows, the text, and its rows."""
-    for case in (HERE / "wide-rows.txt").read_text().split("\n== ")[1:]:
+    """What each text shows, the text, and its rows with external declarations and prototypes."""
+    for case in TEXTS.read_text().split("\n\n# ")[1:]:
         what, *lines = [line for line in case.split("\n") if line]
         text = b"".join(plain(line[2:]) for line in lines if line.startswith("| "))
-        yield what, text, [row_of(line) for line in lines if not line.startswith("| ")]
+        told = next(line for line in lines if line.startswith("prototypes:"))
+        rows = told.partition(":")[2].split(";")
+        yield what, text, [row_of(row.strip()) for row in rows if row.strip()]
 
 
 def files_of(text: bytes, rows: list[Row]) -> tuple[bytes, bytes, bytes]:

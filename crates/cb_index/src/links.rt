@@ -126,12 +126,8 @@ impl Links {
     {
         match sort {
             FactKind::Uses => find_repeats(sort, text, entries, &mut self.use_repeats),
-            FactKind::Callees => {
-                find_repeats(sort, text, entries, &mut self.callee_repeats)
-            }
-            FactKind::Callers => {
-                find_repeats(sort, text, entries, &mut self.caller_repeats)
-            }
+            FactKind::Callees => { find_repeats(sort, text, entries, &mut self.callee_repeats) }
+            FactKind::Callers => { find_repeats(sort, text, entries, &mut self.caller_repeats) }
         }
     }
 
@@ -176,12 +172,8 @@ impl Links {
         let looks = entries.len().saturating_mul(LOOKS_PER_ITEM);
         match sort {
             FactKind::Uses => { lay_in_table(sort, text, entries, &mut self.uses, looks) }
-            FactKind::Callees => {
-                lay_in_table(sort, text, entries, &mut self.callees, looks)
-            }
-            FactKind::Callers => {
-                lay_in_table(sort, text, entries, &mut self.callers, looks)
-            }
+            FactKind::Callees => { lay_in_table(sort, text, entries, &mut self.callees, looks) }
+            FactKind::Callers => { lay_in_table(sort, text, entries, &mut self.callers, looks) }
         }
     }
 }

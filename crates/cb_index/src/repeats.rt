@@ -142,13 +142,7 @@ fn row_place(sort: FactKind, text: &ScannedSource, item: u32, count: usize) -> u
 }
 
 /// Whether an item is a repeat, by the items of its place from the last one on.
-fn find_row(
-    sort: FactKind,
-    text: &ScannedSource,
-    entries: &[Entry],
-    item: usize,
-    last: u32,
-) -> bool
+fn find_row(sort: FactKind, text: &ScannedSource, entries: &[Entry], item: usize, last: u32) -> bool
     requires item { item < item_count sort text.now }
     requires few { length entries.now < 2 ^ 32 }
     requires seen { AreSeen sort text.now item entries.now }

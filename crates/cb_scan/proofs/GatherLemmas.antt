@@ -92,3 +92,22 @@ pub code_on : (text : List ℕ) (s s' : Stage) (t : Token) (x : Lined) (all rest
 code_on text s s' t x all rest all_is is t_is s_is code_is =
     walk_on code_out nothing text s s' t x all rest all_is is t_is s_is
     ∙ ap (λ b. cond b (t ∷ []) [] ++ walk code_out nothing text s' rest) (sym (ap is_code s_is) ∙ code_is)
+
+-- a token of a directive
+pub code_off : (text : List ℕ) (s s' : Stage) (t : Token) (x : Lined) (all rest : List Lined) → all ≡ x ∷ rest
+    → is_significant x.piece.class ≡ true → t ≡ lined_token text x → s' ≡ next_stage s t → is_code s' ≡ false
+    → walk code_out nothing text s all ≡ walk code_out nothing text s' rest
+code_off text s s' t x all rest all_is is t_is s_is code_is =
+    walk_on code_out nothing text s s' t x all rest all_is is t_is s_is
+    ∙ ap (λ b. cond b (t ∷ []) [] ++ walk code_out nothing text s' rest) (sym (ap is_code s_is) ∙ code_is)
+
+-- the end of a line
+pub walk_end : {A : Type 0} (out : Stage → Token → List A) (finish : Stage → ℕ → List A) (text : List ℕ) (s : Stage)
+    (x : Lined) (all rest : List Lined) → all ≡ x ∷ rest → is_newline x.piece.class ≡ true
+    → walk out finish text s all ≡ finish s x.piece.span.start ++ walk out finish text Start rest
+walk_end out finish text s x all rest all_is is =
+    ap (walk out finish text s) all_is
+    ∙ ap (λ b. cond b (finish s x.piece.span.start ++ walk out finish text Start rest)
+    (cond (is_significant x.piece.class)
+    (out s (lined_token text x) ++ walk out finish text (next_stage s (lined_token text x)) rest)
+    (walk out finish text s rest))) is

@@ -78,7 +78,6 @@ before_next k ps q qs e =
 
 by_index : (ps : List Placed) (k : ℕ) (rest : List Placed) → drop k ps ≡ rest
     → flat_map (body_at ps) (range_with_len k (length rest)) ≡ bodies_from (before ps k) rest
-unfolding bodies_from
 by_index ps k [] left = refl
 by_index ps k (q ∷ qs) left =
     ap (λ p. body_here (before ps k) p ++ flat_map (body_at ps) (range_with_len (k + 1) (length qs)))
@@ -145,7 +144,7 @@ none_of_both place bs cs no_b no_c =
 -- no body that is to come has a place before
 none_to_come : (place n : ℕ) (before : List WideToken) (around : List ℕ) (xs : List WideToken)
     → place < n → Rise n xs → body_in (bodies_from before (placed around xs)) place ≡ None
-unfolding bodies_from placed
+unfolding placed
 none_to_come place n before around [] less rise = refl
 none_to_come place n before around (x ∷ xs) less rise =
     let le = rise.0 in
@@ -291,7 +290,7 @@ module _ (bs : List Body) (ps : List Placed) where
       → ((place : ℕ) → n ≤ place → body_in past place ≡ None) → Rise n xs → Tagged bs os
       → flat_map (content ps) (opens_from (opening_after before) os xs)
       ≡ flat_map (content_defs bs ps) (bodies_from before (placed (places os) xs))
-  unfolding bodies_from placed opens_from
+  unfolding placed opens_from
   contents_are past before os n [] all none rise tagged = refl
   contents_are past before os n (x ∷ xs) all none rise tagged =
       let le = rise.0 in
@@ -369,7 +368,7 @@ module _ (bs : List Body) where
       → bs ≡ past ++ bodies_from before (placed around xs)
       → ((place : ℕ) → n ≤ place → body_in past place ≡ None) → Rise n xs
       → Opens bs (opening_after before) xs
-  unfolding bodies_from placed
+  unfolding placed
   opens_are past before around n [] all none rise = tt
   opens_are past before around n (x ∷ xs) all none rise =
       let le = rise.0 in
@@ -403,7 +402,7 @@ tag_here p (x ∷ names) (Some k) = refl
 
 tags_are : (before : List WideToken) (around : List ℕ) (xs : List WideToken)
     → flat_map tag_defs (bodies_from before (placed around xs)) ≡ tags_from (opening_after before) xs
-unfolding bodies_from placed tags_from
+unfolding placed tags_from
 tags_are before around [] = refl
 tags_are before around (x ∷ xs) =
     let p : Placed = record { item = x; around = around } in

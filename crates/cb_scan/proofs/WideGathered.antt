@@ -1,12 +1,13 @@
 -- What is read of the code is what the rules of the wide profile find in it.
 use Rattle.std.proofs.Common.{◌≡◌, ◌∙◌, ℕ, List, [], ◌++◌, None, sym, ap, length, map}
-use Rattle.std.proofs.Common.{Option, subst}
-use Rattle.std.specs.List.{AllByRecursion}
+use Rattle.std.proofs.Common.{subst}
 use Rattle.std.specs.List.Sorted.{IsPermutation}
 use Rattle.std.specs.Option.{option_map, option_to_list}
-use Rattle.cb_scan.specs.declared.facts.Call.{Call}
 use Rattle.cb_scan.specs.declared.facts.Def.{Def}
+use Rattle.cb_scan.specs.declared.lex.lined.Lined.{Lined}
 use Rattle.cb_scan.specs.declared.lex.token.Token.{Token}
+use Rattle.cb_scan.specs.declared.rules.directives.Stage.{Stage}
+use Rattle.cb_scan.specs.declared.rules.wide.reader.Reader.{Reader}
 use Rattle.cb_scan.specs.declared.rules.wide.token.WideToken.{WideToken}
 use Rattle.cb_scan.specs.rules.Code.{code}
 use Rattle.cb_scan.specs.rules.Scope.{ranges_of}
@@ -16,13 +17,13 @@ use Rattle.cb_scan.specs.rules.wide.Bodies.{Body, bodies}
 use Rattle.cb_scan.specs.rules.wide.Kinds.{bare_tokens, functions_of, wide_function_def}
 use Rattle.cb_scan.specs.rules.wide.Levels.{wide_tokens}
 use Rattle.cb_scan.specs.steps.Cut.{pieces}
+use Rattle.cb_scan.specs.steps.Directives.{code_out, nothing, walk}
 use Rattle.cb_scan.specs.steps.Functions.{range_to}
 use Rattle.cb_scan.specs.steps.wide.Gathering.{declared_in, objects_in}
 use Rattle.cb_scan.specs.steps.wide.Lists.{Lists}
 use Rattle.cb_scan.specs.steps.wide.Pass.{Taken, pass_start, take_all}
-use Rattle.cb_scan.specs.steps.wide.Reading.{reader_start, the_taken}
-use Rattle.cb_scan.proofs.Rising.{Rising, code_rises}
-use Rattle.cb_scan.proofs.WideBlocks.{IsRead}
+use Rattle.cb_scan.specs.steps.wide.Reading.{reader_start, taken_at_end, the_taken}
+use Rattle.cb_scan.proofs.Rising.{code_rises}
 use Rattle.cb_scan.proofs.WideBodies.{Opens, opens_of_all}
 use Rattle.cb_scan.proofs.WideCallsRead.{calls_read, calls_read_are}
 use Rattle.cb_scan.proofs.WideDefs.{defs_of_all, objects_of_all}
@@ -89,3 +90,14 @@ module _ (text : List ℕ) where
   pub calls_gathered : calls_read text reader_start beginning None ts
       ≡ calls_in ts (functions_of text (pieces text))
   calls_gathered = calls_read_are bs text ts no_lists opens
+
+  -- the same at the end of the pieces
+  pub gathered_at_end : {r : Reader} {t u : Taken} {s : Stage} {xs : List Lined}
+      → u ≡ taken_at_end r t → xs ≡ []
+      → read_all text r t (walk code_out nothing text s xs) ≡ read_all text reader_start beginning ts
+      → IsGathered text u
+  unfolding read_all
+  gathered_at_end {r} {t} {u} {s} u_is none all_is =
+      subst (IsGathered text)
+      (sym (u_is ∙ sym (ap (λ l. read_all text r t (walk code_out nothing text s l)) none) ∙ all_is))
+      gathered_is

@@ -7,6 +7,7 @@ ghost use Rattle.cb_scan.specs.Definitions.{AreWithin};
 ghost use Rattle.cb_scan.specs.lex.Pieces.{IsPieces};
 ghost use Rattle.cb_scan.specs.lex.Tokens.{is_significant};
 ghost use Rattle.cb_scan.specs.Profiles.{facts_by, facts_in};
+ghost use Rattle.cb_scan.specs.rules.Code.{is_newline};
 
 mod standard;
 mod together;
@@ -26,6 +27,12 @@ fn is_significant(class: Class) -> bool
         class,
         Class::Name | Class::Number | Class::Str | Class::Chr | Class::Byte
     )
+}
+
+fn is_newline(class: Class) -> bool
+    ensures { result ≡ is_newline class }
+{
+    matches!(class, Class::Newline)
 }
 
 /// What a profile finds in a text.

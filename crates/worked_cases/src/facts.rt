@@ -1,7 +1,7 @@
 //! What is found in a text, in a short form.
 use crate::escapes::put_line;
 use crate::failed::Failed;
-use cb_scan::{Class, Def, Facts, Kind, Meter, Source, Span, pieces, scan};
+use cb_scan::{Class, Def, Facts, Kind, Meter, Profile, Source, Span, Tag, pieces, scan};
 use itoa::Buffer;
 use std::alloc::Global;
 
@@ -58,13 +58,33 @@ fn kind_letter(kind: Kind) -> u8 {
     }
 }
 
-/// Puts a definition as `NAME KIND LINE;`, with ` static` before the `;` where it is local.
+/// The word of a tag's kind.
+fn tag_word(kind: Kind) -> &'static [u8] {
+    match kind {
+        Kind::Union => b" union:".as_slice(),
+        Kind::Enum => b" enum:".as_slice(),
+        _ => b" struct:".as_slice(),
+    }
+}
+
+/// Puts the tag around a definition behind a text, if it has one.
+fn put_tag(text: &mut Vec<u8>, source: &Source, tag: Option<Tag>) -> Result<(), Failed> {
+    if let Some(tag) = tag {
+        text.extend_from_slice(tag_word(tag.kind))?;
+        put_span(text, source, tag.name)?;
+    }
+    Ok(())
+}
+
+/// Puts a definition as `NAME KIND LINE;`, with the tag around it, and with ` static` where it is
+/// local, before the `;`.
 fn put_def(text: &mut Vec<u8>, source: &Source, def: &Def) -> Result<(), Failed> {
     put_span(text, source, def.name)?;
     text.push(b' ')?;
     text.push(kind_letter(def.kind))?;
     text.push(b' ')?;
     put_number(text, def.line)?;
+    put_tag(text, source, def.tag)?;
     if def.local {
         text.extend_from_slice(b" static")?;
     }
@@ -172,7 +192,7 @@ pub(crate) struct Text {
 /// Puts what a word asks for behind a text.
 fn put_asked(text: &mut Vec<u8>, word: &[u8], scanned: &Scanned) -> Result<(), Failed> {
     match word {
-        b"defs" => put_defs(text, scanned, true),
+        b"defs" | b"wide" | b"prototypes" => put_defs(text, scanned, true),
         b"functions" => put_defs(text, scanned, false),
         b"uses" => put_uses(text, &scanned.source, &scanned.facts),
         b"calls" => put_calls(text, &scanned.source, &scanned.facts),
@@ -183,13 +203,22 @@ fn put_asked(text: &mut Vec<u8>, word: &[u8], scanned: &Scanned) -> Result<(), F
     }
 }
 
+/// The profile by which a word asks.
+fn profile_of(word: &[u8]) -> Profile {
+    match word {
+        b"wide" => Profile::Wide,
+        b"prototypes" => Profile::Prototypes,
+        _ => Profile::Standard,
+    }
+}
+
 /// Scans a text, and sees that the meter counts its bytes.
-fn scan_text(alloc: Global, bytes: &[u8]) -> Result<Scanned, Failed> {
+fn scan_text(alloc: Global, profile: Profile, bytes: &[u8]) -> Result<Scanned, Failed> {
     let Ok(source) = Source::new(alloc, Vec::from_slice(alloc, bytes)?) else {
         return Err(Failed);
     };
     let mut meter = Meter::new();
-    let Ok(facts) = scan(alloc, &mut meter, &source) else {
+    let Ok(facts) = scan(alloc, &mut meter, profile, &source) else {
         return Err(Failed);
     };
     if meter.read() != bytes.len() as u64 {
@@ -230,7 +259,7 @@ impl Text {
         put_asked(
             &mut self.found,
             word,
-            &scan_text(alloc, self.bytes.as_slice())?,
+            &scan_text(alloc, profile_of(word), self.bytes.as_slice())?,
         )?;
         self.found.push(b'\n')?;
         Ok(self.found == told)

@@ -52,7 +52,7 @@ row text d =
 
 -- the definitions of a text
 abbrev pub rows : List ℕ → List (List ℕ)
-rows text = map (row text) (definitions_by profile.Wide text (pieces text))
+rows text = map (row text) (definitions_by profile.Prototypes text (pieces text))
 
 -- `unfolding seeing` opens how they are found
 unfoldable pub seeing : Unit {0}

@@ -17,14 +17,13 @@ ghost use Rattle.cb_scan.specs.Profiles.{facts_in};
 use crate::facts::Facts;
 use crate::gather::{CodeLists, CodeState, LineLists};
 use crate::lex::lined::lined_pieces;
-use crate::lex::piece::Class;
 use crate::lex::token::token_of;
 use crate::rules::directives::Stage;
 use crate::rules::functions::Machine;
 use crate::rules::order::ordered_defs;
 use crate::rules::structures::Naming;
-use crate::scanner::is_significant;
 use crate::scanner::together::facts_with;
+use crate::scanner::{is_newline, is_significant};
 use std::alloc::{AllocError, Global};
 
 /// What one pass gathers.
@@ -77,7 +76,7 @@ fn gather(alloc: Global, text: &[u8]) -> Result<Gathered, AllocError>
             if line.is_code() {
                 code.add(&mut state, &token)?;
             }
-        } else if lined.piece.class == Class::Newline {
+        } else if is_newline(lined.piece.class) {
             lines.end(&line, lined.piece.span.start)?;
             line = Stage::Start;
         }

@@ -17,7 +17,7 @@ ghost use Rattle.cb_scan.specs.steps.wide.Gathering.{declared_in, objects_in, pr
 use crate::facts::{Call, Facts};
 use crate::gather::{LineLists, push_some};
 use crate::lex::lined::lined_pieces;
-use crate::lex::piece::{Class, Span};
+use crate::lex::piece::Span;
 use crate::lex::token::{Token, token_of};
 use crate::rules::directives::Stage;
 use crate::rules::order::ordered_defs;
@@ -25,8 +25,8 @@ use crate::rules::wide::beside::staying;
 use crate::rules::wide::found::Found;
 use crate::rules::wide::pass::Pass;
 use crate::rules::wide::reader::Reader;
-use crate::scanner::is_significant;
 use crate::scanner::together::facts_with;
+use crate::scanner::{is_newline, is_significant};
 use std::alloc::{AllocError, Global};
 
 /// What one pass gathers: what the code defines, its calls, and the lists of all lines.
@@ -96,7 +96,7 @@ fn gather(alloc: Global, text: &[u8]) -> Result<Gathered, AllocError>
                 reader.add(&mut pass, &mut found, text, &token)?;
                 last = Some(token);
             }
-        } else if lined.piece.class == Class::Newline {
+        } else if is_newline(lined.piece.class) {
             lines.end(&line, lined.piece.span.start)?;
             line = Stage::Start;
         }

@@ -19,3 +19,7 @@ returns-in-Ok-clause-exact c ps are =
     let text = c.args.source.now in
     c.in-Ok.ensures ∙ ap (facts_in c.args.profile) c.bytes-text.ensures.value
     ∙ ap (facts_by c.args.profile text) (sym (pieces-only text ps are))
+
+pub returns-in-Ok-clause-facts : goal.returns-in-Ok-clause-facts
+returns-in-Ok-clause-facts c =
+    c.in-Ok.ensures ∙ ap (facts_in c.args.profile) c.bytes-text.ensures.value
