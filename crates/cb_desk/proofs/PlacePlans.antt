@@ -219,9 +219,12 @@ module _ (k : Kept) (p : Planned) (wanted : Option (Option (List ℕ))) (marks f
     }
 
   pub places_planned : IsPlan k p (with_places k.archive k.now wanted marks frames)
-  places_planned = (profile, λ a keeps.
-      subst (λ t. LeadsTo k (record p { turn = t })
-      (with_places k.archive k.now wanted marks frames) a) (sym turn) (leads a keeps))
+  places_planned = (
+    profile,
+    λ a keeps.
+        subst (λ t. LeadsTo k (record p { turn = t })
+        (with_places k.archive k.now wanted marks frames) a) (sym turn) (leads a keeps),
+  )
 
 -- ---- edits that make one list from another
 pub are_edits : (names : ℕ) (es : Edits) (ps qs : List NumberedPlace) → IsDifference es ps qs

@@ -142,20 +142,23 @@ pub plan_moved : (k l : Kept) (p : Planned) (v : World) → l.now ≡ k.now
     → l.archive.profile ≡ k.archive.profile
     → l.archive.names ≡ k.archive.names → l.archive.texts ≡ k.archive.texts
     → IsPlan k p v → IsPlan l p v
-plan_moved k l p v now profile names texts plan = (plan.0 ∙ sym profile, λ a keeps.
-    let kept : Keeps k.archive k.now p a = record {
-      profile = keeps.profile ∙ profile;
-      names = keeps.names ∙ (λ i. take (now i).names (names i) ++ p.names);
-      texts = keeps.texts ∙ (λ i. take (now i).versions (texts i) ++ p.texts);
-    } in
-    let leads = plan.1 a kept in
-    record {
-      turn = subst (λ w. IsTurn a p.turn w) (sym now) leads.turn;
-      there = subst (λ w. AreThere a (other a p.turn w)) (sym now) leads.there;
-      world = ap (λ w. world_in a (other a p.turn w)) now ∙ leads.world;
-      next = subst (λ w. IsNext w (other a p.turn w)) (sym now) leads.next;
-      all = subst (λ w. UsesAll a (other a p.turn w)) (sym now) leads.all;
-    })
+plan_moved k l p v now profile names texts plan = (
+  plan.0 ∙ sym profile,
+  λ a keeps.
+      let kept : Keeps k.archive k.now p a = record {
+        profile = keeps.profile ∙ profile;
+        names = keeps.names ∙ (λ i. take (now i).names (names i) ++ p.names);
+        texts = keeps.texts ∙ (λ i. take (now i).versions (texts i) ++ p.texts);
+      } in
+      let leads = plan.1 a kept in
+      record {
+        turn = subst (λ w. IsTurn a p.turn w) (sym now) leads.turn;
+        there = subst (λ w. AreThere a (other a p.turn w)) (sym now) leads.there;
+        world = ap (λ w. world_in a (other a p.turn w)) now ∙ leads.world;
+        next = subst (λ w. IsNext w (other a p.turn w)) (sym now) leads.next;
+        all = subst (λ w. UsesAll a (other a p.turn w)) (sym now) leads.all;
+      },
+)
 
 -- and so does room
 pub room_moved : (k l : Kept) (p : Planned) → l.now ≡ k.now

@@ -219,7 +219,12 @@ impl Loading {
             return Err(Refusal::HistoryFull);
         }
         let name = Vec::from_slice(alloc, name)?;
-        let version = scanned(alloc, &mut self.meter, self.shelf.archive().profile(), bytes)?;
+        let version = scanned(
+            alloc,
+            &mut self.meter,
+            self.shelf.archive().profile(),
+            bytes,
+        )?;
         self.add(alloc, name, version)?;
         Ok(())
     }

@@ -170,8 +170,9 @@ impl Desk {
         ensures turns { self.new.turns ≡ self.old.turns }
         ensures memory { IfErr result (λ r. r ≡ Refusal.OutOfMemory) }
     {
+        let profile = self.profile();
         let files = self.history.present().files();
-        scan_files(alloc, &mut self.meter, self.profile(), files)?;
+        scan_files(alloc, &mut self.meter, profile, files)?;
         Ok(())
     }
 

@@ -15,7 +15,7 @@ use Rattle.cb_scan.specs.declared.lex.piece.Span.{Span}
 use Rattle.cb_scan.specs.Definitions.{IsScopeWithin, IsWithin}
 use Rattle.cb_scan.specs.Keys.{key_prefix}
 use Rattle.cb_scan.specs.lex.Tokens.{bytes_of}
-use Rattle.cb_index.proofs.Shim.{facts_lie}
+use Rattle.cb_scan.proofs.FactsWithin.{facts_lie}
 use Rattle.cb_index.specs.Scanned.{Scanned, facts_of}
 use Rattle.cb_index.specs.Archived.{Archived, name_of, text_at, text_of}
 use Rattle.cb_index.specs.Bytes.{bytes_at, cut}

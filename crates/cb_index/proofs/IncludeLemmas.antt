@@ -5,7 +5,7 @@ use Rattle.cb_scan.specs.declared.facts.Include.{Include}
 use Rattle.cb_scan.specs.declared.profile.Profile.{Profile}
 use Rattle.cb_scan.specs.Profiles.{facts_in}
 use Rattle.cb_scan.specs.Definitions.{IsScopeWithin, IsWithin}
-use Rattle.cb_index.proofs.Shim.{facts_lie}
+use Rattle.cb_scan.proofs.FactsWithin.{facts_lie}
 use Rattle.cb_index.specs.Files.{File}
 use Rattle.cb_index.specs.Includes.{all_includes, include_in}
 use Rattle.cb_index.specs.Shelved.{with_facts}

@@ -32,7 +32,6 @@ pub mod RowOrderLemmas
 pub mod RowsAscendLemmas
 pub mod RunLemmas
 pub mod SearchLemmas
-pub mod Shim
 pub mod SortLemmas
 pub mod SortedLemmas
 pub mod SpreadLemmas

@@ -23,7 +23,7 @@ use Rattle.cb_scan.specs.Definitions.{IsTagWithin, IsWithin}
 use Rattle.cb_scan.specs.Keys.{key_prefix}
 use Rattle.cb_scan.specs.lex.Tokens.{bytes_of}
 use Rattle.cb_scan.specs.Order.{AreOrdered, goes_first, in_order}
-use Rattle.cb_index.proofs.Shim.{facts_lie}
+use Rattle.cb_scan.proofs.FactsWithin.{facts_lie}
 use Rattle.cb_scan.proofs.KeyOrder.{then_assoc}
 use Rattle.cb_scan.proofs.OrderLemmas.{in_order_sum}
 use Rattle.cb_tags.specs.TagLines.{Tag}

@@ -120,7 +120,7 @@ impl Version {
 
     /// Finds the repeats of a sort by a table of the entries of all items, if there is room.
     pub(crate) fn find_repeats(&mut self, sort: FactKind, entries: &mut [Entry])
-        requires entries { entries.old ≡ item_entries sort self.old 0 }
+        requires { entries.old ≡ item_entries sort self.old 0 }
         ensures { self.new ≡ self.old }
     {
         self.links.find_repeats(sort, &self.text, entries);

@@ -37,26 +37,21 @@ use crate::sort::sort;
 use cb_scan::key_prefix;
 
 /// Whether two entries of items have one key. Their prefixes are compared first.
-pub(crate) fn entries_match(
-    sort: FactKind,
-    text: &ScannedSource,
-    a: Entry,
-    b: Entry,
-) -> bool
+pub(crate) fn entries_match(sort: FactKind, text: &ScannedSource, a: Entry, b: Entry) -> bool
     ensures { result ≡ entries_match sort text.now a b }
 {
     a.prefix == b.prefix
-        && bytes_at(text.source().bytes(), item_span(sort, text.facts(), a.number))
-            == bytes_at(text.source().bytes(), item_span(sort, text.facts(), b.number))
+        && bytes_at(
+            text.source().bytes(),
+            item_span(sort, text.facts(), a.number),
+        ) == bytes_at(
+            text.source().bytes(),
+            item_span(sort, text.facts(), b.number),
+        )
 }
 
 /// The item of the entry that follows an entry, if it has its key.
-fn next_item(
-    sort: FactKind,
-    text: &ScannedSource,
-    entry: Entry,
-    behind: &[Entry],
-) -> Option<u32>
+fn next_item(sort: FactKind, text: &ScannedSource, entry: Entry, behind: &[Entry]) -> Option<u32>
     ensures { result ≡ next_item sort text.now entry behind.now }
 {
     match behind.first() {
@@ -77,13 +72,8 @@ fn link_to(next: Option<u32>, first: bool) -> Link
 
 /// Sets the link of each entry by the entry that follows it.
 #[tactic(auto, unfolding(crate::specs::steps::Laying::with_each))]
-pub(crate) fn set_each(
-    sort: FactKind,
-    text: &ScannedSource,
-    entries: &[Entry],
-    links: &mut [Link],
-)
-    requires numbers { AllByRecursion (λ (e : Entry). e.number < length links.old) entries.now }
+pub(crate) fn set_each(sort: FactKind, text: &ScannedSource, entries: &[Entry], links: &mut [Link])
+    requires { AllByRecursion (λ (e : Entry). e.number < length links.old) entries.now }
     ensures links { links.new ≡ with_each sort text.now true entries.now links.old }
     ensures len { length links.new ≡ length links.old }
 {
@@ -110,13 +100,8 @@ pub(crate) fn fill(links: &mut Vec<Link>, count: usize)
 }
 
 /// Lays links by the entries of all items, in order; none where there is too little room.
-pub(crate) fn lay_in(
-    sort: FactKind,
-    text: &ScannedSource,
-    entries: &[Entry],
-    links: &mut Vec<Link>,
-)
-    requires entries { AreSorted sort text.now entries.now }
+pub(crate) fn lay_in(sort: FactKind, text: &ScannedSource, entries: &[Entry], links: &mut Vec<Link>)
+    requires { AreSorted sort text.now entries.now }
     ensures { (links.new.items ≡ links.old.items) ⊎ (links.new.items ≡ links_of sort text.now) }
 {
     if links.capacity() < entries.len() {

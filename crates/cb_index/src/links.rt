@@ -120,18 +120,14 @@ impl Links {
         text: &ScannedSource,
         entries: &mut [Entry],
     )
-        requires entries { entries.old ≡ item_entries sort text.now 0 }
+        requires { entries.old ≡ item_entries sort text.now 0 }
         ensures { (self.new ≡ with_repeats sort [] self.old)
             ⊎ (self.new ≡ with_repeats sort (repeats_of sort text.now) self.old) }
     {
         match sort {
             FactKind::Uses => find_repeats(sort, text, entries, &mut self.use_repeats),
-            FactKind::Callees => {
-                find_repeats(sort, text, entries, &mut self.callee_repeats)
-            }
-            FactKind::Callers => {
-                find_repeats(sort, text, entries, &mut self.caller_repeats)
-            }
+            FactKind::Callees => { find_repeats(sort, text, entries, &mut self.callee_repeats) }
+            FactKind::Callers => { find_repeats(sort, text, entries, &mut self.caller_repeats) }
         }
     }
 
@@ -150,7 +146,7 @@ impl Links {
     /// Lays the links of a sort by the entries of all items, in order; none where there is too
     /// little room.
     pub(crate) fn lay(&mut self, sort: FactKind, text: &ScannedSource, entries: &[Entry])
-        requires entries { AreSorted sort text.now entries.now }
+        requires { AreSorted sort text.now entries.now }
         ensures { (self.new ≡ self.old)
             ⊎ (self.new ≡ with_links sort (links_of sort text.now) self.old) }
     {
@@ -169,19 +165,15 @@ impl Links {
         text: &ScannedSource,
         entries: &mut [Entry],
     ) -> bool
-        requires entries { entries.old ≡ item_entries sort text.now 0 }
+        requires { entries.old ≡ item_entries sort text.now 0 }
         ensures { (self.new ≡ with_links sort [] self.old)
             ⊎ (self.new ≡ with_links sort (links_of sort text.now) self.old) }
     {
         let looks = entries.len().saturating_mul(LOOKS_PER_ITEM);
         match sort {
             FactKind::Uses => { lay_in_table(sort, text, entries, &mut self.uses, looks) }
-            FactKind::Callees => {
-                lay_in_table(sort, text, entries, &mut self.callees, looks)
-            }
-            FactKind::Callers => {
-                lay_in_table(sort, text, entries, &mut self.callers, looks)
-            }
+            FactKind::Callees => { lay_in_table(sort, text, entries, &mut self.callees, looks) }
+            FactKind::Callers => { lay_in_table(sort, text, entries, &mut self.callers, looks) }
         }
     }
 }

@@ -142,13 +142,7 @@ fn row_place(sort: FactKind, text: &ScannedSource, item: u32, count: usize) -> u
 }
 
 /// Whether an item is a repeat, by the items of its place from the last one on.
-fn find_row(
-    sort: FactKind,
-    text: &ScannedSource,
-    entries: &[Entry],
-    item: usize,
-    last: u32,
-) -> bool
+fn find_row(sort: FactKind, text: &ScannedSource, entries: &[Entry], item: usize, last: u32) -> bool
     requires item { item < item_count sort text.now }
     requires few { length entries.now < 2 ^ 32 }
     requires seen { AreSeen sort text.now item entries.now }
@@ -218,7 +212,7 @@ pub(crate) fn find_repeats(
     entries: &mut [Entry],
     repeats: &mut Vec<bool>,
 )
-    requires entries { entries.old ≡ item_entries sort text.now 0 }
+    requires { entries.old ≡ item_entries sort text.now 0 }
     ensures { (repeats.new.items ≡ []) ⊎ (repeats.new.items ≡ repeats_of sort text.now) }
 {
     repeats.truncate(0);

@@ -166,16 +166,12 @@ fn link_item(
     ensures noted { result ≡ true → AreNoted sort text.now item entries.new }
     ensures linked { result ≡ true → AreLinked sort text.now item links.new }
 {
-    let key = bytes_at(text.source().bytes(), item_span(sort, text.facts(), entries[item].number));
+    let key = bytes_at(
+        text.source().bytes(),
+        item_span(sort, text.facts(), entries[item].number),
+    );
     let place = place_of(key, entries.len());
-    match find_next(
-        sort,
-        text,
-        entries,
-        item,
-        entries[place].version,
-        left,
-    ) {
+    match find_next(sort, text, entries, item, entries[place].version, left) {
         Some(next) => {
             note(entries, item, place);
             link(links, item, next);
@@ -218,7 +214,7 @@ pub(crate) fn lay_in_table(
     links: &mut Vec<Link>,
     looks: usize,
 ) -> bool
-    requires entries { entries.old ≡ item_entries sort text.now 0 }
+    requires { entries.old ≡ item_entries sort text.now 0 }
     ensures laid { result ≡ true → links.new.items ≡ links_of sort text.now }
     ensures none { result ≡ false → links.new.items ≡ [] }
 {

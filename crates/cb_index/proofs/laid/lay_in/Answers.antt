@@ -9,9 +9,9 @@ use Rattle.cb_index.specs.steps.Laying.{with_each}
 use Rattle.cb_index.proofs.LayLemmas.{entry_count, laid_is, numbers_within}
 use Rattle.cb_index.proofs.laid.lay_in.Goals as goal
 
-pub set_each-requires-clause-numbers : goal.set_each-requires-clause-numbers
-set_each-requires-clause-numbers c =
-    let r = c.requires.entries in
+pub set_each-requires : goal.set_each-requires
+set_each-requires c =
+    let r = c.requires in
     let count : length c.args.entries.now ≡ item_count c.args.sort c.args.text.now =
     entry_count c.args.sort c.args.text.now r.archive r.version r.there
     c.args.entries.now r.order in
@@ -23,7 +23,7 @@ set_each-requires-clause-numbers c =
 
 pub returns : goal.returns
 returns c =
-    let r = c.requires.entries in
+    let r = c.requires in
     let count : length c.args.entries.now ≡ item_count c.args.sort c.args.text.now =
     entry_count c.args.sort c.args.text.now r.archive r.version r.there
     c.args.entries.now r.order in

@@ -8,7 +8,7 @@ use Rattle.cb_index.proofs.repeats.find_repeats.Goals as goal
 
 pub loop-item-init : goal.loop-item-init
 loop-item-init c =
-    let seen = none_seen c.args.sort c.args.text.now c.args.entries.now c.requires.entries in
+    let seen = none_seen c.args.sort c.args.text.now c.args.entries.now c.requires in
     let count = seen.count in
     record {
       found = c.truncate.ensures.items;
@@ -35,7 +35,7 @@ loop-item-preserved c =
 
 pub returns : goal.returns
 returns c =
-    let seen = none_seen c.args.sort c.args.text.now c.args.entries.now c.requires.entries in
+    let seen = none_seen c.args.sort c.args.text.now c.args.entries.now c.requires in
     let count = seen.count in
     inr (all_found c.args.sort c.args.text.now c.loop-item.repeats.items c.loop-item.item
     c.loop-item.invariant.found (omega (arith, count)))

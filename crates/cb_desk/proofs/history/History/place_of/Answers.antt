@@ -39,7 +39,7 @@ returns-clause-still c =
           same_timeline c.self.inside.present c.place_of.new.self c.self.inside.records.items
           c.self.inside.done still.now
           (ap (λ (a : Archived). a.profile) still.archive)
-    (ap (λ (a : Archived). a.names) still.archive)
+          (ap (λ (a : Archived). a.names) still.archive)
           (ap (λ (a : Archived). a.texts) still.archive) still.rooms c.self.invariant
           ∙ ap timeline_in c.self.view_is;
       turns = still.turns ∙ ap (λ (h : Recorded). h.kept.turns) c.self.view_is;

@@ -210,8 +210,7 @@ invariant_of-self-2 c =
     subst IsValidTimeline (sym (c.in_ok-go.ensures.timeline (after w s) plan))
     (moved_on-valid (timeline_in h) (after w s)
     (subst IsValidTimeline (sym c.place_of-place.ensures.still.timeline) c.self.invariant)
-    next
-    (
+    next (
       after-profile w s ∙ ap (λ (x : World). x.profile) own,
       after-bounds w s ∙ ap (λ (x : World). x.bounds) own,
     )
