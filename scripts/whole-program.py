@@ -45,6 +45,7 @@ FILES = {
     "n.c": b"int a = -x;\n",
     "a.txt": A_C,
     "none.h": b"",
+    "w.h": b"enum color { RED };\nstruct pair { int first; } pairs[2];\nextern int n;\nint f(int);\n",
     "last.c": b" " * (1_000_000 - 20) + b"\nint last(void) {\n}\n",
     "big.c": b" " * 1_000_002,
     # lists of files
@@ -77,6 +78,24 @@ TWICE 2 a.c #define TWICE(x) ((x) + add(x, 0))
 add 4 a.c static int add(int a, int b) {
 main 7 a.c int main(void) {
 word 3 a.c typedef unsigned long word;
+"""
+WIDE_TAGS = b"""\
+!_TAG_FILE_FORMAT	2	/extended format; --format=1 will not append ;" to lines/
+!_TAG_FILE_SORTED	1	/0=unsorted, 1=sorted, 2=foldcase/
+RED	w.h	/^enum color { RED };$/;"	e	line:1	enum:color
+color	w.h	/^enum color { RED };$/;"	g	line:1
+first	w.h	/^struct pair { int first; } pairs[2];$/;"	m	line:2	struct:pair
+pair	w.h	/^struct pair { int first; } pairs[2];$/;"	s	line:2
+pairs	w.h	/^struct pair { int first; } pairs[2];$/;"	v	line:2
+"""
+WIDE_LISTING = b"""\
+RED 1 w.h enum color { RED };
+color 1 w.h enum color { RED };
+f 4 w.h int f(int);
+first 2 w.h struct pair { int first; } pairs[2];
+n 3 w.h extern int n;
+pair 2 w.h struct pair { int first; } pairs[2];
+pairs 2 w.h struct pair { int first; } pairs[2];
 """
 ROWS_OF_ADD = b"""\
 a.c TWICE 2 #define TWICE(x) ((x) + add(x, 0))
@@ -111,6 +130,8 @@ Arguments:
   [FILE]...  C source to load first
 
 Options:
+      --wide                Find enumerators, members and variables too, and names that macros hide
+      --prototypes          With --wide: find external declarations and prototypes too
       --max-files <N>       Most files, 1 to 1048576 [default: 4096]
       --max-file-bytes <N>  Most bytes of a file, 1 to 268435456 [default: 1000000]
       --files-from <LIST>   File with the names of more files, one a line
@@ -131,6 +152,8 @@ Options:
   -f <TAGSFILE>             Tags file to write, - for standard output [default: tags]
       --format <FORMAT>     Format of the tags file: 1 for POSIX ctags, 2 with extension fields \
 [default: 1] [possible values: 1, 2]
+      --wide                Find enumerators, members and variables too, and names that macros hide
+      --prototypes          With --wide: find external declarations and prototypes too
       --max-files <N>       Most files, 1 to 1048576 [default: 4096]
       --max-file-bytes <N>  Most bytes of a file, 1 to 268435456 [default: 1000000]
       --files-from <LIST>   File with the names of more files, one a line; - for standard input
@@ -150,6 +173,8 @@ Arguments:
   [FILE]...  C source to search
 
 Options:
+      --wide                Find enumerators, members and variables too, and names that macros hide
+      --prototypes          With --wide: find external declarations and prototypes too
       --max-files <N>       Most files, 1 to 1048576 [default: 4096]
       --max-file-bytes <N>  Most bytes of a file, 1 to 268435456 [default: 1000000]
       --files-from <LIST>   File with the names of more files, one a line; - for standard input
@@ -275,6 +300,31 @@ ROWS = [
     refused(["find", "1", "f", "a.c", "a.c"], b"a.c: file exists"),
     refused(["find", "1", "f", "a.txt", "none.c"], b"none.c: cannot be read"),
     refused(["find", "1", "f", "a.c", "a.txt"], b"a.txt: bad name"),
+    # by the wide profile
+    Row(["tags", "--wide", "--format=2", "w.h"], tags=("tags", WIDE_TAGS)),
+    Row(["tags", "-x", "w.h", "--prototypes", "--wide"], WIDE_LISTING),
+    Row(["tags", "--wide", "a.c"], tags=("tags", PLAIN)),
+    Row(
+        ["tags", "-x", "w.h"],
+        b"color 1 w.h enum color { RED };\npair 2 w.h struct pair { int first; } pairs[2];\n",
+    ),
+    Row(["find", "1", "first", "w.h"]),
+    Row(["find", "--wide", "1", "pair", "w.h"], b"w.h pair 2 struct pair { int first; } pairs[2];\n"),
+    Row(["find", "1", "--wide", "RED", "w.h"], b"w.h RED 1 enum color { RED };\n"),
+    # declarations are rows of uses, and of no definitions
+    Row(["find", "--wide", "--prototypes", "1", "n", "w.h"]),
+    Row(["find", "--wide", "--prototypes", "1", "f", "w.h"]),
+    Row(["find", "--wide", "--prototypes", "0", "n", "w.h"], b"w.h <global> 3 extern int n;\n"),
+    line(
+        b"1RED\n:load v.c 6\nint v;1v\n:undo\n1v\n",
+        b">> cscope: 1 lines\nw.h RED 1 enum color { RED };\n>> cscope: done\n"
+        b">> cscope: 1 lines\nv.c v 1 int v;\n>> cscope: done\n>> cscope: 0 lines\n>> ",
+        files=("--wide", "w.h"),
+    ),
+    *(
+        wrong([*words, "--prototypes", "a.c"], LACKS + b"  --wide\n")
+        for words in (["line"], ["find", "1", "f"], ["tags"])
+    ),
     # other bounds
     Row(["find", "4", "--max-file-bytes", "1000002", " ", "big.c"], BIG_ROW),
     Row(["find", "7", "x", "n.c", "m.c", "--max-files", "2", "--max-file-bytes=17"]),
@@ -310,7 +360,7 @@ ROWS = [
     refused(["tags", "--files-from", "one.list", "a.c"], b"a.c: file exists"),
     refused(["tags", "--files-from", "big.list", "a.txt"], b"a.txt: bad name"),
     refused(["tags", "--files-from", "big.list", "m.c"], b"big.c: too large"),
-    refused(["tags", "a.c", "--max-files", "2", "--files-from", "two.list"], b"n.c: too many files"),
+    refused(["tags", "a.c", "--max-files=2", "--files-from", "two.list"], b"n.c: too many files"),
     refused(["line", "none.c", "--files-from", "gone.list"], b"none.c: cannot be read"),
     refused(["find", "1", "f", "m.c", "--files-from", "gone.list"], b"none.c: cannot be read"),
     refused(["tags", "--files-from", "gap.list"], b": cannot be read"),

@@ -47,9 +47,9 @@ _cbrowse() {
         case $word in
         -*) case $name in
         'cbrowse') words='-h --help -V --version' ;;
-        'cbrowse line') words='--max-files --max-file-bytes --files-from -h --help' ;;
-        'cbrowse find') words='--max-files --max-file-bytes --files-from -h --help' ;;
-        'cbrowse tags') words='-x -f --format --max-files --max-file-bytes --files-from -h --help' ;;
+        'cbrowse line') words='--wide --prototypes --max-files --max-file-bytes --files-from -h --help' ;;
+        'cbrowse find') words='--wide --prototypes --max-files --max-file-bytes --files-from -h --help' ;;
+        'cbrowse tags') words='-x -f --format --wide --prototypes --max-files --max-file-bytes --files-from -h --help' ;;
         'cbrowse help') words='' ;;
         'cbrowse-tree') words='-f --format -x -L --questions --exclude -j --all --force --verbose --no-progress -S --sshloginfile --transfer -h --help --version' ;;
         'cbrowse-tree find') words='-f --format -x -L --questions --exclude -j --all --force --verbose --no-progress -S --sshloginfile --transfer -h --help --version' ;;
