@@ -45,7 +45,8 @@ FILES = {
     "n.c": b"int a = -x;\n",
     "a.txt": A_C,
     "none.h": b"",
-    "w.h": b"enum color { RED };\nstruct pair { int first; } pairs[2];\nextern int n;\nint f(int);\n",
+    "w.h": b"enum color { RED };\nstruct pair { int first; } pairs[2];\n"
+    b"extern int n;\nint f(int);\n",
     "last.c": b" " * (1_000_000 - 20) + b"\nint last(void) {\n}\n",
     "big.c": b" " * 1_000_002,
     # lists of files
@@ -309,7 +310,7 @@ ROWS = [
         b"color 1 w.h enum color { RED };\npair 2 w.h struct pair { int first; } pairs[2];\n",
     ),
     Row(["find", "1", "first", "w.h"]),
-    Row(["find", "--wide", "1", "pair", "w.h"], b"w.h pair 2 struct pair { int first; } pairs[2];\n"),
+    Row(["find", "1", "--wide", "n", "w.h"]),
     Row(["find", "1", "--wide", "RED", "w.h"], b"w.h RED 1 enum color { RED };\n"),
     # declarations are rows of uses, and of no definitions
     Row(["find", "--wide", "--prototypes", "1", "n", "w.h"]),

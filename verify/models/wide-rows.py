@@ -7,7 +7,8 @@ The texts and what is found in them are in `data/facts-wide.txt` of `worked_case
 tells the form. For each text the definitions of both models (`wide_model.py`, `wide_pass.py`) have
 to be these by place. The tags file in the plain and the extended format, the listing and the rows
 of field 1 have to be, byte for byte, those that are put together here from the definitions by hand.
-Each difference is told, and the exit status is 1 if there is one. The scanner is compared with the same texts by the gate.
+Each difference is told, and the exit status is 1 if there is one. The scanner is compared with the
+same texts by the gate.
 """
 
 from __future__ import annotations
