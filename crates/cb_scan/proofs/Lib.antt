@@ -56,6 +56,7 @@ pub mod WideFive
 pub mod WideFunctions
 pub mod WideFunctionsRise
 pub mod WideGathered
+pub mod WideGlance
 pub mod WideHeads
 pub mod WideHeld
 pub mod WideInduction

@@ -19,11 +19,11 @@ by_underscores : (b : ℕ) (u : Bool)
 by_underscores b true = refl
 by_underscores b false = refl
 
-by_words : (b : ℕ) (s t a : Bool)
-    → is_sign b (if s then wide.Specifier else (if t then wide.Statement
-    else (if a then wide.Attribute else wide.Reserved))) ≡ false
-by_words b true t a = refl
-by_words b false true a = refl
+by_words : (b : ℕ) (a s t : Bool)
+    → is_sign b (if a then wide.Attribute else (if s then wide.Specifier
+    else (if t then wide.Statement else wide.Reserved))) ≡ false
+by_words b true s t = refl
+by_words b false true t = refl
 by_words b false false true = refl
 by_words b false false false = refl
 
@@ -45,8 +45,8 @@ sign_from b (Word kind.Struct) bytes = refl
 sign_from b (Word kind.Union) bytes = refl
 sign_from b (Word kind.Enum) bytes = refl
 sign_from b (Word kind.Reserved) bytes =
-    by_words b (is_among specifier_words bytes) (is_among statement_words bytes)
-    (is_among attribute_words bytes)
+    by_words b (is_among attribute_words bytes) (is_among specifier_words bytes)
+    (is_among statement_words bytes)
 sign_from b (Mark x) bytes = refl
 sign_from b Str bytes = refl
 sign_from b Other bytes = by_apostrophe b _

@@ -40,9 +40,9 @@ is_among words word = list_any (λ w. bytes_eq w word) words
 -- what a reserved word is for which the standard profile has no rule
 unfoldable pub reserved_role : List ℕ → WideRole
 reserved_role word =
-    if is_among specifier_words word then wide.Specifier
+    if is_among attribute_words word then wide.Attribute
+    else (if is_among specifier_words word then wide.Specifier
     else (if is_among statement_words word then wide.Statement
-    else (if is_among attribute_words word then wide.Attribute
     else wide.Reserved))
 
 -- a name, by whether it begins with two underscores

@@ -1,8 +1,11 @@
 -- The pass of the wide profile over all tokens of the code: those that may be of an attribute, or
 -- ahead of which more is to be seen, are held back.
-use Rattle.std.specs.Prelude.{ℕ, ◌+◌, Bool, ◌==◌, List, [], ◌∷◌, ◌++◌, drop, take, length, max, Option}
+use Rattle.std.specs.Prelude.{ℕ, ◌+◌, Bool, ◌||◌, ◌==◌, List, [], ◌∷◌, ◌++◌, drop, take, length, max, Option}
 use Rattle.std.specs.Prelude.{if◌then◌else◌}
+use Rattle.cb_scan.specs.declared.lex.token.Role.{Role}
 use Rattle.cb_scan.specs.declared.lex.token.Token.{Token}
+use Rattle.cb_scan.specs.Bytes.{close_brace, open_brace, semicolon}
+use Rattle.cb_scan.specs.lex.Tokens.{is_mark}
 use Rattle.cb_scan.specs.declared.rules.functions.Before.TheVariants.{Anything}
 use Rattle.cb_scan.specs.declared.rules.wide.attribute.Attribute.TheVariants.{Outside}
 use Rattle.cb_scan.specs.declared.rules.wide.opening.Opening.{Opening}
@@ -115,6 +118,11 @@ item_of text r token = token_after text r.before token
 
 abbrev pub passed : Reader → Token → Reader
 passed r token = record r { before = before_after r.before token }
+
+-- a `;` or a brace
+abbrev pub is_mark_of_blocks : Role → Bool
+is_mark_of_blocks role =
+    is_mark semicolon role || is_mark open_brace role || is_mark close_brace role
 
 -- after a token of the code
 abbrev pub reader_after : List ℕ → Reader → Taken → Token → Reader

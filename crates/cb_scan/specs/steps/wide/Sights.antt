@@ -1,12 +1,19 @@
 -- What a `{` would open inside a block, where nothing else is asked of the tokens. Attributes are
 -- left out without holding tokens back.
-use Rattle.std.specs.Prelude.{ℕ, zero, suc, Bool, List, [], ◌∷◌, Option, None, if◌then◌else◌}
+use Rattle.std.specs.Prelude.{ℕ, zero, suc, Bool, true, false, ◌&&◌, ◌==◌, List, [], ◌∷◌, Option}
+use Rattle.std.specs.Prelude.{None, Some, if◌then◌else◌}
+use Rattle.std.specs.Option.{is_none}
+use Rattle.cb_scan.specs.declared.lex.token.Role.{Role}
+use Rattle.cb_scan.specs.declared.lex.token.Role.TheVariants as role
+use Rattle.cb_scan.specs.declared.lex.token.WordKind.{WordKind}
+use Rattle.cb_scan.specs.declared.lex.token.WordKind.TheVariants as kind
 use Rattle.cb_scan.specs.declared.rules.wide.opening.Opening.{Opening}
 use Rattle.cb_scan.specs.declared.rules.wide.sight.Phase.{Phase}
 use Rattle.cb_scan.specs.declared.rules.wide.sight.Phase.TheVariants.{Clear, Word, Paren, Inside}
 use Rattle.cb_scan.specs.declared.rules.wide.sight.Sight.{Sight}
 use Rattle.cb_scan.specs.declared.rules.wide.token.WideToken.{WideToken}
-use Rattle.cb_scan.specs.rules.wide.Words.{is_attribute_word, is_literal, is_sign, is_wide_word}
+use Rattle.cb_scan.specs.rules.wide.Words.{attribute_words, is_among, is_attribute_word, is_literal}
+use Rattle.cb_scan.specs.rules.wide.Words.{is_sign, is_wide_word}
 use Rattle.cb_scan.specs.steps.wide.Openings.{next_opening}
 use Rattle.cb_scan.specs.Bytes.{close_paren, open_paren}
 
@@ -58,6 +65,30 @@ look_in (Inside n) s x = look_inside n s x
 
 abbrev pub look : Sight → WideToken → Sight
 look s x = look_in s.phase s x
+
+-- nothing is to open, and no attribute has begun
+abbrev pub is_early : Phase → Bool
+is_early Clear = true
+is_early (Word attribute) = true
+is_early _ = false
+
+abbrev pub is_idle : Sight → Bool
+is_idle s = is_none s.opening && (is_none s.before && is_early s.phase)
+
+-- the phase after a word that begins no body
+abbrev pub phase_past_word : WordKind → List ℕ → Option Phase
+phase_past_word kind.Struct bytes = None
+phase_past_word kind.Union bytes = None
+phase_past_word kind.Enum bytes = None
+phase_past_word kind.Reserved bytes = Some (Word (is_among attribute_words bytes))
+phase_past_word _ bytes = Some (Word false)
+
+-- the phase after a token with these bytes, if nothing is to open after it either
+abbrev pub phase_past : Role → List ℕ → Option Phase
+phase_past (role.Word kind) bytes = phase_past_word kind bytes
+phase_past (role.Mark b) bytes = if b == open_paren then None else Some Clear
+phase_past role.Str bytes = Some Clear
+phase_past role.Other bytes = Some Clear
 
 -- after some tokens
 unfoldable pub look_along : Sight → List WideToken → Sight

@@ -11,6 +11,7 @@ ghost use Rattle.cb_scan.specs.steps.wide.Reading.{
   first_taken,
   held,
   held_len,
+  is_mark_of_blocks,
   most_left_out,
   read_next,
   read_on,
@@ -27,7 +28,7 @@ ghost use Rattle.cb_scan.specs.steps.wide.Reading.{
   turned,
 };
 
-use crate::lex::token::Token;
+use crate::lex::token::{Role, Token};
 use crate::rules::functions::{Before, before_after};
 use crate::rules::wide::attribute::{Attribute, ends_attribute};
 use crate::rules::wide::found::Found;
@@ -46,6 +47,14 @@ pub(crate) struct Reader {
     sight: Sight,
     raw: Window,
     bare: Window,
+}
+
+/// A `;` or a brace.
+#[inline(always)]
+fn is_mark_of_blocks(token: &Token) -> bool
+    ensures { result ≡ is_mark_of_blocks token.now.role }
+{
+    matches!(token.role, Role::Mark(b';' | b'{' | b'}'))
 }
 
 impl Reader {
@@ -304,9 +313,14 @@ impl Reader {
         ensures raw { IfOk result (λ _. length self.new.raw ≤ 2) }
         ensures bare { IfOk result (λ _. length self.new.bare ≤ 4) }
     {
-        let item = token_after(text, self.before, token);
+        let before = self.before;
         let in_block = pass.levels.are_in_block();
-        self.before = before_after(self.before, token);
+        self.before = before_after(before, token);
+        if in_block && !is_mark_of_blocks(token) {
+            self.sight.glance(text, before, token);
+            return Ok(());
+        }
+        let item = token_after(text, before, token);
         self.next(pass, found, in_block, &item)?;
         Ok(())
     }

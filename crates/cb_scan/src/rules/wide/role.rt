@@ -100,7 +100,7 @@ fn is_statement_word(word: &[u8]) -> bool
 }
 
 #[tactic(auto, unfolding(crate::specs::rules::wide::Words::attribute_words))]
-fn is_attribute_word(word: &[u8]) -> bool
+pub(crate) fn is_attribute_word(word: &[u8]) -> bool
     ensures { result ≡ is_among attribute_words word.now }
 {
     is_among(&ATTRIBUTES, word)
@@ -111,12 +111,12 @@ fn is_attribute_word(word: &[u8]) -> bool
 fn reserved_role(word: &[u8]) -> WideRole
     ensures { result ≡ reserved_role word.now }
 {
-    if is_specifier_word(word) {
+    if is_attribute_word(word) {
+        WideRole::Attribute
+    } else if is_specifier_word(word) {
         WideRole::Specifier
     } else if is_statement_word(word) {
         WideRole::Statement
-    } else if is_attribute_word(word) {
-        WideRole::Attribute
     } else {
         WideRole::Reserved
     }

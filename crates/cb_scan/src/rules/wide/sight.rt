@@ -1,18 +1,26 @@
 //! What a `{` would open inside a block, where nothing else is asked of the tokens. Attributes are
 //! left out without holding tokens back.
-ghost use Rattle.std.specs.Prelude.{◌≡◌, ◌+◌, ◌<◌, ◌≤◌, ◌^◌};
+ghost use Rattle.std.specs.Prelude.{◌≡◌, ◌+◌, ◌<◌, ◌≤◌, ◌^◌, length};
+ghost use Rattle.cb_scan.specs.lex.Tokens.{bytes_of};
+ghost use Rattle.cb_scan.specs.steps.wide.Tokens.{token_after};
 ghost use Rattle.cb_scan.specs.steps.wide.Sights.{
+  is_idle,
   look,
   look_inside,
   open_in_phase,
   phase_after,
+  phase_past,
+  phase_past_word,
   seen_after,
   sight_opening,
   sight_start,
 };
 
+use crate::lex::token::{Role, Token, WordKind};
+use crate::rules::functions::Before;
 use crate::rules::wide::opening::{Opening, next_opening};
-use crate::rules::wide::token::WideToken;
+use crate::rules::wide::role::is_attribute_word;
+use crate::rules::wide::token::{WideToken, token_after};
 
 /// How far an attribute has come.
 #[derive(Clone, Copy)]
@@ -44,6 +52,34 @@ fn phase_after(item: &WideToken) -> Phase
         Phase::Word(item.role.begins_attribute())
     } else {
         Phase::Clear
+    }
+}
+
+/// The phase after a word that begins no body.
+fn phase_past_word(kind: WordKind, word: &[u8]) -> Option<Phase>
+    ensures { result ≡ phase_past_word kind word.now }
+{
+    match kind {
+        WordKind::Struct | WordKind::Union | WordKind::Enum => None,
+        WordKind::Reserved => Some(Phase::Word(is_attribute_word(word))),
+        _ => Some(Phase::Word(false)),
+    }
+}
+
+/// The phase after a token of a text, if nothing is to open after it either.
+#[inline(always)]
+fn phase_past(text: &[u8], token: &Token) -> Option<Phase>
+    requires order { token.now.span.start ≤ token.now.span.end }
+    requires end { token.now.span.end ≤ length text.now }
+    ensures { result ≡ phase_past token.now.role (bytes_of text.now token.now.span) }
+{
+    match token.role {
+        Role::Word(kind) => phase_past_word(
+            kind,
+            &text[token.span.start as usize..token.span.end as usize],
+        ),
+        Role::Mark(b'(') => None,
+        Role::Mark(_) | Role::Str | Role::Other => Some(Phase::Clear),
     }
 }
 
@@ -124,5 +160,33 @@ impl Sight {
             }
             Phase::Clear | Phase::Word(_) => self.see(item),
         }
+    }
+
+    /// Nothing is to open, and no attribute has begun.
+    #[inline(always)]
+    fn is_idle(&self) -> bool
+        ensures { result ≡ is_idle self.now }
+    {
+        self.opening.is_none()
+            && self.before.is_none()
+            && matches!(self.phase, Phase::Clear | Phase::Word(_))
+    }
+
+    /// After a token of a text, by what is directly before it. Most say nothing.
+    #[inline(always)]
+    pub(crate) fn glance(&mut self, text: &[u8], before: Before, token: &Token)
+        requires order { token.now.span.start ≤ token.now.span.end }
+        requires end { token.now.span.end ≤ length text.now }
+        requires small { open_in_phase self.old.phase + 1 < 2 ^ 32 }
+        ensures value { self.new ≡ look self.old (token_after text.now before token.now) }
+        ensures small { open_in_phase self.new.phase ≤ open_in_phase self.old.phase + 1 }
+    {
+        if self.is_idle() {
+            if let Some(phase) = phase_past(text, token) {
+                self.phase = phase;
+                return;
+            }
+        }
+        self.look(&token_after(text, before, token));
     }
 }

@@ -1,6 +1,7 @@
 -- A token of the code is read as the token that the pass sees.
-use Rattle.std.proofs.Common.{◌≡◌, ◌∙◌}
+use Rattle.std.proofs.Common.{◌≡◌, ◌∙◌, sym}
 use Rattle.cb_scan.specs.steps.wide.Reading.{taken_next, the_taken}
+use Rattle.cb_scan.proofs.WideGlance.{read_glance, taken_glance}
 use Rattle.cb_scan.proofs.rules.wide.reader.Reader.add.Goals as goal
 
 pub returns-clause-taken : goal.returns-clause-taken
@@ -9,3 +10,18 @@ returns-clause-taken c =
     ∙ (λ k. taken_next (c.are_in_block-in_block.ensures k)
     (record c.args.self.now { before = c.before_after-self.ensures k })
     (the_taken c.args.pass.now c.args.found.now) (c.token_after-item.ensures k))
+
+-- in a block most tokens are only glanced at
+pub returns-then-not-is_mark_of_blocks-clause-reader
+    : goal.returns-then-not-is_mark_of_blocks-clause-reader
+returns-then-not-is_mark_of_blocks-clause-reader c =
+    (λ k. record c.args.self.now { before = c.before_after-self.ensures k; sight = c.glance.new.self })
+    ∙ read_glance c.args.text.now c.args.self.now (the_taken c.args.pass.now c.args.found.now)
+    c.args.token.now (sym c.are_in_block-in_block.ensures ∙ c.if-in_block.true) (sym c.is_mark_of_blocks.ensures ∙ c.if-not-is_mark_of_blocks.true) c.glance.new.self
+    c.glance.ensures.value
+
+pub returns-then-not-is_mark_of_blocks-clause-taken
+    : goal.returns-then-not-is_mark_of_blocks-clause-taken
+returns-then-not-is_mark_of_blocks-clause-taken c =
+    taken_glance c.args.text.now c.args.self.now (the_taken c.args.pass.now c.args.found.now)
+    c.args.token.now (sym c.are_in_block-in_block.ensures ∙ c.if-in_block.true) (sym c.is_mark_of_blocks.ensures ∙ c.if-not-is_mark_of_blocks.true)
