@@ -92,12 +92,12 @@ module _ (text : List ℕ) where
   calls_gathered = calls_read_are bs text ts no_lists opens
 
   -- the same at the end of the pieces
-  pub gathered_at_end : {r : Reader} {t u : Taken} {s : Stage} {xs : List Lined}
+  pub gathered_at_end : (r : Reader) (t u : Taken) (s : Stage) (xs : List Lined)
       → u ≡ taken_at_end r t → xs ≡ []
       → read_all text r t (walk code_out nothing text s xs) ≡ read_all text reader_start beginning ts
       → IsGathered text u
   unfolding read_all
-  gathered_at_end {r} {t} {u} {s} u_is none all_is =
+  gathered_at_end r t u s xs u_is none all_is =
       subst (IsGathered text)
       (sym (u_is ∙ sym (ap (λ l. read_all text r t (walk code_out nothing text s l)) none) ∙ all_is))
       gathered_is

@@ -199,27 +199,35 @@ loop-lined-preserved-then-is_newline c =
 -- all of the code is read
 pub returns-clause-functions : goal.returns-clause-functions
 returns-clause-functions c =
-    let whole = gathered_at_end c.args.text.now c.in_ok-finish.ensures c.in-None.ensures.steps.0
+    let whole = gathered_at_end c.args.text.now c.loop-lined.reader
+    (the_taken c.loop-lined.pass c.loop-lined.found) (the_taken c.finish.new.pass c.finish.new.found)
+    c.loop-lined.line c.loop-lined.lined-iterator c.in_ok-finish.ensures c.in-None.ensures.steps.0
     c.loop-lined.invariant.read in
     ap (λ (l : Lists). l.functions) c.in_ok-end_function.ensures ∙ whole.functions
 
 pub returns-clause-ranges : goal.returns-clause-ranges
 returns-clause-ranges c =
-    let whole = gathered_at_end c.args.text.now c.in_ok-finish.ensures c.in-None.ensures.steps.0
+    let whole = gathered_at_end c.args.text.now c.loop-lined.reader
+    (the_taken c.loop-lined.pass c.loop-lined.found) (the_taken c.finish.new.pass c.finish.new.found)
+    c.loop-lined.line c.loop-lined.lined-iterator c.in_ok-finish.ensures c.in-None.ensures.steps.0
     c.loop-lined.invariant.read in
     ap (λ (l : Lists). l.ranges) c.in_ok-end_function.ensures
     ∙ ap (λ o. c.finish.new.found.ranges ++ option_to_list o) c.left_open.ensures ∙ whole.ranges
 
 pub returns-clause-defs : goal.returns-clause-defs
 returns-clause-defs c =
-    let whole = gathered_at_end c.args.text.now c.in_ok-finish.ensures c.in-None.ensures.steps.0
+    let whole = gathered_at_end c.args.text.now c.loop-lined.reader
+    (the_taken c.loop-lined.pass c.loop-lined.found) (the_taken c.finish.new.pass c.finish.new.found)
+    c.loop-lined.line c.loop-lined.lined-iterator c.in_ok-finish.ensures c.in-None.ensures.steps.0
     c.loop-lined.invariant.read in
     subst (λ (ds : List Def). IsPermutation ds (declared_in c.args.text.now (pieces c.args.text.now)))
     (sym (ap (λ (l : Lists). l.defs) c.in_ok-end_function.ensures)) whole.defs
 
 pub returns-clause-objects : goal.returns-clause-objects
 returns-clause-objects c =
-    let whole = gathered_at_end c.args.text.now c.in_ok-finish.ensures c.in-None.ensures.steps.0
+    let whole = gathered_at_end c.args.text.now c.loop-lined.reader
+    (the_taken c.loop-lined.pass c.loop-lined.found) (the_taken c.finish.new.pass c.finish.new.found)
+    c.loop-lined.line c.loop-lined.lined-iterator c.in_ok-finish.ensures c.in-None.ensures.steps.0
     c.loop-lined.invariant.read in
     ap (λ (l : Lists). l.objects) c.in_ok-end_function.ensures ∙ whole.objects
 
