@@ -35,7 +35,7 @@ use Rattle.cb_desk.specs.steps.Loading.{loads_recorded}
 use Rattle.cb_desk.specs.steps.Plans.{HasRoomFor, IsPlan, Keeps, LeadsTo, Planned}
 use Rattle.cb_desk.specs.steps.Records.{AreThere, KeepsRooms, Kept, Rooms, Turn, no_numbers, other}
 use Rattle.cb_desk.specs.steps.Records.{turned, world_in}
-use Rattle.cb_desk.specs.steps.Room.{texts_with, with_texts}
+use Rattle.cb_desk.specs.steps.Room.{archive_with}
 use Rattle.cb_desk.specs.steps.Walks.{IsRecorded, Recorded, timeline_in, turns_back}
 use Rattle.cb_desk.proofs.ArchiveMoves.{same_recorded, same_timeline}
 use Rattle.cb_desk.proofs.FilePlans.{load_planned, up}

@@ -17,7 +17,7 @@ use Rattle.cb_index.proofs.TotalLemmas.{same_total, total_append, total_filter, 
 use Rattle.cb_index.proofs.TotalLemmas.{total_in_order, total_more}
 use Rattle.cb_desk.specs.steps.Plans.{HasRoomFor, Keeps, Planned}
 use Rattle.cb_desk.specs.steps.Records.{AreThere, Kept, Rooms, other, without}
-use Rattle.cb_desk.specs.steps.Room.{IsCountable, IsRoomFor, fact_count, facts_with, texts_with}
+use Rattle.cb_desk.specs.steps.Room.{IsCountable, IsRoomFor, fact_count, facts_with}
 use Rattle.cb_desk.specs.steps.Room.{archive_with, with_texts}
 use Rattle.cb_desk.specs.steps.Edits.{more}
 use Rattle.cb_desk.proofs.PlacePlans.{edited_length}

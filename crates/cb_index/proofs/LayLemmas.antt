@@ -8,7 +8,7 @@ use Rattle.std.proofs.lemmas.List.Elements.{filter-append}
 use Rattle.std.proofs.lemmas.List.Folds.{list_any-append}
 use Rattle.std.proofs.lemmas.List.FromFn.{fill_by_all, length-range_with_len}
 use Rattle.std.proofs.lemmas.Slice.Eq.{bytes_eq-Decides}
-use Rattle.std.specs.Prelude.{cond, nat_eq, not, slice_get, slice_set, Option, ◌&&◌, ◌||◌}
+use Rattle.std.specs.Prelude.{cond, nat_eq, not, slice_set, Option, ◌&&◌, ◌||◌}
 use Rattle.std.specs.Cmp.Lexicographic.{slice_cmp}
 use Rattle.std.specs.List.{AllByRecursion, list_any, range_with_len}
 use Rattle.std.specs.Ordering.{is_gt, nat_cmp, ordering_then}

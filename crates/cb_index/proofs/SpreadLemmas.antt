@@ -3,7 +3,7 @@ use Rattle.std.proofs.Common.{◌≡◌, ◌∙◌, ℕ, suc, Bool, true, false,
 use Rattle.std.proofs.Common.{refl, sym, ap, length, map, drop, filter, get_or, arith}
 use Rattle.std.proofs.lemmas.List.Concat.{flat_map-append}
 use Rattle.std.proofs.lemmas.List.Elements.{filter-append, filter_agree}
-use Rattle.std.specs.Prelude.{cond, nat_eq, slice_get, Option, ◌&&◌}
+use Rattle.std.specs.Prelude.{cond, nat_eq, Option, ◌&&◌}
 use Rattle.std.specs.List.{AllByRecursion, flat_map, range_with_len}
 use Rattle.std.specs.Str.{bytes_eq}
 use Rattle.cb_scan.specs.declared.facts.Def.{Def}

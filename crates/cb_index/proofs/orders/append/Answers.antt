@@ -1,8 +1,7 @@
 use Rattle.std.proofs.Common.{◌≡◌, ◌∙◌, ◌+◌, ◌≤◌, ap, length, subst, sym, vec_capacity, vec_len}
 use Rattle.std.proofs.Common.{arith}
-use Rattle.std.specs.Prelude.{slice_get}
 use Rattle.cb_index.specs.Archived.{text_at}
-use Rattle.cb_index.specs.Scanned.{Scanned, facts_of}
+use Rattle.cb_index.specs.Scanned.{facts_of}
 use Rattle.cb_index.specs.Held.{listed_of}
 use Rattle.cb_index.specs.Kinds.{lister_of}
 use Rattle.cb_index.specs.Orders.{def_prefix, defs_listed, tag_prefix, tags_listed}

@@ -1,5 +1,5 @@
 use Rattle.std.proofs.Common.{◌∙◌, ap, length, sym}
-use Rattle.cb_index.specs.Scanned.{Scanned, facts_of}
+use Rattle.cb_index.specs.Scanned.{facts_of}
 use Rattle.cb_index.specs.Held.{listed_of}
 use Rattle.cb_index.specs.Kinds.{lister_of}
 use Rattle.cb_index.specs.Orders.{def_prefix, defs_listed, tag_prefix, tags_listed}

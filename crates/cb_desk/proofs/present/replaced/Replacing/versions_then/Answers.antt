@@ -16,10 +16,10 @@ loop-file-init c =
     let read = c.read-counted.ensures in
     let few = c.read-counted.type_inv in
     record {
-      profile = c.none.ensures.profile ∙ c.profile.ensures;
+      profile = c.none-made.ensures.profile ∙ c.profile.ensures;
       versions =
           ap (λ l. l ++ texts_of (files_then a marks old new c.args.files.now))
-          c.none.ensures.texts;
+          c.none-made.ensures.texts;
       meter = refl;
       raised = omega arith;
       bounded = omega (arith, read, few);
@@ -43,8 +43,8 @@ loop-file-preserved c =
     let bound = counted_bound c.loop-file.meter (length text) in
     let rises = counted_rises c.loop-file.meter (length text) c.loop-file.invariant.bounded in
     record {
-      profile = c.push.ensures.profile ∙ c.loop-file.invariant.profile;
-      versions = ap (λ l. l ++ texts_of later) c.in_ok-push.ensures
+      profile = c.in_ok-push.ensures.profile ∙ c.loop-file.invariant.profile;
+      versions = ap (λ l. l ++ texts_of later) c.in_ok-push.ensures.texts
           ∙ append_assoc c.loop-file.made.texts (c.in_ok-version_then.field-0.bytes ∷ [])
           (texts_of later)
           ∙ ap (λ t. c.loop-file.made.texts ++ t ∷ texts_of later)
