@@ -30,6 +30,10 @@ class Bounds(NamedTuple):
         given = [b"--max-files", b"%d" % self.files, b"--max-file-bytes", b"%d" % self.file_bytes]
         return given if self != Bounds() else []
 
+    def history(self):
+        """The most changes that can be undone."""
+        return MOST_CHANGES + max(0, self.files - Bounds().files)
+
     def longest_line(self):
         """The most bytes of a line of input, and of a block."""
         return max(1_000_000, self.file_bytes)
@@ -302,7 +306,7 @@ class Session:
     def change(self, step, *details):
         """Makes a change, and replies."""
         world = step(self.present, *details)
-        refuse_if(len(self.past) >= MOST_CHANGES, "history is full")
+        refuse_if(len(self.past) >= self.present.bounds.history(), "history is full")
         self.past.append(self.present)
         self.present, self.future = world, []
         return DONE
