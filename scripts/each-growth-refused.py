@@ -13,8 +13,8 @@ world after can still be reached, and the command is done when it is given once 
 no memory for the files to begin with, or to read the block of a load, the program says so and ends.
 Undo, redo and questions take no memory.
 
-Jobs: a search, a listing and a tags file, of files that are named or listed. Each is done, or says that memory was refused and has
-written nothing; an old tags file then stays.
+Jobs: a search, a listing and a tags file, of files that are named or listed. Each is done, or says
+that memory was refused and has written nothing; an old tags file then stays.
 
 Printed is how many growths each session and job met. The exit status is 1 where a check failed.
 """

@@ -160,8 +160,9 @@ def random_search(seed):
     )
     if draw.random.random() < 0.1:
         end = draw.one(b"\n", b"\r\n")
-        last = names[draw.random.randint(0, len(names)) :] + draw.one([], [], [b""], [b"e\xcc\x81.c"])
-        files[b"list"] = end.join(last) + draw.one(b"", end, end, b"\r", b"\xff")
+        listed = names[draw.random.randint(0, len(names)) :]
+        listed += draw.one([], [], [b""], [b"e\xcc\x81.c"])
+        files[b"list"] = end.join(listed) + draw.one(b"", end, end, b"\r", b"\xff")
         name = draw.one(b"list", b"list", b"list", b"none", b"-", b"")
         words[:0] = draw.one([b"--files-from", name], [b"--files-from=" + name])
     elif draw.random.random() < 0.03:

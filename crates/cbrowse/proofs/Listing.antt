@@ -1,10 +1,27 @@
--- A job to which names were added.
-use Rattle.std.proofs.Common.{◌≢◌, List, [], ℕ, Option, None, Some, string_bytes, subst, sym}
-use Rattle.cb_tags.specs.Readers.{Reader}
+-- Lists on standard input, and jobs to which names were added.
+use Rattle.std.proofs.Common.{◌≢◌, ◌≤◌, List, [], ℕ, length, Option, None, Some, Ok, Err, true}
+use Rattle.std.proofs.Common.{string_bytes, subst, sym}
+use Rattle.cb_tags.specs.Readers.{GivesByte, HasRead, Reader}
+use Rattle.cb_tags.specs.declared.feed.ReadFault.{ReadFault}
+use Rattle.cb_tags.proofs.Follows.{HasRead-end, HasRead-fault, HasRead-stop}
+use Rattle.cb_words.specs.Jobs.{most_file_bytes}
 use Rattle.cb_words.specs.declared.job.Job.{Job}
 use Rattle.cb_words.specs.declared.job.Job.TheVariants.{Line, Find, Tags}
-use Rattle.cbrowse.specs.Lists.{HasMore, TakesList}
+use Rattle.cbrowse.specs.declared.execute.finish.Finish.TheVariants.{Unlisted}
+use Rattle.cbrowse.specs.Lists.{HasMore, HasNoList, IsListText, TakesList}
 use Rattle.cbrowse.specs.Program.{HasPattern}
+
+-- all was read, up to the end of input
+pub list_read : (old mid new : Reader) (text : List ℕ) → length text ≤ most_file_bytes
+    → HasRead old mid text → GivesByte mid new (Ok None) → IsListText true old new text
+list_read old mid new text within has ends =
+    (within, (HasRead-stop old mid new text has (HasRead-end mid new ends), ends.1, ends.3))
+
+-- some bytes were read, up to a fault
+pub list_failed : (old mid new : Reader) (text : List ℕ) (fault : ReadFault)
+    → HasRead old mid text → GivesByte mid new (Err fault) → HasNoList true old new Unlisted
+list_failed old mid new text fault has fails =
+    (tt, (text, HasRead-stop old mid new text has (HasRead-fault mid new fault fails)))
 
 -- a search keeps its pattern
 keeps_pattern : (asked : Job) (names : List (List ℕ)) (job : Job) → HasPattern asked
