@@ -8,7 +8,7 @@ complete -c cbrowse -n 'not __fish_seen_subcommand_from line find tags help' -s 
 complete -c cbrowse -n 'not __fish_seen_subcommand_from line find tags help' -s V -l version -d 'Print version'
 complete -c cbrowse -n '__fish_seen_subcommand_from line' -l max-files -x -d 'Most files, 1 to 1048576'
 complete -c cbrowse -n '__fish_seen_subcommand_from line' -l max-file-bytes -x -d 'Most bytes of a file, 1 to 268435456'
-complete -c cbrowse -n '__fish_seen_subcommand_from line' -l files-from -r -d 'File with the names of more files, one a line; - for standard input'
+complete -c cbrowse -n '__fish_seen_subcommand_from line' -l files-from -r -d 'File with the names of more files, one a line'
 complete -c cbrowse -n '__fish_seen_subcommand_from line' -s h -l help -d 'Print help'
 complete -c cbrowse -n '__fish_seen_subcommand_from find' -a 0 -d 'uses of a name'
 complete -c cbrowse -n '__fish_seen_subcommand_from find' -a 1 -d 'its definitions'
