@@ -13,8 +13,8 @@ world after can still be reached, and the command is done when it is given once 
 no memory for the files to begin with, or to read the block of a load, the program says so and ends.
 Undo, redo and questions take no memory.
 
-Jobs: a search, a listing and a tags file. Each is done, or says that memory was refused and has
-written nothing; an old tags file then stays.
+Jobs: a search, a listing and a tags file, of files that are named or listed. Each is done, or says
+that memory was refused and has written nothing; an old tags file then stays.
 
 Printed is how many growths each session and job met. The exit status is 1 where a check failed.
 """
@@ -204,18 +204,21 @@ class Session:
 
 def job(growths, program, words, folder, number):
     """A job's status, output, standard error and tags file, with the growth of a number refused."""
-    tags = pathlib.Path(folder, "tags")
+    tags, listed = pathlib.Path(folder, "tags"), pathlib.Path(folder, "list")
     tags.write_bytes(b"old")
-    pipes = {"stdin": subprocess.DEVNULL, "stdout": subprocess.PIPE, "stderr": subprocess.PIPE}
-    run = growths.start([program, *words], number, cwd=folder, **pipes)
-    out, said = run.communicate(timeout=PATIENCE)
+    listed.write_bytes(LISTED)
+    with open(listed, "rb") as file:
+        pipes = {"stdin": file, "stdout": subprocess.PIPE, "stderr": subprocess.PIPE}
+        run = growths.start([program, *words], number, cwd=folder, **pipes)
+        out, said = run.communicate(timeout=PATIENCE)
     return run.returncode, out, said, tags.read_bytes()
 
 
 def each_of_job(growths, program, words, folder):
     """Refuses each growth of a job. How many there were."""
-    names = [b"", *(word.encode() + b": " for word in words if word.endswith(".c"))]
-    messages = [b"cbrowse: " + name + b"out of memory\n" for name in names]
+    names = [*(word.encode() for word in words if word.endswith(".c")), *LISTED.split()]
+    starts = [b"", *(name + b": " for name in names)]
+    messages = [b"cbrowse: " + start + b"out of memory\n" for start in starts]
     whole = job(growths, program, words, folder, 0)
     if whole[0] or whole[2]:
         raise Wrong(f"{words}: status {whole[0]}, {whole[2]!r}")
@@ -233,12 +236,15 @@ def each_of_job(growths, program, words, folder):
     raise Wrong(f"{words}: more than {MOST} growths")
 
 
+LISTED = b"m.c\n"  # the list of files of a job
 JOBS = (
     ["find", "0", "add", "a.c", "m.c"],
     ["find", "4", "add", "a.c"],
     ["tags", "-x", "a.c", "m.c"],
     ["tags", "a.c", "m.c"],
     ["tags", "--format", "2", "a.c"],
+    ["tags", "a.c", "--files-from", "list"],
+    ["find", "0", "add", "a.c", "--files-from", "-"],
 )
 
 

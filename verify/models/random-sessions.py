@@ -158,7 +158,14 @@ def random_search(seed):
         [number, b"--", pattern, *names],
         [number, pattern, b"--", *names],
     )
-    if draw.random.random() < 0.03:
+    if draw.random.random() < 0.1:
+        end = draw.one(b"\n", b"\r\n")
+        listed = names[draw.random.randint(0, len(names)) :]
+        listed += draw.one([], [], [b""], [b"e\xcc\x81.c"])
+        files[b"list"] = end.join(listed) + draw.one(b"", end, end, b"\r", b"\xff")
+        name = draw.one(b"list", b"list", b"list", b"none", b"-", b"")
+        words[:0] = draw.one([b"--files-from", name], [b"--files-from=" + name])
+    elif draw.random.random() < 0.03:
         words.insert(
             draw.random.randint(0, len(words)), draw.one(b"-z", b"--all", b"-h", b"--help")
         )

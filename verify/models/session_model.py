@@ -11,7 +11,7 @@ from typing import NamedTuple, Optional
 
 from text_model import cut_lines, facts, replaced
 
-MOST_LINE, MOST_CHANGES = 4_096, 65_536
+MOST_LINE, MOST_CHANGES, LARGEST_LIST = 4_096, 65_536, 268_435_456
 PROMPT, DONE = b">> ", b"cscope: done\n"
 HEADS = (
     b'!_TAG_FILE_FORMAT\t2\t/extended format; --format=1 will not append ;" to lines/\n',
@@ -29,6 +29,10 @@ class Bounds(NamedTuple):
         """The options that give them."""
         given = [b"--max-files", b"%d" % self.files, b"--max-file-bytes", b"%d" % self.file_bytes]
         return given if self != Bounds() else []
+
+    def history(self):
+        """The most changes that can be undone."""
+        return MOST_CHANGES + max(0, self.files - Bounds().files)
 
     def longest_line(self):
         """The most bytes of a line of input, and of a block."""
@@ -302,7 +306,7 @@ class Session:
     def change(self, step, *details):
         """Makes a change, and replies."""
         world = step(self.present, *details)
-        refuse_if(len(self.past) >= MOST_CHANGES, "history is full")
+        refuse_if(len(self.past) >= self.present.bounds.history(), "history is full")
         self.past.append(self.present)
         self.present, self.future = world, []
         return DONE
@@ -469,6 +473,31 @@ def without_bounds(words):
     return left + words, bounds if all(bounds) else None
 
 
+def without_lists(words):
+    """The words without the options of lists, and the names of the lists."""
+    left, lists = [], []
+    while words and words[0] != b"--":
+        name, equals, value = words[0].partition(b"=")
+        if name == b"--files-from":
+            if not equals:
+                value, words = (words[1], words[1:]) if len(words) > 1 else (None, words)
+            lists.append(value)
+        else:
+            left.append(words[0])
+        words = words[1:]
+    return left + words, lists
+
+
+def names_in(name, files):
+    """The names in a list of files, or none where it cannot be read; standard input is empty."""
+    text = b"" if name == b"-" else files.get(name)
+    if text is None or len(text) > LARGEST_LIST or not is_text(text):
+        return None
+    lines = text.split(b"\n")
+    whole = [line[:-1] if line.endswith(b"\r") else line for line in lines[:-1]]
+    return whole + [lines[-1]] * bool(lines[-1])
+
+
 def plain_words(words):
     """The words that are no options, and the outcome where one is: help, or wrong words."""
     end = words.index(b"--") if b"--" in words else len(words)
@@ -495,18 +524,24 @@ def loaded(operands, files, bounds):
 
 def find(words, files):
     """`cbrowse find` and the words after it, in a folder with these files."""
+    words, lists = without_lists(words)
     words, bounds = without_bounds(words)
     plain, failed = plain_words(words)
     if failed:
         return failed
-    if bounds is None:
+    if bounds is None or len(lists) > 1 or None in lists:
         return WRONG_WORDS
-    if len(plain) < 3:
+    if len(plain) < 3 - len(lists):
         return WRONG_WORDS
     number, pattern, *operands = plain
     if number not in FIELDS:
         return Outcome(b"", b"cbrowse: field not in this profile\n", 2)
     if not pattern:
         return Outcome(b"", b"cbrowse: no pattern\n", 2)
+    for name in lists:
+        names = names_in(name, files)
+        if names is None:
+            return Outcome(b"", b"cbrowse: %s: cannot be read\n" % told(name), 1)
+        operands += names
     session, failed = loaded(operands, files, bounds)
     return failed or Outcome(b"".join(answer(session.present, number, pattern)))

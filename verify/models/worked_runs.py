@@ -15,7 +15,15 @@ int main(void) {
 	return add(1, 2) / TWICE(3);
 }
 """
-FOLDER = {b"a.c": A_C, b"n.c": b"int a = -x;\n", b"a.txt": b"int a;\n"}
+FOLDER = {
+    b"a.c": A_C,
+    b"n.c": b"int a = -x;\n",
+    b"a.txt": b"int a;\n",
+    b"both": b"n.c\r\na.c",
+    b"gap": b"a.c\n\n",
+    b"none": b"",
+    b"latin": b"\xe9.c\n",
+}
 WRONG_FIELD = b"", b"cbrowse: field not in this profile\n", 2
 NO_PATTERN = b"", b"cbrowse: no pattern\n", 2
 WRONG_WORDS = b"", None, 2
@@ -84,6 +92,34 @@ PROGRAM = [
     ([b"find", b"--max-file-bytes", b"268435456", b"1", b"none", b"a.c"], output()),
     ([b"tags", b"--max-file-bytes", b"268435457", b"a.c"], WRONG_WORDS),
     ([b"tags", b"--max-files", b"1", b"a.c", b"n.c"], (b"", b"cbrowse: n.c: too many files\n", 1)),
+    (
+        [b"find", b"7", b".c", b"--files-from", b"both"],
+        output(b"a.c <unknown> 1 <unknown>", b"n.c <unknown> 1 <unknown>"),
+    ),
+    ([b"find", b"7", b".c", b"--files-from=none", b"n.c"], output(b"n.c <unknown> 1 <unknown>")),
+    ([b"find", b"7", b".c", b"--files-from", b"none"], output()),
+    ([b"find", b"7", b".c", b"--files-from", b"-"], output()),
+    (
+        [b"find", b"7", b".c", b"--files-from", b"both", b"a.c"],
+        (b"", b"cbrowse: a.c: file exists\n", 1),
+    ),
+    (
+        [b"find", b"7", b".c", b"--files-from", b"both", b"a.txt"],
+        (b"", b"cbrowse: a.txt: bad name\n", 1),
+    ),
+    ([b"find", b"7", b".c", b"--files-from", b"gap"], (b"", b"cbrowse: : cannot be read\n", 1)),
+    (
+        [b"find", b"7", b".c", b"--files-from", b"latin"],
+        (b"", b"cbrowse: latin: cannot be read\n", 1),
+    ),
+    (
+        [b"find", b"7", b".c", b"--files-from", b"no", b"none.c"],
+        (b"", b"cbrowse: no: cannot be read\n", 1),
+    ),
+    ([b"find", b"9", b".c", b"--files-from", b"no"], WRONG_FIELD),
+    ([b"find", b"7", b"", b"--files-from", b"no"], NO_PATTERN),
+    ([b"line", b"--files-from", b"-"], WRONG_WORDS),
+    ([b"line", b"--files-from", b"none"], (b">> ", b"", 0)),
     ([b"find", b"4", b"-x", b"n.c"], WRONG_WORDS),
     ([b"find", b"1", b"x"], WRONG_WORDS),
     ([b"find"], WRONG_WORDS),

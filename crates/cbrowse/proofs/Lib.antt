@@ -1,3 +1,2 @@
 mod Process
-pub mod Listing
 pub mod Working

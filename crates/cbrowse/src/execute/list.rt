@@ -161,9 +161,8 @@ fn add_name(alloc: Global, line: &[u8], files: &mut Vec<String>) -> Result<(), F
         ≡ map string_bytes files.old.items ++ line.now ∷ [])
         IsNoList }
 {
-    let name = match str::from_utf8(line) {
-        Ok(name) => name,
-        Err(_) => return Err(Finish::Unlisted),
+    let Ok(name) = str::from_utf8(line) else {
+        return Err(Finish::Unlisted);
     };
     let name = match String::from_str(alloc, name) {
         Ok(name) => name,
