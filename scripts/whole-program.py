@@ -361,13 +361,9 @@ ROWS = [
     refused(["tags", "--files-from", "one.list", "a.c"], b"a.c: file exists"),
     refused(["tags", "--files-from", "big.list", "a.txt"], b"a.txt: bad name"),
     refused(["tags", "--files-from", "big.list", "m.c"], b"big.c: too large"),
-<<<<<<< HEAD
-    refused(["tags", "a.c", "--max-files=2", "--files-from", "two.list"], b"n.c: too many files"),
-=======
     refused(
         ["tags", "a.c", "--max-files", "2", "--files-from", "two.list"], b"n.c: too many files"
     ),
->>>>>>> f665532b5b6d6d0c5a57024faa7e998eb6420ac8
     refused(["line", "none.c", "--files-from", "gone.list"], b"none.c: cannot be read"),
     refused(["find", "1", "f", "m.c", "--files-from", "gone.list"], b"none.c: cannot be read"),
     refused(["tags", "--files-from", "gap.list"], b": cannot be read"),
