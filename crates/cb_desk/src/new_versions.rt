@@ -64,7 +64,8 @@ impl NewVersions {
             (λ _. self.new.texts ≡ self.old.texts ++ version.bytes ∷ [])
             (λ _. self.new.texts ≡ self.old.texts) }
     {
-        self.list.push(version)
+        self.list.push(version)?;
+        Ok(())
     }
 
     /// One version.
