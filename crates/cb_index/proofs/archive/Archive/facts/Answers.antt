@@ -14,6 +14,6 @@ returns c =
     let among = subst (λ (a : Archived). n < length a.texts) (sym c.self.view_is) c.requires in
     let below : n < length kept = omega (arith, many, among) in
     c.facts.ensures
-    ∙ ap facts_of (c.index.ensures.value
+    ∙ ap facts_of (c.index.ensures
     ∙ version_indexed c.self.inside.profile kept c.self.invariant n _ below)
     ∙ ap (λ (a : Archived). facts_of (text_of a n)) c.self.view_is
