@@ -352,4 +352,4 @@ entries_are a [] all = refl
 entries_are a (s ∷ shown) all =
     ap (λ o. file_or_end (name_of a s.name) o (entries_in a shown))
     (text_there a s.version all.0.1)
-    ∙ ap (λ l. with_facts (file_of a s) ∷ l) (entries_are a shown all.1)
+    ∙ ap (λ l. with_facts a.profile (file_of a s) ∷ l) (entries_are a shown all.1)

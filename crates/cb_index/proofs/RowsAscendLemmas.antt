@@ -54,7 +54,7 @@ tied_texts xs ys same =
 
 -- ---- the items of a text go by place
 -- an item stands before another, or at one place with no greater rank
-abbrev StandsBefore : Placer → Placer → Option (List ℕ) → ℕ → ℕ → Type 0
+abbrev StandsBefore : Placer → Placer → Option Scanned → ℕ → ℕ → Type 0
 StandsBefore start rank t i j =
     (start t i < start t j) ⊎ ((start t i ≡ start t j) × (rank t i ≤ rank t j))
 

@@ -1,7 +1,10 @@
-use Rattle.std.proofs.Common.{rules, ◌≡◌, ◌∙◌, ◌<◌, true, sym, arith}
+use Rattle.std.proofs.Common.{rules, ◌≡◌, ◌∙◌, ◌<◌, ◌+◌, suc, ap, false, true, sym, subst, arith}
+use Rattle.std.proofs.Common.{⊎_elim}
+use Rattle.std.proofs.lemmas.Bool.{cases_lt}
 use Rattle.cb_index.specs.Items.{item_count}
+use Rattle.cb_index.specs.steps.Searched.{items_with}
 use Rattle.cb_index.proofs.FirstLemmas.{has, is_first_of_key}
-use Rattle.cb_index.proofs.SearchLemmas.{with_found}
+use Rattle.cb_index.proofs.SearchLemmas.{with_found, with_from, with_passed}
 use Rattle.cb_index.proofs.facts.first_with_key.Goals as goal
 
 pub returns-then-eq-clause-first : goal.returns-then-eq-clause-first
@@ -18,3 +21,24 @@ returns-then-eq-clause-items c =
     let below : c.loop-item.item < item_count c.args.sort c.args.version.now = omega arith in
     sym c.loop-item.invariant.same
     ∙ with_found c.args.sort c.args.version.now c.args.key.now c.loop-item.item below is
+
+-- an item without the key is passed
+pub loop-item-preserved : goal.loop-item-preserved
+loop-item-preserved c =
+    let sort = c.args.sort in
+    let text = c.args.version.now in
+    let key = c.args.key.now in
+    let item = c.loop-item.item in
+    let isnt : has sort text key item ≡ false = search rules in
+    let below : item < item_count sort text = omega (arith, c.loop-item-test.true, c.item_count-item-end.ensures.value) in
+    record {
+      same =
+          let next : suc item ≡ item + 1 = omega arith in
+          subst (λ k. with_from sort text key k ≡ items_with sort text key) next
+          (with_passed sort text key item below isnt ∙ c.loop-item.invariant.same);
+      none = λ before low.
+          ⊎_elim (λ early. c.loop-item.invariant.none before early)
+          (λ late. let same : before ≡ item = omega (arith, late, low) in
+          ap (has sort text key) same ∙ isnt)
+          (cases_lt before item);
+    }
