@@ -12,8 +12,8 @@ no place has two definitions of one kind.
 
 Text number n has the seed n. Random texts have declarations of all sorts, in lines, broken up, or
 as mere heaps of pieces. At the first difference the text and both lists are shown, and the exit
-status is 1. Else a line tells how many definitions of each kind were found. The program is not
-asked: it does not have this profile yet.
+status is 1. Else a line tells how many definitions of each kind were found. `wide-program.py`
+compares the program with the first of them.
 """
 
 from __future__ import annotations
