@@ -100,8 +100,10 @@ module _ (k l : Kept) (records : List Turn) (done : ℕ) (p : Planned)
             later = (
               (
                 valid,
-                sym (ap (λ (w : World). w.profile) leads.world) ∙ keeps.profile,
-                sym (ap (λ (w : World). w.bounds) leads.world),
+                (
+                  sym (ap (λ (w : World). w.profile) leads.world) ∙ keeps.profile,
+                  sym (ap (λ (w : World). w.bounds) leads.world),
+                ),
               ),
               tt,
             );

@@ -9,6 +9,7 @@ invariant-loop-name l = record {
       ≡ l.initial.shelf.archive.names ++ map (λ n. n.items) l.fn.names.items;
   fits : length l.shelf.archive.names + length (into_iter_items l.name-iterator)
       ≤ l.shelf.archive.name_room;
+  profile : l.shelf.archive.profile ≡ l.initial.shelf.archive.profile;
   texts : l.shelf.archive.texts ≡ l.initial.shelf.archive.texts;
   shown : l.shelf.shown ≡ l.initial.shelf.shown;
   turns : l.shelf.turns ≡ l.initial.shelf.turns;

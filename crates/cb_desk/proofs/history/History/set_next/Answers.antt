@@ -1,6 +1,6 @@
 use Rattle.std.proofs.Common.{rules, ◌≡◌, ◌∙◌, ◌++◌, ◌∷◌, [], ap, sym, subst, take, length, ◌<◌}
 use Rattle.cb_desk.specs.Timeline.{Timeline}
-use Rattle.cb_desk.specs.steps.Plans.{IsPlan, Keeps}
+use Rattle.cb_desk.specs.steps.Plans.{IsPlan, Keeps, Planned}
 use Rattle.cb_desk.specs.steps.Walks.{IsRecorded, Recorded, timeline_in}
 use Rattle.cb_desk.proofs.ArchiveMoves.{same_recorded, same_timeline}
 use Rattle.cb_desk.proofs.PlanLemmas.{next_is, next_recorded, plan_moved, refused_as, room_moved}
@@ -17,7 +17,8 @@ reserve_for-requires-clause-profile c =
 
 pub keep-requires-clause-profile : goal.keep-requires-clause-profile
 keep-requires-clause-profile c =
-    c.requires.1.0 ∙ sym (ap (λ (h : Recorded). h.kept.archive.profile) c.self.view_is)
+    ap (λ (p : Planned). p.profile) c.plan.view_is ∙ c.requires.1.0
+    ∙ sym (ap (λ (h : Recorded). h.kept.archive.profile) c.self.view_is)
     ∙ sym c.reserve_for.ensures.same_profile
 
 pub invariant_of-self-in_err-reserve_for : goal.invariant_of-self-in_err-reserve_for

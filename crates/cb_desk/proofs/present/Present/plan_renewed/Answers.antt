@@ -2,6 +2,7 @@ use Rattle.std.proofs.Common.{rules, ◌≡◌, ◌∙◌, ap, length, sym, subs
 use Rattle.std.proofs.lemmas.List.{length-map}
 use Rattle.cb_index.specs.Files.{AreAscending}
 use Rattle.cb_desk.specs.steps.Edits.{IsDifference}
+use Rattle.cb_desk.specs.steps.Plans.{NewTexts}
 use Rattle.cb_desk.specs.steps.Replaced.{files_then, has_mark, remaining, staying}
 use Rattle.cb_desk.proofs.MarkedFiles.{some_ascend}
 use Rattle.cb_desk.proofs.ReplacePlans.{replace_planned}
@@ -43,5 +44,7 @@ returns c =
     (subst (IsDifference frames c.as_slice-places.result.now) stay c.in_ok-frames.ensures) in
     replace_planned k _ r.old.now r.new.now c.in_ok-renewals.renewals.items
     c.in_ok-marks.marks frames c.in_ok-versions.versions
-    c.requires.kept c.requires.ascending c.requires.profile (search rules) (search rules) (search rules) (search rules)
-    (search rules) (search rules) (search rules) are_frames
+    c.requires.kept c.requires.ascending
+    (ap (λ (n : NewTexts). n.profile) c.made.view_is ∙ c.requires.profile) (search rules)
+    (ap (λ (n : NewTexts). n.texts) c.made.view_is ∙ c.requires.versions) (search rules)
+    (search rules) (search rules) (search rules) (search rules) are_frames

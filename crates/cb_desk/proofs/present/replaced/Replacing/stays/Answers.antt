@@ -26,16 +26,15 @@ returns-then-place-ge1 c =
     let name = c.name-name.result.now in
     let i = c.index_for-index.result in
     let parted = c.index_for-index.ensures.parted in
-    let text = c.index-versions-index.result in
-    let count : c.line_count.result ≡ length (lines text) = search rules in
+    let count : c.line_count.result ≡ length (lines c.source.result.now) = search rules in
     sym (stays_at c.args.self.archive.now c.args.self.marks.now c.args.self.old.now
     c.args.self.new.now c.args.changed.now c.requires.ascending
     (place_in c.args.self.archive.now c.args.place) name c.name-name.ensures i parted.0 parted.1
-    none text c.if-index-changed.true
+    none [] c.if-index-changed.true
     (sym (c.eq.ensures ∙ ap (λ n. bytes_eq n name) c.name.ensures) ∙ c.if-eq.true)
     ∙ above c.args.place.line _ c.if-place-ge1.true
     ∙ ap (λ t. nat_le c.args.place.line (length (lines t)))
-    (sym (c.index-versions-index.is ∙ ap (λ ts. get_or ts i text) c.requires.versions))
+    (sym (c.source.ensures ∙ ap (λ ts. get_or ts i []) c.requires.versions))
     ∙ ap (nat_le c.args.place.line) (sym count))
 
 pub returns-else-place-ge1 : goal.returns-else-place-ge1
