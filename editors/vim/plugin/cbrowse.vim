@@ -33,9 +33,10 @@ function! s:program() abort
   return get(g:, 'cbrowse_program', 'cbrowse')
 endfunction
 
-" The words of a session. It takes files of any size that cbrowse takes.
-function! s:words() abort
-  return [s:program(), 'line', '--max-file-bytes', string(s:most_bytes)]
+" The words of a run: a subcommand, the profile, and files of any size that cbrowse takes.
+function! s:words(subcommand) abort
+  let profile = get(g:, 'cbrowse_standard', 0) ? [] : ['--wide']
+  return [s:program(), a:subcommand] + profile + ['--max-file-bytes', string(s:most_bytes)]
 endfunction
 
 " ---- the session: a process that is asked and answers line by line
@@ -52,7 +53,7 @@ if has('nvim')
 
   function! s:open() abort
     let s:heard_lines = ['']
-    let s:job = jobstart(s:words(), {'on_stdout': function('s:heard')})
+    let s:job = jobstart(s:words('line'), {'on_stdout': function('s:heard')})
   endfunction
 
   function! s:close() abort
@@ -73,7 +74,7 @@ if has('nvim')
   endfunction
 else
   function! s:open() abort
-    let s:job = job_start(s:words(), {'mode': 'nl', 'drop': 'never', 'err_io': 'null'})
+    let s:job = job_start(s:words('line'), {'mode': 'nl', 'drop': 'never', 'err_io': 'null'})
   endfunction
 
   function! s:close() abort
@@ -158,7 +159,7 @@ function! s:drop(name) abort
   endif
 endfunction
 
-" Whether the tags of a file would be very large. A line of n bytes has fewer than n / 2
+" Whether the tags of a file would be very large. A line of n bytes has at most (n + 1) / 2
 " definitions, so few files are counted.
 function! s:is_very_large(path, size) abort
   if get(g:, 'cbrowse_all', 0) || a:size <= 20000
@@ -167,12 +168,12 @@ function! s:is_very_large(path, size) abort
   let most = max([100000000, 100 * a:size])
   let bound = 0
   for line in readfile(a:path, 'b')
-    let bound += len(line) * len(line) / 2
+    let bound += (len(line) + 1) / 2 * len(line)
   endfor
   if bound <= most
     return 0
   endif
-  let words = [s:program(), 'tags', '-x', '--', fnamemodify(a:path, ':t')]
+  let words = s:words('tags') + ['-x', '--', fnamemodify(a:path, ':t')]
   let command = join(map(words, 'shellescape(v:val)')) .. ' 2>/dev/null | head -c ' .. (most + 1) .. ' | wc -c'
   return str2nr(system('cd ' .. shellescape(fnamemodify(a:path, ':h')) .. ' && ' .. command)) > most
 endfunction
