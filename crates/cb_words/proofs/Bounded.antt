@@ -1,10 +1,13 @@
 -- Where no bounds, no files or no list that may be read are found there is no job.
-use Rattle.std.proofs.Common.{◌≡◌, ◌∙◌, ap, sym, ℕ, List, [], ◌∷◌, Some, true, false}
+use Rattle.std.proofs.Common.{◌≡◌, ◌∙◌, ap, sym, ℕ, List, [], ◌∷◌, None, Some, true, false}
 use Rattle.std.proofs.Common.{codes, nat_eq}
 use Rattle.std.proofs.lemmas.Bool.{true≢false}
+use Rattle.std.specs.Prelude.{is_some}
 use Rattle.clap.specs.Words.{Row, Text}
 use Rattle.cb_desk.specs.World.{WorldBounds}
-use Rattle.cb_words.specs.Jobs.{AreBoundsOf, IsJobOf, list_in, names_files, reads_input}
+use Rattle.cb_scan.specs.declared.profile.Profile.{Profile}
+use Rattle.cb_words.specs.Jobs.{AreBoundsOf, IsJobOf, list_in, names_files, profile_in}
+use Rattle.cb_words.specs.Jobs.{reads_input}
 use Rattle.cb_words.specs.declared.job.Job.{Job}
 use Rattle.cb_words.specs.declared.job.Job.TheVariants.{Line, Find, Tags}
 
@@ -50,10 +53,13 @@ no_tags rows none (Find bounds profile field pattern list files) is = find_or_ta
 no_tags rows none (Tags bounds profile listing tagsfile format list files) is =
     true≢false (sym is.3 ∙ none)
 
+none_is : (p : Profile) → None ≡ Some p → ⊥
+none_is p e = true≢false (sym (ap is_some e))
+
 -- without a profile there is no job
 pub no_profile : (found : Text × List Row) → profile_in found.1 ≡ None
     → (job : Job) → IsJobOf (Some found) job → ⊥
-no_profile found none (Line bounds profile list files) is = none_is (sym none ∙ is.2)
-no_profile found none (Find bounds profile field pattern list files) is = none_is (sym none ∙ is.2)
+no_profile found none (Line bounds profile list files) is = none_is profile (sym none ∙ is.2)
+no_profile found none (Find bounds profile field pattern list files) is = none_is profile (sym none ∙ is.2)
 no_profile found none (Tags bounds profile listing tagsfile format list files) is =
-    none_is (sym none ∙ is.2)
+    none_is profile (sym none ∙ is.2)

@@ -48,13 +48,19 @@ abbrev pub format_rule : Rule
 format_rule = record (new_rule (codes "format"))
     { long = Some (codes "format"); value_names = 1; defaults = codes "1" ∷ [] }
 
--- an option without a value
-abbrev pub flag_rule : Text → Rule
-flag_rule id = record (new_rule id) { long = Some id; action = Some SetTrue }
+-- `--wide` and `--prototypes`
+abbrev pub wide_rule : Rule
+wide_rule = record (new_rule (codes "wide")) { long = Some (codes "wide"); action = Some SetTrue }
 
--- a command with `--wide` and `--prototypes`
+abbrev pub prototypes_rule : Rule
+prototypes_rule = record (new_rule (codes "prototypes")) {
+  long = Some (codes "prototypes");
+  action = Some SetTrue;
+}
+
+-- a command with both
 abbrev pub with_profile : App → App
-with_profile a = with_rule (with_rule a (flag_rule (codes "wide"))) (flag_rule (codes "prototypes"))
+with_profile a = with_rule (with_rule a wide_rule) prototypes_rule
 
 -- the most files, and the most bytes of a file, that bounds may have
 abbrev pub most_files : ℕ

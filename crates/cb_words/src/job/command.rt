@@ -4,14 +4,15 @@ ghost use Rattle.clap.specs.Words.{app_of, with_rule};
 ghost use Rattle.cb_words.specs.Jobs.{
   files_rule,
   find_app,
-  flag_rule,
   line_app,
   list_rule,
   listing_rule,
   most_rule,
   num_rule,
   pattern_rule,
+  prototypes_rule,
   tagsfile_rule,
+  wide_rule,
   with_bounds,
   with_files,
   with_profile,
@@ -210,35 +211,31 @@ fn with_most<'a>(
 fn with_profile<'a>(alloc: Global, command: Command<'a>) -> Result<Command<'a>, AllocError>
     ensures { IfOk result (λ more. app_of more ≡ with_profile (app_of command.entry)) }
 {
-    let command = with_flag(
-        alloc,
-        command,
-        "wide",
-        "Find enumerators, members and variables too, and names that macros hide",
-    )?;
-    with_flag(
-        alloc,
-        command,
-        "prototypes",
-        "With --wide: find external declarations and prototypes too",
-    )
+    let command = with_wide(alloc, command)?;
+    with_prototypes(alloc, command)
 }
 
-/// Adds an option without a value.
-fn with_flag<'a>(
-    alloc: Global,
-    command: Command<'a>,
-    id: &'a str,
-    help: &'a str,
-) -> Result<Command<'a>, AllocError>
-    ensures { IfOk result
-        (λ more. app_of more ≡ with_rule (app_of command.entry) (flag_rule id.now)) }
+/// Adds `--wide`.
+fn with_wide<'a>(alloc: Global, command: Command<'a>) -> Result<Command<'a>, AllocError>
+    ensures { IfOk result (λ more. app_of more ≡ with_rule (app_of command.entry) wide_rule) }
 {
-    let flag = Arg::new(alloc, id)
-        .long(id)
+    let wide = Arg::new(alloc, "wide")
+        .long("wide")
         .action(ArgAction::SetTrue)
-        .help(help);
-    command.arg(flag)
+        .help("Find enumerators, members and variables too, and names that macros hide");
+    command.arg(wide)
+}
+
+/// Adds `--prototypes`.
+fn with_prototypes<'a>(alloc: Global, command: Command<'a>) -> Result<Command<'a>, AllocError>
+    ensures { IfOk result
+        (λ more. app_of more ≡ with_rule (app_of command.entry) prototypes_rule) }
+{
+    let prototypes = Arg::new(alloc, "prototypes")
+        .long("prototypes")
+        .action(ArgAction::SetTrue)
+        .help("With --wide: find external declarations and prototypes too");
+    command.arg(prototypes)
 }
 
 /// Adds `--files-from` and the files.
