@@ -53,7 +53,7 @@ abbrev pub wide_rule : Rule
 wide_rule = record (new_rule (codes "wide")) { long = Some (codes "wide"); action = Some SetTrue }
 
 abbrev pub prototypes_rule : Rule
-prototypes_rule = record (new_rule (codes "prototypes")) {
+prototypes_rule = record (new_rule (codes "proto")) {
   long = Some (codes "prototypes");
   action = Some SetTrue;
 }
@@ -169,7 +169,7 @@ profile_for false true = None
 
 -- the profile that was found
 abbrev pub profile_in : List Row → Option Profile
-profile_in rows = profile_for (is_set (codes "wide") rows) (is_set (codes "prototypes") rows)
+profile_in rows = profile_for (is_set (codes "wide") rows) (is_set (codes "proto") rows)
 
 -- the list of files that was found, if there is one
 abbrev pub list_in : List Row → Option Text

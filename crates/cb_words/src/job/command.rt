@@ -231,7 +231,7 @@ fn with_prototypes<'a>(alloc: Global, command: Command<'a>) -> Result<Command<'a
     ensures { IfOk result
         (λ more. app_of more ≡ with_rule (app_of command.entry) prototypes_rule) }
 {
-    let prototypes = Arg::new(alloc, "prototypes")
+    let prototypes = Arg::new(alloc, "proto")
         .long("prototypes")
         .action(ArgAction::SetTrue)
         .help("With --wide: find external declarations and prototypes too");

@@ -207,7 +207,7 @@ fn is_set(found: &ArgMatches<'_>, id: &str) -> bool
 pub(crate) fn profile_of(found: &ArgMatches<'_>) -> Option<Profile>
     ensures { result ≡ profile_in (rows_in found.now) }
 {
-    match (is_set(found, "wide"), is_set(found, "prototypes")) {
+    match (is_set(found, "wide"), is_set(found, "proto")) {
         (false, false) => Some(Profile::Standard),
         (true, false) => Some(Profile::Wide),
         (true, true) => Some(Profile::Prototypes),

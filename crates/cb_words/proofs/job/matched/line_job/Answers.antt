@@ -9,4 +9,4 @@ returns-in_default c =
 
 pub returns-in_default-profile_of : goal.returns-in_default-profile_of
 returns-in_default-profile_of c =
-    no_profile (codes "line", rows_in c.args.found.now) c.in_default-profile_of.ensures
+    no_profile (codes "line", rows_in c.args.found.now) (sym c.in_default-profile_of.ensures)

@@ -1,4 +1,4 @@
-use Rattle.std.proofs.Common.{codes}
+use Rattle.std.proofs.Common.{codes, sym}
 use Rattle.cb_words.specs.Commands.{rows_in}
 use Rattle.cb_words.proofs.Bounded.{no_job, no_profile}
 use Rattle.cb_words.proofs.job.matched.tags_job.Goals as goal
@@ -9,4 +9,4 @@ returns-in_default-bounds_of c =
 
 pub returns-in_default-profile_of : goal.returns-in_default-profile_of
 returns-in_default-profile_of c =
-    no_profile (codes "tags", rows_in c.args.found.now) c.in_default-profile_of.ensures
+    no_profile (codes "tags", rows_in c.args.found.now) (sym c.in_default-profile_of.ensures)
