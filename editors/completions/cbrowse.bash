@@ -51,10 +51,10 @@ _cbrowse() {
         'cbrowse find') words='--wide --prototypes --max-files --max-file-bytes --files-from -h --help' ;;
         'cbrowse tags') words='-x -f --format --wide --prototypes --max-files --max-file-bytes --files-from -h --help' ;;
         'cbrowse help') words='' ;;
-        'cbrowse-tree') words='-f --format -x -L --questions --exclude -j --all --force --verbose --no-progress -S --sshloginfile --transfer -h --help --version' ;;
-        'cbrowse-tree find') words='-f --format -x -L --questions --exclude -j --all --force --verbose --no-progress -S --sshloginfile --transfer -h --help --version' ;;
-        'cbrowse-cscope') words='-b -l -L -f -i -R -d -P -A -W -h --help --version' ;;
-        'cbrowse-graph') words='--callees --callers --depth --nodes -L --exclude -j -h --help --version' ;;
+        'cbrowse-tree') words='-f --format -x --standard --prototypes -L --questions --exclude -j --all --force --verbose --no-progress -S --sshloginfile --transfer -h --help --version' ;;
+        'cbrowse-tree find') words='-f --format -x --standard --prototypes -L --questions --exclude -j --all --force --verbose --no-progress -S --sshloginfile --transfer -h --help --version' ;;
+        'cbrowse-cscope') words='-b -l -L -f -i -R -d -P -A --standard -W -h --help --version' ;;
+        'cbrowse-graph') words='--callees --callers --depth --nodes --standard -L --exclude -j -h --help --version' ;;
         esac ;;
         *) if [ "$COMP_CWORD" -eq "$at" ]; then case $name in
         'cbrowse') words='line find tags help' ;;

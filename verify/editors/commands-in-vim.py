@@ -7,8 +7,9 @@
 The plugin is loaded as a user has it: from the folder `plugin` of a folder of the runtime path. In
 vim and in nvim, whichever are there, a small tree is browsed. What a command says, the quickfix
 list, the place of the cursor and the number of windows have to be those that the page of `:help
-cbrowse` promises; rows are compared with those of `cbrowse find`. Each failure is printed, and the
-exit status is 1 if there is one.
+cbrowse` promises; rows are compared with those of `cbrowse find --wide`. A variable is found, and
+by `g:cbrowse_standard` it is not. Each failure is printed, and the exit status is 1 if there is
+one.
 """
 
 from __future__ import annotations
@@ -29,7 +30,7 @@ from shared import TOP, Report, words_given, options  # noqa: E402
 PATIENCE = 300  # seconds until an editor is given up
 TREE = {
     "a.c": '#include "c.h"\nstatic int add(int a, int b) {\n\treturn a + b;\n}\n'
-    "int main(void) {\n\treturn add(1, 2) + other(3);\n}\n",
+    "int main(void) {\n\treturn add(1, 2) + other(3);\n}\nstatic int count;\n",
     "sub/b.c": '#include "c.h"\nstatic int add(int a) {\n\treturn a;\n}\n'
     "int other(int n) {\n\treturn n ? add(n) : other(n - 1);\n}\n",
     "c.h": "#define TWICE(x) ((x) + (x))\nint other(int n);\n\n",
@@ -76,13 +77,13 @@ class Plan:
         self.steps.append(Step(*words, **how))
 
     def rows(self, field: str, word: str) -> list:
-        """What `cbrowse find` gives over the texts as they are in the plan."""
+        """What `cbrowse find --wide` gives over the texts as they are in the plan."""
         with tempfile.TemporaryDirectory() as place:
             for name, text in self.texts.items():
                 path = pathlib.Path(place, name)
                 path.parent.mkdir(parents=True, exist_ok=True)
                 path.write_text(text)
-            words = [self.cbrowse, "find", field, "--", word, *sorted(self.texts)]
+            words = [self.cbrowse, "find", "--wide", field, "--", word, *sorted(self.texts)]
             said = subprocess.run(words, cwd=place, check=True, capture_output=True).stdout.decode()
         rows = (row.split(" ", 3) for row in said.splitlines())
         return [[file, int(line), f"{place}: {text}"] for file, place, line, text in rows]
@@ -122,6 +123,10 @@ def commands(plan: Plan) -> None:
     plan.add("CbrowseStart sub *.h", "cbrowse: 2 files")
     plan.add("CbrowseUses add", "", [row for row in plan.rows("0", "add") if row[0] == "sub/b.c"])
     plan.add("cclose | CbrowseStart", "cbrowse: 3 files")
+    plan.ask("Define", "1", "count", place=("a.c", 8), windows=1)
+    plan.add("let g:cbrowse_standard = 1 | CbrowseStart", "cbrowse: 3 files")
+    plan.add("CbrowseDefine count", "cbrowse: nothing is found", [])
+    plan.add("unlet g:cbrowse_standard | CbrowseStart", "cbrowse: 3 files")
 
 
 def unsaved(plan: Plan) -> None:

@@ -10,12 +10,13 @@ xcscope (elpa-xcscope). One that is not there is passed over, and a line says so
 questions are asked, for names, parts of lines, files and headers that are in the sources.
 
     vim      `:cs find` fills the quickfix list: its files, lines and functions are those of
-             `cbrowse find`. From another folder, by `cscoperelative` and by a folder after
+             `cbrowse find --wide`. From another folder, by `cscoperelative` and by a folder after
              `:cs add`, it finds the same. The letters `e` and `a`, an empty name and a line that
              is too long are found nowhere, and vim asks on. `^NAME$` finds what NAME finds.
-             `:cs reset` finds what was changed on disk. A list without C files is told
-    emacs    each command of xcscope writes the files, lines and functions of `cbrowse find` to its
-             buffer. Its command to index writes the list
+             `:cs reset` finds what was changed on disk. With --standard behind the folder it
+             finds what `cbrowse find` finds. A list without C files is told
+    emacs    each command of xcscope writes the files, lines and functions of `cbrowse find --wide`
+             to its buffer. Its command to index writes the list
 
 vim passes over rows of more than 2,047 bytes: those are not looked for. Each failure is printed,
 and the exit status is 1 if there is one.
@@ -97,7 +98,7 @@ EMACS_SCRIPT = r"""
 
 
 class Sources:
-    """Copies of C files in a folder, and what `cbrowse find` answers about them."""
+    """Copies of C files in a folder, and what `cbrowse find --wide` answers about them."""
 
     def __init__(self, cbrowse: str, folder: pathlib.Path, number: int, home: pathlib.Path):
         names = c_files(folder, form="[!-,.-~][!-~]*")
@@ -106,10 +107,10 @@ class Sources:
         self.cbrowse, self.home = cbrowse, home
         copy(folder, self.names, home)
 
-    def rows(self, field, word):
+    def rows(self, field, word, profile=("--wide",)):
         """File, function and line of each row, and the bytes of the row."""
         said = subprocess.run(
-            [self.cbrowse, "find", field, "--", word, *self.names],
+            [self.cbrowse, "find", *profile, field, "--", word, *self.names],
             cwd=self.home,
             check=True,
             stdout=subprocess.PIPE,
@@ -131,7 +132,7 @@ class Sources:
         )
         files = sorted({name.rsplit("/", 1)[-1] for name in self.names})
         listed = subprocess.run(
-            [self.cbrowse, "tags", "-x", *self.names],
+            [self.cbrowse, "tags", "--wide", "-x", *self.names],
             cwd=self.home,
             check=True,
             stdout=subprocess.PIPE,
@@ -173,11 +174,11 @@ def run_editor(words, home, settings, asked):
     return files["FOUND"].read_bytes().decode("latin-1")
 
 
-def places_of(sources, field, word):
+def places_of(sources, field, word, *profile):
     """The places that vim has to show: file, line and function."""
     return [
         [str(sources.home / file), int(line), function]
-        for (file, function, line, _), size in sources.rows(field, word)
+        for (file, function, line, _), size in sources.rows(field, word, *profile)
         if size < VIM_ROW
     ]
 
@@ -189,9 +190,9 @@ def vim_cases(sources, questions):
     (other / "cscope.out").write_text("none.c\n")
     again, add = "silent! cs kill -1", f"cs add {home}/cscope.out"
 
-    def asked(some, form="%s"):
+    def asked(some, form="%s", *profile):
         return [
-            ([], f"{LETTERS[field]} {form % word}", places_of(sources, field, word))
+            ([], f"{LETTERS[field]} {form % word}", places_of(sources, field, word, *profile))
             for field, word in some
         ]
 
@@ -203,6 +204,9 @@ def vim_cases(sources, questions):
         for question in ("e int", "a int", "s ^$", "t " + "x" * 5000, "s none here")
     ]
     cases += asked([(field, word) for field, word in questions if field in "01237"][::5], "^%s$")
+    cases += [([again, f"{add} {home} --standard"], "", None)]
+    cases += asked([one for one in questions if one[0] == "1"], "%s", ())
+    cases += [([again, f"{add} {home}"], "", None)]
     line = new.read_bytes().count(b"\n") + 1
     cases += [
         ([f"call writefile(['int cbrowse_is_here;'], '{new}', 'a')"], "s cbrowse_is_here", []),

@@ -9,8 +9,8 @@ ASCII. vim (with +job and +channel) or nvim begins a session with them. A call t
 buffer is not found; once the buffer is written it is, and its line is the new one. A new file is
 found once it is written. A file that is deleted is found no more, and neither is what a longer edit
 took away. After each step the quickfix list of callers, uses, definitions and lines is that of
-`cbrowse find` over the files on disk. Each failure is printed, and the exit status is 1 if there is
-one.
+`cbrowse find --wide` over the files on disk. Each failure is printed, and the exit status is 1 if
+there is one.
 """
 
 from __future__ import annotations
@@ -72,14 +72,14 @@ class Steps:
         self.told, self.expected = ["CbrowseStart"], []
 
     def rows(self, field, word):
-        """The quickfix list that `cbrowse find` asks for."""
+        """The quickfix list that `cbrowse find --wide` asks for."""
         with tempfile.TemporaryDirectory() as place:
             for name, text in self.texts.items():
                 path = pathlib.Path(place, name)
                 path.parent.mkdir(parents=True, exist_ok=True)
                 path.write_bytes(text)
             said = subprocess.run(
-                [self.cbrowse, "find", field, "--", word, *sorted(self.texts)],
+                [self.cbrowse, "find", "--wide", field, "--", word, *sorted(self.texts)],
                 cwd=place,
                 check=True,
                 stdout=subprocess.PIPE,

@@ -7,8 +7,9 @@
 Graphviz reads what `editors/cbrowse-graph` writes. For names of a small tree with recursion, macros
 and names that are defined nowhere, and for some names of FOLDER, where one is given: the names are
 those that so many calls lead to, each call is a row of field 2 or 3, and none is missing; the file
-and the line are those of the first definition, and its box is that of the file; a call is red
-exactly where the picture has a way back. A picture that is cut says so.
+and the line are those of the first definition that looks like a function or a macro, or else of the
+first one, and its box is that of the file; a call is red exactly where the picture has a way back.
+With --standard all this is so by the standard profile. A picture that is cut says so.
 """
 
 from __future__ import annotations
@@ -27,6 +28,7 @@ from shared import words_given, options  # noqa: E402
 TREE = {
     "a.c": "#define TWICE(x) (add(x) + add(x))\nint add(int n) {\n\treturn n;\n}\n"
     "int main(void) {\n\treturn TWICE(even(4)) + printf(0);\n}\n",
+    "c.h": "struct calls {\n\tint (*even)(int), far;\n\tint (*printf)(const char *, ...);\n};\n",
     "sub/b.c": "int odd(int n) {\n\treturn n ? even(n - 1) : 0;\n}\n"
     "int even(int n) {\n\treturn n ? odd(n - 1) : self(1);\n}\n"
     "int self(int n) {\n\treturn n ? self(n - 1) : add(0);\n}\n",
@@ -38,14 +40,15 @@ check = report.check
 
 
 class Calls:
-    """What `cbrowse find` says of a tree."""
+    """What `cbrowse find` says of a tree, by the wide profile or the standard one."""
 
-    def __init__(self, place: Place, files: list[str]):
+    def __init__(self, place: Place, files: list[str], is_wide: bool = True):
         self.place, self.files, self.kept = place, files, {}
+        self.profile = ["--wide"] if is_wide else []
 
     def rows(self, field: str, name: str) -> list[list[str]]:
         if (field, name) not in self.kept:
-            words = [self.place.cbrowse, "find", field, name, "--", *self.files]
+            words = [self.place.cbrowse, "find", *self.profile, field, name, "--", *self.files]
             done = subprocess.run(words, cwd=self.place.folder, capture_output=True, check=True)
             rows = done.stdout.decode("latin-1").split("\n")[:-1]
             self.kept[field, name] = [row.split(" ", 3) for row in rows]
@@ -89,8 +92,9 @@ def ways_back(calls: set[tuple[str, str]]) -> set[tuple[str, str]]:
 
 
 def compare(place: Place, calls: Calls, name: str, ways: list[str], depth: int, *words: str):
-    what, failures = f"{name} {' '.join(ways)} {depth}", report.failures
+    what, failures = " ".join([name, *ways, str(depth), *calls.profile]), report.failures
     options = [f"--{ways[0]}"] if len(ways) == 1 else []
+    options += [] if calls.profile else ["--standard"]
     status, out, said = place.run("--nodes", 9999, "--depth", depth, *options, name, *words)
     drawn = subprocess.run(["dot", "-Tjson0"], input=out, capture_output=True)
     if status or drawn.returncode:
@@ -115,7 +119,9 @@ def compare(place: Place, calls: Calls, name: str, ways: list[str], depth: int, 
         if not rows:
             report.same(f"{what}: {node['name']}", ("dashed", []), (node.get("style"), box))
             continue
-        file, _, line, text = rows[0]
+        form = rf"#|(.*\W)?{node['name']}[ \t]*(\(|$)"
+        likely = [row for row in rows if re.match(form, row[3], re.A | re.S)]
+        file, _, line, text = (likely or rows)[0]
         more = f" and {len(rows) - 1} more" if len(rows) > 1 else ""
         label = f"{node['name']}\\n{file}:{line}{more}"
         shape = "hexagon" if text.startswith("#") else "box"
@@ -160,12 +166,13 @@ def main() -> int:
         place = Place(folder, words.cbrowse, "cbrowse-graph")
         for name, text in TREE.items():
             place.put(f"tree/{name}", text)
-        calls = Calls(place, sorted(f"tree/{name}" for name in TREE))
+        files = sorted(f"tree/{name}" for name in TREE)
         names = ["main", "even", "self", "add", "TWICE", "printf", "far", "odd"]
-        for name in names:
-            for ways in ["callees", "callers"], ["callees"], ["callers"]:
-                for depth in 1, 2, 4:
-                    compare(place, calls, name, ways, depth, "tree")
+        for calls in Calls(place, files), Calls(place, files, is_wide=False):
+            for name in names:
+                for ways in ["callees", "callers"], ["callees"], ["callers"]:
+                    for depth in 1, 2, 4:
+                        compare(place, calls, name, ways, depth, "tree")
         cut(place)
         if words.folder:
             files = spread(c_files(words.folder, form="[!-,.-~][!-~]*"), MOST_FILES)

@@ -11,6 +11,7 @@ Odd     names with blanks, in quotes or not, and in UTF-8, files that are too la
 None    a folder is no list: an old list stays, and the status is 1.
 Away    a list in another folder is read there, whatever CDPATH says; names that the way to it makes
         too long, or gives a blank, are left out and told.
+Profile a variable is found in each mode, and not with --standard; another long option is refused.
 Ends    no standard input, and no program: status 1, and no temporary folder is left.
 Others  a source and a database of cscope are left alone, unless -W is given.
 """
@@ -132,6 +133,21 @@ def away(place: Place) -> None:
     )
 
 
+def profiles(place: Place) -> None:
+    """What is found by the wide profile, and not by the standard one."""
+    place.put("profiles/a.c", "int v;\n")
+    row = b"a.c v 1 int v;\n"
+    for words, rows in ([], row), (["--standard"], b""):
+        found = place.run("-L", *words, "-1", "v", "a.c", below="profiles")
+        check(f"a variable {' '.join(words)}", found == (0, rows, ""), found)
+        found = place.run("-dl", *words, "a.c", below="profiles", stdin="1v\n")
+        out = b">> cscope: %d lines\n%s>> " % (len(rows) > 0, rows)
+        check("the same, line by line", found == (0, out, ""), found)
+    status, _, said = place.run("-L", "--stand", "-1", "v", "a.c", below="profiles")
+    told = "cbrowse-cscope: --stand: no such option\n"
+    check("another long option", (status, said) == (2, told), said)
+
+
 def ends(place: Place) -> None:
     place.put("ends/a.c")
     room = place.folder / "room"
@@ -189,6 +205,7 @@ def main() -> int:
         no_list(place)
         odd_names(place)
         away(place)
+        profiles(place)
         ends(place)
         others(place)
         long_list(place)

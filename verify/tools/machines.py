@@ -8,7 +8,7 @@ Two ssh servers of its own, with keys of their own, listen on this machine alone
 script. What is made must be byte for byte what one `cbrowse` makes, or nothing:
 
 Logins     -S 2/:, a file of two logins, with a shared tree and with --transfer, which sends it;
-           tags files, questions, and many questions.
+           tags files, questions, and many questions; a tags file by --standard.
 Away       a server that ends, with its sessions, while it works: the other one does its parts.
 Gone       no server is left: the old tags file stays, and the status is 1.
 Traces     nothing is left in the temporary folders, here and there.
@@ -26,12 +26,16 @@ import sys
 import tempfile
 import threading
 import time
+from typing import Sequence
 
 sys.path.insert(0, str(pathlib.Path(__file__).resolve().parents[1]))
 from shared import Place, Report, words_given, options  # noqa: E402
 
 OLD = "old\told.c\t/^old$/\n"
-CALLS = "#include <stdio.h>\nint f{number}(void) {{\n\treturn f{other}(1) + f7();\n}}\n"
+CALLS = (
+    "#include <stdio.h>\nint f{number}(void) {{\n\treturn f{other}(1) + f7();\n}}\n"
+    "static int v{number};\n"
+)
 FILES = 300
 report = Report()
 check = report.check
@@ -87,12 +91,10 @@ def folders() -> list[str]:
     )
 
 
-def one(place: Place, *words: str) -> bytes:
+def one(place: Place, what: str, *words: str, profile: Sequence[str] = ("--wide",)) -> bytes:
     """What one run of cbrowse writes."""
-    done = subprocess.run(
-        [place.cbrowse, *words], cwd=place.folder, capture_output=True, check=True
-    )
-    return done.stdout
+    command = [place.cbrowse, what, *profile, *words]
+    return subprocess.run(command, cwd=place.folder, capture_output=True, check=True).stdout
 
 
 def logins(place: Place, names: list[str], hosts: list[str]) -> None:
@@ -108,6 +110,10 @@ def logins(place: Place, names: list[str], hosts: list[str]) -> None:
         check(f"find {what}", (status, out) == (0, rows["3f7"]), said)
         status, out, said = place.run("find", "-j", 2, *how, "--questions", "questions", "tree")
         check(f"many questions {what}", many != b"" and (status, out) == (0, many), said)
+    expected = one(place, "tags", "-f", "-", "--format", "2", *names, profile=())
+    status, out, said = place.run("-f", "-", "--standard", *hosts, "tree")
+    is_other = expected != tags
+    check("tags by --standard", is_other and (status, out) == (0, expected), said)
     status, _, said = place.run("--transfer", "-S", ":", place.folder / "tree")
     check("a tree that cannot be sent", status == 2 and "not below" in said, said)
     (place.folder / "path").mkdir()

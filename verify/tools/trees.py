@@ -5,9 +5,13 @@
     verify/tools/trees.py --cbrowse PATH      or: CBROWSE=PATH verify/tools/trees.py
 
 Whole      the tags file, plain and extended, and the listing of a tree are those of one
-           `cbrowse tags` over its files, byte for byte, by one process and by four.
-Questions  the rows of `find` are those of one `cbrowse find`, byte for byte, for each field, by one
-           process and by four; so are those of many questions; a question that is none is refused.
+           `cbrowse tags --wide` over its files, byte for byte, by one process and by four; so they
+           are with --standard and with --prototypes.
+Questions  the rows of `find` are those of one `cbrowse find --wide`, byte for byte, for each field,
+           by one process and by four; so are those of many questions, and those by --standard; a
+           question that is none is refused.
+Very large a file with very large tags is left out and told, unless --all is given: many names on a
+           line, and many enumerators of an enumeration with a long name.
 Names      names from lists and from standard input, folders and files in any mix, what is left out
            by --exclude, and which of them decide the status.
 Odd names  what cbrowse does not take is told once for each reason, with how many and three names,
@@ -29,6 +33,7 @@ import pathlib
 import subprocess
 import sys
 import tempfile
+from typing import Iterable
 
 sys.path.insert(0, str(pathlib.Path(__file__).resolve().parents[1]))
 from shared import Place, Report, words_given, options  # noqa: E402
@@ -36,14 +41,25 @@ from shared import Place, Report, words_given, options  # noqa: E402
 OLD = "old\told.c\t/^old$/\n"
 TEXT = "int g(void) {\n}\n"
 CALLS = "#include <stdio.h>\nint f{number}(void) {{\n\treturn f{other}('*') + f7();\n}}\n"
-BODY = "#define M{number} 1\nstruct s {{\nint x;\n}};\nint main(void) {{\n}}\n"
+BODY = (
+    "#define M{number} 1\nstruct s {{\nint x;\n}};\nint main(void) {{\n}}\n"
+    "extern int v{number}, w{number};\nint v{number};\n"
+)
 report = Report()
 check = report.check
 
 
+def profile(words: Iterable[str]) -> list[str]:
+    """What cbrowse is told of the profile, where these are words of cbrowse-tree."""
+    if "--standard" in words:
+        return []
+    return ["--wide", "--prototypes"] if "--prototypes" in words else ["--wide"]
+
+
 def one(place: Place, names: list[str], *words: str) -> bytes:
-    """What one run of cbrowse makes of these files."""
-    command = [place.cbrowse, "tags", "-f", "whole", *(words or ["--format", "2"]), "--", *names]
+    """What one run of cbrowse makes of these files, for these words of cbrowse-tree."""
+    form = "1" if "1" in words else "2"
+    command = [place.cbrowse, "tags", *profile(words), "-f", "whole", "--format", form, *names]
     subprocess.run(command, cwd=place.folder, check=True)
     return (place.folder / "whole").read_bytes()
 
@@ -56,18 +72,25 @@ def whole(place: Place) -> None:
             names[-1],
             f"int f{number % 100}(void) {{\n}}\n" + BODY.format(number=number),
         )
-    for words in ([], ["--format", "1"]):
+    profiles = ["--standard"], ["--prototypes"]
+    sizes = set()
+    for words in ([], ["--format", "1"], *profiles, ["--standard", "--format", "1"]):
         for jobs in "1", "4":
             status, _, said = place.run("-j", jobs, "-f", "parts", *words, "many")
             same = (place.folder / "parts").read_bytes() == one(place, sorted(names), *words)
             check(f"one tags file {' '.join(words)} by {jobs}", status == 0 and same, said)
-    listing = subprocess.run(
-        [place.cbrowse, "tags", "-x", "--", *sorted(names)],
-        cwd=place.folder,
-        stdout=subprocess.PIPE,
-    ).stdout
-    status, out, said = place.run("-x", "many")
-    check("one listing", status == 0 and out == listing, said)
+        sizes.add((place.folder / "parts").stat().st_size)
+    check("each of these is another one", len(sizes) == 5, sizes)
+    for words in [], *profiles:
+        listing = subprocess.run(
+            [place.cbrowse, "tags", *profile(words), "-x", "--", *sorted(names)],
+            cwd=place.folder,
+            stdout=subprocess.PIPE,
+        ).stdout
+        status, out, said = place.run("-x", *words, "many")
+        check(f"one listing {' '.join(words)}", status == 0 and out == listing, said)
+    status, out, said = place.run("--standard", "--prototypes", "-f", "-", "many")
+    check("two profiles", (status, out) == (2, b"") and said.startswith("cbrowse-tree: "), said)
     status, out, said = place.run("-f", "-", "many")
     check("standard output", status == 0 and out == one(place, sorted(names)), said)
     check("no progress where nobody looks", said == "", said)
@@ -80,17 +103,30 @@ def questions(place: Place) -> None:
         names.append(f"asked/d{number % 5}/f{number}.c")
         place.put(names[-1], CALLS.format(number=number, other=number * 7 % 1200))
     place.put("asked/!.c", CALLS.format(number=9999, other=7))
-    names = sorted([*names, "asked/!.c"])
+    place.put("asked/s.h", "struct s {\n\tint f7;\n};\n")
+    names = sorted([*names, "asked/!.c", "asked/s.h"])
     asked = ["0f7", "1f7", "2f9", "3f7", "4return", "4'", "7f1", "8stdio.h", "1none", "4*", "4 "]
     rows = {}
+
+    def found(question: str, *words: str) -> bytes:
+        command = [place.cbrowse, "find", *words, question[0], "--", question[1:], *names]
+        return subprocess.run(command, cwd=place.folder, capture_output=True).stdout
+
+    standard = found("1f7")
     for question in asked:
-        words = ["find", question[0], "--", question[1:], *names]
-        done = subprocess.run([place.cbrowse, *words], cwd=place.folder, capture_output=True)
-        rows[question] = done.stdout
+        rows[question] = found(question, "--wide")
         for jobs in "1", "4":
             words = ["find", "-j", jobs, "--", question[0], question[1:], "asked"]
             status, out, said = place.run(*words)
-            check(f"find {question} by {jobs}", (status, out) == (0, done.stdout), said)
+            check(f"find {question} by {jobs}", (status, out) == (0, rows[question]), said)
+    check("a member is found by the wide profile alone", standard != rows["1f7"])
+    for words, expected in (["--standard"], standard), (["--prototypes"], rows["1f7"]):
+        status, out, said = place.run("find", *words, "1", "f7", "asked")
+        check(f"find {words[0]}", (status, out) == (0, expected), said)
+    place.put("one question", "1f7\n")
+    status, out, said = place.run("find", "--standard", "--questions", "one question", "asked")
+    expected = b"".join(b"1f7\t" + row for row in standard.splitlines(keepends=True))
+    check("many questions by --standard", (status, out) == (0, expected), said)
     place.put("questions", "".join(f"{question}\n" for question in asked))
     expected = b"".join(
         question.encode() + b"\t" + row
@@ -111,6 +147,28 @@ def questions(place: Place) -> None:
         found = place.run("find", *words, "asked")
         check(f"find {words}", found == (2, b"", f"cbrowse: {said}\n"), found)
     check("find without a pattern", place.run("find", "1")[0] == 2)
+
+
+def very_large(place: Place) -> None:
+    """Files whose tags are very large, in one form or in each."""
+    place.put("vast/line.c", f"enum {{ {'ab,' * 7_000} }};\n")
+    place.put("vast/name.c", f"enum {'a' * 100_000} {{\n{chr(10).join(['x,'] * 1100)}\n}};\n")
+    place.put("vast/small.c", TEXT)
+    for words, left in (
+        ([], ["line.c", "name.c"]),
+        (["--format", "1"], ["line.c"]),
+        (["--standard"], []),
+    ):
+        status, out, said = place.run("-f", "-", *words, "vast")
+        names = ", ".join(f"vast/{name}" for name in left)
+        told = f"cbrowse-tree: {len(left)} left out, tags very large (--all takes them): {names}\n"
+        is_right = (status, said) == (0, told if left else "") and b"\tvast/small.c\t" in out
+        check(f"very large tags {' '.join(words)}", is_right, (status, said))
+    status, _, said = place.run("-f", "-", "vast/line.c", "vast/small.c")
+    check("very large tags of a file that is named", status == 1 and "1 left out" in said, said)
+    reader = ["sh", "-c", 'sh "$0" -f - --all vast/name.c | wc -c', place.script]
+    status, out, said = place.run_by(reader)
+    check("--all", status == 0 and int(out) > 100_000_000, (out, said))
 
 
 def names_given(place: Place) -> None:
@@ -427,6 +485,7 @@ def main() -> int:
         place = Place(folder, cbrowse, "cbrowse-tree")
         whole(place)
         questions(place)
+        very_large(place)
         names_given(place)
         odd_names(place)
         ends(place)
