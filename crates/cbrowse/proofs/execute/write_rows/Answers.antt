@@ -17,7 +17,7 @@ returns-in-Err-flush g c =
     c.settle.ensures in
     let put : PutsAll c.args.out.now c.put_answer.new.out text =
     subst (λ rows. PutsAll c.args.out.now c.put_answer.new.out (flat_map row_line rows)) rows_are
-    c.in-Ok.ensures in
+    c.in-Ok.ensures.0 in
     let prefix : PutsPrefix c.args.out.now c.flush.new.self text =
     subst (PutsPrefix c.args.out.now c.flush.new.self) (append-nil text)
     (PutsPrefix-after c.args.out.now c.put_answer.new.out c.flush.new.self text [] put
