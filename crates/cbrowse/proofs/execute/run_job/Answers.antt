@@ -1,0 +1,21 @@
+-- The pattern of a search is the bytes of its text.
+use Rattle.std.proofs.Common.{refl, string_bytes, subst}
+use Rattle.std.specs.List.{flat_map}
+use Rattle.cb_desk.specs.Answer.{answer}
+use Rattle.cb_session.specs.Output.{row_line}
+use Rattle.cb_words.specs.declared.job.Job.TheVariants.{Find}
+use Rattle.cbrowse.specs.Program.{DoesJob, WritesText}
+use Rattle.cbrowse.proofs.execute.run_job.Goals as goal
+
+pub returns-in-Find : goal.returns-in-Find
+returns-in-Find g c =
+    let put : WritesText (flat_map row_line (answer c.args.session.timeline.present c.in-Find.field
+    (string_bytes c.in-Find.pattern))) c.args.out.now c.find_in.new.out c.find_in.result =
+    subst (λ p. WritesText (flat_map row_line (answer c.args.session.timeline.present
+    c.in-Find.field p)) c.args.out.now c.find_in.new.out c.find_in.result) c.as_bytes.ensures.value
+    c.find_in.ensures in
+    let does : DoesJob (Find c.in-Find.bounds c.in-Find.profile c.in-Find.field c.in-Find.pattern
+    c.in-Find.list c.in-Find.files) c.args.limits.now.lines c.args.limits.now.line c.args.session
+    c.args.feed.now c.args.feed.now c.args.out.now c.find_in.new.out c.find_in.result =
+    (refl, put) in
+    rw c.in-Find.is does
