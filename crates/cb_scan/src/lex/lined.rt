@@ -122,7 +122,7 @@ impl<'a> Iterator for LinedPieces<'a> {
 
     ghost remaining = { item_count (λ rest. rest) };
 
-    #[inline]
+    #[inline(always)]
     fn next(&mut self) -> Option<Lined> {
         let rest = &self.text[self.at as usize..];
         if rest.is_empty() {

@@ -95,6 +95,7 @@ fn may_mean(word: &[u8]) -> bool
     }
 }
 
+#[inline(always)]
 #[tactic(auto, unfolding(crate::specs::lex::Tokens::word_of))]
 fn word_of(word: &[u8]) -> WordKind
     ensures { result ≡ word_of word.now }

@@ -197,6 +197,7 @@ impl Directive {
 
 impl Stage {
     /// After a token.
+    #[inline(always)]
     pub(crate) fn next(&mut self, token: &Token)
         ensures { self.new ≡ next_stage self.old token.now }
     {
@@ -257,6 +258,7 @@ impl Stage {
     }
 
     /// The include whose header the next token is or ends.
+    #[inline(always)]
     pub(crate) fn include_found(&self, text: &[u8], token: &Token) -> Option<Include>
         requires some { token.now.span.start < token.now.span.end }
         requires within { token.now.span.end ≤ length text.now }
