@@ -39,7 +39,7 @@ pub struct Piece {
 
 /// The piece that `rest` begins with, where `rest` is what is left of a text from the place `at`
 /// on.
-#[inline]
+#[inline(always)]
 pub(crate) fn first_piece(at: u32, rest: &[u8]) -> Piece
     requires some { 0 < length rest.now }
     requires small { at + length rest.now ≤ MOST_BYTES }
