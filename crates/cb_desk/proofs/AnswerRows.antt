@@ -166,7 +166,8 @@ module _ (by : Profile) (p : List ℕ) where
   pub calling-rows : (fs : List File)
       → map row_around (calls_of by p fs) ≡ flat_map (field_rows by Calling p) fs
   unfolding calls_of
-  calling-rows fs = rows-flat row_around (file_calls_of by p) (field_rows by Calling p) calling-in fs
+  calling-rows fs = rows-flat row_around (file_calls_of by p) (field_rows by Calling p) calling-in
+      fs
 
   -- ---- includes
   abbrev asked-header : Fact → Bool

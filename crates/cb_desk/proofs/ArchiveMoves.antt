@@ -333,7 +333,8 @@ module _ (k l : Kept) (records : List Turn) (done : ℕ) (now : l.now ≡ k.now)
             (agree_all k.archive l.archive profile names texts) k.now
             present_there present_there.names present_there.versions i;
         future =
-            walk_on_moved k.archive l.archive profile names texts k.rooms k.now (turns_on before) is.on i;
+            walk_on_moved k.archive l.archive profile names texts k.rooms k.now (turns_on before)
+            is.on i;
       })
 
   leads_back : LeadsBack l.rooms l.archive l.now (turns_back after_room)

@@ -285,7 +285,8 @@ module _ (k : Kept) (p : Planned) (h : Shown) (marks frames : Edits)
 module _ (k : Kept) (p : Planned) (name text : List ℕ) (kept : IsKept k.rooms k.archive k.now)
     (ascending : AreAscending k.archive k.now.shown)
     (fresh : has_file (files_of k.archive k.now.shown) name ≡ false)
-    (profile : p.profile ≡ k.archive.profile) (names : p.names ≡ name ∷ []) (texts : p.texts ≡ text ∷ []) (number version : ℕ)
+    (profile : p.profile ≡ k.archive.profile) (names : p.names ≡ name ∷ []) (texts : p.texts ≡ text
+    ∷ []) (number version : ℕ)
     (turn : p.turn ≡ record {
       hides = [];
       shows = record { name = k.now.names; version = k.now.versions } ∷ [];
@@ -362,7 +363,8 @@ module _ (k : Kept) (p : Planned) (name text : List ℕ) (kept : IsKept k.rooms 
 module _ (k : Kept) (p : Planned) (h : Shown) (text : List ℕ) (marks frames : Edits)
     (kept : IsKept k.rooms k.archive k.now)
     (ascending : AreAscending k.archive k.now.shown) (among : IsAmong k.now.shown h)
-    (profile : p.profile ≡ k.archive.profile) (names : p.names ≡ []) (texts : p.texts ≡ text ∷ []) (version : ℕ)
+    (profile : p.profile ≡ k.archive.profile) (names : p.names ≡ []) (texts : p.texts ≡ text ∷ [])
+    (version : ℕ)
     (turn : p.turn ≡ record {
       hides = h ∷ [];
       shows = record { name = h.name; version = k.now.versions } ∷ [];
@@ -452,7 +454,8 @@ module _ (k : Kept) (p : Planned) (h : Shown) (new_bytes : List ℕ) (marks fram
     (kept : IsKept k.rooms k.archive k.now)
     (ascending : AreAscending k.archive k.now.shown) (among : IsAmong k.now.shown h)
     (fresh : has_file (files_of k.archive k.now.shown) new_bytes ≡ false)
-    (profile : p.profile ≡ k.archive.profile) (names : p.names ≡ new_bytes ∷ []) (texts : p.texts ≡ []) (number : ℕ)
+    (profile : p.profile ≡ k.archive.profile) (names : p.names ≡ new_bytes ∷ []) (texts : p.texts ≡
+    []) (number : ℕ)
     (turn : p.turn ≡ record {
       hides = h ∷ [];
       shows = record { name = k.now.names; version = h.version } ∷ [];

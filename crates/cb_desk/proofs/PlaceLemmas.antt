@@ -319,7 +319,8 @@ at-place P (y ∷ xs) zero x all e = let same : y ≡ x = cc in subst P same all
 at-place P (y ∷ xs) (suc i) x all e = at-place P xs i x all.1 e
 
 -- the nth place of a name is a line that is there
-pub nth-place : (by : Profile) (files : List File) (name : List ℕ) (n : ℕ) (f : Place) → IsAscending files
+pub nth-place : (by : Profile) (files : List File) (name : List ℕ) (n : ℕ) (f : Place) → IsAscending
+    files
     → nth n (places by files name) ≡ Some f → IsPlaceOf files f
 nth-place by files name zero f up e = cc
 nth-place by files name (suc n) f up e =

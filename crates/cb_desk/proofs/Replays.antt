@@ -37,7 +37,8 @@ module _ (p : Profile) (b : WorldBounds) where
 
   -- a change
   joins : (k : Kept) (s : Step) (r : Result World Refusal) → step (replay p b k.done) s ≡ r
-      → or_stays (timeline_of p b k) (advanced (timeline_of p b k) r) ≡ timeline_of p b (joined b k s r)
+      → or_stays (timeline_of p b k) (advanced (timeline_of p b k) r) ≡ timeline_of p b (joined b k
+      s r)
   unfolding replay worlds_before worlds_after
   joins k s (Err e) is = refl
   joins k s (Ok w) is =
@@ -71,7 +72,8 @@ module _ (p : Profile) (b : WorldBounds) where
   pub moves-replayed : (k : Kept) (m : Move)
       → moved_by (timeline_of p b k) m ≡ timeline_of p b (kept_by p b k m)
   unfolding changed
-  moves-replayed k (change true s) = refused-stays (timeline_of p b k) s (changed (timeline_of p b k) s)
+  moves-replayed k (change true s) = refused-stays (timeline_of p b k) s (changed (timeline_of p b
+      k) s)
   moves-replayed k (change false s) = joins k s (step (replay p b k.done) s) refl
   moves-replayed k undo = undoes k.done k.undone
   moves-replayed k redo = redoes k.done k.undone

@@ -64,7 +64,8 @@ module _ (by : Profile) (name : List ℕ) where
       same x y e = cc
   got P (q ∷ ps) (suc k) p all is = got P ps k p all.1 is
 
-  pub nth_is_placed : (files : List File) (n : ℕ) (p : Place) → nth n (places by files name) ≡ Some p
+  pub nth_is_placed : (files : List File) (n : ℕ) (p : Place) → nth n (places by files name) ≡ Some
+      p
       → has_file files p.file ≡ true
   nth_is_placed files zero p is = cc
   nth_is_placed files (suc n) p is =

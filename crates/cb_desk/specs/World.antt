@@ -1,4 +1,5 @@
--- The files of a session at one moment, by a profile and within bounds, the text that is wanted with the lines
+-- The files of a session at one moment, by a profile and within bounds, the text that is wanted
+-- with the lines
 -- that are marked for a change, and the tag stack.
 use Rattle.std.specs.Prelude.{◌≡◌, ℕ, suc, ◌≤◌, ◌-◌, ◌^◌, ◌==◌, Bool, ◌&&◌, not, nat_le, List, []}
 use Rattle.std.specs.Prelude.{◌∷◌, ◌++◌, length, map, IsTrue, Option, None, Some, if◌then◌else◌}
@@ -44,7 +45,8 @@ pub record AreBounds (b : WorldBounds) : Type 0 where
 abbrev pub standard_bounds : WorldBounds
 standard_bounds = record { files = 4096; file_bytes = 1000000; history = 65536 }
 
--- the profile by which its files are scanned; its bounds; the files, ascending by the bytes of their
+-- the profile by which its files are scanned; its bounds; the files, ascending by the bytes of
+-- their
 -- names; the wanted text, and the marks, ascending by file and line; the frames of the tag stack,
 -- bottom first
 pub record World : Type 0 where

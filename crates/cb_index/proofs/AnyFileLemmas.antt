@@ -11,11 +11,13 @@ use Rattle.cb_index.specs.declared.kind.FactKind.{FactKind}
 use Rattle.cb_index.specs.declared.kind.FactKind.TheVariants.{Uses, Callees, Callers}
 
 module _ (file other : List ℕ) (text : Scanned) where
-  use_line : (u : Option Use) → (fact_of_use file text.bytes u).line ≡ (fact_of_use other text.bytes u).line
+  use_line : (u : Option Use) → (fact_of_use file text.bytes u).line ≡ (fact_of_use other text.bytes
+      u).line
   use_line None = refl
   use_line (Some u) = refl
 
-  call_line : (c : Option Call) → (fact_of_call file text.bytes c).line ≡ (fact_of_call other text.bytes c).line
+  call_line : (c : Option Call) → (fact_of_call file text.bytes c).line ≡ (fact_of_call other
+      text.bytes c).line
   call_line None = refl
   call_line (Some c) = refl
 
@@ -31,7 +33,8 @@ module _ (file other : List ℕ) (text : Scanned) where
   use_function (Some u) = refl
 
   callee_function : (c : Option Call)
-      → column (fact_of_call file text.bytes c).scope ≡ column (fact_of_call other text.bytes c).scope
+      → column (fact_of_call file text.bytes c).scope ≡ column (fact_of_call other text.bytes
+      c).scope
   callee_function None = refl
   callee_function (Some c) = refl
 

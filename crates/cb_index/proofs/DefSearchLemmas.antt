@@ -316,7 +316,8 @@ asked_first kind a key es =
 
 -- the entries of a version that is there
 pub listed_defs : (by : Bool) (text : Scanned)
-    → numbered 0 (map (prefixed by text.bytes) (facts_of text).defs) ≡ lister_of (def_kind by) (Some text)
+    → numbered 0 (map (prefixed by text.bytes) (facts_of text).defs) ≡ lister_of (def_kind by) (Some
+    text)
 listed_defs false text = refl
 listed_defs true text = refl
 

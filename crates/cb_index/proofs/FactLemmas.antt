@@ -102,7 +102,8 @@ module _ (a : Archived) (s : Shown) (text : Scanned)
   file = record { name = name_of a s.name; bytes = text.bytes }
 
   use_tests : (n : ℕ) (us : List Use) → drop n (facts_of text).uses ≡ us
-      → AllByRecursion (λ (u : Use). IsWithin text.bytes u.name × IsScopeWithin text.bytes u.scope) us
+      → AllByRecursion (λ (u : Use). IsWithin text.bytes u.name × IsScopeWithin text.bytes u.scope)
+      us
       → Tests (fact_at Uses (name_of a s.name) text) (use_in file)
       (λ (u : Use). bytes_of text.bytes u.name) key (has Uses text key) n us
   use_tests n [] is within = tt
@@ -114,7 +115,8 @@ module _ (a : Archived) (s : Shown) (text : Scanned)
   )
 
   use_rows : (n : ℕ) (us : List Use) → drop n (facts_of text).uses ≡ us
-      → AllByRecursion (λ (u : Use). IsWithin text.bytes u.name × IsScopeWithin text.bytes u.scope) us
+      → AllByRecursion (λ (u : Use). IsWithin text.bytes u.name × IsScopeWithin text.bytes u.scope)
+      us
       → Rows (fact_at Uses (name_of a s.name) text) (use_in file)
       (λ (u : Use). bytes_of text.bytes u.name) key n us
   use_rows n [] is within = tt
@@ -131,7 +133,8 @@ module _ (a : Archived) (s : Shown) (text : Scanned)
   uses_searched : map (fact_at Uses (name_of a s.name) text) (items_with Uses text key)
       ≡ file_uses_of text.profile key file
   uses_searched =
-      version_searched Uses a s text there (use_in file) (λ (u : Use). bytes_of text.bytes u.name) key
+      version_searched Uses a s text there (use_in file) (λ (u : Use). bytes_of text.bytes u.name)
+      key
       (facts_of text).uses refl
       (use_rows 0 (facts_of text).uses refl (facts_lie text.profile text.bytes).uses)
       (use_tests 0 (facts_of text).uses refl (facts_lie text.profile text.bytes).uses)
@@ -145,7 +148,8 @@ module _ (a : Archived) (s : Shown) (text : Scanned)
     next_call = drop_next n (facts_of text).calls ∙ ap (drop 1) is
 
     call_is : IsWithin text.bytes c.callee × IsWithin text.bytes c.caller
-        → fact_of_call (name_of a s.name) text.bytes (slice_get (facts_of text).calls n) ≡ call_in file c
+        → fact_of_call (name_of a s.name) text.bytes (slice_get (facts_of text).calls n) ≡ call_in
+        file c
     call_is within =
         ap (fact_of_call (name_of a s.name) text.bytes) found_call
         ∙ (λ i. record (call_in file c) {
@@ -154,7 +158,8 @@ module _ (a : Archived) (s : Shown) (text : Scanned)
         })
 
   abbrev pub CallsWithin : List Call → Type 0
-  CallsWithin cs = AllByRecursion (λ (c : Call). IsWithin text.bytes c.callee × IsWithin text.bytes c.caller) cs
+  CallsWithin cs = AllByRecursion (λ (c : Call). IsWithin text.bytes c.callee × IsWithin text.bytes
+      c.caller) cs
 
   callee_tests : (n : ℕ) (cs : List Call) → drop n (facts_of text).calls ≡ cs → CallsWithin cs
       → Tests (fact_at Callees (name_of a s.name) text) (call_in file)
@@ -162,7 +167,8 @@ module _ (a : Archived) (s : Shown) (text : Scanned)
   callee_tests n [] is within = tt
   callee_tests n (c ∷ cs) is within = (
     ap (bytes_eq key)
-        (ap (λ o. bytes_at text.bytes (option_map (λ (x : Call). x.callee) o)) (found_call n c cs is)
+        (ap (λ o. bytes_at text.bytes (option_map (λ (x : Call). x.callee) o)) (found_call n c cs
+        is)
         ∙ cut_is text.bytes c.callee within.0.0),
     callee_tests (suc n) cs (next_call n c cs is) within.1,
   )
@@ -173,7 +179,8 @@ module _ (a : Archived) (s : Shown) (text : Scanned)
   caller_tests n [] is within = tt
   caller_tests n (c ∷ cs) is within = (
     ap (bytes_eq key)
-        (ap (λ o. bytes_at text.bytes (option_map (λ (x : Call). x.caller) o)) (found_call n c cs is)
+        (ap (λ o. bytes_at text.bytes (option_map (λ (x : Call). x.caller) o)) (found_call n c cs
+        is)
         ∙ cut_is text.bytes c.caller within.0.1),
     caller_tests (suc n) cs (next_call n c cs is) within.1,
   )
@@ -195,7 +202,8 @@ module _ (a : Archived) (s : Shown) (text : Scanned)
   callees_searched : map (fact_at Callees (name_of a s.name) text) (items_with Callees text key)
       ≡ file_calls_of text.profile key file
   callees_searched =
-      version_searched Callees a s text there (call_in file) (λ (c : Call). bytes_of text.bytes c.callee)
+      version_searched Callees a s text there (call_in file) (λ (c : Call). bytes_of text.bytes
+      c.callee)
       key (facts_of text).calls refl
       (callee_rows 0 (facts_of text).calls refl (facts_lie text.profile text.bytes).calls)
       (callee_tests 0 (facts_of text).calls refl (facts_lie text.profile text.bytes).calls)
@@ -203,7 +211,8 @@ module _ (a : Archived) (s : Shown) (text : Scanned)
   callers_searched : map (fact_at Callers (name_of a s.name) text) (items_with Callers text key)
       ≡ file_calls_in text.profile key file
   callers_searched =
-      version_searched Callers a s text there (call_in file) (λ (c : Call). bytes_of text.bytes c.caller)
+      version_searched Callers a s text there (call_in file) (λ (c : Call). bytes_of text.bytes
+      c.caller)
       key (facts_of text).calls refl
       (caller_rows 0 (facts_of text).calls refl (facts_lie text.profile text.bytes).calls)
       (caller_tests 0 (facts_of text).calls refl (facts_lie text.profile text.bytes).calls)
@@ -242,7 +251,8 @@ named_apart p Callers key fs = refl
 module _ (kind : FactKind) (a : Archived) (key : List ℕ) where
   all_facts : (shown : List Shown) → AllByRecursion (IsThere a) shown
       → facts_in kind a (filter (has_key (item_keyer kind) a (key_prefix key) key)
-      (all_entries (firsts_in kind) a shown)) ≡ flat_map (file_facts a.profile kind key) (files_of a shown)
+      (all_entries (firsts_in kind) a shown)) ≡ flat_map (file_facts a.profile kind key) (files_of a
+      shown)
   all_facts [] all = refl
   all_facts (s ∷ shown) all =
       let has = has_key (item_keyer kind) a (key_prefix key) key in

@@ -189,21 +189,25 @@ key_decides front keyer a key e told = by_key (bytes_eq key (key_of keyer a e)) 
 -- ---- an order in which an entry is a definition
 pub record IsTold (front : List ℕ → List ℕ) (keyer : Keyer)
     (prefixed : List ℕ → Def → ℕ) : Type 0 where
-  pub prefix : (text : Scanned) (file : List ℕ) (n : ℕ) (d : Def) → slice_get (facts_of text).defs n ≡ Some d
+  pub prefix : (text : Scanned) (file : List ℕ) (n : ℕ) (d : Def) → slice_get (facts_of text).defs n
+      ≡ Some d
       → prefixed text.bytes d ≡ key_prefix (front (keyer (Some text) file n))
   pub bytes : (text : Scanned) (file : List ℕ) (n : ℕ) → AreBytes text.bytes
       → AreBytes (front (keyer (Some text) file n))
 
-name_is : (text : Scanned) (file : List ℕ) (n : ℕ) (d : Def) → slice_get (facts_of text).defs n ≡ Some d
+name_is : (text : Scanned) (file : List ℕ) (n : ℕ) (d : Def) → slice_get (facts_of text).defs n ≡
+    Some d
     → cut text.bytes d.name ≡ def_key (Some text) file n
-name_is text file n d is = sym (ap (λ o. bytes_at text.bytes (option_map (λ (x : Def). x.name) o)) is)
+name_is text file n d is = sym (ap (λ o. bytes_at text.bytes (option_map (λ (x : Def). x.name) o))
+    is)
 
 pub names_told : IsTold (λ key. key) def_key def_prefix
 unfolding def_prefix
 names_told = record {
   prefix = λ text file n d is. ap key_prefix (name_is text file n d is);
   bytes = λ text file n bytes.
-      span_bytes text.bytes (option_map (λ (x : Def). x.name) (slice_get (facts_of text).defs n)) bytes;
+      span_bytes text.bytes (option_map (λ (x : Def). x.name) (slice_get (facts_of text).defs n))
+      bytes;
 }
 
 pub tags_told : IsTold tag_front tag_key tag_prefix
@@ -213,7 +217,8 @@ tags_told = record {
       ap (λ name. key_prefix (tag_front (tag_name name []))) (name_is text file n d is)
       ∙ ap key_prefix (any_file (def_key (Some text) file n) [] file);
   bytes = λ text file n bytes. tag_bytes (def_key (Some text) file n) file
-      (span_bytes text.bytes (option_map (λ (x : Def). x.name) (slice_get (facts_of text).defs n)) bytes);
+      (span_bytes text.bytes (option_map (λ (x : Def). x.name) (slice_get (facts_of text).defs n))
+      bytes);
 }
 
 module _ (front : List ℕ → List ℕ) (keyer : Keyer) (prefixed : List ℕ → Def → ℕ)

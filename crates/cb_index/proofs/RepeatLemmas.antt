@@ -358,7 +358,8 @@ module _ (text : Scanned) where
   shown_in Callees span = column (option_map (cut text.bytes) span)
   shown_in Callers span = bytes_at text.bytes span
 
-  of_use : (u : Option Use) → column (fact_of_use [] text.bytes u).scope ≡ shown_in Uses (scope_of u)
+  of_use : (u : Option Use) → column (fact_of_use [] text.bytes u).scope ≡ shown_in Uses (scope_of
+      u)
   of_use None = refl
   of_use (Some u) = refl
 

@@ -177,7 +177,8 @@ found_name file text (Some d) = refl
 key_name : (file : List ℕ) (number : ℕ) (text : Option Scanned)
     → def_key text file number ≡ (tag_in_text file number text).name
 key_name file number None = refl
-key_name file number (Some text) = found_name file text.bytes (slice_get (facts_of text).defs number)
+key_name file number (Some text) = found_name file text.bytes (slice_get (facts_of text).defs
+    number)
 
 found_file : (file text : List ℕ) (d : Option Def) → file ≡ (tag_of_def file text d).file
 found_file file text None = refl
@@ -186,7 +187,8 @@ found_file file text (Some d) = refl
 key_file : (file : List ℕ) (number : ℕ) (text : Option Scanned)
     → file ≡ (tag_in_text file number text).file
 key_file file number None = refl
-key_file file number (Some text) = found_file file text.bytes (slice_get (facts_of text).defs number)
+key_file file number (Some text) = found_file file text.bytes (slice_get (facts_of text).defs
+    number)
 
 pub key_is_name : (a : Archived) (e : Entry) → key_of def_key a e ≡ (tag_at a e).name
 key_is_name a e = key_name (name_of a e.name) e.number (text_at a e.version)
@@ -222,7 +224,8 @@ module _ (a : Archived) (s : Shown) (text : Scanned)
       → MatchOption t (Unit {0}) (λ (x : facts.Tag). IsWithin text.bytes x.name)
       → option_map (scope_cut text.bytes) t ≡ option_map (scope_in file) t
   scope_is None within = refl
-  scope_is (Some t) within = λ i. Some (record { kind = t.kind; name = cut_is text.bytes t.name within i })
+  scope_is (Some t) within = λ i. Some (record { kind = t.kind; name = cut_is text.bytes t.name
+      within i })
 
   module _ (prefix n : ℕ) (d : Def) (rest : List Def) (is : drop n (facts_of text).defs ≡ d ∷ rest)
       (within : IsWithin text.bytes d.name) where
@@ -233,7 +236,8 @@ module _ (a : Archived) (s : Shown) (text : Scanned)
     tag_is tagged =
         ap (tag_in_text (name_of a s.name) n) there
         ∙ ap (tag_of_def (name_of a s.name) text.bytes) found_def
-        ∙ (λ i. record (tag_in file d) { name = cut_is text.bytes d.name within i; scope = scope_is d.tag tagged i })
+        ∙ (λ i. record (tag_in file d) { name = cut_is text.bytes d.name within i; scope = scope_is
+        d.tag tagged i })
 
     key_is : key_of def_key a (entry prefix n) ≡ bytes_of text.bytes d.name
     key_is =
@@ -242,7 +246,8 @@ module _ (a : Archived) (s : Shown) (text : Scanned)
         ∙ cut_is text.bytes d.name within
 
   tags_from : (prefixed : Def → ℕ) (n : ℕ) (defs : List Def) → drop n (facts_of text).defs ≡ defs
-      → AllByRecursion (λ (d : Def). IsWithin text.bytes d.name) defs → AllByRecursion (IsTagWithin text.bytes) defs
+      → AllByRecursion (λ (d : Def). IsWithin text.bytes d.name) defs → AllByRecursion (IsTagWithin
+      text.bytes) defs
       → map (tag_at a) (map (entry_of s) (numbered n (map prefixed defs))) ≡ map (tag_in file) defs
   tags_from prefixed n [] is within tagged = refl
   tags_from prefixed n (d ∷ defs) is within tagged =
@@ -251,7 +256,8 @@ module _ (a : Archived) (s : Shown) (text : Scanned)
       (drop_next n (facts_of text).defs ∙ ap (drop 1) is) within.1 tagged.1 i
 
   tags_named_from : (name : List ℕ) (n : ℕ) (defs : List Def) → drop n (facts_of text).defs ≡ defs
-      → AllByRecursion (λ (d : Def). IsWithin text.bytes d.name) defs → AllByRecursion (IsTagWithin text.bytes) defs
+      → AllByRecursion (λ (d : Def). IsWithin text.bytes d.name) defs → AllByRecursion (IsTagWithin
+      text.bytes) defs
       → map (tag_at a) (filter (has_key def_key a (key_prefix name) name)
       (map (entry_of s) (numbered n (map (def_prefix text.bytes) defs))))
       ≡ map (tag_in file) (filter (λ (d : Def). bytes_eq name (bytes_of text.bytes d.name)) defs)
@@ -268,7 +274,8 @@ module _ (a : Archived) (s : Shown) (text : Scanned)
       (key_decides (λ key. key) def_key a name here
       (entry_told (λ key. key) def_key def_prefix names_told a s text there n d defs is)
       ∙ ap (bytes_eq name) (key_is (def_prefix text.bytes d) n d defs is within.0))
-      ∙ kept_or_not (tag_at a) (tag_in file) (bytes_eq name (bytes_of text.bytes d.name)) here kept d
+      ∙ kept_or_not (tag_at a) (tag_in file) (bytes_eq name (bytes_of text.bytes d.name)) here kept
+      d
       (filter (λ (x : Def). bytes_eq name (bytes_of text.bytes x.name)) defs)
       (tag_is (def_prefix text.bytes d) n d defs is within.0 tagged.0) later
 
@@ -277,7 +284,8 @@ module _ (a : Archived) where
       → ((text : Scanned)
       → lister (Some text) ≡ numbered 0 (map (prefixed text.bytes) (facts_of text).defs))
       → (shown : List Shown) → AllByRecursion (IsThere a) shown
-      → map (tag_at a) (all_entries lister a shown) ≡ flat_map (file_tags a.profile) (files_of a shown)
+      → map (tag_at a) (all_entries lister a shown) ≡ flat_map (file_tags a.profile) (files_of a
+      shown)
   all_tags lister prefixed some [] all = refl
   all_tags lister prefixed some (s ∷ shown) all =
       let text = text_of a s.version in
@@ -286,7 +294,8 @@ module _ (a : Archived) where
       map-append (tag_at a) (entries_of lister a s) (all_entries lister a shown)
       ∙ (λ i. (ap (λ o. map (tag_at a) (map (entry_of s) (lister o))) there
       ∙ ap (λ ps. map (tag_at a) (map (entry_of s) ps)) (some text)
-      ∙ tags_from a s text there (prefixed text.bytes) 0 (facts_of text).defs refl (facts_lie text.profile text.bytes).defs (facts_lie text.profile text.bytes).tags)
+      ∙ tags_from a s text there (prefixed text.bytes) 0 (facts_of text).defs refl (facts_lie
+      text.profile text.bytes).defs (facts_lie text.profile text.bytes).tags)
       i
       ++ all_tags lister prefixed some shown all.1 i)
 
@@ -305,7 +314,8 @@ module _ (a : Archived) where
       ∙ map-append (tag_at a) (filter has (entries_of defs_listed a s))
       (filter has (all_entries defs_listed a shown))
       ∙ (λ i. (ap (λ o. map (tag_at a) (filter has (map (entry_of s) (defs_listed o)))) there
-      ∙ tags_named_from a s text there name 0 (facts_of text).defs refl (facts_lie text.profile text.bytes).defs (facts_lie text.profile text.bytes).tags) i
+      ∙ tags_named_from a s text there name 0 (facts_of text).defs refl (facts_lie text.profile
+      text.bytes).defs (facts_lie text.profile text.bytes).tags) i
       ++ all_tags_named name shown all.1 i)
 
   module _ (shown : List Shown) (all : AllByRecursion (IsThere a) shown) (up : AreAscending a shown)

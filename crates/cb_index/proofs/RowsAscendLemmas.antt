@@ -86,7 +86,8 @@ module _ (text : Scanned) (i j : ℕ) (upward : i < j) where
   defs_before : j < length (facts_of text).defs → StandsBefore def_start def_rank (Some text) i j
   defs_before below =
       let defs = (facts_of text).defs in
-      let d : Def = record { name = nowhere; kind = Function; line = 0; local = false; tag = None } in
+      let d : Def = record { name = nowhere; kind = Function; line = 0; local = false; tag = None }
+      in
       let first : slice_get defs i ≡ Some (get_or defs i d) =
       slice_get-get_or defs i d (omega (arith, upward, below)) in
       let second : slice_get defs j ≡ Some (get_or defs j d) = slice_get-get_or defs j d below in

@@ -154,8 +154,10 @@ module _ (kind : FactKind) (a : Archived) (key : List ℕ) where
       ++ all_searched shown all.1 i
 
   pub facts_searched : (shown : List Shown) → AllByRecursion (IsThere a) shown
-      → flat_map (searched_at true kind a key) shown ≡ facts_named a.profile kind key (files_of a shown)
-  facts_searched shown all = all_searched shown all ∙ named_apart a.profile kind key (files_of a shown)
+      → flat_map (searched_at true kind a key) shown ≡ facts_named a.profile kind key (files_of a
+      shown)
+  facts_searched shown all = all_searched shown all ∙ named_apart a.profile kind key (files_of a
+      shown)
 
   pub new_searched : (shown : List Shown) → AllByRecursion (IsThere a) shown
       → flat_map (searched_at false kind a key) shown

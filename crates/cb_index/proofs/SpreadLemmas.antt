@@ -60,7 +60,8 @@ module _ (a : Archived) (s : Shown) (text : Scanned)
     has_front e = has_key keyer a (key_prefix (front key)) key e
 
     def_rows : (n : ℕ) (ds : List Def) → drop n (facts_of text).defs ≡ ds
-        → rows_in None a (filter has_front (map (entry_of s) (numbered n (map (prefixed text.bytes) ds))))
+        → rows_in None a (filter has_front (map (entry_of s) (numbered n (map (prefixed text.bytes)
+        ds))))
         ≡ map (row_under s) (filter
         ((λ item. bytes_eq key (keyer (text_at a s.version) (name_of a s.name) item)))
         (range_with_len n (length ds)))
@@ -75,7 +76,8 @@ module _ (a : Archived) (s : Shown) (text : Scanned)
           number = n;
           rows = 1;
         } in
-        let es = filter has_front (map (entry_of s) (numbered (suc n) (map (prefixed text.bytes) ds))) in
+        let es = filter has_front (map (entry_of s) (numbered (suc n) (map (prefixed text.bytes)
+        ds))) in
         ap (λ b. rows_in None a (cond b (e ∷ es) es))
         (key_decides front keyer a key e
         (entry_told front keyer prefixed told a s text there n d ds is))

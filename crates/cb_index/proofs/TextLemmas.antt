@@ -1,5 +1,6 @@
 -- Texts of an archive.
-use Rattle.std.proofs.Common.{◌≡◌, ◌<◌, ℕ, zero, suc, List, [], ◌∷◌, Some, ap, arith, get_or, length}
+use Rattle.std.proofs.Common.{◌≡◌, ◌<◌, ℕ, zero, suc, List, [], ◌∷◌, Some, ap, arith, get_or}
+use Rattle.std.proofs.Common.{length}
 use Rattle.std.proofs.Common.{map, refl, sym, Option, None}
 use Rattle.std.proofs.lemmas.Option.{slice_get-get_or, slice_get_past, slice_get_read}
 use Rattle.std.specs.Prelude.{slice_get}

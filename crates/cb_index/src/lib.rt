@@ -1,7 +1,8 @@
 //! Versions of files and sorted indexes of their facts.
 //!
 //! An [`Archive`] keeps file names and versions, each under a number. A [`Shelf`] has an archive
-//! and shows some of its versions, each under a file name, with five sorted indexes of what is found
+//! and shows some of its versions, each under a file name, with five sorted indexes of what is
+//! found
 //! in them. The crate stands on `cb_scan` (facts) and `cb_tags` (tag names). The layer above uses
 //! the contracts of [`Shelf`]: its readers give exactly the facts of the files that are shown.
 #![tactic(auto)]

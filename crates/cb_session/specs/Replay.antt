@@ -39,5 +39,6 @@ load_of f = move.change false (load f.name f.bytes)
 -- a run begins where the loads of its operands lead
 abbrev pub OperandsAreReplayed : Type 0
 OperandsAreReplayed =
-    (p : Profile) (b : WorldBounds) (files : List File) (t : Timeline) → Loads 0 (new_timeline p b) files (Ok t)
+    (p : Profile) (b : WorldBounds) (files : List File) (t : Timeline) → Loads 0 (new_timeline p b)
+    files (Ok t)
     → t ≡ timeline_of p b (kept_after p b none_kept (map load_of files))

@@ -23,7 +23,8 @@ pub struct Operand {
 pub type Operands = Vec<Operand>;
 
 /// A session within these bounds, and by a profile, in which the operands are loaded, each as a
-/// change that can be taken back. The first refusal ends it; memory that is refused when all are there is refused to
+/// change that can be taken back. The first refusal ends it; memory that is refused when all are
+/// there is refused to
 /// the last one.
 pub fn prepare(
     alloc: Global,

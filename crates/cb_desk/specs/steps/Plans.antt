@@ -30,7 +30,8 @@ pub record Planned : Type 0 where
   pub texts : List (List ℕ)
   pub turn : Turn
 
--- an archive keeps its profile and what a world and those before it use, and has what is new behind it
+-- an archive keeps its profile and what a world and those before it use, and has what is new behind
+-- it
 pub record Keeps (old : Archived) (w : Numbered) (p : Planned) (new : Archived) : Type 0 where
   pub profile : new.profile ≡ old.profile
   pub names : new.names ≡ take w.names old.names ++ p.names

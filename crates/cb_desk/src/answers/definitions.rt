@@ -11,7 +11,8 @@ use cb_index::Shelf;
 /// The place of the nth definition of a name, by file and place, counted from 1: the name of its
 /// file and its line.
 pub(crate) fn nth_definition<'a>(shelf: &'a Shelf, name: &[u8], n: u64) -> Option<(&'a [u8], u32)>
-    ensures { option_map place_at result ≡ nth n (places shelf.now.archive.profile (files shelf.now) name.now) }
+    ensures { option_map place_at result ≡ nth n (places shelf.now.archive.profile (files shelf.now)
+        name.now) }
 {
     if n == 0 {
         return None;

@@ -51,7 +51,8 @@ impl<'a> Iterator for TagRows<'a> {
 
 /// All definitions as tags, in the order of a format.
 pub(crate) fn tag_rows(shelf: &Shelf, format: Format) -> TagRows<'_>
-    ensures { result ≡ in_order (tag_key format) (flat_map (file_tags shelf.now.archive.profile) (files shelf.now)) }
+    ensures { result ≡ in_order (tag_key format) (flat_map (file_tags shelf.now.archive.profile)
+        (files shelf.now)) }
 {
     match format {
         Format::Plain => TagRows { rest: shelf.tags() },

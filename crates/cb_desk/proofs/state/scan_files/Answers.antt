@@ -18,13 +18,15 @@ loop-source-preserved c =
     let fits = c.loop-source.invariant.fits in
     let finds =
     subst (λ fs. counted c.loop-source.found (definitions_in c.args.profile fs) ≡ counted 0
-    (definitions_in c.args.profile c.args.files)) c.in-Some.ensures.steps c.loop-source.invariant.finds in
+    (definitions_in c.args.profile c.args.files)) c.in-Some.ensures.steps
+    c.loop-source.invariant.finds in
     record {
       counts = counts_next old m all _ f _ counts c.in_ok-more.ensures.counted;
       least = counts_least old m all _ f _ counts c.in_ok-more.ensures.counted least fits;
       fits = counts_bound old m all _ f _ counts c.in_ok-more.ensures.counted;
       finds =
-          finds_next c.args.profile c.loop-source.found _ (definitions_in c.args.profile c.args.files) f _ _ finds
+          finds_next c.args.profile c.loop-source.found _ (definitions_in c.args.profile
+          c.args.files) f _ _ finds
           c.in_ok-more.ensures.found c.saturating_add-found.ensures;
       few = finds_bound c.loop-source.found _ _ c.saturating_add-found.ensures;
     }

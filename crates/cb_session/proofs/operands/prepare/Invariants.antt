@@ -9,7 +9,8 @@ abbrev pub invariant-loop-operand : goal.invariant-loop-operand
 invariant-loop-operand l = record {
   goes : (end : Result Timeline RefusedOperand) → Loads l.place l.loading.timeline
       (map file_of_operand (into_iter_items l.operand-iterator)) end
-      → Loads 0 (new_timeline l.fn.profile l.fn.bounds) (map file_of_operand l.fn.operands.items) end;
+      → Loads 0 (new_timeline l.fn.profile l.fn.bounds) (map file_of_operand l.fn.operands.items)
+      end;
   placed : l.place ≡ length l.loading.timeline.past;
   scanned : counted l.loading.meter
       (bytes_in (map file_of_operand (into_iter_items l.operand-iterator)))

@@ -14,7 +14,8 @@ pub new-requires-clause-counted : goal.new-requires-clause-counted
 new-requires-clause-counted c =
     let kind = c.args.kind in
     c.spots.ensures.counted ∙ c.facts.ensures.counted
-    ∙ index-counts kind (file_facts c.args.shelf.now.archive.profile kind c.args.pattern.now) (files c.args.shelf.now)
+    ∙ index-counts kind (file_facts c.args.shelf.now.archive.profile kind c.args.pattern.now) (files
+    c.args.shelf.now)
     ∙ ap length (sym (c.spots.ensures.rows ∙ c.facts.ensures.new))
 
 pub new-requires-clause-few : goal.new-requires-clause-few

@@ -28,7 +28,8 @@ invariant_of-self-in_err-reserve_for c =
     (sym c.reserve.ensures.items)
     (same_recorded c.self.inside.present c.reserve_for.new.self c.self.inside.records.items
     c.self.inside.done c.reserve_for.ensures.now
-    c.reserve_for.ensures.same_profile c.reserve_for.ensures.same_names c.reserve_for.ensures.same_texts c.reserve_for.ensures.rooms
+    c.reserve_for.ensures.same_profile c.reserve_for.ensures.same_names
+    c.reserve_for.ensures.same_texts c.reserve_for.ensures.rooms
     c.self.invariant)
 
 pub returns-in_err-reserve_for-clause-timeline : goal.returns-in_err-reserve_for-clause-timeline
@@ -40,7 +41,8 @@ returns-in_err-reserve_for-clause-timeline c v plan =
     c.reserve.ensures.items
     ∙ same_timeline c.self.inside.present c.reserve_for.new.self c.self.inside.records.items
     c.self.inside.done c.reserve_for.ensures.now
-    c.reserve_for.ensures.same_profile c.reserve_for.ensures.same_names c.reserve_for.ensures.same_texts c.reserve_for.ensures.rooms
+    c.reserve_for.ensures.same_profile c.reserve_for.ensures.same_names
+    c.reserve_for.ensures.same_texts c.reserve_for.ensures.rooms
     c.self.invariant
     ∙ ap timeline_in c.self.view_is)
 
@@ -48,7 +50,8 @@ pub keep-requires-clause-there : goal.keep-requires-clause-there
 keep-requires-clause-there c =
     (kept_back _ _ _ _ (same_recorded c.self.inside.present c.reserve_for.new.self
     c.self.inside.records.items c.self.inside.done c.reserve_for.ensures.now
-    c.reserve_for.ensures.same_profile c.reserve_for.ensures.same_names c.reserve_for.ensures.same_texts c.reserve_for.ensures.rooms
+    c.reserve_for.ensures.same_profile c.reserve_for.ensures.same_names
+    c.reserve_for.ensures.same_texts c.reserve_for.ensures.rooms
     c.self.invariant).back).there
 
 pub invariant_of-self-2 : goal.invariant_of-self-2
@@ -58,11 +61,13 @@ invariant_of-self-2 c =
     let records = c.self.inside.records.items in
     let done = c.self.inside.done in
     let is : IsRecorded (record { kept = m; records = records; done = done }) =
-    same_recorded k m records done c.reserve_for.ensures.now c.reserve_for.ensures.same_profile c.reserve_for.ensures.same_names
+    same_recorded k m records done c.reserve_for.ensures.now c.reserve_for.ensures.same_profile
+    c.reserve_for.ensures.same_names
     c.reserve_for.ensures.same_texts
     c.reserve_for.ensures.rooms c.self.invariant in
     let same =
-    same_timeline k m records done c.reserve_for.ensures.now c.reserve_for.ensures.same_profile c.reserve_for.ensures.same_names
+    same_timeline k m records done c.reserve_for.ensures.now c.reserve_for.ensures.same_profile
+    c.reserve_for.ensures.same_names
     c.reserve_for.ensures.same_texts
     c.reserve_for.ensures.rooms c.self.invariant ∙ ap timeline_in c.self.view_is in
     let keeps : Keeps m.archive m.now c.args.plan c.keep.new.self.archive =
@@ -70,7 +75,8 @@ invariant_of-self-2 c =
     let items : c.push.new.self.items ≡ take done records ++ c.args.plan.turn ∷ [] = search rules in
     let plan : IsPlan m c.args.plan c.requires.0 =
     plan_moved k m c.args.plan c.requires.0 c.reserve_for.ensures.now
-    c.reserve_for.ensures.same_profile c.reserve_for.ensures.same_names c.reserve_for.ensures.same_texts
+    c.reserve_for.ensures.same_profile c.reserve_for.ensures.same_names
+    c.reserve_for.ensures.same_texts
     (subst (λ (h : Recorded). IsPlan h.kept c.args.plan c.requires.0)
     (sym c.self.view_is) c.requires.1) in
     subst (λ ts. IsRecorded (record { kept = c.keep.new.self; records = ts; done = done }))
@@ -78,7 +84,8 @@ invariant_of-self-2 c =
     (next_recorded m c.keep.new.self records done c.args.plan c.self.invariant.within keeps
     c.keep.ensures.now c.keep.ensures.rooms is
     c.requires.0 plan
-    (room_moved k m c.args.plan c.reserve_for.ensures.now c.reserve_for.ensures.same_profile c.reserve_for.ensures.same_names
+    (room_moved k m c.args.plan c.reserve_for.ensures.now c.reserve_for.ensures.same_profile
+    c.reserve_for.ensures.same_names
     c.reserve_for.ensures.same_texts (search rules))
     c.requires.2 (subst (λ (t : Timeline). length t.past < t.present.bounds.history) (sym same)
     c.requires.3))
@@ -90,18 +97,21 @@ returns-clause-timeline c v leads =
     let records = c.self.inside.records.items in
     let done = c.self.inside.done in
     let is : IsRecorded (record { kept = m; records = records; done = done }) =
-    same_recorded k m records done c.reserve_for.ensures.now c.reserve_for.ensures.same_profile c.reserve_for.ensures.same_names
+    same_recorded k m records done c.reserve_for.ensures.now c.reserve_for.ensures.same_profile
+    c.reserve_for.ensures.same_names
     c.reserve_for.ensures.same_texts
     c.reserve_for.ensures.rooms c.self.invariant in
     let same =
-    same_timeline k m records done c.reserve_for.ensures.now c.reserve_for.ensures.same_profile c.reserve_for.ensures.same_names
+    same_timeline k m records done c.reserve_for.ensures.now c.reserve_for.ensures.same_profile
+    c.reserve_for.ensures.same_names
     c.reserve_for.ensures.same_texts
     c.reserve_for.ensures.rooms c.self.invariant ∙ ap timeline_in c.self.view_is in
     let keeps : Keeps m.archive m.now c.args.plan c.keep.new.self.archive =
     record { profile = search rules; names = search rules; texts = search rules } in
     let items : c.push.new.self.items ≡ take done records ++ c.args.plan.turn ∷ [] = search rules in
     let plan : IsPlan m c.args.plan v =
-    plan_moved k m c.args.plan v c.reserve_for.ensures.now c.reserve_for.ensures.same_profile c.reserve_for.ensures.same_names
+    plan_moved k m c.args.plan v c.reserve_for.ensures.now c.reserve_for.ensures.same_profile
+    c.reserve_for.ensures.same_names
     c.reserve_for.ensures.same_texts
     (subst (λ (h : Recorded). IsPlan h.kept c.args.plan v) (sym c.self.view_is) leads) in
     ap (λ ts. timeline_in (record { kept = c.keep.new.self; records = ts; done = done })) items

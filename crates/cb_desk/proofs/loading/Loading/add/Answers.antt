@@ -120,7 +120,8 @@ put_all_shown-requires-clause-apart c =
     (record { name = length a.names; version = length a.texts }) =
     (λ i. record { name = named i; version = kept i }) in
     rw (c.archive.ensures, c.make_room.ensures.same_list, one)
-    (apart_then c.self.inside.bounds a b c.self.inside.shelf.shown shown records name text is profile names
+    (apart_then c.self.inside.bounds a b c.self.inside.shelf.shown shown records name text is
+    profile names
     texts fresh valid few)
 
 -- one file more is loaded

@@ -30,7 +30,8 @@ returns-in_err-found-clause-place c =
     let place : nth c.args.n (places k.archive.profile files c.args.name.now)
     ≡ Some (record { file = file; line = c.in_ok-file.line }) = search rules in
     let none : None ≡ file_named files file = search rules in
-    absurd (is_there files file none (nth_is_placed k.archive.profile c.args.name.now files c.args.n _ place))
+    absurd (is_there files file none (nth_is_placed k.archive.profile c.args.name.now files c.args.n
+    _ place))
 
 pub returns-clause-there : goal.returns-clause-there
 returns-clause-there c =

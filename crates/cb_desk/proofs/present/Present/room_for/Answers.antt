@@ -22,7 +22,8 @@ returns-in_err-all c =
     let k = c.args.self.now in
     let p = c.args.plan.now in
     let are : AreTotals k.archive k.now.shown c.totals-now.result = search rules in
-    let many : 2 ^ 64 ≤ facts_with c.totals-now.result (fact_count (archive_with k p) p.turn.shows) =
+    let many : 2 ^ 64 ≤ facts_with c.totals-now.result (fact_count (archive_with k p) p.turn.shows)
+    =
     search rules in
     let none : c.from_residual.result ≡ None = search rules in
     none_given _ _ c.from_residual.result none

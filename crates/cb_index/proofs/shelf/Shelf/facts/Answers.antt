@@ -64,7 +64,8 @@ returns-then-is_flushed-clause-new c =
     ∙ ap (λ k. filter (has_key (keyer_of k) s.archive (prefix_of k key) key) x.held)
     c.index-index.ensures.kind)
     ∙ facts_new kind s.archive key s.shown.items kept.there kept.ascending x.held held
-    ∙ ap (λ (v : Shelved). unlike_in_files kind (file_facts v.archive.profile kind key) (files v)) c.self.view_is
+    ∙ ap (λ (v : Shelved). unlike_in_files kind (file_facts v.archive.profile kind key) (files v))
+    c.self.view_is
 
 pub returns-then-is_flushed-clause-counted : goal.returns-then-is_flushed-clause-counted
 returns-then-is_flushed-clause-counted c =
@@ -84,7 +85,8 @@ returns-then-is_flushed-clause-counted c =
     ∙ ap (λ k. filter (has_key (keyer_of k) s.archive (prefix_of k key) key) x.held)
     c.index-index.ensures.kind)
     ∙ facts_counted kind s.archive key s.shown.items kept.there kept.ascending x.held held
-    ∙ ap (λ (v : Shelved). rows_in_files kind (file_facts v.archive.profile kind key) (files v)) c.self.view_is
+    ∙ ap (λ (v : Shelved). rows_in_files kind (file_facts v.archive.profile kind key) (files v))
+    c.self.view_is
 
 -- ---- by a search in the files
 pub returns-clause-rows : goal.returns-clause-rows
@@ -105,7 +107,8 @@ returns-clause-new c =
     c.searched.ensures.new
     ∙ ap (flat_map (searched_at false kind s.archive key)) c.as_slice.ensures.value
     ∙ new_searched kind s.archive key s.shown.items c.self.invariant.0.there
-    ∙ ap (λ (v : Shelved). unlike_in_files kind (file_facts v.archive.profile kind key) (files v)) c.self.view_is
+    ∙ ap (λ (v : Shelved). unlike_in_files kind (file_facts v.archive.profile kind key) (files v))
+    c.self.view_is
 
 pub returns-clause-counted : goal.returns-clause-counted
 returns-clause-counted c =
@@ -115,4 +118,5 @@ returns-clause-counted c =
     c.searched.ensures.counted
     ∙ ap (sum_by (searched_count kind s.archive key)) c.as_slice.ensures.value
     ∙ counted_searched kind s.archive key s.shown.items c.self.invariant.0.there
-    ∙ ap (λ (v : Shelved). rows_in_files kind (file_facts v.archive.profile kind key) (files v)) c.self.view_is
+    ∙ ap (λ (v : Shelved). rows_in_files kind (file_facts v.archive.profile kind key) (files v))
+    c.self.view_is

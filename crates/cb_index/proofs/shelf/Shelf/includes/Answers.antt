@@ -5,4 +5,5 @@ use Rattle.cb_index.proofs.IncludeLemmas.{includes_are}
 use Rattle.cb_index.proofs.shelf.Shelf.includes.Goals as goal
 
 pub returns : goal.returns
-returns c = ap includes_in c.entries.ensures ∙ includes_are c.args.self.now.archive.profile (files c.args.self.now)
+returns c = ap includes_in c.entries.ensures ∙ includes_are c.args.self.now.archive.profile (files
+    c.args.self.now)

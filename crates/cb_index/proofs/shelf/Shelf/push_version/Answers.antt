@@ -9,11 +9,13 @@ pub invariant_of-self : goal.invariant_of-self
 invariant_of-self c = (
   kept_more c.self.inside.archive c.push_version.new.self c.self.inside.shown.items
       c.self.inside.indexes
-      [] (c.args.version.bytes ∷ []) c.push_version.ensures.profile (c.push_version.ensures.names ∙ sym (append-nil _))
+      [] (c.args.version.bytes ∷ []) c.push_version.ensures.profile (c.push_version.ensures.names ∙
+      sym (append-nil _))
       c.push_version.ensures.texts c.self.invariant.0,
   totals_more c.self.inside.archive c.push_version.new.self c.self.inside.shown.items
       c.self.inside.totals
-      (c.args.version.bytes ∷ []) c.push_version.ensures.profile c.push_version.ensures.texts c.self.invariant.0.there
+      (c.args.version.bytes ∷ []) c.push_version.ensures.profile c.push_version.ensures.texts
+      c.self.invariant.0.there
       c.self.invariant.1,
   c.self.invariant.2,
 )

@@ -8,7 +8,8 @@ use Rattle.cb_desk.proofs.answers.files.Files.new.Goals as goal
 
 pub returns-clause-value : goal.returns-clause-value
 returns-clause-value c =
-    ap (map without_facts) c.entries.ensures ∙ bare-files c.args.shelf.now.archive.profile (files c.args.shelf.now)
+    ap (map without_facts) c.entries.ensures ∙ bare-files c.args.shelf.now.archive.profile (files
+    c.args.shelf.now)
 
 pub returns-clause-ascending : goal.returns-clause-ascending
 returns-clause-ascending c =

@@ -17,7 +17,8 @@ new-requires-clause-few c =
 pub new-requires-in_default-clause-texts : goal.new-requires-in_default-clause-texts
 new-requires-in_default-clause-texts c =
     subst HaveLineTexts (sym c.found_rows.ensures.rows)
-    (line-texts c.args.shelf.now.archive.profile c.args.field c.args.pattern.now (files c.args.shelf.now)
+    (line-texts c.args.shelf.now.archive.profile c.args.field c.args.pattern.now (files
+    c.args.shelf.now)
     c.new-files.ensures.ascending)
 
 pub returns-in-Text : goal.returns-in-Text
@@ -26,4 +27,5 @@ returns-in-Text c =
     let fs = files c.args.shelf.now in
     c.new.ensures ∙ ap (flat_map (text_rows_in p)) c.new-files.ensures.value
     ∙ sym (text_rows-distinct p fs c.new-files.ensures.ascending)
-    ∙ ap (λ field. distinct (flat_map (field_rows c.args.shelf.now.archive.profile field p) fs)) (sym c.in-Text.is)
+    ∙ ap (λ field. distinct (flat_map (field_rows c.args.shelf.now.archive.profile field p) fs))
+    (sym c.in-Text.is)
