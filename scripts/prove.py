@@ -3,11 +3,12 @@
 
     scripts/prove.py [PROGRAM]      cbrowse, if none is named
 
-A crate begins once those that it stands on are proved, and crates that do not stand on one another
-are proved side by side. They share as many jobs as there are cores, by their lines, or fewer where
-memory is short: a job takes up to 2.5 GB. What an earlier run proved and nothing has changed since
-is not proved again. A crate is told when it begins and when it ends, with its time, and the whole
-at the end. The exit status is 1 where a crate is not proved; what the check said then comes first.
+They are proved one after another, each with as many jobs as there are cores, or fewer where memory
+is short: a job takes up to 2.5 GB. Two crates are not proved side by side, since `rt check` keeps
+every other check away from the crates that it stands on. What an earlier run proved and nothing has
+changed since is not proved again. A crate is told when it begins and when it ends, with its time,
+and the whole at the end. The exit status is 1 where a crate is not proved; what the check said then
+comes first.
 """
 
 from __future__ import annotations
@@ -16,7 +17,6 @@ import os
 import pathlib
 import subprocess
 import sys
-import threading
 import time
 
 TOP = pathlib.Path(__file__).resolve().parent.parent
@@ -24,7 +24,7 @@ BYTES_OF_A_JOB = 2_500_000_000
 
 
 def stands_on() -> dict[str, list[str]]:
-    """The crates that each crate names, in the order of crates.txt."""
+    """The crates that each crate names, in the order of crates.txt: the lowest come first."""
     found = {}
     for line in (TOP / "crates.txt").read_text().splitlines():
         crate, _, below = line.partition("#")[0].partition(":")
@@ -44,74 +44,37 @@ def jobs() -> int:
     return max(1, min(cores, free // BYTES_OF_A_JOB))
 
 
-def lines_of(crate: str) -> int:
-    files = [it for end in ("rt", "antt") for it in (TOP / "crates" / crate).rglob(f"*.{end}")]
-    return sum(it.read_bytes().count(b"\n") for it in files)
-
-
 def minutes(seconds: float) -> str:
     return f"{int(seconds) // 60}:{int(seconds) % 60:02} min"
 
 
-class Proof:
-    """The crates that are proved, are being proved, or wait."""
-
-    def __init__(self, program: str):
-        self.below = stands_on()
-        self.left = [it for it in self.below if it in needed(program, self.below)]
-        self.count, self.jobs = len(self.left), jobs()
-        self.done: set[str] = set()
-        self.running: set[str] = set()
-        self.failed: list[str] = []
-        self.changed = threading.Condition()
-
-    def ready(self) -> list[str]:
-        return [it for it in self.left if self.done.issuperset(self.below[it])]
-
-    def one(self, crate: str, share: int):
-        began = time.monotonic()
-        words = ["rt", "check", "--jobs", str(share)]
-        ran = subprocess.run(
-            words, cwd=TOP / "crates" / crate, stdout=subprocess.PIPE, stderr=subprocess.STDOUT
-        )
-        with self.changed:
-            self.running.discard(crate)
-            if ran.returncode:
-                self.failed.append(crate)
-                print(ran.stdout.decode(errors="replace"), end="")
-            else:
-                self.done.add(crate)
-            word = "NOT PROVED" if ran.returncode else "proved"
-            print(f"{crate}: {word} ({minutes(time.monotonic() - began)})", flush=True)
-            self.changed.notify()
-
-    def all(self) -> bool:
-        with self.changed:
-            while (self.left and not self.failed) or self.running:
-                ready = [] if self.failed else self.ready()
-                lines = {crate: lines_of(crate) for crate in ready}
-                for crate in ready:
-                    self.left.remove(crate)
-                    self.running.add(crate)
-                    share = max(1, round(self.jobs * lines[crate] / sum(lines.values())))
-                    number = self.count - len(self.left)
-                    print(
-                        f"{crate}: proving, {number} of {self.count} crates, up to {share} jobs",
-                        flush=True,
-                    )
-                    threading.Thread(target=self.one, args=(crate, share)).start()
-                self.changed.wait()
-        return not self.failed
+def prove(crate: str) -> bool:
+    began = time.monotonic()
+    ran = subprocess.run(
+        ["rt", "check", "--jobs", str(jobs())],
+        cwd=TOP / "crates" / crate,
+        stdout=subprocess.PIPE,
+        stderr=subprocess.STDOUT,
+    )
+    if ran.returncode:
+        print(ran.stdout.decode(errors="replace"), end="")
+    word = "NOT PROVED" if ran.returncode else "proved"
+    print(f"{crate}: {word} ({minutes(time.monotonic() - began)})", flush=True)
+    return not ran.returncode
 
 
 def main() -> int:
+    program = sys.argv[1] if len(sys.argv) > 1 else "cbrowse"
+    below = stands_on()
+    crates = [it for it in below if it in needed(program, below)]
     began = time.monotonic()
-    is_proved = Proof(sys.argv[1] if len(sys.argv) > 1 else "cbrowse").all()
-    print(
-        f"all proved in {minutes(time.monotonic() - began)}" if is_proved else "NOT PROVED",
-        flush=True,
-    )
-    return 0 if is_proved else 1
+    for number, crate in enumerate(crates, 1):
+        print(f"{crate}: proving, {number} of {len(crates)} crates, {jobs()} jobs", flush=True)
+        if not prove(crate):
+            print("NOT PROVED", flush=True)
+            return 1
+    print(f"all proved in {minutes(time.monotonic() - began)}", flush=True)
+    return 0
 
 
 if __name__ == "__main__":
