@@ -65,6 +65,7 @@ pub mod WideMembers
 pub mod WideNames
 pub mod WideNaming
 pub mod WideOpenings
+pub mod WideOther
 pub mod WideOrder
 pub mod WideParts
 pub mod WidePass

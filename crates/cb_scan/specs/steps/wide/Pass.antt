@@ -1,5 +1,5 @@
 -- The pass of the wide profile over the tokens that are of no attribute.
-use Rattle.std.specs.Prelude.{ℕ, Bool, ◌&&◌, ◌==◌, List, [], ◌∷◌, ◌++◌, max, Option}
+use Rattle.std.specs.Prelude.{ℕ, Bool, ◌&&◌, ◌||◌, ◌==◌, List, [], ◌∷◌, ◌++◌, max, Option}
 use Rattle.std.specs.Prelude.{None, Some, if◌then◌else◌}
 use Rattle.std.specs.List.{flat_map}
 use Rattle.std.specs.Option.{is_none, option_map, option_to_list}
@@ -19,7 +19,8 @@ use Rattle.cb_scan.specs.steps.wide.Functions.{found, next, next_depth, start}
 use Rattle.cb_scan.specs.steps.wide.Lists.{Lists}
 use Rattle.cb_scan.specs.steps.wide.Givens.{object_given, typedef_given}
 use Rattle.cb_scan.specs.steps.wide.Openings.{next_opening, tag_out}
-use Rattle.cb_scan.specs.Bytes.{close_brace}
+use Rattle.cb_scan.specs.lex.Tokens.{is_mark}
+use Rattle.cb_scan.specs.Bytes.{close_brace, open_brace}
 
 -- ---- the level of the file
 
@@ -87,6 +88,12 @@ next_pass p xs x = record {
   body = next_body p x;
   levels = next_levels p.opening p.levels xs x;
 }
+
+-- a brace, by its role or by its token
+abbrev pub is_brace : WideToken → Bool
+is_brace x =
+    x.counted || is_sign open_brace x.role || is_sign close_brace x.role
+    || is_mark close_brace x.token.role
 
 -- how many braces, parentheses and brackets are open at most
 abbrev pub most_in : Pass → ℕ

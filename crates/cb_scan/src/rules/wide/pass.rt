@@ -1,5 +1,5 @@
 //! The pass of the wide profile over the tokens that are of no attribute.
-ghost use Rattle.std.specs.Prelude.{◌≡◌, ◌+◌, ◌<◌, ◌≤◌, ◌^◌, ◌++◌, IfOk};
+ghost use Rattle.std.specs.Prelude.{◌≡◌, ◌+◌, ◌<◌, ◌≤◌, ◌^◌, ◌++◌, false, IfOk};
 ghost use Rattle.std.specs.List.{flat_map};
 ghost use Rattle.std.specs.Option.{option_map};
 ghost use Rattle.cb_scan.specs.steps.Functions.{range_to};
@@ -8,6 +8,7 @@ ghost use Rattle.cb_scan.specs.steps.wide.Givens.{object_given, typedef_given};
 ghost use Rattle.cb_scan.specs.steps.wide.Pass.{
   function_found,
   is_block,
+  is_brace,
   is_in_file,
   most_in,
   next_body,
@@ -41,6 +42,16 @@ pub(crate) struct Pass {
     pub file: Declaration,
     pub body: Option<Span>,
     pub levels: Levels,
+}
+
+/// A brace, by its role or by its token.
+fn is_brace(item: &WideToken) -> bool
+    ensures { result ≡ is_brace item.now }
+{
+    item.counted
+        || item.role.is_sign(b'{')
+        || item.role.is_sign(b'}')
+        || item.token.is_mark(b'}')
 }
 
 impl Declaration {
@@ -185,8 +196,8 @@ impl Pass {
         Ok(())
     }
 
-    /// Takes the first of these tokens.
-    pub(crate) fn take(
+    /// Takes the first of these tokens, which is a brace.
+    fn take_brace(
         &mut self,
         found: &mut Found,
         ahead: &[WideToken],
@@ -213,5 +224,50 @@ impl Pass {
         self.body = body;
         self.opening = next_opening(self.opening, item);
         Ok(())
+    }
+
+    /// Takes the first of these tokens, which is no brace: it opens and closes nothing.
+    fn take_other(
+        &mut self,
+        found: &mut Found,
+        ahead: &[WideToken],
+        item: &WideToken,
+    ) -> Result<(), AllocError>
+        requires small { most_in self.old + 1 < 2 ^ 32 }
+        requires other { is_brace item.now ≡ false }
+        ensures pass { IfOk result (λ _. self.new ≡ next_pass self.old ahead.now item.now) }
+        ensures small { IfOk result (λ _. most_in self.new ≤ most_in self.old + 1) }
+        ensures found { IfOk result
+            (λ _. found.new ≡ next_lists found.old self.old ahead.now item.now) }
+    {
+        if self.is_in_file() {
+            self.in_file(found, ahead, item)?;
+            self.machine.next(ahead, item);
+            self.body = None;
+        }
+        found.define(self.levels.found(ahead, item))?;
+        self.levels.add(ahead, item);
+        self.opening = next_opening(self.opening, item);
+        Ok(())
+    }
+
+    /// Takes the first of these tokens.
+    pub(crate) fn take(
+        &mut self,
+        found: &mut Found,
+        ahead: &[WideToken],
+        item: &WideToken,
+    ) -> Result<(), AllocError>
+        requires { most_in self.old + 1 < 2 ^ 32 }
+        ensures pass { IfOk result (λ _. self.new ≡ next_pass self.old ahead.now item.now) }
+        ensures small { IfOk result (λ _. most_in self.new ≤ most_in self.old + 1) }
+        ensures found { IfOk result
+            (λ _. found.new ≡ next_lists found.old self.old ahead.now item.now) }
+    {
+        if is_brace(item) {
+            self.take_brace(found, ahead, item)
+        } else {
+            self.take_other(found, ahead, item)
+        }
     }
 }

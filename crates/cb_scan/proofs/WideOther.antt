@@ -1,0 +1,90 @@
+-- What is found with a token that is no brace.
+use Rattle.std.proofs.Common.{◌≡◌, ◌∙◌, Bool, false, List, [], ◌++◌, Option, None, ap, sym}
+use Rattle.std.proofs.lemmas.Bool.{or_parts}
+use Rattle.std.proofs.lemmas.List.{append-nil}
+use Rattle.std.specs.Prelude.{◌&&◌, ◌||◌, ◌==◌, if◌then◌else◌}
+use Rattle.std.specs.List.{flat_map}
+use Rattle.std.specs.Option.{is_none, option_map, option_to_list}
+use Rattle.cb_scan.specs.declared.facts.Def.{Def}
+use Rattle.cb_scan.specs.declared.rules.wide.pass.Pass.{Pass}
+use Rattle.cb_scan.specs.declared.rules.wide.token.WideToken.{WideToken}
+use Rattle.cb_scan.specs.lex.Tokens.{is_mark}
+use Rattle.cb_scan.specs.rules.wide.Words.{is_sign}
+use Rattle.cb_scan.specs.steps.Functions.{range_to}
+use Rattle.cb_scan.specs.steps.wide.Contents.{defined_by}
+use Rattle.cb_scan.specs.steps.wide.Functions.{function_here, next_depth}
+use Rattle.cb_scan.specs.steps.wide.Givens.{object_given, typedef_given}
+use Rattle.cb_scan.specs.steps.wide.Lists.{Lists}
+use Rattle.cb_scan.specs.steps.wide.Openings.{opening_tag, tag_out}
+use Rattle.cb_scan.specs.steps.wide.Declarations.{Given}
+use Rattle.cb_scan.specs.steps.wide.Pass.{function_found, is_brace, next_lists, parts_here}
+use Rattle.cb_scan.specs.steps.wide.Pass.{range_closed}
+
+module _ (x : WideToken) (other : is_brace x ≡ false) where
+  unopened : (x.counted || is_sign 123 x.role || is_sign 125 x.role) ≡ false
+  unopened = (or_parts (x.counted || is_sign 123 x.role || is_sign 125 x.role)
+      (is_mark 125 x.token.role) other).0
+
+  no_close : is_sign 125 x.role ≡ false
+  no_close = (or_parts (x.counted || is_sign 123 x.role) (is_sign 125 x.role) unopened).1
+
+  uncounted : x.counted ≡ false
+  uncounted = (or_parts x.counted (is_sign 123 x.role)
+      (or_parts (x.counted || is_sign 123 x.role) (is_sign 125 x.role) unopened).0).0
+
+  no_function : (p : Pass) → function_found p x ≡ None
+  no_function p =
+      λ i. if (uncounted i && is_none p.opening) && p.machine.depth == 0
+      then function_here p.machine else None
+
+  -- deeper in braces it gives nothing
+  pub none_of_file : (l : Lists) (p : Pass) → (p.machine.depth == 0) ≡ false
+      → l ≡ record l {
+        defs = l.defs ++ flat_map typedef_given (parts_here p x);
+        objects = l.objects ++ flat_map object_given (parts_here p x);
+      }
+  none_of_file l p deep =
+      let none : parts_here p x ≡ [] =
+      ap (λ b. if b then parts_here (record p { machine = record p.machine { depth = 0 } }) x
+      else []) deep in
+      sym ((λ i. of_file_of l (none i)) ∙ (λ i. record l {
+        defs = append-nil l.defs i;
+        objects = append-nil l.objects i;
+      }))
+    where
+      of_file_of : Lists → List Given → Lists
+      of_file_of l gs = record l {
+        defs = l.defs ++ flat_map typedef_given gs;
+        objects = l.objects ++ flat_map object_given gs;
+      }
+
+  -- what is found is of the file or of the innermost level
+  pub other_found : (l f : Lists) (p q : Pass) (xs : List WideToken) (d : Option Def)
+      → f ≡ record l {
+        defs = l.defs ++ flat_map typedef_given (parts_here p x);
+        objects = l.objects ++ flat_map object_given (parts_here p x);
+      }
+      → q.levels ≡ p.levels → option_to_list d ≡ defined_by q.levels xs x
+      → record f { defs = f.defs ++ option_to_list d } ≡ next_lists l p xs x
+  other_found l f p q xs d file levels defined =
+      let none_closed : range_closed p x ≡ None =
+      (λ i. if no_close i && next_depth p.machine x == 0
+      then option_map (range_to x.token.span.end) p.body else None) in
+      let no_tag : tag_out p.opening x ≡ [] =
+      ap (λ b. if b then opening_tag p.opening else []) uncounted in
+      let functions_same : l.functions ++ option_to_list (function_found p x) ≡ l.functions =
+      ap (λ o. l.functions ++ option_to_list o) (no_function p) ∙ append-nil l.functions in
+      let ranges_same : l.ranges ++ option_to_list (range_closed p x) ≡ l.ranges =
+      ap (λ o. l.ranges ++ option_to_list o) none_closed ∙ append-nil l.ranges in
+      let given = l.defs ++ flat_map typedef_given (parts_here p x) in
+      let no_tag_after : given ++ tag_out p.opening x ≡ given =
+      ap (λ ts. given ++ ts) no_tag ∙ append-nil given in
+      let in_level : option_to_list d ≡ defined_by p.levels xs x =
+      defined ∙ ap (λ ls. defined_by ls xs x) levels in
+      (λ i. record (file i) { defs = (file i).defs ++ in_level i })
+      ∙ (λ i. record {
+        functions = sym functions_same i;
+        ranges = sym ranges_same i;
+        defs = sym no_tag_after i ++ defined_by p.levels xs x;
+        objects = l.objects ++ flat_map object_given (parts_here p x);
+      })
