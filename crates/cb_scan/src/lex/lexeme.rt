@@ -135,7 +135,7 @@ fn class_of(text: &[u8]) -> Class
 }
 
 /// The class of the piece that a text begins with.
-#[inline]
+#[inline(always)]
 pub(crate) fn class_at(text: &[u8]) -> Class
     requires { 0 < length text.now }
     ensures { result ≡ class_at text.now }
@@ -169,6 +169,7 @@ fn words_len(text: &[u8]) -> usize
 }
 
 /// The same, many bytes at a time where there are as many. Few names are longer.
+#[inline(always)]
 fn name_len(text: &[u8]) -> usize
     ensures value { result ≡ prefix_len is_word text.now }
     ensures within { result ≤ length text.now }
@@ -211,6 +212,7 @@ fn number_len(text: &[u8]) -> usize
 }
 
 /// How many bytes of blanks and of joined lines a text begins with. Most are a lone space.
+#[inline(always)]
 #[tactic(auto, unfolding(crate::specs::steps::Cut::blank_len))]
 fn blank_len(text: &[u8]) -> usize
     ensures value { result ≡ blank_len false text.now }
@@ -233,7 +235,7 @@ fn ends_blank(byte: u8) -> bool
 
 /// The same, many bytes at a time: an indentation is seldom longer, and mostly made of spaces and
 /// tabs.
-#[inline]
+#[inline(always)]
 fn spaces_len(text: &[u8]) -> usize
     requires { LANES ≤ length text.now }
     ensures value { result ≡ blank_len false text.now }
@@ -343,7 +345,7 @@ fn block_len(text: &[u8]) -> usize
 }
 
 /// How many bytes the piece of the class takes that a text begins with.
-#[inline]
+#[inline(always)]
 #[tactic(auto, using(crate::proofs::Cuts::first_bytes), unfolding(crate::specs::steps::Cut::length_in))]
 pub(crate) fn length_in(class: Class, text: &[u8]) -> usize
     requires is { class ≡ class_at text.now }

@@ -42,8 +42,11 @@ struct Gathered {
 fn call_before(body: Option<Span>, last: Option<Token>, token: &Token) -> Option<Call>
     ensures { result ≡ call_before body last token.now }
 {
+    if !token.is_mark(b'(') {
+        return None;
+    }
     match (body, last) {
-        (Some(caller), Some(name)) if name.is_name() && token.is_mark(b'(') => Some(Call {
+        (Some(caller), Some(name)) if name.is_name() => Some(Call {
             callee: name.span,
             line: name.line,
             caller,

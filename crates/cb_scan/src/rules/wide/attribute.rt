@@ -24,7 +24,7 @@ pub(crate) enum Attribute {
     /// So many parentheses are open besides the first.
     Inside(u32),
 }
-
+#[inline(always)]
 fn begins_with_literal(ahead: &[WideToken]) -> bool
     ensures { result ≡ begins_with_literal ahead.now }
 {
@@ -36,6 +36,7 @@ fn begins_with_literal(ahead: &[WideToken]) -> bool
 
 /// An attribute begins: a word and `(`, where the word is one for attributes, or a number or a
 /// string follows.
+#[inline(always)]
 fn begins_attribute(ahead: &[WideToken]) -> bool
     ensures { result ≡ begins_attribute ahead.now }
 {
@@ -50,6 +51,7 @@ fn begins_attribute(ahead: &[WideToken]) -> bool
 }
 
 /// A `;` or a brace, which no attribute holds.
+#[inline(always)]
 pub(crate) fn ends_attribute(role: WideRole) -> bool
     ensures { result ≡ ends_attribute role }
 {
@@ -74,6 +76,7 @@ fn inside_after(more: u32, role: WideRole) -> Attribute
 
 impl Attribute {
     /// Whether the first of these tokens is left out.
+    #[inline(always)]
     pub(crate) fn leaves_out(self, ahead: &[WideToken]) -> bool
         ensures { result ≡ leaves_out self ahead.now }
     {
@@ -85,6 +88,7 @@ impl Attribute {
     }
 
     /// The state after the first of these tokens.
+    #[inline(always)]
     pub(crate) fn next(self, ahead: &[WideToken]) -> Attribute
         requires { open_count self + 1 < 2 ^ 32 }
         ensures value { result ≡ next_attribute self ahead.now }

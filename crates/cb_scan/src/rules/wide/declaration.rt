@@ -36,6 +36,7 @@ pub(crate) struct Declaration {
 }
 
 /// A `)` or a brace.
+#[inline(always)]
 fn closes(item: &WideToken) -> bool
     ensures { result ≡ closes item.now }
 {
@@ -43,6 +44,7 @@ fn closes(item: &WideToken) -> bool
 }
 
 /// A `{` that does not count.
+#[inline(always)]
 pub(crate) fn is_linkage(item: &WideToken) -> bool
     ensures { result ≡ is_linkage item.now }
 {
@@ -51,6 +53,7 @@ pub(crate) fn is_linkage(item: &WideToken) -> bool
 
 impl Declaration {
     /// Whether a declaration of the file ends with the token that left it so.
+    #[inline(always)]
     pub(crate) fn is_end(&self, is_block: bool, item: &WideToken) -> bool
         ensures { result ≡ is_end self.now is_block item.now }
     {
@@ -60,6 +63,7 @@ impl Declaration {
     }
 
     /// Begins a declaration of the file if the token begins one anew.
+    #[inline(always)]
     pub(crate) fn begin_in_file(&mut self, item: &WideToken)
         ensures value { self.new ≡ before_in_file self.old item.now }
         ensures small { self.new.count ≤ self.old.count }
@@ -70,6 +74,7 @@ impl Declaration {
     }
 
     /// Begins the next declaration of the file if the token ends this one.
+    #[inline(always)]
     pub(crate) fn end_in_file(&mut self, is_block: bool, item: &WideToken)
         ensures value { self.new ≡ next_in_file self.old is_block item.now }
         ensures small { self.new.count ≤ self.old.count }
@@ -95,6 +100,7 @@ impl Declaration {
     }
 
     /// Whether a declaration of the file begins anew with the token, since a `;` is missing.
+    #[inline(always)]
     pub(crate) fn is_over(&self, item: &WideToken) -> bool
         ensures { result ≡ is_over self.now item.now }
     {
@@ -102,6 +108,7 @@ impl Declaration {
     }
 
     /// Whether the token ends a part.
+    #[inline(always)]
     pub(crate) fn ends_part(&self, item: &WideToken) -> bool
         ensures { result ≡ ends_part self.now item.now }
     {
@@ -109,6 +116,7 @@ impl Declaration {
     }
 
     /// Whether the part that is open can name something.
+    #[inline(always)]
     pub(crate) fn may_name(&self) -> bool
         ensures { result ≡ may_name self.now }
     {
@@ -141,6 +149,7 @@ impl Declaration {
     }
 
     /// What a token outside parentheses and brackets tells of the whole declaration.
+    #[inline(always)]
     fn note(&mut self, item: &WideToken)
         ensures { self.new ≡ noted self.old item.now }
     {
@@ -154,6 +163,7 @@ impl Declaration {
     }
 
     /// After the first of these tokens, which ends no part.
+    #[inline(always)]
     pub(crate) fn add(&mut self, ahead: &[WideToken], item: &WideToken)
         requires { self.old.count + 1 < 2 ^ 32 }
         ensures value { self.new ≡ grown self.old ahead.now item.now }

@@ -101,6 +101,7 @@ impl Found {
     }
 
     /// One more definition, if there is one.
+    #[inline(always)]
     pub(crate) fn define(&mut self, def: Option<Def>) -> Result<(), AllocError>
         ensures { IfOk result
             (λ _. self.new ≡ record self.old { defs = self.old.defs ++ option_to_list def }) }
@@ -112,6 +113,7 @@ impl Found {
     }
 
     /// The part of the file that ends at a token, if one does.
+    #[inline(always)]
     pub(crate) fn end_part(
         &mut self,
         declaration: &Declaration,

@@ -87,6 +87,7 @@ impl Levels {
     }
 
     /// What the innermost level defines at the first of these tokens.
+    #[inline(always)]
     pub(crate) fn found(&self, ahead: &[WideToken], item: &WideToken) -> Option<Def>
         ensures { option_to_list result ≡ defined_by self.now ahead.now item.now }
     {
@@ -97,6 +98,7 @@ impl Levels {
     }
 
     /// After the first of these tokens, which is of the innermost level.
+    #[inline(always)]
     pub(crate) fn add(&mut self, ahead: &[WideToken], item: &WideToken)
         requires { most_open self.old + 1 < 2 ^ 32 }
         ensures value { self.new ≡ first_goes_on self.old ahead.now item.now }

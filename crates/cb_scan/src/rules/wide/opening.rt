@@ -22,6 +22,7 @@ fn begun(kind: Kind) -> Option<Opening>
 }
 
 /// What a `{` after this token would open.
+#[inline(always)]
 pub(crate) fn next_opening(before: Option<Opening>, item: &WideToken) -> Option<Opening>
     ensures { result ≡ next_opening before item.now }
 {

@@ -27,6 +27,7 @@ pub(crate) struct Part {
 }
 
 /// An `=` or `:` outside parentheses and brackets.
+#[inline(always)]
 fn begins_value(is_outer: bool, item: &WideToken) -> bool
     ensures { result ≡ begins_value is_outer item.now }
 {
@@ -34,6 +35,7 @@ fn begins_value(is_outer: bool, item: &WideToken) -> bool
 }
 
 /// A word, a string, a brace, `*`, or one of the parentheses and brackets.
+#[inline(always)]
 fn may_declare(item: &WideToken) -> bool
     ensures { result ≡ may_declare item.now }
 {
@@ -44,6 +46,7 @@ fn may_declare(item: &WideToken) -> bool
 }
 
 /// A token that no declaration has outside parentheses and brackets.
+#[inline(always)]
 fn is_stray(is_outer: bool, item: &WideToken) -> bool
     ensures { result ≡ is_stray is_outer item.now }
 {

@@ -45,6 +45,7 @@ pub(crate) struct Pass {
 }
 
 /// A brace, by its role or by its token.
+#[inline(always)]
 fn is_brace(item: &WideToken) -> bool
     ensures { result ≡ is_brace item.now }
 {
@@ -56,6 +57,7 @@ fn is_brace(item: &WideToken) -> bool
 
 impl Declaration {
     /// On the level of the file, after the first of these tokens, which is a block or none.
+    #[inline(always)]
     fn next_of_file(&mut self, is_block: bool, ahead: &[WideToken], item: &WideToken)
         requires { self.old.count + 1 < 2 ^ 32 }
         ensures value { self.new ≡ next_of_file self.old is_block ahead.now item.now }
@@ -85,6 +87,7 @@ impl Pass {
     }
 
     /// No brace is open.
+    #[inline(always)]
     fn is_in_file(&self) -> bool
         ensures { result ≡ is_in_file self.now }
     {
@@ -92,6 +95,7 @@ impl Pass {
     }
 
     /// The token is a brace that opens no body.
+    #[inline(always)]
     fn is_block(&self, item: &WideToken) -> bool
         ensures { result ≡ is_block self.now item.now }
     {
@@ -150,6 +154,7 @@ impl Pass {
     }
 
     /// The declaration of the file goes on, and gives what its part names that ends here.
+    #[inline(always)]
     fn in_file(
         &mut self,
         found: &mut Found,
@@ -227,6 +232,7 @@ impl Pass {
     }
 
     /// Takes the first of these tokens, which is no brace: it opens and closes nothing.
+    #[inline(always)]
     fn take_other(
         &mut self,
         found: &mut Found,

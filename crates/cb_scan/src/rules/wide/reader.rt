@@ -72,6 +72,7 @@ impl Reader {
     }
 
     /// Leaves the first token out, or keeps it.
+    #[inline(always)]
     fn settle(&mut self)
         requires some { 1 ≤ length self.old.raw }
         requires room { length self.old.bare < 32 }
@@ -92,6 +93,7 @@ impl Reader {
     }
 
     /// One more token.
+    #[inline(always)]
     fn hold(&mut self, item: &WideToken)
         requires raw { length self.old.raw ≤ 2 }
         requires bare { length self.old.bare ≤ 4 }
@@ -157,6 +159,7 @@ impl Reader {
     }
 
     /// One more token, which is no brace and no `;`, outside of blocks.
+    #[inline(always)]
     fn read(
         &mut self,
         pass: &mut Pass,
