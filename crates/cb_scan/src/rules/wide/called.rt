@@ -106,6 +106,7 @@ impl Calls {
 
     /// After the first of these tokens. The first `(` outside parentheses and brackets counts that
     /// leads to a name.
+    #[inline(always)]
     pub(crate) fn add(&mut self, is_outer: bool, ahead: &[WideToken], item: &WideToken)
         ensures { self.new ≡ next_calls self.old is_outer ahead.now item.now }
     {

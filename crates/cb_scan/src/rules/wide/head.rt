@@ -37,6 +37,7 @@ impl WideHead {
     }
 
     /// After the first of these tokens.
+    #[inline(always)]
     pub(crate) fn add(&mut self, ahead: &[WideToken], item: &WideToken)
         requires { self.old.count + 1 < 2 ^ 32 }
         ensures value { self.new ≡ next_head self.old ahead.now item.now }

@@ -87,6 +87,7 @@ impl WideMachine {
     }
 
     /// The depth after the token.
+    #[inline(always)]
     pub(crate) fn next_depth(&self, item: &WideToken) -> u32
         requires { self.now.depth + 1 < 2 ^ 32 }
         ensures value { result ≡ next_depth self.now item.now }
@@ -102,7 +103,7 @@ impl WideMachine {
             self.depth.saturating_sub(1)
         }
     }
-
+    #[inline(always)]
     fn stops(&self, item: &WideToken, after: u32) -> bool
         requires { after ≡ next_depth self.now item.now }
         ensures { result ≡ stops self.now item.now }
@@ -136,6 +137,7 @@ impl WideMachine {
     }
 
     /// After the first of these tokens, which is no stop.
+    #[inline(always)]
     fn grow(&mut self, ahead: &[WideToken], item: &WideToken)
         requires depth { self.old.depth + 1 < 2 ^ 32 }
         requires count { self.old.parts.count + 1 < 2 ^ 32 }
@@ -152,6 +154,7 @@ impl WideMachine {
     }
 
     /// After the first of these tokens.
+    #[inline(always)]
     pub(crate) fn next(&mut self, ahead: &[WideToken], item: &WideToken)
         requires depth { self.old.depth + 1 < 2 ^ 32 }
         requires count { self.old.parts.count + 1 < 2 ^ 32 }

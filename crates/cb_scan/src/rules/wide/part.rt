@@ -67,6 +67,7 @@ impl Part {
     }
 
     /// After the first of these tokens. The value is passed over.
+    #[inline(always)]
     pub(crate) fn add(&mut self, is_outer: bool, ahead: &[WideToken], item: &WideToken)
         ensures { self.new ≡ next_part self.old is_outer ahead.now item.now }
     {

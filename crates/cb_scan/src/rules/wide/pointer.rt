@@ -18,6 +18,7 @@ pub(crate) enum Pointer {
 
 impl Pointer {
     /// After the first of these tokens.
+    #[inline(always)]
     pub(crate) fn add(&mut self, is_outer: bool, ahead: &[WideToken], item: &WideToken)
         ensures { self.new ≡ next_pointer self.old is_outer ahead.now item.now }
     {

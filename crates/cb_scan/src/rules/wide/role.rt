@@ -123,6 +123,7 @@ fn reserved_role(word: &[u8]) -> WideRole
 }
 
 /// A name, by whether it begins with two underscores.
+#[inline(always)]
 fn name_role(name: &[u8]) -> WideRole
     ensures { result ≡ name_role name.now }
 {
@@ -131,7 +132,7 @@ fn name_role(name: &[u8]) -> WideRole
         _ => WideRole::Name,
     }
 }
-
+#[inline(always)]
 fn word_role(kind: WordKind, word: &[u8]) -> WideRole
     ensures { result ≡ word_role kind word.now }
 {
@@ -149,6 +150,7 @@ fn word_role(kind: WordKind, word: &[u8]) -> WideRole
 
 /// What is neither word, mark nor string: a number, or a character constant, which begins with an
 /// apostrophe.
+#[inline(always)]
 #[tactic(auto, unfolding(crate::specs::lex::Lexeme::first_is))]
 fn other_role(bytes: &[u8]) -> WideRole
     ensures { result ≡ role_from Other bytes.now }
@@ -160,6 +162,7 @@ fn other_role(bytes: &[u8]) -> WideRole
 }
 
 /// What a token of a text is.
+#[inline(always)]
 pub(crate) fn wide_role(text: &[u8], token: &Token) -> WideRole
     requires order { token.now.span.start ≤ token.now.span.end }
     requires end { token.now.span.end ≤ length text.now }

@@ -66,6 +66,7 @@ impl Tail {
     }
 
     /// The first token is a trailing word.
+    #[inline(always)]
     fn trails(&self, item: &WideToken) -> bool
         ensures { result ≡ trails self.now item.now }
     {
@@ -73,6 +74,7 @@ impl Tail {
     }
 
     /// A name that no `(` follows, behind a type, and neither a tag nor behind `]`.
+    #[inline(always)]
     fn is_candidate(&self, ahead: &[WideToken]) -> bool
         ensures { result ≡ is_candidate self.now ahead.now }
     {
@@ -121,7 +123,7 @@ impl Tail {
             _ => None,
         }
     }
-
+    #[inline(always)]
     fn prototype_of(&self, ahead: &[WideToken]) -> Option<WideToken>
         ensures { result ≡ prototype_of self.now ahead.now }
     {
@@ -130,7 +132,7 @@ impl Tail {
             None => self.prototype_at(ahead),
         }
     }
-
+    #[inline(always)]
     fn named_after(&self, ahead: &[WideToken], item: &WideToken) -> Option<WideToken>
         ensures { result ≡ named_after self.now ahead.now item.now }
     {
@@ -143,6 +145,7 @@ impl Tail {
 
     /// After the first of these tokens, which is outside parentheses and brackets. Whether a type
     /// stands before, and the token before, are left as they are.
+    #[inline(always)]
     fn add_outer(&mut self, ahead: &[WideToken], item: &WideToken)
         ensures { self.new ≡ outer_tail self.old ahead.now item.now }
     {
@@ -154,6 +157,7 @@ impl Tail {
     }
 
     /// After the first of these tokens.
+    #[inline(always)]
     pub(crate) fn add(&mut self, is_outer: bool, ahead: &[WideToken], item: &WideToken)
         ensures { self.new ≡ next_tail self.old is_outer ahead.now item.now }
     {
@@ -172,6 +176,7 @@ impl Tail {
 }
 
 /// A brace, or a `*` outside parentheses and brackets: the tail begins after it.
+#[inline(always)]
 fn is_end(is_outer: bool, item: &WideToken) -> bool
     ensures { result ≡ is_end is_outer item.now }
 {

@@ -15,6 +15,7 @@ pub(crate) struct WideToken {
 }
 
 /// A token of a text, by what is directly before it.
+#[inline(always)]
 pub(crate) fn token_after(text: &[u8], before: Before, token: &Token) -> WideToken
     requires order { token.now.span.start ≤ token.now.span.end }
     requires end { token.now.span.end ≤ length text.now }
