@@ -50,6 +50,7 @@ pub mod WideContents
 pub mod WideCuts
 pub mod WideDeclarations
 pub mod WideDefs
+pub mod WideEnds
 pub mod WideEnumerators
 pub mod WideFile
 pub mod WideFive

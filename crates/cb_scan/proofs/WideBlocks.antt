@@ -3,10 +3,9 @@ use Rattle.std.proofs.Common.{◌≡◌, ◌∙◌, suc, ◌+◌, ◌-◌, Bool,
 use Rattle.std.proofs.Common.{None, refl, sym, ap, arith, drop, length}
 use Rattle.std.proofs.lemmas.Bool.{eqb-true, false_from_ne_true, false≢true}
 use Rattle.std.proofs.lemmas.List.{append-nil}
-use Rattle.std.specs.Prelude.{◌&&◌, ◌==◌, if◌then◌else◌}
+use Rattle.std.specs.Prelude.{◌||◌, ◌==◌, if◌then◌else◌}
 use Rattle.std.specs.List.{AllByRecursion}
-use Rattle.std.specs.Option.{is_none, option_map, option_to_list}
-use Rattle.std.specs.List.{flat_map}
+use Rattle.std.specs.Option.{option_map}
 use Rattle.cb_scan.specs.declared.facts.Def.{Def}
 use Rattle.cb_scan.specs.declared.rules.wide.level.Level.{Level}
 use Rattle.cb_scan.specs.declared.rules.wide.level.Level.TheVariants.{Block, Enumerators, Members}
@@ -14,22 +13,23 @@ use Rattle.cb_scan.specs.declared.rules.wide.pass.Pass.{Pass}
 use Rattle.cb_scan.specs.declared.rules.wide.token.WideToken.{WideToken}
 use Rattle.cb_scan.specs.lex.Tokens.{is_mark}
 use Rattle.cb_scan.specs.rules.wide.Words.{is_sign}
-use Rattle.cb_scan.specs.steps.Functions.{range_to}
 use Rattle.cb_scan.specs.steps.wide.Contents.{are_in_block, closed_by, defined_by, first_goes_on}
 use Rattle.cb_scan.specs.steps.wide.Contents.{next_levels, tag_inside}
 use Rattle.cb_scan.specs.steps.wide.Declarations.{before_in_file}
 use Rattle.cb_scan.specs.steps.wide.Functions as functions
 use Rattle.cb_scan.specs.steps.wide.Functions.{found, function_here, headed}
 use Rattle.cb_scan.specs.steps.wide.Levels.{opened}
-use Rattle.cb_scan.specs.steps.wide.Givens.{object_given, typedef_given}
 use Rattle.cb_scan.specs.steps.wide.Lists.{Lists}
-use Rattle.cb_scan.specs.steps.wide.Openings.{next_opening, opening_tag, tag_out}
-use Rattle.cb_scan.specs.steps.wide.Pass.{Taken, function_found, is_block, next_body, next_file}
-use Rattle.cb_scan.specs.steps.wide.Pass.{next_lists, next_of_file, next_pass, part_at}
-use Rattle.cb_scan.specs.steps.wide.Pass.{parts_here, range_closed, take_all}
+use Rattle.cb_scan.specs.steps.wide.Openings.{next_opening}
+use Rattle.cb_scan.specs.steps.wide.Pass.{Taken, function_found, is_block, is_brace, next_body}
+use Rattle.cb_scan.specs.steps.wide.Pass.{next_file}
+use Rattle.cb_scan.specs.steps.wide.Pass.{next_lists, next_of_file, next_pass}
+use Rattle.cb_scan.specs.steps.wide.Pass.{take_all}
 use Rattle.cb_scan.specs.steps.wide.Reading.{opened_by}
 use Rattle.cb_scan.specs.steps.wide.Sights.{opening_along}
-use Rattle.cb_scan.proofs.WideSegments.{IsInner, depth_inner, depth_next_is, next_inner}
+use Rattle.cb_scan.proofs.WideOther.{no_close, none_of_file, other_found, same_depth, same_machine}
+use Rattle.cb_scan.proofs.WideOther.{uncounted}
+use Rattle.cb_scan.proofs.WideSegments.{IsInner, depth_next_is}
 
 -- ---- how deep in braces
 
@@ -88,72 +88,47 @@ kept_levels (Enumerators tag e ∷ ls) xs x is = absurd (false≢true is)
 
 none_defined : (ls : List Level) (xs : List WideToken) (x : WideToken) → are_in_block ls ≡ true
     → is_sign 125 x.role ≡ false → defined_by ls xs x ≡ []
-none_defined [] xs x is no_close = refl
-none_defined (Block ∷ ls) xs x is no_close = ap (λ b. if b then [] else []) no_close
-none_defined (Members tag d ∷ ls) xs x is no_close = absurd (false≢true is)
-none_defined (Enumerators tag e ∷ ls) xs x is no_close = absurd (false≢true is)
+none_defined [] xs x is closes = refl
+none_defined (Block ∷ ls) xs x is closes = ap (λ b. if b then [] else []) closes
+none_defined (Members tag d ∷ ls) xs x is closes = absurd (false≢true is)
+none_defined (Enumerators tag e ∷ ls) xs x is closes = absurd (false≢true is)
 
-module _ (p : Pass) (x : WideToken) (xs : List WideToken) (inner : IsInner x)
-    (block : are_in_block p.levels ≡ true) (deep : IsDeep p) where
-  below : (p.machine.depth == 0) ≡ false
-  below = ap (λ d. d == 0) deep ∙ in_block_deep p.levels block
-
-  pass_in_block : next_pass p xs x ≡ record p { opening = next_opening p.opening x }
+module _ (p : Pass) (x : WideToken) (xs : List WideToken) (other : is_brace x ≡ false)
+    (block : are_in_block p.levels ≡ true) (below : (p.machine.depth == 0) ≡ false) where
+  pub pass_in_block : next_pass p xs x ≡ record p { opening = next_opening p.opening x }
   pass_in_block =
-      let machine : functions.next p.machine xs x ≡ p.machine =
-      next_inner p.machine xs x inner
-      ∙ ap (λ b. if b then headed p.machine xs x else p.machine) below in
       let file : next_file p xs x ≡ p.file =
       ap (λ b. if b then next_of_file (before_in_file p.file x) (is_block p x) xs x else p.file)
       below in
       let goes_on : (functions.next_depth p.machine x == 0) ≡ false =
-      ap (λ d. d == 0) (depth_inner p.machine.depth x inner) ∙ below in
+      ap (λ d. d == 0) (same_depth x other p.machine.depth) ∙ below in
       let body : next_body p x ≡ p.body =
       (λ i. if below i then option_map (λ (d : Def). d.name) (function_found p x)
       else (if goes_on i then None else p.body)) in
       let levels : next_levels p.opening p.levels xs x ≡ p.levels =
-      (λ i. if inner.uncounted i
+      (λ i. if uncounted x other i
       then opened p.opening (tag_inside p.levels) ∷ first_goes_on p.levels xs x
-      else (if inner.no_close i then closed_by x p.levels else first_goes_on p.levels xs x))
+      else (if no_close x other i then closed_by x p.levels else first_goes_on p.levels xs x))
       ∙ kept_levels p.levels xs x block in
       λ i. record {
         opening = next_opening p.opening x;
-        machine = machine i;
+        machine = same_machine x other p.machine xs below i;
         file = file i;
         body = body i;
         levels = levels i;
       }
 
-  lists_in_block : (l : Lists) → next_lists l p xs x ≡ l
+  pub lists_in_block : (l : Lists) → next_lists l p xs x ≡ l
   lists_in_block l =
-      let none_found : function_found p x ≡ None =
-      (λ i. if (inner.uncounted i && is_none p.opening) && p.machine.depth == 0
-      then function_here p.machine else None) in
-      let none_closed : range_closed p x ≡ None =
-      (λ i. if inner.no_close i && functions.next_depth p.machine x == 0
-      then option_map (range_to x.token.span.end) p.body else None) in
-      let no_parts : parts_here p x ≡ [] =
-      ap (λ b. if b then part_at (before_in_file p.file x) x else []) below in
-      let no_tag : tag_out p.opening x ≡ [] =
-      ap (λ b. if b then opening_tag p.opening else []) inner.uncounted in
-      let functions_same : l.functions ++ option_to_list (function_found p x) ≡ l.functions =
-      ap (λ o. l.functions ++ option_to_list o) none_found ∙ append-nil l.functions in
-      let ranges_same : l.ranges ++ option_to_list (range_closed p x) ≡ l.ranges =
-      ap (λ o. l.ranges ++ option_to_list o) none_closed ∙ append-nil l.ranges in
-      let objects_same : l.objects ++ flat_map object_given (parts_here p x) ≡ l.objects =
-      ap (λ gs. l.objects ++ flat_map object_given gs) no_parts ∙ append-nil l.objects in
-      let defs_same :
-      ((l.defs ++ flat_map typedef_given (parts_here p x)) ++ tag_out p.opening x) ++ defined_by p.levels xs x
-      ≡ l.defs =
-      (λ i. ((l.defs ++ flat_map typedef_given (no_parts i)) ++ no_tag i)
-      ++ none_defined p.levels xs x block inner.no_close i)
-      ∙ append-nil _ ∙ append-nil _ ∙ append-nil l.defs in
-      λ i. record {
-        functions = functions_same i;
-        ranges = ranges_same i;
-        defs = defs_same i;
-        objects = objects_same i;
-      }
+      let found : record l { defs = l.defs ++ [] } ≡ next_lists l p xs x =
+      other_found x other l l p p xs None (none_of_file x other l p below) refl
+      (sym (none_defined p.levels xs x block (no_close x other))) in
+      sym found ∙ ap (λ ds. record l { defs = ds }) (append-nil l.defs)
+
+-- a token that is no `;` and no brace
+inner_other : (x : WideToken) → IsInner x → is_brace x ≡ false
+inner_other x inner =
+    λ i. inner.uncounted i || inner.no_open i || inner.no_close i || inner.no_mark i
 
 -- the tokens up to the next `;` or brace change what a `{` would open and nothing else
 pub in_block : (t : Taken) (s : List WideToken) → AllByRecursion IsInner s
@@ -162,8 +137,10 @@ pub in_block : (t : Taken) (s : List WideToken) → AllByRecursion IsInner s
 unfolding take_all opening_along
 in_block t [] all block deep = refl
 in_block t (x ∷ s) all block deep =
+    let other = inner_other x all.0 in
+    let below = ap (λ d. d == 0) deep ∙ in_block_deep t.pass.levels block in
     (λ i. take_all (record {
-      pass = pass_in_block t.pass x (x ∷ s) all.0 block deep i;
-      lists = lists_in_block t.pass x (x ∷ s) all.0 block deep t.lists i;
+      pass = pass_in_block t.pass x (x ∷ s) other block below i;
+      lists = lists_in_block t.pass x (x ∷ s) other block below t.lists i;
     }) s)
     ∙ in_block (opened_by (next_opening t.pass.opening x) t) s all.1 block deep

@@ -1,24 +1,21 @@
 -- The pass over the bare tokens finds the parts of the declarations of the file, and the types, tags,
 -- enumerators and members.
-use Rattle.std.proofs.Common.{◌≡◌, ◌∙◌, ℕ, zero, suc, ◌+◌, ◌-◌, ◌≤◌, Bool, true, false, List, [], ◌∷◌, ◌++◌}
+use Rattle.std.proofs.Common.{◌≡◌, ◌∙◌, ℕ, suc, ◌+◌, ◌-◌, Bool, true, false, List, [], ◌∷◌, ◌++◌}
 use Rattle.std.proofs.Common.{refl, sym, ap, subst, arith, add-one, append_assoc, drop, length, map, ⊎_elim, None}
 use Rattle.std.proofs.lemmas.Bool.{cases_Bool, eqb-true, false≢true, false_from_ne_true}
 use Rattle.std.proofs.lemmas.List.{append-nil}
 use Rattle.std.proofs.lemmas.List.Concat.{flat_map-append}
-use Rattle.std.proofs.lemmas.List.Sorted.{IsPermutation-append, IsPermutation-append_comm}
+use Rattle.std.proofs.lemmas.List.Sorted.{IsPermutation-append_comm}
 use Rattle.std.proofs.lemmas.List.Sorted.{IsPermutation-append_left, IsPermutation-append_right}
 use Rattle.std.proofs.lemmas.List.Sorted.{IsPermutation-refl, IsPermutation-trans}
-use Rattle.std.specs.Prelude.{◌&&◌, ◌==◌, cond, filter, not, if◌then◌else◌}
+use Rattle.std.specs.Prelude.{◌&&◌, ◌==◌, cond, filter, if◌then◌else◌}
 use Rattle.std.specs.List.{AllByRecursion, flat_map}
 use Rattle.std.specs.List.Sorted.{IsPermutation}
-use Rattle.std.specs.Option.{is_none}
 use Rattle.cb_scan.specs.declared.rules.wide.declaration.Declaration.{Declaration}
 use Rattle.cb_scan.specs.declared.facts.Def.{Def}
-use Rattle.cb_scan.specs.declared.rules.wide.opening.Opening.{Opening}
 use Rattle.cb_scan.specs.declared.rules.wide.pass.Pass.{Pass}
 use Rattle.cb_scan.specs.declared.rules.wide.role.WideRole.TheVariants as wide
 use Rattle.cb_scan.specs.declared.rules.wide.token.WideToken.{WideToken}
-use Rattle.cb_scan.specs.lex.Tokens.{is_mark}
 use Rattle.cb_scan.specs.rules.wide.Attributes.{ends_attribute}
 use Rattle.cb_scan.specs.rules.wide.Bodies.{Body, bodies}
 use Rattle.cb_scan.specs.rules.wide.Declarations as rules
@@ -32,7 +29,7 @@ use Rattle.cb_scan.specs.steps.wide.Declarations.{Given, before_in_file, ends_pa
 use Rattle.cb_scan.specs.steps.wide.Declarations.{may_name, next_in_file, next_part_of}
 use Rattle.cb_scan.specs.steps.wide.Givens.{object_given, typedef_given}
 use Rattle.cb_scan.specs.steps.wide.Openings.{tag_out, tags_from}
-use Rattle.cb_scan.specs.steps.wide.Pass.{Taken, is_block, next_lists, next_of_file, next_pass, part_at}
+use Rattle.cb_scan.specs.steps.wide.Pass.{Taken, is_block, next_of_file, next_pass, part_at}
 use Rattle.cb_scan.specs.steps.wide.Pass.{parts_here, pass_start, take_all, take_first}
 use Rattle.cb_scan.proofs.WideBodies.{Opens, contents_of_all, opens_of_all, tags_of_all}
 use Rattle.cb_scan.proofs.WideBlocks.{IsRead}

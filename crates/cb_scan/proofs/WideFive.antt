@@ -30,7 +30,7 @@ use Rattle.cb_scan.specs.steps.wide.Declarations.{next_in_file, next_member, nex
 use Rattle.cb_scan.specs.steps.wide.Functions.{next, next_depth, stopped, stops}
 use Rattle.cb_scan.specs.steps.wide.Heads.{declared, next_head}
 use Rattle.cb_scan.specs.steps.wide.Levels.{opened}
-use Rattle.cb_scan.specs.steps.wide.Givens.{object_given, typedef_given}
+use Rattle.cb_scan.specs.steps.wide.Givens.{typedef_given}
 use Rattle.cb_scan.specs.steps.wide.Lists.{Lists}
 use Rattle.cb_scan.specs.steps.wide.Openings.{tag_out}
 use Rattle.cb_scan.specs.steps.wide.Parts.{begins_value, is_stray, next_part, part_start}

@@ -1,9 +1,9 @@
 -- The functions of the wide profile come in the order of their names.
-use Rattle.std.proofs.Common.{◌≡◌, ◌∙◌, ℕ, zero, suc, Bool, true, false, List, [], ◌∷◌, ◌++◌, refl, sym, ap}
+use Rattle.std.proofs.Common.{◌≡◌, ◌∙◌, ℕ, zero, suc, Bool, true, false, List, [], ◌∷◌, refl, sym, ap}
 use Rattle.std.proofs.Common.{subst, drop, length, map, Option, Some, None, ◌<◌}
 use Rattle.std.proofs.lemmas.Bool.{true≢false}
-use Rattle.std.specs.Prelude.{◌&&◌, ◌==◌, cond, not, slice_get, take, if◌then◌else◌}
-use Rattle.std.specs.List.{AllByRecursion, flat_map, slice_split}
+use Rattle.std.specs.Prelude.{◌&&◌, ◌==◌, cond, not, slice_get, take}
+use Rattle.std.specs.List.{AllByRecursion, flat_map}
 use Rattle.std.specs.Option.{MatchOption, option_map, option_or, option_to_list}
 use Rattle.cb_scan.specs.declared.lex.token.Token.{Token}
 use Rattle.cb_scan.specs.declared.rules.functions.Before.{Before}
@@ -14,7 +14,6 @@ use Rattle.cb_scan.specs.rules.Functions.{Function, function_from}
 use Rattle.cb_scan.specs.rules.Heads.{Signature, called_name, head, may_define}
 use Rattle.cb_scan.specs.rules.OldStyle.{segments, semicolons_before}
 use Rattle.cb_scan.specs.rules.Typedefs.{nesting_after}
-use Rattle.cb_scan.specs.rules.wide.Attributes.{without_attributes}
 use Rattle.cb_scan.specs.rules.wide.Bodies.{Body, opens_body}
 use Rattle.cb_scan.specs.rules.wide.Functions.{declared_by, declared_names, head_parts, head_prototype, plain}
 use Rattle.cb_scan.specs.rules.wide.Functions.{signature_from, wide_function_at, wide_functions, wide_head}
@@ -22,7 +21,7 @@ use Rattle.cb_scan.specs.rules.wide.Functions.{wide_name, wide_signature}
 use Rattle.cb_scan.specs.rules.wide.Levels.{Numbered, is_outer_byte, numbered, wide_tokens}
 use Rattle.cb_scan.specs.rules.wide.Prototypes.{prototype_name}
 use Rattle.cb_scan.specs.steps.Functions.{before_after}
-use Rattle.cb_scan.specs.steps.wide.Tokens.{token_after, tokens_from}
+use Rattle.cb_scan.specs.steps.wide.Tokens.{tokens_from}
 use Rattle.cb_scan.proofs.FunctionsRise.{HasByte, names_rise_from}
 use Rattle.cb_scan.proofs.Rising.{Rising}
 use Rattle.cb_scan.proofs.WideNames.{All, If, prototype_if}

@@ -3,7 +3,6 @@ use Rattle.std.proofs.Common.{◌≡◌, ◌∙◌, ℕ, List, [], ◌++◌, Non
 use Rattle.std.proofs.Common.{subst}
 use Rattle.std.specs.List.Sorted.{IsPermutation}
 use Rattle.std.specs.Option.{option_map, option_to_list}
-use Rattle.cb_scan.specs.declared.facts.Def.{Def}
 use Rattle.cb_scan.specs.declared.lex.lined.Lined.{Lined}
 use Rattle.cb_scan.specs.declared.lex.token.Token.{Token}
 use Rattle.cb_scan.specs.declared.rules.directives.Stage.{Stage}
@@ -27,7 +26,6 @@ use Rattle.cb_scan.proofs.Rising.{code_rises}
 use Rattle.cb_scan.proofs.WideBodies.{Opens, opens_of_all}
 use Rattle.cb_scan.proofs.WideCallsRead.{calls_read, calls_read_are}
 use Rattle.cb_scan.proofs.WideDefs.{defs_of_all, objects_of_all}
-use Rattle.cb_scan.proofs.WideInduction.{IsSame}
 use Rattle.cb_scan.proofs.WidePass.{pass_functions, pass_ranges}
 use Rattle.cb_scan.proofs.WideRise.{read_of_bare, rise_of_bare}
 use Rattle.cb_scan.proofs.WideStack.{Rise}

@@ -1,10 +1,10 @@
 -- The names of a part, and of the function that it declares, are tokens of the part.
-use Rattle.std.proofs.Common.{◌≡◌, ◌∙◌, ℕ, zero, suc, ◌+◌, ◌-◌, ◌<◌, ◌≤◌, Bool, true, false, List, [], ◌∷◌, ◌++◌}
-use Rattle.std.proofs.Common.{refl, sym, ap, subst, arith, add-one, drop, length, Option, Some, None, ⊎_elim}
+use Rattle.std.proofs.Common.{◌≡◌, ℕ, zero, suc, ◌+◌, ◌-◌, ◌<◌, ◌≤◌, Bool, true, false, List, [], ◌∷◌}
+use Rattle.std.proofs.Common.{sym, subst, arith, drop, length, Option, Some, None, ⊎_elim}
 use Rattle.std.proofs.lemmas.Bool.{cases_Bool, false≢true}
 use Rattle.std.proofs.lemmas.List.{reverse-append}
-use Rattle.std.specs.Prelude.{◌&&◌, cond, nat_le, filter, not, reverse, slice_get, take, if◌then◌else◌}
-use Rattle.std.specs.List.{AllByRecursion, flat_map, list_any, range_with_len, take_while}
+use Rattle.std.specs.Prelude.{◌&&◌, cond, nat_le, filter, not, reverse, slice_get, if◌then◌else◌}
+use Rattle.std.specs.List.{AllByRecursion, flat_map, list_any, range_with_len}
 use Rattle.std.specs.Option.{MatchOption, option_map, option_map_or, option_or}
 use Rattle.cb_scan.specs.declared.rules.wide.called.CalledName.{CalledName}
 use Rattle.cb_scan.specs.declared.rules.wide.token.WideToken.{WideToken}

@@ -1,18 +1,21 @@
--- What is found with a token that is no brace.
-use Rattle.std.proofs.Common.{◌≡◌, ◌∙◌, Bool, false, List, [], ◌++◌, Option, None, ap, sym}
-use Rattle.std.proofs.lemmas.Bool.{or_parts}
+-- A token that is no brace opens and closes nothing.
+use Rattle.std.proofs.Common.{◌≡◌, ◌∙◌, false, List, [], ◌++◌, Option, None, ap, sym, refl, ℕ, ◌+◌, ◌-◌}
+use Rattle.std.proofs.lemmas.Bool.{and_right, or_parts}
 use Rattle.std.proofs.lemmas.List.{append-nil}
-use Rattle.std.specs.Prelude.{◌&&◌, ◌||◌, ◌==◌, if◌then◌else◌}
+use Rattle.std.specs.Prelude.{◌&&◌, ◌||◌, ◌==◌, not, if◌then◌else◌}
 use Rattle.std.specs.List.{flat_map}
 use Rattle.std.specs.Option.{is_none, option_map, option_to_list}
 use Rattle.cb_scan.specs.declared.facts.Def.{Def}
+use Rattle.cb_scan.specs.declared.rules.wide.machine.WideMachine.{WideMachine}
 use Rattle.cb_scan.specs.declared.rules.wide.pass.Pass.{Pass}
 use Rattle.cb_scan.specs.declared.rules.wide.token.WideToken.{WideToken}
 use Rattle.cb_scan.specs.lex.Tokens.{is_mark}
+use Rattle.cb_scan.specs.rules.Depth.{depth_after}
 use Rattle.cb_scan.specs.rules.wide.Words.{is_sign}
 use Rattle.cb_scan.specs.steps.Functions.{range_to}
 use Rattle.cb_scan.specs.steps.wide.Contents.{defined_by}
-use Rattle.cb_scan.specs.steps.wide.Functions.{function_here, next_depth}
+use Rattle.cb_scan.specs.steps.wide.Functions.{function_here, headed, next, next_depth, stopped}
+use Rattle.cb_scan.specs.steps.wide.Functions.{stops}
 use Rattle.cb_scan.specs.steps.wide.Givens.{object_given, typedef_given}
 use Rattle.cb_scan.specs.steps.wide.Lists.{Lists}
 use Rattle.cb_scan.specs.steps.wide.Openings.{opening_tag, tag_out}
@@ -21,18 +24,45 @@ use Rattle.cb_scan.specs.steps.wide.Pass.{function_found, is_brace, next_lists, 
 use Rattle.cb_scan.specs.steps.wide.Pass.{range_closed}
 
 module _ (x : WideToken) (other : is_brace x ≡ false) where
-  unopened : (x.counted || is_sign 123 x.role || is_sign 125 x.role) ≡ false
-  unopened = (or_parts (x.counted || is_sign 123 x.role || is_sign 125 x.role)
+  unbraced : (x.counted || is_sign 123 x.role || is_sign 125 x.role) ≡ false
+  unbraced = (or_parts (x.counted || is_sign 123 x.role || is_sign 125 x.role)
       (is_mark 125 x.token.role) other).0
 
-  no_close : is_sign 125 x.role ≡ false
-  no_close = (or_parts (x.counted || is_sign 123 x.role) (is_sign 125 x.role) unopened).1
+  unopened : (x.counted || is_sign 123 x.role) ≡ false
+  unopened = (or_parts (x.counted || is_sign 123 x.role) (is_sign 125 x.role) unbraced).0
 
-  uncounted : x.counted ≡ false
-  uncounted = (or_parts x.counted (is_sign 123 x.role)
-      (or_parts (x.counted || is_sign 123 x.role) (is_sign 125 x.role) unopened).0).0
+  pub no_close : is_sign 125 x.role ≡ false
+  no_close = (or_parts (x.counted || is_sign 123 x.role) (is_sign 125 x.role) unbraced).1
 
-  no_function : (p : Pass) → function_found p x ≡ None
+  no_mark : is_mark 125 x.token.role ≡ false
+  no_mark = (or_parts (x.counted || is_sign 123 x.role || is_sign 125 x.role)
+      (is_mark 125 x.token.role) other).1
+
+  no_open : is_sign 123 x.role ≡ false
+  no_open = (or_parts x.counted (is_sign 123 x.role) unopened).1
+
+  pub uncounted : x.counted ≡ false
+  uncounted = (or_parts x.counted (is_sign 123 x.role) unopened).0
+
+  -- the depth stays
+  pub same_depth : (d : ℕ) → depth_after x.counted x.token d ≡ d
+  same_depth d =
+      λ i. if uncounted i then d + 1
+      else (if no_mark i then (if x.token.starts_line then 0 else d - 1) else d)
+
+  -- deeper in braces the machine stays
+  pub same_machine : (m : WideMachine) (xs : List WideToken) → (m.depth == 0) ≡ false
+      → next m xs x ≡ m
+  same_machine m xs deep =
+      let no_stop : stops m x ≡ false =
+      (λ i. (is_sign 59 x.role && deep i)
+      || (no_close i && next_depth m x == 0)
+      || (no_open i && not x.counted))
+      ∙ ap (λ b. b || false || false) (and_right (is_sign 59 x.role) false refl) in
+      λ i. if no_stop i then stopped m x
+      else record (if deep i then headed m xs x else m) { depth = same_depth m.depth i }
+
+  pub no_function : (p : Pass) → function_found p x ≡ None
   no_function p =
       λ i. if (uncounted i && is_none p.opening) && p.machine.depth == 0
       then function_here p.machine else None

@@ -26,7 +26,7 @@ use Rattle.cb_scan.specs.steps.wide.Declarations.{ends_part, next_in_file, next_
 use Rattle.cb_scan.specs.steps.wide.Functions as functions
 use Rattle.cb_scan.specs.steps.wide.Functions.{found, functions_from}
 use Rattle.cb_scan.specs.steps.wide.Levels.{opened}
-use Rattle.cb_scan.specs.steps.wide.Givens.{object_given, typedef_given}
+use Rattle.cb_scan.specs.steps.wide.Givens.{typedef_given}
 use Rattle.cb_scan.specs.steps.wide.Lists.{Lists}
 use Rattle.cb_scan.specs.steps.wide.Openings.{tag_out}
 use Rattle.cb_scan.specs.steps.wide.Pass.{Taken, function_found, is_block, next_lists, take_all}

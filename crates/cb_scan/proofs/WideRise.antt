@@ -1,5 +1,5 @@
 -- The bare tokens of a text come in the order of their places.
-use Rattle.std.proofs.Common.{◌≡◌, ◌∙◌, ℕ, suc, ◌<◌, ◌≤◌, Bool, true, false, List, [], ◌∷◌, refl, ap}
+use Rattle.std.proofs.Common.{◌≡◌, ◌∙◌, ℕ, suc, Bool, true, false, List, [], ◌∷◌, refl, ap}
 use Rattle.std.proofs.Common.{subst, arith}
 use Rattle.std.proofs.lemmas.Bool.{eqb-true, false≢true}
 use Rattle.std.specs.Prelude.{◌&&◌, cond, not}
@@ -12,7 +12,6 @@ use Rattle.cb_scan.specs.declared.rules.functions.Before.TheVariants.{Anything}
 use Rattle.cb_scan.specs.declared.rules.wide.attribute.Attribute.{Attribute}
 use Rattle.cb_scan.specs.declared.rules.wide.attribute.Attribute.TheVariants.{Outside}
 use Rattle.cb_scan.specs.declared.rules.wide.role.WideRole.TheVariants as wide
-use Rattle.cb_scan.specs.declared.rules.wide.token.WideToken.{WideToken}
 use Rattle.cb_scan.specs.lex.Tokens.{bytes_of, is_mark}
 use Rattle.cb_scan.specs.rules.wide.Attributes.{without_attributes}
 use Rattle.cb_scan.specs.rules.wide.Levels.{wide_tokens}

@@ -5,7 +5,6 @@ use Rattle.std.proofs.lemmas.Bool.{cases_Bool, false≢true}
 use Rattle.std.specs.Prelude.{◌&&◌, ◌||◌, not, cond, if◌then◌else◌}
 use Rattle.std.specs.List.{AllByRecursion}
 use Rattle.std.specs.Option.{option_map}
-use Rattle.cb_scan.specs.declared.rules.wide.attribute.Attribute.{Attribute}
 use Rattle.cb_scan.specs.declared.rules.wide.attribute.Attribute.TheVariants as attribute
 use Rattle.cb_scan.specs.declared.rules.wide.opening.Opening.{Opening}
 use Rattle.cb_scan.specs.declared.rules.wide.role.WideRole.{WideRole}
@@ -18,7 +17,7 @@ use Rattle.cb_scan.specs.rules.wide.Bodies.{body_kind}
 use Rattle.cb_scan.specs.rules.wide.Words.{is_attribute_word, is_literal, is_sign, is_wide_name, is_wide_word}
 use Rattle.cb_scan.specs.steps.wide.Attributes.{closed_after, inside_after, kept_from}
 use Rattle.cb_scan.specs.steps.wide.Openings.{after_kind, next_opening, tagged}
-use Rattle.cb_scan.specs.steps.wide.Sights.{look_along, look_inside, opening_along, paren_after, phase_after}
+use Rattle.cb_scan.specs.steps.wide.Sights.{look_along, look_inside, opening_along, paren_after}
 use Rattle.cb_scan.specs.steps.wide.Sights.{seen_after, sight_closed, sight_opening, sight_start}
 use Rattle.cb_scan.proofs.WideTails.{sign_is}
 

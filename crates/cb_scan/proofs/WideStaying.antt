@@ -1,22 +1,21 @@
 -- What stays of all that is gathered, range by range, is what a profile finds.
 use Rattle.std.proofs.Common.{◌≡◌, ◌∙◌, ◌≤◌, ℕ, Bool, true, false, List, [], ◌∷◌, ◌++◌, map}
 use Rattle.std.proofs.Common.{refl, sym, ap, arith, append_assoc, ⊎_elim}
-use Rattle.std.specs.Prelude.{◌&&◌, ◌||◌, cond, filter, find, not, if◌then◌else◌}
+use Rattle.std.specs.Prelude.{◌&&◌, ◌||◌, filter, not, if◌then◌else◌}
 use Rattle.std.specs.List.{AllByRecursion}
 use Rattle.std.specs.List.Sorted.{IsPermutation}
 use Rattle.std.specs.Option.{is_none}
 use Rattle.cb_scan.specs.declared.facts.Def.{Def}
 use Rattle.cb_scan.specs.declared.lex.piece.Piece.{Piece}
-use Rattle.cb_scan.specs.declared.lex.token.Token.{Token}
 use Rattle.cb_scan.specs.declared.rules.scope.Range.{Range}
 use Rattle.cb_scan.specs.Definitions.{macro_def}
 use Rattle.cb_scan.specs.Order.{AreOrdered, IsDefBefore, def_key, in_order}
-use Rattle.cb_scan.specs.Profiles.{all_definitions, definitions_by, is_declaration, is_object}
+use Rattle.cb_scan.specs.Profiles.{definitions_by, is_declaration, is_object}
 use Rattle.cb_scan.specs.rules.Macros.{macro_names}
-use Rattle.cb_scan.specs.rules.Scope.{holds, name_around, ranges_of}
-use Rattle.cb_scan.specs.rules.wide.Kinds.{functions_of, is_beside, wide_found, wide_function_def}
-use Rattle.cb_scan.specs.steps.Scopes.{first_around, reached}
-use Rattle.cb_scan.specs.steps.wide.Gathering.{declared_in, objects_in, profile_with, stays_first}
+use Rattle.cb_scan.specs.rules.Scope.{ranges_of}
+use Rattle.cb_scan.specs.rules.wide.Kinds.{functions_of, wide_function_def}
+use Rattle.cb_scan.specs.steps.Scopes.{reached}
+use Rattle.cb_scan.specs.steps.wide.Gathering.{declared_in, objects_in, profile_with}
 use Rattle.cb_scan.specs.steps.wide.Gathering.{staying}
 use Rattle.cb_scan.proofs.FunctionsRise.{all_implied}
 use Rattle.cb_scan.proofs.InOrder.{ordered_defs}

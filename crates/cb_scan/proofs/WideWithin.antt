@@ -1,5 +1,5 @@
 -- What the wide profile finds lies in the text, and so do the tags.
-use Rattle.std.proofs.Common.{◌≡◌, ℕ, zero, suc, ◌+◌, ◌-◌, Bool, true, false, List, [], ◌∷◌, ◌++◌}
+use Rattle.std.proofs.Common.{ℕ, zero, suc, ◌+◌, ◌-◌, Bool, true, false, List, [], ◌∷◌, ◌++◌}
 use Rattle.std.proofs.Common.{arith, sym, subst, drop, length, map, take, Option, Some, None}
 use Rattle.std.specs.Prelude.{◌&&◌, ◌==◌, cond, not, filter, slice_index_or, if◌then◌else◌}
 use Rattle.std.specs.List.{AllByRecursion, flat_map, list_any, prefix_len, range_with_len, slice_split, take_while}

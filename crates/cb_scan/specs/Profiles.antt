@@ -1,7 +1,6 @@
 -- What is found in a text by each profile. Macros, uses, includes, ranges and scopes have the same
 -- definitions in both, over the functions that the profile finds.
 use Rattle.std.specs.Prelude.{◌≡◌, ℕ, Bool, true, false, not, filter, List, ◌++◌, None}
-use Rattle.cb_scan.specs.declared.facts.Call.{Call}
 use Rattle.cb_scan.specs.declared.facts.Def.{Def}
 use Rattle.cb_scan.specs.declared.facts.Include.{Include}
 use Rattle.cb_scan.specs.declared.facts.Kind.{Kind}

@@ -88,7 +88,7 @@ impl Pass {
 
     /// No brace is open.
     #[inline(always)]
-    fn is_in_file(&self) -> bool
+    pub(crate) fn is_in_file(&self) -> bool
         ensures { result ≡ is_in_file self.now }
     {
         self.machine.depth == 0

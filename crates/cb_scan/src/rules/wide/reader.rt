@@ -323,6 +323,11 @@ impl Reader {
             self.sight.glance(text, before, token);
             return Ok(());
         }
+        if in_block && token.is_mark(b';') && !pass.is_in_file() {
+            pass.opening = None;
+            self.sight = Sight::new();
+            return Ok(());
+        }
         let item = token_after(text, before, token);
         self.next(pass, found, in_block, &item)?;
         Ok(())

@@ -1,7 +1,7 @@
 use Rattle.std.proofs.Common.{◌≡◌, ◌∙◌, ◌++◌}
 use Rattle.cb_scan.specs.steps.Cut.{pieces}
 use Rattle.cb_scan.specs.Definitions.{definitions, definitions_from}
-use Rattle.cb_scan.specs.Order.{call_key, def_key, in_order}
+use Rattle.cb_scan.specs.Order.{def_key, in_order}
 use Rattle.cb_scan.specs.rules.Code.{code}
 use Rattle.cb_scan.specs.rules.Functions.{functions}
 use Rattle.cb_scan.proofs.ScopeLemmas.{functions_ascend}

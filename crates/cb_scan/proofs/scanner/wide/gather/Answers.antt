@@ -6,7 +6,7 @@ use Rattle.std.specs.Option.{option_to_list}
 use Rattle.cb_scan.specs.declared.facts.Def.{Def}
 use Rattle.cb_scan.specs.declared.rules.directives.Stage.TheVariants.{Start}
 use Rattle.cb_scan.specs.lex.Tokens.{is_significant}
-use Rattle.cb_scan.specs.rules.Code.{code, is_newline}
+use Rattle.cb_scan.specs.rules.Code.{is_newline}
 use Rattle.cb_scan.specs.steps.Cut.{pieces}
 use Rattle.cb_scan.specs.steps.Directives.{code_out, include_out, is_code, macro_call_out}
 use Rattle.cb_scan.specs.steps.Directives.{macro_out, no_range, nothing, range_finish, use_out}

@@ -1,5 +1,5 @@
 -- What is found is of the file or of the innermost level.
-use Rattle.std.proofs.Common.{◌≡◌, ◌∙◌, ap, sym}
+use Rattle.std.proofs.Common.{◌∙◌, ap, sym}
 use Rattle.cb_scan.proofs.WideOther.{none_of_file, other_found}
 use Rattle.cb_scan.proofs.rules.wide.pass.Pass.take_other.Goals as goal
 use Rattle.cb_scan.proofs.rules.wide.pass.Pass.take_other.Goals.{then-is_in_file+in_ok-in_file, else-is_in_file}

@@ -1,6 +1,7 @@
 -- A token of the code is read as the token that the pass sees.
-use Rattle.std.proofs.Common.{◌≡◌, ◌∙◌, sym}
+use Rattle.std.proofs.Common.{◌∙◌, sym}
 use Rattle.cb_scan.specs.steps.wide.Reading.{taken_next, the_taken}
+use Rattle.cb_scan.proofs.WideEnds.{taken_ended}
 use Rattle.cb_scan.proofs.WideGlance.{read_glance, taken_glance}
 use Rattle.cb_scan.proofs.rules.wide.reader.Reader.add.Goals as goal
 
@@ -25,3 +26,10 @@ pub returns-then-not-is_mark_of_blocks-clause-taken
 returns-then-not-is_mark_of_blocks-clause-taken c =
     taken_glance c.args.text.now c.args.self.now (the_taken c.args.pass.now c.args.found.now)
     c.args.token.now (sym c.are_in_block-in_block.ensures ∙ c.if-in_block.true) (sym c.is_mark_of_blocks.ensures ∙ c.if-not-is_mark_of_blocks.true)
+
+-- a `;` in a block ends what a `{` would open
+pub returns-then-not-is_in_file-clause-taken : goal.returns-then-not-is_in_file-clause-taken
+returns-then-not-is_in_file-clause-taken c =
+    taken_ended c.args.text.now c.args.self.now (the_taken c.args.pass.now c.args.found.now)
+    c.args.token.now (sym c.are_in_block-in_block.ensures ∙ c.if-in_block-2.true)
+    (sym c.is_mark.ensures ∙ c.if-is_mark.true) (sym c.is_in_file.ensures ∙ c.if-not-is_in_file.true)

@@ -1,5 +1,5 @@
 -- What is kept, and what is left, are what is kept of all.
-use Rattle.std.proofs.Common.{◌≡◌, ◌∙◌, ◌≤◌, ◌++◌, [], ap, arith, length, sym}
+use Rattle.std.proofs.Common.{◌≡◌, ◌∙◌, ◌≤◌, ◌++◌, ap, arith, length, sym}
 use Rattle.std.proofs.lemmas.Bool.{eqb-true}
 use Rattle.cb_scan.specs.declared.rules.wide.attribute.Attribute.TheVariants.{Outside}
 use Rattle.cb_scan.specs.steps.wide.Attributes.{kept_from}

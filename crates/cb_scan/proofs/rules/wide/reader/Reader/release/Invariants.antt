@@ -1,5 +1,5 @@
 -- What is kept, and what is left, are what is kept of all.
-use Rattle.std.proofs.Common.{◌≡◌, ◌+◌, ◌<◌, ◌≤◌, ◌^◌, ◌++◌, length}
+use Rattle.std.proofs.Common.{◌≡◌, ◌+◌, ◌≤◌, ◌++◌, length}
 use Rattle.cb_scan.specs.steps.wide.Attributes.{kept_from, open_count}
 use Rattle.cb_scan.specs.steps.wide.Reading.{held_len}
 use Rattle.cb_scan.proofs.rules.wide.reader.Reader.release.Given as goal

@@ -1,5 +1,5 @@
 -- What is left is taken from the state that is reached.
-use Rattle.std.proofs.Common.{◌≡◌, ◌∙◌, ◌+◌, ◌≤◌, [], ap, arith, drop, length, sym}
+use Rattle.std.proofs.Common.{◌≡◌, ◌∙◌, ◌≤◌, ap, arith, length, sym}
 use Rattle.std.proofs.lemmas.List.{length-drop}
 use Rattle.cb_scan.specs.steps.wide.Pass.{take_all}
 use Rattle.cb_scan.specs.steps.wide.Reading.{the_taken}
