@@ -24,6 +24,7 @@ pub(crate) enum Attribute {
     /// So many parentheses are open besides the first.
     Inside(u32),
 }
+
 #[inline(always)]
 fn begins_with_literal(ahead: &[WideToken]) -> bool
     ensures { result ≡ begins_with_literal ahead.now }

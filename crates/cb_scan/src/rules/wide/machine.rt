@@ -103,6 +103,7 @@ impl WideMachine {
             self.depth.saturating_sub(1)
         }
     }
+
     #[inline(always)]
     fn stops(&self, item: &WideToken, after: u32) -> bool
         requires { after ≡ next_depth self.now item.now }

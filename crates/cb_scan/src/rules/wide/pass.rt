@@ -49,10 +49,7 @@ pub(crate) struct Pass {
 fn is_brace(item: &WideToken) -> bool
     ensures { result ≡ is_brace item.now }
 {
-    item.counted
-        || item.role.is_sign(b'{')
-        || item.role.is_sign(b'}')
-        || item.token.is_mark(b'}')
+    item.counted || item.role.is_sign(b'{') || item.role.is_sign(b'}') || item.token.is_mark(b'}')
 }
 
 impl Declaration {

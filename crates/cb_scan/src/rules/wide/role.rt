@@ -132,6 +132,7 @@ fn name_role(name: &[u8]) -> WideRole
         _ => WideRole::Name,
     }
 }
+
 #[inline(always)]
 fn word_role(kind: WordKind, word: &[u8]) -> WideRole
     ensures { result ≡ word_role kind word.now }

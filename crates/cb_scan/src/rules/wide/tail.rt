@@ -123,6 +123,7 @@ impl Tail {
             _ => None,
         }
     }
+
     #[inline(always)]
     fn prototype_of(&self, ahead: &[WideToken]) -> Option<WideToken>
         ensures { result ≡ prototype_of self.now ahead.now }
@@ -132,6 +133,7 @@ impl Tail {
             None => self.prototype_at(ahead),
         }
     }
+
     #[inline(always)]
     fn named_after(&self, ahead: &[WideToken], item: &WideToken) -> Option<WideToken>
         ensures { result ≡ named_after self.now ahead.now item.now }
