@@ -16,8 +16,8 @@ with_format a choices = with_rule a (record format_rule { parser = Some (Names c
 -- `tags`, whose format is one of these texts
 abbrev pub tags_app_of : Bor (List (Bor Text)) → App
 tags_app_of choices =
-    with_files (with_bounds (with_profile (with_format (with_rule (with_rule (new_app (codes "tags"))
-    listing_rule) tagsfile_rule) choices)))
+    with_files (with_bounds (with_profile (with_format
+    (with_rule (with_rule (new_app (codes "tags")) listing_rule) tagsfile_rule) choices)))
 
 -- the program's command, whose formats are these texts
 abbrev pub browse_app_of : Bor (List (Bor Text)) → App

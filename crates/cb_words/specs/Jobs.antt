@@ -86,8 +86,8 @@ with_bounds a =
     (codes "4096"))) (most_rule (codes "max_file_bytes") (codes "max-file-bytes") most_file_bytes
     (codes "1000000"))
 
--- `line [--wide] [--prototypes] [--max-files N] [--max-file-bytes N] [--files-from LIST] [FILE..]`: a session over standard
--- input and output
+-- `line [--wide] [--prototypes] [--max-files N] [--max-file-bytes N] [--files-from LIST] [FILE..]`:
+-- a session over standard input and output
 abbrev pub line_app : App
 line_app = with_files (with_bounds (with_profile (new_app (codes "line"))))
 
@@ -98,14 +98,15 @@ num_rule = record (new_rule (codes "num")) { value_names = 1; required = true }
 abbrev pub pattern_rule : Rule
 pattern_rule = record (new_rule (codes "pattern")) { value_names = 1; required = true }
 
--- `find [--wide] [--prototypes] [--max-files N] [--max-file-bytes N] [--files-from LIST] NUM PATTERN [FILE..]`: one search
+-- `find [--wide] [--prototypes] [--max-files N] [--max-file-bytes N] [--files-from LIST] NUM PATTERN
+-- [FILE..]`: one search
 abbrev pub find_app : App
 find_app =
     with_files (with_bounds (with_profile (with_rule (with_rule (new_app (codes "find")) num_rule)
     pattern_rule)))
 
--- `tags [-x] [-f TAGSFILE] [--format FORMAT] [--wide] [--prototypes] [--max-files N] [--max-file-bytes N]
--- [--files-from LIST] [FILE..]`: a tags file, or a listing
+-- `tags [-x] [-f TAGSFILE] [--format FORMAT] [--wide] [--prototypes] [--max-files N]
+-- [--max-file-bytes N] [--files-from LIST] [FILE..]`: a tags file, or a listing
 abbrev pub tags_app : App
 tags_app =
     with_files (with_bounds (with_profile (with_rule (with_rule (with_rule (new_app (codes "tags"))

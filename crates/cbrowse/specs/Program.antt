@@ -80,7 +80,8 @@ DoesJob (Find bounds profile field pattern list files) lines limit s feed feed' 
     (feed' ≡ feed)
     × WritesText (flat_map row_line (answer s.timeline.present field (string_bytes pattern)))
     old new ended
-DoesJob (Tags bounds profile listing tagsfile format list files) lines limit s feed feed' old new ended =
+DoesJob (Tags bounds profile listing tagsfile format list files)
+    lines limit s feed feed' old new ended =
     (feed' ≡ feed) × WritesText (tags_output listing format s.timeline.present) old new ended
 
 -- ---- a job over files
