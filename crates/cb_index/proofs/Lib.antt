@@ -38,3 +38,4 @@ pub mod SpreadLemmas
 pub mod TableLemmas
 pub mod TextLemmas
 pub mod TotalLemmas
+pub mod WordOrder

@@ -39,6 +39,7 @@ ghost use Rattle.cb_index.specs.Names.{AreSingle};
 ghost use Rattle.cb_index.specs.declared.entry.Shown.{Shown};
 
 use crate::archive::Archive;
+use crate::bytes::compare_by_words;
 use crate::entry::Shown;
 use std::cmp::Ordering;
 
@@ -94,7 +95,7 @@ fn numbers(shown: Shown) -> [u32; 2]
 fn compare_shown(archive: &Archive, a: Shown, b: Shown) -> Ordering
     ensures { result ≡ slice_cmp nat_cmp (shown_key archive.now a) (shown_key archive.now b) }
 {
-    match archive.name(a.name).cmp(archive.name(b.name)) {
+    match compare_by_words(archive.name(a.name), archive.name(b.name)) {
         Ordering::Less => Ordering::Less,
         Ordering::Greater => Ordering::Greater,
         Ordering::Equal => numbers(a).cmp(&numbers(b)),

@@ -8,6 +8,7 @@ ghost use Rattle.cb_index.specs.Entries.{bytes_key, file_key, numbers, sort_key}
 ghost use Rattle.cb_index.specs.Kinds.{keyer_of};
 
 use crate::archive::Archive;
+use crate::bytes::compare_by_words;
 use crate::entry::Entry;
 use crate::kind::IndexKind;
 use crate::orders::compare_keys;
@@ -23,7 +24,7 @@ fn numbers(entry: Entry) -> [u32; 4]
 fn compare_files(archive: &Archive, a: Entry, b: Entry) -> Ordering
     ensures { result ≡ slice_cmp nat_cmp (file_key archive.now a) (file_key archive.now b) }
 {
-    match archive.name(a.name).cmp(archive.name(b.name)) {
+    match compare_by_words(archive.name(a.name), archive.name(b.name)) {
         Ordering::Less => Ordering::Less,
         Ordering::Greater => Ordering::Greater,
         Ordering::Equal => numbers(a).cmp(&numbers(b)),

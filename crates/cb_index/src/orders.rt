@@ -34,7 +34,7 @@ ghost use Rattle.cb_index.specs.Orders.{
 ghost use Rattle.cb_index.specs.Scanned.{facts_of};
 
 use crate::archive::{Archive, Version};
-use crate::bytes::{bytes_at, cut};
+use crate::bytes::{bytes_at, compare_by_words, cut};
 use crate::counts::row_count;
 use crate::entry::{Entry, Shown};
 use crate::items::{is_first, item_count, item_key};
@@ -80,18 +80,20 @@ pub(crate) fn compare_keys(kind: IndexKind, archive: &Archive, a: Entry, b: Entr
         (key_of (keyer_of kind) archive.now b) }
 {
     match kind {
-        IndexKind::DefsByName => {
-            name_in(archive, a.version, a.number).cmp(name_in(archive, b.version, b.number))
-        }
+        IndexKind::DefsByName => compare_by_words(
+            name_in(archive, a.version, a.number),
+            name_in(archive, b.version, b.number),
+        ),
         IndexKind::DefsByTagName => compare_tag_names(
             name_in(archive, a.version, a.number),
             archive.name(a.name),
             name_in(archive, b.version, b.number),
             archive.name(b.name),
         ),
-        IndexKind::Facts(kind) => key_in(kind, archive, a.version, a.number).cmp(key_in(
-            kind, archive, b.version, b.number,
-        )),
+        IndexKind::Facts(kind) => compare_by_words(
+            key_in(kind, archive, a.version, a.number),
+            key_in(kind, archive, b.version, b.number),
+        ),
     }
 }
 

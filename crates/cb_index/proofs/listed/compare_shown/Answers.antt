@@ -9,7 +9,7 @@ returns-in-Less c =
     let archive = c.args.archive.now in
     let e = c.args.a in
     let f = c.args.b in
-    (λ i. ordering_then ((sym c.in-Less.is ∙ c.cmp.ensures
+    (λ i. ordering_then ((sym c.in-Less.is ∙ c.compare_by_words.ensures
     ∙ (λ j. slice_cmp nat_cmp (c.name.ensures j) (c.name-2.ensures j))) i)
     (slice_cmp nat_cmp (e.name ∷ e.version ∷ []) (f.name ∷ f.version ∷ []))) ∙ shown_cmp archive e f
 
@@ -18,7 +18,7 @@ returns-in-Greater c =
     let archive = c.args.archive.now in
     let e = c.args.a in
     let f = c.args.b in
-    (λ i. ordering_then ((sym c.in-Greater.is ∙ c.cmp.ensures
+    (λ i. ordering_then ((sym c.in-Greater.is ∙ c.compare_by_words.ensures
     ∙ (λ j. slice_cmp nat_cmp (c.name.ensures j) (c.name-2.ensures j))) i)
     (slice_cmp nat_cmp (e.name ∷ e.version ∷ []) (f.name ∷ f.version ∷ []))) ∙ shown_cmp archive e f
 
@@ -27,8 +27,8 @@ returns-in-Equal c =
     let archive = c.args.archive.now in
     let e = c.args.a in
     let f = c.args.b in
-    (λ i. ordering_then ((sym c.in-Equal.is ∙ c.cmp.ensures
+    (λ i. ordering_then ((sym c.in-Equal.is ∙ c.compare_by_words.ensures
     ∙ (λ j. slice_cmp nat_cmp (c.name.ensures j) (c.name-2.ensures j))) i)
-    ((c.cmp-in-Equal.ensures
+    ((c.cmp.ensures
     ∙ (λ j. slice_cmp nat_cmp (c.numbers.ensures j) (c.numbers-in-Equal.ensures j))) i))
     ∙ shown_cmp archive e f

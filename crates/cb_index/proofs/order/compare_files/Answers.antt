@@ -10,7 +10,7 @@ returns-in-Less c =
     let archive = c.args.archive.now in
     let e = c.args.a in
     let f = c.args.b in
-    (λ i. ordering_then ((sym c.in-Less.is ∙ c.cmp.ensures
+    (λ i. ordering_then ((sym c.in-Less.is ∙ c.compare_by_words.ensures
     ∙ (λ j. slice_cmp nat_cmp (c.name.ensures j) (c.name-2.ensures j))) i)
     (slice_cmp nat_cmp (numbers e) (numbers f))) ∙ file_cmp archive e f
 
@@ -19,7 +19,7 @@ returns-in-Greater c =
     let archive = c.args.archive.now in
     let e = c.args.a in
     let f = c.args.b in
-    (λ i. ordering_then ((sym c.in-Greater.is ∙ c.cmp.ensures
+    (λ i. ordering_then ((sym c.in-Greater.is ∙ c.compare_by_words.ensures
     ∙ (λ j. slice_cmp nat_cmp (c.name.ensures j) (c.name-2.ensures j))) i)
     (slice_cmp nat_cmp (numbers e) (numbers f))) ∙ file_cmp archive e f
 
@@ -28,8 +28,8 @@ returns-in-Equal c =
     let archive = c.args.archive.now in
     let e = c.args.a in
     let f = c.args.b in
-    (λ i. ordering_then ((sym c.in-Equal.is ∙ c.cmp.ensures
+    (λ i. ordering_then ((sym c.in-Equal.is ∙ c.compare_by_words.ensures
     ∙ (λ j. slice_cmp nat_cmp (c.name.ensures j) (c.name-2.ensures j))) i)
-    ((c.cmp-in-Equal.ensures
+    ((c.cmp.ensures
     ∙ (λ j. slice_cmp nat_cmp (c.numbers.ensures j) (c.numbers-in-Equal.ensures j))) i))
     ∙ file_cmp archive e f
