@@ -124,10 +124,15 @@ def plain_lines(world, facts=facts):
     return [b"%s\t%s\t%s\n" % (tag_name(tag), tag.file, address(tag)) for tag in tags]
 
 
+# functions, variables and prototypes: an external declaration is seen elsewhere, `static` or not
+MAY_BE_LOCAL = b"f", b"v", b"p"
+
+
 def extended_lines(world, facts=facts):
     lines = [*HEADS]
     for tag in sorted(tags_of(world, facts), key=lambda tag: (tag.name, tag.file)):
-        more = b"\t" + tag.scope if tag.scope else b"\tfile:" if tag.local else b""
+        is_local = tag.local and tag.kind in MAY_BE_LOCAL
+        more = b"\t" + tag.scope if tag.scope else b"\tfile:" if is_local else b""
         fields = tag.name, tag.file, address(tag), tag.kind, tag.line, more
         lines.append(b'%s\t%s\t%s;"\t%s\tline:%d%s\n' % fields)
     return lines
