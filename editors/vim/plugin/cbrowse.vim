@@ -15,9 +15,9 @@ endif
 let s:options = &cpoptions
 set cpoptions&vim
 
-const s:patience = 20000 " milliseconds until a reply is given up
+const s:patience = 600000 " milliseconds until a reply is given up
 const s:most_bytes = 268435456
-const s:most_files = 4096
+const s:most_files = 1048576
 const s:most_rows = 10000
 const s:most_shown = 400 " bytes of a row
 let s:root = ''     " the folder of the session, with its last slash
@@ -33,10 +33,11 @@ function! s:program() abort
   return get(g:, 'cbrowse_program', 'cbrowse')
 endfunction
 
-" The words of a run: a subcommand, the profile, and files of any size that cbrowse takes.
+" The words of a run: a subcommand, the profile, and as many files of any size as cbrowse takes.
 function! s:words(subcommand) abort
   let profile = get(g:, 'cbrowse_standard', 0) ? [] : ['--wide']
-  return [s:program(), a:subcommand] + profile + ['--max-file-bytes', string(s:most_bytes)]
+  let bounds = ['--max-files', string(s:most_files), '--max-file-bytes', string(s:most_bytes)]
+  return [s:program(), a:subcommand] + profile + bounds
 endfunction
 
 " ---- the session: a process that is asked and answers line by line
@@ -178,14 +179,12 @@ function! s:is_very_large(path, size) abort
   return str2nr(system('cd ' .. shellescape(fnamemodify(a:path, ':h')) .. ' && ' .. command)) > most
 endfunction
 
-" Why a file is left out; empty where it is not.
+" Why a file is left out before it is sent; empty where it is not.
 function! s:refused(name, size) abort
   if s:bad_name(a:name) !=# ''
     return 'bad name'
   elseif a:size > s:most_bytes
     return 'too large'
-  elseif !has_key(s:names, a:name) && len(s:names) >= s:most_files
-    return printf('more than %d files', s:most_files)
   elseif !filereadable(s:root .. a:name)
     return 'cannot be read'
   elseif s:is_very_large(s:root .. a:name, a:size)
