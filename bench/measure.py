@@ -10,8 +10,8 @@ import subprocess
 import sys
 
 sys.path.insert(0, str(pathlib.Path(__file__).resolve().parent.parent / "verify"))
-from shared import MOST_BYTES, MOST_FILES, TOP, c_files, copy  # noqa: E402, F401
-from shared import options, words_given  # noqa: E402, F401
+from shared import LARGEST, MOST_BYTES, MOST_FILES, TOP, c_files, copy  # noqa: E402, F401
+from shared import options, spread, words_given  # noqa: E402, F401
 
 PATIENCE = 120  # seconds until a run is given up
 
@@ -35,7 +35,7 @@ def use_another_core():
                 pass  # not one that this process may use
 
 
-def processor_time(words, folder, stdin=b""):
+def processor_time(words, folder, stdin=b"", patience=PATIENCE):
     """The seconds that a program takes."""
     fed = folder / "stdin"
     fed.write_bytes(stdin)
@@ -47,7 +47,7 @@ def processor_time(words, folder, stdin=b""):
             stdin=feed,
             stdout=subprocess.DEVNULL,
             stderr=subprocess.DEVNULL,
-            timeout=PATIENCE,
+            timeout=patience,
             check=True,
         )
         after = resource.getrusage(resource.RUSAGE_CHILDREN)

@@ -26,9 +26,9 @@ never closed.
 
 With --folder there is one more row, of the C files in a folder, at most 4,096 of them: one session
 loads them all and scans them N times, and the time of a session that loads them and scans them once
-is taken away. `ctags` takes the same files in one run. With --before the row also has the MB/s of
-another cbrowse, and those of this one as a multiple of it; the programs take turns, so that other
-work on the machine slows each of them alike.
+is taken away. The row also has the MB/s by the wide profile, and those of the standard one as a
+multiple of them. `ctags` takes the same files in one run. With --before it has those of another
+cbrowse, too. The programs take turns, so that other work on the machine slows each of them alike.
 
 Columns: MB/s of cbrowse; time per byte as a multiple of that at 10 KB (1.0 is linear); at 1 MB the
 MB/s of ctags and of cscope, each with the MB/s of cbrowse as a multiple of it.
@@ -220,8 +220,8 @@ def real_texts(folder):
     return [(folder / name).read_bytes() for name in c_files(folder, most=MOST_FILES)]
 
 
-def real_row(programs, ctags, folder, texts):
-    """Speeds on real files: of each program in a session, and of ctags, runs taking turns."""
+def real_row(sessions, ctags, folder, texts):
+    """Speeds on real files: in a session by each of some words, and of ctags, runs taking turns."""
     size = sum(len(text) for text in texts)
     load = b"".join(
         b":load %d.c %d\n%s" % (number, len(text), text) for number, text in enumerate(texts)
@@ -237,19 +237,17 @@ def real_row(programs, ctags, folder, texts):
         best[key] = min(best.get(key, seconds), seconds)
 
     for _ in range(REAL_RUNS):
-        for program in programs:
-            words = [program, "line"]
-            note((program, "one"), processor_time(words, folder, load + AGAIN))
+        for name, words in sessions.items():
+            note((name, "one"), processor_time(words, folder, load + AGAIN))
             scans = load + AGAIN * (1 + REAL_TIMES)
-            note((program, "all"), processor_time(words, folder, scans))
+            note((name, "all"), processor_time(words, folder, scans))
         if ctags:
             note("ctags", processor_time(ctags + ["-L", "list"], folder))
-    speeds = [
-        size * REAL_TIMES / (best[program, "all"] - best[program, "one"]) / 1e6
-        for program in programs
-    ]
+    speeds = {
+        name: size * REAL_TIMES / (best[name, "all"] - best[name, "one"]) / 1e6 for name in sessions
+    }
     if ctags:
-        speeds.append(size / best["ctags"] / 1e6)
+        speeds["ctags"] = size / best["ctags"] / 1e6
     return size, speeds
 
 
@@ -273,16 +271,17 @@ def main():
     found = others()
     if given.folder:
         texts = real_texts(given.folder)
-        programs = [cbrowse] + ([str(pathlib.Path(given.before).resolve())] if given.before else [])
+        sessions = {"cbrowse": [cbrowse, "line"], "wide": [cbrowse, "line", "--wide"]}
+        if given.before:
+            sessions["before"] = [str(pathlib.Path(given.before).resolve()), "line"]
         with tempfile.TemporaryDirectory() as place:
-            size, speeds = real_row(programs, found.get("ctags"), pathlib.Path(place), texts)
-        names = ["cbrowse"] + ["before"] * bool(given.before) + ["ctags"] * ("ctags" in found)
+            size, speeds = real_row(sessions, found.get("ctags"), pathlib.Path(place), texts)
         print(
             f"{len(texts)} real files, {size / 1e6:.1f} MB: "
             + ", ".join(
                 f"{name} {speed:.1f} MB/s"
-                + (f" (times {speeds[0] / speed:.2f})" if name != "cbrowse" else "")
-                for name, speed in zip(names, speeds)
+                + (f" (times {speeds['cbrowse'] / speed:.2f})" if name != "cbrowse" else "")
+                for name, speed in speeds.items()
             ),
             flush=True,
         )

@@ -11,8 +11,8 @@ An empty line does nothing: its time, which is that of the pipes between the pro
 first and taken away from the others. "few" is the figure in the small session, and "times" the one
 as a multiple of the other: near 1 where a small change is little work.
 
-One file      of median size: dropped, and that undone and redone; renamed; a text on one of its
-              lines changed, and that undone.
+One file      of median size: dropped, and that undone and redone; renamed; reloaded with the same
+              bytes; a text on one of its lines changed; and each of these undone.
 Pairs         a change of that file and what takes it back, 10,000 times in one go, where no reply
               is waited for: such changes take less than the pipes do, so that their times one at a
               time say little. Nothing is taken away from these.
@@ -135,15 +135,20 @@ class Session:
         for command in commands:
             self.process.stdin.write(command)
 
+    def most_memory(self):
+        """The most bytes that it had resident so far, as Linux tells it."""
+        status = pathlib.Path("/proc", str(self.process.pid), "status").read_text()
+        return int(status.split("VmHWM:")[1].split()[0]) * 1024
+
     def end(self):
         self.process.stdin.close()
         self.process.stdout.read()
         self.process.wait()
 
 
-def line_of_its_own(path):
+def line_of_its_own(content):
     """A word that stands on one line of a file, and no word of which it is a part."""
-    words = collections.Counter(re.findall(rb"[A-Za-z_]\w{11,}", path.read_bytes()))
+    words = collections.Counter(re.findall(rb"[A-Za-z_]\w{11,}", content))
     return next((word for word, count in words.items() if count == 1), None)
 
 
@@ -155,23 +160,25 @@ def mark_in(session, name, text):
     session.do(b":mark %d" % at)
 
 
-def small_changes(session, name, text):
-    """The median seconds of each change of one file."""
+def small_changes(session, name, text, content):
+    """The median seconds of each change of one file, whose content ends with a line feed."""
     seen = collections.defaultdict(list)
     for _ in range(TIMES):
         for label, command in (
             ("nothing", b""),
             ("drop", b":drop " + name),
-            ("undo of it", b":undo"),
-            ("redo of it", b":redo"),
+            ("undo of the drop", b":undo"),
+            ("redo of the drop", b":redo"),
             (None, b":undo"),
             ("rename", b":rename %s z/%s" % (name, name)),
-            (None, b":undo"),
+            ("undo of the rename", b":undo"),
+            ("reload", b":reload %s %d\n%s" % (name, len(content), content[:-1])),
+            ("undo of the reload", b":undo"),
         ):
             seen[label].append(session.do(command))
         mark_in(session, name, text)
         seen["text on one line"].append(session.do(b":to other"))
-        seen["undo of that"].append(session.do(b":undo"))
+        seen["undo of the text"].append(session.do(b":undo"))
         session.do(b":undo")
         session.do(b":undo")
     nothing = statistics.median(seen["nothing"])
@@ -201,22 +208,20 @@ def put(label, milliseconds, beside=""):
     print(f"{label:<34}{milliseconds:>12.4f} ms   {beside}".rstrip(), flush=True)
 
 
-def one_file(cbrowse, folder, sizes):
-    """The changes of one file, with all files and with few."""
-    names = list(sizes)
-    few = names[::FEW]
-    name, text = next(
-        (name, text)
-        for name in sorted(
-            few, key=lambda name: abs(sizes[name] - statistics.median(sizes.values()))
-        )
-        for text in [line_of_its_own(folder / name)]
-        if text
+def one_file(words_for, folder, sizes, few):
+    """The changes of one file, in a session of all files and in one of few."""
+    names, median = list(sizes), statistics.median(sizes.values())
+    name, text, content = next(
+        (name, text, content)
+        for name in sorted(few, key=lambda name: abs(sizes[name] - median))
+        for content in [(folder / name).read_bytes()]
+        for text in [line_of_its_own(content)]
+        if text and content.endswith(b"\n")
     )
     figures = []
     for files in (names, few):
-        session = Session([cbrowse, "line"] + files, folder)
-        figure = small_changes(session, os.fsencode(name), text)
+        session = Session(words_for(files), folder)
+        figure = small_changes(session, os.fsencode(name), text, content)
         figures.append(figure | pairs_of_changes(session, os.fsencode(name)))
         session.end()
     print(f"{name}, {sizes[name]} bytes, among {len(names)} files and among {len(few)}")
@@ -280,9 +285,9 @@ def loads(cbrowse, folder, sizes, scanned):
     session.end()
 
 
-def first_questions(cbrowse, folder, sizes):
-    """The first question of each kind."""
-    session = Session([cbrowse, "line"] + list(sizes), folder)
+def first_questions(words, folder):
+    """The first question of each kind; the session, which has put all in order."""
+    session = Session(words, folder)
     for label, field in (
         ("uses", b"0"),
         ("definitions", b"1"),
@@ -291,7 +296,7 @@ def first_questions(cbrowse, folder, sizes):
     ):
         first, again = (session.do(field + b"NoSuchName") for _ in range(2))
         put(f"first question about {label}", first * 1000, f"then {again * 1000:.4f} ms")
-    session.end()
+    return session
 
 
 def used_most(folder, sizes):
@@ -322,18 +327,10 @@ def rows(label, words, folder, names):
     )
 
 
-def defined(cbrowse, folder, sizes):
-    """Names of definitions, evenly drawn, as many as there are questions."""
-    with tempfile.TemporaryDirectory() as place:
-        tags = pathlib.Path(place, "tags")
-        subprocess.run([cbrowse, "tags", "-f", tags] + list(sizes), cwd=folder, check=True)
-        names = sorted(
-            {
-                line.split(b"\t", 1)[0]
-                for line in tags.read_bytes().split(b"\n")
-                if line and not line.startswith(b"!")
-            }
-        )
+def defined(tags):
+    """Names of the definitions of a tags file, evenly drawn, as many as there are questions."""
+    lines = (line for line in tags.read_bytes().split(b"\n") if line and line[:1] != b"!")
+    names = sorted({line.split(b"\t", 1)[0] for line in lines})
     return (names[:: max(len(names) // QUESTIONS, 1)] * QUESTIONS)[:QUESTIONS]
 
 
@@ -383,20 +380,26 @@ def main():
             with open(folder / name, "ab") as file:
                 sizes[name] += file.write(LAST_LINE)
         print(f"{len(sizes):,} files, {sum(sizes.values()) / 1e6:.1f} MB")
-        one_file(given.cbrowse, folder, sizes)
+        names = list(sizes)
+
+        def words_for(files):
+            return [given.cbrowse, "line"] + files
+
+        one_file(words_for, folder, sizes, names[::FEW])
         scanned = all_files(given.cbrowse, folder, sizes)
         many_changes(given.cbrowse, folder, sizes)
         loads(given.cbrowse, folder, sizes, scanned)
-        first_questions(given.cbrowse, folder, sizes)
-        names, used = defined(given.cbrowse, folder, sizes), used_most(folder, sizes)
+        first_questions(words_for(names), folder).end()
+        tags = place / "tags"
+        subprocess.run([given.cbrowse, "tags", "-f", tags] + names, cwd=folder, check=True)
+        asked, used = defined(tags), used_most(folder, sizes)
         put_questions(
-            f"{len(names):,} names, cbrowse",
-            questions([given.cbrowse, "line"] + list(sizes), folder, names),
+            f"{len(asked):,} names, cbrowse", questions(words_for(names), folder, asked)
         )
-        rows("cbrowse", [given.cbrowse, "line"] + list(sizes), folder, used)
+        rows("cbrowse", words_for(names), folder, used)
         if installed("cscope", "-V", "version"):
             words = cscope_words(folder, sizes, place)
-            put_questions(f"{len(names):,} names, cscope", questions(words, folder, names))
+            put_questions(f"{len(asked):,} names, cscope", questions(words, folder, asked))
             rows("cscope", words, folder, used)
 
 

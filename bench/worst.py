@@ -81,12 +81,6 @@ def again(shape, size=MOST_BYTES):
     return (shape * (size // len(shape) + 1))[:size]
 
 
-def most_memory(session):
-    """The most that a session had resident, in megabytes, as Linux tells it."""
-    status = pathlib.Path("/proc", str(session.process.pid), "status").read_text()
-    return int(status.split("VmHWM:")[1].split()[0]) / 1024
-
-
 def asked(cbrowse, folder, texts, questions=QUESTIONS):
     """The least seconds of a session over these texts, and its memory in megabytes."""
     with tempfile.TemporaryDirectory(dir=folder) as place:
@@ -99,7 +93,7 @@ def asked(cbrowse, folder, texts, questions=QUESTIONS):
         session = Session(words, place)
         for question in questions:
             session.ask(question.rstrip())
-        memory = most_memory(session)
+        memory = session.most_memory() / 1e6
         session.end()
         return seconds, memory
 

@@ -53,6 +53,8 @@ call writefile([json_encode(found)], $FOUND)
 qall!
 """
 CHILDREN = "split(system('pgrep -P ' .. getpid() .. ' -f line'))"
+# The program, which is told to take 4,096 files.
+FEWER = ["#!/bin/sh", 'exec "$MINE" $(echo "$@" | sed "s/--max-files [0-9]*/--max-files 4096/")']
 KILL = f"call system('kill ' .. join({CHILDREN})) | sleep 300m"
 
 
@@ -208,10 +210,13 @@ def failures(plan: Plan) -> None:
         " | call writefile(['x;'], printf('many/%d.c', i)) | endfor"
     )
     plan.add(many)
+    plan.add("CbrowseStart many", "cbrowse: 4200 files")
+    plan.add(f"call writefile({json.dumps(FEWER)}, 'fewer') | call setfperm('fewer', 'rwx------')")
     plan.add(
-        "CbrowseStart many",
-        "cbrowse: left out: 104 more than 4096 files; :CbrowseLeftOut lists them",
+        "let g:cbrowse_program = getcwd() .. '/fewer' | CbrowseStart many",
+        "cbrowse: left out: 104 too many files; :CbrowseLeftOut lists them",
     )
+    plan.add("let g:cbrowse_program = mine | CbrowseStart many", "cbrowse: 4200 files")
     plan.add("call writefile(repeat(['y;'], 10001), 'many/0.c') | doautocmd FocusGained")
     plan.add("CbrowseUses y", "cbrowse: the first 10000 of 10001 rows are listed")
     plan.add("CbrowseStop | call delete('many', 'rf') | call delete('odd', 'rf')")
@@ -234,6 +239,7 @@ def drive(editor: str, cbrowse: str, report: Report) -> int:
         (beside / "script.vim").write_text(SCRIPT)
         (beside / "vimrc").write_text("set nocompatible\n")
         env = {"STEPS": beside / "steps", "FOUND": beside / "found", "HOME": beside}
+        env["MINE"] = cbrowse
         begin = [f"set rtp^={beside}/vim", f"let g:cbrowse_program = '{cbrowse}'"]
         words = [editor, "-u", str(beside / "vimrc"), "-i", "NONE", "-n", "-es"]
         words += [word for command in begin for word in ("--cmd", command)]

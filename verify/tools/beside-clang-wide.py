@@ -1,26 +1,25 @@
 #!/usr/bin/python3
 """Compares the definitions of the wide profile in real C sources with what a compiler sees there.
 
-    verify/tools/beside-clang-wide.py FOLDER
+    make && verify/tools/beside-clang-wide.py FOLDER
     verify/tools/beside-clang-wide.py --rows FILE --without deps FOLDER -- -std=gnu11 -D NDEBUG
 
 It needs libclang and its module for the Python of the system (`python3-clang-14` and
 `libclang-common-14-dev` of Debian 12). Each .c file below the folder is compiled from inside it,
 with the words after `--`; headers are looked for in all folders below the same first folder. Files
 in which the compiler finds an error are left out. Judged are the lines that the preprocessor keeps
-in one of the others, in the folder's own files. The program does not have the wide profile yet, so
-its model stands for it (`verify/models`).
+in one of the others, in the folder's own files, by `cbrowse tags --wide --prototypes --format 2`
+and by ctags with all kinds.
 
 A name counts as declared where the compiler declares it and the bytes at that place are the name:
 what macros make is left out. Enumerators, members, structures, unions and enumerations count
-anywhere, all else outside functions. For each kind a table says how many are in both (true), in the
-model alone (wrong), with the compiler alone (missed), and the same for ctags. `--rows` writes those
-that are not in both to a file. It compares and judges nothing, so it has no failures.
+anywhere, all else outside functions. For each kind a table says how many are in both (true), with
+cbrowse alone (wrong), with the compiler alone (missed), and the same for ctags. `--rows` writes
+those that are not in both to a file. It compares and judges nothing, so it has no failures.
 """
 
 from __future__ import annotations
 
-import argparse
 import collections
 import ctypes
 import os
@@ -33,13 +32,10 @@ from clang.cindex import CursorKind, StorageClass, TranslationUnit
 
 HERE = pathlib.Path(__file__).resolve().parent
 sys.path.insert(0, str(HERE))
-from tags_files import WIDE, Found, definitions  # noqa: E402
+from tags_files import OWN_WIDE, WIDE, Found, definitions  # noqa: E402
 
 sys.path.insert(0, str(HERE.parent))
-from shared import c_files  # noqa: E402
-
-sys.path.insert(0, str(HERE.parent / "models"))
-import wide_model  # noqa: E402
+from shared import c_files, options, words_given  # noqa: E402
 
 KINDS = "ftsugemvxp"
 ANYWHERE = {
@@ -141,26 +137,23 @@ def compiled(names: list[str], words: list[str]) -> tuple[set[Found], dict[str, 
 
 
 def main() -> None:
-    parser = argparse.ArgumentParser(
-        description=__doc__, formatter_class=argparse.RawDescriptionHelpFormatter
-    )
+    parser = options(__doc__)
     parser.add_argument("folder", type=pathlib.Path, help="a folder with C files")
     parser.add_argument("words", nargs="*", help="words for the compiler, after --")
     parser.add_argument(
         "--without", action="append", default=[], help="a folder's name; what is below is left out"
     )
     parser.add_argument("--rows", type=pathlib.Path, help="a file for the rows that differ")
-    words = parser.parse_args()
+    words = words_given(parser)
     rows_file = words.rows.resolve() if words.rows else None
     os.chdir(words.folder)
     names = [*c_files(pathlib.Path("."), words.without)]
     headers = [it for path in HEADERS for it in ("-isystem", str(path))]
     true, kept, units = compiled(names, ["-x", "c", *headers, *words.words])
-    model: set[Found] = set()
-    for file in kept:
-        for one in wide_model.facts(pathlib.Path(file).read_bytes()).definitions:
-            model.add(Found(one.kind.decode(), one.name.decode(), file, one.line))
-    ctags = {item for item, _ in definitions(["ctags", *WIDE], [*kept], pathlib.Path("."))}
+    own, ctags = (
+        {item for item, _ in definitions(asked, [*kept], pathlib.Path("."))}
+        for asked in ([words.cbrowse, *OWN_WIDE], ["ctags", *WIDE])
+    )
     print(f"{units} units, {len(kept)} files")
     print(f"{'kind':<6}{'true':>7}{'wrong':>7}{'missed':>7}   ctags:{'wrong':>7}{'missed':>7}")
     rows = []
@@ -168,7 +161,7 @@ def main() -> None:
         of_kind = {it for it in true if it.kind == kind}
         mine, its = (
             {it for it in some if it.kind == kind and it.line in kept[it.file]}
-            for some in (model, ctags)
+            for some in (own, ctags)
         )
         counts = f"{len(mine & of_kind):>7}{len(mine - of_kind):>7}{len(of_kind - mine):>7}"
         print(f"{kind:<6}{counts}   {len(its - of_kind):>13}{len(of_kind - its):>7}")

@@ -1,41 +1,34 @@
 #!/usr/bin/env python3
 """Compares the definitions of the wide profile in real C sources with those of Universal Ctags.
 
-    verify/tools/beside-ctags-wide.py FOLDER
-    verify/tools/beside-ctags-wide.py --rows FILE --without deps FOLDER
+    make && verify/tools/beside-ctags-wide.py FOLDER
+    verify/tools/beside-ctags-wide.py --cbrowse PATH --rows FILE --without deps FOLDER
 
-The program does not have this profile yet: what stands beside ctags is found by the model
-(`verify/models/wide_model.py`, or by `--pass` by `wide_pass.py`, which is faster). It takes every
-file of the folder that cbrowse takes, except those below a folder that `--without` names. ctags
-gets the same files:
+It takes every file of the folder that cbrowse takes, at most 4,096 of them, except those below a
+folder that `--without` names. Both programs get the same files:
 
+    cbrowse tags --wide --prototypes --format 2
     ctags --language-force=C --kinds-C=+px --if0=yes
 
 Two definitions are the same if kind, name, file and line are. The names that ctags makes up
-(`__anon..`) are left out. For each kind a table says how many definitions each finds, what part of
-those of ctags the model finds, and the other way round. Then each row that only one side has is
-counted under its likely reason, judged by its line and the lines around it, and `--rows` writes all
-of them to a file. Last, the scope fields of the enumerators and members that both have are counted.
-It compares and judges nothing, so it has no failures.
+(`__anon..`) are left out. For each kind a table says how many definitions each program finds, what
+part of those of ctags cbrowse finds, and the other way round. Then each row that only one side has
+is counted under its likely reason, judged by its line and the lines around it, and `--rows` writes
+all of them to a file. Last, the scope fields of the enumerators and members that both have are
+counted. It compares and judges nothing, so it has no failures.
 """
 
 from __future__ import annotations
 
-import argparse
 import collections
 import pathlib
 import re
 import sys
 
-from tags_files import WIDE, Found, counted, definitions, put_table
+from tags_files import OWN_WIDE, WIDE, Found, counted, definitions, put_table
 
-HERE = pathlib.Path(__file__).resolve().parent
-sys.path.insert(0, str(HERE.parent))
-from shared import c_files  # noqa: E402
-
-sys.path.insert(0, str(HERE.parent / "models"))
-import wide_model  # noqa: E402
-import wide_pass  # noqa: E402
+sys.path.insert(0, str(pathlib.Path(__file__).resolve().parents[1]))
+from shared import MOST_FILES, RESERVED, c_files, options, words_given  # noqa: E402
 
 KINDS = {
     "f": "functions",
@@ -51,18 +44,6 @@ KINDS = {
     "p": "prototypes",
 }
 SCOPES = "struct", "union", "enum"
-
-
-def modelled(facts, names: list[str], folder: pathlib.Path) -> list[tuple[Found, dict]]:
-    """What the model finds in these files, in the form of `definitions`."""
-    found = []
-    for file in names:
-        for one in facts((folder / file).read_bytes()).definitions:
-            scope = dict([one.scope.decode().split(":")]) if one.scope else {}
-            kind, name = one.kind.decode(), one.name.decode()
-            found.append((Found(kind, name, file, one.line), scope))
-        facts.cache_clear()
-    return found
 
 
 def is_in_function(lines: list[str], line: int) -> bool:
@@ -88,6 +69,10 @@ def reason(item: Found, by_ctags: bool, near: list[Found], lines: list[str]) -> 
     kinds = {other.kind for other in near if other.name == item.name}
     if kinds:
         return f"the other says {', '.join(sorted(kinds))}"
+    if item.kind == "d" and by_ctags and re.match(r"\s*#\s*pragma\b", text):
+        return "a name after #pragma weak, taken for a macro"
+    if item.kind == "d" and by_ctags:
+        return "the name is a reserved word" if item.name in RESERVED else "a name with $"
     if item.kind == "d":
         return "ctags passes over a branch of #if"
     if item.kind == "e" and re.search(rf"\b{name}\s*\(", text):
@@ -133,9 +118,7 @@ def put_scopes(own: list[tuple[Found, dict]], other: list[tuple[Found, dict]]) -
 
 
 def main() -> None:
-    parser = argparse.ArgumentParser(
-        description=__doc__, formatter_class=argparse.RawDescriptionHelpFormatter
-    )
+    parser = options(__doc__)
     parser.add_argument("folder", type=pathlib.Path, help="a folder with C files")
     parser.add_argument("--ctags", default="ctags", help="Universal Ctags")
     parser.add_argument(
@@ -145,23 +128,21 @@ def main() -> None:
         "--shown", type=int, default=3, help="how many of each difference to show, 3 by default"
     )
     parser.add_argument("--rows", type=pathlib.Path, help="a file for all rows that differ")
-    parser.add_argument("--pass", dest="in_pass", action="store_true", help="by the faster model")
-    words = parser.parse_args()
+    words = words_given(parser)
     folder = words.folder.resolve()
-    sizes = c_files(folder, words.without)
-    facts = (wide_pass if words.in_pass else wide_model).facts
-    of_model = modelled(facts, [*sizes], folder)
+    sizes = c_files(folder, words.without, most=MOST_FILES)
+    of_own = definitions([words.cbrowse, *OWN_WIDE], [*sizes], folder)
     of_ctags = definitions([words.ctags, *WIDE], [*sizes], folder)
-    own, other = counted(of_model), counted(of_ctags)
+    own, other = counted(of_own), counted(of_ctags)
     print(f"{len(sizes)} files with {sum(sizes.values())} bytes")
-    put_table(KINDS, own, other, "model")
+    put_table(KINDS, own, other, "cbrowse")
     texts: dict[str, list[str]] = {}
     places = collections.defaultdict(list)
     for item in own | other:
         places[item.file, item.line].append(item)
     rows = []
     for by_ctags, some, others in (True, other - own, own), (False, own - other, other):
-        side = "ctags" if by_ctags else "model"
+        side = "ctags" if by_ctags else "cbrowse"
         reasons = collections.defaultdict(list)
         for item in sorted(some.elements()):
             if item.file not in texts:
@@ -176,7 +157,7 @@ def main() -> None:
             print(f"{side} alone: {len(items)} {why}")
             for shown in items[: words.shown]:
                 print("   ", shown)
-    put_scopes(of_model, of_ctags)
+    put_scopes(of_own, of_ctags)
     if words.rows:
         words.rows.write_text("".join(rows))
 

@@ -8,7 +8,8 @@ import subprocess
 import tempfile
 from typing import NamedTuple
 
-# How ctags is asked for all kinds of the wide profile.
+# How cbrowse and ctags are asked for all kinds of the wide profile.
+OWN_WIDE = ["tags", "--wide", "--prototypes", "--format", "2"]
 WIDE = ["--options=NONE", "--language-force=C", "--kinds-C=+px", "--if0=yes", "--fields=+kn"]
 
 

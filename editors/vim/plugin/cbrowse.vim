@@ -15,9 +15,9 @@ endif
 let s:options = &cpoptions
 set cpoptions&vim
 
-const s:patience = 20000 " milliseconds until a reply is given up
+const s:patience = 600000 " milliseconds until a reply is given up
 const s:most_bytes = 268435456
-const s:most_files = 4096
+const s:most_files = 1048576
 const s:most_rows = 10000
 const s:most_shown = 400 " bytes of a row
 let s:root = ''     " the folder of the session, with its last slash
@@ -33,10 +33,11 @@ function! s:program() abort
   return get(g:, 'cbrowse_program', 'cbrowse')
 endfunction
 
-" The words of a run: a subcommand, the profile, and files of any size that cbrowse takes.
+" The words of a run: a subcommand, the profile, and as many files of any size as cbrowse takes.
 function! s:words(subcommand) abort
   let profile = get(g:, 'cbrowse_standard', 0) ? [] : ['--wide']
-  return [s:program(), a:subcommand] + profile + ['--max-file-bytes', string(s:most_bytes)]
+  let bounds = ['--max-files', string(s:most_files), '--max-file-bytes', string(s:most_bytes)]
+  return [s:program(), a:subcommand] + profile + bounds
 endfunction
 
 " ---- the session: a process that is asked and answers line by line
@@ -51,9 +52,9 @@ if has('nvim')
     call extend(s:heard_lines, a:data[1:])
   endfunction
 
-  function! s:open() abort
+  function! s:open(more) abort
     let s:heard_lines = ['']
-    let s:job = jobstart(s:words('line'), {'on_stdout': function('s:heard')})
+    let s:job = jobstart(s:words('line') + a:more, {'on_stdout': function('s:heard')})
   endfunction
 
   function! s:close() abort
@@ -73,8 +74,8 @@ if has('nvim')
     return len(s:heard_lines) > 1 ? remove(s:heard_lines, 0) : ''
   endfunction
 else
-  function! s:open() abort
-    let s:job = job_start(s:words('line'), {'mode': 'nl', 'drop': 'never', 'err_io': 'null'})
+  function! s:open(more) abort
+    let s:job = job_start(s:words('line') + a:more, {'mode': 'nl', 'drop': 'never', 'err_io': 'null'})
   endfunction
 
   function! s:close() abort
@@ -159,36 +160,47 @@ function! s:drop(name) abort
   endif
 endfunction
 
-" Whether the tags of a file would be very large. A line of n bytes has at most (n + 1) / 2
-" definitions, so few files are counted.
-function! s:is_very_large(path, size) abort
-  if get(g:, 'cbrowse_all', 0) || a:size <= 20000
-    return 0
-  endif
-  let most = max([100000000, 100 * a:size])
-  let bound = 0
-  for line in readfile(a:path, 'b')
-    let bound += (len(line) + 1) / 2 * len(line)
-  endfor
-  if bound <= most
-    return 0
-  endif
-  let words = s:words('tags') + ['-x', '--', fnamemodify(a:path, ':t')]
-  let command = join(map(words, 'shellescape(v:val)')) .. ' 2>/dev/null | head -c ' .. (most + 1) .. ' | wc -c'
-  return str2nr(system('cd ' .. shellescape(fnamemodify(a:path, ':h')) .. ' && ' .. command)) > most
+" Names the files whose tags may be very large. A line of n bytes has at most (n + 1) / 2 definitions.
+const s:judge = join([
+      \ 'function judge() { if (most > 100000000 && most > 100 * size) print file }',
+      \ 'FNR == 1 { judge(); file = FILENAME; size = most = 0 }',
+      \ '{ size += length() + 1; most += (length() + 1) / 2 * length() }',
+      \ 'END { judge() }'])
+
+" What a command of the shell writes in the folder of the session.
+function! s:shell(command, input = []) abort
+  return system('cd ' .. shellescape(s:root) .. ' && ' .. a:command .. ' 2>/dev/null', a:input)
 endfunction
 
-" Why a file is left out; empty where it is not.
-function! s:refused(name, size) abort
+" Of some files those whose tags are very large. Few are counted, and none of up to 20,000 bytes.
+function! s:very_large(names) abort
+  let some = filter(copy(a:names), {_, name -> s:refused(name, []) ==# ''})
+  call filter(some, {_, name -> getfsize(s:root .. name) > 20000})
+  if empty(some) || get(g:, 'cbrowse_all', 0)
+    return []
+  endif
+  let paths = join(map(some, {_, name -> './' .. name}), "\n") " an LF is sent as a byte 0
+  let found = s:shell('env LC_ALL=C xargs -0 awk ' .. shellescape(s:judge), [paths])
+  return filter(map(split(found, "\n"), {_, path -> path[2:]}), {_, name -> s:is_very_large(name)})
+endfunction
+
+function! s:is_very_large(name) abort
+  let most = max([100000000, 100 * getfsize(s:root .. a:name)])
+  let words = s:words('tags') + ['-x', '--', a:name]
+  let command = join(map(words, 'shellescape(v:val)')) .. ' 2>/dev/null | head -c ' .. (most + 1) .. ' | wc -c'
+  return str2nr(s:shell(command)) > most
+endfunction
+
+" Why a file is left out before it is sent; empty where it is not. `large` are those with very large
+" tags.
+function! s:refused(name, large) abort
   if s:bad_name(a:name) !=# ''
     return 'bad name'
-  elseif a:size > s:most_bytes
+  elseif getfsize(s:root .. a:name) > s:most_bytes
     return 'too large'
-  elseif !has_key(s:names, a:name) && len(s:names) >= s:most_files
-    return printf('more than %d files', s:most_files)
   elseif !filereadable(s:root .. a:name)
     return 'cannot be read'
-  elseif s:is_very_large(s:root .. a:name, a:size)
+  elseif index(a:large, a:name) >= 0
     return 'tags very large (g:cbrowse_all = 1 takes them)'
   endif
   return ''
@@ -201,9 +213,17 @@ function! s:stamp(name) abort
   return getftime(path) >= localtime() - 1 ? [] : [getftime(path), getfsize(path)]
 endfunction
 
-" Sends the bytes that a file has on disk. Once the history is full a new session begins.
-function! s:send(name) abort
-  let why = s:refused(a:name, getfsize(s:root .. a:name))
+" Sends the bytes that some files have on disk.
+function! s:send(names) abort
+  let large = s:very_large(a:names)
+  for name in a:names
+    call s:send_one(name, large)
+  endfor
+endfunction
+
+" Sends a file. Once the history is full a new session begins.
+function! s:send_one(name, large) abort
+  let why = s:refused(a:name, a:large)
   if why ==# ''
     let stamp = s:stamp(a:name)
     let bytes = readfile(s:root .. a:name, 'B')
@@ -217,11 +237,11 @@ function! s:send(name) abort
       let why = substitute(reply, '^refused: ', '', '')
     endif
   endif
-  if why ==# ''
-    call filter(s:left_out, {name, _ -> name !=# a:name})
-  else
+  if why !=# ''
     call s:drop(a:name)
     let s:left_out[a:name] = why
+  elseif has_key(s:left_out, a:name)
+    call remove(s:left_out, a:name)
   endif
 endfunction
 
@@ -238,16 +258,30 @@ function! s:tell_left_out() abort
   call s:warn(printf('left out: %s; :CbrowseLeftOut lists them', join(reasons, ', ')))
 endfunction
 
-" Begins a session with some files.
+" Begins a session with some files, which it reads by itself. Where it does not take one of them it
+" ends, and another session gets each file that it takes.
 function! s:begin(names) abort
   call s:stop()
   if !executable(s:program())
     throw 'cbrowse: ' .. s:program() .. ' is not in the path; install it, or let g:cbrowse_program name it'
   endif
-  call s:open()
+  let large = s:very_large(a:names)
   for name in a:names
-    call s:send(name)
+    let why = s:refused(name, large)
+    let [found, value] = why ==# '' ? [s:names, s:stamp(name)] : [s:left_out, why]
+    let found[name] = value
   endfor
+  let list = tempname()
+  call writefile(sort(keys(s:names)), list)
+  try
+    call s:open(['--files-from', list])
+    call s:ask(':stack') " it answers once all are read
+  catch /^cbrowse: /
+    call s:open([])
+    call s:send(a:names)
+  finally
+    call delete(list)
+  endtry
 endfunction
 
 " The names of the files that the words of the session ask for.
@@ -286,12 +320,13 @@ endfunction
 
 " Drops the files that are gone, and sends those that are not as they were sent.
 function! s:look_again() abort
-  for name in keys(s:names)
-    if !filereadable(s:root .. name)
-      call s:drop(name)
-    elseif empty(s:names[name]) || s:stamp(name) !=# s:names[name]
-      call s:send(name)
-    endif
+  call s:drop_those_gone()
+  call s:send(filter(keys(s:names), {_, name -> empty(s:names[name]) || s:stamp(name) !=# s:names[name]}))
+endfunction
+
+function! s:drop_those_gone() abort
+  for name in filter(keys(s:names), {_, name -> !filereadable(s:root .. name)})
+    call s:drop(name)
   endfor
 endfunction
 
@@ -308,11 +343,7 @@ function! s:refresh() abort
   call s:must_run()
   let s:left_out = {}
   call s:look_again()
-  for name in s:wanted()
-    if !has_key(s:names, name)
-      call s:send(name)
-    endif
-  endfor
+  call s:send(filter(s:wanted(), {_, name -> !has_key(s:names, name)}))
   if empty(s:left_out)
     echomsg printf('cbrowse: %d files', len(s:names))
   else
@@ -337,7 +368,7 @@ function! s:written(path) abort
   if name ==# '' || !s:runs()
     return
   endif
-  call s:send(name)
+  call s:send([name])
   if has_key(s:left_out, name)
     call s:warn(printf('%s is left out: %s', name, s:left_out[name]))
   endif
@@ -363,9 +394,7 @@ function! s:question(digit, pattern) abort
   if a:pattern ==# ''
     throw 'cbrowse: there is no word under the cursor; name one after the command'
   endif
-  for name in filter(keys(s:names), {_, name -> !filereadable(s:root .. name)})
-    call s:drop(name)
-  endfor
+  call s:drop_those_gone()
   let [reply, rows] = s:ask(a:digit .. a:pattern)
   let total = len(rows)
   let entries = map(rows[: s:most_rows - 1], {_, row -> s:entry(row)})
