@@ -24,7 +24,7 @@ ghost use Rattle.std.specs.List.{AllByRecursion};
 ghost use Rattle.std.specs.Str.{bytes_eq};
 ghost use Rattle.cb_index.specs.Files.{AreApart, IsThere};
 ghost use Rattle.cb_desk.specs.Desk.{Counts, counted};
-ghost use Rattle.cb_desk.specs.Files.{loaded};
+ghost use Rattle.cb_desk.specs.Files.{load_refusal, loaded};
 ghost use Rattle.cb_desk.specs.Step.{load};
 ghost use Rattle.cb_desk.specs.Timeline.{Changes, moved_on, new_timeline};
 ghost use Rattle.cb_desk.specs.World.{IsValidWorld, has_file};
@@ -72,13 +72,6 @@ impl Model for Loading {
 
     ghost invariant = { λ l. AreLoaded l.bounds l.shelf.archive l.shelf.shown
         l.loaded.items l.names.keys l.records.items };
-}
-
-/// Whether a name is known.
-fn is_known(names: &BTreeSet<Vec<u8>>, name: &[u8]) -> bool
-    ensures { result ≡ is_known names.now.keys name.now }
-{
-    names.contains(name)
 }
 
 /// Adds a name to those that are known. Where memory is refused they stay as they are.
@@ -192,6 +185,14 @@ impl Loading {
         self.records.len() >= self.bounds.history() as usize
     }
 
+    /// Why a file can't be loaded, if it can't: the lowest refusal that applies.
+    fn load_refusal(&self, name: &[u8], bytes: &[u8]) -> Option<Refusal>
+        ensures { result ≡ load_refusal self.now.timeline.present name.now bytes.now }
+    {
+        let exists = self.names.contains(name);
+        load_refusal(self.bounds, self.loaded.len(), exists, name, bytes)
+    }
+
     /// Adds a version under a name that no file has.
     fn add(&mut self, alloc: Global, name: Vec<u8>, version: Version) -> Result<(), AllocError>
         requires fresh { has_file self.old.timeline.present.files name.items ≡ false }
@@ -237,9 +238,7 @@ impl Loading {
         ensures turns { self.new.turns ≡ self.old.turns }
     {
         let _counted = self.meter.read();
-        let count = self.loaded.len();
-        let exists = is_known(&self.names, name);
-        if let Some(refusal) = load_refusal(self.bounds, count, exists, name, bytes.as_slice()) {
+        if let Some(refusal) = self.load_refusal(name, bytes.as_slice()) {
             return Err(refusal);
         }
         if self.is_full() {
