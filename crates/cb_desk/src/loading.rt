@@ -7,23 +7,28 @@ ghost use Rattle.std.specs.Prelude.{
   ◌+◌,
   ◌^◌,
   ◌∷◌,
+  ◌||◌,
   [],
   false,
   length,
   nat_le,
+  List,
+  ℕ,
   IfErr,
   MatchResult,
+  OnErr,
   OnOk,
   vec_capacity,
 };
 ghost use Rattle.std.specs.List.{AllByRecursion};
-ghost use Rattle.cb_index.specs.Files.{AreAscending, IsThere};
+ghost use Rattle.std.specs.Str.{bytes_eq};
+ghost use Rattle.cb_index.specs.Files.{AreApart, IsThere};
 ghost use Rattle.cb_desk.specs.Desk.{Counts, counted};
-ghost use Rattle.cb_desk.specs.Files.{loaded};
+ghost use Rattle.cb_desk.specs.Files.{load_refusal, loaded};
 ghost use Rattle.cb_desk.specs.Step.{load};
 ghost use Rattle.cb_desk.specs.Timeline.{Changes, moved_on, new_timeline};
 ghost use Rattle.cb_desk.specs.World.{IsValidWorld, has_file};
-ghost use Rattle.cb_desk.specs.steps.Loading.{HasRoomToShow};
+ghost use Rattle.cb_desk.specs.steps.Loading.{HasRoomToShow, by_file_name, is_known};
 
 use crate::history::History;
 use crate::place_edits::PlaceEdits;
@@ -33,43 +38,56 @@ use crate::present::refusals::load_refusal;
 use crate::record::Record;
 use crate::scanned::scanned;
 use crate::{Bounds, Desk, Refusal};
-use cb_index::{Room, Shelf, Shown, Version, put_all_shown, totals_of};
+use cb_index::{Room, Shelf, Shown, Version, totals_of};
 use cb_scan::{Meter, Profile};
 use std::alloc::{AllocError, Global};
+use std::collections::BTreeSet;
 use std::marker::Model;
 
 /// Files that are loaded, each by a change that can be taken back. Nothing is shown before all of
-/// them are there, so that each index is sorted once.
+/// them are there, so that the list of files and each index are sorted once. Till then their names
+/// are kept in a set, which tells whether there is a file of a name.
 #[derive(Drop)]
 pub struct Loading {
     bounds: Bounds,
     shelf: Shelf,
-    shown: Vec<Shown>,
+    names: BTreeSet<Vec<u8>>,
+    loaded: Vec<Shown>,
     records: Vec<Record>,
     meter: Meter,
 }
 
 impl Model for Loading {
-    ghost use Rattle.cb_desk.specs.steps.Loading.{AreLoaded, Loaded, loads_recorded};
+    ghost use Rattle.cb_desk.specs.steps.Loading.{AreLoaded, Loaded, by_file_name, loads_recorded};
     ghost use Rattle.cb_desk.specs.steps.Walks.{timeline_in};
 
     ghost Value = { Loaded };
 
     ghost view = { λ l. record {
-      timeline = timeline_in
-          (loads_recorded l.bounds l.shelf.archive l.shown.items l.records.items);
+      timeline = timeline_in (loads_recorded l.bounds l.shelf.archive
+          (by_file_name l.shelf.archive l.loaded.items) l.records.items);
       meter = l.meter;
       turns = l.shelf.turns;
     } };
 
     ghost invariant = { λ l. AreLoaded l.bounds l.shelf.archive l.shelf.shown
-        l.shown.items l.records.items };
+        l.loaded.items l.names.keys l.records.items };
+}
+
+/// Adds a name to those that are known. Where memory is refused they stay as they are.
+fn add_name(alloc: Global, names: &mut BTreeSet<Vec<u8>>, name: &[u8]) -> Result<(), AllocError>
+    ensures added { OnOk result ((other : List ℕ) → is_known names.new.keys other
+        ≡ (bytes_eq other name.now || is_known names.old.keys other)) }
+    ensures same { OnErr result (names.new.keys ≡ names.old.keys) }
+{
+    names.insert(Vec::from_slice(alloc, name)?)?;
+    Ok(())
 }
 
 /// Makes room for one file more.
 fn make_room(
     shelf: &mut Shelf,
-    shown: &mut Vec<Shown>,
+    loaded: &mut Vec<Shown>,
     records: &mut Vec<Record>,
     count: u32,
 ) -> Result<(), AllocError>
@@ -79,17 +97,17 @@ fn make_room(
     ensures name { OnOk result (length shelf.new.archive.names < shelf.new.archive.name_room) }
     ensures version { OnOk result
         (length shelf.new.archive.texts < shelf.new.archive.version_room) }
-    ensures entry { OnOk result (length shown.new.items < vec_capacity shown.new) }
+    ensures entry { OnOk result (length loaded.new.items < vec_capacity loaded.new) }
     ensures record_room { OnOk result (length records.new.items < vec_capacity records.new) }
     ensures same_profile { shelf.new.archive.profile ≡ shelf.old.archive.profile }
     ensures same_names { shelf.new.archive.names ≡ shelf.old.archive.names }
     ensures same_texts { shelf.new.archive.texts ≡ shelf.old.archive.texts }
     ensures same_shown { shelf.new.shown ≡ shelf.old.shown }
     ensures same_turns { shelf.new.turns ≡ shelf.old.turns }
-    ensures same_list { shown.new.items ≡ shown.old.items }
+    ensures same_list { loaded.new.items ≡ loaded.old.items }
     ensures same_records { records.new.items ≡ records.old.items }
 {
-    shown.reserve(1)?;
+    loaded.reserve(1)?;
     records.reserve(1)?;
     let room = Room {
         versions: count + 1,
@@ -105,26 +123,26 @@ fn make_room(
     }
 }
 
-/// Shows all files. Where there is none, it takes no memory.
-fn show(shelf: &mut Shelf, shown: &[Shown]) -> Result<(), AllocError>
+/// Shows all files, by file name. Where there is none, it takes no memory.
+fn show(shelf: &mut Shelf, loaded: &[Shown]) -> Result<(), AllocError>
     requires hidden { shelf.old.shown ≡ [] }
-    requires there { AllByRecursion (IsThere shelf.old.archive) shown.now }
-    requires ascending { AreAscending shelf.old.archive shown.now }
-    ensures shown { OnOk result (shelf.new.shown ≡ shown.now) }
+    requires there { AllByRecursion (IsThere shelf.old.archive) loaded.now }
+    requires apart { AreApart shelf.old.archive loaded.now }
+    ensures shown { OnOk result (shelf.new.shown ≡ by_file_name shelf.old.archive loaded.now) }
     ensures profile { shelf.new.archive.profile ≡ shelf.old.archive.profile }
     ensures names { shelf.new.archive.names ≡ shelf.old.archive.names }
     ensures texts { shelf.new.archive.texts ≡ shelf.old.archive.texts }
-    ensures room { OnOk result (HasRoomToShow shelf.new shown.now) }
+    ensures room { OnOk result (HasRoomToShow shelf.new loaded.now) }
     ensures turns { OnOk result
-        (shelf.new.turns ≡ counted shelf.old.turns (length shown.now)) }
-    ensures some { IfErr result (λ _. shown.now ≢ []) }
+        (shelf.new.turns ≡ counted shelf.old.turns (length loaded.now)) }
+    ensures some { IfErr result (λ _. loaded.now ≢ []) }
 {
     let _counted = shelf.turns();
-    if shown.is_empty() {
+    if loaded.is_empty() {
         return Ok(());
     }
-    let totals = totals_of(shelf.archive(), shown).ok_or(AllocError)?;
-    let entries = u32::try_from(shown.len()).ok().ok_or(AllocError)?;
+    let totals = totals_of(shelf.archive(), loaded).ok_or(AllocError)?;
+    let entries = u32::try_from(loaded.len()).ok().ok_or(AllocError)?;
     let room = Room {
         versions: 0,
         names: 0,
@@ -136,7 +154,7 @@ fn show(shelf: &mut Shelf, shown: &[Shown]) -> Result<(), AllocError>
     if shelf.reserve(&room).is_err() {
         return Err(AllocError);
     }
-    shelf.show_all(shown);
+    shelf.show_all(loaded);
     Ok(())
 }
 
@@ -152,7 +170,8 @@ impl Loading {
         Loading {
             bounds,
             shelf: Shelf::new(alloc, profile),
-            shown: Vec::new(alloc),
+            names: BTreeSet::new(alloc),
+            loaded: Vec::new(alloc),
             records: Vec::new(alloc),
             meter: Meter::new(),
         }
@@ -164,6 +183,14 @@ impl Loading {
             (length self.now.timeline.past) }
     {
         self.records.len() >= self.bounds.history() as usize
+    }
+
+    /// Why a file can't be loaded, if it can't: the lowest refusal that applies.
+    fn load_refusal(&self, name: &[u8], bytes: &[u8]) -> Option<Refusal>
+        ensures { result ≡ load_refusal self.now.timeline.present name.now bytes.now }
+    {
+        let exists = self.names.contains(name);
+        load_refusal(self.bounds, self.loaded.len(), exists, name, bytes)
     }
 
     /// Adds a version under a name that no file has.
@@ -186,10 +213,11 @@ impl Loading {
             version: count,
         };
         let hides = only_one(alloc, one)?;
-        make_room(&mut self.shelf, &mut self.shown, &mut self.records, count)?;
+        make_room(&mut self.shelf, &mut self.loaded, &mut self.records, count)?;
+        add_name(alloc, &mut self.names, name.as_slice())?;
         let _ = self.shelf.push_name(name);
         let _ = self.shelf.push_version(version);
-        put_all_shown(self.shelf.archive(), &[one], &mut self.shown);
+        self.loaded.push_reserved(one);
         self.records.push_reserved(Record {
             hides,
             shows: Vec::new(alloc),
@@ -210,9 +238,7 @@ impl Loading {
         ensures turns { self.new.turns ≡ self.old.turns }
     {
         let _counted = self.meter.read();
-        let archive = self.shelf.archive();
-        let shown = self.shown.as_slice();
-        if let Some(refusal) = load_refusal(self.bounds, archive, shown, name, bytes.as_slice()) {
+        if let Some(refusal) = self.load_refusal(name, bytes.as_slice()) {
             return Err(refusal);
         }
         if self.is_full() {
@@ -239,12 +265,14 @@ impl Loading {
         let Loading {
             bounds,
             mut shelf,
-            shown,
+            names,
+            loaded,
             records,
             meter,
         } = self;
+        drop(names);
         let count = records.len() as u32;
-        show(&mut shelf, shown.as_slice())?;
+        show(&mut shelf, loaded.as_slice())?;
         let present = Present::loaded(alloc, bounds, shelf, count);
         Ok(Desk::over(History::loaded(present, records), meter))
     }

@@ -65,7 +65,6 @@ pub use facts::{FactRows, FactSpots};
 pub use includes::IncludeRows;
 pub use kind::{FactKind, IndexKind};
 pub use links::Links;
-pub use listed::put_all_shown;
 pub use memory::OutOfMemory;
 pub use names::are_rising;
 pub use range::Rows;

@@ -117,7 +117,7 @@ fn sort_shown(archive: &Archive, shown: &mut [Shown])
 
 /// Puts versions among others, by file name, in the room that is there: none, one at its place,
 /// more by one sort. No two of them have one file name. It takes no memory.
-pub fn put_all_shown(archive: &Archive, news: &[Shown], shown: &mut Vec<Shown>)
+pub(crate) fn put_all_shown(archive: &Archive, news: &[Shown], shown: &mut Vec<Shown>)
     requires ascending { AreAscending archive.now shown.old.items }
     requires apart { AreApart archive.now (shown.old.items ++ news.now) }
     requires room { length shown.old.items + length news.now ≤ vec_capacity shown.old }

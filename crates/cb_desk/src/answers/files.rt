@@ -69,7 +69,7 @@ impl<'a> Iterator for Files<'a> {
 }
 
 /// What is among these versions under a file name, with the number of the name, by binary search.
-pub(crate) fn find_shown(archive: &Archive, shown: &[Shown], name: &[u8]) -> Option<Shown>
+fn find_shown(archive: &Archive, shown: &[Shown], name: &[u8]) -> Option<Shown>
     requires there { AllByRecursion (IsThere archive.now) shown.now }
     requires ascending { AreAscending archive.now shown.now }
     ensures value { option_map (shown_file archive.now) result

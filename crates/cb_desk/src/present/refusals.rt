@@ -1,20 +1,18 @@
 //! Why a change is refused, kind by kind.
 ghost use Rattle.std.specs.Prelude.{◌≡◌, length, nat_lt};
 ghost use Rattle.std.specs.Option.{option_map};
-ghost use Rattle.std.specs.List.{AllByRecursion};
-ghost use Rattle.cb_index.specs.Files.{AreAscending, IsThere, files_of};
+ghost use Rattle.cb_index.specs.Files.{files_of};
 ghost use Rattle.cb_desk.specs.Files.{load_refusal, reload_refusal, rename_refusal, unload_refusal};
 ghost use Rattle.cb_desk.specs.Marks.{mark_all_refusal, mark_refusal, want_refusal};
 ghost use Rattle.cb_desk.specs.Stack.{pop_refusal, push_refusal};
-ghost use Rattle.cb_desk.specs.World.{empty_world, has_file, is_short};
+ghost use Rattle.cb_desk.specs.World.{World, has_file, is_short};
 ghost use Rattle.cb_desk.specs.steps.Records.{place_in, world_in};
 
-use crate::answers::find_shown;
+use crate::answers::shown_as;
 use crate::limits::MOST_TEXT;
 use crate::present::Present;
 use crate::spot::NumberedPlace;
 use crate::{Bounds, Refusal};
-use cb_index::{Archive, Shown};
 use cb_tags::is_file_name;
 
 /// Whether a text keeps the limit and lies in one line.
@@ -44,36 +42,24 @@ pub(super) fn want_refusal(text: &[u8]) -> Option<Refusal>
     }
 }
 
-/// Whether one of these versions is shown under that name.
-fn has_file(archive: &Archive, shown: &[Shown], name: &[u8]) -> bool
-    requires there { AllByRecursion (IsThere archive.now) shown.now }
-    requires ascending { AreAscending archive.now shown.now }
-    ensures { result ≡ has_file (files_of archive.now shown.now) name.now }
-{
-    find_shown(archive, shown, name).is_some()
-}
-
-/// Why a file can't be loaded beside others, if it can't: the lowest refusal that applies.
+/// Why a file can't be loaded beside so many others, if it can't: the lowest refusal that applies.
 pub(crate) fn load_refusal(
     bounds: Bounds,
-    archive: &Archive,
-    shown: &[Shown],
+    count: usize,
+    exists: bool,
     name: &[u8],
     bytes: &[u8],
 ) -> Option<Refusal>
-    requires there { AllByRecursion (IsThere archive.now) shown.now }
-    requires ascending { AreAscending archive.now shown.now }
-    ensures { result ≡ load_refusal
-        (record (empty_world archive.now.profile bounds) { files = files_of archive.now shown.now })
-        name.now bytes.now }
+    ensures { (w : World) → w.bounds ≡ bounds → length w.files ≡ count
+        → has_file w.files name.now ≡ exists → result ≡ load_refusal w name.now bytes.now }
 {
     if !is_file_name(name) {
         Some(Refusal::BadName)
-    } else if has_file(archive, shown, name) {
+    } else if exists {
         Some(Refusal::FileExists)
     } else if is_large(bounds, bytes) {
         Some(Refusal::TooLarge)
-    } else if shown.len() >= bounds.files() as usize {
+    } else if count >= bounds.files() as usize {
         Some(Refusal::TooManyFiles)
     } else {
         None
@@ -85,7 +71,7 @@ impl Present {
     fn has_file(&self, name: &[u8]) -> bool
         ensures { result ≡ has_file (files_of self.now.archive self.now.now.shown) name.now }
     {
-        has_file(self.shelf.archive(), self.shelf.shown(), name)
+        shown_as(&self.shelf, name).is_some()
     }
 
     /// Why the file can't be loaded, if it can't: the lowest refusal that applies.
@@ -93,13 +79,8 @@ impl Present {
         ensures { result
             ≡ load_refusal (world_in self.now.archive self.now.now) name.now bytes.now }
     {
-        load_refusal(
-            self.bounds,
-            self.shelf.archive(),
-            self.shelf.shown(),
-            name,
-            bytes,
-        )
+        let count = self.shelf.shown().len();
+        load_refusal(self.bounds, count, self.has_file(name), name, bytes)
     }
 
     /// Why the file can't have these bytes, if it can't: the lowest refusal that applies.

@@ -1,7 +1,6 @@
-use Rattle.std.proofs.Common.{rules, ◌≡◌, ◌≤◌, ◌<◌, ◌-◌, ◌++◌, ◌∷◌, [], ◌∙◌, ap, sym, ℕ, List}
-use Rattle.std.proofs.Common.{Option}
-use Rattle.std.proofs.Common.{refl, Some, zero, suc, length, take, slice_get, get_or, arith}
-use Rattle.std.specs.Option.{option_copied, option_map}
+use Rattle.std.proofs.Common.{◌≡◌, ◌≤◌, ◌<◌, ◌-◌, ◌++◌, ◌∷◌, [], ◌∙◌, ap, sym, ℕ, List}
+use Rattle.std.proofs.Common.{refl, Some, zero, suc, length, take, slice_get, arith}
+use Rattle.std.specs.Option.{option_map}
 use Rattle.std.proofs.lemmas.Option.{slice_get-get_or}
 use Rattle.cb_scan.specs.Profiles.{facts_in}
 use Rattle.cb_desk.proofs.present.counts.facts_at.Goals as goal
