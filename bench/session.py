@@ -404,9 +404,7 @@ def main():
         tags = place / "tags"
         subprocess.run([given.cbrowse, "tags", "-f", tags] + names, cwd=folder, check=True)
         asked, used = defined(tags), used_most(folder, sizes)
-        put_questions(
-            f"{len(asked):,} names, cbrowse", questions(words_for(names), folder, asked)
-        )
+        put_questions(f"{len(asked):,} names, cbrowse", questions(words_for(names), folder, asked))
         rows("cbrowse", words_for(names), folder, used)
         if installed("cscope", "-V", "version"):
             words = cscope_words(folder, sizes, place)
