@@ -22,8 +22,8 @@ All files     a text is changed in all of them, and that undone and redone. The 
 Many changes  65,536 times `:mark 1`, and as many times `:undo`, in one go.
 Loads         all files by `:load`, one after the other, in one go, as a multiple of the time of
               `r`.
-First         the first question of each kind in a new session, which puts an index in order, and
-              the same once more.
+First         the first question of each kind in a new session, which puts an index in order: by
+              the clock, the time of the processor alone, and the same question once more.
 Questions     where a name is defined, for a thousand names: the median, and the time that 95 in 100
               stay below. `cscope -d -q -l` answers the same in the same way.
 Rows          the uses of the names that stand most often in the files: until the first bytes of the
@@ -139,6 +139,11 @@ class Session:
         """The most bytes that it had resident so far, as Linux tells it."""
         status = pathlib.Path("/proc", str(self.process.pid), "status").read_text()
         return int(status.split("VmHWM:")[1].split()[0]) * 1024
+
+    def busy(self):
+        """The seconds that it had a processor so far, as Linux tells it."""
+        path = pathlib.Path("/proc", str(self.process.pid), "schedstat")
+        return int(path.read_text().split()[0]) / 1e9
 
     def end(self):
         self.process.stdin.close()
@@ -294,8 +299,14 @@ def first_questions(words, folder):
         ("callees", b"2"),
         ("callers", b"3"),
     ):
-        first, again = (session.do(field + b"NoSuchName") for _ in range(2))
-        put(f"first question about {label}", first * 1000, f"then {again * 1000:.4f} ms")
+        before = session.busy()
+        first, busy = session.do(field + b"NoSuchName"), session.busy() - before
+        again = session.do(field + b"NoSuchName")
+        put(
+            f"first question about {label}",
+            first * 1000,
+            f"processor {busy * 1000:.1f} ms, then {again * 1000:.4f} ms",
+        )
     return session
 
 
@@ -393,9 +404,7 @@ def main():
         tags = place / "tags"
         subprocess.run([given.cbrowse, "tags", "-f", tags] + names, cwd=folder, check=True)
         asked, used = defined(tags), used_most(folder, sizes)
-        put_questions(
-            f"{len(asked):,} names, cbrowse", questions(words_for(names), folder, asked)
-        )
+        put_questions(f"{len(asked):,} names, cbrowse", questions(words_for(names), folder, asked))
         rows("cbrowse", words_for(names), folder, used)
         if installed("cscope", "-V", "version"):
             words = cscope_words(folder, sizes, place)

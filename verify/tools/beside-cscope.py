@@ -178,8 +178,8 @@ class Reasons:
         """Other questions about a row, which its reason rests on."""
         if field in "23":
             caller, callee = (word, row.function) if field == "2" else (row.function, word)
-            return [("0", callee), ("1", caller), ("3", callee)]
-        return []
+            return [("0", callee), ("1", caller), ("1", callee), ("3", callee)]
+        return [("0", word)] if field == "1" else []
 
     def first_line(self, row):
         """The line of a row, or the one on which the directive around it begins."""
@@ -198,6 +198,8 @@ class Reasons:
             return self.of_call(field, word, row, by_cscope)
         if field == "0" and not by_cscope:
             return "cscope has the name on another line"
+        if field == "1" and not by_cscope and self.other.functions("0", word, row):
+            return "cscope takes it for a use"
         if by_cscope and field in "018":
             text = (self.lines[row.file] + [""] * row.line)[row.line - 1]
             return (
@@ -217,7 +219,9 @@ class Reasons:
 
     def of_header(self, word, text):
         header = re.search(r'[<"](.*?)[>"]', text)
-        if header and word in header[1] and not ("/" + header[1]).endswith("/" + word):
+        if not header:
+            return "cscope names a line that includes nothing"
+        if word in header[1] and not ("/" + header[1]).endswith("/" + word):
             return "the word is a part of the header, as io.h is of <stdio.h>"
         return None
 
@@ -235,6 +239,8 @@ class Reasons:
             return "a reserved word before a parenthesis, which is no call"
         if re.match(rf"\s*#\s*define\s+{NAME}(?!\w|\()", line):
             return "in a macro without arguments, which calls nothing"
+        if self.own.functions("1", callee, row):
+            return "cscope takes the head of a function for a call"
         outside = self.own.functions("0", callee, row) == {"<global>"}
         if outside or row.file not in {one.file for one in self.own.rows["1", caller]}:
             return "cscope takes a declaration or the call of a macro for the head of a function"
@@ -322,7 +328,7 @@ def main():
         other = Program(
             [*base, "-dl"],
             folder,
-            lambda field, word: re.sub(r"([.+*])", r"\\\1", word) if field in "78" else word,
+            lambda field, word: re.sub(r"([][.+*^$\\])", r"\\\1", word) if field in "78" else word,
         )
         listing = subprocess.run(
             [cbrowse, "tags", "-x", "--", *names], cwd=folder, check=True, stdout=subprocess.PIPE

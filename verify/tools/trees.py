@@ -11,7 +11,7 @@ Questions  the rows of `find` are those of one `cbrowse find --wide`, byte for b
            by one process and by four; so are those of many questions, and those by --standard; a
            question that is none is refused.
 Very large a file with very large tags is left out and told, unless --all is given: many names on a
-           line, and many enumerators of an enumeration with a long name.
+           line, in a file of 12 MB too, and many enumerators of an enumeration with a long name.
 Names      names from lists and from standard input, folders and files in any mix, what is left out
            by --exclude, and which of them decide the status.
 Odd names  what cbrowse does not take is told once for each reason, with how many and three names,
@@ -153,16 +153,19 @@ def very_large(place: Place) -> None:
     """Files whose tags are very large, in one form or in each."""
     place.put("vast/line.c", f"enum {{ {'ab,' * 7_000} }};\n")
     place.put("vast/name.c", f"enum {'a' * 100_000} {{\n{chr(10).join(['x,'] * 1100)}\n}};\n")
+    place.put("vast/huge.c", f"enum {{ {'ab,' * 4_000_000} }};\n")
+    place.put("vast/large.c", TEXT + "/* */\n" * 2_000_000)
     place.put("vast/small.c", TEXT)
     for words, left in (
-        ([], ["line.c", "name.c"]),
-        (["--format", "1"], ["line.c"]),
+        ([], ["huge.c", "line.c", "name.c"]),
+        (["--format", "1"], ["huge.c", "line.c"]),
         (["--standard"], []),
     ):
         status, out, said = place.run("-f", "-", *words, "vast")
         names = ", ".join(f"vast/{name}" for name in left)
         told = f"cbrowse-tree: {len(left)} left out, tags very large (--all takes them): {names}\n"
-        is_right = (status, said) == (0, told if left else "") and b"\tvast/small.c\t" in out
+        is_right = (status, said) == (0, told if left else "")
+        is_right &= all(b"\tvast/%s.c\t" % name in out for name in (b"small", b"large"))
         check(f"very large tags {' '.join(words)}", is_right, (status, said))
     status, _, said = place.run("-f", "-", "vast/line.c", "vast/small.c")
     check("very large tags of a file that is named", status == 1 and "1 left out" in said, said)

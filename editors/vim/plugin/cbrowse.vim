@@ -172,16 +172,20 @@ function! s:shell(command, input = []) abort
   return system('cd ' .. shellescape(s:root) .. ' && ' .. a:command .. ' 2>/dev/null', a:input)
 endfunction
 
-" Of some files those whose tags are very large. Few are counted, and none of up to 20,000 bytes.
+" Of some files those whose tags are very large. Few are counted, and none of up to 20,000 bytes. All
+" of over 10,000,000 are, since the time of awk grows with the square of a line.
 function! s:very_large(names) abort
   let some = filter(copy(a:names), {_, name -> s:refused(name, []) ==# ''})
   call filter(some, {_, name -> getfsize(s:root .. name) > 20000})
   if empty(some) || get(g:, 'cbrowse_all', 0)
     return []
   endif
+  let huge = filter(copy(some), {_, name -> getfsize(s:root .. name) > 10000000})
+  call filter(some, {_, name -> index(huge, name) < 0})
   let paths = join(map(some, {_, name -> './' .. name}), "\n") " an LF is sent as a byte 0
-  let found = s:shell('env LC_ALL=C xargs -0 awk ' .. shellescape(s:judge), [paths])
-  return filter(map(split(found, "\n"), {_, path -> path[2:]}), {_, name -> s:is_very_large(name)})
+  let found = empty(some) ? '' : s:shell('env LC_ALL=C xargs -0 awk ' .. shellescape(s:judge), [paths])
+  let judged = map(split(found, "\n"), {_, path -> path[2:]})
+  return filter(huge + judged, {_, name -> s:is_very_large(name)})
 endfunction
 
 function! s:is_very_large(name) abort
