@@ -224,8 +224,11 @@ module _ (a : Archived) (s : Shown) (text : Scanned)
       → MatchOption t (Unit {0}) (λ (x : facts.Tag). IsWithin text.bytes x.name)
       → option_map (scope_cut text.bytes) t ≡ option_map (scope_in file) t
   scope_is None within = refl
-  scope_is (Some t) within = λ i. Some (record { kind = t.kind; name = cut_is text.bytes t.name
-      within i })
+  scope_is (Some t) within = λ i. Some (record {
+    kind = t.kind;
+    name = cut_is text.bytes t.name
+        within i;
+  })
 
   module _ (prefix n : ℕ) (d : Def) (rest : List Def) (is : drop n (facts_of text).defs ≡ d ∷ rest)
       (within : IsWithin text.bytes d.name) where
@@ -236,8 +239,11 @@ module _ (a : Archived) (s : Shown) (text : Scanned)
     tag_is tagged =
         ap (tag_in_text (name_of a s.name) n) there
         ∙ ap (tag_of_def (name_of a s.name) text.bytes) found_def
-        ∙ (λ i. record (tag_in file d) { name = cut_is text.bytes d.name within i; scope = scope_is
-        d.tag tagged i })
+        ∙ (λ i. record (tag_in file d) {
+          name = cut_is text.bytes d.name within i;
+          scope = scope_is
+              d.tag tagged i;
+        })
 
     key_is : key_of def_key a (entry prefix n) ≡ bytes_of text.bytes d.name
     key_is =

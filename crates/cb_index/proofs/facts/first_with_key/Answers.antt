@@ -30,8 +30,11 @@ loop-item-preserved c =
     let key = c.args.key.now in
     let item = c.loop-item.item in
     let isnt : has sort text key item ≡ false = search rules in
-    let below : item < item_count sort text = omega (arith, c.loop-item-test.true,
-    c.item_count-item-end.ensures.value) in
+    let below : item < item_count sort text = omega (
+      arith,
+      c.loop-item-test.true,
+      c.item_count-item-end.ensures.value,
+    ) in
     record {
       same =
           let next : suc item ≡ item + 1 = omega arith in

@@ -10,7 +10,7 @@ pub invariant_of-self : goal.invariant_of-self
 invariant_of-self c =
     let x = c.self.inside in (
       kept_moved x.archive c.reserve.new.self x.shown.items x.indexes c.reserve.ensures.same_profile
-      c.reserve.ensures.same_names
+          c.reserve.ensures.same_names
           c.reserve.ensures.same_texts c.self.invariant.0,
       totals_moved x.archive c.reserve.new.self x.shown.items _ x.totals
           c.reserve.ensures.same_profile c.reserve.ensures.same_texts refl c.self.invariant.1,
