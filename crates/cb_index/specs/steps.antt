@@ -13,6 +13,7 @@ pub mod Repeating
 pub mod RowsLeft
 pub mod Runs
 pub mod Searched
+pub mod ShownIn
 pub mod Spread
 pub mod Table
 pub mod ToCome

@@ -2,9 +2,8 @@
 //!
 //! An [`Archive`] keeps file names and versions, each under a number. A [`Shelf`] has an archive
 //! and shows some of its versions, each under a file name, with five sorted indexes of what is
-//! found
-//! in them. The crate stands on `cb_scan` (facts) and `cb_tags` (tag names). The layer above uses
-//! the contracts of [`Shelf`]: its readers give exactly the facts of the files that are shown.
+//! found in them. The crate stands on `cb_scan` (facts) and `cb_tags` (tag names). The layer above
+//! uses the contracts of [`Shelf`]: its readers give exactly the facts of the files that are shown.
 #![tactic(auto)]
 
 // What is kept: names and versions, each under a number.
@@ -21,6 +20,7 @@ mod listed;
 mod names;
 mod rows;
 mod shelf;
+mod shown_files;
 mod tags;
 mod totals;
 
@@ -72,6 +72,7 @@ pub use room::Room;
 pub use row::{CallsByCallee, CallsByCaller, DefsByName, DefsByTagName, Row, RowOrder, UsesByName};
 pub use rows::{FactRow, FactSpot};
 pub use shelf::Shelf;
+pub use shown_files::ShownFiles;
 pub use sorted::Sorted;
 pub use tags::TagRows;
 pub use totals::{Totals, totals_of};

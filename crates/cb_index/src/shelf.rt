@@ -59,6 +59,7 @@ ghost use Rattle.cb_index.specs.Kinds.{def_kind};
 ghost use Rattle.cb_index.specs.steps.ToCome.{asked_tags};
 ghost use Rattle.cb_index.specs.steps.Left.{entries_left, facts_counted, facts_left, facts_new};
 ghost use Rattle.cb_index.specs.steps.Left.{tags_left};
+ghost use Rattle.cb_index.specs.steps.ShownIn.{shown_in};
 
 use crate::archive::{Archive, Version};
 use crate::def_search::{DefSearch, def_kind};
@@ -71,6 +72,7 @@ use crate::listed::{are_there, ascend, has_any_name, put_all_shown, take_under};
 use crate::memory::OutOfMemory;
 use crate::names::Names;
 use crate::room::Room;
+use crate::shown_files::ShownFiles;
 use crate::tags::{Defs, TagRows};
 use crate::totals::{Totals, totals_of};
 use cb_scan::Profile;
@@ -197,12 +199,14 @@ impl Shelf {
     }
 
     /// What is shown, by file name.
-    pub fn shown(&self) -> &[Shown]
-        ensures value { result.now ≡ self.now.shown }
-        ensures there { AllByRecursion (IsThere self.now.archive) result.now }
-        ensures ascending { AreAscending self.now.archive result.now }
+    pub fn shown(&self) -> ShownFiles<'_>
+        ensures value { shown_in result ≡ self.now.shown }
+        ensures there { AllByRecursion (IsThere self.now.archive) (shown_in result) }
+        ensures ascending { AreAscending self.now.archive (shown_in result) }
     {
-        self.shown.as_slice()
+        ShownFiles {
+            listed: self.shown.as_slice(),
+        }
     }
 
     /// How often something was shown or hidden, up to the greatest number.

@@ -10,7 +10,7 @@ unfolding AreOrdered
 returns-clause-shown c =
     let a = c.args.self.now.archive in
     let one : Shown = record { name = c.args.name; version = c.args.version } in
-    let up = subst (AreAscending a) c.shown-shown.ensures.value c.shown-shown.ensures.ascending in
+    let up = subst (AreAscending a) c.shown.ensures.value c.shown.ensures.ascending in
     let apart : AreApart a (one ∷ []) = (tt, tt) in
     c.show_all.ensures.shown
     ∙ sym (put_last a c.args.self.now.shown one up

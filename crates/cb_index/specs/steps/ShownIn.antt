@@ -1,0 +1,7 @@
+-- The versions that are shown, from one on.
+use Rattle.std.specs.Prelude.{List}
+use Rattle.cb_index.specs.declared.entry.Shown.{Shown}
+use Rattle.cb_index.specs.declared.shown_files.ShownFiles.{ShownFiles}
+
+abbrev pub shown_in : ShownFiles → List Shown
+shown_in f = f.listed.now
