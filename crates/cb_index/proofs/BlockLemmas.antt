@@ -1,4 +1,4 @@
--- Entries that are kept in blocks.
+-- Elements that are kept in blocks.
 use Rattle.std.proofs.Common.{◌≡◌, ◌∙◌, ◌≤◌, ◌<◌, ◌+◌, ◌-◌, ℕ, zero, suc, Bool, true, false, List}
 use Rattle.std.proofs.Common.{[], ◌∷◌, ◌++◌, refl, sym, ap, subst, length, take, drop, drop-cons}
 use Rattle.std.proofs.Common.{get_or, set, arith}
@@ -11,14 +11,13 @@ use Rattle.std.specs.List.{AllByRecursion, insert, remove}
 use Rattle.std.specs.List.Sorted.{IsPartitionPoint, IsPartitionedBy}
 use Rattle.cb_scan.proofs.WithinLemmas.{all-append}
 use Rattle.cb_index.specs.Blocks.{IsFilled, IsPlace, before, head_is, joined}
-use Rattle.cb_index.specs.declared.entry.Entry.{Entry}
 use Rattle.cb_index.proofs.SortedLemmas.{Parts, all_behind, all_upto, parts_left, parts_right}
 
-abbrev pub Lists : Type 0
-Lists = List (List Entry)
+abbrev pub Lists : Type 0 → Type 0
+Lists T = List (List T)
 
-pub joined-append : (front bs : Lists) → joined (front ++ bs) ≡ joined front ++ joined bs
-joined-append front bs = flat_map-append (λ (b : List Entry). b) front bs
+pub joined-append : {T : Type 0} (front bs : Lists T) → joined (front ++ bs) ≡ joined front ++ joined bs
+joined-append front bs = flat_map-append (λ b. b) front bs
 
 -- ---- a list that is parted in two
 module _ {X : Type 0} (one : X) where
@@ -49,7 +48,7 @@ module _ {X : Type 0} (one : X) where
       ∙ ap (λ l. x ∷ l) (in_upper n at xs (omega (arith, low)))
 
 -- ---- blocks that change
-pub joined_set : (bs : Lists) (k : ℕ) (b : List Entry) → k < length bs
+pub joined_set : {T : Type 0} (bs : Lists T) (k : ℕ) (b : List T) → k < length bs
     → joined (set bs k b) ≡ joined (take k bs) ++ (b ++ joined (drop (suc k) bs))
 joined_set [] k b low = absurd (omega (arith, low))
 joined_set (c ∷ bs) zero b low = refl
@@ -57,7 +56,7 @@ joined_set (c ∷ bs) (suc k) b low =
     ap (λ l. c ++ l) (joined_set bs k b (omega (arith, low)))
     ∙ sym (append_assoc c (joined (take k bs)) (b ++ joined (drop (suc k) bs)))
 
-pub joined_split : (bs : Lists) (k : ℕ) (lower upper : List Entry) → k < length bs
+pub joined_split : {T : Type 0} (bs : Lists T) (k : ℕ) (lower upper : List T) → k < length bs
     → joined (insert (set bs k lower) (k + 1) upper)
     ≡ joined (take k bs) ++ ((lower ++ upper) ++ joined (drop (suc k) bs))
 joined_split [] k lower upper low = absurd (omega (arith, low))
@@ -68,7 +67,7 @@ joined_split (c ∷ bs) (suc k) lower upper low =
     ∙ ap (λ l. c ++ l) (joined_split bs k lower upper (omega (arith, low)))
     ∙ sym (append_assoc c (joined (take k bs)) ((lower ++ upper) ++ joined (drop (suc k) bs)))
 
-pub joined_remove : (bs : Lists) (k : ℕ) (b : List Entry) → k < length bs
+pub joined_remove : {T : Type 0} (bs : Lists T) (k : ℕ) (b : List T) → k < length bs
     → joined (remove (set bs k b) k) ≡ joined (take k bs) ++ joined (drop (suc k) bs)
 joined_remove [] k b low = absurd (omega (arith, low))
 joined_remove (c ∷ bs) zero b low = refl
@@ -106,19 +105,19 @@ module _ {X : Type 0} (P : X → Type 0) where
   all_back (x ∷ xs) ys all = all_back xs ys all.1
 
 -- ---- a place among all entries
-pub parted_at : (bs : Lists) (k : ℕ) → k < length bs
+pub parted_at : {T : Type 0} (bs : Lists T) (k : ℕ) → k < length bs
     → joined bs ≡ joined (take k bs) ++ (get_or bs k [] ++ joined (drop (suc k) bs))
 parted_at bs k low =
     ap joined (sym (take-append-drop k bs)) ∙ joined-append (take k bs) (drop k bs)
     ∙ ap (λ l. joined (take k bs) ++ joined l) (drop-cons bs k [] low)
 
-module _ (bs : Lists) (k j : ℕ) (low : k < length bs) (within : j ≤ length (get_or bs k [])) where
-  take_more : (xs ys zs : List Entry) → j ≤ length ys
+module _ {T : Type 0} (bs : Lists T) (k j : ℕ) (low : k < length bs) (within : j ≤ length (get_or bs k [])) where
+  take_more : (xs ys zs : List T) → j ≤ length ys
       → take (length xs + j) (xs ++ (ys ++ zs)) ≡ xs ++ take j ys
   take_more xs ys zs fits =
       take-append-add xs (ys ++ zs) j ∙ ap (λ l. xs ++ l) (take-append-le j ys zs fits)
 
-  drop_more : (xs ys zs : List Entry) → j ≤ length ys
+  drop_more : (xs ys zs : List T) → j ≤ length ys
       → drop (length xs + j) (xs ++ (ys ++ zs)) ≡ drop j ys ++ zs
   drop_more xs ys zs fits = drop-append-add xs (ys ++ zs) j ∙ drop-append-le j ys zs fits
 
@@ -134,7 +133,7 @@ module _ (bs : Lists) (k j : ℕ) (low : k < length bs) (within : j ≤ length (
       ∙ drop_more (joined (take k bs)) (get_or bs k []) (joined (drop (suc k) bs)) within
 
   -- an entry put there
-  pub put_there : (one : Entry)
+  pub put_there : (one : T)
       → joined (take k bs)
       ++ ((take j (get_or bs k []) ++ one ∷ drop j (get_or bs k [])) ++ joined (drop (suc k) bs))
       ≡ take (before bs k j) (joined bs) ++ one ∷ drop (before bs k j) (joined bs)
@@ -146,7 +145,7 @@ module _ (bs : Lists) (k j : ℕ) (low : k < length bs) (within : j ≤ length (
       ∙ (λ i. sym front_at i ++ one ∷ sym back_at i)
 
 -- an entry taken from there
-pub taken_there : (bs : Lists) (k j : ℕ) → k < length bs → j < length (get_or bs k [])
+pub taken_there : {T : Type 0} (bs : Lists T) (k j : ℕ) → k < length bs → j < length (get_or bs k [])
     → joined (take k bs)
     ++ ((take j (get_or bs k []) ++ drop (suc j) (get_or bs k [])) ++ joined (drop (suc k) bs))
     ≡ take (before bs k j) (joined bs) ++ drop (suc (before bs k j)) (joined bs)
@@ -162,14 +161,14 @@ taken_there bs k j low within =
     ∙ ap (λ n. take (before bs k j) (joined bs) ++ drop n (joined bs)) next
 
 -- ---- blocks that a test parts
-module _ (p : Entry → Bool) where
+module _ {T : Type 0} (p : T → Bool) where
   -- the first entry of a block that has one fails, where all of it fail
-  head_fails : (b : List Entry) → AllByRecursion (λ e. p e ≡ false) b → head_is p b ≡ false
+  head_fails : (b : List T) → AllByRecursion (λ e. p e ≡ false) b → head_is p b ≡ false
   unfolding head_is
   head_fails [] a = refl
   head_fails (e ∷ es) a = a.0
 
-  later_fail : (bs : Lists) (j : ℕ) (d : List Entry) → j < length bs
+  later_fail : (bs : Lists T) (j : ℕ) (d : List T) → j < length bs
       → AllByRecursion (λ e. p e ≡ false) (joined bs)
       → head_is p (get_or bs j d) ≡ false
   later_fail [] j d below a = absurd (omega (arith, below))
@@ -177,7 +176,7 @@ module _ (p : Entry → Bool) where
   later_fail (b ∷ bs) (suc j) d below a =
       later_fail bs j d (omega (arith, below)) (all_back (λ e. p e ≡ false) b (joined bs) a)
 
-  pub heads_parted : (bs : Lists) → AllByRecursion IsFilled bs → Parts p (joined bs)
+  pub heads_parted : (bs : Lists T) → AllByRecursion IsFilled bs → Parts p (joined bs)
       → IsPartitionedBy (head_is p) bs
   unfolding head_is
   heads_parted [] f q i j d upward below is = absurd (omega (arith, below))
@@ -196,7 +195,7 @@ module _ (p : Entry → Bool) where
       (omega (arith, below)) is
 
   -- each block of them is parted
-  pub block_parts : (bs : Lists) (k : ℕ) → k < length bs → Parts p (joined bs)
+  pub block_parts : (bs : Lists T) (k : ℕ) → k < length bs → Parts p (joined bs)
       → Parts p (get_or bs k [])
   block_parts [] k low q = absurd (omega (arith, low))
   block_parts (b ∷ bs) zero low q = parts_left p b (joined bs) q
@@ -204,7 +203,7 @@ module _ (p : Entry → Bool) where
       block_parts bs k (omega (arith, low)) (parts_right p b (joined bs) q)
 
   -- ahead of a block that begins with what passes, all pass
-  blocks_ahead : (bs : Lists) (k : ℕ) → k < length bs → Parts p (joined bs)
+  blocks_ahead : (bs : Lists T) (k : ℕ) → k < length bs → Parts p (joined bs)
       → head_is p (get_or bs k []) ≡ true
       → AllByRecursion (λ e. p e ≡ true) (joined (take k bs))
   blocks_ahead [] k low q is = absurd (omega (arith, low))
@@ -213,7 +212,7 @@ module _ (p : Entry → Bool) where
       all-append (λ e. p e ≡ true) b (joined (take k bs)) (whole b q)
       (blocks_ahead bs k (omega (arith, low)) (parts_right p b (joined bs) q) is)
     where
-      whole : (es : List Entry) → Parts p (es ++ joined bs) → AllByRecursion (λ e. p e ≡ true) es
+      whole : (es : List T) → Parts p (es ++ joined bs) → AllByRecursion (λ e. p e ≡ true) es
       whole [] r = tt
       whole (e ∷ es) r = (by_test (p e) refl, whole es r.1)
         where
@@ -224,7 +223,7 @@ module _ (p : Entry → Bool) where
               [] (omega (arith, low)) (all_back (λ x. p x ≡ false) es (joined bs) (r.0 eq))))
 
   -- from a block on that begins with what fails, all fail
-  blocks_behind : (bs : Lists) → AllByRecursion IsFilled bs → Parts p (joined bs)
+  blocks_behind : (bs : Lists T) → AllByRecursion IsFilled bs → Parts p (joined bs)
       → (0 < length bs → head_is p (get_or bs 0 []) ≡ false)
       → AllByRecursion (λ e. p e ≡ false) (joined bs)
   unfolding head_is
@@ -233,7 +232,7 @@ module _ (p : Entry → Bool) where
   blocks_behind ((e ∷ es) ∷ bs) f q isnt =
       let none : p e ≡ false = isnt (omega arith) in (none, q.0 none)
 
-  pub all_dropped : (bs : Lists) (k : ℕ) → AllByRecursion IsFilled bs → Parts p (joined bs)
+  pub all_dropped : (bs : Lists T) (k : ℕ) → AllByRecursion IsFilled bs → Parts p (joined bs)
       → (k < length bs → head_is p (get_or bs k []) ≡ false)
       → AllByRecursion (λ e. p e ≡ false) (joined (drop k bs))
   all_dropped bs zero f q isnt = blocks_behind bs f q isnt
@@ -242,7 +241,7 @@ module _ (p : Entry → Bool) where
       all_dropped bs k f.1 (parts_right p b (joined bs) q) (λ low. isnt (omega (arith, low)))
 
   -- the place in the last block that begins with what passes
-  module _ (bs : Lists) (k j : ℕ) (low : k < length bs) (f : AllByRecursion IsFilled bs)
+  module _ (bs : Lists T) (k j : ℕ) (low : k < length bs) (f : AllByRecursion IsFilled bs)
       (q : Parts p (joined bs))
       (heads : IsPartitionPoint (λ b. head_is p b ≡ true) (λ b. head_is p b ≡ false) bs (suc k))
       (within : j ≤ length (get_or bs k []))
@@ -266,8 +265,8 @@ module _ (p : Entry → Bool) where
     unfolding head_is
     place_inside = by_place j (get_or bs k []) inner.1 (heads.0 k [] (omega arith) (omega arith))
       where
-        by_place : (n : ℕ) (b : List Entry)
-            → ((i : ℕ) (d : Entry) → n ≤ i → i < length b → p (get_or b i d) ≡ false)
+        by_place : (n : ℕ) (b : List T)
+            → ((i : ℕ) (d : T) → n ≤ i → i < length b → p (get_or b i d) ≡ false)
             → head_is p b ≡ true → 0 < n
         by_place (suc n) b none is = omega arith
         by_place zero [] none is = absurd (true≢false (sym is))
@@ -275,11 +274,11 @@ module _ (p : Entry → Bool) where
             absurd (true≢false (sym is ∙ none 0 e (omega arith) (omega arith)))
 
 -- ---- bounds of places
-pub place_there : (bs : Lists) (k j : ℕ) → IsPlace bs k j → 0 < j → k < length bs
+pub place_there : {T : Type 0} (bs : Lists T) (k j : ℕ) → IsPlace bs k j → 0 < j → k < length bs
 place_there [] k j is some = absurd (omega (arith, is.1, some))
 place_there (b ∷ bs) k j is some = omega (arith, is.0)
 
-pub before_fits : (bs : Lists) (k j : ℕ) → k < length bs → j ≤ length (get_or bs k [])
+pub before_fits : {T : Type 0} (bs : Lists T) (k j : ℕ) → k < length bs → j ≤ length (get_or bs k [])
     → before bs k j ≤ length (joined bs)
 before_fits bs k j low within =
     let whole : length (joined bs)
@@ -296,13 +295,13 @@ get_or_any [] k d e low = absurd (omega (arith, low))
 get_or_any (x ∷ xs) zero d e low = refl
 get_or_any (x ∷ xs) (suc k) d e low = get_or_any xs k d e (omega (arith, low))
 
-module _ (bs : Lists) (k j : ℕ) (low : k < length bs) (old : List Entry)
+module _ {T : Type 0} (bs : Lists T) (k j : ℕ) (low : k < length bs) (old : List T)
     (here : old ≡ get_or bs k old) where
   here_is : old ≡ get_or bs k []
   here_is = here ∙ get_or_any bs k old [] low
 
   -- an entry comes into one block
-  pub put_changed : (one : Entry) (new : List Entry) → j ≤ length (get_or bs k [])
+  pub put_changed : (one : T) (new : List T) → j ≤ length (get_or bs k [])
       → new ≡ take j old ++ one ∷ drop j old
       → joined (set bs k new)
       ≡ take (before bs k j) (joined bs) ++ one ∷ drop (before bs k j) (joined bs)
@@ -313,7 +312,7 @@ module _ (bs : Lists) (k j : ℕ) (low : k < length bs) (old : List Entry)
       ∙ put_there bs k j low within one
 
   -- a block becomes two
-  pub split_changed : (one : Entry) (lower upper : List Entry) → j ≤ length (get_or bs k [])
+  pub split_changed : (one : T) (lower upper : List T) → j ≤ length (get_or bs k [])
       → lower ++ upper ≡ take j old ++ one ∷ drop j old
       → joined (insert (set bs k lower) (k + 1) upper)
       ≡ take (before bs k j) (joined bs) ++ one ∷ drop (before bs k j) (joined bs)
@@ -324,7 +323,7 @@ module _ (bs : Lists) (k j : ℕ) (low : k < length bs) (old : List Entry)
       ∙ put_there bs k j low within one
 
   -- an entry goes out of one block
-  pub taken_changed : (new : List Entry) → j < length (get_or bs k [])
+  pub taken_changed : (new : List T) → j < length (get_or bs k [])
       → new ≡ take j old ++ drop (suc j) old
       → joined (set bs k new)
       ≡ take (before bs k j) (joined bs) ++ drop (suc (before bs k j)) (joined bs)
@@ -335,7 +334,7 @@ module _ (bs : Lists) (k j : ℕ) (low : k < length bs) (old : List Entry)
       ∙ taken_there bs k j low within
 
   -- and the block with it
-  pub emptied_changed : (new : List Entry) → j < length (get_or bs k [])
+  pub emptied_changed : (new : List T) → j < length (get_or bs k [])
       → new ≡ take j old ++ drop (suc j) old → new ≡ []
       → joined (remove (set bs k new) k)
       ≡ take (before bs k j) (joined bs) ++ drop (suc (before bs k j)) (joined bs)
@@ -344,12 +343,12 @@ module _ (bs : Lists) (k j : ℕ) (low : k < length bs) (old : List Entry)
       ∙ ap (λ l. joined (take k bs) ++ (l ++ joined (drop (suc k) bs))) (sym none)
       ∙ sym (joined_set bs k new low) ∙ taken_changed new within is
 
-pub nil_of : (es : List Entry) → length es ≡ 0 → es ≡ []
+pub nil_of : {T : Type 0} (es : List T) → length es ≡ 0 → es ≡ []
 nil_of [] is = refl
 nil_of (e ∷ es) is = absurd (omega (arith, is))
 
 -- ---- one block after another
-pub lift_fits : (bs : Lists) (i : ℕ) (d : List Entry) (es old : List Entry) (room : ℕ)
+pub lift_fits : {T : Type 0} (bs : Lists T) (i : ℕ) (d : List T) (es old : List T) (room : ℕ)
     → i < length bs
     → es ++ joined (drop i bs) ≡ old ++ joined bs → length old + length (joined bs) ≤ room
     → length es + length (get_or bs i d) ≤ room

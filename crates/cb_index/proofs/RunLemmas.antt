@@ -8,11 +8,10 @@ use Rattle.std.proofs.Math.Nat.{min-le_left, min-le_right}
 use Rattle.std.proofs.Math.Seq.{drop-append-add}
 use Rattle.std.specs.Prelude.{min}
 use Rattle.cb_index.specs.Blocks.{before, joined}
-use Rattle.cb_index.specs.declared.entry.Entry.{Entry}
 use Rattle.cb_index.proofs.BlockLemmas.{Lists, front_at, parted_at}
 
 -- a place in an earlier block
-before_le : (bs : Lists) (k j m i : ℕ) → k < m → k < length bs → j ≤ length (get_or bs k [])
+before_le : {T : Type 0} (bs : Lists T) (k j m i : ℕ) → k < m → k < length bs → j ≤ length (get_or bs k [])
     → before bs k j ≤ before bs m i
 before_le [] k j m i less low within = absurd (omega (arith, low))
 before_le (b ∷ bs) k j zero i less low within = absurd (omega (arith, less))
@@ -25,16 +24,16 @@ before_le (b ∷ bs) (suc k) j (suc m) i less low within =
     omega (arith, one, other, later)
 
 -- what ends before it begins is empty
-pub turned_between : (bs : Lists) (k j m i : ℕ) → k < m → k < length bs
+pub turned_between : {T : Type 0} (bs : Lists T) (k j m i : ℕ) → k < m → k < length bs
     → j ≤ length (get_or bs k [])
-    → ◌≡◌ {A = List Entry} [] (drop (before bs m i) (take (before bs k j) (joined bs)))
+    → ◌≡◌ {A = List T} [] (drop (before bs m i) (take (before bs k j) (joined bs)))
 turned_between bs k j m i less low within =
     let size = length-take (before bs k j) (joined bs) in
     let front = min-le_left (before bs k j) (length (joined bs)) in
     let upward = before_le bs k j m i less low within in
     sym (drop_of_length-le (take (before bs k j) (joined bs)) (omega (arith, size, front, upward)))
 
-drop_min : (f t : ℕ) (es : List Entry) → drop (min f t) (take t es) ≡ drop f (take t es)
+drop_min : {T : Type 0} (f t : ℕ) (es : List T) → drop (min f t) (take t es) ≡ drop f (take t es)
 drop_min f t es =
     ⊎_elim
     (λ less. let same : min f t ≡ f = omega (arith, less) in ap (λ n. drop n (take t es)) same)
@@ -47,7 +46,7 @@ drop_min f t es =
     (cases_lt f t)
 
 -- both places in one block
-pub inside_between : (bs : Lists) (k f t : ℕ) → k < length bs → t ≤ length (get_or bs k [])
+pub inside_between : {T : Type 0} (bs : Lists T) (k f t : ℕ) → k < length bs → t ≤ length (get_or bs k [])
     → drop (min f t) (take t (get_or bs k [])) ++ (joined [] ++ [])
     ≡ drop (before bs k f) (take (before bs k t) (joined bs))
 inside_between bs k f t low within =
@@ -55,14 +54,14 @@ inside_between bs k f t low within =
     ∙ sym (drop-append-add (joined (take k bs)) (take t (get_or bs k [])) f)
     ∙ ap (drop (before bs k f)) (sym (front_at bs k t low within))
 
-get_or_taken : (bs : Lists) (k m : ℕ) → k < m → get_or (take m bs) k [] ≡ get_or bs k []
+get_or_taken : {T : Type 0} (bs : Lists T) (k m : ℕ) → k < m → get_or (take m bs) k [] ≡ get_or bs k []
 get_or_taken bs k zero less = absurd (omega (arith, less))
 get_or_taken [] k (suc m) less = refl
 get_or_taken (b ∷ bs) zero (suc m) less = refl
 get_or_taken (b ∷ bs) (suc k) (suc m) less = get_or_taken bs k m (omega (arith, less))
 
 -- places in two blocks
-pub across_between : (bs : Lists) (k f m t : ℕ) → k < m → m < length bs
+pub across_between : {T : Type 0} (bs : Lists T) (k f m t : ℕ) → k < m → m < length bs
     → f ≤ length (get_or bs k []) → t ≤ length (get_or bs m [])
     → drop f (get_or bs k []) ++ (joined (drop (k + 1) (take m bs)) ++ take t (get_or bs m []))
     ≡ drop (before bs k f) (take (before bs m t) (joined bs))
@@ -86,7 +85,7 @@ across_between bs k f m t less low inner within =
     ∙ ap (drop (before bs k f)) (sym (front_at bs m t low within))
 
 -- no more entries than all
-pub between_fits : (m n : ℕ) (es xs : List Entry) (most : ℕ) → xs ≡ drop m (take n es)
+pub between_fits : {T : Type 0} (m n : ℕ) (es xs : List T) (most : ℕ) → xs ≡ drop m (take n es)
     → length es < most → length xs < most
 between_fits m n es xs most is fits =
     let size : length xs ≡ length (drop m (take n es)) = ap length is in

@@ -1,4 +1,4 @@
-//! A part of the entries of an index.
+//! A part of what is kept in blocks.
 ghost use Rattle.std.specs.Prelude.{
   ◌≡◌,
   ◌<◌,
@@ -16,108 +16,106 @@ ghost use Rattle.std.specs.Prelude.{
 };
 ghost use Rattle.cb_index.specs.declared.block.TheConstants.{HALF, SIZE};
 
-use crate::entry::Entry;
 use crate::memory::OutOfMemory;
 use std::alloc::Global;
 use std::marker::Model;
 
-/// The most entries of a block. Room that nothing is put into costs a page of memory a block, so
-/// blocks are large; what follows an entry moves when it comes or goes, so they are not larger.
+/// The most elements of a block. Room that nothing is put into costs a page of memory a block, so
+/// blocks are large; what follows an element moves when it comes or goes, so they are not larger.
 pub(crate) const SIZE: usize = 4096;
 
-/// So many entries stay in a full block that is split.
+/// So many elements stay in a full block that is split.
 pub(crate) const HALF: usize = 2048;
 
-/// Up to `SIZE` entries, in room that is made once.
+/// Up to `SIZE` elements, in room that is made once.
 #[derive(Drop)]
-pub(crate) struct Block {
-    entries: Vec<Entry>,
+pub(crate) struct Block<T> {
+    items: Vec<T>,
 }
 
-impl Model for Block {
+impl<T> Model for Block<T> {
     ghost use Rattle.std.specs.Prelude.{List, length, vec_capacity, ◌≤◌};
     ghost use Rattle.cb_index.specs.declared.block.TheConstants.{SIZE};
-    ghost use Rattle.cb_index.specs.declared.entry.Entry.{Entry};
 
-    ghost Value = { List Entry };
+    ghost Value = { List T };
 
-    ghost view = { λ b. b.entries.items };
+    ghost view = { λ b. b.items.items };
 
-    ghost invariant = { λ b. (SIZE ≤ vec_capacity b.entries) × (length b.entries.items ≤ SIZE) };
+    ghost invariant = { λ b. (SIZE ≤ vec_capacity b.items) × (length b.items.items ≤ SIZE) };
 }
 
-impl Block {
-    /// A block without entries.
-    pub(crate) fn new(alloc: Global) -> Result<Block, OutOfMemory>
+impl<T: Copy> Block<T> {
+    /// A block without elements.
+    pub(crate) fn new(alloc: Global) -> Result<Block<T>, OutOfMemory>
         ensures { IfOk result (λ block. block ≡ []) }
     {
-        let mut entries = Vec::new(alloc);
-        match entries.reserve(SIZE) {
-            Ok(()) => Ok(Block { entries }),
+        let mut items = Vec::new(alloc);
+        match items.reserve(SIZE) {
+            Ok(()) => Ok(Block { items }),
             Err(_) => Err(OutOfMemory),
         }
     }
 
-    /// The entries.
-    pub(crate) fn entries(&self) -> &[Entry]
+    /// The elements.
+    pub(crate) fn items(&self) -> &[T]
         ensures value { result.now ≡ self.now }
         ensures few { length self.now ≤ SIZE }
     {
-        self.entries.as_slice()
+        self.items.as_slice()
     }
 
-    /// Whether there is no room for another entry.
+    /// Whether there is no room for another element.
     pub(crate) fn is_full(&self) -> bool
         ensures full { result ≡ true → length self.now ≡ SIZE }
         ensures free { result ≡ false → length self.now < SIZE }
     {
-        self.entries.len() >= SIZE
+        self.items.len() >= SIZE
     }
 
-    /// Puts an entry at a place.
-    pub(crate) fn insert(&mut self, at: usize, one: Entry)
+    /// Puts an element at a place.
+    pub(crate) fn insert(&mut self, at: usize, one: T)
         requires place { at ≤ length self.old }
         requires room { length self.old < SIZE }
         ensures { self.new ≡ take at self.old ++ one ∷ drop at self.old }
     {
-        if self.entries.insert(at, one).is_err() {
+        if self.items.insert(at, one).is_err() {
             unreachable!()
         }
     }
 
-    /// Takes away the entry at a place.
+    /// Takes away the element at a place.
     pub(crate) fn remove(&mut self, at: usize)
         requires { at < length self.old }
         ensures { self.new ≡ take at self.old ++ drop (suc at) self.old }
     {
-        self.entries.remove(at);
+        self.items.remove(at);
     }
 
-    /// Keeps these entries alone.
-    pub(crate) fn fill(&mut self, entries: &[Entry])
-        requires { length entries.now ≤ SIZE }
-        ensures { self.new ≡ entries.now }
+    /// Keeps these elements alone.
+    pub(crate) fn fill(&mut self, items: &[T])
+        requires { length items.now ≤ SIZE }
+        ensures { self.new ≡ items.now }
     {
-        self.entries.truncate(0);
-        if self.entries.extend_from_slice(entries).is_err() {
+        self.items.truncate(0);
+        if self.items.extend_from_slice(items).is_err() {
             unreachable!()
         }
     }
 
     /// Moves the upper half to another block, which keeps nothing else.
-    fn split(&mut self, upper: &mut Block)
+    fn split(&mut self, upper: &mut Block<T>)
         requires { length self.old ≡ SIZE }
         ensures lower { self.new ≡ take HALF self.old }
         ensures upper { upper.new ≡ drop HALF self.old }
         ensures lower_count { length self.new ≡ HALF }
         ensures upper_count { length upper.new ≡ HALF }
     {
-        upper.fill(self.entries.as_slice().split_at(HALF).1);
-        self.entries.truncate(HALF);
+        upper.fill(self.items.as_slice().split_at(HALF).1);
+        self.items.truncate(HALF);
     }
 
-    /// Puts an entry at a place of a full block, whose upper half moves to another one.
-    pub(crate) fn insert_split(&mut self, at: usize, one: Entry, upper: &mut Block)
+    /// Puts an element at a place of a full block, whose upper half moves to another one.
+    pub(crate) fn insert_split(&mut self, at: usize, one: T, upper: &mut Block<T>)
         requires place { at ≤ length self.old }
         requires full { length self.old ≡ SIZE }
         ensures both { self.new ++ upper.new ≡ take at self.old ++ one ∷ drop at self.old }

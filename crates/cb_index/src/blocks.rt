@@ -1,4 +1,4 @@
-//! Entries kept in blocks.
+//! What is kept in blocks.
 ghost use Rattle.std.specs.Prelude.{
   ◌≡◌,
   ◌<◌,
@@ -23,27 +23,26 @@ ghost use Rattle.cb_index.specs.Blocks.{IsFilled, IsPlace, before, joined};
 ghost use Rattle.cb_index.specs.declared.block.TheConstants.{HALF, SIZE};
 
 use crate::block::Block;
-use crate::entry::Entry;
 use crate::memory::OutOfMemory;
 use crate::place::Place;
 use std::alloc::Global;
 use std::marker::Model;
 
-/// So many entries come into a block where all are put anew. Some room is left for more.
+/// So many elements come into a block where all are put anew. Some room is left for more.
 const FILL: usize = 3072;
 
-/// Blocks with entries, none of them empty, and blocks to spare. Only `reserve` takes memory.
+/// Blocks with elements, none of them empty, and blocks to spare. Only `reserve` takes memory.
 #[derive(Drop)]
-pub(crate) struct Blocks {
-    used: Vec<Block>,
-    spare: Vec<Block>,
+pub(crate) struct Blocks<T> {
+    used: Vec<Block<T>>,
+    spare: Vec<Block<T>>,
 }
 
-impl Model for Blocks {
+impl<T> Model for Blocks<T> {
     ghost use Rattle.std.specs.Prelude.{◌+◌, length, vec_capacity};
     ghost use Rattle.cb_index.specs.Blocks.{AreBlocks, Parted};
 
-    ghost Value = { Parted };
+    ghost Value = { Parted T };
 
     ghost view = { λ b. record {
       used = b.used.items;
@@ -55,7 +54,7 @@ impl Model for Blocks {
 }
 
 /// Inserts in the room that is there.
-fn insert_block(blocks: &mut Vec<Block>, at: usize, block: Block)
+fn insert_block<T: Drop>(blocks: &mut Vec<Block<T>>, at: usize, block: Block<T>)
     requires place { at ≤ length blocks.old.items }
     requires room { length blocks.old.items < vec_capacity blocks.old }
     ensures items { blocks.new.items ≡ insert blocks.old.items at block }
@@ -67,9 +66,9 @@ fn insert_block(blocks: &mut Vec<Block>, at: usize, block: Block)
     }
 }
 
-impl Blocks {
+impl<T: Copy + Drop> Blocks<T> {
     /// No blocks. It takes no memory.
-    pub(crate) fn new(alloc: Global) -> Blocks
+    pub(crate) fn new(alloc: Global) -> Blocks<T>
         ensures used { result.used ≡ [] }
         ensures count { result.count ≡ 0 }
     {
@@ -79,8 +78,8 @@ impl Blocks {
         }
     }
 
-    /// The blocks with entries.
-    pub(crate) fn used(&self) -> &[Block]
+    /// The blocks with elements.
+    pub(crate) fn used(&self) -> &[Block<T>]
         ensures value { result.now ≡ self.now.used }
         ensures filled { AllByRecursion IsFilled result.now }
     {
@@ -132,8 +131,8 @@ impl Blocks {
         Ok(())
     }
 
-    /// Uses a spare block for one entry, as the first block; not where none is left.
-    fn begin(&mut self, one: Entry) -> bool
+    /// Uses a spare block for one element, as the first block; not where none is left.
+    fn begin(&mut self, one: T) -> bool
         requires { self.old.used ≡ [] }
         ensures put { result ≡ true → joined self.new.used ≡ one ∷ [] }
         ensures stays { result ≡ false → self.new.used ≡ self.old.used }
@@ -148,8 +147,8 @@ impl Blocks {
         true
     }
 
-    /// Splits a full block in two and puts an entry in; not where no block is left.
-    fn put_split(&mut self, place: Place, one: Entry) -> bool
+    /// Splits a full block in two and puts an element in; not where no block is left.
+    fn put_split(&mut self, place: Place, one: T) -> bool
         requires block { place.block < length self.old.used }
         requires place { IsPlace self.old.used place.block place.at }
         requires full { length (slice_index_or self.old.used place.block []) ≡ SIZE }
@@ -169,8 +168,8 @@ impl Blocks {
         true
     }
 
-    /// Puts an entry into a block that is not full.
-    fn put_in(&mut self, place: Place, one: Entry)
+    /// Puts an element into a block that is not full.
+    fn put_in(&mut self, place: Place, one: T)
         requires block { place.block < length self.old.used }
         requires place { IsPlace self.old.used place.block place.at }
         requires room { length (slice_index_or self.old.used place.block []) < SIZE }
@@ -183,8 +182,8 @@ impl Blocks {
         block.insert(place.at, one);
     }
 
-    /// Puts an entry at a place; not where a block is wanted and none is left.
-    pub(crate) fn try_insert(&mut self, place: Place, one: Entry) -> bool
+    /// Puts an element at a place; not where a block is wanted and none is left.
+    pub(crate) fn try_insert(&mut self, place: Place, one: T) -> bool
         requires { IsPlace self.old.used place.block place.at }
         ensures put { result ≡ true → joined self.new.used
             ≡ take (before self.old.used place.block place.at) (joined self.old.used)
@@ -202,7 +201,7 @@ impl Blocks {
         true
     }
 
-    /// Takes away the entry at a place. A block that is emptied is to spare.
+    /// Takes away the element at a place. A block that is emptied is to spare.
     pub(crate) fn remove(&mut self, place: Place)
         requires block { place.block < length self.old.used }
         requires at { place.at < length (slice_index_or self.old.used place.block []) }
@@ -213,14 +212,14 @@ impl Blocks {
     {
         let block = &mut self.used[place.block];
         block.remove(place.at);
-        let emptied = block.entries().is_empty();
+        let emptied = block.items().is_empty();
         if emptied {
             let block = self.used.remove(place.block);
             self.spare.push_reserved(block);
         }
     }
 
-    /// Forgets all entries.
+    /// Forgets all elements.
     pub(crate) fn clear(&mut self)
         ensures used { self.new.used ≡ [] }
         ensures count { self.new.count ≡ self.old.count }
@@ -230,14 +229,14 @@ impl Blocks {
         }
     }
 
-    /// Deals entries out into blocks that are not full.
-    pub(crate) fn deal(&mut self, entries: &[Entry])
+    /// Deals elements out into blocks that are not full.
+    pub(crate) fn deal(&mut self, items: &[T])
         requires empty { self.old.used ≡ [] }
-        requires room { length entries.now ≤ HALF * self.old.count }
-        ensures entries { joined self.new.used ≡ entries.now }
+        requires room { length items.now ≤ HALF * self.old.count }
+        ensures items { joined self.new.used ≡ items.now }
         ensures count { self.new.count ≡ self.old.count }
     {
-        let mut left = entries;
+        let mut left = items;
         while !left.is_empty() {
             let (now, later) = left.split_at(left.len().min(FILL));
             let mut block = match self.spare.pop() {

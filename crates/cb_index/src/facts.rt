@@ -22,7 +22,7 @@ ghost use Rattle.cb_index.specs.steps.Left.{
   spots_left,
   walk_left,
 };
-ghost use Rattle.cb_index.specs.steps.Runs.{run_entries};
+ghost use Rattle.cb_index.specs.steps.Runs.{run_items};
 ghost use Rattle.cb_index.specs.declared.entry.Entry.{Entry};
 
 use crate::archive::{Archive, Version};
@@ -45,7 +45,7 @@ pub(crate) struct Group<'a> {
 #[derive(Clone, Copy)]
 pub(crate) enum Groups<'a, 'p> {
     /// In the entries of an index.
-    Held(Run<'a>),
+    Held(Run<'a, Entry>),
     /// By a search for the key in each of these files.
     Searched(&'p [u8], &'a [Shown]),
 }
@@ -215,12 +215,12 @@ fn next_spot<'a, 'p>(walk: &mut Walk<'a, 'p>, all: bool) -> Option<FactSpot<'a>>
 
 impl<'a, 'p> FactRows<'a, 'p> {
     /// The facts of entries.
-    pub(crate) fn held(sort: FactKind, archive: &'a Archive, entries: Run<'a>) -> FactRows<'a, 'p>
-        ensures rows { facts_left result ≡ facts_in sort archive.now (run_entries entries.entry) }
+    pub(crate) fn held(sort: FactKind, archive: &'a Archive, entries: Run<'a, Entry>) -> FactRows<'a, 'p>
+        ensures rows { facts_left result ≡ facts_in sort archive.now (run_items entries.entry) }
         ensures new { facts_new result
-            ≡ given_in false sort archive.now (run_entries entries.entry) }
+            ≡ given_in false sort archive.now (run_items entries.entry) }
         ensures counted { facts_counted result
-            ≡ sum_by (λ (e : Entry). e.rows) (run_entries entries.entry) }
+            ≡ sum_by (λ (e : Entry). e.rows) (run_items entries.entry) }
     {
         FactRows {
             walk: Walk {
@@ -266,8 +266,8 @@ impl<'a, 'p> FactRows<'a, 'p> {
 }
 
 /// How many rows entries stand for.
-fn count_held(entries: Run<'_>) -> u128
-    ensures { result ≡ sum_by (λ (e : Entry). e.rows) (run_entries entries.entry) }
+fn count_held(entries: Run<'_, Entry>) -> u128
+    ensures { result ≡ sum_by (λ (e : Entry). e.rows) (run_items entries.entry) }
 {
     let mut count = 0;
     let mut left = entries;

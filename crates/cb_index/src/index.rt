@@ -33,11 +33,11 @@ ghost use Rattle.cb_index.specs.steps.Moves.{
   StaysSame,
   TakesIn,
 };
-ghost use Rattle.cb_index.specs.steps.Runs.{run_entries};
+ghost use Rattle.cb_index.specs.steps.Runs.{run_items};
 ghost use Rattle.cb_index.specs.steps.ToCome.{is_asked};
 
 use crate::archive::Archive;
-use crate::entry::Shown;
+use crate::entry::{Entry, Shown};
 use crate::kind::{FactKind, IndexKind};
 use crate::listed::place_of;
 use crate::memory::OutOfMemory;
@@ -195,10 +195,10 @@ impl Index {
     }
 
     /// The entries that are held, in order: those that have the key, if one is asked for.
-    pub(crate) fn asked(&self, archive: &Archive, key: Option<&[u8]>) -> Run<'_>
+    pub(crate) fn asked(&self, archive: &Archive, key: Option<&[u8]>) -> Run<'_, Entry>
         requires { self.now.held
             ≡ in_order (sort_key (keyer_of self.now.kind) archive.now) self.now.held }
-        ensures { run_entries result
+        ensures { run_items result
             ≡ filter (is_asked self.now.kind archive.now (option_copied key.entry)) self.now.held }
     {
         match key {

@@ -84,17 +84,17 @@ fn count_ahead(kind: IndexKind, archive: &Archive, bound: Bound<'_>, entries: &[
 
 /// Whether the first entry of a block stands ahead of a bound.
 #[tactic(auto, unfolding(crate::specs::Blocks::head_is))]
-fn begins_ahead(kind: IndexKind, archive: &Archive, bound: Bound<'_>, block: &Block) -> bool
+fn begins_ahead(kind: IndexKind, archive: &Archive, bound: Bound<'_>, block: &Block<Entry>) -> bool
     ensures { result ≡ head_is (is_ahead (keyer_of kind) archive.now bound.entry) block.now }
 {
-    match block.entries().first() {
+    match block.items().first() {
         Some(entry) => is_ahead(kind, archive, bound, *entry),
         None => false,
     }
 }
 
 /// How many blocks begin ahead of a bound.
-fn count_begun(kind: IndexKind, archive: &Archive, bound: Bound<'_>, blocks: &[Block]) -> usize
+fn count_begun(kind: IndexKind, archive: &Archive, bound: Bound<'_>, blocks: &[Block<Entry>]) -> usize
     requires { IsPartitionedBy (head_is (is_ahead (keyer_of kind) archive.now bound)) blocks.now }
     ensures bound { result ≤ length blocks.now }
     ensures parted { IsPartitionPoint
@@ -103,7 +103,7 @@ fn count_begun(kind: IndexKind, archive: &Archive, bound: Bound<'_>, blocks: &[B
         blocks.now result }
 {
     blocks.partition_point(
-        |b: &Block| -> bool
+        |b: &Block<Entry>| -> bool
             ensures { result
                 ≡ head_is (is_ahead (keyer_of kind) archive.entry.now bound.entry) b.now }
         { begins_ahead(kind, archive, bound, b) },
@@ -115,7 +115,7 @@ pub(crate) fn place_of(
     kind: IndexKind,
     archive: &Archive,
     bound: Bound<'_>,
-    blocks: &[Block],
+    blocks: &[Block<Entry>],
 ) -> Place
     requires order { joined blocks.now
         ≡ in_order (sort_key (keyer_of kind) archive.now) (joined blocks.now) }
@@ -133,6 +133,6 @@ pub(crate) fn place_of(
         return Place { block: 0, at: 0 };
     }
     let block = begun - 1;
-    let at = count_ahead(kind, archive, bound, blocks[block].entries());
+    let at = count_ahead(kind, archive, bound, blocks[block].items());
     Place { block, at }
 }

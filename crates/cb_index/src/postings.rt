@@ -25,7 +25,7 @@ ghost use Rattle.cb_index.specs.Entries.{has_key, sort_key};
 ghost use Rattle.cb_index.specs.Kinds.{keyer_of, lister_of, prefix_of};
 ghost use Rattle.cb_index.specs.Held.{all_entries, entries_of, listed_of};
 ghost use Rattle.cb_index.specs.Names.{is_among, names_of};
-ghost use Rattle.cb_index.specs.steps.Runs.{run_entries};
+ghost use Rattle.cb_index.specs.steps.Runs.{run_items};
 ghost use Rattle.cb_index.specs.declared.block.TheConstants.{HALF};
 ghost use Rattle.cb_index.specs.declared.entry.Entry.{Entry};
 
@@ -54,7 +54,7 @@ const FEW: usize = 5;
 /// second list has room for all of them; there they are sorted where many come in at once.
 #[derive(Drop)]
 pub(crate) struct Postings {
-    blocks: Blocks,
+    blocks: Blocks<Entry>,
     scratch: Vec<Entry>,
 }
 
@@ -83,9 +83,9 @@ fn goes_first(kind: IndexKind, archive: &Archive, a: Entry, b: Entry) -> bool
 }
 
 /// Whether entries are in order.
-fn ascend(kind: IndexKind, archive: &Archive, entries: Run<'_>) -> bool
-    ensures { result ≡ true → run_entries entries.entry
-        ≡ in_order (sort_key (keyer_of kind) archive.now) (run_entries entries.entry) }
+fn ascend(kind: IndexKind, archive: &Archive, entries: Run<'_, Entry>) -> bool
+    ensures { result ≡ true → run_items entries.entry
+        ≡ in_order (sort_key (keyer_of kind) archive.now) (run_items entries.entry) }
 {
     let (mut last, mut left) = match entries.split_first() {
         Some((entry, rest)) => (*entry, rest),
@@ -139,7 +139,7 @@ fn lay_each(kind: FactKind, archive: &mut Archive, shown: &[Shown], scratch: &mu
 }
 
 /// Puts an entry between the others; not where a block is wanted and none is left.
-fn try_put(kind: IndexKind, archive: &Archive, one: Entry, blocks: &mut Blocks) -> bool
+fn try_put(kind: IndexKind, archive: &Archive, one: Entry, blocks: &mut Blocks<Entry>) -> bool
     requires { joined blocks.old.used
         ≡ in_order (sort_key (keyer_of kind) archive.now) (joined blocks.old.used) }
     ensures put { result ≡ true → joined blocks.new.used
@@ -152,7 +152,7 @@ fn try_put(kind: IndexKind, archive: &Archive, one: Entry, blocks: &mut Blocks) 
 }
 
 /// Takes away an entry that is there.
-fn take_one(kind: IndexKind, archive: &Archive, one: Entry, blocks: &mut Blocks)
+fn take_one(kind: IndexKind, archive: &Archive, one: Entry, blocks: &mut Blocks<Entry>)
     requires { (rest : List Entry)
         × (joined blocks.old.used ≡ in_order (sort_key (keyer_of kind) archive.now) (one ∷ rest)) }
     ensures taken { (rest : List Entry)
@@ -182,7 +182,7 @@ fn extend(entries: &mut Vec<Entry>, more: &[Entry])
 }
 
 /// Appends all entries of the blocks, in the room that is there, and empties these.
-fn lift(blocks: &mut Blocks, entries: &mut Vec<Entry>)
+fn lift(blocks: &mut Blocks<Entry>, entries: &mut Vec<Entry>)
     requires { length entries.old.items + length (joined blocks.old.used)
         ≤ vec_capacity entries.old }
     ensures items { entries.new.items ≡ entries.old.items ++ joined blocks.old.used }
@@ -192,13 +192,13 @@ fn lift(blocks: &mut Blocks, entries: &mut Vec<Entry>)
 {
     let used = blocks.used();
     for block in used {
-        extend(entries, block.entries());
+        extend(entries, block.items());
     }
     blocks.clear();
 }
 
 /// Sorts all entries and others, and deals them out into blocks.
-fn sort_in(kind: IndexKind, archive: &Archive, more: &mut Vec<Entry>, blocks: &mut Blocks)
+fn sort_in(kind: IndexKind, archive: &Archive, more: &mut Vec<Entry>, blocks: &mut Blocks<Entry>)
     requires room { length more.old.items + length (joined blocks.old.used)
         ≤ vec_capacity more.old }
     requires blocks { length more.old.items + length (joined blocks.old.used)
@@ -214,7 +214,7 @@ fn sort_in(kind: IndexKind, archive: &Archive, more: &mut Vec<Entry>, blocks: &m
 }
 
 /// Puts entries between the others, one after another; all together from where no block is left.
-fn put_rest(kind: IndexKind, archive: &Archive, news: &mut Vec<Entry>, blocks: &mut Blocks)
+fn put_rest(kind: IndexKind, archive: &Archive, news: &mut Vec<Entry>, blocks: &mut Blocks<Entry>)
     requires order { joined blocks.old.used
         ≡ in_order (sort_key (keyer_of kind) archive.now) (joined blocks.old.used) }
     requires room { length news.old.items + length (joined blocks.old.used)
@@ -236,7 +236,7 @@ fn put_rest(kind: IndexKind, archive: &Archive, news: &mut Vec<Entry>, blocks: &
 }
 
 /// Takes entries away that are there.
-fn take_rest(kind: IndexKind, archive: &Archive, gone: &mut Vec<Entry>, blocks: &mut Blocks)
+fn take_rest(kind: IndexKind, archive: &Archive, gone: &mut Vec<Entry>, blocks: &mut Blocks<Entry>)
     requires { (rest : List Entry) × (joined blocks.old.used
         ≡ in_order (sort_key (keyer_of kind) archive.now) (gone.old.items ++ rest)) }
     ensures taken { (rest : List Entry)
@@ -280,8 +280,8 @@ impl Postings {
     }
 
     /// The entries, in order.
-    pub(crate) fn entries(&self) -> Run<'_>
-        ensures { run_entries result ≡ self.now.entries }
+    pub(crate) fn entries(&self) -> Run<'_, Entry>
+        ensures { run_items result ≡ self.now.entries }
     {
         let _room = self.scratch.capacity();
         Run::whole(self.blocks.used())
@@ -401,10 +401,10 @@ impl Postings {
     }
 
     /// The entries that have the key, in order.
-    pub(crate) fn with_key(&self, kind: IndexKind, archive: &Archive, key: &[u8]) -> Run<'_>
+    pub(crate) fn with_key(&self, kind: IndexKind, archive: &Archive, key: &[u8]) -> Run<'_, Entry>
         requires { self.now.entries
             ≡ in_order (sort_key (keyer_of kind) archive.now) self.now.entries }
-        ensures { run_entries result
+        ensures { run_items result
             ≡ filter (has_key (keyer_of kind) archive.now (prefix_of kind key.now) key.now)
             self.now.entries }
     {

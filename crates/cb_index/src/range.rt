@@ -8,7 +8,7 @@ ghost use Rattle.cb_index.specs.steps.RowsLeft.{
   items_left,
   rows_left,
 };
-ghost use Rattle.cb_index.specs.steps.Runs.{run_entries};
+ghost use Rattle.cb_index.specs.steps.Runs.{run_items};
 
 use crate::archive::Archive;
 use crate::entry::Entry;
@@ -40,7 +40,7 @@ pub(crate) struct EntryRows<'a> {
 pub struct Rows<'a> {
     sort: Option<FactKind>,
     archive: &'a Archive,
-    entries: Run<'a>,
+    entries: Run<'a, Entry>,
     first: Option<EntryRows<'a>>,
 }
 
@@ -99,14 +99,14 @@ fn next_row<'a>(first: Option<EntryRows<'a>>) -> Option<(Row, EntryRows<'a>)>
 struct Step<'a> {
     row: Row,
     first: EntryRows<'a>,
-    entries: Run<'a>,
+    entries: Run<'a, Entry>,
 }
 
 /// The first row of some entries.
-fn first_row<'a>(sort: Option<FactKind>, archive: &'a Archive, entries: Run<'a>) -> Option<Step<'a>>
-    ensures { MatchOption result (rows_in sort archive.now (run_entries entries.entry) ≡ [])
-        (λ r. rows_in sort archive.now (run_entries entries.entry)
-        ≡ r.row ∷ (entry_rows r.first ++ rows_in sort archive.now (run_entries r.entries))) }
+fn first_row<'a>(sort: Option<FactKind>, archive: &'a Archive, entries: Run<'a, Entry>) -> Option<Step<'a>>
+    ensures { MatchOption result (rows_in sort archive.now (run_items entries.entry) ≡ [])
+        (λ r. rows_in sort archive.now (run_items entries.entry)
+        ≡ r.row ∷ (entry_rows r.first ++ rows_in sort archive.now (run_items r.entries))) }
 {
     let mut left = entries;
     while let Some((entry, rest)) = left.split_first() {
@@ -127,8 +127,8 @@ fn first_row<'a>(sort: Option<FactKind>, archive: &'a Archive, entries: Run<'a>)
 }
 
 impl<'a> Rows<'a> {
-    pub(crate) fn new(sort: Option<FactKind>, archive: &'a Archive, entries: Run<'a>) -> Rows<'a>
-        ensures { rows_left result ≡ rows_in sort archive.now (run_entries entries.entry) }
+    pub(crate) fn new(sort: Option<FactKind>, archive: &'a Archive, entries: Run<'a, Entry>) -> Rows<'a>
+        ensures { rows_left result ≡ rows_in sort archive.now (run_items entries.entry) }
     {
         Rows {
             sort,

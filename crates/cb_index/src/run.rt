@@ -1,4 +1,4 @@
-//! Entries that follow one another in blocks.
+//! Elements that follow one another in blocks.
 ghost use Rattle.std.specs.Prelude.{
   ◌≡◌,
   ◌<◌,
@@ -11,29 +11,41 @@ ghost use Rattle.std.specs.Prelude.{
   take,
   drop,
   MatchOption,
+  ⊤,
 };
 ghost use Rattle.cb_index.specs.Blocks.{IsPlace, before, joined};
 
 use crate::block::Block;
-use crate::entry::Entry;
 use crate::place::Place;
+use std::alloc::AllocError;
 
 /// The rest of a block, whole blocks after it, and the front of the next one.
-#[derive(Clone, Copy)]
-pub(crate) struct Run<'a> {
-    first: &'a [Entry],
-    blocks: &'a [Block],
-    last: &'a [Entry],
+pub(crate) struct Run<'a, T> {
+    first: &'a [T],
+    blocks: &'a [Block<T>],
+    last: &'a [T],
     ghost fits: { length (first.now ++ (joined blocks.now ++ last.now)) < 2 ^ 64 },
 }
 
-impl<'a> Run<'a> {
-    ghost use Rattle.cb_index.specs.steps.Runs.{run_entries};
+impl<'a, T> Clone for Run<'a, T> {
+    ghost is_clone = { λ s r. r ≡ s };
 
-    /// All entries of blocks.
-    pub(crate) fn whole(blocks: &'a [Block]) -> Run<'a>
+    ghost is_infallible = { λ _. ⊤ };
+
+    fn clone(&self) -> Result<Run<'a, T>, AllocError> {
+        Ok(*self)
+    }
+}
+
+impl<'a, T> Copy for Run<'a, T> {}
+
+impl<'a, T: Copy> Run<'a, T> {
+    ghost use Rattle.cb_index.specs.steps.Runs.{run_items};
+
+    /// All elements of blocks.
+    pub(crate) fn whole(blocks: &'a [Block<T>]) -> Run<'a, T>
         requires { length (joined blocks.now) < 2 ^ 64 }
-        ensures { run_entries result ≡ joined blocks.now }
+        ensures { run_items result ≡ joined blocks.now }
     {
         Run {
             first: &[],
@@ -42,10 +54,10 @@ impl<'a> Run<'a> {
         }
     }
 
-    /// The entries of these, one after another.
-    fn parts(first: &'a [Entry], blocks: &'a [Block], last: &'a [Entry]) -> Run<'a>
+    /// The elements of these, one after another.
+    fn parts(first: &'a [T], blocks: &'a [Block<T>], last: &'a [T]) -> Run<'a, T>
         requires { length (first.now ++ (joined blocks.now ++ last.now)) < 2 ^ 64 }
-        ensures { run_entries result ≡ first.now ++ (joined blocks.now ++ last.now) }
+        ensures { run_items result ≡ first.now ++ (joined blocks.now ++ last.now) }
     {
         Run {
             first,
@@ -54,12 +66,12 @@ impl<'a> Run<'a> {
         }
     }
 
-    /// The entries from a place up to another one.
-    pub(crate) fn between(blocks: &'a [Block], from: Place, to: Place) -> Run<'a>
+    /// The elements from a place up to another one.
+    pub(crate) fn between(blocks: &'a [Block<T>], from: Place, to: Place) -> Run<'a, T>
         requires fits { length (joined blocks.now) < 2 ^ 64 }
         requires from { IsPlace blocks.now from.block from.at }
         requires to { IsPlace blocks.now to.block to.at }
-        ensures { run_entries result ≡ drop (before blocks.now from.block from.at)
+        ensures { run_items result ≡ drop (before blocks.now from.block from.at)
             (take (before blocks.now to.block to.at) (joined blocks.now)) }
     {
         if blocks.is_empty() {
@@ -68,24 +80,24 @@ impl<'a> Run<'a> {
         if to.block < from.block {
             return Run::whole(&[]);
         }
-        let last = blocks[to.block].entries().split_at(to.at).0;
+        let last = blocks[to.block].items().split_at(to.at).0;
         if from.block == to.block {
             let first = last.split_at(from.at.min(to.at)).1;
             return Run::parts(first, &[], &[]);
         }
-        let first = blocks[from.block].entries().split_at(from.at).1;
+        let first = blocks[from.block].items().split_at(from.at).1;
         let whole = blocks.split_at(to.block).0.split_at(from.block + 1).1;
         Run::parts(first, whole, last)
     }
 
-    /// The first entry, and the others.
-    pub(crate) fn split_first(self) -> Option<(&'a Entry, Run<'a>)>
-        ensures { MatchOption result (run_entries self.entry ≡ [])
-            (λ r. run_entries self.entry ≡ r.0.now ∷ run_entries r.1) }
+    /// The first element, and the others.
+    pub(crate) fn split_first(self) -> Option<(&'a T, Run<'a, T>)>
+        ensures { MatchOption result (run_items self.entry ≡ [])
+            (λ r. run_items self.entry ≡ r.0.now ∷ run_items r.1) }
     {
-        if let Some((entry, first)) = self.first.split_first() {
+        if let Some((one, first)) = self.first.split_first() {
             return Some((
-                entry,
+                one,
                 Run {
                     first,
                     blocks: self.blocks,
@@ -96,9 +108,9 @@ impl<'a> Run<'a> {
         let mut blocks = self.blocks;
         while let Some((block, later)) = blocks.split_first() {
             blocks = later;
-            if let Some((entry, first)) = block.entries().split_first() {
+            if let Some((one, first)) = block.items().split_first() {
                 return Some((
-                    entry,
+                    one,
                     Run {
                         first,
                         blocks,
@@ -107,9 +119,9 @@ impl<'a> Run<'a> {
                 ));
             }
         }
-        let (entry, first) = self.last.split_first()?;
+        let (one, first) = self.last.split_first()?;
         Some((
-            entry,
+            one,
             Run {
                 first,
                 blocks: &[],
@@ -118,14 +130,14 @@ impl<'a> Run<'a> {
         ))
     }
 
-    /// How many entries there are.
+    /// How many elements there are.
     pub(crate) fn len(&self) -> usize
-        ensures { result ≡ length (run_entries self.now) }
+        ensures { result ≡ length (run_items self.now) }
     {
         let mut count = self.first.len() + self.last.len();
         let blocks = self.blocks;
         for block in blocks {
-            count += block.entries().len();
+            count += block.items().len();
         }
         count
     }

@@ -15,7 +15,7 @@ use cb_tags::TagRow;
 #[derive(Clone, Copy)]
 pub(crate) enum Defs<'a, 'p> {
     /// In the entries of an index.
-    Indexed(Run<'a>),
+    Indexed(Run<'a, Entry>),
     /// By a search of all files.
     Searched(DefSearch<'a, 'p>),
 }

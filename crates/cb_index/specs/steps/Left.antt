@@ -13,7 +13,7 @@ use Rattle.cb_index.specs.Shelved.{ShownFile}
 use Rattle.cb_index.specs.steps.DefSearch.{search_left}
 use Rattle.cb_index.specs.steps.Found.{fact_at, tag_at}
 use Rattle.cb_index.specs.steps.Given.{given_in, given_left}
-use Rattle.cb_index.specs.steps.Runs.{run_entries}
+use Rattle.cb_index.specs.steps.Runs.{run_items}
 use Rattle.cb_index.specs.steps.Searched.{searched_at, searched_count}
 use Rattle.cb_index.specs.Scanned.{Scanned, facts_of}
 use Rattle.cb_index.specs.declared.entries.Entries.{Entries}
@@ -54,7 +54,7 @@ fact_of_spot s = record {
 
 -- the definitions that are still to come
 abbrev pub defs_left : Defs → List Entry
-defs_left (Indexed entries) = run_entries entries
+defs_left (Indexed entries) = run_items entries
 defs_left (Searched search) = search_left search
 
 abbrev pub tags_left : TagRows → List Tag
@@ -70,13 +70,13 @@ group_left_if all (Some g) = group_left all g
 
 -- the facts of groups that are still to come
 abbrev pub groups_left : Bool → FactKind → Archived → Groups → List Fact
-groups_left all sort a (groups.Held entries) = given_in all sort a (run_entries entries)
+groups_left all sort a (groups.Held entries) = given_in all sort a (run_items entries)
 groups_left all sort a (groups.Searched key shown) =
     flat_map (searched_at all sort a key.now) shown.now
 
 -- how many groups are still to come
 abbrev pub group_count : Groups → ℕ
-group_count (groups.Held entries) = length (run_entries entries)
+group_count (groups.Held entries) = length (run_items entries)
 group_count (groups.Searched key shown) = length shown.now
 
 abbrev pub walk_left : Bool → Walk → List Fact
@@ -94,7 +94,7 @@ spots_left r = walk_left false r.walk
 
 -- how many rows the groups that are still to come have; what has begun is not counted
 abbrev pub groups_counted : FactKind → Archived → Groups → ℕ
-groups_counted sort a (groups.Held entries) = sum_by (λ (e : Entry). e.rows) (run_entries entries)
+groups_counted sort a (groups.Held entries) = sum_by (λ (e : Entry). e.rows) (run_items entries)
 groups_counted sort a (groups.Searched key shown) = sum_by (searched_count sort a key.now) shown.now
 
 abbrev pub rows_counted : FactSpots → ℕ

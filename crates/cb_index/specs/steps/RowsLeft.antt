@@ -1,7 +1,7 @@
 -- What an iterator of rows still gives.
 use Rattle.std.specs.Prelude.{ℕ, List, [], ◌∷◌, ◌++◌, Option, Some, None, map}
 use Rattle.cb_index.specs.steps.Chains.{chain_left}
-use Rattle.cb_index.specs.steps.Runs.{run_entries}
+use Rattle.cb_index.specs.steps.Runs.{run_items}
 use Rattle.cb_index.specs.steps.Spread.{row_of, rows_in}
 use Rattle.cb_index.specs.declared.range.EntryRows.{EntryRows}
 use Rattle.cb_index.specs.declared.range.Items.{Items}
@@ -22,4 +22,4 @@ entry_rows_if None = []
 entry_rows_if (Some r) = entry_rows r
 
 abbrev pub rows_left : Rows → List Row
-rows_left r = entry_rows_if r.first ++ rows_in r.sort r.archive.now (run_entries r.entries)
+rows_left r = entry_rows_if r.first ++ rows_in r.sort r.archive.now (run_items r.entries)

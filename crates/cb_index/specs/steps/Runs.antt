@@ -1,8 +1,7 @@
--- The entries of a run.
+-- The elements of a run.
 use Rattle.std.specs.Prelude.{List, ◌++◌}
 use Rattle.cb_index.specs.Blocks.{joined}
-use Rattle.cb_index.specs.declared.entry.Entry.{Entry}
 use Rattle.cb_index.specs.declared.run.Run.{Run}
 
-abbrev pub run_entries : Run → List Entry
-run_entries r = r.first.now ++ (joined r.blocks.now ++ r.last.now)
+abbrev pub run_items : {T : Type 0} → Run T → List T
+run_items r = r.first.now ++ (joined r.blocks.now ++ r.last.now)

@@ -1,15 +1,15 @@
 use Rattle.std.proofs.Common.{◌≡◌, ◌+◌, ◌*◌, ◌^◌, ◌≤◌, length}
 use Rattle.std.specs.Prelude.{sum_by}
-use Rattle.cb_index.specs.steps.Runs.{run_entries}
+use Rattle.cb_index.specs.steps.Runs.{run_items}
 use Rattle.cb_index.specs.declared.entry.Entry.{Entry}
 use Rattle.cb_index.proofs.facts.count_held.Given as goal
 
 abbrev pub decreases-loop-entry : goal.decreases-loop-entry
-decreases-loop-entry l = length (run_entries l.left)
+decreases-loop-entry l = length (run_items l.left)
 
 abbrev pub invariant-loop-entry : goal.invariant-loop-entry
 invariant-loop-entry l = record {
-  counted : l.count + sum_by (λ (e : Entry). e.rows) (run_entries l.left)
-      ≡ sum_by (λ (e : Entry). e.rows) (run_entries l.fn.entries);
-  few : l.count + length (run_entries l.left) * 2 ^ 32 ≤ length (run_entries l.fn.entries) * 2 ^ 32;
+  counted : l.count + sum_by (λ (e : Entry). e.rows) (run_items l.left)
+      ≡ sum_by (λ (e : Entry). e.rows) (run_items l.fn.entries);
+  few : l.count + length (run_items l.left) * 2 ^ 32 ≤ length (run_items l.fn.entries) * 2 ^ 32;
 }

@@ -27,8 +27,8 @@ count_ahead-at-requires c =
     let k = c.count_begun-begun.result - 1 in
     let low : k < length bs =
     omega (arith, c.if-begun-eq0.false, c.count_begun-begun.ensures.bound) in
-    let here : c.entries.result.now ≡ get_or bs k [] =
-    c.entries.ensures.value ∙ c.index-blocks-block.is
+    let here : c.items.result.now ≡ get_or bs k [] =
+    c.items.ensures.value ∙ c.index-blocks-block.is
     ∙ get_or_any bs k c.index-blocks-block.result [] low in
     subst (IsPartitionedBy p) (sym here)
     (parts_places p (get_or bs k [])
@@ -51,8 +51,8 @@ returns-clause-place c =
     let k = c.count_begun-begun.result - 1 in
     let low : k < length bs =
     omega (arith, c.if-begun-eq0.false, c.count_begun-begun.ensures.bound) in
-    let here : c.entries.result.now ≡ get_or bs k [] =
-    c.entries.ensures.value ∙ c.index-blocks-block.is
+    let here : c.items.result.now ≡ get_or bs k [] =
+    c.items.ensures.value ∙ c.index-blocks-block.is
     ∙ get_or_any bs k c.index-blocks-block.result [] low in (
       omega (arith, c.count_begun-begun.ensures.bound),
       subst (λ b. c.count_ahead-at.result ≤ length b) here c.count_ahead-at.ensures.bound,
@@ -69,8 +69,8 @@ returns-clause-ahead c =
     let low : k < length bs =
     omega (arith, c.if-begun-eq0.false, c.count_begun-begun.ensures.bound) in
     let next : c.count_begun-begun.result ≡ suc k = omega (arith, c.if-begun-eq0.false) in
-    let here : c.entries.result.now ≡ get_or bs k [] =
-    c.entries.ensures.value ∙ c.index-blocks-block.is
+    let here : c.items.result.now ≡ get_or bs k [] =
+    c.items.ensures.value ∙ c.index-blocks-block.is
     ∙ get_or_any bs k c.index-blocks-block.result [] low in
     place_ahead p bs k j low c.requires.filled
     (ahead_parts keyer a c.args.bound (joined bs) c.requires.order)
@@ -91,8 +91,8 @@ returns-clause-behind c =
     let low : k < length bs =
     omega (arith, c.if-begun-eq0.false, c.count_begun-begun.ensures.bound) in
     let next : c.count_begun-begun.result ≡ suc k = omega (arith, c.if-begun-eq0.false) in
-    let here : c.entries.result.now ≡ get_or bs k [] =
-    c.entries.ensures.value ∙ c.index-blocks-block.is
+    let here : c.items.result.now ≡ get_or bs k [] =
+    c.items.ensures.value ∙ c.index-blocks-block.is
     ∙ get_or_any bs k c.index-blocks-block.result [] low in
     place_behind p bs k j low c.requires.filled
     (ahead_parts keyer a c.args.bound (joined bs) c.requires.order)
@@ -114,8 +114,8 @@ returns-clause-start c = λ none.
     let low : k < length bs =
     omega (arith, c.if-begun-eq0.false, c.count_begun-begun.ensures.bound) in
     let next : c.count_begun-begun.result ≡ suc k = omega (arith, c.if-begun-eq0.false) in
-    let here : c.entries.result.now ≡ get_or bs k [] =
-    c.entries.ensures.value ∙ c.index-blocks-block.is
+    let here : c.items.result.now ≡ get_or bs k [] =
+    c.items.ensures.value ∙ c.index-blocks-block.is
     ∙ get_or_any bs k c.index-blocks-block.result [] low in
     let some =
     place_inside p bs k j low c.requires.filled

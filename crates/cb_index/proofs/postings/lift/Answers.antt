@@ -9,7 +9,7 @@ pub extend-requires : goal.extend-requires
 extend-requires c =
     let es = c.loop-block.entries.items in
     subst (λ b. length es + length b ≤ vec_capacity c.loop-block.entries)
-    (sym (c.entries.ensures.value ∙ c.block-item.is))
+    (sym (c.items.ensures.value ∙ c.block-item.is))
     (lift_fits c.used-used.result.now c.loop-block.block-index c.block-item.result es
     c.args.entries.now.items _
     c.loop-block-test.true c.loop-block.invariant.entries

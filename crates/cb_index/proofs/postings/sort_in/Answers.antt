@@ -20,6 +20,6 @@ returns-clause-entries c =
     let keyer = keyer_of c.args.kind in
     let a = c.args.archive.now in
     let key = sort_key keyer a in
-    c.deal.ensures.entries ∙ c.as_slice.ensures.value ∙ c.sort.ensures.items
+    c.deal.ensures.items ∙ c.as_slice.ensures.value ∙ c.sort.ensures.items
     ∙ ap (in_order key) c.lift.ensures.items
     ∙ order_turned key (sort_exact keyer a) c.args.more.now.items (joined c.args.blocks.now.used)

@@ -5,11 +5,11 @@ use Rattle.cb_index.specs.Blocks.{IsFilled, joined}
 use Rattle.cb_index.proofs.blocks.Blocks.deal.Given as goal
 
 abbrev pub decreases-loop-left : goal.decreases-loop-left
-decreases-loop-left l = length l.left
+decreases-loop-left t l = length l.left
 
 abbrev pub invariant-loop-left : goal.invariant-loop-left
-invariant-loop-left l = record {
-  dealt : joined l.self-inside.used.items ++ l.left ≡ l.fn.entries;
+invariant-loop-left t l = record {
+  dealt : joined l.self-inside.used.items ++ l.left ≡ l.fn.items;
   room : length l.left ≤ HALF * length l.self-inside.spare.items;
   filled : AllByRecursion IsFilled l.self-inside.used.items;
   count : length l.self-inside.used.items + length l.self-inside.spare.items

@@ -4,15 +4,15 @@ use Rattle.cb_index.proofs.BlockLemmas.{split_changed}
 use Rattle.cb_index.proofs.blocks.Blocks.put_split.Goals as goal
 
 pub returns-clause-put : goal.returns-clause-put
-returns-clause-put c = λ is.
+returns-clause-put t c = λ is.
     let k = c.args.place.block in
     let j = c.args.place.at in
     ap joined c.insert_block.ensures.items
     ∙ split_changed c.self.inside.used.items k j
-    (subst (λ (p : Parted). k < length p.used) (sym c.self.view_is) c.requires.block)
+    (subst (λ (p : Parted _). k < length p.used) (sym c.self.view_is) c.requires.block)
     c.index_mut-block.result.now c.index_mut-block.ensures.value c.args.one c.insert_split.new.self
     c.insert_split.new.upper
-    (subst (λ (p : Parted). IsPlace p.used k j) (sym c.self.view_is) c.requires.place).1
+    (subst (λ (p : Parted _). IsPlace p.used k j) (sym c.self.view_is) c.requires.place).1
     c.insert_split.ensures.both
-    ∙ ap (λ (p : Parted). take (before p.used k j) (joined p.used) ++ c.args.one
+    ∙ ap (λ (p : Parted _). take (before p.used k j) (joined p.used) ++ c.args.one
     ∷ drop (before p.used k j) (joined p.used)) c.self.view_is

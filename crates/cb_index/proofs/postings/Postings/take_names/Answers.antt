@@ -31,7 +31,7 @@ deal-requires-clause-room c =
 pub returns-clause-entries : goal.returns-clause-entries
 returns-clause-entries c =
     let stays : Entry → Bool = λ e. not (is_among (names_of c.args.files.now) e.name) in
-    c.deal.ensures.entries ∙ c.as_slice.ensures.value
+    c.deal.ensures.items ∙ c.as_slice.ensures.value
     ∙ filter_same _ stays _ (λ e r f k. (search (rules, k), search (rules, k))) _ _
     c.retain.ensures.filtered
     ∙ ap (filter stays) (c.lift.ensures.items

@@ -8,7 +8,7 @@ use Rattle.cb_index.proofs.run.Run.between.Goals as goal
 
 -- it would end before it begins
 pub returns-then-to-from : goal.returns-then-to-from
-returns-then-to-from c =
+returns-then-to-from t c =
     let bs = c.args.blocks.now in
     let low : c.args.to.block < length bs = omega (arith, c.requires.from.0, c.if-to-from.true) in
     c.whole-then-to-from.ensures ∙ turned_between bs c.args.to.block c.args.to.at c.args.from.block
@@ -16,14 +16,14 @@ returns-then-to-from c =
 
 -- in one block
 pub returns-then-from-to : goal.returns-then-from-to
-returns-then-from-to c =
+returns-then-from-to t c =
     let bs = c.args.blocks.now in
     let k = c.args.to.block in
     let f = c.args.from.at in
     let t = c.args.to.at in
     let low : k < length bs = search rules in
-    let here : c.entries.result.now ≡ get_or bs k [] =
-    c.entries.ensures.value ∙ c.index-blocks-to.is
+    let here : c.items.result.now ≡ get_or bs k [] =
+    c.items.ensures.value ∙ c.index-blocks-to.is
     ∙ get_or_any bs k c.index-blocks-to.result [] low in
     c.parts.ensures
     ∙ ap (λ l. l ++ (joined [] ++ []))
@@ -34,7 +34,7 @@ returns-then-from-to c =
 
 -- no more entries than all
 pub parts-requires-2 : goal.parts-requires-2
-parts-requires-2 c =
+parts-requires-2 t c =
     let bs = c.args.blocks.now in
     let k = c.args.from.block in
     let m = c.args.to.block in
@@ -43,11 +43,11 @@ parts-requires-2 c =
     let low : m < length bs = search rules in
     let first : k < length bs = search rules in
     let less : k < m = omega (arith, c.if-to-from.false, c.if-from-to.false) in
-    let start : c.entries-2.result.now ≡ get_or bs k [] =
-    c.entries-2.ensures.value ∙ c.index-blocks-from.is
+    let start : c.items-2.result.now ≡ get_or bs k [] =
+    c.items-2.ensures.value ∙ c.index-blocks-from.is
     ∙ get_or_any bs k c.index-blocks-from.result [] first in
-    let end : c.entries.result.now ≡ get_or bs m [] =
-    c.entries.ensures.value ∙ c.index-blocks-to.is
+    let end : c.items.result.now ≡ get_or bs m [] =
+    c.items.ensures.value ∙ c.index-blocks-to.is
     ∙ get_or_any bs m c.index-blocks-to.result [] low in
     between_fits (before bs k f) (before bs m t) (joined bs) _ _
     ((λ i. (c.split_at-2.ensures.back ∙ ap (drop f) start) i
@@ -57,7 +57,7 @@ parts-requires-2 c =
 
 -- in two blocks
 pub returns : goal.returns
-returns c =
+returns t c =
     let bs = c.args.blocks.now in
     let k = c.args.from.block in
     let m = c.args.to.block in
@@ -66,11 +66,11 @@ returns c =
     let low : m < length bs = search rules in
     let first : k < length bs = search rules in
     let less : k < m = omega (arith, c.if-to-from.false, c.if-from-to.false) in
-    let start : c.entries-2.result.now ≡ get_or bs k [] =
-    c.entries-2.ensures.value ∙ c.index-blocks-from.is
+    let start : c.items-2.result.now ≡ get_or bs k [] =
+    c.items-2.ensures.value ∙ c.index-blocks-from.is
     ∙ get_or_any bs k c.index-blocks-from.result [] first in
-    let end : c.entries.result.now ≡ get_or bs m [] =
-    c.entries.ensures.value ∙ c.index-blocks-to.is
+    let end : c.items.result.now ≡ get_or bs m [] =
+    c.items.ensures.value ∙ c.index-blocks-to.is
     ∙ get_or_any bs m c.index-blocks-to.result [] low in
     c.parts-2.ensures
     ∙ (λ i. (c.split_at-2.ensures.back ∙ ap (drop f) start) i
