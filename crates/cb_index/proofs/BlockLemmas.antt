@@ -10,8 +10,8 @@ use Rattle.std.proofs.Math.Seq.{drop-append-add, take-append-add}
 use Rattle.std.specs.List.{AllByRecursion, insert, remove}
 use Rattle.std.specs.List.Sorted.{IsPartitionPoint, IsPartitionedBy}
 use Rattle.cb_scan.proofs.WithinLemmas.{all-append}
-use Rattle.cb_index.specs.Blocks.{IsFilled, IsPlace, before, head_is, joined}
-use Rattle.cb_index.proofs.SortedLemmas.{Parts, all_behind, all_upto, parts_left, parts_right}
+use Rattle.cb_index.specs.Blocks.{AreParted, IsFilled, IsPlace, before, head_is, joined}
+use Rattle.cb_index.proofs.SortedLemmas.{all_behind, all_upto, parts_left, parts_right}
 
 abbrev pub Lists : Type 0 → Type 0
 Lists T = List (List T)
@@ -176,7 +176,7 @@ module _ {T : Type 0} (p : T → Bool) where
   later_fail (b ∷ bs) (suc j) d below a =
       later_fail bs j d (omega (arith, below)) (all_back (λ e. p e ≡ false) b (joined bs) a)
 
-  pub heads_parted : (bs : Lists T) → AllByRecursion IsFilled bs → Parts p (joined bs)
+  pub heads_parted : (bs : Lists T) → AllByRecursion IsFilled bs → AreParted p (joined bs)
       → IsPartitionedBy (head_is p) bs
   unfolding head_is
   heads_parted [] f q i j d upward below is = absurd (omega (arith, below))
@@ -195,15 +195,15 @@ module _ {T : Type 0} (p : T → Bool) where
       (omega (arith, below)) is
 
   -- each block of them is parted
-  pub block_parts : (bs : Lists T) (k : ℕ) → k < length bs → Parts p (joined bs)
-      → Parts p (get_or bs k [])
+  pub block_parts : (bs : Lists T) (k : ℕ) → k < length bs → AreParted p (joined bs)
+      → AreParted p (get_or bs k [])
   block_parts [] k low q = absurd (omega (arith, low))
   block_parts (b ∷ bs) zero low q = parts_left p b (joined bs) q
   block_parts (b ∷ bs) (suc k) low q =
       block_parts bs k (omega (arith, low)) (parts_right p b (joined bs) q)
 
   -- ahead of a block that begins with what passes, all pass
-  blocks_ahead : (bs : Lists T) (k : ℕ) → k < length bs → Parts p (joined bs)
+  blocks_ahead : (bs : Lists T) (k : ℕ) → k < length bs → AreParted p (joined bs)
       → head_is p (get_or bs k []) ≡ true
       → AllByRecursion (λ e. p e ≡ true) (joined (take k bs))
   blocks_ahead [] k low q is = absurd (omega (arith, low))
@@ -212,7 +212,7 @@ module _ {T : Type 0} (p : T → Bool) where
       all-append (λ e. p e ≡ true) b (joined (take k bs)) (whole b q)
       (blocks_ahead bs k (omega (arith, low)) (parts_right p b (joined bs) q) is)
     where
-      whole : (es : List T) → Parts p (es ++ joined bs) → AllByRecursion (λ e. p e ≡ true) es
+      whole : (es : List T) → AreParted p (es ++ joined bs) → AllByRecursion (λ e. p e ≡ true) es
       whole [] r = tt
       whole (e ∷ es) r = (by_test (p e) refl, whole es r.1)
         where
@@ -223,7 +223,7 @@ module _ {T : Type 0} (p : T → Bool) where
               [] (omega (arith, low)) (all_back (λ x. p x ≡ false) es (joined bs) (r.0 eq))))
 
   -- from a block on that begins with what fails, all fail
-  blocks_behind : (bs : Lists T) → AllByRecursion IsFilled bs → Parts p (joined bs)
+  blocks_behind : (bs : Lists T) → AllByRecursion IsFilled bs → AreParted p (joined bs)
       → (0 < length bs → head_is p (get_or bs 0 []) ≡ false)
       → AllByRecursion (λ e. p e ≡ false) (joined bs)
   unfolding head_is
@@ -232,7 +232,7 @@ module _ {T : Type 0} (p : T → Bool) where
   blocks_behind ((e ∷ es) ∷ bs) f q isnt =
       let none : p e ≡ false = isnt (omega arith) in (none, q.0 none)
 
-  pub all_dropped : (bs : Lists T) (k : ℕ) → AllByRecursion IsFilled bs → Parts p (joined bs)
+  pub all_dropped : (bs : Lists T) (k : ℕ) → AllByRecursion IsFilled bs → AreParted p (joined bs)
       → (k < length bs → head_is p (get_or bs k []) ≡ false)
       → AllByRecursion (λ e. p e ≡ false) (joined (drop k bs))
   all_dropped bs zero f q isnt = blocks_behind bs f q isnt
@@ -242,7 +242,7 @@ module _ {T : Type 0} (p : T → Bool) where
 
   -- the place in the last block that begins with what passes
   module _ (bs : Lists T) (k j : ℕ) (low : k < length bs) (f : AllByRecursion IsFilled bs)
-      (q : Parts p (joined bs))
+      (q : AreParted p (joined bs))
       (heads : IsPartitionPoint (λ b. head_is p b ≡ true) (λ b. head_is p b ≡ false) bs (suc k))
       (within : j ≤ length (get_or bs k []))
       (inner : IsPartitionPoint (λ e. p e ≡ true) (λ e. p e ≡ false) (get_or bs k []) j) where

@@ -18,14 +18,15 @@ use Rattle.std.specs.declared.cmp.Ordering.TheVariants.{Less, Equal, Greater}
 use Rattle.cb_scan.specs.Order.{goes_first, in_order}
 use Rattle.cb_scan.proofs.KeyOrder.{then_assoc}
 use Rattle.cb_scan.proofs.OrderLemmas.{Sorted, first_trans, goes_itself, in_order_sorted}
+use Rattle.cb_index.specs.Blocks.{AreParted}
 use Rattle.cb_index.specs.Archived.{Archived}
 use Rattle.cb_index.specs.Entries.{Keyer, file_key, has_key, key_cmp, key_of, sort_key}
 use Rattle.cb_index.specs.steps.Bounds.{is_ahead}
 use Rattle.cb_index.specs.declared.entry.Entry.{Entry}
-use Rattle.cb_index.specs.declared.place.Bound.{Bound}
-use Rattle.cb_index.specs.declared.place.Bound.TheVariants.{Behind, Before, After}
+use Rattle.cb_index.specs.declared.bound.Side.{Side}
+use Rattle.cb_index.specs.declared.bound.Side.TheVariants.{Behind, Before, After}
 use Rattle.cb_index.proofs.EntryLemmas.{bytes_cmp, sort_exact}
-use Rattle.cb_index.proofs.SortedLemmas.{Parts, inserted_is, parts_sorted, some_ahead, taken_is}
+use Rattle.cb_index.proofs.SortedLemmas.{inserted_is, parts_sorted, some_ahead, taken_is}
 
 -- ---- prefix and key, as one order
 abbrev pub Headed : Type 0
@@ -173,7 +174,7 @@ sorted_from keyer a es is =
 
 -- ---- what stands ahead of a bound
 module _ (keyer : Keyer) (a : Archived) where
-  ahead_first : (bound : Bound) (e f : Entry) → goes_first (sort_key keyer a) e f ≡ true
+  ahead_first : (bound : Side) (e f : Entry) → goes_first (sort_key keyer a) e f ≡ true
       → is_ahead keyer a bound f ≡ true
       → is_ahead keyer a bound e ≡ true
   unfolding is_ahead
@@ -186,8 +187,8 @@ module _ (keyer : Keyer) (a : Archived) where
       upto_parted keyer a prefix key.now (e ∷ f ∷ []) ((first, tt), (tt, tt)) 0 1 e
       (omega arith) (omega arith) is
 
-  pub ahead_parts : (bound : Bound) (es : List Entry) → es ≡ in_order (sort_key keyer a) es
-      → Parts (is_ahead keyer a bound) es
+  pub ahead_parts : (bound : Side) (es : List Entry) → es ≡ in_order (sort_key keyer a) es
+      → AreParted (is_ahead keyer a bound) es
   ahead_parts bound es is =
       parts_sorted (is_ahead keyer a bound) (sort_key keyer a) (ahead_first bound) es
       (sorted_from keyer a es is)

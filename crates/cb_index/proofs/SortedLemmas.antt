@@ -9,6 +9,7 @@ use Rattle.std.specs.List.{AllByRecursion, AllWithin}
 use Rattle.cb_scan.specs.Order.{goes_first, in_order, put}
 use Rattle.cb_scan.proofs.OrderLemmas.{Sorted, both_first, goes_itself, in_order_sorted}
 use Rattle.cb_scan.proofs.OrderLemmas.{in_order_sum, other_first, unique}
+use Rattle.cb_index.specs.Blocks.{AreParted}
 
 -- ---- from places to parts, and back
 module _ {X : Type 0} (P : X → Type 0) where
@@ -206,13 +207,9 @@ module _ {X : Type 0} (key : X → List ℕ) where
 
 -- ---- a test that what comes later passes only where what comes earlier does
 module _ {X : Type 0} (p : X → Bool) where
-  abbrev pub Parts : List X → Type 0
-  Parts [] = Unit {0}
-  Parts (x ∷ xs) = (p x ≡ false → AllByRecursion (λ y. p y ≡ false) xs) × Parts xs
-
   pub parts_sorted : (key : X → List ℕ)
       → ((x y : X) → goes_first key x y ≡ true → p y ≡ true → p x ≡ true) → (xs : List X)
-      → Sorted key xs → Parts xs
+      → Sorted key xs → AreParted p xs
   parts_sorted key mono [] s = tt
   parts_sorted key mono (x ∷ xs) s = ((λ isnt. later isnt xs s.0), parts_sorted key mono xs s.1)
     where
@@ -225,7 +222,7 @@ module _ {X : Type 0} (p : X → Bool) where
         later isnt ys a.1,
       )
 
-  pub parts_left : (xs ys : List X) → Parts (xs ++ ys) → Parts xs
+  pub parts_left : (xs ys : List X) → AreParted p (xs ++ ys) → AreParted p xs
   parts_left [] ys q = tt
   parts_left (x ∷ xs) ys q = ((λ isnt. front xs (q.0 isnt)), parts_left xs ys q.1)
     where
@@ -234,7 +231,7 @@ module _ {X : Type 0} (p : X → Bool) where
       front [] a = tt
       front (z ∷ zs) a = (a.0, front zs a.1)
 
-  pub parts_right : (xs ys : List X) → Parts (xs ++ ys) → Parts ys
+  pub parts_right : (xs ys : List X) → AreParted p (xs ++ ys) → AreParted p ys
   parts_right [] ys q = q
   parts_right (x ∷ xs) ys q = parts_right xs ys q.1
 
@@ -244,7 +241,7 @@ module _ {X : Type 0} (p : X → Bool) where
   all_right (x ∷ xs) ys a = all_right xs ys a.1
 
   -- the same by places
-  pub parts_places : (xs : List X) → Parts xs → (i j : ℕ) (d : X) → i ≤ j → j < length xs
+  pub parts_places : (xs : List X) → AreParted p xs → (i j : ℕ) (d : X) → i ≤ j → j < length xs
       → p (get_or xs j d) ≡ true → p (get_or xs i d) ≡ true
   parts_places [] q i j d upward below is = absurd (omega (arith, below))
   parts_places (x ∷ xs) q zero zero d upward below is = is

@@ -1,5 +1,5 @@
 -- Elements that are kept in blocks.
-use Rattle.std.specs.Prelude.{ℕ, ◌≤◌, ◌<◌, ◌+◌, ◌-◌, Bool, false, List, [], ◌∷◌, length, take}
+use Rattle.std.specs.Prelude.{ℕ, ◌≡◌, ◌≤◌, ◌<◌, ◌+◌, ◌-◌, Bool, false, List, [], ◌∷◌, length, take}
 use Rattle.std.specs.Prelude.{slice_index_or}
 use Rattle.std.specs.List.{AllByRecursion, flat_map}
 
@@ -31,6 +31,11 @@ IsPlace blocks block at =
 -- how many elements stand ahead of a place
 abbrev pub before : {T : Type 0} → List (List T) → ℕ → ℕ → ℕ
 before blocks block at = length (joined (take block blocks)) + at
+
+-- of two elements of which the later passes a test the earlier passes it too
+abbrev pub AreParted : {T : Type 0} → (T → Bool) → List T → Type 0
+AreParted p [] = Unit {0}
+AreParted p (x ∷ xs) = (p x ≡ false → AllByRecursion (λ y. p y ≡ false) xs) × AreParted p xs
 
 -- whether the first element passes a test
 unfoldable pub head_is : {T : Type 0} → (T → Bool) → List T → Bool

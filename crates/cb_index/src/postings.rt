@@ -32,6 +32,7 @@ ghost use Rattle.cb_index.specs.declared.entry.Entry.{Entry};
 use crate::archive::Archive;
 use crate::block::HALF;
 use crate::blocks::Blocks;
+use crate::bound::{EntryBound, Side};
 use crate::entry::{Entry, Shown};
 use crate::kind::{FactKind, IndexKind};
 use crate::laid::lay;
@@ -39,7 +40,7 @@ use crate::memory::OutOfMemory;
 use crate::names::Names;
 use crate::order::compare;
 use crate::orders::{append, count, prefix};
-use crate::place::{Bound, Place, place_of};
+use crate::place::{Place, place_of};
 use crate::run::Run;
 use crate::sort::sort;
 use std::alloc::Global;
@@ -147,7 +148,12 @@ fn try_put(kind: IndexKind, archive: &Archive, one: Entry, blocks: &mut Blocks<E
     ensures stays { result ≡ false → blocks.new.used ≡ blocks.old.used }
     ensures count { blocks.new.count ≡ blocks.old.count }
 {
-    let place = place_of(kind, archive, Bound::Behind(one), blocks.used());
+    let bound = EntryBound {
+        kind,
+        archive,
+        side: Side::Behind(one),
+    };
+    let place = place_of(&bound, blocks.used());
     blocks.try_insert(place, one)
 }
 
@@ -160,7 +166,12 @@ fn take_one(kind: IndexKind, archive: &Archive, one: Entry, blocks: &mut Blocks<
         → joined blocks.new.used ≡ in_order (sort_key (keyer_of kind) archive.now) rest }
     ensures count { blocks.new.count ≡ blocks.old.count }
 {
-    let place = place_of(kind, archive, Bound::Behind(one), blocks.used());
+    let bound = EntryBound {
+        kind,
+        archive,
+        side: Side::Behind(one),
+    };
+    let place = place_of(&bound, blocks.used());
     if place.at == 0 {
         unreachable!()
     }
@@ -411,8 +422,18 @@ impl Postings {
         let _room = self.scratch.capacity();
         let prefix = prefix(kind, key);
         let blocks = self.blocks.used();
-        let from = place_of(kind, archive, Bound::Before(prefix, key), blocks);
-        let to = place_of(kind, archive, Bound::After(prefix, key), blocks);
+        let before = EntryBound {
+            kind,
+            archive,
+            side: Side::Before(prefix, key),
+        };
+        let after = EntryBound {
+            kind,
+            archive,
+            side: Side::After(prefix, key),
+        };
+        let from = place_of(&before, blocks);
+        let to = place_of(&after, blocks);
         Run::between(blocks, from, to)
     }
 }

@@ -1,28 +1,21 @@
 use Rattle.std.proofs.Common.{◌≡◌, ◌∙◌, ◌≤◌, ◌<◌, ◌-◌, true, false, [], suc, sym, subst, length}
 use Rattle.std.proofs.Common.{get_or, arith}
 use Rattle.std.specs.List.Sorted.{IsPartitionPoint, IsPartitionedBy}
-use Rattle.cb_index.specs.Blocks.{head_is, joined}
-use Rattle.cb_index.specs.steps.Bounds.{is_ahead}
+use Rattle.cb_index.specs.Blocks.{head_is}
 use Rattle.cb_index.proofs.BlockLemmas.{all_dropped, block_parts, get_or_any, heads_parted}
 use Rattle.cb_index.proofs.BlockLemmas.{place_ahead, place_behind, place_inside}
-use Rattle.cb_index.proofs.RangeLemmas.{ahead_parts}
 use Rattle.cb_index.proofs.SortedLemmas.{parts_places}
-use Rattle.cb_index.specs.Kinds.{keyer_of}
 use Rattle.cb_index.proofs.place.place_of.Goals as goal
 
 pub count_begun-begun-requires : goal.count_begun-begun-requires
-count_begun-begun-requires c =
-    let keyer = keyer_of c.args.kind in
-    let a = c.args.archive.now in
-    let p = is_ahead keyer a c.args.bound in
+count_begun-begun-requires t c =
+    let p = t.B.Bound.is_ahead c.args.bound.now in
     heads_parted p c.args.blocks.now c.requires.filled
-    (ahead_parts keyer a c.args.bound (joined c.args.blocks.now) c.requires.order)
+    c.requires.parted
 
 pub count_ahead-at-requires : goal.count_ahead-at-requires
-count_ahead-at-requires c =
-    let keyer = keyer_of c.args.kind in
-    let a = c.args.archive.now in
-    let p = is_ahead keyer a c.args.bound in
+count_ahead-at-requires t c =
+    let p = t.B.Bound.is_ahead c.args.bound.now in
     let bs = c.args.blocks.now in
     let k = c.count_begun-begun.result - 1 in
     let low : k < length bs =
@@ -32,21 +25,19 @@ count_ahead-at-requires c =
     ∙ get_or_any bs k c.index-blocks-block.result [] low in
     subst (IsPartitionedBy p) (sym here)
     (parts_places p (get_or bs k [])
-    (block_parts p bs k low (ahead_parts keyer a c.args.bound (joined bs) c.requires.order)))
+    (block_parts p bs k low c.requires.parted))
 
 -- where no block begins ahead of it, nothing stands ahead of it
 pub returns-then-begun-eq0-clause-behind : goal.returns-then-begun-eq0-clause-behind
-returns-then-begun-eq0-clause-behind c =
-    let keyer = keyer_of c.args.kind in
-    let a = c.args.archive.now in
-    let p = is_ahead keyer a c.args.bound in
+returns-then-begun-eq0-clause-behind t c =
+    let p = t.B.Bound.is_ahead c.args.bound.now in
     let bs = c.args.blocks.now in
     all_dropped p bs 0 c.requires.filled
-    (ahead_parts keyer a c.args.bound (joined bs) c.requires.order)
+    c.requires.parted
     (λ below. c.count_begun-begun.ensures.parted.1 0 [] (omega (arith, c.if-begun-eq0.true)) below)
 
 pub returns-clause-place : goal.returns-clause-place
-returns-clause-place c =
+returns-clause-place t c =
     let bs = c.args.blocks.now in
     let k = c.count_begun-begun.result - 1 in
     let low : k < length bs =
@@ -59,10 +50,8 @@ returns-clause-place c =
     )
 
 pub returns-clause-ahead : goal.returns-clause-ahead
-returns-clause-ahead c =
-    let keyer = keyer_of c.args.kind in
-    let a = c.args.archive.now in
-    let p = is_ahead keyer a c.args.bound in
+returns-clause-ahead t c =
+    let p = t.B.Bound.is_ahead c.args.bound.now in
     let bs = c.args.blocks.now in
     let k = c.count_begun-begun.result - 1 in
     let j = c.count_ahead-at.result in
@@ -73,7 +62,7 @@ returns-clause-ahead c =
     c.items.ensures.value ∙ c.index-blocks-block.is
     ∙ get_or_any bs k c.index-blocks-block.result [] low in
     place_ahead p bs k j low c.requires.filled
-    (ahead_parts keyer a c.args.bound (joined bs) c.requires.order)
+    c.requires.parted
     (subst (λ n. IsPartitionPoint (λ b. head_is p b ≡ true) (λ b. head_is p b ≡ false) bs n) next
     c.count_begun-begun.ensures.parted)
     (subst (λ b. j ≤ length b) here c.count_ahead-at.ensures.bound)
@@ -81,10 +70,8 @@ returns-clause-ahead c =
     c.count_ahead-at.ensures.parted)
 
 pub returns-clause-behind : goal.returns-clause-behind
-returns-clause-behind c =
-    let keyer = keyer_of c.args.kind in
-    let a = c.args.archive.now in
-    let p = is_ahead keyer a c.args.bound in
+returns-clause-behind t c =
+    let p = t.B.Bound.is_ahead c.args.bound.now in
     let bs = c.args.blocks.now in
     let k = c.count_begun-begun.result - 1 in
     let j = c.count_ahead-at.result in
@@ -95,7 +82,7 @@ returns-clause-behind c =
     c.items.ensures.value ∙ c.index-blocks-block.is
     ∙ get_or_any bs k c.index-blocks-block.result [] low in
     place_behind p bs k j low c.requires.filled
-    (ahead_parts keyer a c.args.bound (joined bs) c.requires.order)
+    c.requires.parted
     (subst (λ n. IsPartitionPoint (λ b. head_is p b ≡ true) (λ b. head_is p b ≡ false) bs n) next
     c.count_begun-begun.ensures.parted)
     (subst (λ b. j ≤ length b) here c.count_ahead-at.ensures.bound)
@@ -104,10 +91,8 @@ returns-clause-behind c =
 
 -- an entry of that block stands ahead
 pub returns-clause-start : goal.returns-clause-start
-returns-clause-start c = λ none.
-    let keyer = keyer_of c.args.kind in
-    let a = c.args.archive.now in
-    let p = is_ahead keyer a c.args.bound in
+returns-clause-start t c = λ none.
+    let p = t.B.Bound.is_ahead c.args.bound.now in
     let bs = c.args.blocks.now in
     let k = c.count_begun-begun.result - 1 in
     let j = c.count_ahead-at.result in
@@ -119,7 +104,7 @@ returns-clause-start c = λ none.
     ∙ get_or_any bs k c.index-blocks-block.result [] low in
     let some =
     place_inside p bs k j low c.requires.filled
-    (ahead_parts keyer a c.args.bound (joined bs) c.requires.order)
+    c.requires.parted
     (subst (λ n. IsPartitionPoint (λ b. head_is p b ≡ true) (λ b. head_is p b ≡ false) bs n) next
     c.count_begun-begun.ensures.parted)
     (subst (λ b. j ≤ length b) here c.count_ahead-at.ensures.bound)

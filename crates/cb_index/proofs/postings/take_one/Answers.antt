@@ -5,22 +5,23 @@ use Rattle.std.specs.List.{AllByRecursion}
 use Rattle.cb_scan.specs.Order.{in_order}
 use Rattle.cb_index.specs.Blocks.{IsPlace, before, joined}
 use Rattle.cb_index.specs.Entries.{sort_key}
-use Rattle.cb_index.specs.declared.place.Bound.TheVariants.{Behind}
+use Rattle.cb_index.specs.declared.bound.Side.TheVariants.{Behind}
 use Rattle.cb_index.specs.steps.Bounds.{is_ahead}
 use Rattle.cb_index.proofs.BlockLemmas.{before_fits, place_there}
 use Rattle.cb_index.proofs.EntryLemmas.{sort_exact}
 use Rattle.cb_index.proofs.PutLemmas.{again_in_order}
-use Rattle.cb_index.proofs.RangeLemmas.{behind_some, behind_taken}
+use Rattle.cb_index.proofs.RangeLemmas.{ahead_parts, behind_some, behind_taken}
 use Rattle.cb_index.specs.Kinds.{keyer_of}
 use Rattle.cb_index.proofs.postings.take_one.Goals as goal
 
-pub place_of-place-requires-clause-order : goal.place_of-place-requires-clause-order
-place_of-place-requires-clause-order c =
+pub place_of-place-requires-clause-parted : goal.place_of-place-requires-clause-parted
+place_of-place-requires-clause-parted c =
     let keyer = keyer_of c.args.kind in
     let a = c.args.archive.now in
-    subst (λ bs. joined bs ≡ in_order (sort_key keyer a) (joined bs)) (sym c.used.ensures.value)
+    ahead_parts keyer a (Behind c.args.one) (joined c.used.result.now)
+    (subst (λ bs. joined bs ≡ in_order (sort_key keyer a) (joined bs)) (sym c.used.ensures.value)
     (again_in_order (sort_key keyer a) (sort_exact keyer a) (joined c.args.blocks.now.used)
-    (c.args.one ∷ c.requires.0) c.requires.1)
+    (c.args.one ∷ c.requires.0) c.requires.1))
 
 -- an entry that is there does not stand behind the bound
 pub unreachable-requires : goal.unreachable-requires

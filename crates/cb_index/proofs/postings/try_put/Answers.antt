@@ -1,11 +1,21 @@
-use Rattle.std.proofs.Common.{◌≡◌, ◌∙◌, true, false, subst, take, drop}
+use Rattle.std.proofs.Common.{◌≡◌, ◌∙◌, true, false, sym, subst, take, drop}
 use Rattle.std.specs.List.{AllByRecursion}
+use Rattle.cb_scan.specs.Order.{in_order}
 use Rattle.cb_index.specs.Blocks.{before, joined}
-use Rattle.cb_index.specs.declared.place.Bound.TheVariants.{Behind}
+use Rattle.cb_index.specs.Entries.{sort_key}
+use Rattle.cb_index.specs.declared.bound.Side.TheVariants.{Behind}
 use Rattle.cb_index.specs.steps.Bounds.{is_ahead}
-use Rattle.cb_index.proofs.RangeLemmas.{behind_inserted}
+use Rattle.cb_index.proofs.RangeLemmas.{ahead_parts, behind_inserted}
 use Rattle.cb_index.specs.Kinds.{keyer_of}
 use Rattle.cb_index.proofs.postings.try_put.Goals as goal
+
+pub place_of-place-requires-clause-parted : goal.place_of-place-requires-clause-parted
+place_of-place-requires-clause-parted c =
+    let keyer = keyer_of c.args.kind in
+    let a = c.args.archive.now in
+    ahead_parts keyer a (Behind c.args.one) (joined c.used.result.now)
+    (subst (λ bs. joined bs ≡ in_order (sort_key keyer a) (joined bs)) (sym c.used.ensures.value)
+    c.requires)
 
 pub returns-clause-put : goal.returns-clause-put
 returns-clause-put c = λ is.
