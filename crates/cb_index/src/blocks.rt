@@ -66,6 +66,17 @@ fn insert_block<T: Drop>(blocks: &mut Vec<Block<T>>, at: usize, block: Block<T>)
     }
 }
 
+/// Appends elements, in the room that is there.
+fn extend<T: Copy>(items: &mut Vec<T>, more: &[T])
+    requires { length items.old.items + length more.now ≤ vec_capacity items.old }
+    ensures items { items.new.items ≡ items.old.items ++ more.now }
+    ensures room { vec_capacity items.old ≤ vec_capacity items.new }
+{
+    if items.extend_from_slice(more).is_err() {
+        unreachable!()
+    }
+}
+
 impl<T: Copy + Drop> Blocks<T> {
     /// No blocks. It takes no memory.
     pub(crate) fn new(alloc: Global) -> Blocks<T>
@@ -227,6 +238,22 @@ impl<T: Copy + Drop> Blocks<T> {
         while let Some(block) = self.used.pop() {
             self.spare.push_reserved(block);
         }
+    }
+
+    /// Appends all elements to a list, in the room that is there, and forgets them.
+    pub(crate) fn lift(&mut self, items: &mut Vec<T>)
+        requires { length items.old.items + length (joined self.old.used)
+            ≤ vec_capacity items.old }
+        ensures items { items.new.items ≡ items.old.items ++ joined self.old.used }
+        ensures room { vec_capacity items.old ≤ vec_capacity items.new }
+        ensures used { self.new.used ≡ [] }
+        ensures count { self.new.count ≡ self.old.count }
+    {
+        let used = self.used();
+        for block in used {
+            extend(items, block.items());
+        }
+        self.clear();
     }
 
     /// Deals elements out into blocks that are not full.

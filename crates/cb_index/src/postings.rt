@@ -181,33 +181,6 @@ fn take_one(kind: IndexKind, archive: &Archive, one: Entry, blocks: &mut Blocks<
     });
 }
 
-/// Appends entries, in the room that is there.
-fn extend(entries: &mut Vec<Entry>, more: &[Entry])
-    requires { length entries.old.items + length more.now ≤ vec_capacity entries.old }
-    ensures items { entries.new.items ≡ entries.old.items ++ more.now }
-    ensures room { vec_capacity entries.old ≤ vec_capacity entries.new }
-{
-    if entries.extend_from_slice(more).is_err() {
-        unreachable!()
-    }
-}
-
-/// Appends all entries of the blocks, in the room that is there, and empties these.
-fn lift(blocks: &mut Blocks<Entry>, entries: &mut Vec<Entry>)
-    requires { length entries.old.items + length (joined blocks.old.used)
-        ≤ vec_capacity entries.old }
-    ensures items { entries.new.items ≡ entries.old.items ++ joined blocks.old.used }
-    ensures room { vec_capacity entries.old ≤ vec_capacity entries.new }
-    ensures used { blocks.new.used ≡ [] }
-    ensures count { blocks.new.count ≡ blocks.old.count }
-{
-    let used = blocks.used();
-    for block in used {
-        extend(entries, block.items());
-    }
-    blocks.clear();
-}
-
 /// Sorts all entries and others, and deals them out into blocks.
 fn sort_in(kind: IndexKind, archive: &Archive, more: &mut Vec<Entry>, blocks: &mut Blocks<Entry>)
     requires room { length more.old.items + length (joined blocks.old.used)
@@ -219,7 +192,7 @@ fn sort_in(kind: IndexKind, archive: &Archive, more: &mut Vec<Entry>, blocks: &m
     ensures room { vec_capacity more.old ≤ vec_capacity more.new }
     ensures count { blocks.new.count ≡ blocks.old.count }
 {
-    lift(blocks, more);
+    blocks.lift(more);
     sort(kind, archive, more);
     blocks.deal(more.as_slice());
 }
@@ -402,7 +375,7 @@ impl Postings {
     {
         let names = Names { files };
         self.scratch.truncate(0);
-        lift(&mut self.blocks, &mut self.scratch);
+        self.blocks.lift(&mut self.scratch);
         self.scratch.retain(
             |entry: &Entry| -> bool
                 ensures { result ≡ not (is_among (names_of names.entry.files.now) entry.now.name) }

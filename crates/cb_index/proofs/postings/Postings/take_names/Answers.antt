@@ -10,10 +10,10 @@ use Rattle.cb_index.proofs.postings.Postings.take_names.Goals as goal
 -- no more entries stay than were held
 pub deal-requires-clause-room : goal.deal-requires-clause-room
 deal-requires-clause-room c =
-    let items : c.lift.new.entries.items ≡ joined c.self.inside.blocks.used =
+    let items : c.lift.new.items.items ≡ joined c.self.inside.blocks.used =
     c.lift.ensures.items
     ∙ ap (λ l. l ++ joined c.self.inside.blocks.used) c.truncate.ensures.items in
-    let lifted : length c.lift.new.entries.items ≡ length (joined c.self.inside.blocks.used) =
+    let lifted : length c.lift.new.items.items ≡ length (joined c.self.inside.blocks.used) =
     ap length items in
     let kept : length c.as_slice.result.now ≡ length c.retain.new.self.items =
     ap length c.as_slice.ensures.value in
@@ -23,7 +23,7 @@ deal-requires-clause-room c =
       kept,
       c.retain.ensures.bound,
       c.retain.new.self.ok.0,
-      c.lift.new.entries.ok.0,
+      c.lift.new.items.ok.0,
       c.self.invariant.1,
       c.lift.ensures.count,
     )
