@@ -1,14 +1,13 @@
 -- File names that ascend.
 use Rattle.std.proofs.Common.{◌≡◌, ◌∙◌, Bool, true, false, List, [], ◌∷◌, refl, sym, ap, subst}
-use Rattle.std.proofs.Common.{filter, zero, suc, ◌<◌, length, get_or, arith}
+use Rattle.std.proofs.Common.{filter}
 use Rattle.std.proofs.lemmas.Bool.{true≢false, false≢true}
 use Rattle.std.proofs.lemmas.Cmp.{nat_list_cmp_total}
 use Rattle.std.proofs.lemmas.Map.Text.{is_eq-slice_cmp}
 use Rattle.std.specs.Prelude.{cond, not, ◌||◌, ℕ}
 use Rattle.std.specs.Cmp.Lexicographic.{slice_cmp}
 use Rattle.std.specs.List.{AllByRecursion, list_any}
-use Rattle.std.specs.List.Sorted.{IsPartitionedBy}
-use Rattle.std.specs.Ordering.{is_eq, is_gt, is_lt, nat_cmp, ordering_reverse}
+use Rattle.std.specs.Ordering.{is_eq, is_gt, nat_cmp, ordering_reverse}
 use Rattle.std.specs.Str.{bytes_eq}
 use Rattle.std.specs.declared.cmp.Ordering.{Ordering}
 use Rattle.std.specs.declared.cmp.Ordering.TheVariants.{Less, Equal, Greater}
@@ -119,34 +118,3 @@ ascending_filter a p (s ∷ shown) up =
       )
       | false ↦ ascending_filter a p shown up.1
     ]
-
--- ---- files that a name parts
-module _ (a : Archived) (name : List ℕ) where
-  -- the file of a version is below the name
-  abbrev pub below : Shown → Bool
-  below s = is_lt (Names (name_of a s.name) name)
-
-  less_from : (o : Ordering) → is_lt o ≡ true → o ≡ Less
-  less_from Less is = refl
-  less_from Equal is = absurd (false≢true is)
-  less_from Greater is = absurd (false≢true is)
-
-  later_below : (s d : Shown) (shown : List Shown) (j : ℕ)
-      → AllByRecursion (λ (t : Shown). Names (name_of a s.name) (name_of a t.name) ≡ Less) shown
-      → j < length shown → below (get_or shown j d) ≡ true → below s ≡ true
-  later_below s d [] j up less is = absurd (omega (arith, less))
-  later_below s d (t ∷ shown) zero up less is =
-      ap is_lt (nat_list_cmp_total.trans (name_of a s.name) (name_of a t.name) name up.0
-      (less_from (Names (name_of a t.name) name) is))
-  later_below s d (t ∷ shown) (suc j) up less is =
-      later_below s d shown j up.1 (omega (arith, less)) is
-
-  pub below_parted : (shown : List Shown) → AreAscending a shown → IsPartitionedBy below shown
-  unfolding AreOrdered
-  below_parted [] up i j d upward less is = absurd (omega (arith, less))
-  below_parted (s ∷ shown) up zero zero d upward less is = is
-  below_parted (s ∷ shown) up zero (suc j) d upward less is =
-      later_below s d shown j up.0 (omega (arith, less)) is
-  below_parted (s ∷ shown) up (suc i) zero d upward less is = absurd (omega (arith, upward))
-  below_parted (s ∷ shown) up (suc i) (suc j) d upward less is =
-      below_parted shown up.1 i j d (omega (arith, upward)) (omega (arith, less)) is

@@ -1,7 +1,7 @@
 -- A search that gives the least of what is behind the last one gives all in order.
 use Rattle.std.proofs.Common.{◌≡◌, ◌∙◌, ℕ, Bool, true, false, List, [], ◌∷◌, ◌++◌, Some, None}
-use Rattle.std.proofs.Common.{◌+◌, refl, sym, ap, subst, filter, length, map, append-nil}
-use Rattle.std.proofs.Common.{append_assoc, arith, ◌≤◌, ◌<◌, suc, get_or, drop, drop-cons}
+use Rattle.std.proofs.Common.{refl, sym, ap, subst, filter, length, map, append-nil}
+use Rattle.std.proofs.Common.{append_assoc, arith, ◌≤◌}
 use Rattle.std.proofs.lemmas.Bool.{true≢false}
 use Rattle.std.proofs.lemmas.Cmp.{nat_list_cmp_total, tied_itself}
 use Rattle.std.proofs.lemmas.List.Elements.{filter-append}
@@ -19,7 +19,7 @@ use Rattle.cb_index.specs.Scanned.{Scanned, facts_of}
 use Rattle.cb_index.specs.Archived.{Archived}
 use Rattle.cb_index.specs.Entries.{file_key, sort_key}
 use Rattle.cb_index.specs.Files.{AreAscending}
-use Rattle.cb_index.specs.Held.{AreRising, all_entries, entries_of}
+use Rattle.cb_index.specs.Held.{AreRising, all_entries}
 use Rattle.cb_index.specs.Kinds.{def_kind, keyer_of, lister_of}
 use Rattle.cb_index.specs.Orders.{numbered, prefixed}
 use Rattle.cb_index.specs.steps.DefSearch.{earlier_of, first_among}
@@ -335,20 +335,6 @@ module _ (s : DefSearch) where
   All shown = all_entries (lister_of (def_kind s.by_tag_name)) s.archive.now shown
 
   -- one version after another
-  pub among_next : (before : Option Entry) (shown : List Shown) (i : ℕ) (d : Shown)
-      → i < length shown
-      → first_among s
-      (first_among s before
-      (entries_of (lister_of (def_kind s.by_tag_name)) s.archive.now (get_or shown i d)))
-      (All (drop (i + 1) shown))
-      ≡ first_among s before (All (drop i shown))
-  among_next before shown i d below =
-      let next : i + 1 ≡ suc i = omega arith in
-      let one = entries_of (lister_of (def_kind s.by_tag_name)) s.archive.now (get_or shown i d) in
-      sym (among_both before one (All (drop (i + 1) shown)))
-      ∙ ap (λ n. first_among s before (one ++ All (drop n shown))) next
-      ∙ ap (λ l. first_among s before (All l)) (sym (drop-cons shown i d below))
-
   one_seen : (before : Option Entry) (e : Entry) (seen : List Entry) → before ≡ first_of (Come seen)
       → earlier_of s before e ≡ first_of (Come (seen ++ e ∷ []))
   one_seen before e seen is =

@@ -239,7 +239,7 @@ module _ {X Y : Type 0} (g : X → List Y) where
       ∙ ap (λ n. sum_by f (g x) + n) (sym (sum_flat f xs))
 
 module _ {X : Type 0} (key : X → List ℕ) where
-  length_put : (x : X) (ys : List X) → length (put key x ys) ≡ suc (length ys)
+  pub length_put : (x : X) (ys : List X) → length (put key x ys) ≡ suc (length ys)
   unfolding put
   length_put x [] = refl
   length_put x (y ∷ ys) =

@@ -32,6 +32,7 @@ pub mod RowOrderLemmas
 pub mod RowsAscendLemmas
 pub mod RunLemmas
 pub mod SearchLemmas
+pub mod ShownListLemmas
 pub mod SortLemmas
 pub mod SortedLemmas
 pub mod SpreadLemmas

@@ -1,6 +1,6 @@
 -- The list of the versions that are shown.
-use Rattle.std.proofs.Common.{◌≡◌, ◌∙◌, ◌≤◌, ◌<◌, ◌+◌, ℕ, zero, suc, Bool, true, false, List, []}
-use Rattle.std.proofs.Common.{◌∷◌, ◌++◌, refl, sym, ap, append-nil, subst, length, get_or, cond}
+use Rattle.std.proofs.Common.{◌≡◌, ◌∙◌, ◌<◌, ◌+◌, ℕ, zero, suc, Bool, true, false, List, []}
+use Rattle.std.proofs.Common.{◌∷◌, ◌++◌, drop, refl, sym, ap, append-nil, subst, length, get_or, cond}
 use Rattle.std.proofs.Common.{arith, ⊎_elim}
 use Rattle.std.proofs.lemmas.Bool.{and_parts, cases_Bool, true≢false, false≢true}
 use Rattle.std.proofs.lemmas.Bool.Decides.{nat_tests}
@@ -28,6 +28,8 @@ use Rattle.cb_index.specs.declared.entry.Shown.{Shown}
 use Rattle.cb_index.proofs.InOrderLemmas.{in_order_agree, same_order}
 use Rattle.cb_index.proofs.AscendLemmas.{After, ascending_put, ascending_sorted, before_all, others}
 use Rattle.cb_index.proofs.AscendLemmas.{split_or, strict}
+use Rattle.cb_index.specs.steps.Bounds.{is_below}
+use Rattle.cb_index.proofs.ShownListLemmas.{above_is_below}
 
 abbrev Names : List ℕ → List ℕ → Ordering
 Names = slice_cmp nat_cmp
@@ -208,9 +210,6 @@ module _ (a : Archived) where
         ∙ order_by_name (old ++ s ∷ []) apart
 
 -- ---- whether a file is shown
-pub not_below : (n m : ℕ) → m ≤ n → nat_lt n m ≡ false
-not_below n m past = grind (arith, nat_tests)
-
 greater_other : (x y : List ℕ) → is_gt (Names x y) ≡ true → bytes_eq x y ≡ false
 greater_other x y above = by_order (Names x y) refl above
   where
@@ -220,11 +219,8 @@ greater_other x y above = by_order (Names x y) refl above
     by_order Greater is gt = sym (is_eq-slice_cmp x y) ∙ ap is_eq is
 
 module _ (a : Archived) (s : Shown) where
-  abbrev is_here : Shown → Bool
+  abbrev pub is_here : Shown → Bool
   is_here t = bytes_eq (name_of a s.name) (name_of a t.name)
-
-  abbrev is_above : Shown → Bool
-  is_above t = is_gt (Names (name_of a s.name) (name_of a t.name))
 
   none_after : (shown : List Shown) → AllByRecursion (After a s s) shown
       → list_any is_here shown ≡ false
@@ -233,41 +229,33 @@ module _ (a : Archived) (s : Shown) where
       ap (λ b. b || list_any is_here shown) (bytes_other (name_of a s.name) (name_of a t.name) up.0)
       ∙ none_after shown up.1
 
-  -- what stands at the place of a name settles whether the name is there
-  pub here_is : (n : ℕ) (shown : List Shown) (d : Shown) → n < length shown → AreAscending a shown
-      → AllWithin (λ t. is_above t ≡ true) shown 0 n
-      → AllWithin (λ t. is_above t ≡ false) shown n (length shown)
-      → is_here (get_or shown n d) ≡ list_any is_here shown
+  -- files whose names are below have other names
+  pub any_from : (n : ℕ) (shown : List Shown)
+      → AllWithin (λ t. is_below a (name_of a s.name) t ≡ true) shown 0 n
+      → list_any is_here shown ≡ list_any is_here (drop n shown)
+  any_from zero shown before = refl
+  any_from (suc n) [] before = refl
+  any_from (suc n) (t ∷ shown) before =
+      ap (λ b. b || list_any is_here shown)
+      (greater_other (name_of a s.name) (name_of a t.name)
+      (above_is_below (name_of a s.name) (name_of a t.name)
+      ∙ before 0 t (omega arith) (omega arith)))
+      ∙ any_from n shown (λ k e low below. before (suc k) e (omega arith) (omega (arith, below)))
+
+  -- the first that is not below settles whether the name is there
+  pub first_settles : (t : Shown) (more : List Shown) → AreAscending a (t ∷ more)
+      → is_below a (name_of a s.name) t ≡ false
+      → is_here t ≡ list_any is_here (t ∷ more)
   unfolding AreOrdered
-  here_is n [] d within up before after = absurd (omega (arith, within))
-  here_is zero (t ∷ shown) d within up before after =
-      ⊎_elim (λ is. is ∙ sym (ap (λ b. b || list_any is_here shown) is))
+  first_settles t more up isnt_below =
+      ⊎_elim (λ is. is ∙ sym (ap (λ b. b || list_any is_here more) is))
       (λ isnt.
       let less =
       strict a s (name_of a s.name) (name_of a t.name)
-      (ap not (after 0 t (omega arith) (omega arith))) isnt in
-      isnt ∙ sym (ap (λ b. b || list_any is_here shown) isnt
-      ∙ none_after shown (before_all a s t shown less up.0)))
+      (ap not (above_is_below (name_of a s.name) (name_of a t.name) ∙ isnt_below)) isnt in
+      isnt ∙ sym (ap (λ b. b || list_any is_here more) isnt
+      ∙ none_after more (before_all a s t more less up.0)))
       (cases_Bool (is_here t))
-  here_is (suc n) (t ∷ shown) d within up before after =
-      here_is n shown d (omega (arith, within)) up.1
-      (λ k e low below. before (suc k) e (omega arith) (omega (arith, below)))
-      (λ k e low below. after (suc k) e (omega (arith, low)) (omega (arith, below)))
-      ∙ sym (ap (λ b. b || list_any is_here shown)
-      (greater_other (name_of a s.name) (name_of a t.name)
-      (before 0 t (omega arith) (omega arith))))
-
-  -- where all go before the name it is not there
-  pub none_here : (n : ℕ) (shown : List Shown) → length shown ≤ n
-      → AllWithin (λ t. is_above t ≡ true) shown 0 n
-      → list_any is_here shown ≡ false
-  none_here n [] past before = refl
-  none_here zero (t ∷ shown) past before = absurd (omega (arith, past))
-  none_here (suc n) (t ∷ shown) past before =
-      ap (λ b. b || list_any is_here shown)
-      (greater_other (name_of a s.name) (name_of a t.name) (before 0 t (omega arith) (omega arith)))
-      ∙ none_here n shown (omega (arith, past))
-      (λ k e low below. before (suc k) e (omega arith) (omega (arith, below)))
 
 -- ---- numbers that are there
 module _ (a : Archived) where

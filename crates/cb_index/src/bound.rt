@@ -1,10 +1,10 @@
-//! Bounds among the entries of an index.
+//! Bounds among the entries of an index, and among files by name.
 ghost use Rattle.std.specs.Prelude.{◌≡◌};
 ghost use Rattle.cb_index.specs.Entries.{key_cmp};
 ghost use Rattle.cb_index.specs.Kinds.{keyer_of};
 
 use crate::archive::Archive;
-use crate::entry::Entry;
+use crate::entry::{Entry, Shown};
 use crate::kind::IndexKind;
 use crate::order::compare;
 use crate::orders::compare_key_bytes;
@@ -65,5 +65,39 @@ impl<'a, 'k> Bound<Entry> for EntryBound<'a, 'k> {
                 compare_key(kind, archive, prefix, key, one) != Ordering::Less
             }
         }
+    }
+}
+
+/// What stands behind the files whose names are below a name.
+#[derive(Clone, Copy)]
+pub(crate) struct BeforeName<'a, 'n> {
+    pub(crate) archive: &'a Archive,
+    pub(crate) name: &'n [u8],
+}
+
+impl<'a, 'n> Bound<Shown> for BeforeName<'a, 'n> {
+    ghost use Rattle.cb_index.specs.steps.Bounds.{is_below};
+
+    ghost is_ahead = { λ b. is_below b.archive.now b.name.now };
+
+    fn is_ahead(&self, one: Shown) -> bool {
+        self.archive.name(one.name).cmp(self.name) == Ordering::Less
+    }
+}
+
+/// What stands behind the files whose names are not above a name.
+#[derive(Clone, Copy)]
+pub(crate) struct AfterName<'a, 'n> {
+    pub(crate) archive: &'a Archive,
+    pub(crate) name: &'n [u8],
+}
+
+impl<'a, 'n> Bound<Shown> for AfterName<'a, 'n> {
+    ghost use Rattle.cb_index.specs.steps.Bounds.{is_up_to};
+
+    ghost is_ahead = { λ b. is_up_to b.archive.now b.name.now };
+
+    fn is_ahead(&self, one: Shown) -> bool {
+        self.archive.name(one.name).cmp(self.name) != Ordering::Greater
     }
 }

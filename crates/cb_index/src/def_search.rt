@@ -16,6 +16,7 @@ ghost use Rattle.cb_index.specs.Files.{AreAscending};
 ghost use Rattle.cb_index.specs.Held.{all_entries, entries_of};
 ghost use Rattle.cb_index.specs.Kinds.{def_kind, keyer_of, lister_of};
 ghost use Rattle.cb_index.specs.declared.entry.Entry.{Entry};
+ghost use Rattle.cb_index.specs.steps.ShownIn.{shown_in};
 ghost use Rattle.cb_index.specs.steps.ToCome.{GoesOn, earlier, first_of, is_asked, is_later};
 ghost use Rattle.cb_index.specs.steps.ToCome.{to_come};
 
@@ -24,6 +25,7 @@ use crate::entry::{Entry, Shown};
 use crate::kind::IndexKind;
 use crate::order::compare;
 use crate::orders::{compare_key_bytes, def_entry, defs_of, prefix};
+use crate::shown_files::ShownFiles;
 use std::cmp::Ordering;
 
 /// The kind of index of definitions, by tag name or else by name.
@@ -43,13 +45,13 @@ pub(crate) fn def_kind(by_tag_name: bool) -> IndexKind
 pub(crate) struct DefSearch<'a, 'p> {
     by_tag_name: bool,
     archive: &'a Archive,
-    shown: &'a [Shown],
+    shown: ShownFiles<'a>,
     key: Option<&'p [u8]>,
     last: Option<Entry>,
     ghost goes_on: { GoesOn (def_kind by_tag_name) archive.now (option_copied key)
-        (all_entries (lister_of (def_kind by_tag_name)) archive.now shown.now) },
-    ghost few: { length (all_entries (lister_of (def_kind by_tag_name)) archive.now shown.now)
-        < 2 ^ 64 },
+        (all_entries (lister_of (def_kind by_tag_name)) archive.now (shown_in shown)) },
+    ghost few: { length (all_entries (lister_of (def_kind by_tag_name)) archive.now
+        (shown_in shown)) < 2 ^ 64 },
 }
 
 /// Whether an entry comes after the last one, if there is one.
@@ -92,15 +94,15 @@ impl<'a, 'p> DefSearch<'a, 'p> {
     pub(crate) fn new(
         by_tag_name: bool,
         archive: &'a Archive,
-        shown: &'a [Shown],
+        shown: ShownFiles<'a>,
         key: Option<&'p [u8]>,
     ) -> DefSearch<'a, 'p>
-        requires ascending { AreAscending archive.now shown.now }
-        requires few { length (all_entries (lister_of (def_kind by_tag_name)) archive.now shown.now)
-            < 2 ^ 64 }
+        requires ascending { AreAscending archive.now (shown_in shown) }
+        requires few { length (all_entries (lister_of (def_kind by_tag_name)) archive.now
+            (shown_in shown)) < 2 ^ 64 }
         ensures { search_left result ≡ to_come (def_kind by_tag_name) archive.now
             (option_copied key.entry) None
-            (all_entries (lister_of (def_kind by_tag_name)) archive.now shown.now) }
+            (all_entries (lister_of (def_kind by_tag_name)) archive.now (shown_in shown.entry)) }
     {
         DefSearch {
             by_tag_name,
@@ -146,10 +148,11 @@ impl<'a, 'p> DefSearch<'a, 'p> {
     fn first(&self) -> Option<Entry>
         ensures { result ≡ first_of (search_left self.now) }
     {
-        let shown = self.shown;
+        let mut left = self.shown;
         let mut first = None;
-        for one in shown {
-            first = self.first_in(*one, first);
+        while let Some((one, rest)) = left.split_first() {
+            left = rest;
+            first = self.first_in(one, first);
         }
         first
     }

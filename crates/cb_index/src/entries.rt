@@ -3,14 +3,14 @@ ghost use Rattle.std.specs.Iterator.{YieldsFirstBy, item_count};
 ghost use Rattle.cb_index.specs.steps.Left.{entries_left, shown_file};
 
 use crate::archive::Archive;
-use crate::entry::Shown;
+use crate::shown_files::ShownFiles;
 use cb_scan::{Facts, Source};
 
 /// Files with what is found in them. They take no memory.
 #[derive(Clone, Copy)]
 pub struct Entries<'a> {
     pub(crate) archive: &'a Archive,
-    pub(crate) shown: &'a [Shown],
+    pub(crate) shown: ShownFiles<'a>,
 }
 
 impl<'a> Iterator for Entries<'a> {

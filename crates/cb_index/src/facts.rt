@@ -23,6 +23,7 @@ ghost use Rattle.cb_index.specs.steps.Left.{
   walk_left,
 };
 ghost use Rattle.cb_index.specs.steps.Runs.{run_items};
+ghost use Rattle.cb_index.specs.steps.ShownIn.{shown_in};
 ghost use Rattle.cb_index.specs.declared.entry.Entry.{Entry};
 
 use crate::archive::{Archive, Version};
@@ -33,6 +34,7 @@ use crate::kind::FactKind;
 use crate::repeats::take_given;
 use crate::rows::{FactRow, FactSpot, fact_at};
 use crate::run::Run;
+use crate::shown_files::ShownFiles;
 
 /// The facts of one key in one version that are still to come.
 #[derive(Clone, Copy)]
@@ -47,7 +49,7 @@ pub(crate) enum Groups<'a, 'p> {
     /// In the entries of an index.
     Held(Run<'a, Entry>),
     /// By a search for the key in each of these files.
-    Searched(&'p [u8], &'a [Shown]),
+    Searched(&'p [u8], ShownFiles<'a>),
 }
 
 /// The facts of a key that are still to come: those of the group, and then those of the others.
@@ -154,7 +156,7 @@ fn next_group<'a, 'p>(
         Groups::Searched(key, shown) => {
             let (one, rest) = shown.split_first()?;
             Some(GroupStep {
-                group: search_group(sort, archive, key, *one),
+                group: search_group(sort, archive, key, one),
                 rest: Groups::Searched(key, rest),
             })
         }
@@ -215,7 +217,11 @@ fn next_spot<'a, 'p>(walk: &mut Walk<'a, 'p>, all: bool) -> Option<FactSpot<'a>>
 
 impl<'a, 'p> FactRows<'a, 'p> {
     /// The facts of entries.
-    pub(crate) fn held(sort: FactKind, archive: &'a Archive, entries: Run<'a, Entry>) -> FactRows<'a, 'p>
+    pub(crate) fn held(
+        sort: FactKind,
+        archive: &'a Archive,
+        entries: Run<'a, Entry>,
+    ) -> FactRows<'a, 'p>
         ensures rows { facts_left result ≡ facts_in sort archive.now (run_items entries.entry) }
         ensures new { facts_new result
             ≡ given_in false sort archive.now (run_items entries.entry) }
@@ -237,14 +243,14 @@ impl<'a, 'p> FactRows<'a, 'p> {
         sort: FactKind,
         archive: &'a Archive,
         key: &'p [u8],
-        shown: &'a [Shown],
+        shown: ShownFiles<'a>,
     ) -> FactRows<'a, 'p>
         ensures rows { facts_left result
-            ≡ flat_map (searched_at true sort archive.now key.now) shown.now }
+            ≡ flat_map (searched_at true sort archive.now key.now) (shown_in shown.entry) }
         ensures new { facts_new result
-            ≡ flat_map (searched_at false sort archive.now key.now) shown.now }
+            ≡ flat_map (searched_at false sort archive.now key.now) (shown_in shown.entry) }
         ensures counted { facts_counted result
-            ≡ sum_by (searched_count sort archive.now key.now) shown.now }
+            ≡ sum_by (searched_count sort archive.now key.now) (shown_in shown.entry) }
     {
         FactRows {
             walk: Walk {
@@ -292,12 +298,14 @@ fn count_in(sort: FactKind, archive: &Archive, key: &[u8], shown: Shown) -> u32
 }
 
 /// How many rows the facts of a key in files have.
-fn count_searched(sort: FactKind, archive: &Archive, key: &[u8], shown: &[Shown]) -> u128
-    ensures { result ≡ sum_by (searched_count sort archive.now key.now) shown.now }
+fn count_searched(sort: FactKind, archive: &Archive, key: &[u8], shown: ShownFiles<'_>) -> u128
+    ensures { result ≡ sum_by (searched_count sort archive.now key.now) (shown_in shown.entry) }
 {
     let mut count = 0;
-    for one in shown {
-        count += count_in(sort, archive, key, *one) as u128;
+    let mut left = shown;
+    while let Some((one, rest)) = left.split_first() {
+        left = rest;
+        count += count_in(sort, archive, key, one) as u128;
     }
     count
 }

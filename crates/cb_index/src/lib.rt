@@ -21,6 +21,7 @@ mod names;
 mod rows;
 mod shelf;
 mod shown_files;
+mod shown_list;
 mod tags;
 mod totals;
 

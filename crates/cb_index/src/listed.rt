@@ -1,4 +1,4 @@
-//! The list of the versions that are shown, by file name.
+//! Lists of versions under file names.
 ghost use Rattle.std.specs.Prelude.{
   ◌≡◌,
   ◌+◌,
@@ -36,54 +36,14 @@ ghost use Rattle.cb_index.specs.Files.{
   shown_under,
 };
 ghost use Rattle.cb_index.specs.Names.{AreSingle};
+ghost use Rattle.cb_index.specs.steps.ShownIn.{shown_in};
 ghost use Rattle.cb_index.specs.declared.entry.Shown.{Shown};
 
 use crate::archive::Archive;
 use crate::bytes::compare_by_words;
 use crate::entry::Shown;
+use crate::shown_files::ShownFiles;
 use std::cmp::Ordering;
-
-/// Where a version is put among those that are shown, by file name.
-fn place_for(archive: &Archive, name: u32, shown: &[Shown]) -> usize
-    requires { AreAscending archive.now shown.now }
-    ensures bound { result ≤ length shown.now }
-    ensures parted { IsPartitionPoint
-        (λ s. is_gt (slice_cmp nat_cmp (name_of archive.now name)
-        (name_of archive.now s.name)) ≡ true)
-        (λ s. is_gt (slice_cmp nat_cmp (name_of archive.now name)
-        (name_of archive.now s.name)) ≡ false)
-        shown.now result }
-{
-    shown.partition_point(
-        |s: &Shown| -> bool
-            ensures { result ≡ is_gt (slice_cmp nat_cmp (name_of archive.entry.now name)
-                (name_of archive.entry.now s.now.name)) }
-        { archive.name(name).cmp(archive.name(s.name)) == Ordering::Greater },
-    )
-}
-
-/// Inserts in the room that is there.
-fn insert_shown(shown: &mut Vec<Shown>, at: usize, one: Shown)
-    requires bound { at ≤ length shown.old.items }
-    requires room { length shown.old.items < vec_capacity shown.old }
-    ensures items { shown.new.items ≡ take at shown.old.items ++ one ∷ drop at shown.old.items }
-    ensures room { vec_capacity shown.old ≤ vec_capacity shown.new }
-{
-    if shown.insert(at, one).is_err() {
-        unreachable!()
-    }
-}
-
-/// Puts a version among those that are shown, by file name.
-pub(crate) fn put_shown(archive: &Archive, one: Shown, shown: &mut Vec<Shown>)
-    requires ascending { AreAscending archive.now shown.old.items }
-    requires room { length shown.old.items < vec_capacity shown.old }
-    ensures items { shown.new.items ≡ put (shown_name archive.now) one shown.old.items }
-    ensures room { vec_capacity shown.old ≤ vec_capacity shown.new }
-{
-    let at = place_for(archive, one.name, shown.as_slice());
-    insert_shown(shown, at, one);
-}
 
 fn numbers(shown: Shown) -> [u32; 2]
     ensures { result ≡ shown.name ∷ shown.version ∷ [] }
@@ -103,7 +63,7 @@ fn compare_shown(archive: &Archive, a: Shown, b: Shown) -> Ordering
 }
 
 /// Puts versions in order by file name.
-fn sort_shown(archive: &Archive, shown: &mut [Shown])
+pub(crate) fn sort_shown(archive: &Archive, shown: &mut [Shown])
     requires { AreApart archive.now shown.old }
     ensures { shown.new ≡ in_order (shown_name archive.now) shown.old }
 {
@@ -115,37 +75,17 @@ fn sort_shown(archive: &Archive, shown: &mut [Shown])
     );
 }
 
-/// Puts versions among others, by file name, in the room that is there: none, one at its place,
-/// more by one sort. No two of them have one file name. It takes no memory.
-pub(crate) fn put_all_shown(archive: &Archive, news: &[Shown], shown: &mut Vec<Shown>)
-    requires ascending { AreAscending archive.now shown.old.items }
-    requires apart { AreApart archive.now (shown.old.items ++ news.now) }
-    requires room { length shown.old.items + length news.now ≤ vec_capacity shown.old }
-    ensures items { shown.new.items
-        ≡ in_order (shown_name archive.now) (shown.old.items ++ news.now) }
-    ensures room { vec_capacity shown.old ≤ vec_capacity shown.new }
-{
-    if news.is_empty() {
-        return;
-    }
-    if let [one] = news {
-        put_shown(archive, *one, shown);
-        return;
-    }
-    if shown.extend_from_slice(news).is_err() {
-        unreachable!()
-    }
-    sort_shown(archive, shown.as_mut_slice());
-}
-
 /// Whether a file of this name is shown, by binary search.
-pub(crate) fn has_name(archive: &Archive, name: u32, shown: &[Shown]) -> bool
-    requires { AreAscending archive.now shown.now }
+fn has_name(archive: &Archive, name: u32, shown: ShownFiles<'_>) -> bool
+    requires { AreAscending archive.now (shown_in shown) }
     ensures { result ≡ list_any (λ (t : Shown). bytes_eq (name_of archive.now name)
-        (name_of archive.now t.name)) shown.now }
+        (name_of archive.now t.name)) (shown_in shown.entry) }
 {
-    let at = place_for(archive, name, shown);
-    at < shown.len() && archive.name(name) == archive.name(shown[at].name)
+    let name = archive.name(name);
+    match shown.from_name(archive, name).split_first() {
+        Some((one, _)) => name == archive.name(one.name),
+        None => false,
+    }
 }
 
 /// How many versions stand before the one under the number of a name; all where none does. A place
@@ -161,26 +101,10 @@ pub(crate) fn place_of(name: u32, likely: usize, listed: &[Shown]) -> usize
     listed.iter().take_while(|s| s.name != name).count()
 }
 
-/// Takes what is shown under the number of a name away. It is looked for by its file name.
-pub(crate) fn take_under(archive: &Archive, name: u32, shown: &mut Vec<Shown>) -> Option<Shown>
-    requires { AreAscending archive.now shown.old.items }
-    ensures value { result ≡ shown_under name shown.old.items }
-    ensures items { shown.new.items
-        ≡ filter (λ (s : Shown). not (nat_eq s.name name)) shown.old.items }
-    ensures room { vec_capacity shown.old ≤ vec_capacity shown.new }
-{
-    let listed = shown.as_slice();
-    let at = place_of(name, place_for(archive, name, listed), listed);
-    if at == listed.len() {
-        return None;
-    }
-    Some(shown.remove(at))
-}
-
 /// Whether a file of the name of one of these is shown.
-pub(crate) fn has_any_name(archive: &Archive, news: &[Shown], shown: &[Shown]) -> bool
-    requires { AreAscending archive.now shown.now }
-    ensures { result ≡ list_any (is_shown archive.now shown.now) news.now }
+pub(crate) fn has_any_name(archive: &Archive, news: &[Shown], shown: ShownFiles<'_>) -> bool
+    requires { AreAscending archive.now (shown_in shown) }
+    ensures { result ≡ list_any (is_shown archive.now (shown_in shown.entry)) news.now }
 {
     for one in news {
         if has_name(archive, one.name, shown) {

@@ -25,7 +25,7 @@ pub(crate) struct Place {
 }
 
 /// How many elements stand ahead of a bound.
-fn count_ahead<T: Copy, B: Bound<T>>(bound: &B, items: &[T]) -> usize
+pub(crate) fn count_ahead<T: Copy, B: Bound<T>>(bound: &B, items: &[T]) -> usize
     requires { IsPartitionedBy (B.is_ahead bound.now) items.now }
     ensures bound { result ≤ length items.now }
     ensures parted { IsPartitionPoint (λ e. B.is_ahead bound.now e ≡ true)

@@ -103,7 +103,11 @@ struct Step<'a> {
 }
 
 /// The first row of some entries.
-fn first_row<'a>(sort: Option<FactKind>, archive: &'a Archive, entries: Run<'a, Entry>) -> Option<Step<'a>>
+fn first_row<'a>(
+    sort: Option<FactKind>,
+    archive: &'a Archive,
+    entries: Run<'a, Entry>,
+) -> Option<Step<'a>>
     ensures { MatchOption result (rows_in sort archive.now (run_items entries.entry) ≡ [])
         (λ r. rows_in sort archive.now (run_items entries.entry)
         ≡ r.row ∷ (entry_rows r.first ++ rows_in sort archive.now (run_items r.entries))) }
@@ -127,7 +131,11 @@ fn first_row<'a>(sort: Option<FactKind>, archive: &'a Archive, entries: Run<'a, 
 }
 
 impl<'a> Rows<'a> {
-    pub(crate) fn new(sort: Option<FactKind>, archive: &'a Archive, entries: Run<'a, Entry>) -> Rows<'a>
+    pub(crate) fn new(
+        sort: Option<FactKind>,
+        archive: &'a Archive,
+        entries: Run<'a, Entry>,
+    ) -> Rows<'a>
         ensures { rows_left result ≡ rows_in sort archive.now (run_items entries.entry) }
     {
         Rows {

@@ -68,11 +68,11 @@ use crate::entry::Shown;
 use crate::facts::FactRows;
 use crate::index::{Index, put_in_each, reserve_each, take_from_each, take_names_from_each};
 use crate::kind::{FactKind, IndexKind};
-use crate::listed::{are_there, ascend, has_any_name, put_all_shown, take_under};
+use crate::listed::{are_there, ascend, has_any_name};
 use crate::memory::OutOfMemory;
-use crate::names::Names;
 use crate::room::Room;
 use crate::shown_files::ShownFiles;
+use crate::shown_list::ShownList;
 use crate::tags::{Defs, TagRows};
 use crate::totals::{Totals, totals_of};
 use cb_scan::Profile;
@@ -91,7 +91,7 @@ const FEW: usize = 8;
 #[derive(Drop)]
 pub struct Shelf {
     archive: Archive,
-    shown: Vec<Shown>,
+    shown: ShownList,
     indexes: [Index; 5],
     totals: Totals,
     room: Room,
@@ -106,7 +106,7 @@ impl Model for Shelf {
 
     ghost view = { λ s. record {
       archive = s.archive;
-      shown = s.shown.items;
+      shown = s.shown.files;
       turns = s.turns;
       entry_room = s.room.entries;
       def_room = s.room.defs;
@@ -114,9 +114,9 @@ impl Model for Shelf {
       call_room = s.room.calls;
     } };
 
-    ghost invariant = { λ s. AreKept s.archive s.shown.items s.indexes
-        × AreTotals s.archive s.shown.items s.totals
-        × AreWithin s.shown.items (vec_capacity s.shown) s.totals s.room s.indexes };
+    ghost invariant = { λ s. AreKept s.archive s.shown.files s.indexes
+        × AreTotals s.archive s.shown.files s.totals
+        × AreWithin s.shown.files s.shown.room s.totals s.room s.indexes };
 }
 
 /// The place of an index among the five.
@@ -166,7 +166,7 @@ impl Shelf {
     {
         Shelf {
             archive: Archive::new(alloc, profile),
-            shown: Vec::new(alloc),
+            shown: ShownList::new(alloc),
             indexes: [
                 Index::new(alloc, IndexKind::DefsByName),
                 Index::new(alloc, IndexKind::DefsByTagName),
@@ -204,9 +204,7 @@ impl Shelf {
         ensures there { AllByRecursion (IsThere self.now.archive) (shown_in result) }
         ensures ascending { AreAscending self.now.archive (shown_in result) }
     {
-        ShownFiles {
-            listed: self.shown.as_slice(),
-        }
+        self.shown.files()
     }
 
     /// How often something was shown or hidden, up to the greatest number.
@@ -243,11 +241,7 @@ impl Shelf {
             Ok(()) => {}
             Err(_) => return Err(OutOfMemory),
         }
-        let more = (room.entries as usize).saturating_sub(self.shown.len());
-        match self.shown.reserve(more) {
-            Ok(()) => {}
-            Err(_) => return Err(OutOfMemory),
-        }
+        self.shown.reserve(room.entries)?;
         reserve_each(&mut self.indexes, &room)?;
         self.room = room;
         Ok(())
@@ -306,14 +300,14 @@ impl Shelf {
         if !are_there(&self.archive, news) || !ascend(&self.archive, news) {
             return false;
         }
-        if has_any_name(&self.archive, news, self.shown.as_slice()) {
+        if has_any_name(&self.archive, news, self.shown()) {
             return false;
         }
         read_room(self.room);
         let Some(more) = totals_of(&self.archive, news) else {
             return false;
         };
-        news.len() <= self.room.entries as usize - self.shown.len()
+        news.len() <= self.room.entries as usize - self.shown().len()
             && more.defs <= self.room.defs - self.totals.defs
             && more.uses <= self.room.uses - self.totals.uses
             && more.calls <= self.room.calls - self.totals.calls
@@ -343,7 +337,7 @@ impl Shelf {
         ensures room { KeepsRoom self.old self.new }
     {
         self.totals = self.totals.with(&self.archive, news);
-        put_all_shown(&self.archive, news, &mut self.shown);
+        self.shown.put_all(&self.archive, news);
         put_in_each(&mut self.indexes, news);
         self.turns = self.turns.saturating_add(news.len() as u64);
     }
@@ -357,7 +351,7 @@ impl Shelf {
         ensures room { KeepsRoom self.old self.new }
     {
         self.turns = self.turns.saturating_add(1);
-        let one = match take_under(&self.archive, name, &mut self.shown) {
+        let one = match self.shown.take_under(&self.archive, name) {
             Some(one) => one,
             None => return,
         };
@@ -376,7 +370,7 @@ impl Shelf {
         ensures turns { self.new.turns ≡ min (self.old.turns + length files.now) (2 ^ 64 - 1) }
         ensures room { KeepsRoom self.old self.new }
     {
-        if files.len() <= self.shown.len() / FEW {
+        if files.len() <= self.shown.files().len() / FEW {
             for file in files {
                 self.hide(file.name);
             }
@@ -394,13 +388,8 @@ impl Shelf {
         ensures turns { self.new.turns ≡ min (self.old.turns + length files.now) (2 ^ 64 - 1) }
         ensures room { KeepsRoom self.old self.new }
     {
-        let hidden = Names { files };
-        self.shown.retain(
-            |s: &Shown| -> bool
-                ensures { result ≡ not (is_among (names_of hidden.entry.files.now) s.now.name) }
-            { !hidden.has(s.name) },
-        );
-        self.totals = self.totals.of_fewer(&self.archive, self.shown.as_slice());
+        self.shown.take_names(files);
+        self.totals = self.totals.of_fewer(&self.archive, self.shown.files());
         take_names_from_each(&mut self.indexes, files);
         self.turns = self.turns.saturating_add(files.len() as u64);
     }
@@ -411,7 +400,7 @@ impl Shelf {
     {
         Entries {
             archive: &self.archive,
-            shown: self.shown.as_slice(),
+            shown: self.shown.files(),
         }
     }
 
@@ -444,7 +433,7 @@ impl Shelf {
         read_room(self.room);
         let index = self.index(def_kind(by_tag_name));
         if !index.is_flushed() {
-            let shown = self.shown.as_slice();
+            let shown = self.shown.files();
             return TagRows {
                 archive: &self.archive,
                 defs: Defs::Searched(DefSearch::new(by_tag_name, &self.archive, shown, key)),
@@ -491,7 +480,7 @@ impl Shelf {
         if index.is_flushed() {
             return FactRows::held(kind, &self.archive, index.asked(&self.archive, Some(key)));
         }
-        FactRows::searched(kind, &self.archive, key, self.shown.as_slice())
+        FactRows::searched(kind, &self.archive, key, self.shown.files())
     }
 
     /// The uses of a name, by file and place.

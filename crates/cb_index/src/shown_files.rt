@@ -1,30 +1,66 @@
 //! The files that are shown, by name.
-ghost use Rattle.std.specs.Prelude.{◌≡◌, ℕ, ◌∷◌, [], true, false, drop, length, MatchOption};
+ghost use Rattle.std.specs.Prelude.{
+  ◌≡◌,
+  ◌<◌,
+  ◌^◌,
+  ◌++◌,
+  ◌∷◌,
+  ℕ,
+  [],
+  true,
+  false,
+  drop,
+  length,
+  MatchOption,
+};
+ghost use Rattle.std.proofs.Props.{props};
 ghost use Rattle.std.specs.Cmp.Lexicographic.{slice_cmp};
+ghost use Rattle.std.specs.List.{AllByRecursion};
 ghost use Rattle.std.specs.List.Sorted.{IsPartitionPoint};
 ghost use Rattle.std.specs.Ordering.{is_lt, nat_cmp};
 ghost use Rattle.cb_index.specs.Archived.{name_of};
+ghost use Rattle.cb_index.specs.Blocks.{IsFilled, joined};
 ghost use Rattle.cb_index.specs.Files.{AreAscending};
 ghost use Rattle.cb_index.specs.declared.entry.Shown.{Shown};
 
 use crate::archive::Archive;
+use crate::block::Block;
+use crate::bound::BeforeName;
 use crate::entry::Shown;
-use std::cmp::Ordering;
+use crate::place::{count_ahead, place_of};
 
-/// Versions that are shown, from one of them on, by file name. They take no memory.
+/// Versions that are shown, from one of them on, by file name: the rest of a block, and whole
+/// blocks after it. They take no memory.
 #[derive(Clone, Copy)]
 pub struct ShownFiles<'a> {
-    pub(crate) listed: &'a [Shown],
+    first: &'a [Shown],
+    blocks: &'a [Block<Shown>],
+    ghost fits: { length (first.now ++ joined blocks.now) < 2 ^ 64 },
+    ghost filled: { AllByRecursion IsFilled blocks.now } by { Prim.hlevel props },
 }
 
 impl<'a> ShownFiles<'a> {
     ghost use Rattle.cb_index.specs.steps.ShownIn.{shown_in};
 
+    /// All versions of blocks.
+    pub(crate) fn whole(blocks: &'a [Block<Shown>]) -> ShownFiles<'a>
+        requires fits { length (joined blocks.now) < 2 ^ 64 }
+        requires filled { AllByRecursion IsFilled blocks.now }
+        ensures { shown_in result ≡ joined blocks.now }
+    {
+        ShownFiles { first: &[], blocks }
+    }
+
     /// How many there are.
     pub fn len(&self) -> usize
         ensures { result ≡ length (shown_in self.now) }
     {
-        self.listed.len()
+        let mut count = self.first.len();
+        let blocks = self.blocks;
+        for block in blocks {
+            count += block.items().len();
+        }
+        count
     }
 
     /// The first, and those after it.
@@ -32,8 +68,16 @@ impl<'a> ShownFiles<'a> {
         ensures { MatchOption result (shown_in self.entry ≡ [])
             (λ r. shown_in self.entry ≡ r.0 ∷ shown_in r.1) }
     {
-        let (first, rest) = self.listed.split_first()?;
-        Some((*first, ShownFiles { listed: rest }))
+        if let Some((one, first)) = self.first.split_first() {
+            let rest = ShownFiles {
+                first,
+                blocks: self.blocks,
+            };
+            return Some((*one, rest));
+        }
+        let (block, blocks) = self.blocks.split_first()?;
+        let (one, first) = block.items().split_first()?;
+        Some((*one, ShownFiles { first, blocks }))
     }
 
     /// Those whose file names are not below a name. They are found by binary search.
@@ -47,14 +91,18 @@ impl<'a> ShownFiles<'a> {
             (shown_in self.entry) i
             × (shown_in result ≡ drop i (shown_in self.entry)) }
     {
-        let at = self.listed.partition_point(
-            |s: &Shown| -> bool
-                ensures { result ≡ is_lt (slice_cmp nat_cmp (name_of archive.entry.now s.now.name)
-                    name.entry.now) }
-            { archive.name(s.name).cmp(name) == Ordering::Less },
-        );
+        let bound = BeforeName { archive, name };
+        let at = count_ahead(&bound, self.first);
+        if at < self.first.len() || self.blocks.is_empty() {
+            return ShownFiles {
+                first: self.first.split_at(at).1,
+                blocks: self.blocks,
+            };
+        }
+        let place = place_of(&bound, self.blocks);
         ShownFiles {
-            listed: self.listed.split_at(at).1,
+            first: self.blocks[place.block].items().split_at(place.at).1,
+            blocks: self.blocks.split_at(place.block + 1).1,
         }
     }
 }

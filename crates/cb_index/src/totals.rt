@@ -3,10 +3,12 @@ ghost use Rattle.std.specs.Prelude.{◌≡◌, ◌+◌, ◌-◌, ◌^◌, ◌≤
 ghost use Rattle.cb_index.specs.Archived.{text_at};
 ghost use Rattle.cb_index.specs.Files.{call_count, count_for, def_count, total, use_count};
 ghost use Rattle.cb_index.specs.Shelved.{AreTotals, AreTooMany};
+ghost use Rattle.cb_index.specs.steps.ShownIn.{shown_in};
 
 use crate::archive::Archive;
 use crate::entry::Shown;
 use crate::kind::{FactKind, IndexKind};
+use crate::shown_files::ShownFiles;
 
 /// So many definitions, uses and calls.
 #[derive(Clone, Copy, Debug, PartialEq, Eq)]
@@ -41,6 +43,20 @@ fn total_with(kind: IndexKind, archive: &Archive, shown: &[Shown], before: u64) 
     let mut count = before;
     for s in shown {
         count += count_of(kind, archive, s.version) as u64;
+    }
+    count
+}
+
+/// How many facts all files have that are shown.
+fn total_in(kind: IndexKind, archive: &Archive, shown: ShownFiles<'_>) -> u64
+    requires { total (count_for kind) archive.now (shown_in shown) ≤ 2 ^ 64 - 1 }
+    ensures { result ≡ total (count_for kind) archive.now (shown_in shown.entry) }
+{
+    let mut count = 0;
+    let mut left = shown;
+    while let Some((one, rest)) = left.split_first() {
+        left = rest;
+        count += count_of(kind, archive, one.version) as u64;
     }
     count
 }
@@ -92,18 +108,18 @@ impl Totals {
     }
 
     /// The totals of some versions that have no more facts than these.
-    pub(crate) fn of_fewer(self, archive: &Archive, shown: &[Shown]) -> Totals
-        requires defs { total def_count archive.now shown.now ≤ self.defs }
-        requires uses { total use_count archive.now shown.now ≤ self.uses }
-        requires calls { total call_count archive.now shown.now ≤ self.calls }
-        ensures defs { result.defs ≡ total def_count archive.now shown.now }
-        ensures uses { result.uses ≡ total use_count archive.now shown.now }
-        ensures calls { result.calls ≡ total call_count archive.now shown.now }
+    pub(crate) fn of_fewer(self, archive: &Archive, shown: ShownFiles<'_>) -> Totals
+        requires defs { total def_count archive.now (shown_in shown) ≤ self.defs }
+        requires uses { total use_count archive.now (shown_in shown) ≤ self.uses }
+        requires calls { total call_count archive.now (shown_in shown) ≤ self.calls }
+        ensures defs { result.defs ≡ total def_count archive.now (shown_in shown.entry) }
+        ensures uses { result.uses ≡ total use_count archive.now (shown_in shown.entry) }
+        ensures calls { result.calls ≡ total call_count archive.now (shown_in shown.entry) }
     {
         Totals {
-            defs: total_with(IndexKind::DefsByName, archive, shown, 0),
-            uses: total_with(IndexKind::Facts(FactKind::Uses), archive, shown, 0),
-            calls: total_with(IndexKind::Facts(FactKind::Callees), archive, shown, 0),
+            defs: total_in(IndexKind::DefsByName, archive, shown),
+            uses: total_in(IndexKind::Facts(FactKind::Uses), archive, shown),
+            calls: total_in(IndexKind::Facts(FactKind::Callees), archive, shown),
         }
     }
 

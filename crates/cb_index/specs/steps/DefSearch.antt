@@ -3,6 +3,7 @@ use Rattle.std.specs.Prelude.{List, [], ◌∷◌, Option, Some, if◌then◌els
 use Rattle.std.specs.Option.{option_copied}
 use Rattle.cb_index.specs.Held.{all_entries}
 use Rattle.cb_index.specs.Kinds.{def_kind, keyer_of, lister_of}
+use Rattle.cb_index.specs.steps.ShownIn.{shown_in}
 use Rattle.cb_index.specs.steps.ToCome.{earlier, is_to_come, to_come}
 use Rattle.cb_index.specs.declared.def_search.DefSearch.{DefSearch}
 use Rattle.cb_index.specs.declared.entry.Entry.{Entry}
@@ -11,7 +12,7 @@ use Rattle.cb_index.specs.declared.entry.Entry.{Entry}
 abbrev pub search_left : DefSearch → List Entry
 search_left s =
     to_come (def_kind s.by_tag_name) s.archive.now (option_copied s.key) s.last
-    (all_entries (lister_of (def_kind s.by_tag_name)) s.archive.now s.shown.now)
+    (all_entries (lister_of (def_kind s.by_tag_name)) s.archive.now (shown_in s.shown))
 
 -- ---- how the first of them is found
 

@@ -14,6 +14,7 @@ use Rattle.cb_index.specs.steps.DefSearch.{search_left}
 use Rattle.cb_index.specs.steps.Found.{fact_at, tag_at}
 use Rattle.cb_index.specs.steps.Given.{given_in, given_left}
 use Rattle.cb_index.specs.steps.Runs.{run_items}
+use Rattle.cb_index.specs.steps.ShownIn.{shown_in}
 use Rattle.cb_index.specs.steps.Searched.{searched_at, searched_count}
 use Rattle.cb_index.specs.Scanned.{Scanned, facts_of}
 use Rattle.cb_index.specs.declared.entries.Entries.{Entries}
@@ -72,12 +73,12 @@ group_left_if all (Some g) = group_left all g
 abbrev pub groups_left : Bool → FactKind → Archived → Groups → List Fact
 groups_left all sort a (groups.Held entries) = given_in all sort a (run_items entries)
 groups_left all sort a (groups.Searched key shown) =
-    flat_map (searched_at all sort a key.now) shown.now
+    flat_map (searched_at all sort a key.now) (shown_in shown)
 
 -- how many groups are still to come
 abbrev pub group_count : Groups → ℕ
 group_count (groups.Held entries) = length (run_items entries)
-group_count (groups.Searched key shown) = length shown.now
+group_count (groups.Searched key shown) = length (shown_in shown)
 
 abbrev pub walk_left : Bool → Walk → List Fact
 walk_left all w = group_left_if all w.group ++ groups_left all w.sort w.archive.now w.groups
@@ -95,7 +96,8 @@ spots_left r = walk_left false r.walk
 -- how many rows the groups that are still to come have; what has begun is not counted
 abbrev pub groups_counted : FactKind → Archived → Groups → ℕ
 groups_counted sort a (groups.Held entries) = sum_by (λ (e : Entry). e.rows) (run_items entries)
-groups_counted sort a (groups.Searched key shown) = sum_by (searched_count sort a key.now) shown.now
+groups_counted sort a (groups.Searched key shown) =
+    sum_by (searched_count sort a key.now) (shown_in shown)
 
 abbrev pub rows_counted : FactSpots → ℕ
 rows_counted r = groups_counted r.walk.sort r.walk.archive.now r.walk.groups
@@ -119,4 +121,4 @@ entries_in a (s ∷ shown) =
     file_or_end (name_of a s.name) (text_at a s.version) (entries_in a shown)
 
 abbrev pub entries_left : Entries → List ShownFile
-entries_left e = entries_in e.archive.now e.shown.now
+entries_left e = entries_in e.archive.now (shown_in e.shown)

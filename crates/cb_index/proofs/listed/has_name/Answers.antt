@@ -1,23 +1,51 @@
-use Rattle.std.proofs.Common.{◌∙◌, sym, length}
+use Rattle.std.proofs.Common.{◌≡◌, ◌∙◌, ◌∷◌, true, false, sym, ap, subst, length, drop}
+use Rattle.std.specs.List.{AllByRecursion, AllWithin, list_any}
 use Rattle.std.specs.Str.{bytes_eq}
+use Rattle.cb_index.specs.Archived.{name_of}
+use Rattle.cb_index.specs.Files.{AreAscending}
+use Rattle.cb_index.specs.steps.Bounds.{is_below}
+use Rattle.cb_index.specs.steps.ShownIn.{shown_in}
 use Rattle.cb_index.specs.declared.entry.Shown.{Shown}
-use Rattle.cb_index.proofs.ListedLemmas.{here_is, none_here, not_below}
+use Rattle.cb_index.proofs.ListedLemmas.{any_from, first_settles, is_here}
+use Rattle.cb_index.proofs.ShownListLemmas.{ascending_later}
+use Rattle.cb_index.proofs.SortedLemmas.{all_behind}
 use Rattle.cb_index.proofs.listed.has_name.Goals as goal
 
--- what stands at its place settles it
-pub returns-then-at-shown : goal.returns-then-at-shown
-returns-then-at-shown c =
+-- the first that is not below settles it
+pub returns-in-Some : goal.returns-in-Some
+returns-in-Some c =
     let a = c.args.archive.now in
+    let all = shown_in c.args.shown in
+    let name = name_of a c.args.name in
     let one : Shown = record { name = c.args.name; version = 0 } in
+    let first = c.in-Some.one in
+    let more = shown_in c.in-Some.field-0-1 in
+    let from = c.from_name.ensures in
+    let split : drop from.0 all ≡ first ∷ more = sym from.2 ∙ c.in-Some.ensures in
+    let before : AllWithin (λ t. is_below a name t ≡ true) all 0 from.0 =
+    subst (λ n. AllWithin (λ t. is_below a n t ≡ true) all 0 from.0) c.name-name.ensures from.1.0 in
+    let after : AllWithin (λ t. is_below a name t ≡ false) all from.0 (length all) =
+    subst (λ n. AllWithin (λ t. is_below a n t ≡ false) all from.0 (length all))
+    c.name-name.ensures from.1.1 in
+    let here =
+    subst (AllByRecursion (λ t. is_below a name t ≡ false)) split
+    (all_behind (λ t. is_below a name t ≡ false) from.0 all after) in
     c.eq.ensures
-    ∙ (λ i. bytes_eq (c.name.ensures i) (c.name-then-at-shown.ensures i))
-    ∙ here_is a one c.place_for-at.result c.args.shown.now (record { name = 0; version = 0 })
-    c.if-at-shown.true c.requires
-    c.place_for-at.ensures.parted.0 c.place_for-at.ensures.parted.1
+    ∙ (λ i. bytes_eq (c.name-name.ensures i) (c.name.ensures i))
+    ∙ first_settles a one first more
+    (subst (AreAscending a) split (ascending_later a from.0 all c.requires)) here.0
+    ∙ ap (list_any (is_here a one)) (sym split)
+    ∙ sym (any_from a one from.0 all before)
 
-pub returns-else-at-shown : goal.returns-else-at-shown
-returns-else-at-shown c =
+-- all are below
+pub returns-in-None : goal.returns-in-None
+returns-in-None c =
+    let a = c.args.archive.now in
+    let all = shown_in c.args.shown in
+    let name = name_of a c.args.name in
     let one : Shown = record { name = c.args.name; version = 0 } in
-    not_below c.place_for-at.result (length c.args.shown.now) c.if-at-shown.false
-    ∙ sym (none_here c.args.archive.now one c.place_for-at.result c.args.shown.now
-    c.if-at-shown.false c.place_for-at.ensures.parted.0)
+    let from = c.from_name.ensures in
+    let before : AllWithin (λ t. is_below a name t ≡ true) all 0 from.0 =
+    subst (λ n. AllWithin (λ t. is_below a n t ≡ true) all 0 from.0) c.name-name.ensures from.1.0 in
+    ap (list_any (is_here a one)) (sym (sym from.2 ∙ c.in-None.ensures))
+    ∙ sym (any_from a one from.0 all before)

@@ -18,12 +18,12 @@ new-requires-clause-few c =
     let s = c.self.inside in
     let kind = def_kind c.args.by_tag_name in
     let all =
-    length_all (lister_of kind) (count_for kind) (fewer_of kind) s.archive s.shown.items in
+    length_all (lister_of kind) (count_for kind) (fewer_of kind) s.archive s.shown.files in
     let within =
-    defs_fit c.args.by_tag_name s.archive s.shown.items _ s.totals s.room s.indexes
+    defs_fit c.args.by_tag_name s.archive s.shown.files _ s.totals s.room s.indexes
     c.self.invariant.1 c.self.invariant.2 in
     let same =
-    ap (λ l. length (all_entries (lister_of kind) s.archive l)) c.as_slice-shown.ensures.value in
+    ap (λ l. length (all_entries (lister_of kind) s.archive l)) c.files-shown.ensures in
     omega (arith, all, within, same, c.read_room.ensures.defs)
 
 pub returns-then-not-is_flushed-clause-tags : goal.returns-then-not-is_flushed-clause-tags
@@ -33,8 +33,8 @@ returns-then-not-is_flushed-clause-tags c =
     let key = option_copied c.args.key in
     ap (map (tag_at s.archive))
     (c.new.ensures ∙ ap (λ l. to_come kind s.archive key None
-    (all_entries (lister_of kind) s.archive l)) c.as_slice-shown.ensures.value
-    ∙ asked_first kind s.archive key (all_entries (lister_of kind) s.archive s.shown.items))
+    (all_entries (lister_of kind) s.archive l)) c.files-shown.ensures
+    ∙ asked_first kind s.archive key (all_entries (lister_of kind) s.archive s.shown.files))
     ∙ ap (λ (v : Shelved). asked_tags kind v.archive key v.shown) c.self.view_is
 
 pub asked-requires : goal.asked-requires
@@ -43,7 +43,7 @@ asked-requires c =
     let is =
     subst (λ (s : Shelved). IsIndex s.archive s.shown x)
     (sym c.self.view_is) c.index-index.ensures.index in
-    in_its_order x.kind c.self.inside.archive c.self.inside.shown.items x refl is
+    in_its_order x.kind c.self.inside.archive c.self.inside.shown.files x refl is
 
 pub returns-clause-tags : goal.returns-clause-tags
 returns-clause-tags c =
@@ -56,7 +56,7 @@ returns-clause-tags c =
     subst (λ (s : Shelved). IsIndex s.archive s.shown x)
     (sym c.self.view_is) c.index-index.ensures.index in
     let held =
-    all_held kind s.archive s.shown.items x same
+    all_held kind s.archive s.shown.files x same
     (c.is_flushed.ensures c.if-not-is_flushed.false) is in
     ap (map (tag_at s.archive))
     (c.asked.ensures ∙ (λ i. filter (is_asked (same i) s.archive key) (held i)))

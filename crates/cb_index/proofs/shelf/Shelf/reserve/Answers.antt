@@ -9,32 +9,32 @@ use Rattle.cb_index.proofs.shelf.Shelf.reserve.Goals as goal
 pub invariant_of-self : goal.invariant_of-self
 invariant_of-self c =
     let x = c.self.inside in (
-      kept_moved x.archive c.reserve.new.self x.shown.items x.indexes c.reserve.ensures.same_profile
+      kept_moved x.archive c.reserve.new.self x.shown.files x.indexes c.reserve.ensures.same_profile
           c.reserve.ensures.same_names
           c.reserve.ensures.same_texts c.self.invariant.0,
-      totals_moved x.archive c.reserve.new.self x.shown.items _ x.totals
+      totals_moved x.archive c.reserve.new.self x.shown.files _ x.totals
           c.reserve.ensures.same_profile c.reserve.ensures.same_texts refl c.self.invariant.1,
       c.self.invariant.2,
     )
 
 -- the list was refused
-pub invariant_of-self-in-Err-reserve : goal.invariant_of-self-in-Err-reserve
-invariant_of-self-in-Err-reserve c =
+pub invariant_of-self-in_err-reserve : goal.invariant_of-self-in_err-reserve
+invariant_of-self-in_err-reserve c =
     let x = c.self.inside in
-    let items = c.reserve-2.ensures.items in
+    let items = c.reserve-2.ensures.files in
     let within = c.self.invariant.2 in (
-      kept_moved x.archive c.reserve.new.self c.reserve-2.new.self.items x.indexes
+      kept_moved x.archive c.reserve.new.self c.reserve-2.new.self.files x.indexes
           c.reserve.ensures.same_profile c.reserve.ensures.same_names c.reserve.ensures.same_texts
-          (kept_list x.archive x.shown.items c.reserve-2.new.self.items x.indexes
+          (kept_list x.archive x.shown.files c.reserve-2.new.self.files x.indexes
           items c.self.invariant.0),
-      totals_moved x.archive c.reserve.new.self x.shown.items _ x.totals
+      totals_moved x.archive c.reserve.new.self x.shown.files _ x.totals
           c.reserve.ensures.same_profile c.reserve.ensures.same_texts items c.self.invariant.1,
       record {
         entries = let count = ap length items in omega (arith, within.entries, count);
         defs = within.defs;
         uses = within.uses;
         calls = within.calls;
-        listed = omega (arith, within.listed, c.reserve-2.ensures.capacity);
+        listed = omega (arith, within.listed, c.reserve-2.ensures.room);
         each = within.each;
       },
     )
@@ -43,21 +43,21 @@ invariant_of-self-in-Err-reserve c =
 pub invariant_of-self-in_err-reserve_each : goal.invariant_of-self-in_err-reserve_each
 invariant_of-self-in_err-reserve_each c =
     let x = c.self.inside in
-    let items = c.reserve-2.ensures.items in
+    let items = c.reserve-2.ensures.files in
     let same = c.reserve_each.ensures.same in
     let within = c.self.invariant.2 in (
-      kept_moved x.archive c.reserve.new.self c.reserve-2.new.self.items c.reserve_each.new.indexes
+      kept_moved x.archive c.reserve.new.self c.reserve-2.new.self.files c.reserve_each.new.indexes
           c.reserve.ensures.same_profile c.reserve.ensures.same_names c.reserve.ensures.same_texts
-          (kept_as x.archive x.shown.items c.reserve-2.new.self.items x.indexes
+          (kept_as x.archive x.shown.files c.reserve-2.new.self.files x.indexes
           c.reserve_each.new.indexes items same c.self.invariant.0),
-      totals_moved x.archive c.reserve.new.self x.shown.items _ x.totals
+      totals_moved x.archive c.reserve.new.self x.shown.files _ x.totals
           c.reserve.ensures.same_profile c.reserve.ensures.same_texts items c.self.invariant.1,
       record {
         entries = let count = ap length items in omega (arith, within.entries, count);
         defs = within.defs;
         uses = within.uses;
         calls = within.calls;
-        listed = omega (arith, within.listed, c.reserve-2.ensures.capacity);
+        listed = omega (arith, within.listed, c.reserve-2.ensures.room);
         each =
             rooms_stay StaysSame (λ x y way. way.itself) x.room x.indexes c.reserve_each.new.indexes
             same within.each;
@@ -67,15 +67,15 @@ invariant_of-self-in_err-reserve_each c =
 pub invariant_of-self-2 : goal.invariant_of-self-2
 invariant_of-self-2 c =
     let x = c.self.inside in
-    let items = c.reserve-2.ensures.items in
+    let items = c.reserve-2.ensures.files in
     let same = c.reserve_each.ensures.same in
     let within = c.self.invariant.2 in
     let larger = larger_fits c.larger-room.result x.room c.args.room.now c.larger-room.ensures in (
-      kept_moved x.archive c.reserve.new.self c.reserve-2.new.self.items c.reserve_each.new.indexes
+      kept_moved x.archive c.reserve.new.self c.reserve-2.new.self.files c.reserve_each.new.indexes
           c.reserve.ensures.same_profile c.reserve.ensures.same_names c.reserve.ensures.same_texts
-          (kept_as x.archive x.shown.items c.reserve-2.new.self.items x.indexes
+          (kept_as x.archive x.shown.files c.reserve-2.new.self.files x.indexes
           c.reserve_each.new.indexes items same c.self.invariant.0),
-      totals_moved x.archive c.reserve.new.self x.shown.items _ x.totals
+      totals_moved x.archive c.reserve.new.self x.shown.files _ x.totals
           c.reserve.ensures.same_profile c.reserve.ensures.same_texts items c.self.invariant.1,
       record {
         entries =

@@ -11,14 +11,14 @@ use Rattle.cb_index.proofs.TotalLemmas.{totals_each}
 use Rattle.cb_index.proofs.shelf.Shelf.show_all.Goals as goal
 
 -- no file name stands twice
-pub put_all_shown-requires : goal.put_all_shown-requires
-put_all_shown-requires c =
+pub put_all-requires : goal.put_all-requires
+put_all-requires c =
     let asked =
     subst (λ (s : Shelved). CanShow s c.args.news.now) (sym c.self.view_is) c.requires in
     let within = c.self.invariant.2 in record {
       ascending = c.self.invariant.0.ascending;
       apart =
-          apart_both c.self.inside.archive c.self.inside.shown.items c.args.news.now
+          apart_both c.self.inside.archive c.self.inside.shown.files c.args.news.now
           c.self.invariant.0.ascending asked.apart asked.other;
       room = omega (arith, asked.entries, within.listed);
     }
@@ -40,15 +40,15 @@ invariant_of-self c =
     let are = c.self.invariant.1 in
     let within = c.self.invariant.2 in
     let more = c.with-self-inside.ensures in
-    let items = c.put_all_shown.ensures.items in
+    let items = c.put_all.ensures.files in
     let count =
-    ap length items ∙ length_in_order (shown_name a) (x.shown.items ++ c.args.news.now) in
-    let parts = length-append x.shown.items c.args.news.now in (
+    ap length items ∙ length_in_order (shown_name a) (x.shown.files ++ c.args.news.now) in
+    let parts = length-append x.shown.files c.args.news.now in (
       subst (λ l. AreKept a l c.put_in_each.new.indexes) (sym items)
-          (kept_each a x.shown.items c.args.news.now asked.apart asked.other
+          (kept_each a x.shown.files c.args.news.now asked.apart asked.other
           c.self.invariant.0.ascending
           x.indexes c.put_in_each.new.indexes asked.there c.put_in_each.ensures c.self.invariant.0),
-      totals_each a (shown_name a) x.shown.items c.args.news.now c.put_all_shown.new.shown.items
+      totals_each a (shown_name a) x.shown.files c.args.news.now c.put_all.new.self.files
           x.totals c.with-self-inside.result
           (record { defs = more.defs; uses = more.uses; calls = more.calls }) items are,
       record {
@@ -56,7 +56,7 @@ invariant_of-self c =
         defs = omega (arith, asked.defs, are.defs, more.defs);
         uses = omega (arith, asked.uses, are.uses, more.uses);
         calls = omega (arith, asked.calls, are.calls, more.calls);
-        listed = omega (arith, within.listed, c.put_all_shown.ensures.room);
+        listed = omega (arith, within.listed, c.put_all.ensures.room);
         each =
             rooms_stay (TakesIn c.args.news.now) (λ x y way. way.itself) x.room x.indexes
             c.put_in_each.new.indexes c.put_in_each.ensures within.each;
@@ -65,6 +65,6 @@ invariant_of-self c =
 
 pub returns-clause-shown : goal.returns-clause-shown
 returns-clause-shown c =
-    c.put_all_shown.ensures.items
+    c.put_all.ensures.files
     ∙ ap (λ (s : Shelved). in_order (shown_name s.archive) (s.shown ++ c.args.news.now))
     c.self.view_is
