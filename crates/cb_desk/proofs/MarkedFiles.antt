@@ -14,8 +14,9 @@ use Rattle.cb_desk.specs.declared.spot.NumberedPlace.{NumberedPlace}
 use Rattle.cb_desk.specs.Places.{is_in}
 use Rattle.cb_desk.specs.World as world
 use Rattle.cb_desk.specs.World.{Place, is_named}
+use Rattle.cb_desk.specs.steps.Named.{IsFirst, IsNotFirst}
 use Rattle.cb_desk.specs.steps.Records.{place_in}
-use Rattle.cb_desk.specs.steps.Replaced.{IsFirst, IsNotFirst, has_mark, places_in}
+use Rattle.cb_desk.specs.steps.Replaced.{has_mark, places_in}
 use Rattle.cb_desk.proofs.MarksFound.{all_from, all_out, ascend_after, is_here, less_apart}
 use Rattle.cb_desk.proofs.MarksFound.{no_lower, one_more, strictly}
 use Rattle.cb_desk.proofs.PlaceLemmas.{name-same, same-name}

@@ -1,6 +1,6 @@
 -- The file of a name among files that ascend by name.
-use Rattle.std.proofs.Common.{◌≡◌, ◌∙◌, sym, ap, refl, ℕ, zero, suc, ◌<◌, ◌≤◌, Bool, true, false}
-use Rattle.std.proofs.Common.{List, [], ◌∷◌, map, length, get_or, Some, None, arith, nat_cmp, is_lt}
+use Rattle.std.proofs.Common.{◌≡◌, ◌∙◌, sym, ap, refl, ℕ, zero, suc, ◌<◌, Bool, true, false}
+use Rattle.std.proofs.Common.{List, [], ◌∷◌, map, length, drop, get_or, Some, arith, nat_cmp, is_lt}
 use Rattle.std.proofs.Common.{is_eq, Ordering, Less, Equal, Greater, bytes_eq}
 use Rattle.std.specs.List.{AllByRecursion, AllWithin}
 use Rattle.std.specs.List.Sorted.{IsStrictlySortedBy, IsPartitionedBy}
@@ -87,18 +87,21 @@ module _ {X : Type 0} (v : X → File) (name : List ℕ) where
       parted xs up.1 i j d (omega arith) (omega arith) is
 
   -- the first that is not below has the name
-  pub found-at : (xs : List X) (i : ℕ) (d : X) → AllWithin (λ x. below x ≡ true) xs 0 i
-      → i < length xs → is_named name (v (get_or xs i d)) ≡ true
-      → Some (v (get_or xs i d)) ≡ file_named (map v xs) name
+  pub found-at : (xs : List X) (i : ℕ) (x : X) (more : List X)
+      → AllWithin (λ x. below x ≡ true) xs 0 i → drop i xs ≡ x ∷ more
+      → is_named name (v x) ≡ true → Some (v x) ≡ file_named (map v xs) name
   unfolding text_of_file
-  found-at [] i d before within is = absurd (omega arith)
-  found-at (x ∷ xs) zero d before within is =
-      rw is (ap Some (file-same (v x) name (v x).bytes is refl))
-  found-at (x ∷ xs) (suc i) d before within is =
-      let other : is_named name (v x) ≡ false =
-      lower-other name (v x) (before 0 d (omega arith) (omega arith)) in
+  found-at [] zero x more before split is = cc
+  found-at [] (suc i) x more before split is = cc
+  found-at (y ∷ ys) zero x more before split is =
+      let same : x ≡ y = cc in
+      let here = ap (λ z. is_named name (v z)) (sym same) ∙ is in
+      ap (λ z. Some (v z)) same ∙ rw here (ap Some (file-same (v y) name (v y).bytes here refl))
+  found-at (y ∷ ys) (suc i) x more before split is =
+      let other : is_named name (v y) ≡ false =
+      lower-other name (v y) (before 0 x (omega arith) (omega arith)) in
       rw other
-      (found-at xs i d (λ k e a b. before (suc k) e (omega arith) (omega arith)) (omega arith) is)
+      (found-at ys i x more (λ k e a b. before (suc k) e (omega arith) (omega arith)) split is)
 
   none-from : (xs : List X) (d : X) → IsAscending (map v xs)
       → AllWithin (λ x. below x ≡ false) xs 0 (length xs)
@@ -124,28 +127,3 @@ module _ {X : Type 0} (v : X → File) (name : List ℕ) where
       lower-other name (v x) (before 0 d (omega arith) (omega arith)) in
       rw here (none-at xs i d up.1 (λ k e a b. before (suc k) e (omega arith) (omega arith))
       (λ k e a b. after (suc k) e (omega arith) (omega arith)) (λ within. other (omega arith)))
-
-  module _ (xs : List X) (up : IsAscending (map v xs)) (i : ℕ)
-      (before : AllWithin (λ x. below x ≡ true) xs 0 i)
-      (after : AllWithin (λ x. below x ≡ false) xs i (length xs)) where
-    module _ (x : X) (within : i < length xs) (here : x ≡ get_or xs i x) where
-      -- the file at that index has the name
-      pub named-there : is_named name (v x) ≡ true → Some (v x) ≡ file_named (map v xs) name
-      named-there is =
-          ap (λ y. Some (v y)) here
-          ∙ found-at xs i x before within (ap (λ y. is_named name (v y)) (sym here) ∙ is)
-
-      -- the file at that index has another name
-      pub other-there : is_named name (v x) ≡ false → None ≡ file_named (map v xs) name
-      other-there other =
-          rw (none-at xs i x up before after
-          (λ _. ap (λ y. is_named name (v y)) (sym here) ∙ other)) refl
-
-  -- no file is at that index
-  pub none-there : (xs : List X) (up : IsAscending (map v xs)) (i : ℕ)
-      (before : AllWithin (λ x. below x ≡ true) xs 0 i)
-      (after : AllWithin (λ x. below x ≡ false) xs i (length xs))
-      → length xs ≤ i → None ≡ file_named (map v xs) name
-  none-there [] up i before after past = refl
-  none-there (x ∷ xs) up i before after past =
-      rw (none-at (x ∷ xs) i x up before after (λ within. absurd (omega arith))) refl

@@ -1,7 +1,8 @@
 -- Places that stay lines when a text is replaced: in a file without a mark they all do.
 use Rattle.std.proofs.Common.{◌≡◌, ◌∙◌, ◌<◌, sym, ap, refl, subst, ℕ, Bool, true, false, cond, List}
-use Rattle.std.proofs.Common.{[], ◌∷◌, ◌||◌, ◌&&◌, nat_le, filter, map, length, get_or, arith, Some}
-use Rattle.std.proofs.Common.{None, bytes_eq}
+use Rattle.std.proofs.Common.{[], ◌∷◌, ◌||◌, ◌&&◌, nat_le, filter, map, length, drop, get_or, suc}
+use Rattle.std.proofs.Common.{arith, Some, None, bytes_eq}
+use Rattle.std.proofs.Math.Seq.{drop-cons}
 use Rattle.std.proofs.lemmas.List.{get_or-map, length-map}
 use Rattle.std.specs.List.{AllByRecursion, AllWithin, list_any}
 use Rattle.cb_scan.specs.Lines.{lines}
@@ -64,7 +65,9 @@ module _ (a : Archived) (marks : List NumberedPlace) (old new : List ℕ) (chang
       ≡ nat_le 1 p.line && nat_le p.line (length (lines (get_or (texts_of then) i e)))
   stays_at e within is =
       let file = file_then a marks old new (get_or changed i d) in
-      let found = found-at (file_then a marks old new) name changed i d before within is in
+      let found =
+      found-at (file_then a marks old new) name changed i (get_or changed i d)
+      (drop (suc i) changed) before (drop-cons changed i d within) is in
       let long = length-map changed (file_then a marks old new) in
       let text : text_of_file then name ≡ get_or (texts_of then) i e =
       text_from file then name found

@@ -15,7 +15,7 @@ mod texts;
 
 pub(crate) use definitions::nth_definition;
 pub use files::Files;
-pub(crate) use files::{shown_as, source};
+pub(crate) use files::{shown_as, source, split_named};
 pub use rows::Rows;
 pub use tags::TagRows;
 pub(crate) use tags::tag_rows;

@@ -1,5 +1,5 @@
 -- The replacement of a text on marked lines, in the numbers of an archive.
-use Rattle.std.specs.Prelude.{◌≡◌, ◌+◌, ℕ, Bool, true, false, List, [], ◌∷◌, filter, map}
+use Rattle.std.specs.Prelude.{◌+◌, ℕ, Bool, true, List, [], ◌∷◌, filter, map}
 use Rattle.std.specs.Prelude.{if◌then◌else◌}
 use Rattle.cb_index.specs.Archived.{Archived}
 use Rattle.cb_index.specs.Files.{file_of}
@@ -9,7 +9,7 @@ use Rattle.cb_desk.specs.declared.spot.NumberedPlace.{NumberedPlace}
 use Rattle.cb_desk.specs.Desk.{is_marked}
 use Rattle.cb_desk.specs.Marks.{replaced_file}
 use Rattle.cb_desk.specs.Places.{is_place_of}
-use Rattle.cb_desk.specs.World.{File, Place, has_file, is_named}
+use Rattle.cb_desk.specs.World.{File, Place, has_file}
 use Rattle.cb_desk.specs.steps.Records.{place_in}
 
 -- the places of marks
@@ -19,15 +19,6 @@ places_in a marks = map (place_in a) marks
 -- a file that is shown has a mark
 abbrev pub has_mark : Archived → List NumberedPlace → Shown → Bool
 has_mark a marks s = is_marked (places_in a marks) (file_of a s)
-
--- files begin with one of that name, and go on with others
-abbrev pub IsFirst : Archived → List ℕ → Shown → (more files : List Shown) → Type 0
-IsFirst a name s more files = (files ≡ s ∷ more) × (is_named name (file_of a s) ≡ true)
-
--- the first of some files, if there is one, has another name
-abbrev pub IsNotFirst : Archived → List ℕ → List Shown → Type 0
-IsNotFirst a name [] = Unit {0}
-IsNotFirst a name (s ∷ more) = is_named name (file_of a s) ≡ false
 
 -- a file that is shown, with the old text replaced on its marked lines
 abbrev pub file_then : Archived → List NumberedPlace → (old new : List ℕ) → Shown → File

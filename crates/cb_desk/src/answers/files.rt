@@ -1,20 +1,17 @@
 //! The files that a shelf shows, one after another, and the file of a name.
 ghost use Rattle.std.specs.Prelude.{◌≡◌, ⊤, MatchOption};
-ghost use Rattle.std.specs.Cmp.Lexicographic.{slice_cmp};
 ghost use Rattle.std.specs.Iterator.{YieldsFirstBy, item_count};
 ghost use Rattle.std.specs.List.{AllByRecursion, Contains};
 ghost use Rattle.std.specs.Option.{option_copied, option_map};
-ghost use Rattle.std.specs.Ordering.{is_lt, nat_cmp};
-ghost use Rattle.cb_index.specs.Archived.{name_of};
 ghost use Rattle.cb_index.specs.Files.{AreAscending, IsThere, file_of as shown_file, files_of};
 ghost use Rattle.cb_index.specs.Shelved.{files};
+ghost use Rattle.cb_index.specs.steps.ShownIn.{shown_in};
 ghost use Rattle.cb_desk.specs.Models.{file_of};
 ghost use Rattle.cb_desk.specs.World.{IsAscending, text_named};
-ghost use Rattle.cb_desk.specs.steps.Named.{file_named};
+ghost use Rattle.cb_desk.specs.steps.Named.{IsFirst, IsNotFirst, file_named};
 
-use cb_index::{Archive, Entries, Shelf, Shown};
+use cb_index::{Archive, Entries, Shelf, Shown, ShownFiles};
 use cb_scan::Source;
-use std::cmp::Ordering;
 use std::marker::Model;
 
 /// The files that are shown, name and text, ascending by the bytes of their names.
@@ -68,30 +65,35 @@ impl<'a> Iterator for Files<'a> {
     }
 }
 
-/// What is among these versions under a file name, with the number of the name, by binary search.
-fn find_shown(archive: &Archive, shown: &[Shown], name: &[u8]) -> Option<Shown>
-    requires there { AllByRecursion (IsThere archive.now) shown.now }
-    requires ascending { AreAscending archive.now shown.now }
-    ensures value { option_map (shown_file archive.now) result
-        ≡ file_named (files_of archive.now shown.now) name.now }
-    ensures there { MatchOption result ⊤ (IsThere archive.now) }
-    ensures among { MatchOption result ⊤ (Contains shown.now) }
+/// The first of some files, if it has that name, and those after it.
+pub(crate) fn split_named<'a>(
+    archive: &Archive,
+    files: ShownFiles<'a>,
+    name: &[u8],
+) -> Option<(Shown, ShownFiles<'a>)>
+    ensures { MatchOption result (IsNotFirst archive.now name.now (shown_in files.entry))
+        (λ r. IsFirst archive.now name.now r.0 (shown_in r.1) (shown_in files.entry)) }
 {
-    let index = shown.partition_point(
-        |s: &Shown| -> bool
-            ensures { result
-                ≡ is_lt (slice_cmp nat_cmp (name_of archive.entry.now s.now.name) name.entry.now) }
-        { archive.name(s.name).cmp(name) == Ordering::Less },
-    );
-    if index >= shown.len() {
-        return None;
-    }
-    let found = shown[index];
-    if archive.name(found.name) == name {
-        Some(found)
+    let (file, more) = files.split_first()?;
+    if archive.name(file.name) == name {
+        Some((file, more))
     } else {
         None
     }
+}
+
+/// What is among these versions under a file name, with the number of the name, by binary search.
+fn find_shown(archive: &Archive, shown: ShownFiles<'_>, name: &[u8]) -> Option<Shown>
+    requires there { AllByRecursion (IsThere archive.now) (shown_in shown) }
+    requires ascending { AreAscending archive.now (shown_in shown) }
+    ensures value { option_map (shown_file archive.now) result
+        ≡ file_named (files_of archive.now (shown_in shown.entry)) name.now }
+    ensures there { MatchOption result ⊤ (IsThere archive.now) }
+    ensures among { MatchOption result ⊤ (Contains (shown_in shown.entry)) }
+{
+    let here = shown.from_name(archive, name);
+    let (file, _) = split_named(archive, here, name)?;
+    Some(file)
 }
 
 /// What is shown under a file name, with the number of the name.

@@ -1,33 +1,17 @@
 //! The files that have a mark.
-ghost use Rattle.std.specs.Prelude.{
-  ◌≡◌,
-  ◌≤◌,
-  ◌<◌,
-  ◌∷◌,
-  [],
-  ⊤,
-  true,
-  false,
-  length,
-  filter,
-  MatchOption,
-};
-ghost use Rattle.std.specs.Cmp.Lexicographic.{slice_cmp};
+ghost use Rattle.std.specs.Prelude.{◌≡◌, ◌≤◌, ◌<◌, ◌∷◌, [], ⊤, length, filter, MatchOption};
 ghost use Rattle.std.specs.Iterator.{YieldsFirst, item_count};
 ghost use Rattle.std.specs.List.{prefix_len};
-ghost use Rattle.std.specs.List.Sorted.{IsPartitionPoint};
-ghost use Rattle.std.specs.Ordering.{is_lt, nat_cmp};
-ghost use Rattle.cb_index.specs.Archived.{name_of};
 ghost use Rattle.cb_index.specs.Files.{AreAscending};
-ghost use Rattle.cb_index.specs.declared.entry.Shown.{Shown};
+ghost use Rattle.cb_index.specs.steps.ShownIn.{shown_in};
 ghost use Rattle.cb_desk.specs.Places.{is_in};
 ghost use Rattle.cb_desk.specs.World as world;
 ghost use Rattle.cb_desk.specs.steps.Records.{place_in};
-ghost use Rattle.cb_desk.specs.steps.Replaced.{IsFirst, IsNotFirst, has_mark, places_in};
+ghost use Rattle.cb_desk.specs.steps.Replaced.{has_mark, places_in};
 
+use crate::answers::split_named;
 use crate::spot::NumberedPlace;
-use cb_index::{Archive, Shown};
-use std::cmp::Ordering;
+use cb_index::{Archive, Shown, ShownFiles};
 use std::marker::Model;
 
 /// Whether a place is in the file of that name.
@@ -48,68 +32,34 @@ pub(crate) fn count_in(archive: &Archive, marks: &[NumberedPlace], name: &[u8]) 
         .count()
 }
 
-/// Where the files begin whose names are not below a name, by binary search.
-pub(crate) fn index_for(archive: &Archive, shown: &[Shown], name: &[u8]) -> usize
-    requires { AreAscending archive.now shown.now }
-    ensures within { result ≤ length shown.now }
-    ensures parted { IsPartitionPoint
-        (λ (s : Shown). is_lt (slice_cmp nat_cmp (name_of archive.now s.name) name.now) ≡ true)
-        (λ (s : Shown). is_lt (slice_cmp nat_cmp (name_of archive.now s.name) name.now) ≡ false)
-        shown.now result }
-{
-    shown.partition_point(
-        |s: &Shown| -> bool
-            ensures { result
-                ≡ is_lt (slice_cmp nat_cmp (name_of archive.entry.now s.now.name) name.entry.now) }
-        { archive.name(s.name).cmp(name) == Ordering::Less },
-    )
-}
-
-/// The first of some files, if it has that name, and those after it.
-fn split_named<'a>(
-    archive: &Archive,
-    files: &'a [Shown],
-    name: &[u8],
-) -> Option<(Shown, &'a [Shown])>
-    ensures { MatchOption result (IsNotFirst archive.now name.now files.entry.now)
-        (λ r. IsFirst archive.now name.now r.0 r.1.now files.entry.now) }
-{
-    let (file, more) = files.split_first()?;
-    if archive.name(file.name) == name {
-        Some((*file, more))
-    } else {
-        None
-    }
-}
-
 /// A file that has a mark, and the files and marks after it.
 #[derive(Clone, Copy)]
 struct Found<'a> {
     file: Shown,
-    files: &'a [Shown],
+    files: ShownFiles<'a>,
     marks: &'a [NumberedPlace],
 }
 
 /// The first file that has a mark. The file of each mark is found by binary search.
 fn first_marked<'a>(
     archive: &Archive,
-    files: &'a [Shown],
+    files: ShownFiles<'a>,
     marks: &'a [NumberedPlace],
 ) -> Option<Found<'a>>
-    requires files { AreAscending archive.now files.now }
+    requires files { AreAscending archive.now (shown_in files) }
     requires marks { world.AreAscending (places_in archive.now marks.now) }
     ensures files { MatchOption result
-        (filter (has_mark archive.now marks.entry.now) files.entry.now ≡ [])
-        (λ f. filter (has_mark archive.now marks.entry.now) files.entry.now
-        ≡ f.file ∷ filter (has_mark archive.now f.marks.now) f.files.now) }
-    ensures ascending { MatchOption result ⊤ (λ f. AreAscending archive.now f.files.now
+        (filter (has_mark archive.now marks.entry.now) (shown_in files.entry) ≡ [])
+        (λ f. filter (has_mark archive.now marks.entry.now) (shown_in files.entry)
+        ≡ f.file ∷ filter (has_mark archive.now f.marks.now) (shown_in f.files)) }
+    ensures ascending { MatchOption result ⊤ (λ f. AreAscending archive.now (shown_in f.files)
         × world.AreAscending (places_in archive.now f.marks.now)) }
 {
     let mut rest = files;
     let mut left = marks;
     while let Some((mark, _)) = left.split_first() {
         let name = archive.name(mark.name);
-        let here = rest.split_at(index_for(archive, rest, name)).1;
+        let here = rest.from_name(archive, name);
         let later = left.split_at(count_in(archive, left, name)).1;
         if let Some((file, more)) = split_named(archive, here, name) {
             return Some(Found {
@@ -130,7 +80,7 @@ fn first_marked<'a>(
 pub(crate) struct MarkedFiles<'a> {
     archive: &'a Archive,
     /// The files and the marks that are still to be looked at.
-    files: &'a [Shown],
+    files: ShownFiles<'a>,
     marks: &'a [NumberedPlace],
 }
 
@@ -138,14 +88,15 @@ impl<'a> Model for MarkedFiles<'a> {
     ghost use Rattle.std.specs.Prelude.{List, filter};
     ghost use Rattle.cb_index.specs.Files.{AreAscending};
     ghost use Rattle.cb_index.specs.declared.entry.Shown.{Shown};
+    ghost use Rattle.cb_index.specs.steps.ShownIn.{shown_in};
     ghost use Rattle.cb_desk.specs.World as world;
     ghost use Rattle.cb_desk.specs.steps.Replaced.{has_mark, places_in};
 
     ghost Value = { List Shown };
 
-    ghost view = { λ s. filter (has_mark s.archive.now s.marks.now) s.files.now };
+    ghost view = { λ s. filter (has_mark s.archive.now s.marks.now) (shown_in s.files) };
 
-    ghost invariant = { λ s. AreAscending s.archive.now s.files.now
+    ghost invariant = { λ s. AreAscending s.archive.now (shown_in s.files)
         × world.AreAscending (places_in s.archive.now s.marks.now) };
 }
 
@@ -153,12 +104,12 @@ impl<'a> MarkedFiles<'a> {
     /// Those of some files that have one of some marks.
     pub(crate) fn new(
         archive: &'a Archive,
-        files: &'a [Shown],
+        files: ShownFiles<'a>,
         marks: &'a [NumberedPlace],
     ) -> MarkedFiles<'a>
-        requires files { AreAscending archive.now files.now }
+        requires files { AreAscending archive.now (shown_in files) }
         requires marks { world.AreAscending (places_in archive.now marks.now) }
-        ensures { result ≡ filter (has_mark archive.now marks.now) files.now }
+        ensures { result ≡ filter (has_mark archive.now marks.now) (shown_in files.entry) }
     {
         MarkedFiles {
             archive,

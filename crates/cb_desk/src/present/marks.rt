@@ -21,6 +21,7 @@ ghost use Rattle.std.specs.Cmp.Lexicographic.{slice_cmp};
 ghost use Rattle.std.specs.List.{AllByRecursion, list_any, prefix_len};
 ghost use Rattle.std.specs.Ordering.{nat_cmp};
 ghost use Rattle.cb_index.specs.Files.{IsThere};
+ghost use Rattle.cb_index.specs.steps.ShownIn.{shown_in};
 ghost use Rattle.cb_scan.specs.Order.{goes_first};
 ghost use Rattle.cb_desk.specs.Marks.{all_marked, toggled_at, wanted_places};
 ghost use Rattle.cb_desk.specs.Places.{nth, same_place};
@@ -41,7 +42,7 @@ use crate::plan::Plan;
 use crate::present::Present;
 use crate::search::TextLines;
 use crate::spot::NumberedPlace;
-use cb_index::{Archive, Shown};
+use cb_index::{Archive, ShownFiles};
 use cb_scan::Source;
 use memchr::memmem::Finder;
 use std::alloc::{AllocError, Global};
@@ -124,12 +125,13 @@ fn add_held(
 fn held_numbers(
     alloc: Global,
     archive: &Archive,
-    shown: &[Shown],
+    shown: ShownFiles<'_>,
     text: &[u8],
 ) -> Result<Vec<NumberedPlace>, AllocError>
     requires some { text.now ≢ [] }
-    requires there { AllByRecursion (IsThere archive.now) shown.now }
-    ensures { IfOk result (λ made. made.items ≡ held_numbers archive.now text.now shown.now) }
+    requires there { AllByRecursion (IsThere archive.now) (shown_in shown) }
+    ensures { IfOk result
+        (λ made. made.items ≡ held_numbers archive.now text.now (shown_in shown.entry)) }
 {
     let finder = Finder::new(text);
     let mut made = Vec::new(alloc);
@@ -159,10 +161,10 @@ fn nth_line(source: &Source, finder: &Finder<'_>, n: u64) -> Result<u32, u64>
 }
 
 /// The nth line of some files that holds a text, by file and line, counted from 1.
-fn nth_held(archive: &Archive, shown: &[Shown], text: &[u8], n: u64) -> Option<NumberedPlace>
+fn nth_held(archive: &Archive, shown: ShownFiles<'_>, text: &[u8], n: u64) -> Option<NumberedPlace>
     requires some { text.now ≢ [] }
-    requires there { AllByRecursion (IsThere archive.now) shown.now }
-    ensures { result ≡ nth n (held_numbers archive.now text.now shown.now) }
+    requires there { AllByRecursion (IsThere archive.now) (shown_in shown) }
+    ensures { result ≡ nth n (held_numbers archive.now text.now (shown_in shown.entry)) }
 {
     if n == 0 {
         return None;

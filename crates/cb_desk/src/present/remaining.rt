@@ -1,17 +1,39 @@
 //! Frames of lines that are still there after a replacement.
-ghost use Rattle.std.specs.Prelude.{◌≡◌, IfOk};
+ghost use Rattle.std.specs.Prelude.{◌≡◌, ◌≤◌, true, false, length, IfOk};
+ghost use Rattle.std.specs.Cmp.Lexicographic.{slice_cmp};
+ghost use Rattle.std.specs.List.Sorted.{IsPartitionPoint};
+ghost use Rattle.std.specs.Ordering.{is_lt, nat_cmp};
+ghost use Rattle.cb_index.specs.Archived.{name_of};
 ghost use Rattle.cb_index.specs.Files.{AreAscending};
+ghost use Rattle.cb_index.specs.declared.entry.Shown.{Shown};
 ghost use Rattle.cb_desk.specs.steps.Edits.{IsDifference};
 ghost use Rattle.cb_desk.specs.steps.Records.{place_in};
 ghost use Rattle.cb_desk.specs.steps.Replaced.{files_then, staying, stays_in, texts_of};
 
 use crate::new_versions::NewVersions;
 use crate::place_edits::{PlaceEdits, difference};
-use crate::present::marked_files::index_for;
 use crate::present::replaced::Replacing;
 use crate::spot::NumberedPlace;
-use cb_index::Shown;
+use cb_index::{Archive, Shown};
 use std::alloc::{AllocError, Global};
+use std::cmp::Ordering;
+
+/// Where the files begin whose names are not below a name, by binary search.
+fn index_for(archive: &Archive, files: &[Shown], name: &[u8]) -> usize
+    requires { AreAscending archive.now files.now }
+    ensures within { result ≤ length files.now }
+    ensures parted { IsPartitionPoint
+        (λ (s : Shown). is_lt (slice_cmp nat_cmp (name_of archive.now s.name) name.now) ≡ true)
+        (λ (s : Shown). is_lt (slice_cmp nat_cmp (name_of archive.now s.name) name.now) ≡ false)
+        files.now result }
+{
+    files.partition_point(
+        |s: &Shown| -> bool
+            ensures { result
+                ≡ is_lt (slice_cmp nat_cmp (name_of archive.entry.now s.now.name) name.entry.now) }
+        { archive.name(s.name).cmp(name) == Ordering::Less },
+    )
+}
 
 impl<'a> Replacing<'a> {
     /// Whether a place stays a line where some files get new versions. In other files it does.

@@ -19,6 +19,7 @@ ghost use Rattle.std.specs.Ordering.{is_lt, nat_cmp};
 ghost use Rattle.cb_index.specs.Archived.{name_of};
 ghost use Rattle.cb_index.specs.Files as shelf;
 ghost use Rattle.cb_index.specs.Files.{IsThere, files_of};
+ghost use Rattle.cb_index.specs.steps.ShownIn.{shown_in};
 ghost use Rattle.cb_desk.specs.Desk.{CountsUpTo, bytes_in};
 ghost use Rattle.cb_desk.specs.Marks.{is_too_large, marked_lines, replaced_file};
 ghost use Rattle.cb_desk.specs.World.{AreAscending, File};
@@ -36,7 +37,7 @@ use crate::present::marked_files::{MarkedFiles, count_in};
 use crate::present::replacement::{replaced_len, replaced_text};
 use crate::scanned::scanned_source;
 use crate::spot::NumberedPlace;
-use cb_index::{Archive, Shown, Version};
+use cb_index::{Archive, Shown, ShownFiles, Version};
 use cb_scan::{Meter, Source};
 use std::alloc::{AllocError, Global};
 use std::cmp::Ordering;
@@ -92,11 +93,12 @@ impl<'a> Replacing<'a> {
     pub(crate) fn marked_files(
         self,
         alloc: Global,
-        shown: &[Shown],
+        shown: ShownFiles<'_>,
     ) -> Result<Vec<Shown>, AllocError>
-        requires { shelf.AreAscending self.archive.now shown.now }
+        requires { shelf.AreAscending self.archive.now (shown_in shown) }
         ensures { IfOk result (λ marked. marked.items
-            ≡ filter (has_mark self.entry.archive.now self.entry.marks.now) shown.now) }
+            ≡ filter (has_mark self.entry.archive.now self.entry.marks.now)
+            (shown_in shown.entry)) }
     {
         MarkedFiles::new(self.archive, shown, self.marks).collect(alloc)
     }
@@ -114,15 +116,15 @@ impl<'a> Replacing<'a> {
     }
 
     /// Whether one of several files would have too many bytes. Only one with a mark can have.
-    pub(crate) fn has_large(self, shown: &[Shown]) -> bool
-        requires there { AllByRecursion (IsThere self.archive.now) shown.now }
-        requires ascending { shelf.AreAscending self.archive.now shown.now }
+    pub(crate) fn has_large(self, shown: ShownFiles<'_>) -> bool
+        requires there { AllByRecursion (IsThere self.archive.now) (shown_in shown) }
+        requires ascending { shelf.AreAscending self.archive.now (shown_in shown) }
         requires small { AllByRecursion (λ (f : File). length f.bytes ≤ self.most)
-            (files_of self.archive.now shown.now) }
+            (files_of self.archive.now (shown_in shown)) }
         ensures { result ≡ list_any (is_too_large self.entry.most)
             (map (replaced_file self.entry.old.now self.entry.new.now
             (places_in self.entry.archive.now self.entry.marks.now))
-            (files_of self.entry.archive.now shown.now)) }
+            (files_of self.entry.archive.now (shown_in shown.entry))) }
     {
         for file in MarkedFiles::new(self.archive, shown, self.marks) {
             if self.is_large(file) {

@@ -12,5 +12,5 @@ returns c =
     (sym (ap (λ (k : Kept). k.now.bounds) c.self.view_is))
     (length-map k.now.shown (file_of k.archive)
     ∙ sym (ap (λ (k : Kept). length k.now.shown) c.self.view_is)
-    ∙ sym (ap length c.shown-count.ensures.value))
+    ∙ sym (c.len-count.ensures ∙ ap length c.shown.ensures.value))
     (sym c.has_file.ensures)

@@ -1,6 +1,7 @@
 use Rattle.std.proofs.Common.{rules, ◌≡◌, ◌∙◌, ap, filter, sym, subst, arith, Some}
 use Rattle.std.specs.List.{AllByRecursion}
 use Rattle.cb_index.specs.Files.{IsThere}
+use Rattle.cb_index.specs.steps.ShownIn.{shown_in}
 use Rattle.cb_index.proofs.InOrderLemmas.{all_filter}
 use Rattle.cb_desk.specs.Desk.{IsBetween, bytes_in, counted, new_texts}
 use Rattle.cb_desk.specs.Marks.{replaced_files, replaced_on_marks, with_files}
@@ -17,7 +18,7 @@ pub versions_then-requires : goal.versions_then-requires
 versions_then-requires c =
     let a = c.replacing-replacing.result.archive.now in
     let marks = c.replacing-replacing.result.marks.now in
-    let shown = c.shown.result.now in
+    let shown = shown_in c.shown.result in
     let marked : c.as_slice-2.result.now ≡ filter (has_mark a marks) shown = search rules in
     let there : AllByRecursion (IsThere a) shown =
     subst (λ b. AllByRecursion (IsThere b) shown) (ap (λ (p : Kept). p.archive) c.self.view_is
@@ -32,8 +33,8 @@ returns-in_err-versions-clause-meter c =
     let a = made.archive.now in
     let marks = made.marks.now in
     let wanted : k.now.wanted ≡ Some made.old.now = search rules in
-    let shown : c.shown.result.now ≡ k.now.shown = search rules in
-    let marked : c.as_slice-2.result.now ≡ filter (has_mark a marks) c.shown.result.now =
+    let shown : shown_in c.shown.result ≡ k.now.shown = search rules in
+    let marked : c.as_slice-2.result.now ≡ filter (has_mark a marks) (shown_in c.shown.result) =
     search rules in
     let same : files_then a marks made.old.now made.new.now c.as_slice-2.result.now
     ≡ new_texts (world_in k.archive k.now) c.args.text.now =
@@ -71,8 +72,8 @@ returns-clause-meter c =
     let a = made.archive.now in
     let marks = made.marks.now in
     let wanted : k.now.wanted ≡ Some made.old.now = search rules in
-    let shown : c.shown.result.now ≡ k.now.shown = search rules in
-    let marked : c.as_slice-2.result.now ≡ filter (has_mark a marks) c.shown.result.now =
+    let shown : shown_in c.shown.result ≡ k.now.shown = search rules in
+    let marked : c.as_slice-2.result.now ≡ filter (has_mark a marks) (shown_in c.shown.result) =
     search rules in
     let same : files_then a marks made.old.now made.new.now c.as_slice-2.result.now
     ≡ new_texts (world_in k.archive k.now) c.args.text.now =

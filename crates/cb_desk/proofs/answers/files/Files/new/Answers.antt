@@ -1,6 +1,7 @@
 use Rattle.std.proofs.Common.{◌∙◌, ap, map, subst}
 use Rattle.cb_index.specs.Files.{files_of}
 use Rattle.cb_index.specs.Shelved.{files}
+use Rattle.cb_index.specs.steps.ShownIn.{shown_in}
 use Rattle.cb_desk.specs.World.{IsAscending}
 use Rattle.cb_desk.specs.steps.Lent.{without_facts}
 use Rattle.cb_desk.proofs.ShownFiles.{bare-files, files-ascend}
@@ -15,4 +16,4 @@ pub returns-clause-ascending : goal.returns-clause-ascending
 returns-clause-ascending c =
     let archive = c.args.shelf.now.archive in
     subst (λ shown. IsAscending (files_of archive shown)) c.shown-shown.ensures.value
-    (files-ascend archive c.shown-shown.result.now c.shown-shown.ensures.ascending)
+    (files-ascend archive (shown_in c.shown-shown.result) c.shown-shown.ensures.ascending)

@@ -1,6 +1,7 @@
 use Rattle.std.proofs.Common.{rules, ◌≡◌, ◌∙◌, ap, sym, subst, true, [], ◌∷◌, ◌||◌}
 use Rattle.std.specs.List.{AllByRecursion, list_any}
 use Rattle.cb_index.specs.Files.{IsThere}
+use Rattle.cb_index.specs.steps.ShownIn.{shown_in}
 use Rattle.cb_index.proofs.InOrderLemmas.{all_filter}
 use Rattle.cb_desk.specs.Marks.{is_too_large}
 use Rattle.cb_desk.specs.steps.Replaced.{file_then, files_then, has_mark}
@@ -16,7 +17,7 @@ loop-file-init c =
       same = ap (λ ss. list_any (is_too_large c.args.self.most)
           (files_then a marks c.args.self.old.now c.args.self.new.now ss)) (sym given);
       there = subst (AllByRecursion (IsThere a)) (sym given)
-          (all_filter (has_mark a marks) (IsThere a) c.args.shown.now c.requires.there);
+          (all_filter (has_mark a marks) (IsThere a) (shown_in c.args.shown) c.requires.there);
     }
 
 pub returns-then-is_large : goal.returns-then-is_large
@@ -32,7 +33,7 @@ returns-then-is_large c =
     ∙ ap (λ b. b || list_any (is_too_large c.args.self.most)
     (files_then a marks old new c.next.new.self)) large)
     ∙ sym c.loop-file.invariant.same
-    ∙ large_changed a marks old new c.args.self.most c.args.shown.now c.requires.small
+    ∙ large_changed a marks old new c.args.self.most (shown_in c.args.shown) c.requires.small
 
 pub returns : goal.returns
 returns c =
@@ -43,4 +44,4 @@ returns c =
     let none : c.loop-file.file-iterator ≡ [] = search rules in
     sym (ap (λ ss. list_any (is_too_large c.args.self.most) (files_then a marks old new ss)) none)
     ∙ sym c.loop-file.invariant.same
-    ∙ large_changed a marks old new c.args.self.most c.args.shown.now c.requires.small
+    ∙ large_changed a marks old new c.args.self.most (shown_in c.args.shown) c.requires.small
