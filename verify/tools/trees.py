@@ -12,6 +12,9 @@ Questions  the rows of `find` are those of one `cbrowse find --wide`, byte for b
            question that is none is refused.
 Very large a file with very large tags is left out and told, unless --all is given: many names on a
            line, in a file of 12 MB too, and many enumerators of an enumeration with a long name.
+           Two files are taken whose tags are very large together.
+Refused    a file that the program refuses is left out and told with its reason, and all else is
+           there.
 Names      names from lists and from standard input, folders and files in any mix, what is left out
            by --exclude, and which of them decide the status.
 Odd names  what cbrowse does not take is told once for each reason, with how many and three names,
@@ -172,6 +175,30 @@ def very_large(place: Place) -> None:
     reader = ["sh", "-c", 'sh "$0" -f - --all vast/name.c | wc -c', place.script]
     status, out, said = place.run_by(reader)
     check("--all", status == 0 and int(out) > 100_000_000, (out, said))
+    for name in "ab":
+        place.put(f"together/{name}.c", f"enum {{ {f'{name},' * 7_000} }};\n")
+    place.put("together/c.c", TEXT + "/* */\n" * 20_000)
+    expected = one(place, [f"together/{name}.c" for name in "abc"])
+    status, out, said = place.run("-j", "1", "-f", "-", "together")
+    is_right = len(expected) > 150_000_000 and (status, out, said) == (0, expected, "")
+    check("tags that are very large together", is_right, (status, len(out), said))
+
+
+def refused(place: Place) -> None:
+    """A program that refuses one file of a part."""
+    for name in "abc":
+        place.put(f"refused/{name}.c", TEXT)
+    place.put(
+        "refusing",
+        '#!/bin/sh\ncase "$*" in *refused/b.c*)\n'
+        f'echo "cbrowse: refused/b.c: odd" >&2; exit 1\nesac\nexec {place.cbrowse} "$@"\n',
+    )
+    (place.folder / "refusing").chmod(0o755)
+    expected = one(place, ["refused/a.c", "refused/c.c"])
+    told = "cbrowse-tree: 1 left out, odd: refused/b.c\n"
+    for status, words in (0, ["refused"]), (1, ["refused", "refused/b.c"]):
+        found = place.run("-j", "1", "-f", "-", *words, CBROWSE=place.folder / "refusing")
+        check(f"a refused file in {' '.join(words)}", found == (status, expected, told), found)
 
 
 def names_given(place: Place) -> None:
@@ -489,6 +516,7 @@ def main() -> int:
         whole(place)
         questions(place)
         very_large(place)
+        refused(place)
         names_given(place)
         odd_names(place)
         ends(place)
