@@ -1,6 +1,6 @@
 -- The rows that entries are spread out into.
 use Rattle.std.proofs.Common.{◌≡◌, ◌∙◌, ℕ, suc, Bool, true, false, List, [], ◌∷◌, ◌++◌, Some, None}
-use Rattle.std.proofs.Common.{refl, sym, ap, length, map, drop, filter, get_or, arith}
+use Rattle.std.proofs.Common.{refl, sym, ap, length, map, drop, filter, arith}
 use Rattle.std.proofs.lemmas.List.Concat.{flat_map-append}
 use Rattle.std.proofs.lemmas.List.Elements.{filter-append, filter_agree}
 use Rattle.std.specs.Prelude.{cond, nat_eq, Option, ◌&&◌}

@@ -4,7 +4,6 @@ use Rattle.std.proofs.Common.{drop, length, refl, sym, ap, arith}
 use Rattle.std.proofs.Math.Nat.{mul-le-mul_right, suc-mul}
 use Rattle.std.proofs.lemmas.Cmp.{by_ranked, ranked}
 use Rattle.std.specs.Cmp.Lexicographic.{slice_cmp}
-use Rattle.std.specs.List.{AllByRecursion}
 use Rattle.std.specs.Ordering.{nat_cmp, ordering_then}
 use Rattle.cb_scan.specs.Keys.{key_prefix, leading}
 use Rattle.cb_scan.proofs.KeyOrder.{first_bytes_first, leading_below, turned}

@@ -1,5 +1,5 @@
 -- Eight bytes settle the order, or what follows them does.
-use Rattle.std.proofs.Common.{◌≡◌, ◌∙◌, ◌<◌, ◌≤◌, arith, sym}
+use Rattle.std.proofs.Common.{◌∙◌, ◌<◌, arith, sym}
 use Rattle.std.proofs.lemmas.List.{take_rest}
 use Rattle.std.specs.Cmp.Lexicographic.{slice_cmp}
 use Rattle.std.specs.Ordering.{nat_cmp}
