@@ -150,6 +150,12 @@ unfolding tag_name
 front_of_other name isnt =
     ap (λ b. tag_front (cond b (codes "M" ++ without_c (base_name [])) name)) isnt
 
+pub own_name : (name file : List ℕ) → bytes_eq name (codes "main") ≡ false
+    → name ≡ tag_name name file
+unfolding tag_name
+own_name name file isnt =
+    sym (ap (λ b. cond b (codes "M" ++ without_c (base_name file)) name) isnt)
+
 front_bytes : (name : List ℕ) → AreBytes name → AreBytes (tag_front name)
 unfolding tag_front
 front_bytes [] bytes = tt

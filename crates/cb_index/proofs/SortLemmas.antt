@@ -1,48 +1,35 @@
 -- Parts between which the prefixes change are put in order each for itself.
-use Rattle.std.proofs.Common.{◌≡◌, ◌∙◌, ◌≤◌, ◌<◌, ◌+◌, ℕ, Bool, true, false, List, [], ◌∷◌, ◌++◌}
-use Rattle.std.proofs.Common.{sym, ap, take, drop, length, get_or, arith, ⊎_elim}
-use Rattle.std.proofs.lemmas.Bool.{cases_lt, false≢true}
-use Rattle.std.proofs.lemmas.Bool.Decides.{nat_tests}
+use Rattle.std.proofs.Common.{◌≡◌, ◌∙◌, ◌≤◌, ◌<◌, ◌+◌, ◌++◌, ℕ, zero, suc, Bool, true, false}
+use Rattle.std.proofs.Common.{List, [], ◌∷◌, set}
+use Rattle.std.proofs.Common.{refl, sym, ap, map, take, drop, length, get_or, arith}
+use Rattle.std.proofs.lemmas.Bool.{false≢true}
+use Rattle.std.proofs.lemmas.Bool.Decides.{Decides-eqb, nat_tests}
+use Rattle.std.proofs.lemmas.Cmp.{nat_cmp_total, tied_itself}
 use Rattle.std.proofs.lemmas.List.{take-append-drop}
 use Rattle.std.proofs.lemmas.List.Sums.{sum_by-append}
-use Rattle.std.specs.Prelude.{not, sum_by}
+use Rattle.std.specs.Prelude.{nat_eq, not, sum_by, ◌&&◌}
 use Rattle.std.specs.Cmp.Lexicographic.{slice_cmp}
-use Rattle.std.specs.List.{AllByRecursion}
-use Rattle.std.specs.List.Sorted.{IsNonDecreasingBy, IsPartitionPoint}
+use Rattle.std.specs.List.{AllByRecursion, list_all}
+use Rattle.std.specs.List.Sorted.{IsPartitionPoint}
 use Rattle.std.specs.Ordering.{is_gt, nat_cmp, ordering_then}
-use Rattle.std.specs.declared.cmp.Ordering.TheVariants.{Less, Greater}
-use Rattle.cb_scan.specs.Order.{goes_first, in_order}
+use Rattle.std.specs.declared.cmp.Ordering.TheVariants.{Less}
+use Rattle.cb_scan.specs.Order.{AreOrdered, goes_first, in_order}
 use Rattle.cb_scan.proofs.FactsWithin.{all_in_order}
 use Rattle.cb_scan.proofs.FunctionsRise.{all_implied}
+use Rattle.cb_scan.proofs.KeyOrder.{prefix_first as words_first, then_assoc}
 use Rattle.cb_scan.proofs.OrderLemmas.{Sorted, in_order_sorted, in_order_sum, unique}
 use Rattle.cb_scan.proofs.WithinLemmas.{all-append}
 use Rattle.cb_index.specs.Archived.{Archived}
-use Rattle.cb_index.specs.Entries.{Keyer, bytes_key, sort_key}
-use Rattle.cb_index.specs.steps.Quick.{IsBoundary, prefix_of, quick_key}
+use Rattle.cb_index.specs.Entries.{Keyer, bytes_key, file_key, key_of, sort_key}
+use Rattle.cb_index.specs.steps.Quick.{IsBoundary, IsDeep, with_prefix}
 use Rattle.cb_index.specs.declared.entry.Entry.{Entry}
-use Rattle.cb_index.proofs.EntryLemmas.{sort_exact}
-use Rattle.cb_index.proofs.SortedLemmas.{all_behind, all_upto, earlier_first}
+use Rattle.cb_index.proofs.EntryLemmas.{bytes_cmp, sort_exact}
+use Rattle.cb_index.proofs.InOrderLemmas.{in_order_agree, map_in_order}
+use Rattle.cb_index.proofs.SortedLemmas.{all_behind, all_upto}
 
 -- ---- prefixes
 number_less : (x y : ℕ) → x < y → nat_cmp x y ≡ Less
 number_less x y less = grind (arith, nat_tests, less)
-
-number_greater : (x y : ℕ) → y < x → nat_cmp x y ≡ Greater
-number_greater x y greater = grind (arith, nat_tests, greater)
-
--- what goes first has no greater prefix
-not_greater : (e f : Entry) → goes_first quick_key e f ≡ true → e.prefix ≤ f.prefix
-not_greater e f first =
-    ⊎_elim
-    (λ above. absurd (false≢true (sym (ap (λ o. not
-    (is_gt (ordering_then o (slice_cmp nat_cmp (e.name ∷ e.number ∷ []) (f.name ∷ f.number ∷ [])))))
-    (number_greater e.prefix f.prefix above)) ∙ first)))
-    (λ upward. upward)
-    (cases_lt f.prefix e.prefix)
-
-pub prefixes_rise : (es : List Entry) → Sorted quick_key es → IsNonDecreasingBy prefix_of es
-prefixes_rise es s i j d upward below =
-    not_greater (get_or es i d) (get_or es j d) (earlier_first quick_key es s i j d upward below)
 
 -- a place where a test on the prefix parts the entries
 pub parted_at : (p : Entry → Bool) (bound n : ℕ) (es : List Entry)
@@ -105,3 +92,94 @@ module _ (keyer : Keyer) (a : Archived) where
       ∙ (λ i. in_order_sum key f (take n es) i + in_order_sum key f (drop n es) i)
       ∙ sym (sum_by-append f (take n es) (drop n es)) ∙ ap (sum_by f) (take-append-drop n es)
       ∙ sym (in_order_sum key f es))
+
+-- ---- words of keys
+common_front : (front r s : List ℕ)
+    → slice_cmp nat_cmp (front ++ r) (front ++ s) ≡ slice_cmp nat_cmp r s
+common_front [] r s = refl
+common_front (x ∷ front) r s =
+    ap (λ o. ordering_then o (slice_cmp nat_cmp (front ++ r) (front ++ s)))
+    (tied_itself nat_cmp_total x)
+    ∙ common_front front r s
+
+-- entries that have a prefix are not changed by it
+pub all_prefixed : (p : ℕ) (es : List Entry)
+    → list_all (λ (e : Entry). nat_eq e.prefix p) es ≡ true → map (with_prefix p) es ≡ es
+all_prefixed p [] all = refl
+all_prefixed p (e ∷ es) all = by_test (nat_eq e.prefix p) refl all (all_prefixed p es)
+  where
+    by_test : (b : Bool) → nat_eq e.prefix p ≡ b
+        → (b && list_all (λ (f : Entry). nat_eq f.prefix p) es) ≡ true
+        → (list_all (λ (f : Entry). nat_eq f.prefix p) es ≡ true → map (with_prefix p) es ≡ es)
+        → map (with_prefix p) (e ∷ es) ≡ e ∷ es
+    by_test false is all later = absurd (false≢true all)
+    by_test true is all later =
+        let same : e.prefix ≡ p = (Decides-eqb e.prefix p).0 is in
+        λ i. with_prefix (sym same i) e ∷ later all i
+
+-- an entry that is given a word is the same but for that
+pub same_but_words : (p word : ℕ) (es : List Entry) (i : ℕ) (e : Entry) → i < length es
+    → e ≡ get_or es i e
+    → map (with_prefix p) (set es i (with_prefix word e)) ≡ map (with_prefix p) es
+same_but_words p word [] i e below is = absurd (omega (arith, below))
+same_but_words p word (f ∷ es) zero e below is = ap (λ x. with_prefix p x ∷ map (with_prefix p) es) is
+same_but_words p word (f ∷ es) (suc i) e below is =
+    ap (λ l. with_prefix p f ∷ l) (same_but_words p word es i e (omega (arith, below)) is)
+
+pub one_more : (P : Entry → Type 0) (es : List Entry) (i : ℕ) (e : Entry) → i < length es
+    → AllByRecursion P (take i es) → P e → AllByRecursion P (take (suc i) (set es i e))
+one_more P [] i e below all here = absurd (omega (arith, below))
+one_more P (f ∷ es) zero e below all here = (here, tt)
+one_more P (f ∷ es) (suc i) e below all here =
+    (all.0, one_more P es i e (omega (arith, below)) all.1 here)
+
+module _ (keyer : Keyer) (a : Archived) (front : List ℕ) (p : ℕ) where
+  abbrev key : Entry → List ℕ
+  key = sort_key keyer a
+
+  -- words of keys with one front settle no comparison otherwise than the keys do
+  word_cmp : (e f : Entry) → IsDeep keyer a front e → IsDeep keyer a front f
+      → slice_cmp nat_cmp (key e) (key f)
+      ≡ slice_cmp nat_cmp (key (with_prefix p e)) (key (with_prefix p f))
+  unfolding sort_key
+  word_cmp e f (r, key_e, in_r, word_e) (s, key_f, in_s, word_f) =
+      let words = nat_cmp e.prefix f.prefix in
+      let keys = slice_cmp nat_cmp (key_of keyer a e) (key_of keyer a f) in
+      let files = slice_cmp nat_cmp (file_key a e) (file_key a f) in
+      let rests : keys ≡ slice_cmp nat_cmp r s =
+      (λ i. slice_cmp nat_cmp (key_e i) (key_f i)) ∙ common_front front r s in
+      let settled : ordering_then words keys ≡ keys =
+      (λ i. ordering_then (nat_cmp (word_e i) (word_f i)) (rests i)) ∙ words_first r s in_r in_s
+      ∙ sym rests in
+      ap (ordering_then words) (sym (bytes_cmp keyer a e f)) ∙ sym (then_assoc words keys files)
+      ∙ ap (λ o. ordering_then o files) settled ∙ bytes_cmp keyer a e f
+      ∙ sym (ap (λ o. ordering_then o (slice_cmp nat_cmp (bytes_key keyer a e) (bytes_key keyer a f)))
+      (tied_itself nat_cmp_total p))
+
+  all_agree : (e : Entry) (fs : List Entry) → IsDeep keyer a front e
+      → AllByRecursion (IsDeep keyer a front) fs
+      → AllByRecursion
+      (λ f. goes_first key e f ≡ goes_first (λ x. key (with_prefix p x)) e f) fs
+  all_agree e [] deep all = tt
+  all_agree e (f ∷ fs) deep all =
+      (ap (λ o. not (is_gt o)) (word_cmp e f deep all.0), all_agree e fs deep all.1)
+
+  pairs_agree : (es : List Entry) → AllByRecursion (IsDeep keyer a front) es
+      → AreOrdered (λ e f. goes_first key e f ≡ goes_first (λ x. key (with_prefix p x)) e f) es
+  unfolding AreOrdered
+  pairs_agree [] all = tt
+  pairs_agree (e ∷ es) all = (all_agree e es all.0 all.1, pairs_agree es all.1)
+
+  same_keys : (es : List Entry)
+      → AllByRecursion (λ e. key (with_prefix p e) ≡ key (with_prefix p e)) es
+  same_keys [] = tt
+  same_keys (e ∷ es) = (refl, same_keys es)
+
+  -- entries in the order of their words are in order
+  pub words_order : (es : List Entry) → AllByRecursion (IsDeep keyer a front) es
+      → map (with_prefix p) (in_order (sort_key keyer a) es)
+      ≡ in_order (sort_key keyer a) (map (with_prefix p) es)
+  words_order es all =
+      ap (map (with_prefix p))
+      (in_order_agree key (λ x. key (with_prefix p x)) es (pairs_agree es all))
+      ∙ map_in_order (λ x. key (with_prefix p x)) key (with_prefix p) es (same_keys es)

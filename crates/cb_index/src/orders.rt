@@ -6,11 +6,14 @@ ghost use Rattle.std.specs.Prelude.{
   ◌<◌,
   ◌^◌,
   ◌++◌,
+  ℕ,
+  List,
   [],
   length,
   map,
   vec_len,
   vec_capacity,
+  IfSome,
 };
 ghost use Rattle.std.specs.Cmp.Lexicographic.{slice_cmp};
 ghost use Rattle.std.specs.Ordering.{nat_cmp};
@@ -71,6 +74,28 @@ pub(crate) fn name_in(archive: &Archive, version: u32, item: u32) -> &[u8]
     match archive.version(version) {
         Some(version) => bytes_at(version.source().bytes(), def_span(version.facts(), item)),
         None => &[],
+    }
+}
+
+/// The tag name of a definition where that is its name: not that of a `main`.
+fn plain_name(name: &[u8]) -> Option<&[u8]>
+    ensures { IfSome result (λ key. (file : List ℕ) → key.now ≡ tag_name name.now file) }
+{
+    if name == b"main".as_slice() {
+        None
+    } else {
+        Some(name)
+    }
+}
+
+/// The key of an entry where that stands in a text.
+pub(crate) fn plain_key(kind: IndexKind, archive: &Archive, entry: Entry) -> Option<&[u8]>
+    ensures { IfSome result (λ key. key.now ≡ key_of (keyer_of kind) archive.now entry) }
+{
+    match kind {
+        IndexKind::DefsByName => Some(name_in(archive, entry.version, entry.number)),
+        IndexKind::DefsByTagName => plain_name(name_in(archive, entry.version, entry.number)),
+        IndexKind::Facts(kind) => Some(key_in(kind, archive, entry.version, entry.number)),
     }
 }
 

@@ -1,41 +1,63 @@
-//! Entries are sorted by what stands in them, and only those of one prefix by their keys, which are
-//! looked up in the archive.
-ghost use Rattle.std.specs.Prelude.{◌≡◌, ◌≤◌, length, nat_le, nat_lt, vec_capacity};
+//! Entries are sorted by their prefixes, and those of one prefix by the words of their keys that
+//! follow, each looked up once. What has one key is sorted by comparing files.
+ghost use Rattle.std.specs.Prelude.{
+  ◌≡◌,
+  ◌≤◌,
+  ℕ,
+  true,
+  IfSome,
+  length,
+  map,
+  nat_eq,
+  nat_le,
+  nat_lt,
+  vec_capacity,
+};
+ghost use Rattle.std.specs.List.{AllByRecursion, list_all};
 ghost use Rattle.std.specs.Cmp.Lexicographic.{slice_cmp};
 ghost use Rattle.std.specs.List.Sorted.{IsNonDecreasingBy, IsPartitionPoint, IsPermutation};
 ghost use Rattle.std.specs.Ordering.{nat_cmp};
 ghost use Rattle.cb_scan.specs.Order.{in_order};
 ghost use Rattle.cb_index.specs.Entries.{sort_key};
 ghost use Rattle.cb_index.specs.Kinds.{keyer_of};
-ghost use Rattle.cb_index.specs.steps.Quick.{IsBoundary, prefix_of, quick_key};
+ghost use Rattle.cb_index.specs.steps.Quick.{IsBoundary, IsDeep, prefix_of, with_prefix};
+ghost use Rattle.cb_index.specs.declared.entry.Entry.{Entry};
 
 use crate::archive::Archive;
+use crate::bytes::read_bytes;
 use crate::entry::Entry;
 use crate::kind::IndexKind;
 use crate::order::compare;
+use crate::orders::plain_key;
+use cb_scan::key_prefix;
 use std::cmp::Ordering;
 
-/// The order of two entries by prefix, name and number.
-fn compare_quickly(a: Entry, b: Entry) -> Ordering
-    ensures { result ≡ slice_cmp nat_cmp (quick_key a) (quick_key b) }
-{
-    match a.prefix.cmp(&b.prefix) {
-        Ordering::Less => Ordering::Less,
-        Ordering::Greater => Ordering::Greater,
-        Ordering::Equal => [a.name, a.number].cmp(&[b.name, b.number]),
-    }
-}
+/// Fewer entries are sorted by comparing their keys.
+const FEW: usize = 4;
 
-/// Sorts entries by prefix, and those of one prefix by name and number.
-fn sort_quickly(entries: &mut [Entry])
+/// How many bytes of a key are a prefix.
+const WORD: usize = 8;
+
+/// So many bytes of keys at most are passed over.
+const DEEPEST: usize = 128;
+
+/// Sorts entries by prefix.
+fn sort_by_prefix(entries: &mut [Entry])
     ensures moved { IsPermutation entries.old entries.new }
     ensures order { IsNonDecreasingBy prefix_of entries.new }
 {
-    entries.sort_unstable_by(
-        |a: &Entry, b: &Entry| -> Ordering
-            ensures { result ≡ slice_cmp nat_cmp (quick_key a.now) (quick_key b.now) }
-        { compare_quickly(*a, *b) },
+    entries.sort_unstable_by_key(
+        |e: &Entry| -> u64
+            ensures { result ≡ e.now.prefix }
+        { e.prefix },
     );
+}
+
+/// Sorts entries by name and number, which is near to the order of those of one key.
+fn sort_by_numbers(entries: &mut [Entry])
+    ensures { IsPermutation entries.old entries.new }
+{
+    entries.sort_unstable_by_key(|e: &Entry| -> (u32, u32) { (e.name, e.number) });
 }
 
 /// Where the entries of a prefix begin.
@@ -78,7 +100,7 @@ fn boundary(entries: &[Entry]) -> usize
     end_of(entries, prefix)
 }
 
-/// Puts entries in order.
+/// Puts entries in order by looking their keys and files up.
 fn sort_whole(kind: IndexKind, archive: &Archive, entries: &mut [Entry])
     ensures { entries.new ≡ in_order (sort_key (keyer_of kind) archive.now) entries.old }
 {
@@ -90,19 +112,125 @@ fn sort_whole(kind: IndexKind, archive: &Archive, entries: &mut [Entry])
     );
 }
 
+/// Puts entries in order, of which many have one key.
+fn sort_by_files(kind: IndexKind, archive: &Archive, entries: &mut [Entry])
+    ensures { entries.new ≡ in_order (sort_key (keyer_of kind) archive.now) entries.old }
+{
+    sort_by_numbers(entries);
+    sort_whole(kind, archive, entries);
+}
+
+/// Whether all entries have this prefix.
+fn have_prefix(prefix: u64, entries: &[Entry]) -> bool
+    ensures { result ≡ list_all (λ (e : Entry). nat_eq e.prefix prefix) entries.now }
+{
+    entries.iter().all(|e: &Entry| e.prefix == prefix)
+}
+
+/// An entry with another prefix.
+fn with_prefix(prefix: u64, entry: Entry) -> Entry
+    ensures { result ≡ with_prefix prefix entry }
+{
+    Entry { prefix, ..entry }
+}
+
+/// Gives entries this prefix.
+fn set_prefix(prefix: u64, entries: &mut [Entry])
+    ensures { entries.new ≡ map (with_prefix prefix) entries.old }
+{
+    for entry in entries.iter_mut() {
+        *entry = with_prefix(prefix, *entry);
+    }
+}
+
+/// The eight bytes of a key that follow these, with which it begins, as a number.
+fn next_word(kind: IndexKind, archive: &Archive, front: &[u8], entry: Entry) -> Option<u64>
+    ensures { IfSome result (λ word. IsDeep (keyer_of kind) archive.now front.now
+        (with_prefix word entry)) }
+{
+    let rest = plain_key(kind, archive, entry)?.strip_prefix(front)?;
+    read_bytes(rest);
+    Some(key_prefix(rest))
+}
+
+/// Gives entries the next words of their keys as prefixes; false where a key does not begin with
+/// these bytes, and then only some have others.
+fn deepen(kind: IndexKind, archive: &Archive, front: &[u8], entries: &mut [Entry]) -> bool
+    ensures same { (prefix : ℕ)
+        → map (with_prefix prefix) entries.new ≡ map (with_prefix prefix) entries.old }
+    ensures deep { result ≡ true
+        → AllByRecursion (IsDeep (keyer_of kind) archive.now front.now) entries.new }
+{
+    for entry in entries.iter_mut() {
+        match next_word(kind, archive, front, *entry) {
+            Some(word) => *entry = with_prefix(word, *entry),
+            None => return false,
+        }
+    }
+    true
+}
+
+/// The prefix of the first entry.
+fn first_prefix(entries: &[Entry]) -> u64 {
+    match entries.first() {
+        Some(first) => first.prefix,
+        None => 0,
+    }
+}
+
+/// The first bytes of the key of the first entry, if it has as many.
+fn first_bytes<'a>(
+    kind: IndexKind,
+    archive: &'a Archive,
+    depth: usize,
+    entries: &[Entry],
+) -> Option<&'a [u8]> {
+    plain_key(kind, archive, *entries.first()?)?.get(..depth)
+}
+
+/// Puts entries of one prefix in order by the words of their keys from a depth on: each word takes
+/// the place of the prefix, until all are sorted by it.
+#[cycle(parts)]
+fn sort_run(kind: IndexKind, archive: &Archive, depth: usize, entries: &mut [Entry])
+    ensures { entries.new ≡ in_order (sort_key (keyer_of kind) archive.now) entries.old }
+{
+    let prefix = first_prefix(entries);
+    if depth > DEEPEST || !have_prefix(prefix, entries) {
+        sort_by_files(kind, archive, entries);
+        return;
+    }
+    let Some(front) = first_bytes(kind, archive, depth, entries) else {
+        sort_by_files(kind, archive, entries);
+        return;
+    };
+    if deepen(kind, archive, front, entries) {
+        sort_by_prefix(entries);
+        sort_parts(kind, archive, depth + WORD, entries);
+        set_prefix(prefix, entries);
+    } else {
+        set_prefix(prefix, entries);
+        sort_by_files(kind, archive, entries);
+    }
+}
+
 /// Puts entries in order whose prefixes are.
-fn sort_parts(kind: IndexKind, archive: &Archive, entries: &mut [Entry])
+#[cycle(parts)]
+fn sort_parts(kind: IndexKind, archive: &Archive, depth: usize, entries: &mut [Entry])
     requires { IsNonDecreasingBy prefix_of entries.old }
     ensures { entries.new ≡ in_order (sort_key (keyer_of kind) archive.now) entries.old }
 {
-    let at = boundary(entries);
-    if at == 0 || at == entries.len() {
+    if entries.len() < FEW {
         sort_whole(kind, archive, entries);
         return;
     }
+    let at = boundary(entries);
+    if at == 0 || at == entries.len() {
+        sort_run(kind, archive, depth, entries);
+        return;
+    }
     let (front, back) = entries.split_at_mut(at);
-    sort_parts(kind, archive, front);
-    sort_parts(kind, archive, back);
+    sort_parts(kind, archive, depth, front);
+    sort_parts(kind, archive, depth, back);
 }
 
 /// Puts entries in order.
@@ -110,8 +238,8 @@ fn sort_slice(kind: IndexKind, archive: &Archive, entries: &mut [Entry])
     ensures items { entries.new ≡ in_order (sort_key (keyer_of kind) archive.now) entries.old }
     ensures len { length entries.new ≡ length entries.old }
 {
-    sort_quickly(entries);
-    sort_parts(kind, archive, entries);
+    sort_by_prefix(entries);
+    sort_parts(kind, archive, WORD, entries);
 }
 
 /// Puts entries in order.

@@ -12,7 +12,7 @@ returns-clause-items c =
     let keyer = keyer_of c.args.kind in
     let a = c.args.archive.now in
     c.sort_parts.ensures
-    ∙ same_order (sort_key keyer a) (sort_exact keyer a) c.sort_quickly.new.entries
+    ∙ same_order (sort_key keyer a) (sort_exact keyer a) c.sort_by_prefix.new.entries
     c.args.entries.now
-    (λ f. sum_by-IsPermutation f c.args.entries.now c.sort_quickly.new.entries
-    c.sort_quickly.ensures.moved)
+    (λ f. sum_by-IsPermutation f c.args.entries.now c.sort_by_prefix.new.entries
+    c.sort_by_prefix.ensures.moved)
