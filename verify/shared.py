@@ -8,6 +8,7 @@ import os
 import pathlib
 import re
 import subprocess
+import time
 from typing import Iterable, Optional, Sequence
 
 TOP = pathlib.Path(__file__).resolve().parent.parent
@@ -89,6 +90,16 @@ def copy(source: pathlib.Path, names: Iterable[str], target: pathlib.Path) -> No
 
 
 # ---- what is found
+
+
+def left_over(folder: pathlib.Path) -> list[str]:
+    """The temporary files of companions in a folder. They are removed behind, so it waits a bit."""
+    for _ in range(100):
+        names = [it.name for it in folder.iterdir() if it.name.startswith("cbrowse-")]
+        if not names:
+            break
+        time.sleep(0.1)
+    return names
 
 
 class Report:

@@ -29,7 +29,7 @@ import time
 from typing import Sequence
 
 sys.path.insert(0, str(pathlib.Path(__file__).resolve().parents[1]))
-from shared import Place, Report, words_given, options  # noqa: E402
+from shared import Place, Report, left_over, words_given, options  # noqa: E402
 
 OLD = "old\told.c\t/^old$/\n"
 CALLS = (
@@ -176,7 +176,7 @@ def main() -> int:
             (keys / "hosts").write_text("".join(server.login() + "\n" for server in servers))
             hosts = ["--sshloginfile", str(keys / "hosts")]
             logins(place, names, hosts)
-            left = [it.name for it in home.iterdir() if it.name.startswith("cbrowse-tree")]
+            left = left_over(home)
             check("no temporary folder is left", left == [], left)
             check("nor on the other machines", folders() == before, folders())
             away(place, names, servers, hosts)

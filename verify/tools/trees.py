@@ -39,7 +39,7 @@ import tempfile
 from typing import Iterable
 
 sys.path.insert(0, str(pathlib.Path(__file__).resolve().parents[1]))
-from shared import Place, Report, words_given, options  # noqa: E402
+from shared import Place, Report, left_over, words_given, options  # noqa: E402
 
 OLD = "old\told.c\t/^old$/\n"
 TEXT = "int g(void) {\n}\n"
@@ -368,6 +368,8 @@ def ends(place: Place) -> None:
         status == 0 and (place.folder / "few.tags").read_bytes() == expected,
         said,
     )
+    left = left_over(place.folder / "a blank")
+    check("nothing is left there", left == [], left)
     place.put("real", OLD)
     (place.folder / "link").symlink_to("real")
     status, _, said = place.run("-f", "link", "few")
