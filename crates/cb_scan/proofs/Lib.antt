@@ -61,6 +61,7 @@ pub mod WideGlance
 pub mod WideHeads
 pub mod WideHeld
 pub mod WideInduction
+pub mod WideJoint
 pub mod WideLaws
 pub mod WideMembers
 pub mod WideNames

@@ -38,7 +38,7 @@ module _ (x : WideToken) (other : is_brace x ≡ false) where
   no_mark = (or_parts (x.counted || is_sign 123 x.role || is_sign 125 x.role)
       (is_mark 125 x.token.role) other).1
 
-  no_open : is_sign 123 x.role ≡ false
+  pub no_open : is_sign 123 x.role ≡ false
   no_open = (or_parts x.counted (is_sign 123 x.role) unopened).1
 
   pub uncounted : x.counted ≡ false

@@ -9,6 +9,7 @@ pub(crate) mod def;
 pub(crate) mod enumeration;
 pub(crate) mod found;
 pub(crate) mod head;
+pub(crate) mod joint;
 pub(crate) mod level;
 pub(crate) mod levels;
 pub(crate) mod machine;

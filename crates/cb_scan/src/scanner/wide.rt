@@ -23,7 +23,7 @@ use crate::rules::directives::Stage;
 use crate::rules::order::ordered_defs;
 use crate::rules::wide::beside::staying;
 use crate::rules::wide::found::Found;
-use crate::rules::wide::pass::Pass;
+use crate::rules::wide::joint::Joint;
 use crate::rules::wide::reader::Reader;
 use crate::scanner::together::facts_with;
 use crate::scanner::{is_newline, is_significant};
@@ -84,7 +84,7 @@ fn gather(alloc: Global, text: &[u8]) -> Result<Gathered, AllocError>
         ≡ flat_map (include_of text.now) (directives text.now (pieces text.now))) }
 {
     let mut reader = Reader::new();
-    let mut pass = Pass::new(alloc);
+    let mut pass = Joint::new(alloc);
     let mut found = Found::new(alloc);
     let mut calls = Vec::new(alloc);
     let mut last = None;
@@ -95,7 +95,7 @@ fn gather(alloc: Global, text: &[u8]) -> Result<Gathered, AllocError>
             let token = token_of(text, &lined);
             lines.add(text, &mut line, &token)?;
             if line.is_code() {
-                push_some(&mut calls, call_before(pass.body, last, &token))?;
+                push_some(&mut calls, call_before(pass.body(), last, &token))?;
                 reader.add(&mut pass, &mut found, text, &token)?;
                 last = Some(token);
             }

@@ -1,5 +1,5 @@
 //! Names that are called in parentheses, as in `(WINAPI *f)(`.
-ghost use Rattle.std.specs.Prelude.{◌≡◌};
+ghost use Rattle.std.specs.Prelude.{◌≡◌, true};
 ghost use Rattle.cb_scan.specs.steps.wide.Called.{
   amount_after,
   call_of,
@@ -102,6 +102,13 @@ impl Calls {
             enclosed: None,
             found: None,
         }
+    }
+
+    /// Nothing came.
+    pub(crate) fn is_new(&self) -> bool
+        ensures { result ≡ true → self.now ≡ no_calls }
+    {
+        self.enclosed.is_none() && self.found.is_none()
     }
 
     /// After the first of these tokens. The first `(` outside parentheses and brackets counts that

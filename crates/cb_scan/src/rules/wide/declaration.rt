@@ -1,5 +1,5 @@
 //! A declaration, a token at a time.
-ghost use Rattle.std.specs.Prelude.{◌≡◌, ◌+◌, ◌<◌, ◌≤◌, ◌^◌};
+ghost use Rattle.std.specs.Prelude.{◌≡◌, ◌+◌, ◌<◌, ◌≤◌, ◌^◌, true};
 ghost use Rattle.cb_scan.specs.steps.wide.Declarations.{
   before_in_file,
   closes,
@@ -97,6 +97,20 @@ impl Declaration {
             closes: false,
             part: Part::new(true),
         }
+    }
+
+    /// No token came.
+    pub(crate) fn is_new(&self) -> bool
+        ensures { result ≡ true → self.now ≡ declaration_start }
+    {
+        self.part.is_new()
+            && self.count == 0
+            && !self.has_equals
+            && !self.has_static
+            && !self.has_extern
+            && !self.has_typedef
+            && !self.is_stray
+            && !self.closes
     }
 
     /// Whether a declaration of the file begins anew with the token, since a `;` is missing.

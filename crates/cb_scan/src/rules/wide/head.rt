@@ -1,8 +1,10 @@
 //! The head of a function, as far as prototypes are asked for.
-ghost use Rattle.std.specs.Prelude.{◌≡◌, ◌+◌, ◌<◌, ◌≤◌, ◌^◌};
+ghost use Rattle.std.specs.Prelude.{◌≡◌, ◌+◌, ◌<◌, ◌≤◌, ◌^◌, true};
 ghost use Rattle.cb_scan.specs.steps.wide.Heads.{declared, head_start, next_head};
+ghost use Rattle.cb_scan.specs.steps.wide.Joint.{head_beside, head_with};
 
 use crate::rules::typedefs::nesting_after;
+use crate::rules::wide::declaration::Declaration;
 use crate::rules::wide::part::Part;
 use crate::rules::wide::token::WideToken;
 
@@ -33,6 +35,31 @@ impl WideHead {
         match self.found {
             Some(name) => Some(name),
             None => self.part.function(),
+        }
+    }
+
+    /// No token came.
+    pub(crate) fn is_new(&self) -> bool
+        ensures { result ≡ true → self.now ≡ head_start }
+    {
+        self.part.is_new() && self.count == 0 && self.found.is_none()
+    }
+
+    /// With the open part of a declaration.
+    pub(crate) fn part_from(&mut self, declaration: &Declaration)
+        ensures { self.new ≡ head_with true declaration.now self.old }
+    {
+        self.count = declaration.count;
+        self.part = declaration.part;
+    }
+
+    /// After a token that is no brace, where a declaration has the same open part.
+    #[inline(always)]
+    pub(crate) fn add_beside(&mut self, declaration: &Declaration, item: &WideToken)
+        ensures { self.new ≡ head_beside declaration.now self.old item.now }
+    {
+        if declaration.count == 0 && item.role.is_sign(b',') && self.found.is_none() {
+            self.found = declaration.part.function();
         }
     }
 

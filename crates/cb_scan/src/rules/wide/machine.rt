@@ -13,11 +13,12 @@ ghost use Rattle.cb_scan.specs.steps.wide.Functions.{
   stopped,
   stops,
 };
+ghost use Rattle.cb_scan.specs.steps.wide.Joint.{machine_beside};
 
 use crate::facts::Def;
 use crate::lex::token::Token;
 use crate::rules::heads::{Head, def_of};
-use crate::rules::wide::declaration::is_linkage;
+use crate::rules::wide::declaration::{Declaration, is_linkage};
 use crate::rules::wide::head::WideHead;
 use crate::rules::wide::token::WideToken;
 
@@ -152,6 +153,20 @@ impl WideMachine {
             self.parts.add(ahead, item);
         }
         self.depth = depth;
+    }
+
+    /// After a token of the file that is no brace, where a declaration has the same open part.
+    #[inline(always)]
+    pub(crate) fn next_beside(&mut self, declaration: &Declaration, item: &WideToken)
+        requires { self.old.depth + 1 < 2 ^ 32 }
+        ensures { self.new ≡ machine_beside declaration.now self.old item.now }
+    {
+        if item.role.is_sign(b';') {
+            self.stop(item);
+        } else {
+            self.head.add(&item.token);
+            self.parts.add_beside(declaration, item);
+        }
     }
 
     /// After the first of these tokens.

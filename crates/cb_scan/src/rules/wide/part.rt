@@ -1,5 +1,5 @@
 //! A part of a declaration, or of the head of a function, a token at a time.
-ghost use Rattle.std.specs.Prelude.{◌≡◌};
+ghost use Rattle.std.specs.Prelude.{◌≡◌, true};
 ghost use Rattle.cb_scan.specs.steps.wide.Parts.{
   begins_value,
   function,
@@ -64,6 +64,17 @@ impl Part {
             has_value: false,
             is_stray: false,
         }
+    }
+
+    /// The first part begins.
+    pub(crate) fn is_new(&self) -> bool
+        ensures { result ≡ true → self.now ≡ part_start true }
+    {
+        self.tail.is_new()
+            && self.calls.is_new()
+            && matches!(self.pointer, Pointer::Nothing)
+            && !self.has_value
+            && !self.is_stray
     }
 
     /// After the first of these tokens. The value is passed over.

@@ -1,10 +1,11 @@
 //! The pass of the wide profile over the tokens that are of no attribute.
-ghost use Rattle.std.specs.Prelude.{◌≡◌, ◌+◌, ◌<◌, ◌≤◌, ◌^◌, ◌++◌, false, IfOk};
+ghost use Rattle.std.specs.Prelude.{◌≡◌, ◌+◌, ◌<◌, ◌≤◌, ◌^◌, ◌++◌, false, true, IfOk};
 ghost use Rattle.std.specs.List.{flat_map};
 ghost use Rattle.std.specs.Option.{option_map};
 ghost use Rattle.cb_scan.specs.steps.Functions.{range_to};
 ghost use Rattle.cb_scan.specs.steps.wide.Contents.{most_open, next_levels};
 ghost use Rattle.cb_scan.specs.steps.wide.Givens.{object_given, typedef_given};
+ghost use Rattle.cb_scan.specs.steps.wide.Joint.{next_together, pass_with, stays_together};
 ghost use Rattle.cb_scan.specs.steps.wide.Pass.{
   function_found,
   is_block,
@@ -46,7 +47,7 @@ pub(crate) struct Pass {
 
 /// A brace, by its role or by its token.
 #[inline(always)]
-fn is_brace(item: &WideToken) -> bool
+pub(crate) fn is_brace(item: &WideToken) -> bool
     ensures { result ≡ is_brace item.now }
 {
     item.counted || item.role.is_sign(b'{') || item.role.is_sign(b'}') || item.token.is_mark(b'}')
@@ -248,6 +249,56 @@ impl Pass {
             self.machine.next(ahead, item);
             self.body = None;
         }
+        found.define(self.levels.found(ahead, item))?;
+        self.levels.add(ahead, item);
+        self.opening = next_opening(self.opening, item);
+        Ok(())
+    }
+
+    /// The head and the declaration of the file go on with the token as they are.
+    #[inline(always)]
+    pub(crate) fn stays_together(&self, item: &WideToken) -> bool
+        ensures { result ≡ stays_together self.now item.now }
+    {
+        self.is_in_file() && !is_brace(item) && !self.file.is_over(item)
+    }
+
+    /// The head gets the open part of the declaration of the file.
+    pub(crate) fn part(&mut self)
+        ensures { self.new ≡ pass_with true self.old }
+    {
+        self.machine.parts.part_from(&self.file);
+    }
+
+    /// No brace is open, and both the head and the declaration of the file begin: their open parts
+    /// are the same.
+    pub(crate) fn is_new(&self) -> bool
+        ensures { pass_with result self.now ≡ self.now }
+    {
+        self.is_in_file() && self.file.is_new() && self.machine.parts.is_new()
+    }
+
+    /// Takes the first of these tokens, a token of the file that is no brace and begins no
+    /// declaration anew, where the head has the open part of the declaration.
+    #[inline(always)]
+    pub(crate) fn take_together(
+        &mut self,
+        found: &mut Found,
+        ahead: &[WideToken],
+        item: &WideToken,
+    ) -> Result<(), AllocError>
+        requires small { most_in (pass_with true self.old) + 1 < 2 ^ 32 }
+        requires stays { stays_together self.old item.now ≡ true }
+        ensures pass { IfOk result (λ _. self.new ≡ next_together self.old ahead.now item.now) }
+        ensures small { IfOk result
+            (λ _. most_in (pass_with true self.new) ≤ most_in (pass_with true self.old) + 1) }
+        ensures found { IfOk result (λ _. found.new
+            ≡ next_lists found.old (pass_with true self.old) ahead.now item.now) }
+    {
+        found.end_part(&self.file, item)?;
+        self.machine.next_beside(&self.file, item);
+        self.file.next_of_file(false, ahead, item);
+        self.body = None;
         found.define(self.levels.found(ahead, item))?;
         self.levels.add(ahead, item);
         self.opening = next_opening(self.opening, item);

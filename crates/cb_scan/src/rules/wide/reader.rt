@@ -32,7 +32,7 @@ use crate::lex::token::{Role, Token};
 use crate::rules::functions::{Before, before_after};
 use crate::rules::wide::attribute::{Attribute, ends_attribute};
 use crate::rules::wide::found::Found;
-use crate::rules::wide::pass::Pass;
+use crate::rules::wide::joint::Joint;
 use crate::rules::wide::sight::Sight;
 use crate::rules::wide::token::{WideToken, token_after};
 use crate::rules::wide::window::Window;
@@ -125,7 +125,7 @@ impl Reader {
     }
 
     /// Takes all that are of no attribute.
-    fn take_bare(&mut self, pass: &mut Pass, found: &mut Found) -> Result<(), AllocError>
+    fn take_bare(&mut self, pass: &mut Joint, found: &mut Found) -> Result<(), AllocError>
         requires { most_in pass.old + length self.old.bare < 2 ^ 32 }
         ensures reader { IfOk result (λ _. self.new ≡ record self.old { bare = [] }) }
         ensures taken { IfOk result
@@ -141,7 +141,7 @@ impl Reader {
     }
 
     /// Takes the first of them.
-    fn take_first(&mut self, pass: &mut Pass, found: &mut Found) -> Result<(), AllocError>
+    fn take_first(&mut self, pass: &mut Joint, found: &mut Found) -> Result<(), AllocError>
         requires some { 1 ≤ length self.old.bare }
         requires small { most_in pass.old + 1 < 2 ^ 32 }
         ensures reader { IfOk result
@@ -162,7 +162,7 @@ impl Reader {
     #[inline(always)]
     fn read(
         &mut self,
-        pass: &mut Pass,
+        pass: &mut Joint,
         found: &mut Found,
         item: &WideToken,
     ) -> Result<(), AllocError>
@@ -192,7 +192,7 @@ impl Reader {
     /// A brace or a `;`, before which all that is held back is taken.
     fn turn(
         &mut self,
-        pass: &mut Pass,
+        pass: &mut Joint,
         found: &mut Found,
         in_block: bool,
         item: &WideToken,
@@ -215,7 +215,7 @@ impl Reader {
         ensures bare { IfOk result (λ _. length self.new.bare ≤ 4) }
     {
         if in_block {
-            pass.opening = self.sight.opening();
+            pass.open(self.sight.opening());
         } else {
             self.release();
             self.take_bare(pass, found)?;
@@ -229,7 +229,7 @@ impl Reader {
     /// Any other token.
     fn go_on(
         &mut self,
-        pass: &mut Pass,
+        pass: &mut Joint,
         found: &mut Found,
         in_block: bool,
         item: &WideToken,
@@ -261,7 +261,7 @@ impl Reader {
     /// A token, as the pass reads it.
     fn next(
         &mut self,
-        pass: &mut Pass,
+        pass: &mut Joint,
         found: &mut Found,
         in_block: bool,
         item: &WideToken,
@@ -292,7 +292,7 @@ impl Reader {
     /// A token of the code.
     pub(crate) fn add(
         &mut self,
-        pass: &mut Pass,
+        pass: &mut Joint,
         found: &mut Found,
         text: &[u8],
         token: &Token,
@@ -317,14 +317,14 @@ impl Reader {
         ensures bare { IfOk result (λ _. length self.new.bare ≤ 4) }
     {
         let before = self.before;
-        let in_block = pass.levels.are_in_block();
+        let in_block = pass.are_in_block();
         self.before = before_after(before, token);
         if in_block && !is_mark_of_blocks(token) {
             self.sight.glance(text, before, token);
             return Ok(());
         }
         if in_block && token.is_mark(b';') && !pass.is_in_file() {
-            pass.opening = None;
+            pass.open(None);
             self.sight = Sight::new();
             return Ok(());
         }
@@ -334,7 +334,7 @@ impl Reader {
     }
 
     /// The end of the code.
-    pub(crate) fn finish(&mut self, pass: &mut Pass, found: &mut Found) -> Result<(), AllocError>
+    pub(crate) fn finish(&mut self, pass: &mut Joint, found: &mut Found) -> Result<(), AllocError>
         requires raw { length self.old.raw ≤ 2 }
         requires bare { length self.old.bare ≤ 4 }
         requires small { most_in pass.old + held_len self.old + 1 < 2 ^ 32 }
@@ -343,7 +343,7 @@ impl Reader {
             (λ _. the_taken pass.new found.new
             ≡ taken_at_end self.old (the_taken pass.old found.old)) }
     {
-        if !pass.levels.are_in_block() {
+        if !pass.are_in_block() {
             self.release();
             self.take_bare(pass, found)?;
         }

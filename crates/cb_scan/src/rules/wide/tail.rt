@@ -1,5 +1,5 @@
 //! The names of a part after its last brace and the last `*` outside parentheses and brackets.
-ghost use Rattle.std.specs.Prelude.{◌≡◌};
+ghost use Rattle.std.specs.Prelude.{◌≡◌, true};
 ghost use Rattle.cb_scan.specs.steps.wide.Tails.{
   declared_by,
   follows_type,
@@ -41,6 +41,17 @@ impl Tail {
             name: None,
             prototype: None,
         }
+    }
+
+    /// The first part begins.
+    pub(crate) fn is_new(&self) -> bool
+        ensures { result ≡ true → self.now ≡ tail_start true }
+    {
+        !self.typed
+            && self.last.is_none()
+            && !self.trailed
+            && self.name.is_none()
+            && self.prototype.is_none()
     }
 
     /// After the token before no candidate stands.

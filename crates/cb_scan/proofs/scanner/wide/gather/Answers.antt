@@ -95,7 +95,7 @@ loop-lined-preserved-then-is_code c =
       read = (λ i. read_all text (code.reader i) (code.taken i) rest)
           ∙ sym (ap (read_all text r t) on) ∙ so_far.read;
       calls_found = appended _ _ _ _ _ _ (told ∙ ap (λ o. c.loop-lined.calls.items ++ option_to_list o)
-          c.call_before.ensures)
+          (c.call_before.ensures ∙ (λ i. call_before (c.body.ensures i) c.loop-lined.last token)))
           (ap (calls_read text r t c.loop-lined.last) on
           ∙ (λ i. option_to_list (call_before c.loop-lined.pass.body c.loop-lined.last token)
           ++ calls_read text (sym code.reader i) (sym code.taken i) (Some token) rest))

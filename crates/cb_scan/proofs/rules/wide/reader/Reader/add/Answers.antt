@@ -30,6 +30,7 @@ returns-then-not-is_mark_of_blocks-clause-taken c =
 -- a `;` in a block ends what a `{` would open
 pub returns-then-not-is_in_file-clause-taken : goal.returns-then-not-is_in_file-clause-taken
 returns-then-not-is_in_file-clause-taken c =
-    taken_ended c.args.text.now c.args.self.now (the_taken c.args.pass.now c.args.found.now)
+    (λ k. the_taken (c.open.ensures k) c.args.found.now)
+    ∙ taken_ended c.args.text.now c.args.self.now (the_taken c.args.pass.now c.args.found.now)
     c.args.token.now (sym c.are_in_block-in_block.ensures ∙ c.if-in_block-2.true)
     (sym c.is_mark.ensures ∙ c.if-is_mark.true) (sym c.is_in_file.ensures ∙ c.if-not-is_in_file.true)
