@@ -6,6 +6,7 @@ ghost use Rattle.cb_scan.specs.steps.Functions.{range_to};
 ghost use Rattle.cb_scan.specs.steps.wide.Contents.{most_open, next_levels};
 ghost use Rattle.cb_scan.specs.steps.wide.Givens.{object_given, typedef_given};
 ghost use Rattle.cb_scan.specs.steps.wide.Joint.{next_together, pass_with, stays_together};
+ghost use Rattle.cb_scan.specs.steps.wide.Openings.{next_opening};
 ghost use Rattle.cb_scan.specs.steps.wide.Pass.{
   function_found,
   is_block,
@@ -178,6 +179,17 @@ impl Pass {
         Ok(())
     }
 
+    /// What a `{` would open after the token. Mostly it is none before and after it.
+    #[inline(always)]
+    fn see(&mut self, item: &WideToken)
+        ensures { self.new
+            ≡ record self.old { opening = next_opening self.old.opening item.now } }
+    {
+        if self.opening.is_some() || item.role.is_keyword() {
+            self.opening = next_opening(self.opening, item);
+        }
+    }
+
     /// The levels after the first of these tokens.
     fn go_on(&mut self, ahead: &[WideToken], item: &WideToken) -> Result<(), AllocError>
         requires { most_open self.old.levels + 1 < 2 ^ 32 }
@@ -251,7 +263,7 @@ impl Pass {
         }
         found.define(self.levels.found(ahead, item))?;
         self.levels.add(ahead, item);
-        self.opening = next_opening(self.opening, item);
+        self.see(item);
         Ok(())
     }
 
@@ -301,7 +313,7 @@ impl Pass {
         self.body = None;
         found.define(self.levels.found(ahead, item))?;
         self.levels.add(ahead, item);
-        self.opening = next_opening(self.opening, item);
+        self.see(item);
         Ok(())
     }
 

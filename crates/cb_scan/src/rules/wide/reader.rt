@@ -83,12 +83,13 @@ impl Reader {
         ensures more { length self.new.bare ≤ length self.old.bare + 1 }
     {
         let ahead = self.raw.ahead();
+        let attribute = self.attribute.next(ahead);
         if !self.attribute.leaves_out(ahead) {
             if let [first, ..] = ahead {
                 self.bare.push(*first);
             }
         }
-        self.attribute = self.attribute.next(self.raw.ahead());
+        self.attribute = attribute;
         self.raw.pop();
     }
 
@@ -227,6 +228,7 @@ impl Reader {
     }
 
     /// Any other token.
+    #[inline(always)]
     fn go_on(
         &mut self,
         pass: &mut Joint,
@@ -259,6 +261,7 @@ impl Reader {
     }
 
     /// A token, as the pass reads it.
+    #[inline(always)]
     fn next(
         &mut self,
         pass: &mut Joint,

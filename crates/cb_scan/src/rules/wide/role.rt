@@ -103,7 +103,7 @@ fn is_statement_word(word: &[u8]) -> bool
 pub(crate) fn is_attribute_word(word: &[u8]) -> bool
     ensures { result ≡ is_among attribute_words word.now }
 {
-    is_among(&ATTRIBUTES, word)
+    word.len() >= 8 && is_among(&ATTRIBUTES, word)
 }
 
 /// What a reserved word is for which the standard profile has no rule.
