@@ -104,7 +104,7 @@ module _ {X : Type 0} (key other : X → List ℕ) where
 
 -- ---- what is made of elements
 module _ {X Y : Type 0} (key : X → List ℕ) (other : Y → List ℕ) (f : X → Y) where
-  map_put : (x : X) → key x ≡ other (f x) → (ys : List X)
+  pub map_put : (x : X) → key x ≡ other (f x) → (ys : List X)
       → AllByRecursion (λ y. key y ≡ other (f y)) ys
       → map f (put key x ys) ≡ put other (f x) (map f ys)
   unfolding put

@@ -108,7 +108,7 @@ module _ (a : Archived) (name : ℕ) where
           (later (sym (ap (λ b. cond b (Some s) (shown_under name shown)) eq) ∙ is))
 
   -- all that have another file name stay
-  later_stay : (s : Shown) → s.name ≡ name → (shown : List Shown)
+  pub later_stay : (s : Shown) → s.name ≡ name → (shown : List Shown)
       → AllByRecursion (λ (t : Shown). bytes_eq (name_of a s.name) (name_of a t.name) ≡ false) shown
       → filter (λ (t : Shown). not (nat_eq t.name name)) shown ≡ shown
   later_stay s same [] apart = refl

@@ -1,6 +1,7 @@
 pub mod AnyFileLemmas
 pub mod AscendLemmas
 pub mod BlockLemmas
+pub mod CompactLemmas
 pub mod CountLemmas
 pub mod CoverLemmas
 pub mod DefSearchLemmas

@@ -28,7 +28,7 @@ module _ (count : Option Scanned → ℕ) (a : Archived) where
   total_append [] ys = let e : 0 + total count a ys ≡ total count a ys = omega arith in sym e
   total_append (s ∷ xs) ys = let e = total_append xs ys in omega (arith, e)
 
-  total_put : (key : Shown → List ℕ) (s : Shown) (ys : List Shown)
+  pub total_put : (key : Shown → List ℕ) (s : Shown) (ys : List Shown)
       → total count a (put key s ys) ≡ count (text_at a s.version) + total count a ys
   unfolding put
   total_put key s [] = refl
@@ -140,7 +140,7 @@ totals_none a shown none = record {
 }
 
 module _ (a b : Archived) (shown shown_then : List Shown) (n : Totals) where
-  totals_by : ((count : Option Scanned → ℕ) → total count a shown ≡ total count b shown_then)
+  pub totals_by : ((count : Option Scanned → ℕ) → total count a shown ≡ total count b shown_then)
       → AreTotals a shown n → AreTotals b shown_then n
   totals_by same are = record {
     defs = are.defs ∙ same def_count;

@@ -1,6 +1,7 @@
 pub mod Archived
 pub mod Blocks
 pub mod Bytes
+pub mod Compact
 pub mod Counts
 pub mod Entries
 pub mod Files

@@ -1,5 +1,6 @@
 pub mod Bounds
 pub mod Chains
+pub mod Compact
 pub mod Counting
 pub mod DefSearch
 pub mod Found

@@ -19,7 +19,7 @@ ghost use Rattle.std.specs.Prelude.{
   slice_index_or,
 };
 ghost use Rattle.std.specs.Option.{option_copied};
-ghost use Rattle.std.specs.List.{AllByRecursion};
+ghost use Rattle.std.specs.List.{AllByRecursion, swap_remove};
 ghost use Rattle.cb_scan.specs.Profiles.{facts_in};
 ghost use Rattle.cb_index.specs.Archived.{AreBytes, name_of, text_at, text_of};
 ghost use Rattle.cb_index.specs.Links.{link_of, nothing_laid};
@@ -33,6 +33,7 @@ use crate::items::item_count;
 use crate::kind::FactKind;
 use crate::links::{Link, Links};
 use crate::memory::OutOfMemory;
+use crate::place::Place;
 use crate::scanned::ScannedSource;
 use cb_scan::{Facts, Profile, Source};
 use std::alloc::Global;
@@ -44,6 +45,8 @@ use std::marker::Model;
 pub struct Version {
     text: ScannedSource,
     links: Links,
+    /// Where it is likely to stand in the list of what is shown.
+    place: Place,
 }
 
 impl Model for Version {
@@ -68,7 +71,15 @@ impl Version {
         Version {
             text: ScannedSource::new(profile, source, facts),
             links,
+            place: Place { block: 0, at: 0 },
         }
+    }
+
+    /// Notes where it stands in the list of what is shown.
+    fn note_place(&mut self, place: Place)
+        ensures { self.new ≡ self.old }
+    {
+        self.place = place;
     }
 
     /// The source with its facts.
@@ -273,6 +284,18 @@ impl Archive {
         self.names.truncate(names as usize);
     }
 
+    /// Lets a version go. The last one, if that is another, gets its number.
+    pub(crate) fn remove(&mut self, version: usize)
+        requires { version < length self.old.texts }
+        ensures profile { self.new.profile ≡ self.old.profile }
+        ensures names { self.new.names ≡ self.old.names }
+        ensures texts { self.new.texts ≡ swap_remove self.old.texts version [] }
+        ensures name_room { self.new.name_room ≡ self.old.name_room }
+        ensures version_room { self.new.version_room ≡ self.old.version_room }
+    {
+        let _gone = self.versions.swap_remove(version);
+    }
+
     /// Says that all texts are lists of bytes. It does nothing.
     pub(crate) fn read_texts(&self)
         ensures { AllByRecursion AreBytes self.now.texts }
@@ -354,6 +377,23 @@ impl Archive {
         ensures { self.new ≡ self.old }
     {
         self.versions[version as usize].find_repeats(sort, entries);
+    }
+
+    /// Notes where a version stands in the list of what is shown.
+    pub(crate) fn note_place(&mut self, version: u32, place: Place)
+        ensures { self.new ≡ self.old }
+    {
+        if (version as usize) < self.versions.len() {
+            self.versions[version as usize].note_place(place);
+        }
+    }
+
+    /// Where a version is likely to stand in the list of what is shown.
+    pub(crate) fn likely_place(&self, version: usize) -> Place {
+        match self.versions.get(version) {
+            Some(version) => version.place,
+            None => Place { block: 0, at: 0 },
+        }
     }
 
     /// The version under a number, if it is there.

@@ -18,7 +18,7 @@ pub(crate) trait Bound<T> {
 }
 
 /// A place in a block.
-#[derive(Clone, Copy)]
+#[derive(Clone, Copy, Debug)]
 pub(crate) struct Place {
     pub(crate) block: usize,
     pub(crate) at: usize,

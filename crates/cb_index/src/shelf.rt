@@ -9,6 +9,7 @@ ghost use Rattle.std.specs.Prelude.{
   ◌<◌,
   ◌++◌,
   ◌∷◌,
+  ℕ,
   [],
   true,
   false,
@@ -21,9 +22,10 @@ ghost use Rattle.std.specs.Prelude.{
   take,
   drop,
   vec_capacity,
+  MatchOption,
   OnOk,
 };
-ghost use Rattle.std.specs.List.{AllByRecursion, list_any};
+ghost use Rattle.std.specs.List.{AllByRecursion, list_any, swap_remove};
 ghost use Rattle.std.specs.Option.{option_copied};
 ghost use Rattle.std.specs.List.Sorted.{IsStrictlyIncreasing};
 ghost use Rattle.std.specs.Cmp.Lexicographic.{slice_cmp};
@@ -32,6 +34,7 @@ ghost use Rattle.std.specs.Str.{bytes_eq};
 ghost use Rattle.cb_scan.specs.Order.{goes_first, in_order, put};
 ghost use Rattle.cb_index.specs.Archived.{AreBytes, name_of};
 ghost use Rattle.cb_index.specs.Counts.{rows_in_files, unlike_in_files};
+ghost use Rattle.cb_index.specs.Compact.{ShowsAll, ShowsSame, shows_version};
 ghost use Rattle.cb_index.specs.Files.{AreAscending, IsThere, shown_name};
 ghost use Rattle.cb_index.specs.Names.{is_among, names_of};
 ghost use Rattle.cb_index.specs.Rows.{
@@ -56,6 +59,7 @@ ghost use Rattle.cb_index.specs.Shelved.{
 };
 ghost use Rattle.cb_index.specs.declared.entry.Shown.{Shown};
 ghost use Rattle.cb_index.specs.Kinds.{def_kind};
+ghost use Rattle.cb_index.specs.steps.Compact.{IsAmong, renumbered};
 ghost use Rattle.cb_index.specs.steps.ToCome.{asked_tags};
 ghost use Rattle.cb_index.specs.steps.Left.{entries_left, facts_counted, facts_left, facts_new};
 ghost use Rattle.cb_index.specs.steps.Left.{tags_left};
@@ -392,6 +396,92 @@ impl Shelf {
         self.totals = self.totals.of_fewer(&self.archive, self.shown.files());
         take_names_from_each(&mut self.indexes, files);
         self.turns = self.turns.saturating_add(files.len() as u64);
+    }
+
+    /// A file that shows a version, if one does.
+    fn with_version(&self, version: usize) -> Option<Shown>
+        ensures found { MatchOption result (shows_version version self.now.shown ≡ false)
+            (λ s. (s.version ≡ version) × IsAmong self.now.shown s) }
+        ensures there { AllByRecursion (IsThere self.now.archive) self.now.shown }
+        ensures ascending { AreAscending self.now.archive self.now.shown }
+    {
+        let likely = self.archive.likely_place(version);
+        self.shown.with_version(version, likely)
+    }
+
+    /// Lets a version go that is not shown. The last one, if that is another, gets its number: it
+    /// is hidden, and shown again under it, once for each name.
+    fn remove(&mut self, version: usize)
+        requires there { version < length self.old.archive.texts }
+        requires hidden { shows_version version self.old.shown ≡ false }
+        ensures profile { self.new.archive.profile ≡ self.old.archive.profile }
+        ensures names { self.new.archive.names ≡ self.old.archive.names }
+        ensures texts { self.new.archive.texts ≡ swap_remove self.old.archive.texts version [] }
+        ensures shown { self.new.shown
+            ≡ map (renumbered (length self.old.archive.texts - 1) version) self.old.shown }
+        ensures turns { self.new.turns ≡ self.old.turns }
+        ensures room { KeepsRoom self.old self.new }
+    {
+        let last = self.archive.version_count() - 1;
+        let one = match self.with_version(last) {
+            Some(one) => one,
+            None => {
+                self.archive.remove(version);
+                return;
+            }
+        };
+        let turns = self.turns;
+        self.hide(one.name);
+        self.remove(version);
+        self.show(one.name, version as u32);
+        self.turns = turns;
+    }
+
+    /// Gives the number of a version to the last one, if that is shown and this one is not.
+    fn fill(&mut self, version: usize)
+        requires there { version < length self.old.archive.texts }
+        requires last { shows_version (length self.old.archive.texts - 1) self.old.shown ≡ true }
+        ensures same { ShowsSame self.old self.new }
+        ensures shown { shows_version version self.new.shown ≡ true }
+        ensures below { (u : ℕ) → u < version → shows_version u self.old.shown ≡ true
+            → shows_version u self.new.shown ≡ true }
+        ensures fewer { length self.new.archive.texts ≤ length self.old.archive.texts }
+        ensures turns { self.new.turns ≡ self.old.turns }
+        ensures room { KeepsRoom self.old self.new }
+    {
+        if self.with_version(version).is_none() {
+            self.remove(version);
+            self.note_places();
+        }
+    }
+
+    /// Notes where each version stands that is shown, so that it is found at once.
+    fn note_places(&mut self)
+        ensures { self.new ≡ self.old }
+    {
+        self.shown.note_places(&mut self.archive);
+    }
+
+    /// Lets all versions go that are not shown. What is shown stays, and versions of it get the
+    /// numbers that are free then. It takes no memory.
+    pub fn compact(&mut self)
+        ensures same { ShowsSame self.old self.new }
+        ensures all { ShowsAll self.new }
+        ensures fewer { length self.new.archive.texts ≤ length self.old.archive.texts }
+        ensures turns { self.new.turns ≡ self.old.turns }
+        ensures room { KeepsRoom self.old self.new }
+    {
+        self.note_places();
+        let mut version = 0;
+        while version < self.archive.version_count() {
+            let last = self.archive.version_count() - 1;
+            if self.with_version(last).is_none() {
+                self.remove(last);
+            } else {
+                self.fill(version);
+                version += 1;
+            }
+        }
     }
 
     /// The files that are shown, by name, each with what is found in it.

@@ -20,7 +20,9 @@ ghost use Rattle.std.specs.List.Sorted.{IsPartitionPoint};
 ghost use Rattle.std.specs.Ordering.{is_lt, nat_cmp};
 ghost use Rattle.cb_index.specs.Archived.{name_of};
 ghost use Rattle.cb_index.specs.Blocks.{IsFilled, joined};
+ghost use Rattle.cb_index.specs.Compact.{shows_version};
 ghost use Rattle.cb_index.specs.Files.{AreAscending};
+ghost use Rattle.cb_index.specs.steps.Compact.{IsAmong};
 ghost use Rattle.cb_index.specs.declared.entry.Shown.{Shown};
 
 use crate::archive::Archive;
@@ -78,6 +80,21 @@ impl<'a> ShownFiles<'a> {
         let (block, blocks) = self.blocks.split_first()?;
         let (one, first) = block.items().split_first()?;
         Some((*one, ShownFiles { first, blocks }))
+    }
+
+    /// A file that shows a version, if one does.
+    pub(crate) fn with_version(self, version: usize) -> Option<Shown>
+        ensures { MatchOption result (shows_version version (shown_in self.entry) ≡ false)
+            (λ s. (s.version ≡ version) × IsAmong (shown_in self.entry) s) }
+    {
+        let mut left = self;
+        while let Some((one, rest)) = left.split_first() {
+            if one.version as usize == version {
+                return Some(one);
+            }
+            left = rest;
+        }
+        None
     }
 
     /// Those whose file names are not below a name. They are found by binary search.

@@ -13,20 +13,24 @@ ghost use Rattle.std.specs.Prelude.{
   nat_eq,
   not,
   vec_capacity,
+  MatchOption,
   OnOk,
+  ⊤,
 };
 ghost use Rattle.std.specs.List.{AllByRecursion};
 ghost use Rattle.std.specs.List.Sorted.{IsStrictlyIncreasing};
 ghost use Rattle.cb_scan.specs.Order.{in_order, put};
 ghost use Rattle.cb_index.specs.Blocks.{joined};
+ghost use Rattle.cb_index.specs.Compact.{shows_version};
 ghost use Rattle.cb_index.specs.Files.{AreApart, AreAscending, shown_name, shown_under};
 ghost use Rattle.cb_index.specs.Names.{is_among, names_of};
+ghost use Rattle.cb_index.specs.steps.Compact.{IsAmong};
 ghost use Rattle.cb_index.specs.steps.ShownIn.{shown_in};
 ghost use Rattle.cb_index.specs.declared.block.TheConstants.{HALF};
 ghost use Rattle.cb_index.specs.declared.entry.Shown.{Shown};
 
 use crate::archive::Archive;
-use crate::block::HALF;
+use crate::block::{Block, HALF};
 use crate::blocks::Blocks;
 use crate::bound::{AfterName, BeforeName};
 use crate::entry::Shown;
@@ -78,6 +82,29 @@ fn try_put(archive: &Archive, one: Shown, blocks: &mut Blocks<Shown>) -> bool
     };
     let place = place_of(&bound, blocks.used());
     blocks.try_insert(place, one)
+}
+
+/// What stands at a place, if it is there.
+fn at_place(place: Place, blocks: &[Block<Shown>]) -> Option<Shown>
+    ensures { MatchOption result ⊤ (λ s. IsAmong (joined blocks.now) s) }
+{
+    if place.block >= blocks.len() {
+        return None;
+    }
+    let items = blocks[place.block].items();
+    if place.at >= items.len() {
+        return None;
+    }
+    Some(items[place.at])
+}
+
+/// Notes in an archive where each version of a block stands.
+fn note_block(block: usize, shown: &[Shown], archive: &mut Archive)
+    ensures { archive.new ≡ archive.old }
+{
+    for (at, one) in shown.iter().enumerate() {
+        archive.note_place(one.version, Place { block, at });
+    }
 }
 
 /// Takes what is shown under the number of a name away. It is looked for by its file name.
@@ -142,6 +169,29 @@ impl ShownList {
     {
         let _room = self.scratch.capacity();
         ShownFiles::whole(self.blocks.used())
+    }
+
+    /// A file that shows a version, if one does. It is looked for first where it is likely to
+    /// stand.
+    pub(crate) fn with_version(&self, version: usize, likely: Place) -> Option<Shown>
+        ensures { MatchOption result (shows_version version self.now.files ≡ false)
+            (λ s. (s.version ≡ version) × IsAmong self.now.files s) }
+    {
+        if let Some(one) = at_place(likely, self.blocks.used())
+            && one.version as usize == version
+        {
+            return Some(one);
+        }
+        self.files().with_version(version)
+    }
+
+    /// Notes in an archive where each version stands.
+    pub(crate) fn note_places(&self, archive: &mut Archive)
+        ensures { archive.new ≡ archive.old }
+    {
+        for (block, shown) in self.blocks.used().iter().enumerate() {
+            note_block(block, shown.items(), archive);
+        }
     }
 
     /// Puts versions among the others: one at its place, more by one sort. No two of them have one
