@@ -1,12 +1,13 @@
 -- How many rows a question can have.
-use Rattle.std.proofs.Common.{◌≡◌, ◌∙◌, ℕ, ◌≤◌, ◌<◌, ◌^◌, true, false, cond, List, [], ◌∷◌, map}
+use Rattle.std.proofs.Common.{◌≡◌, ◌∙◌, ℕ, Bool, ◌≤◌, ◌<◌, ◌^◌, true, false, cond, List, [], ◌∷◌, map}
 use Rattle.std.proofs.Common.{filter, length, length-append, arith, Some, subst, sym, ap}
 use Rattle.std.specs.List.{AllByRecursion, flat_map}
 use Rattle.std.proofs.lemmas.List.{length-map}
 use Rattle.cb_scan.specs.declared.profile.Profile.{Profile}
-use Rattle.cb_scan.specs.declared.profile.Profile.TheVariants.{Standard}
+use Rattle.cb_scan.specs.declared.profile.Rules.{Rules}
+use Rattle.cb_scan.specs.declared.profile.Rules.TheVariants.{Standard}
 use Rattle.cb_scan.specs.Definitions.{facts_of}
-use Rattle.cb_scan.specs.Profiles.{facts_in, include_alone}
+use Rattle.cb_scan.specs.Profiles.{all_facts, facts_in, include_alone, kept}
 use Rattle.cb_scan.specs.TextFacts.{TextFacts}
 use Rattle.cb_index.specs.Archived.{Archived, text_at, text_of}
 use Rattle.cb_index.specs.Files.{IsThere, count_for, file_of, files_of, total}
@@ -105,14 +106,18 @@ fact-rows-few Callers p a shown n there are uses calls =
     let e = are.calls in omega (arith, e, calls, rows-total Callers p a shown there)
 
 -- ---- includes, and names of files
--- every profile finds as many includes as the standard one
-as-many : (by : Profile) (text : List ℕ)
-    → length (facts_in by text).includes ≡ length (facts_of text).includes
-as-many by text =
-    sym (length-map (facts_in by text).includes include_alone)
-    ∙ ap length (same_includes by text)
-    ∙ length-map (facts_in Standard text).includes include_alone
+-- all rules find as many includes as the standard ones
+as-many : (rules : Rules) (text : List ℕ)
+    → length (all_facts rules text).includes ≡ length (facts_of text).includes
+as-many rules text =
+    sym (length-map (all_facts rules text).includes include_alone)
+    ∙ ap length (same_includes rules text)
+    ∙ length-map (all_facts Standard text).includes include_alone
     ∙ ap (λ (f : TextFacts). length f.includes) (standard_is text)
+
+wanted-few : {X : Type 0} (b : Bool) (xs : List X) → length (kept b xs) ≤ length xs
+wanted-few true xs = omega arith
+wanted-few false xs = omega arith
 
 including-few : (by : Profile) (p : List ℕ) (f : File) → length f.bytes ≤ MOST_BYTES
     → length (field_rows by Including p f) ≤ MOST_BYTES
@@ -121,7 +126,8 @@ including-few by p f size =
       arith,
       found-few Including p f (map found_include (facts_in by f.bytes).includes),
       length-map (facts_in by f.bytes).includes found_include,
-      as-many by f.bytes,
+      wanted-few by.wanted.includes (all_facts by.rules f.bytes).includes,
+      as-many by.rules f.bytes,
       includes-few f.bytes,
       size,
     )

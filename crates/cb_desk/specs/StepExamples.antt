@@ -1,6 +1,7 @@
 -- What changes do to small worlds, computed. Expected worlds and refusals are worked out by hand.
 use Rattle.std.specs.Prelude.{◌≡◌, ℕ, List, [], ◌∷◌, Ok, Err, Some, codes, refl}
-use Rattle.cb_scan.specs.declared.profile.Profile.TheVariants.{Standard}
+use Rattle.cb_scan.specs.declared.profile.Rules.TheVariants.{Standard}
+use Rattle.cb_scan.specs.Profiles.{all_by}
 use Rattle.cb_scan.specs.Definitions.{definitions_from}
 use Rattle.cb_scan.specs.examples.Functions.{finding}
 use Rattle.cb_scan.specs.Order.{put, in_order}
@@ -13,7 +14,7 @@ use Rattle.cb_desk.specs.Step.{step, load, reload, unload, rename, tag, pop}
 
 -- the world without a file, within the bounds of a session that is given none
 abbrev empty : World
-empty = empty_world Standard standard_bounds
+empty = empty_world (all_by Standard) standard_bounds
 
 -- a file, from two literals
 abbrev file : (name text : List ℕ) → File
@@ -175,7 +176,7 @@ abbrev three_short : WorldBounds
 three_short = record { files = 3; file_bytes = 20; history = 65536 }
 
 abbrev two_files : World
-two_files = record (empty_world Standard three_short) { files = a ∷ b ∷ [] }
+two_files = record (empty_world (all_by Standard) three_short) { files = a ∷ b ∷ [] }
 
 -- a file of 20 bytes is one, and the third; one of 21 bytes is too large, and so is a text of 21
 -- bytes in the place of another

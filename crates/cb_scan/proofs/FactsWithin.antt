@@ -1,5 +1,5 @@
 -- What is found in a text lies in it, and its definitions are on lines of it.
-use Rattle.std.proofs.Common.{ltb-true, ◌≡◌, ◌≤◌, ◌<◌, ◌+◌, ◌-◌, ℕ, zero, suc, true, false, List}
+use Rattle.std.proofs.Common.{Bool, ltb-true, ◌≡◌, ◌≤◌, ◌<◌, ◌+◌, ◌-◌, ℕ, zero, suc, true, false, List}
 use Rattle.std.proofs.Common.{[], ◌∷◌, ◌++◌, Option, Some, None, refl, sym, subst, map, length, arith}
 use Rattle.std.specs.Prelude.{◌&&◌, cond, find, nat_lt, not}
 use Rattle.std.specs.List.{AllByRecursion, flat_map, range_with_len}
@@ -30,11 +30,12 @@ use Rattle.cb_scan.specs.rules.Scope.{scope_among}
 use Rattle.cb_scan.specs.rules.wide.Bodies.{bodies}
 use Rattle.cb_scan.specs.rules.wide.Kinds.{bare_tokens, functions_of, wide_found, wide_function_def}
 use Rattle.cb_scan.specs.rules.wide.Kinds.{wide_macro_def}
-use Rattle.cb_scan.specs.Profiles.{all_definitions, definitions_by, facts_in, functions_by}
+use Rattle.cb_scan.specs.Profiles.{all_definitions, definitions_by, facts_in, functions_by, kept}
 use Rattle.cb_scan.specs.Profiles.{is_declaration}
 use Rattle.cb_scan.specs.declared.facts.Kind.TheVariants as kind
 use Rattle.cb_scan.specs.declared.profile.Profile.{Profile}
-use Rattle.cb_scan.specs.declared.profile.Profile.TheVariants.{Prototypes, Standard, Wide}
+use Rattle.cb_scan.specs.declared.profile.Rules.{Rules}
+use Rattle.cb_scan.specs.declared.profile.Rules.TheVariants.{Prototypes, Standard, Wide}
 use Rattle.cb_scan.specs.lex.Tokens.{bytes_of, has_kind, is_mark, is_name_token, is_str}
 use Rattle.cb_scan.specs.lex.Tokens.{kind_is_define, kind_is_include}
 use Rattle.cb_scan.specs.steps.Quote.{is_closed}
@@ -389,8 +390,8 @@ module _ (text : List ℕ) where
       (code_defs_lie text ts code_tokens (ranges_of text (pieces text) fs)))
 
   -- ---- by each
-  names_by : (profile : Profile) → AllByRecursion (TokenWithin text)
-      (map (λ (f : Function). f.name) (functions_by profile text (pieces text)))
+  names_by : (rules : Rules) → AllByRecursion (TokenWithin text)
+      (map (λ (f : Function). f.name) (functions_by rules text (pieces text)))
   names_by Standard = function_names
   names_by Wide = wide_names
   names_by Prototypes = wide_names
@@ -400,8 +401,8 @@ module _ (text : List ℕ) where
   both [] a b = tt
   both (d ∷ ds) a b = ((a.0, b.0), both ds a.1 b.1)
 
-  definitions_by_lie : (profile : Profile)
-      → AllByRecursion (DefLies text) (definitions_by profile text (pieces text))
+  definitions_by_lie : (rules : Rules)
+      → AllByRecursion (DefLies text) (definitions_by rules text (pieces text))
   definitions_by_lie Standard = both (definitions text) definitions_lie tags_lie
   definitions_by_lie Wide =
       all-filter (DefLies text) (λ d. not (is_declaration d.kind)) (all_definitions text (pieces text))
@@ -442,17 +443,27 @@ module _ (text : List ℕ) where
         includes_within (scope_among text (pieces text) fs) scopes_lie _
         (headers_within (directives text (pieces text)) (spans_of _ directive_tokens))
 
+-- what is kept has the property that all has
+all_kept : {X : Type 0} (P : X → Type 0) (b : Bool) (xs : List X) → AllByRecursion P xs
+    → AllByRecursion P (kept b xs)
+all_kept P true xs all = all
+all_kept P false xs all = tt
+
 -- what is found in a text lies in it, and its definitions are on lines of it
 pub facts_lie : (profile : Profile) (text : List ℕ) → AreWithin text (facts_in profile text)
 facts_lie profile text =
-    let defs = definitions_by profile text (pieces text) in
-    let fs = functions_by profile text (pieces text) in
-    let lie = definitions_by_lie text profile in
+    let wanted = profile.wanted in
+    let defs = kept wanted.defs (definitions_by profile.rules text (pieces text)) in
+    let fs = functions_by profile.rules text (pieces text) in
+    let lie = all_kept (DefLies text) wanted.defs _ (definitions_by_lie text profile.rules) in
     record {
       defs = all_implied (DefLies text) (λ (d : Def). IsWithin text d.name) (λ d w. w.0.0) defs lie;
       tags = all_implied (DefLies text) (IsTagWithin text) (λ d w. w.1) defs lie;
       lines = all_implied (DefLies text) (λ (d : Def). IsLineOf text d.line) (λ d w. w.0.1) defs lie;
-      uses = uses_lie text fs (names_by text profile);
-      calls = calls_lie text fs (names_by text profile);
-      includes = includes_lie text fs (names_by text profile);
+      uses = all_kept (λ (u : Use). IsWithin text u.name × IsScopeWithin text u.scope) wanted.uses _
+          (uses_lie text fs (names_by text profile.rules));
+      calls = all_kept (λ (c : Call). IsWithin text c.callee × IsWithin text c.caller) wanted.calls _
+          (calls_lie text fs (names_by text profile.rules));
+      includes = all_kept (λ (i : Include). IsWithin text i.header × IsScopeWithin text i.scope)
+          wanted.includes _ (includes_lie text fs (names_by text profile.rules));
     }

@@ -1,5 +1,5 @@
 -- From the first piece on the pass gathers what the definitions say, list by list.
-use Rattle.std.proofs.Common.{◌≡◌, ◌∙◌, ℕ, true, false, List, [], ◌∷◌, ◌++◌, None, length, map, ap}
+use Rattle.std.proofs.Common.{◌≡◌, ◌∙◌, ℕ, Bool, true, false, List, [], ◌∷◌, ◌++◌, None, length, map, ap}
 use Rattle.std.proofs.Common.{sym, refl, append_assoc}
 use Rattle.std.proofs.lemmas.Bool.{false≢true}
 use Rattle.std.specs.Prelude.{cond}
@@ -12,6 +12,7 @@ use Rattle.cb_scan.specs.declared.lex.piece.Class.TheVariants.{BlockNote, Blank,
 use Rattle.cb_scan.specs.declared.lex.token.Token.{Token}
 use Rattle.cb_scan.specs.rules.Code.{code, is_newline}
 use Rattle.cb_scan.specs.Definitions.{function_def, structure_def, typedef_def}
+use Rattle.cb_scan.specs.Profiles.{kept}
 use Rattle.cb_scan.specs.rules.Functions.{functions}
 use Rattle.cb_scan.specs.rules.Scope.{function_ranges}
 use Rattle.cb_scan.specs.rules.Structures.{structures}
@@ -55,6 +56,12 @@ module _ (text : List ℕ) where
       ≡ map structure_def (structures (code text (pieces text)))
   structures_found = ap (structures_from Nothing) (code_is text (pieces text))
       ∙ structures_from_start (code text (pieces text))
+
+-- what is kept of two lists is kept of one after the other
+pub kept_on : {A : Type 0} (b : Bool) (all here rest : List A) → all ≡ here ++ rest
+    → kept b all ≡ kept b here ++ kept b rest
+kept_on true all here rest is = is
+kept_on false all here rest is = refl
 
 -- what is appended was to come
 pub appended : {A : Type 0} (old new x y z all : List A) → new ≡ old ++ x → y ≡ x ++ z → old ++ y ≡ all → new ++ z ≡ all

@@ -11,11 +11,13 @@ use Rattle.cb_scan.specs.steps.Cut.{pieces}
 use Rattle.cb_scan.specs.declared.facts.Call.{Call}
 use Rattle.cb_scan.specs.declared.facts.Def.{Def}
 use Rattle.cb_scan.specs.declared.facts.Include.{Include}
+use Rattle.cb_scan.specs.declared.facts.Use.{Use}
 use Rattle.cb_scan.specs.declared.profile.Profile.{Profile}
-use Rattle.cb_scan.specs.declared.profile.Profile.TheVariants.{Prototypes, Standard, Wide}
+use Rattle.cb_scan.specs.declared.profile.Rules.{Rules}
+use Rattle.cb_scan.specs.declared.profile.Rules.TheVariants.{Prototypes, Standard, Wide}
 use Rattle.cb_scan.specs.Definitions.{definitions_from}
 use Rattle.cb_scan.specs.Order.{AreInOrder, AreOrdered, IsDefBefore, call_key, def_key, goes_first, in_order, kind_rank}
-use Rattle.cb_scan.specs.Profiles.{all_definitions, definitions_by, facts_in, functions_by}
+use Rattle.cb_scan.specs.Profiles.{all_definitions, definitions_by, facts_in, functions_by, kept}
 use Rattle.cb_scan.specs.Profiles.{is_declaration}
 use Rattle.cb_scan.specs.rules.Scope.{scope_among}
 use Rattle.cb_scan.specs.rules.Uses.{use_of}
@@ -102,9 +104,9 @@ kept_ordered R test (x ∷ xs) s =
 pub ordered_defs : (ds : List Def) → AreOrdered IsDefBefore (in_order def_key ds)
 ordered_defs ds = sorted_ordered def_key IsDefBefore def_before _ (in_order_sorted def_key ds)
 
--- the definitions of each profile are in order
-definitions_ordered : (profile : Profile) (text : List ℕ)
-    → AreOrdered IsDefBefore (definitions_by profile text (pieces text))
+-- the definitions are in order by all rules
+definitions_ordered : (rules : Rules) (text : List ℕ)
+    → AreOrdered IsDefBefore (definitions_by rules text (pieces text))
 unfolding definitions_from
 definitions_ordered Standard text = ordered_defs _
 definitions_ordered Wide text =
@@ -112,17 +114,28 @@ definitions_ordered Wide text =
     (ordered_defs (wide_found text (pieces text)))
 definitions_ordered Prototypes text = ordered_defs (wide_found text (pieces text))
 
+-- what is kept is in order
+all_kept : {X : Type 0} (R : X → X → Type 0) (b : Bool) (xs : List X) → AreOrdered R xs
+    → AreOrdered R (kept b xs)
+unfolding AreOrdered
+all_kept R true xs s = s
+all_kept R false xs s = tt
+
 -- the facts of a text are in order
 pub facts_in_order : (profile : Profile) (text : List ℕ) → AreInOrder (facts_in profile text)
 facts_in_order profile text =
-    let s = scope_among text (pieces text) (functions_by profile text (pieces text)) in
+    let w = profile.wanted in
+    let s = scope_among text (pieces text) (functions_by profile.rules text (pieces text)) in
     record {
-      defs = definitions_ordered profile text;
-      uses = places_ordered token_place (use_of s) (λ u. u.name.start) (λ t. refl) 0 _
-          (names_in_order text);
-      calls = sorted_ordered call_key (λ c d. c.callee.start ≤ d.callee.start) call_before _
-          (in_order_sorted call_key _);
-      includes = places_ordered include_place
+      defs = all_kept IsDefBefore w.defs _ (definitions_ordered profile.rules text);
+      uses = all_kept (λ (u v : Use). u.name.start ≤ v.name.start) w.uses _
+          (places_ordered token_place (use_of s) (λ u. u.name.start) (λ t. refl) 0 _
+          (names_in_order text));
+      calls = all_kept (λ (c d : Call). c.callee.start ≤ d.callee.start) w.calls _
+          (sorted_ordered call_key (λ c d. c.callee.start ≤ d.callee.start) call_before _
+          (in_order_sorted call_key _));
+      includes = all_kept (λ (i j : Include). i.header.start ≤ j.header.start) w.includes _
+          (places_ordered include_place
           (λ (i : Include). record i { scope = s i.header.start }) (λ i. i.header.start)
-          (λ i. refl) 0 _ (headers_in_order text);
+          (λ i. refl) 0 _ (headers_in_order text));
     }

@@ -1,12 +1,12 @@
 -- The ranges of the functions of the wide profile begin in order.
 use Rattle.std.proofs.Common.{◌≡◌, ℕ, Bool, true, false, List, refl}
-use Rattle.cb_scan.specs.Profiles.{definitions_by, facts_in, facts_with}
+use Rattle.cb_scan.specs.Profiles.{definitions_by, all_facts, facts_with}
 use Rattle.cb_scan.specs.rules.Code.{code}
 use Rattle.cb_scan.specs.rules.Scope.{ranges_of}
 use Rattle.cb_scan.specs.rules.wide.Bodies.{bodies}
 use Rattle.cb_scan.specs.rules.wide.Kinds.{bare_tokens, functions_of}
 use Rattle.cb_scan.specs.steps.Cut.{pieces}
-use Rattle.cb_scan.specs.steps.wide.Gathering.{profile_with}
+use Rattle.cb_scan.specs.steps.wide.Gathering.{rules_with}
 use Rattle.cb_scan.proofs.Rising.{code_rises}
 use Rattle.cb_scan.proofs.ScopeLemmas.{Ascending, function_ranges_ascend}
 use Rattle.cb_scan.proofs.WideFunctionsRise.{wide_functions_rise}
@@ -19,8 +19,8 @@ wide_ranges_ascend text =
     (wide_functions_rise text ts (bodies (bare_tokens text ts)) (code_rises text))
 
 -- with or without prototypes, the functions are the same
-pub by_profile : (text : List ℕ) (b : Bool)
-    → facts_with (definitions_by (profile_with b) text (pieces text)) (functions_of text (pieces text))
-    text (pieces text) ≡ facts_in (profile_with b) text
-by_profile text true = refl
-by_profile text false = refl
+pub by_rules : (text : List ℕ) (b : Bool)
+    → facts_with (definitions_by (rules_with b) text (pieces text)) (functions_of text (pieces text))
+    text (pieces text) ≡ all_facts (rules_with b) text
+by_rules text true = refl
+by_rules text false = refl

@@ -1,4 +1,4 @@
--- What the two profiles share, and where variables and prototypes lie.
+-- What the rules share, and where variables and prototypes lie.
 use Rattle.std.proofs.Common.{◌≡◌, ◌∙◌, ℕ, true, false, List, [], ◌∷◌, ◌++◌, Option, Some}
 use Rattle.std.proofs.Common.{None, refl, sym, ap, map, subst, ⊎_elim}
 use Rattle.std.proofs.lemmas.Bool.{cases_Bool, false≢true}
@@ -11,13 +11,13 @@ use Rattle.cb_scan.specs.declared.facts.Kind.TheVariants as kind
 use Rattle.cb_scan.specs.declared.lex.piece.Piece.{Piece}
 use Rattle.cb_scan.specs.declared.lex.piece.Span.{Span}
 use Rattle.cb_scan.specs.declared.lex.token.Token.{Token}
-use Rattle.cb_scan.specs.declared.profile.Profile.{Profile}
-use Rattle.cb_scan.specs.declared.profile.Profile.TheVariants.{Prototypes, Standard}
+use Rattle.cb_scan.specs.declared.profile.Rules.{Rules}
+use Rattle.cb_scan.specs.declared.profile.Rules.TheVariants.{Prototypes, Standard}
 use Rattle.cb_scan.specs.declared.facts.Tag.{Tag}
 use Rattle.cb_scan.specs.declared.facts.Def.{Def}
 use Rattle.cb_scan.specs.declared.rules.wide.token.WideToken.{WideToken}
 use Rattle.cb_scan.specs.Definitions.{calls, facts_of}
-use Rattle.cb_scan.specs.Profiles.{IsBesideFunctions, definitions_by, facts_in, include_alone, is_object}
+use Rattle.cb_scan.specs.Profiles.{IsBesideFunctions, all_facts, definitions_by, include_alone, is_object}
 use Rattle.cb_scan.specs.Order.{def_key}
 use Rattle.cb_scan.specs.Profiles.{use_alone}
 use Rattle.cb_scan.specs.rules.Code.{code}
@@ -36,8 +36,8 @@ use Rattle.cb_scan.specs.rules.wide.Prototypes.{prototype_name}
 use Rattle.cb_scan.proofs.FactsWithin.{all_in_order}
 use Rattle.cb_scan.proofs.WithinLemmas.{all-append}
 
--- the standard profile finds what it did before there was another
-pub standard_is : (text : List ℕ) → facts_in Standard text ≡ facts_of text
+-- the standard rules find what they did before there were others
+pub standard_is : (text : List ℕ) → all_facts Standard text ≡ facts_of text
 unfolding uses calls includes
 standard_is text = refl
 
@@ -48,9 +48,9 @@ uses_alike : (s r : ℕ → Option Span) (ts : List Token)
 uses_alike s r [] = refl
 uses_alike s r (t ∷ ts) = ap (λ us. use_alone (use_of s t) ∷ us) (uses_alike s r ts)
 
-pub same_uses : (profile : Profile) (text : List ℕ)
-    → map use_alone (facts_in profile text).uses ≡ map use_alone (facts_in Standard text).uses
-same_uses profile text = uses_alike _ _ _
+pub same_uses : (rules : Rules) (text : List ℕ)
+    → map use_alone (all_facts rules text).uses ≡ map use_alone (all_facts Standard text).uses
+same_uses rules text = uses_alike _ _ _
 
 includes_alike : (s r : ℕ → Option Span) (is : List Include)
     → map include_alone (map (λ (i : Include). record i { scope = s i.header.start }) is)
@@ -58,9 +58,9 @@ includes_alike : (s r : ℕ → Option Span) (is : List Include)
 includes_alike s r [] = refl
 includes_alike s r (i ∷ is) = ap (λ l. include_alone i ∷ l) (includes_alike s r is)
 
-pub same_includes : (profile : Profile) (text : List ℕ)
-    → map include_alone (facts_in profile text).includes ≡ map include_alone (facts_in Standard text).includes
-same_includes profile text = includes_alike _ _ _
+pub same_includes : (rules : Rules) (text : List ℕ)
+    → map include_alone (all_facts rules text).includes ≡ map include_alone (all_facts Standard text).includes
+same_includes rules text = includes_alike _ _ _
 
 -- ---- variables and prototypes
 

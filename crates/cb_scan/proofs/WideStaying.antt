@@ -1,4 +1,4 @@
--- What stays of all that is gathered, range by range, is what a profile finds.
+-- What stays of all that is gathered, range by range, is what the wide rules find.
 use Rattle.std.proofs.Common.{◌≡◌, ◌∙◌, ◌≤◌, ℕ, Bool, true, false, List, [], ◌∷◌, ◌++◌, map}
 use Rattle.std.proofs.Common.{refl, sym, ap, arith, append_assoc, ⊎_elim}
 use Rattle.std.specs.Prelude.{◌&&◌, ◌||◌, filter, not, if◌then◌else◌}
@@ -15,7 +15,7 @@ use Rattle.cb_scan.specs.rules.Macros.{macro_names}
 use Rattle.cb_scan.specs.rules.Scope.{ranges_of}
 use Rattle.cb_scan.specs.rules.wide.Kinds.{functions_of, wide_function_def}
 use Rattle.cb_scan.specs.steps.Scopes.{reached}
-use Rattle.cb_scan.specs.steps.wide.Gathering.{declared_in, objects_in, profile_with}
+use Rattle.cb_scan.specs.steps.wide.Gathering.{declared_in, objects_in, rules_with}
 use Rattle.cb_scan.specs.steps.wide.Gathering.{staying}
 use Rattle.cb_scan.proofs.FunctionsRise.{all_implied}
 use Rattle.cb_scan.proofs.InOrder.{ordered_defs}
@@ -96,11 +96,11 @@ module _ (text : List ℕ) (ps : List Piece) where
       → IsPermutation gathered (declared_in text ps) → Ascending ranges
       → staying prototypes ranges
       (in_order def_key (of_functions ++ of_macros ++ gathered ++ objects_in text ps))
-      ≡ definitions_by (profile_with prototypes) text ps
+      ≡ definitions_by (rules_with prototypes) text ps
   staying_are prototypes gathered moved ascend =
       staying_is prototypes ranges (of_functions ++ of_macros ++ gathered ++ objects_in text ps) ascend
       ∙ ap (λ l. filter (asked prototypes ranges) (in_order def_key l)) regrouped
-      ∙ by_profile prototypes
+      ∙ by_rules prototypes
     where
       regrouped : of_functions ++ of_macros ++ gathered ++ objects_in text ps
           ≡ of_functions ++ (of_macros ++ (gathered ++ objects_in text ps))
@@ -109,11 +109,11 @@ module _ (text : List ℕ) (ps : List Piece) where
           ∙ append_assoc of_functions (of_macros ++ gathered) (objects_in text ps)
           ∙ ap (λ l. of_functions ++ l) (append_assoc of_macros gathered (objects_in text ps))
 
-      by_profile : (b : Bool) → filter (asked b ranges)
+      by_rules : (b : Bool) → filter (asked b ranges)
           (in_order def_key (of_functions ++ (of_macros ++ (gathered ++ objects_in text ps))))
-          ≡ definitions_by (profile_with b) text ps
-      by_profile true = found_in_order text ps gathered moved
-      by_profile false =
+          ≡ definitions_by (rules_with b) text ps
+      by_rules true = found_in_order text ps gathered moved
+      by_rules false =
           filter_both (λ d. not (is_declaration d.kind)) (stays ranges)
           (in_order def_key (of_functions ++ (of_macros ++ (gathered ++ objects_in text ps))))
           ∙ ap (filter (λ d. not (is_declaration d.kind))) (found_in_order text ps gathered moved)

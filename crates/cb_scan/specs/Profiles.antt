@@ -1,13 +1,16 @@
--- What is found in a text by each profile. Macros, uses, includes, ranges and scopes have the same
--- definitions in both, over the functions that the profile finds.
-use Rattle.std.specs.Prelude.{◌≡◌, ℕ, Bool, true, false, not, filter, List, ◌++◌, None}
+-- What is found in a text by each profile: by its rules, and of that the facts that are wanted.
+-- Macros, uses, includes, ranges and scopes have the same definitions for all rules, over the
+-- functions that these find.
+use Rattle.std.specs.Prelude.{◌≡◌, ℕ, Bool, true, false, not, filter, List, [], ◌++◌, ◌||◌, None}
 use Rattle.cb_scan.specs.declared.facts.Def.{Def}
 use Rattle.cb_scan.specs.declared.facts.Include.{Include}
 use Rattle.cb_scan.specs.declared.facts.Kind.{Kind}
 use Rattle.cb_scan.specs.declared.facts.Use.{Use}
 use Rattle.cb_scan.specs.declared.lex.piece.Piece.{Piece}
 use Rattle.cb_scan.specs.declared.profile.Profile.{Profile}
-use Rattle.cb_scan.specs.declared.profile.Profile.TheVariants.{Prototypes, Standard, Wide}
+use Rattle.cb_scan.specs.declared.profile.Rules.{Rules}
+use Rattle.cb_scan.specs.declared.profile.Rules.TheVariants.{Prototypes, Standard, Wide}
+use Rattle.cb_scan.specs.declared.profile.Wanted.{Wanted}
 use Rattle.cb_scan.specs.declared.facts.Kind.TheVariants as kind
 use Rattle.cb_scan.specs.rules.Code.{code}
 use Rattle.cb_scan.specs.rules.Functions.{Function, functions}
@@ -20,8 +23,10 @@ use Rattle.cb_scan.specs.Order.{call_key, def_key, in_order}
 use Rattle.cb_scan.specs.TextFacts.{TextFacts}
 use Rattle.cb_scan.specs.steps.Cut.{pieces}
 
--- the functions that a profile finds
-abbrev pub functions_by : Profile → List ℕ → List Piece → List Function
+-- ---- by the rules alone
+
+-- the functions that rules find
+abbrev pub functions_by : Rules → List ℕ → List Piece → List Function
 functions_by Standard text ps = functions (code text ps)
 functions_by Wide text ps = functions_of text ps
 functions_by Prototypes text ps = functions_of text ps
@@ -32,12 +37,12 @@ is_declaration kind.External = true
 is_declaration kind.Prototype = true
 is_declaration _ = false
 
--- all that the rules of the wide profile find, by place
+-- all that the wide rules find, by place
 abbrev pub all_definitions : List ℕ → List Piece → List Def
 all_definitions text ps = in_order def_key (wide_found text ps)
 
--- the definitions that a profile finds, by place
-abbrev pub definitions_by : Profile → List ℕ → List Piece → List Def
+-- the definitions that rules find, by place
+abbrev pub definitions_by : Rules → List ℕ → List Piece → List Def
 definitions_by Standard text ps = definitions_from text ps
 definitions_by Wide text ps = filter (λ d. not (is_declaration d.kind)) (all_definitions text ps)
 definitions_by Prototypes text ps = all_definitions text ps
@@ -51,10 +56,50 @@ facts_with defs fs text ps = record {
   includes = includes_with (scope_among text ps fs) text ps;
 }
 
+-- what rules find in a text with these pieces
+abbrev pub all_facts_by : Rules → List ℕ → List Piece → TextFacts
+all_facts_by rules text ps =
+    facts_with (definitions_by rules text ps) (functions_by rules text ps) text ps
+
+-- what rules find in a text
+abbrev pub all_facts : Rules → List ℕ → TextFacts
+all_facts rules text = all_facts_by rules text (pieces text)
+
+-- ---- what is wanted of it
+
+-- a list, where it is wanted
+abbrev pub kept : {X : Type 0} → Bool → List X → List X
+kept true xs = xs
+kept false xs = []
+
+-- the lists that are wanted
+abbrev pub wanted_of : Wanted → TextFacts → TextFacts
+wanted_of w f = record {
+  defs = kept w.defs f.defs;
+  uses = kept w.uses f.uses;
+  calls = kept w.calls f.calls;
+  includes = kept w.includes f.includes;
+}
+
+-- four empty lists
+abbrev pub no_facts : TextFacts
+no_facts = record { defs = []; uses = []; calls = []; includes = [] }
+
+-- all lists
+abbrev pub all_wanted : Wanted
+all_wanted = record { defs = true; uses = true; calls = true; includes = true }
+
+-- one of the lists is wanted
+abbrev pub is_any : Wanted → Bool
+is_any w = w.defs || w.uses || w.calls || w.includes
+
+-- all facts by these rules
+abbrev pub all_by : Rules → Profile
+all_by rules = record { rules = rules; wanted = all_wanted }
+
 -- what a profile finds in a text with these pieces
 abbrev pub facts_by : Profile → List ℕ → List Piece → TextFacts
-facts_by profile text ps =
-    facts_with (definitions_by profile text ps) (functions_by profile text ps) text ps
+facts_by profile text ps = wanted_of profile.wanted (all_facts_by profile.rules text ps)
 
 -- what a profile finds in a text
 abbrev pub facts_in : Profile → List ℕ → TextFacts
@@ -76,7 +121,7 @@ is_object kind.External = true
 is_object kind.Prototype = true
 is_object _ = false
 
--- if the definition is one of these, it lies in the range of no function of the wide profile
+-- if the definition is one of these, it lies in the range of no function of the wide rules
 abbrev pub IsBesideFunctions : List ℕ → List Piece → Def → Type 0
 IsBesideFunctions text ps d =
     is_object d.kind ≡ true

@@ -2,6 +2,7 @@
 ghost use Rattle.std.specs.Prelude.{◌≡◌, ◌<◌, ◌^◌, length};
 
 use crate::lex::piece::Span;
+use std::alloc::Global;
 use std::marker::Model;
 
 /// The kinds of definitions.
@@ -111,6 +112,20 @@ impl Model for Facts {
 }
 
 impl Facts {
+    ghost use Rattle.cb_scan.specs.Profiles.{no_facts};
+
+    /// Four empty lists. They take no memory.
+    pub(crate) fn none(alloc: Global) -> Facts
+        ensures { result ≡ no_facts }
+    {
+        Facts::new(
+            Vec::new(alloc),
+            Vec::new(alloc),
+            Vec::new(alloc),
+            Vec::new(alloc),
+        )
+    }
+
     pub(crate) fn new(
         defs: Vec<Def>,
         uses: Vec<Use>,

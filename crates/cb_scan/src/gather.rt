@@ -3,6 +3,7 @@ ghost use Rattle.std.specs.Prelude.{◌≡◌, ◌≤◌, ◌<◌, ◌+◌, ◌+
 ghost use Rattle.cb_scan.specs.Bytes.{close_brace, open_brace, open_paren};
 ghost use Rattle.cb_scan.specs.lex.Tokens.{is_mark};
 ghost use Rattle.cb_scan.specs.declared.source.TheConstants.{MOST_BYTES};
+ghost use Rattle.cb_scan.specs.Profiles.{kept};
 ghost use Rattle.std.specs.Option.{option_to_list};
 ghost use Rattle.cb_scan.specs.steps.Directives.{
   include_out,
@@ -271,10 +272,11 @@ impl LineLists {
     }
 
     /// A token, which moves the state of its line. A line of code stays one, and gives its uses
-    /// alone.
+    /// alone, where uses are wanted.
     #[inline(always)]
     pub(crate) fn add(
         &mut self,
+        uses: bool,
         text: &[u8],
         line: &mut Stage,
         token: &Token,
@@ -284,7 +286,8 @@ impl LineLists {
         requires few { length text.now ≤ MOST_BYTES }
         ensures line { IfOk result (λ _. line.new ≡ next_stage line.old token.now) }
         ensures names { IfOk result
-            (λ _. self.new.names.items ≡ self.old.names.items ++ use_out line.old token.now) }
+            (λ _. self.new.names.items
+            ≡ self.old.names.items ++ kept uses (use_out line.old token.now)) }
         ensures macros { IfOk result
             (λ _. self.new.macros.items ≡ self.old.macros.items ++ macro_out line.old token.now) }
         ensures calls { IfOk result
@@ -295,7 +298,7 @@ impl LineLists {
             ++ include_out text.now line.old token.now) }
         ensures ranges { IfOk result (λ _. self.new.ranges.items ≡ self.old.ranges.items) }
     {
-        if line.is_use(token) {
+        if uses && line.is_use(token) {
             self.names.push(token.copied())?;
         }
         if line.is_code() {

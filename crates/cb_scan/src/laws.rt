@@ -3,11 +3,13 @@ ghost use Rattle.std.specs.Prelude.{◌≡◌, ◌↔◌, ℕ, true, List, lengt
 ghost use Rattle.std.specs.List.{AllByRecursion};
 ghost use Rattle.cb_scan.specs.declared.lex.piece.Piece.{Piece};
 ghost use Rattle.cb_scan.specs.declared.profile.Profile.{Profile};
-ghost use Rattle.cb_scan.specs.declared.profile.Profile.TheVariants.{Prototypes, Standard};
+ghost use Rattle.cb_scan.specs.declared.profile.Rules.{Rules};
+ghost use Rattle.cb_scan.specs.declared.profile.Rules.TheVariants.{Prototypes, Standard};
 ghost use Rattle.cb_scan.specs.lex.Pieces.{IsPieces, Adjoin, LiesIn};
 ghost use Rattle.cb_scan.specs.lex.Lexeme.{IsClosedLiteral};
 ghost use Rattle.cb_scan.specs.Order.{AreInOrder};
 ghost use Rattle.cb_scan.specs.Profiles.{
+  all_facts,
   definitions_by,
   facts_by,
   facts_in,
@@ -51,14 +53,14 @@ pub fn facts_in_order()
     ensures { (profile : Profile) (text : List ℕ) → AreInOrder (facts_in profile text) }
 {}
 
-/// All profiles find the same uses and includes, their scopes aside.
-pub fn profiles_agree()
-    ensures uses { (profile : Profile) (text : List ℕ)
-        → map use_alone (facts_in profile text).uses
-        ≡ map use_alone (facts_in Standard text).uses }
-    ensures includes { (profile : Profile) (text : List ℕ)
-        → map include_alone (facts_in profile text).includes
-        ≡ map include_alone (facts_in Standard text).includes }
+/// All rules find the same uses and includes, their scopes aside.
+pub fn rules_agree()
+    ensures uses { (rules : Rules) (text : List ℕ)
+        → map use_alone (all_facts rules text).uses
+        ≡ map use_alone (all_facts Standard text).uses }
+    ensures includes { (rules : Rules) (text : List ℕ)
+        → map include_alone (all_facts rules text).includes
+        ≡ map include_alone (all_facts Standard text).includes }
 {}
 
 /// Variables, external declarations and prototypes lie in the range of no function.

@@ -23,6 +23,6 @@ pub use lex::name::is_name;
 pub use lex::piece::{Class, Piece, Pieces, Span};
 pub use meter::Meter;
 pub use prefix::key_prefix;
-pub use profile::Profile;
+pub use profile::{Profile, Rules, Wanted};
 pub use scanner::scan;
 pub use source::{ScanError, Source};

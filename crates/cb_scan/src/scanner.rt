@@ -16,7 +16,7 @@ mod wide;
 use crate::facts::Facts;
 use crate::lex::piece::Class;
 use crate::meter::Meter;
-use crate::profile::Profile;
+use crate::profile::{Profile, Rules};
 use crate::source::{ScanError, Source};
 use std::alloc::{AllocError, Global};
 
@@ -40,17 +40,21 @@ fn facts_in(alloc: Global, profile: Profile, text: &[u8]) -> Result<Facts, Alloc
     requires { length text.now ≤ MOST_BYTES }
     ensures { IfOk result (λ f. f ≡ facts_in profile text.now) }
 {
-    match profile {
-        Profile::Standard => standard::facts_in(alloc, text),
-        Profile::Wide => wide::facts_in(alloc, false, text),
-        Profile::Prototypes => wide::facts_in(alloc, true, text),
+    let wanted = profile.wanted;
+    if !wanted.is_any() {
+        return Ok(Facts::none(alloc));
+    }
+    match profile.rules {
+        Rules::Standard => standard::facts_in(alloc, wanted, text),
+        Rules::Wide => wide::facts_in(alloc, wanted, false, text),
+        Rules::Prototypes => wide::facts_in(alloc, wanted, true, text),
     }
 }
 
 /// What a profile finds in the text: the facts that follow from its pieces (`exact`), which lie in
 /// it (`within`) and are in order ([`crate::laws::facts_in_order`]). The meter counts the bytes of
 /// the source, also where memory was refused, which is the only error. One pass, and time in
-/// proportion to the text (ordering what is out of order aside).
+/// proportion to the text (ordering what is out of order aside); none where nothing is wanted.
 pub fn scan(
     alloc: Global,
     meter: &mut Meter,

@@ -2,7 +2,8 @@
 -- worked out by hand.
 use Rattle.std.specs.Prelude.{◌≡◌, true, [], ◌∷◌, ◌++◌, codes, refl}
 use Rattle.std.specs.Fmt.{digits}
-use Rattle.cb_scan.specs.declared.profile.Profile.TheVariants.{Standard}
+use Rattle.cb_scan.specs.declared.profile.Rules.TheVariants.{Standard}
+use Rattle.cb_scan.specs.Profiles.{all_by}
 use Rattle.cb_scan.specs.Definitions.{definitions_from}
 use Rattle.cb_scan.specs.examples.Functions.{finding}
 use Rattle.cb_scan.specs.Order.{put, in_order}
@@ -91,7 +92,7 @@ unfolding reading
 many_lines = refl
 
 -- moves and refusals
-pub moves_shown : output [] (new_timeline Standard standard_bounds)
+pub moves_shown : output [] (new_timeline (all_by Standard) standard_bounds)
     (change (load (codes "a.c") (codes "{}")) ∷ undo ∷ undo ∷ redo ∷ refused NoPattern ∷ quit ∷ [])
     ≡ codes ">> cscope: done\n>> cscope: done\n>> cscope: refused: nothing to undo\n"
     ++ codes ">> cscope: done\n>> cscope: refused: no pattern\n>> "
@@ -99,7 +100,7 @@ unfolding running
 moves_shown = refl
 
 -- one undo takes a reload back
-pub reload_undone : output [] (new_timeline Standard standard_bounds)
+pub reload_undone : output [] (new_timeline (all_by Standard) standard_bounds)
     (change (load (codes "a.c") (codes "{}")) ∷ change (reload (codes "a.c") (codes "x"))
     ∷ undo ∷ undo ∷ undo ∷ [])
     ≡ codes ">> cscope: done\n>> cscope: done\n>> cscope: done\n>> cscope: done\n"
@@ -108,14 +109,14 @@ unfolding running
 reload_undone = refl
 
 -- memory refused the load, and so there is nothing to undo
-pub refusal_shown : output (true ∷ []) (new_timeline Standard standard_bounds)
+pub refusal_shown : output (true ∷ []) (new_timeline (all_by Standard) standard_bounds)
     (change (load (codes "a.c") (codes "{}")) ∷ undo ∷ [])
     ≡ codes ">> cscope: refused: out of memory\n>> cscope: refused: nothing to undo\n"
 unfolding running
 refusal_shown = refl
 
 -- a file is loaded, asked for its function, and taken away again
-pub query_shown : output [] (new_timeline Standard standard_bounds)
+pub query_shown : output [] (new_timeline (all_by Standard) standard_bounds)
     (change (load (codes "f.c") (codes " f(){}")) ∷ query Definition (codes "f")
     ∷ undo ∷ query Definition (codes "f") ∷ [])
     ≡ codes ">> cscope: done\n>> cscope: 1 lines\nf.c f 1 f(){}\n"

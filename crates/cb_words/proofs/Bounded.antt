@@ -5,17 +5,17 @@ use Rattle.std.proofs.lemmas.Bool.{true≢false}
 use Rattle.std.specs.Prelude.{is_some}
 use Rattle.clap.specs.Words.{Row, Text}
 use Rattle.cb_desk.specs.World.{WorldBounds}
-use Rattle.cb_scan.specs.declared.profile.Profile.{Profile}
-use Rattle.cb_words.specs.Jobs.{AreBoundsOf, IsJobOf, list_in, names_files, profile_in}
+use Rattle.cb_scan.specs.declared.profile.Rules.{Rules}
+use Rattle.cb_words.specs.Jobs.{AreBoundsOf, IsJobOf, list_in, names_files, rules_in}
 use Rattle.cb_words.specs.Jobs.{reads_input}
 use Rattle.cb_words.specs.declared.job.Job.{Job}
 use Rattle.cb_words.specs.declared.job.Job.TheVariants.{Line, Find, Tags}
 
 pub no_job : (found : Text × List Row) → ((b : WorldBounds) → AreBoundsOf found.1 b → ⊥)
     → (job : Job) → IsJobOf (Some found) job → ⊥
-no_job found none (Line bounds profile list files) is = none bounds is.1
-no_job found none (Find bounds profile field pattern list files) is = none bounds is.1
-no_job found none (Tags bounds profile listing tagsfile format list files) is = none bounds is.1
+no_job found none (Line bounds rules list files) is = none bounds is.1
+no_job found none (Find bounds rules field pattern list files) is = none bounds is.1
+no_job found none (Tags bounds rules listing tagsfile format list files) is = none bounds is.1
 
 -- the names of the subcommands begin with three letters
 abbrev first : Text → ℕ
@@ -34,32 +34,32 @@ tags_or_line e = true≢false (ap (λ name. nat_eq (first name) 116) e)
 -- a session reads no list from its input
 pub no_session : (rows : List Row) → reads_input (list_in rows) ≡ true
     → (job : Job) → IsJobOf (Some (codes "line", rows)) job → ⊥
-no_session rows reads (Line bounds profile list files) is = true≢false (sym reads ∙ is.3)
-no_session rows reads (Find bounds profile field pattern list files) is = find_or_line (sym is.0)
-no_session rows reads (Tags bounds profile listing tagsfile format list files) is =
+no_session rows reads (Line bounds rules list files) is = true≢false (sym reads ∙ is.3)
+no_session rows reads (Find bounds rules field pattern list files) is = find_or_line (sym is.0)
+no_session rows reads (Tags bounds rules listing tagsfile format list files) is =
     tags_or_line (sym is.0)
 
 -- a search and tags have a file, or a list of files
 pub no_search : (rows : List Row) → names_files rows ≡ false
     → (job : Job) → IsJobOf (Some (codes "find", rows)) job → ⊥
-no_search rows none (Line bounds profile list files) is = find_or_line is.0
-no_search rows none (Find bounds profile field pattern list files) is = true≢false (sym is.3 ∙ none)
-no_search rows none (Tags bounds profile listing tagsfile format list files) is = find_or_tags is.0
+no_search rows none (Line bounds rules list files) is = find_or_line is.0
+no_search rows none (Find bounds rules field pattern list files) is = true≢false (sym is.3 ∙ none)
+no_search rows none (Tags bounds rules listing tagsfile format list files) is = find_or_tags is.0
 
 pub no_tags : (rows : List Row) → names_files rows ≡ false
     → (job : Job) → IsJobOf (Some (codes "tags", rows)) job → ⊥
-no_tags rows none (Line bounds profile list files) is = tags_or_line is.0
-no_tags rows none (Find bounds profile field pattern list files) is = find_or_tags (sym is.0)
-no_tags rows none (Tags bounds profile listing tagsfile format list files) is =
+no_tags rows none (Line bounds rules list files) is = tags_or_line is.0
+no_tags rows none (Find bounds rules field pattern list files) is = find_or_tags (sym is.0)
+no_tags rows none (Tags bounds rules listing tagsfile format list files) is =
     true≢false (sym is.3 ∙ none)
 
-none_is : (p : Profile) → None ≡ Some p → ⊥
+none_is : (r : Rules) → None ≡ Some r → ⊥
 none_is p e = true≢false (sym (ap is_some e))
 
--- without a profile there is no job
-pub no_profile : (found : Text × List Row) → profile_in found.1 ≡ None
+-- without rules there is no job
+pub no_rules : (found : Text × List Row) → rules_in found.1 ≡ None
     → (job : Job) → IsJobOf (Some found) job → ⊥
-no_profile found none (Line bounds profile list files) is = none_is profile (sym none ∙ is.2)
-no_profile found none (Find bounds profile field pattern list files) is = none_is profile (sym none ∙ is.2)
-no_profile found none (Tags bounds profile listing tagsfile format list files) is =
-    none_is profile (sym none ∙ is.2)
+no_rules found none (Line bounds rules list files) is = none_is rules (sym none ∙ is.2)
+no_rules found none (Find bounds rules field pattern list files) is = none_is rules (sym none ∙ is.2)
+no_rules found none (Tags bounds rules listing tagsfile format list files) is =
+    none_is rules (sym none ∙ is.2)

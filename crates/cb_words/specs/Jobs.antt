@@ -8,8 +8,8 @@ use Rattle.clap.specs.Words.{App, IsUnsignedIn, Row, Rule, Text, all_of, first_o
 use Rattle.clap.specs.Words.{new_rule, with_rule, with_subcommand}
 use Rattle.clap.specs.declared.builder.ArgAction.TheVariants.{Append, SetTrue}
 use Rattle.clap.specs.declared.builder.ValueParser.TheVariants.{Unsigned}
-use Rattle.cb_scan.specs.declared.profile.Profile.{Profile}
-use Rattle.cb_scan.specs.declared.profile.Profile.TheVariants.{Prototypes, Standard, Wide}
+use Rattle.cb_scan.specs.declared.profile.Rules.{Rules}
+use Rattle.cb_scan.specs.declared.profile.Rules.TheVariants.{Prototypes, Standard, Wide}
 use Rattle.cb_desk.specs.Answer.{field_of_digit}
 use Rattle.cb_desk.specs.declared.rows.Field.{Field}
 use Rattle.cb_desk.specs.declared.tags.Format.{Format}
@@ -161,16 +161,16 @@ pub record AreBoundsOf (rows : List Row) (b : WorldBounds) : Type 0 where
 abbrev pub is_set : Text → List Row → Bool
 is_set id rows = bytes_eq (first_or id (codes "false") rows) (codes "true")
 
--- the profile of `--wide` and `--prototypes`, of which the second needs the first
-abbrev pub profile_for : (wide prototypes : Bool) → Option Profile
-profile_for false false = Some Standard
-profile_for true false = Some Wide
-profile_for true true = Some Prototypes
-profile_for false true = None
+-- the rules of `--wide` and `--prototypes`, of which the second needs the first
+abbrev pub rules_for : (wide prototypes : Bool) → Option Rules
+rules_for false false = Some Standard
+rules_for true false = Some Wide
+rules_for true true = Some Prototypes
+rules_for false true = None
 
--- the profile that was found
-abbrev pub profile_in : List Row → Option Profile
-profile_in rows = profile_for (is_set (codes "wide") rows) (is_set (codes "proto") rows)
+-- the rules that were found
+abbrev pub rules_in : List Row → Option Rules
+rules_in rows = rules_for (is_set (codes "wide") rows) (is_set (codes "proto") rows)
 
 -- the list of files that was found, if there is one
 abbrev pub list_in : List Row → Option Text
@@ -193,27 +193,27 @@ names_files rows = is_some (all_of (codes "files") rows) || is_some (list_in row
 -- session reads its commands from standard input, and so no list
 abbrev pub IsJobOf : Option (Text × List Row) → Job → Type 0
 IsJobOf None job = ⊥
-IsJobOf (Some found) (Line bounds profile list files) =
+IsJobOf (Some found) (Line bounds rules list files) =
     (found.0 ≡ codes "line")
     × AreBoundsOf found.1 bounds
-    × (profile_in found.1 ≡ Some profile)
+    × (rules_in found.1 ≡ Some rules)
     × (reads_input (list_in found.1) ≡ false)
     × (option_map string_bytes list ≡ list_in found.1)
     × (map string_bytes files.items ≡ all_or_none (codes "files") found.1)
-IsJobOf (Some found) (Find bounds profile field pattern list files) =
+IsJobOf (Some found) (Find bounds rules field pattern list files) =
     (found.0 ≡ codes "find")
     × AreBoundsOf found.1 bounds
-    × (profile_in found.1 ≡ Some profile)
+    × (rules_in found.1 ≡ Some rules)
     × (names_files found.1 ≡ true)
     × (option_map string_bytes list ≡ list_in found.1)
     × (field_of (first_or (codes "num") [] found.1) ≡ Some field)
     × (string_bytes pattern ≡ first_or (codes "pattern") [] found.1)
     × (string_bytes pattern ≢ [])
     × (map string_bytes files.items ≡ all_or_none (codes "files") found.1)
-IsJobOf (Some found) (Tags bounds profile listing tagsfile format list files) =
+IsJobOf (Some found) (Tags bounds rules listing tagsfile format list files) =
     (found.0 ≡ codes "tags")
     × AreBoundsOf found.1 bounds
-    × (profile_in found.1 ≡ Some profile)
+    × (rules_in found.1 ≡ Some rules)
     × (names_files found.1 ≡ true)
     × (option_map string_bytes list ≡ list_in found.1)
     × (listing ≡ is_set (codes "listing") found.1)

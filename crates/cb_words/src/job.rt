@@ -8,19 +8,19 @@ mod command;
 mod matched;
 
 use cb_desk::{Bounds, Field, Format};
-use cb_scan::Profile;
+use cb_scan::Rules;
 use clap::error::ErrorKind;
 use clap::{ArgMatches, Error};
 use std::alloc::{AllocError, Global};
 
-/// What the program is to do, within which bounds, and by which profile. A list is a file with the names of more files,
-/// one a line.
+/// What the program is to do, within which bounds, and by which rules. A list is a file with the
+/// names of more files, one a line.
 #[derive(Debug, Drop)]
 pub enum Job {
     /// A session over standard input and output, with these files loaded first. Its list is not `-`.
     Line {
         bounds: Bounds,
-        profile: Profile,
+        rules: Rules,
         list: Option<String>,
         files: Vec<String>,
     },
@@ -28,7 +28,7 @@ pub enum Job {
     /// standard input.
     Find {
         bounds: Bounds,
-        profile: Profile,
+        rules: Rules,
         field: Field,
         pattern: String,
         list: Option<String>,
@@ -38,7 +38,7 @@ pub enum Job {
     /// form. The list `-` is standard input.
     Tags {
         bounds: Bounds,
-        profile: Profile,
+        rules: Rules,
         listing: bool,
         tagsfile: String,
         format: Format,
@@ -97,7 +97,7 @@ pub fn job_of(alloc: Global, words: &[String]) -> Result<Job, Usage>
 /// input.
 fn no_job_text(matches: &ArgMatches<'_>) -> &'static str {
     match matches.subcommand() {
-        Some((_, found)) if matched::profile_of(found).is_none() =>
+        Some((_, found)) if matched::rules_of(found).is_none() =>
             "error: the following required arguments were not provided:\n  --wide\n\nFor more information, try '--help'.\n",
         Some(("line", _)) =>
             "error: invalid value '-' for '--files-from <LIST>': standard input has the commands\n\nFor more information, try '--help'.\n",

@@ -1,2 +1,3 @@
+pub mod Narrowing
 mod Process
 pub mod Working

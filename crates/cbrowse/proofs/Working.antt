@@ -6,6 +6,7 @@ use Rattle.std.proofs.lemmas.Bool.{true≢false}
 use Rattle.std.proofs.lemmas.List.{length-map, take-map}
 use Rattle.std.specs.Global.{Global}
 use Rattle.cb_scan.specs.declared.profile.Profile.{Profile}
+use Rattle.cb_desk.specs.Timeline.{new_timeline}
 use Rattle.cb_desk.specs.World.{WorldBounds}
 use Rattle.cb_session.specs.declared.input.Ended.{Ended}
 use Rattle.cb_session.specs.declared.input.Fault.{Fault as WhatFailed}
@@ -22,21 +23,26 @@ use Rattle.cbrowse.specs.declared.execute.finish.Finish.TheVariants.{Ran, Unread
 use Rattle.cbrowse.specs.declared.execute.finish.Finish.TheVariants.{Unwritable}
 use Rattle.cb_words.specs.declared.job.Job.{Job}
 use Rattle.cb_words.specs.declared.job.Job.TheVariants.{Line, Find, Tags}
-use Rattle.cbrowse.specs.Messages.{bounds_of, files_of, most_line_bytes, profile_of}
+use Rattle.cbrowse.specs.Messages.{bounds_of, files_of, most_line_bytes}
+use Rattle.cbrowse.specs.Needs.{needed_of}
 use Rattle.cbrowse.specs.Program.{DoesFrom, DoesInto, DoesJob, DoesLoaded, MakesFile, Reaches}
 use Rattle.cbrowse.specs.Program.{Works, WritesFile, WritesText, file_text}
 use Rattle.cbrowse.specs.Program.{most_lines, writes_file}
+use Rattle.cbrowse.proofs.Narrowing.{does_meant, kept_by_loads, loads_meant, meant, meant_end}
+use Rattle.cbrowse.proofs.Narrowing.{text_meant}
 
--- operands under the names of a job's files are contents of those files
+-- operands under the names of a job's files are contents of those files, and their loads lead to
+-- where those by all facts would lead
 pub reaches : (job : Job) (ops : List Operand) (b : WorldBounds) (p : Profile)
-    (end : Result State RefusedOperand) → b ≡ bounds_of job → p ≡ profile_of job
+    (end : Result State RefusedOperand) → b ≡ bounds_of job → p ≡ needed_of job
     → map (λ o. o.name.items) ops ≡ files_of job
-    → LoadsAll p b (map file_of_operand ops) end → Reaches job end
+    → LoadsAll p b (map file_of_operand ops) end → Reaches job (meant_end job end)
 reaches job ops b p end same alike named loads = (
   map file_of_operand ops,
   names ops ∙ named,
-  subst (λ q. LoadsAll q (bounds_of job) (map file_of_operand ops) end) alike
-      (subst (λ x. LoadsAll p x (map file_of_operand ops) end) same loads),
+  loads_meant job (bounds_of job) (map file_of_operand ops) end
+      (subst (λ q. LoadsAll q (bounds_of job) (map file_of_operand ops) end) alike
+      (subst (λ x. LoadsAll p x (map file_of_operand ops) end) same loads)),
 )
   where
     names : (os : List Operand)
@@ -44,9 +50,18 @@ reaches job ops b p end same alike named loads = (
     names [] = refl
     names (o ∷ os) = ap (λ ns. o.name.items ∷ ns) (names os)
 
+-- what was loaded has the profile of the loads
+pub by_needed : (job : Job) (ops : List Operand) (b : WorldBounds) (p : Profile) (s : State)
+    → p ≡ needed_of job → LoadsAll p b (map file_of_operand ops) (Ok s)
+    → s.timeline.present.profile ≡ needed_of job
+by_needed job ops b p s alike loads =
+    kept_by_loads 0 (new_timeline p b) s.timeline (map file_of_operand ops) (Ok s.timeline) refl
+    loads.0
+    ∙ alike
+
 -- an operand was refused
 pub stopped : (job : Job) (ops : List Operand) (b : WorldBounds) (p : Profile) (feed : Reader)
-    (out : Writer) (ended : Ended) → b ≡ bounds_of job → p ≡ profile_of job
+    (out : Writer) (ended : Ended) → b ≡ bounds_of job → p ≡ needed_of job
     → map (λ o. o.name.items) ops ≡ files_of job
     → Prepares p b (map file_of_operand ops) (Err ended)
     → (end : Result State RefusedOperand) × Reaches job end
@@ -65,11 +80,11 @@ pub file_written : (job : Job) (lines limit : ℕ) (t : State) (feed feed' : Rea
     (old new : Writer) (ended : Ended) → writes_file job ≡ true
     → DoesJob job lines limit t feed feed' old new ended
     → (feed' ≡ feed) × WritesText (file_text job t.timeline.present) old new ended
-file_written (Line bounds profile list files) lines limit t feed feed' old new ended writes does =
+file_written (Line bounds rules list files) lines limit t feed feed' old new ended writes does =
     absurd (true≢false (sym writes))
-file_written (Find bounds profile field pattern list files) lines limit t feed feed' old new ended writes does =
+file_written (Find bounds rules field pattern list files) lines limit t feed feed' old new ended writes does =
     absurd (true≢false (sym writes))
-file_written (Tags bounds profile listing tagsfile format list files) lines limit t feed feed' old new
+file_written (Tags bounds rules listing tagsfile format list files) lines limit t feed feed' old new
     ended writes does = does
 
 -- where a write failed the file can't be written
@@ -81,39 +96,67 @@ failed_file job lines limit t feed feed' old new why writes does is =
     subst (λ fault. WritesText (file_text job t.timeline.present) old new (Fault fault)) is
     (file_written job lines limit t feed feed' old new (Fault why) writes does).1
 
--- a job that writes a tags file
-pub into_file : (job : Job) (t : State) (feed feed' : Reader) (out : Writer) (f : Finish)
+goes : (job : Job) (t : State) (feed feed' : Reader) (out : Writer) (f : Finish)
     (file : Option Writer) → writes_file job ≡ true → Reaches job (Ok t)
     → MakesFile (file_text job t.timeline.present) file f → feed' ≡ feed
     → Works job feed feed' out out f file
-into_file job t feed feed' out (Ran ended) file writes reached makes same =
+goes job t feed feed' out (Ran ended) file writes reached makes same =
     inr (
       Ok t,
       reached,
       subst (λ b. DoesInto b t job feed feed' out out ended file) (sym writes)
           (makes, (same, refl)),
     )
-into_file job t feed feed' out Unwritable file writes reached makes same =
+goes job t feed feed' out Unwritable file writes reached makes same =
     (writes, (t, reached, makes), (same, refl))
-into_file job t feed feed' out (Unreadable place) (Some file) writes reached makes same =
+goes job t feed feed' out (Unreadable place) (Some file) writes reached makes same =
     absurd makes.1
-into_file job t feed feed' out (Unreadable place) None writes reached makes same = absurd makes
-into_file job t feed feed' out Unlisted (Some file) writes reached makes same = absurd makes.1
-into_file job t feed feed' out Unlisted None writes reached makes same = absurd makes
+goes job t feed feed' out (Unreadable place) None writes reached makes same = absurd makes
+goes job t feed feed' out Unlisted (Some file) writes reached makes same = absurd makes.1
+goes job t feed feed' out Unlisted None writes reached makes same = absurd makes
+
+-- a job that writes a tags file
+pub into_file : (job : Job) (s : State) (feed feed' : Reader) (out : Writer) (f : Finish)
+    (file : Option Writer) → writes_file job ≡ true → Reaches job (Ok (meant job s))
+    → s.timeline.present.profile ≡ needed_of job
+    → MakesFile (file_text job s.timeline.present) file f → feed' ≡ feed
+    → Works job feed feed' out out f file
+into_file job s feed feed' out f file writes reached by makes same =
+    goes job (meant job s) feed feed' out f file writes reached
+    (subst (λ text. MakesFile text file f) (text_meant job s by) makes) same
 
 -- a job over the input and the output
 pub over_both : (job : Job) (b : WorldBounds) (lines limit : ℕ) (t : State) (feed feed' : Reader)
     (out out' : Writer) (ended : Ended) → b ≡ bounds_of job → lines ≡ most_lines
     → limit ≡ most_line_bytes b → writes_file job ≡ false
+    → t.timeline.present.profile ≡ needed_of job
     → DoesJob job lines limit t feed feed' out out' ended
-    → DoesFrom t job feed feed' out out' ended None
-over_both job b lines limit t feed feed' out out' ended same all most writes does =
+    → DoesFrom (meant job t) job feed feed' out out' ended None
+over_both job b lines limit t feed feed' out out' ended same all most writes by done =
     let most_of = most_line_bytes (bounds_of job) in
-    subst (λ x. DoesInto x t job feed feed' out out' ended None) (sym writes) (
-      subst (λ n. DoesJob job n most_of t feed feed' out out' ended) all
-          (subst (λ m. DoesJob job lines m t feed feed' out out' ended)
+    let does = does_meant job lines limit t feed feed' out out' ended by done in
+    subst (λ x. DoesInto x (meant job t) job feed feed' out out' ended None) (sym writes) (
+      subst (λ n. DoesJob job n most_of (meant job t) feed feed' out out' ended) all
+          (subst (λ m. DoesJob job lines m (meant job t) feed feed' out out' ended)
           (most ∙ ap most_line_bytes same) does),
       refl,
+    )
+
+-- the same, from where the loads of the operands lead
+pub from_loads : (job : Job) (ops : List Operand) (b : WorldBounds) (p : Profile) (lines limit : ℕ)
+    (t : State) (feed feed' : Reader) (out out' : Writer) (ended : Ended) → b ≡ bounds_of job
+    → p ≡ needed_of job → map (λ o. o.name.items) ops ≡ files_of job
+    → LoadsAll p b (map file_of_operand ops) (Ok t) → lines ≡ most_lines
+    → limit ≡ most_line_bytes b → writes_file job ≡ false
+    → DoesJob job lines limit t feed feed' out out' ended
+    → Works job feed feed' out out' (Ran ended) None
+from_loads job ops b p lines limit t feed feed' out out' ended same alike named loads all most writes
+    does =
+    inr (
+      Ok (meant job t),
+      reaches job ops b p (Ok t) same alike named loads,
+      over_both job b lines limit t feed feed' out out' ended same all most writes
+          (by_needed job ops b p t alike loads) does,
     )
 
 -- a file that can't be read, behind those that were

@@ -1,4 +1,5 @@
 pub mod Endings
 pub mod Lists
 pub mod Messages
+pub mod Needs
 pub mod Program

@@ -45,16 +45,16 @@ HasNoList false feed feed' end = IsNoList end × (feed' ≡ feed)
 
 -- the same job, over its files and behind them files with these names
 abbrev pub HasMore : Job → List (List ℕ) → Job → Type 0
-HasMore (Line bounds profile list files) names (Line bounds' profile' list' files') =
-    (bounds' ≡ bounds) × (profile' ≡ profile) × (list' ≡ list)
+HasMore (Line bounds rules list files) names (Line bounds' rules' list' files') =
+    (bounds' ≡ bounds) × (rules' ≡ rules) × (list' ≡ list)
     × (map string_bytes files'.items ≡ map string_bytes files.items ++ names)
-HasMore (Find bounds profile field pattern list files) names
-    (Find bounds' profile' field' pattern' list' files') =
-    (bounds' ≡ bounds) × (profile' ≡ profile) × (field' ≡ field) × (pattern' ≡ pattern)
+HasMore (Find bounds rules field pattern list files) names
+    (Find bounds' rules' field' pattern' list' files') =
+    (bounds' ≡ bounds) × (rules' ≡ rules) × (field' ≡ field) × (pattern' ≡ pattern)
     × (list' ≡ list) × (map string_bytes files'.items ≡ map string_bytes files.items ++ names)
-HasMore (Tags bounds profile listing tagsfile format list files) names
-    (Tags bounds' profile' listing' tagsfile' format' list' files') =
-    (bounds' ≡ bounds) × (profile' ≡ profile) × (listing' ≡ listing) × (tagsfile' ≡ tagsfile)
+HasMore (Tags bounds rules listing tagsfile format list files) names
+    (Tags bounds' rules' listing' tagsfile' format' list' files') =
+    (bounds' ≡ bounds) × (rules' ≡ rules) × (listing' ≡ listing) × (tagsfile' ≡ tagsfile)
     × (format' ≡ format) × (list' ≡ list)
     × (map string_bytes files'.items ≡ map string_bytes files.items ++ names)
 HasMore _ names _ = ⊥

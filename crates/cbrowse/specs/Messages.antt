@@ -6,6 +6,8 @@ use Rattle.std.specs.Io.KnownBytes.{Appends}
 use Rattle.std.specs.List.{flat_map, slice_index_or}
 use Rattle.std.specs.Option.{option_map}
 use Rattle.cb_scan.specs.declared.profile.Profile.{Profile}
+use Rattle.cb_scan.specs.declared.profile.Rules.{Rules}
+use Rattle.cb_scan.specs.Profiles.{all_by}
 use Rattle.cb_desk.specs.Refusals.{text_of}
 use Rattle.cb_desk.specs.World.{WorldBounds}
 use Rattle.cb_session.specs.declared.input.Ended.{Ended}
@@ -26,15 +28,15 @@ use Rattle.cb_words.specs.declared.job.Usage.TheVariants.{Memory as NoMemory}
 
 -- the names of a job's files
 abbrev pub files_of : Job → List (List ℕ)
-files_of (Line bounds profile list files) = map string_bytes files.items
-files_of (Find bounds profile field pattern list files) = map string_bytes files.items
-files_of (Tags bounds profile listing tagsfile format list files) = map string_bytes files.items
+files_of (Line bounds rules list files) = map string_bytes files.items
+files_of (Find bounds rules field pattern list files) = map string_bytes files.items
+files_of (Tags bounds rules listing tagsfile format list files) = map string_bytes files.items
 
 -- the name of a job's list of files
 abbrev pub list_of : Job → Option (List ℕ)
-list_of (Line bounds profile list files) = option_map string_bytes list
-list_of (Find bounds profile field pattern list files) = option_map string_bytes list
-list_of (Tags bounds profile listing tagsfile format list files) = option_map string_bytes list
+list_of (Line bounds rules list files) = option_map string_bytes list
+list_of (Find bounds rules field pattern list files) = option_map string_bytes list
+list_of (Tags bounds rules listing tagsfile format list files) = option_map string_bytes list
 
 -- the same, or nothing
 abbrev pub list_name : Job → List ℕ
@@ -42,15 +44,19 @@ list_name job = unwrap_or (list_of job) []
 
 -- the bounds of a job
 abbrev pub bounds_of : Job → WorldBounds
-bounds_of (Line bounds profile list files) = bounds
-bounds_of (Find bounds profile field pattern list files) = bounds
-bounds_of (Tags bounds profile listing tagsfile format list files) = bounds
+bounds_of (Line bounds rules list files) = bounds
+bounds_of (Find bounds rules field pattern list files) = bounds
+bounds_of (Tags bounds rules listing tagsfile format list files) = bounds
 
--- the profile of a job
+-- the rules of a job
+abbrev pub rules_of : Job → Rules
+rules_of (Line bounds rules list files) = rules
+rules_of (Find bounds rules field pattern list files) = rules
+rules_of (Tags bounds rules listing tagsfile format list files) = rules
+
+-- the profile of a job: all facts by its rules
 abbrev pub profile_of : Job → Profile
-profile_of (Line bounds profile list files) = profile
-profile_of (Find bounds profile field pattern list files) = profile
-profile_of (Tags bounds profile listing tagsfile format list files) = profile
+profile_of job = all_by (rules_of job)
 
 -- the most bytes of a line of a session: as many as a file may have, and never fewer than 1,000,000
 abbrev pub most_line_bytes : WorldBounds → ℕ
@@ -58,9 +64,9 @@ most_line_bytes b = max b.file_bytes 1000000
 
 -- the name of a job's tags file
 abbrev pub tagsfile_of : Job → List ℕ
-tagsfile_of (Line bounds profile list files) = []
-tagsfile_of (Find bounds profile field pattern list files) = []
-tagsfile_of (Tags bounds profile listing tagsfile format list files) = string_bytes tagsfile
+tagsfile_of (Line bounds rules list files) = []
+tagsfile_of (Find bounds rules field pattern list files) = []
+tagsfile_of (Tags bounds rules listing tagsfile format list files) = string_bytes tagsfile
 
 -- a line that names the program
 abbrev pub error_line : List ℕ → List ℕ

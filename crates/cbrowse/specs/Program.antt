@@ -67,20 +67,20 @@ WritesText text old new _ = ⊥
 
 -- a search has a pattern
 abbrev pub HasPattern : Job → Type 0
-HasPattern (Find bounds profile field pattern list files) = string_bytes pattern ≢ []
+HasPattern (Find bounds rules field pattern list files) = string_bytes pattern ≢ []
 HasPattern _ = Unit {0}
 
 -- a job is done from a timeline: a session is served; the rows of a search and tags are written,
 -- and the reader is left alone
 abbrev pub DoesJob : Job → (lines limit : ℕ) → State → Reader → Reader → Writer → Writer
     → Ended → Type 0
-DoesJob (Line bounds profile list files) lines limit s feed feed' old new ended =
+DoesJob (Line bounds rules list files) lines limit s feed feed' old new ended =
     (next : State) × Serves lines limit s next feed feed' old new ended
-DoesJob (Find bounds profile field pattern list files) lines limit s feed feed' old new ended =
+DoesJob (Find bounds rules field pattern list files) lines limit s feed feed' old new ended =
     (feed' ≡ feed)
     × WritesText (flat_map row_line (answer s.timeline.present field (string_bytes pattern)))
     old new ended
-DoesJob (Tags bounds profile listing tagsfile format list files)
+DoesJob (Tags bounds rules listing tagsfile format list files)
     lines limit s feed feed' old new ended =
     (feed' ≡ feed) × WritesText (tags_output listing format s.timeline.present) old new ended
 
@@ -92,9 +92,9 @@ is_standard_output name = bytes_eq name (codes "-")
 
 -- the job writes a tags file
 abbrev pub writes_file : Job → Bool
-writes_file (Line bounds profile list files) = false
-writes_file (Find bounds profile field pattern list files) = false
-writes_file (Tags bounds profile listing tagsfile format list files) =
+writes_file (Line bounds rules list files) = false
+writes_file (Find bounds rules field pattern list files) = false
+writes_file (Tags bounds rules listing tagsfile format list files) =
     not (listing || is_standard_output (string_bytes tagsfile))
 
 -- a file of this name may be a C source
@@ -117,9 +117,9 @@ LeavesAlone feed feed' out out' = (feed' ≡ feed) × (out' ≡ out)
 
 -- the text of the tags file that a job writes
 abbrev pub file_text : Job → World → List ℕ
-file_text (Line bounds profile list files) w = []
-file_text (Find bounds profile field pattern list files) w = []
-file_text (Tags bounds profile listing tagsfile format list files) w = tags_output listing format w
+file_text (Line bounds rules list files) w = []
+file_text (Find bounds rules field pattern list files) w = []
+file_text (Tags bounds rules listing tagsfile format list files) w = tags_output listing format w
 
 -- a writer that has taken nothing yet
 abbrev pub fresh : Option (List ℕ) → Writer

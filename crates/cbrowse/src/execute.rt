@@ -27,10 +27,12 @@ ghost use Rattle.cb_session.specs.Writing.{Puts};
 mod files;
 mod finish;
 mod list;
+mod needs;
 
 use crate::execute::files::{TagsFile, make_file, read_operands};
-use crate::execute::finish::{Finish, bounds_of, conclude, files_of, most_line_bytes, profile_of};
+use crate::execute::finish::{Finish, bounds_of, conclude, files_of, most_line_bytes};
 use crate::execute::list::take_list;
+use crate::execute::needs::needed_of;
 use cb_desk::{Bounds, Desk, Field, Format, TagRows};
 use cb_session::{
     Ended, Fault, Limits, Session, prepare, put_answer, put_listing_file, put_tags_file,
@@ -102,7 +104,7 @@ fn write_rows<W: Write>(field: Field, pattern: &[u8], desk: &mut Desk, out: &mut
     ensures { WritesText (flat_map row_line (answer desk.old.timeline.present field pattern.now))
         out.old out.new result }
 {
-    desk.settle(field);
+    desk.settle_for(field, pattern);
     match put_answer(out, desk.rows(field, pattern)) {
         Ok(()) => {}
         Err(fault) => return Ended::Fault(fault),
@@ -225,8 +227,8 @@ fn run_job_into<I: BufRead, W: Write>(
     (end, out)
 }
 
-/// Does a job: every file is read, then all are loaded, and only then a tags file is made or
-/// emptied, which is handed back.
+/// Does a job: every file is read, then all are loaded, where no fact is sought that the job does
+/// not read, and only then a tags file is made or emptied, which is handed back.
 fn work<R: Files + AllocGlobal, I: BufRead, O: Write>(
     rt: &R,
     folder: &str,
@@ -243,7 +245,7 @@ fn work<R: Files + AllocGlobal, I: BufRead, O: Write>(
         Ok(()) => {}
         Err(end) => return (end, None),
     }
-    let session = match prepare(rt.alloc(), bounds, profile_of(job), operands) {
+    let session = match prepare(rt.alloc(), bounds, needed_of(job), operands) {
         Ok(session) => session,
         Err(ended) => return (Finish::Ran(ended), None),
     };

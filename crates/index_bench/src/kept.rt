@@ -2,7 +2,7 @@
 
 use crate::failed::Failed;
 use cb_index::{Links, Room, Shelf, Shown, Version};
-use cb_scan::{Facts, Meter, Profile, Source, scan};
+use cb_scan::{Facts, Meter, Profile, Rules, Source, scan};
 use std::alloc::Global;
 
 /// More files than are measured.
@@ -48,7 +48,7 @@ pub(crate) struct Kept {
 impl Kept {
     pub(crate) fn new(alloc: Global) -> Kept {
         Kept {
-            shelf: Shelf::new(alloc, Profile::Standard),
+            shelf: Shelf::new(alloc, Profile::all_by(Rules::Standard)),
             files: Vec::new(alloc),
             counts: Counts {
                 bytes: 0,
@@ -67,11 +67,16 @@ impl Kept {
         bytes: Vec<u8>,
     ) -> Result<(), Failed> {
         let source = Source::new(alloc, bytes)?;
-        let facts = scan(alloc, &mut Meter::new(), Profile::Standard, &source)?;
+        let facts = scan(
+            alloc,
+            &mut Meter::new(),
+            Profile::all_by(Rules::Standard),
+            &source,
+        )?;
         let links = Links::new(alloc, &facts)?;
         self.counts.add(&source, &facts);
         let name = push_name(&mut self.shelf, name.to_vec(alloc)?)?;
-        let version = Version::new(Profile::Standard, source, facts, links);
+        let version = Version::new(Profile::all_by(Rules::Standard), source, facts, links);
         let version = push_version(&mut self.shelf, version)?;
         self.files.push(Shown { name, version })?;
         Ok(())

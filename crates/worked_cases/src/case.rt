@@ -4,7 +4,7 @@ use crate::ended::put_end;
 use crate::escapes::put_line;
 use crate::failed::Failed;
 use cb_desk::Bounds;
-use cb_scan::Profile;
+use cb_scan::{Profile, Rules};
 use cb_session::{Ended, Fault, Limits, Operand, Operands, run};
 use cb_tags::{Feed, Sink};
 use std::alloc::Global;
@@ -256,7 +256,7 @@ fn run_into<R: BufRead, W: Write + Drop>(
     run(
         alloc,
         bounds,
-        Profile::Standard,
+        Profile::all_by(Rules::Standard),
         limits,
         feed,
         &mut out,

@@ -1,7 +1,7 @@
 //! What is found in a text, in a short form.
 use crate::escapes::put_line;
 use crate::failed::Failed;
-use cb_scan::{Class, Def, Facts, Kind, Meter, Profile, Source, Span, Tag, pieces, scan};
+use cb_scan::{Class, Def, Facts, Kind, Meter, Profile, Rules, Source, Span, Tag, pieces, scan};
 use itoa::Buffer;
 use std::alloc::Global;
 
@@ -206,9 +206,9 @@ fn put_asked(text: &mut Vec<u8>, word: &[u8], scanned: &Scanned) -> Result<(), F
 /// The profile by which a word asks.
 fn profile_of(word: &[u8]) -> Profile {
     match word {
-        b"wide" => Profile::Wide,
-        b"prototypes" => Profile::Prototypes,
-        _ => Profile::Standard,
+        b"wide" => Profile::all_by(Rules::Wide),
+        b"prototypes" => Profile::all_by(Rules::Prototypes),
+        _ => Profile::all_by(Rules::Standard),
     }
 }
 

@@ -2,7 +2,7 @@
 use Rattle.std.specs.Prelude.{ℕ, List, [], ◌++◌, Option, None, Some, codes, map, if◌then◌else◌}
 use Rattle.cb_scan.specs.declared.facts.Kind.{Kind}
 use Rattle.cb_scan.specs.declared.facts.Kind.TheVariants as kind
-use Rattle.cb_scan.specs.declared.profile.Profile.TheVariants as profile
+use Rattle.cb_scan.specs.declared.profile.Rules.TheVariants as rules
 use Rattle.cb_scan.specs.declared.facts.Tag.{Tag}
 use Rattle.cb_scan.specs.declared.facts.Def.{Def}
 use Rattle.cb_scan.specs.Order.{in_order, put}
@@ -52,7 +52,7 @@ row text d =
 
 -- the definitions of a text
 abbrev pub rows : List ℕ → List (List ℕ)
-rows text = map (row text) (definitions_by profile.Prototypes text (pieces text))
+rows text = map (row text) (definitions_by rules.Prototypes text (pieces text))
 
 -- `unfolding seeing` opens how they are found
 unfoldable pub seeing : Unit {0}

@@ -1,6 +1,6 @@
 //! What the standard profile finds: one pass over the pieces of a text.
 ghost use Rattle.std.specs.Prelude.{◌≡◌, ◌≤◌, length, map, IfOk};
-ghost use Rattle.cb_scan.specs.declared.profile.Profile.TheVariants.{Standard};
+ghost use Rattle.cb_scan.specs.declared.profile.Rules.TheVariants.{Standard};
 ghost use Rattle.cb_scan.specs.declared.source.TheConstants.{MOST_BYTES};
 ghost use Rattle.std.specs.List.{flat_map};
 ghost use Rattle.cb_scan.specs.rules.Code.{code, directives, logical_lines};
@@ -12,12 +12,13 @@ ghost use Rattle.cb_scan.specs.rules.Structures.{structures};
 ghost use Rattle.cb_scan.specs.rules.Typedefs.{typedefs};
 ghost use Rattle.cb_scan.specs.rules.Uses.{function_calls, include_of, macro_calls, used};
 ghost use Rattle.cb_scan.specs.steps.Cut.{pieces};
-ghost use Rattle.cb_scan.specs.Profiles.{facts_in};
+ghost use Rattle.cb_scan.specs.Profiles.{all_facts, kept, wanted_of};
 
 use crate::facts::Facts;
 use crate::gather::{CodeLists, CodeState, LineLists};
 use crate::lex::lined::lined_pieces;
 use crate::lex::token::token_of;
+use crate::profile::Wanted;
 use crate::rules::directives::Stage;
 use crate::rules::functions::Machine;
 use crate::rules::order::ordered_defs;
@@ -34,7 +35,7 @@ struct Gathered {
 }
 
 /// The one pass over a text: each piece is looked at once.
-fn gather(alloc: Global, text: &[u8]) -> Result<Gathered, AllocError>
+fn gather(alloc: Global, uses: bool, text: &[u8]) -> Result<Gathered, AllocError>
     requires { length text.now ≤ MOST_BYTES }
     ensures functions { IfOk result
         (λ g. g.code.functions.items
@@ -50,7 +51,8 @@ fn gather(alloc: Global, text: &[u8]) -> Result<Gathered, AllocError>
         (λ g. g.code.structures.items
         ≡ map structure_def (structures (code text.now (pieces text.now)))) }
     ensures names { IfOk result
-        (λ g. g.lines.names.items ≡ flat_map used (logical_lines text.now (pieces text.now))) }
+        (λ g. g.lines.names.items
+        ≡ kept uses (flat_map used (logical_lines text.now (pieces text.now)))) }
     ensures macros { IfOk result
         (λ g. g.lines.macros.items ≡ map macro_def (macro_names text.now (pieces text.now))) }
     ensures macro_ranges { IfOk result
@@ -72,7 +74,7 @@ fn gather(alloc: Global, text: &[u8]) -> Result<Gathered, AllocError>
     for lined in lined_pieces(text) {
         if is_significant(lined.piece.class) {
             let token = token_of(text, &lined);
-            lines.add(text, &mut line, &token)?;
+            lines.add(uses, text, &mut line, &token)?;
             if line.is_code() {
                 code.add(&mut state, &token)?;
             }
@@ -86,12 +88,12 @@ fn gather(alloc: Global, text: &[u8]) -> Result<Gathered, AllocError>
     Ok(Gathered { code, lines })
 }
 
-/// What the standard profile finds in a text.
-pub(crate) fn facts_in(alloc: Global, text: &[u8]) -> Result<Facts, AllocError>
+/// What is wanted of what the standard rules find in a text.
+pub(crate) fn facts_in(alloc: Global, wanted: Wanted, text: &[u8]) -> Result<Facts, AllocError>
     requires { length text.now ≤ MOST_BYTES }
-    ensures { IfOk result (λ f. f ≡ facts_in Standard text.now) }
+    ensures { IfOk result (λ f. f ≡ wanted_of wanted (all_facts Standard text.now)) }
 {
-    let gathered = gather(alloc, text)?;
+    let gathered = gather(alloc, wanted.uses, text)?;
     let code = &gathered.code;
     let defs = ordered_defs(
         alloc,
@@ -102,6 +104,7 @@ pub(crate) fn facts_in(alloc: Global, text: &[u8]) -> Result<Facts, AllocError>
     )?;
     let facts = facts_with(
         alloc,
+        wanted,
         defs,
         code.ranges.as_slice(),
         code.calls.as_slice(),

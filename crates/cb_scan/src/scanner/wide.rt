@@ -4,7 +4,7 @@ ghost use Rattle.cb_scan.specs.declared.source.TheConstants.{MOST_BYTES};
 ghost use Rattle.std.specs.List.{flat_map};
 ghost use Rattle.std.specs.List.Sorted.{IsPermutation};
 ghost use Rattle.cb_scan.specs.Definitions.{macro_def};
-ghost use Rattle.cb_scan.specs.Profiles.{facts_in};
+ghost use Rattle.cb_scan.specs.Profiles.{all_facts, kept, wanted_of};
 ghost use Rattle.cb_scan.specs.rules.Code.{code, directives, logical_lines};
 ghost use Rattle.cb_scan.specs.rules.Macros.{macro_names, macros};
 ghost use Rattle.cb_scan.specs.rules.Scope.{macro_ranges, ranges_of};
@@ -12,13 +12,14 @@ ghost use Rattle.cb_scan.specs.rules.Uses.{calls_in, include_of, macro_calls, us
 ghost use Rattle.cb_scan.specs.rules.wide.Kinds.{functions_of, wide_function_def};
 ghost use Rattle.cb_scan.specs.steps.Cut.{pieces};
 ghost use Rattle.cb_scan.specs.steps.Functions.{call_before};
-ghost use Rattle.cb_scan.specs.steps.wide.Gathering.{declared_in, objects_in, profile_with};
+ghost use Rattle.cb_scan.specs.steps.wide.Gathering.{declared_in, objects_in, rules_with};
 
 use crate::facts::{Call, Facts};
 use crate::gather::{LineLists, push_some};
 use crate::lex::lined::lined_pieces;
 use crate::lex::piece::Span;
 use crate::lex::token::{Token, token_of};
+use crate::profile::Wanted;
 use crate::rules::directives::Stage;
 use crate::rules::order::ordered_defs;
 use crate::rules::wide::beside::staying;
@@ -56,7 +57,7 @@ fn call_before(body: Option<Span>, last: Option<Token>, token: &Token) -> Option
 }
 
 /// The one pass over a text: each piece is looked at once.
-fn gather(alloc: Global, text: &[u8]) -> Result<Gathered, AllocError>
+fn gather(alloc: Global, uses: bool, text: &[u8]) -> Result<Gathered, AllocError>
     requires { length text.now ≤ MOST_BYTES }
     ensures functions { IfOk result
         (λ g. g.found.functions
@@ -72,7 +73,8 @@ fn gather(alloc: Global, text: &[u8]) -> Result<Gathered, AllocError>
         (λ g. g.calls.items ≡ calls_in (code text.now (pieces text.now))
         (functions_of text.now (pieces text.now))) }
     ensures names { IfOk result
-        (λ g. g.lines.names.items ≡ flat_map used (logical_lines text.now (pieces text.now))) }
+        (λ g. g.lines.names.items
+        ≡ kept uses (flat_map used (logical_lines text.now (pieces text.now)))) }
     ensures macros { IfOk result
         (λ g. g.lines.macros.items ≡ map macro_def (macro_names text.now (pieces text.now))) }
     ensures macro_ranges { IfOk result
@@ -93,7 +95,7 @@ fn gather(alloc: Global, text: &[u8]) -> Result<Gathered, AllocError>
     for lined in lined_pieces(text) {
         if is_significant(lined.piece.class) {
             let token = token_of(text, &lined);
-            lines.add(text, &mut line, &token)?;
+            lines.add(uses, text, &mut line, &token)?;
             if line.is_code() {
                 push_some(&mut calls, call_before(pass.body(), last, &token))?;
                 reader.add(&mut pass, &mut found, text, &token)?;
@@ -114,12 +116,18 @@ fn gather(alloc: Global, text: &[u8]) -> Result<Gathered, AllocError>
     })
 }
 
-/// What the wide profile finds in a text, with or without external declarations and prototypes.
-pub(crate) fn facts_in(alloc: Global, prototypes: bool, text: &[u8]) -> Result<Facts, AllocError>
+/// What is wanted of what the wide rules find in a text, with or without external declarations and
+/// prototypes.
+pub(crate) fn facts_in(
+    alloc: Global,
+    wanted: Wanted,
+    prototypes: bool,
+    text: &[u8],
+) -> Result<Facts, AllocError>
     requires { length text.now ≤ MOST_BYTES }
-    ensures { IfOk result (λ f. f ≡ facts_in (profile_with prototypes) text.now) }
+    ensures { IfOk result (λ f. f ≡ wanted_of wanted (all_facts (rules_with prototypes) text.now)) }
 {
-    let gathered = gather(alloc, text)?;
+    let gathered = gather(alloc, wanted.uses, text)?;
     let found = &gathered.found;
     let all = ordered_defs(
         alloc,
@@ -131,6 +139,7 @@ pub(crate) fn facts_in(alloc: Global, prototypes: bool, text: &[u8]) -> Result<F
     let defs = staying(alloc, prototypes, found.ranges.as_slice(), all.as_slice())?;
     let facts = facts_with(
         alloc,
+        wanted,
         defs,
         found.ranges.as_slice(),
         gathered.calls.as_slice(),

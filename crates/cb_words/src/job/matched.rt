@@ -27,7 +27,7 @@ ghost use Rattle.cb_words.specs.Jobs.{
   list_in,
   most_files,
   names_files,
-  profile_in,
+  rules_in,
   reads_input,
 };
 ghost use Rattle.cb_words.specs.Usages.{IsBadSearch};
@@ -37,7 +37,7 @@ ghost use Rattle.cb_words.specs.Commands.{rows_in};
 
 use crate::job::{Job, Usage};
 use cb_desk::{Bounds, Field, Format, MOST_BYTES, MOST_FILES};
-use cb_scan::Profile;
+use cb_scan::Rules;
 use clap::ArgMatches;
 use std::alloc::{AllocError, Global};
 
@@ -57,7 +57,7 @@ pub(crate) fn found_job(alloc: Global, matches: &ArgMatches<'_>) -> Result<Optio
     }
 }
 
-/// The search that was asked for, or `None` where there is no file or no such bound or profile. Its
+/// The search that was asked for, or `None` where there is no file or no such bound or rules. Its
 /// number is judged after the file, and then its pattern.
 fn find_job(alloc: Global, found: &ArgMatches<'_>) -> Result<Option<Job>, Usage>
     ensures { MatchResult result (λ job. MatchOption job
@@ -78,12 +78,12 @@ fn find_job(alloc: Global, found: &ArgMatches<'_>) -> Result<Option<Job>, Usage>
     let Some(bounds) = bounds_of(found) else {
         return Ok(None);
     };
-    let Some(profile) = profile_of(found) else {
+    let Some(rules) = rules_of(found) else {
         return Ok(None);
     };
     Ok(Some(Job::Find {
         bounds,
-        profile,
+        rules,
         field,
         pattern: String::from_str(alloc, pattern)?,
         list: list_of(alloc, found)?,
@@ -102,7 +102,7 @@ fn field_of(num: &str) -> Option<Field>
 }
 
 /// The session that was asked for, or `None` where its list would be standard input, or there is no
-/// such bound or profile.
+/// such bound or rules.
 fn line_job(alloc: Global, found: &ArgMatches<'_>) -> Result<Option<Job>, AllocError>
     ensures { IfOk result (λ job. MatchOption job
         ((job : Job) → IsJobOf (Some (codes "line", rows_in found.now)) job → ⊥)
@@ -114,19 +114,19 @@ fn line_job(alloc: Global, found: &ArgMatches<'_>) -> Result<Option<Job>, AllocE
     let Some(bounds) = bounds_of(found) else {
         return Ok(None);
     };
-    let Some(profile) = profile_of(found) else {
+    let Some(rules) = rules_of(found) else {
         return Ok(None);
     };
     Ok(Some(Job::Line {
         bounds,
-        profile,
+        rules,
         list: list_of(alloc, found)?,
         files: files_of(alloc, found)?,
     }))
 }
 
 /// The tags that were asked for, or `None` where there is no file or no such format, bound or
-/// profile.
+/// rules.
 fn tags_job(alloc: Global, found: &ArgMatches<'_>) -> Result<Option<Job>, AllocError>
     ensures { IfOk result (λ job. MatchOption job
         ((job : Job) → IsJobOf (Some (codes "tags", rows_in found.now)) job → ⊥)
@@ -141,12 +141,12 @@ fn tags_job(alloc: Global, found: &ArgMatches<'_>) -> Result<Option<Job>, AllocE
     let Some(bounds) = bounds_of(found) else {
         return Ok(None);
     };
-    let Some(profile) = profile_of(found) else {
+    let Some(rules) = rules_of(found) else {
         return Ok(None);
     };
     Ok(Some(Job::Tags {
         bounds,
-        profile,
+        rules,
         listing: is_set(found, "listing"),
         tagsfile: String::from_str(alloc, value_or(found, "tagsfile", "tags"))?,
         format,
@@ -203,14 +203,14 @@ fn is_set(found: &ArgMatches<'_>, id: &str) -> bool
     value_or(found, id, "false") == "true"
 }
 
-/// The profile that was asked for, or `None` where prototypes were, and not the wide one.
-pub(crate) fn profile_of(found: &ArgMatches<'_>) -> Option<Profile>
-    ensures { result ≡ profile_in (rows_in found.now) }
+/// The rules that were asked for, or `None` where prototypes were, and not the wide ones.
+pub(crate) fn rules_of(found: &ArgMatches<'_>) -> Option<Rules>
+    ensures { result ≡ rules_in (rows_in found.now) }
 {
     match (is_set(found, "wide"), is_set(found, "proto")) {
-        (false, false) => Some(Profile::Standard),
-        (true, false) => Some(Profile::Wide),
-        (true, true) => Some(Profile::Prototypes),
+        (false, false) => Some(Rules::Standard),
+        (true, false) => Some(Rules::Wide),
+        (true, true) => Some(Rules::Prototypes),
         (false, true) => None,
     }
 }

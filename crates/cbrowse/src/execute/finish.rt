@@ -17,7 +17,6 @@ ghost use Rattle.cbrowse.specs.Messages.{
   list_name,
   list_of,
   most_line_bytes,
-  profile_of,
   tagsfile_of,
   run_said,
   said_of,
@@ -28,7 +27,6 @@ ghost use Rattle.cbrowse.specs.Messages.{
 };
 
 use cb_desk::Bounds;
-use cb_scan::Profile;
 use cb_session::{Ended, Fault};
 use cb_tags::{Sink, WriteFault, put_text, put_texts};
 use cb_words::{Job, Usage};
@@ -88,17 +86,6 @@ pub(crate) fn bounds_of(job: &Job) -> Bounds
         Job::Line { bounds, .. } => *bounds,
         Job::Find { bounds, .. } => *bounds,
         Job::Tags { bounds, .. } => *bounds,
-    }
-}
-
-/// The profile of a job.
-pub(crate) fn profile_of(job: &Job) -> Profile
-    ensures { result ≡ profile_of job.now }
-{
-    match job {
-        Job::Line { profile, .. } => *profile,
-        Job::Find { profile, .. } => *profile,
-        Job::Tags { profile, .. } => *profile,
     }
 }
 

@@ -1,7 +1,7 @@
 //! The bounds of a desk: its files, their bytes, and its past.
 use super::meters::load;
 use cb_desk::{Bounds, Change, Desk, Refusal};
-use cb_scan::Profile;
+use cb_scan::{Profile, Rules};
 use std::alloc::{AllocError, Global};
 use std::process::Abort;
 
@@ -52,7 +52,11 @@ fn each_move_takes_few_turns(rt: &impl Abort, alloc: Global, desk: &mut Desk) {
 
 #[test]
 fn change_refuses_the_4097th_file(rt: HostRuntime) -> Result<(), Refusal> {
-    let mut desk = Desk::new(rt.alloc(), Bounds::standard(), Profile::Standard);
+    let mut desk = Desk::new(
+        rt.alloc(),
+        Bounds::standard(),
+        Profile::all_by(Rules::Standard),
+    );
     let loaded = load_most(&mut desk, rt.alloc());
     assert!(rt; loaded == Ok(()));
     one_more_is_refused(&rt, rt.alloc(), &mut desk);
@@ -94,7 +98,11 @@ fn a_larger_text_is_refused(rt: &impl Abort, alloc: Global, desk: &mut Desk) {
 
 #[test]
 fn change_refuses_more_than_1000000_bytes(rt: HostRuntime) -> Result<(), AllocError> {
-    let mut desk = Desk::new(rt.alloc(), Bounds::standard(), Profile::Standard);
+    let mut desk = Desk::new(
+        rt.alloc(),
+        Bounds::standard(),
+        Profile::all_by(Rules::Standard),
+    );
     larger_files_are_refused(&rt, rt.alloc(), &mut desk)?;
     a_larger_text_is_refused(&rt, rt.alloc(), &mut desk);
     Ok(())
@@ -112,7 +120,11 @@ fn wanted_texts_are_bounded(rt: &impl Abort, alloc: Global, desk: &mut Desk) {
 
 #[test]
 fn change_refuses_texts_of_4097_bytes(rt: HostRuntime) {
-    let mut desk = Desk::new(rt.alloc(), Bounds::standard(), Profile::Standard);
+    let mut desk = Desk::new(
+        rt.alloc(),
+        Bounds::standard(),
+        Profile::all_by(Rules::Standard),
+    );
     wanted_texts_are_bounded(&rt, rt.alloc(), &mut desk);
 }
 
@@ -136,7 +148,11 @@ fn the_past_is_full(rt: &impl Abort, alloc: Global, desk: &mut Desk) {
 
 #[test]
 fn change_refuses_the_65537th_of_a_past(rt: HostRuntime) {
-    let mut desk = Desk::new(rt.alloc(), Bounds::standard(), Profile::Standard);
+    let mut desk = Desk::new(
+        rt.alloc(),
+        Bounds::standard(),
+        Profile::all_by(Rules::Standard),
+    );
     marks_fill_the_past(&rt, rt.alloc(), &mut desk);
     the_past_is_full(&rt, rt.alloc(), &mut desk);
 }
@@ -153,7 +169,7 @@ fn two_changes_fill_the_past(rt: &impl Abort, alloc: Global, desk: &mut Desk) {
 #[test]
 fn change_refuses_the_third_of_a_past_of_two(rt: HostRuntime) {
     let bounds = Bounds::new(3, 20, 2);
-    let mut desk = Desk::new(rt.alloc(), bounds, Profile::Standard);
+    let mut desk = Desk::new(rt.alloc(), bounds, Profile::all_by(Rules::Standard));
     assert_eq!(rt; bounds.files(), desk.bounds().files());
     assert_eq!(rt; bounds.file_bytes(), desk.bounds().file_bytes());
     two_changes_fill_the_past(&rt, rt.alloc(), &mut desk);

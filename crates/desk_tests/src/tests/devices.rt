@@ -1,7 +1,7 @@
 //! Runs over readers and writers that fail.
 use super::inputs::WIDE;
 use cb_desk::Bounds;
-use cb_scan::Profile;
+use cb_scan::{Profile, Rules};
 use cb_session::{Ended, Fault, Session};
 use cb_tags::{Feed, Sink};
 use std::alloc::Global;
@@ -18,7 +18,7 @@ const OUTPUT: &[u8] =
 
 /// What a new session does between a feed and a sink.
 fn serve<I: BufRead, O: Write>(alloc: Global, feed: &mut Feed<I>, sink: &mut Sink<O>) -> Ended {
-    let mut session = Session::new(alloc, Bounds::standard(), Profile::Standard);
+    let mut session = Session::new(alloc, Bounds::standard(), Profile::all_by(Rules::Standard));
     session.serve(alloc, &WIDE, feed, sink)
 }
 

@@ -1,6 +1,6 @@
 //! Input by bytes and commands, and single rows of output.
 use cb_desk::{Bounds, Change, RefRow};
-use cb_scan::Profile;
+use cb_scan::{Profile, Rules};
 use cb_session::{Command, Input, Intake, Limits, Session, put_row};
 use cb_tags::{Feed, Sink};
 use std::alloc::Global;
@@ -20,7 +20,7 @@ const NARROW: Limits = Limits {
 
 /// The first byte that a run over an input leaves unread.
 fn unread(alloc: Global, limits: &Limits, input: &[u8]) -> Option<u8> {
-    let mut session = Session::new(alloc, Bounds::standard(), Profile::Standard);
+    let mut session = Session::new(alloc, Bounds::standard(), Profile::all_by(Rules::Standard));
     let mut feed = Feed::new(input);
     let mut written = Vec::new(alloc);
     let mut sink = Sink::new(&mut written);

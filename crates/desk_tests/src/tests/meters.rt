@@ -1,6 +1,6 @@
 //! What is scanned, and how often files are shown and hidden. Bytes and turns are counted by hand.
 use cb_desk::{Bounds, Change, Desk, Refusal};
-use cb_scan::Profile;
+use cb_scan::{Profile, Rules};
 use std::alloc::Global;
 use std::process::Abort;
 
@@ -61,7 +61,11 @@ fn moves_and_a_rebuild(rt: &impl Abort, alloc: Global, desk: &mut Desk) {
 
 #[test]
 fn meter_counts_loads_changes_and_rebuilds(rt: HostRuntime) {
-    let mut desk = Desk::new(rt.alloc(), Bounds::standard(), Profile::Standard);
+    let mut desk = Desk::new(
+        rt.alloc(),
+        Bounds::standard(),
+        Profile::all_by(Rules::Standard),
+    );
     loads_and_changes(&rt, rt.alloc(), &mut desk);
     moves_and_a_rebuild(&rt, rt.alloc(), &mut desk);
 }
@@ -82,6 +86,10 @@ fn reloads(rt: &impl Abort, alloc: Global, desk: &mut Desk) {
 
 #[test]
 fn meter_counts_a_reload_once(rt: HostRuntime) {
-    let mut desk = Desk::new(rt.alloc(), Bounds::standard(), Profile::Standard);
+    let mut desk = Desk::new(
+        rt.alloc(),
+        Bounds::standard(),
+        Profile::all_by(Rules::Standard),
+    );
     reloads(&rt, rt.alloc(), &mut desk);
 }

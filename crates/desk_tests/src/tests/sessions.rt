@@ -2,7 +2,7 @@
 use super::inputs::WIDE;
 use super::meters::NINE_LINES;
 use cb_desk::Bounds;
-use cb_scan::Profile;
+use cb_scan::{Profile, Rules};
 use cb_session::{Operand, Operands, Session, prepare};
 use cb_tags::{Feed, Sink};
 use std::alloc::{AllocError, Global};
@@ -53,7 +53,12 @@ fn each_command_scans_its_bytes(rt: &impl Abort, alloc: Global, session: &mut Se
 #[test]
 fn serve_scans_texts_that_come_in(rt: HostRuntime) -> Result<(), AllocError> {
     let operands = operands(rt.alloc())?;
-    match prepare(rt.alloc(), Bounds::standard(), Profile::Standard, operands) {
+    match prepare(
+        rt.alloc(),
+        Bounds::standard(),
+        Profile::all_by(Rules::Standard),
+        operands,
+    ) {
         Ok(mut session) => each_command_scans_its_bytes(&rt, rt.alloc(), &mut session),
         Err(_) => assert!(rt; false, "the operands were refused"),
     }

@@ -1,6 +1,6 @@
 //! Texts with their facts, and shelves and archives that keep them.
 use cb_index::{Archive, Links, Room, Shelf, Shown, Version};
-use cb_scan::{Meter, Profile, Source, scan};
+use cb_scan::{Meter, Profile, Rules, Source, scan};
 use std::alloc::Global;
 use std::test::Fail;
 
@@ -24,9 +24,14 @@ const ROOM: Room = Room {
 /// A text with its facts.
 fn version_of(alloc: Global, text: &[u8]) -> Result<Version, Fail> {
     let source = Source::new(alloc, text.to_vec(alloc)?)?;
-    let facts = scan(alloc, &mut Meter::new(), Profile::Standard, &source)?;
+    let facts = scan(
+        alloc,
+        &mut Meter::new(),
+        Profile::all_by(Rules::Standard),
+        &source,
+    )?;
     match Links::new(alloc, &facts) {
-        Ok(links) => Ok(Version::new(Profile::Standard, source, facts, links)),
+        Ok(links) => Ok(Version::new(Profile::all_by(Rules::Standard), source, facts, links)),
         Err(_) => Err(Fail::from("out of memory")),
     }
 }

@@ -1,7 +1,7 @@
 //! What a shelf shows, on files whose facts are worked out by hand.
 use super::kept::{FIRST, OTHER, keep};
 use cb_index::{FactKind, FactRows, IndexKind, Shelf, Shown, TagRows, Totals, are_rising};
-use cb_scan::Profile;
+use cb_scan::{Profile, Rules};
 use std::alloc::Global;
 use std::process::Abort;
 use std::test::Fail;
@@ -158,7 +158,7 @@ fn show_and_hide(rt: &impl Abort, alloc: Global, shelf: &mut Shelf) -> Result<()
 
 #[test]
 fn show_and_hide_change_what_is_shown(rt: HostRuntime) -> Result<(), Fail> {
-    let mut shelf = Shelf::new(rt.alloc(), Profile::Standard);
+    let mut shelf = Shelf::new(rt.alloc(), Profile::all_by(Rules::Standard));
     assert_eq!(rt; shelf.turns(), 0);
     show_and_hide(&rt, rt.alloc(), &mut shelf)
 }

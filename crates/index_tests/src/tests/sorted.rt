@@ -3,7 +3,7 @@ ghost use Rattle.std.specs.Prelude.{◌≡◌, []};
 
 use super::kept::keep_in;
 use cb_index::{Archive, DefsByName, DefsByTagName, Row, RowOrder, Shown, Sorted};
-use cb_scan::Profile;
+use cb_scan::{Profile, Rules};
 use std::alloc::Global;
 use std::cmp::Ordering;
 use std::process::Abort;
@@ -57,7 +57,7 @@ fn keep_and_put(rt: &impl Abort, alloc: Global, archive: &mut Archive) -> Result
 
 #[test]
 fn range_gives_the_rows_of_a_key(rt: HostRuntime) -> Result<(), Fail> {
-    let mut archive = Archive::new(rt.alloc(), Profile::Standard);
+    let mut archive = Archive::new(rt.alloc(), Profile::all_by(Rules::Standard));
     keep_and_put(&rt, rt.alloc(), &mut archive)
 }
 
@@ -80,6 +80,6 @@ fn keep_and_compare(rt: &impl Abort, alloc: Global, archive: &mut Archive) -> Re
 
 #[test]
 fn compare_is_by_name_or_by_tag_name(rt: HostRuntime) -> Result<(), Fail> {
-    let mut archive = Archive::new(rt.alloc(), Profile::Standard);
+    let mut archive = Archive::new(rt.alloc(), Profile::all_by(Rules::Standard));
     keep_and_compare(&rt, rt.alloc(), &mut archive)
 }

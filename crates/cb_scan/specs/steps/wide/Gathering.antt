@@ -5,8 +5,8 @@ use Rattle.std.specs.List.{flat_map}
 use Rattle.std.specs.Option.{is_none}
 use Rattle.cb_scan.specs.declared.facts.Def.{Def}
 use Rattle.cb_scan.specs.declared.lex.piece.Piece.{Piece}
-use Rattle.cb_scan.specs.declared.profile.Profile.{Profile}
-use Rattle.cb_scan.specs.declared.profile.Profile.TheVariants.{Prototypes, Wide}
+use Rattle.cb_scan.specs.declared.profile.Rules.{Rules}
+use Rattle.cb_scan.specs.declared.profile.Rules.TheVariants.{Prototypes, Wide}
 use Rattle.cb_scan.specs.declared.rules.scope.Range.{Range}
 use Rattle.cb_scan.specs.Profiles.{is_declaration, is_object}
 use Rattle.cb_scan.specs.rules.Code.{code}
@@ -30,10 +30,10 @@ objects_in text ps =
 
 -- ---- what stays
 
--- the profile with or without external declarations and prototypes
-abbrev pub profile_with : Bool → Profile
-profile_with true = Prototypes
-profile_with false = Wide
+-- the wide rules, with or without external declarations and prototypes
+abbrev pub rules_with : Bool → Rules
+rules_with true = Prototypes
+rules_with false = Wide
 
 -- a definition is of a kind that is asked for, and the first of these ranges does not make it a
 -- parameter

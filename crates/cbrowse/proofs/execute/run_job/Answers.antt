@@ -14,7 +14,7 @@ returns-in-Find g c =
     subst (λ p. WritesText (flat_map row_line (answer c.args.session.timeline.present
     c.in-Find.field p)) c.args.out.now c.find_in.new.out c.find_in.result) c.as_bytes.ensures.value
     c.find_in.ensures in
-    let does : DoesJob (Find c.in-Find.bounds c.in-Find.profile c.in-Find.field c.in-Find.pattern
+    let does : DoesJob (Find c.in-Find.bounds c.in-Find.rules c.in-Find.field c.in-Find.pattern
     c.in-Find.list c.in-Find.files) c.args.limits.now.lines c.args.limits.now.line c.args.session
     c.args.feed.now c.args.feed.now c.args.out.now c.find_in.new.out c.find_in.result =
     (refl, put) in

@@ -19,6 +19,6 @@ returns c =
     ((c.as_slice.ensures.value ∙ g.functions) i ++ (c.as_slice-2.ensures.value ∙ g.macros) i
     ++ (c.as_slice-3.ensures.value ∙ g.typedefs) i ++ (c.as_slice-4.ensures.value ∙ g.structures) i)) in
     c.in_ok-facts.ensures
-    ∙ facts_are text (functions (code text (pieces text))) (functions_ascend text) (definitions text) defs_are
+    ∙ facts_are c.args.wanted text (functions (code text (pieces text))) (functions_ascend text) (definitions text) defs_are
     (c.as_slice-5.ensures.value ∙ g.function_ranges) (c.as_slice-6.ensures.value ∙ g.function_calls)
     g.names g.macro_ranges g.macro_calls g.includes

@@ -1,8 +1,9 @@
-use Rattle.std.proofs.Common.{◌≡◌, ◌∙◌, ◌++◌, true, None, length, sym, ap, subst, arith}
+use Rattle.std.proofs.Common.{◌≡◌, ◌∙◌, ◌++◌, true, false, None, length, sym, ap, subst, arith}
 use Rattle.std.specs.List.{AllByRecursion}
 use Rattle.std.specs.Option.{option_to_list}
 use Rattle.cb_scan.specs.declared.rules.directives.Stage.TheVariants.{Start}
 use Rattle.cb_scan.specs.lex.Tokens.{is_significant}
+use Rattle.cb_scan.specs.Profiles.{kept}
 use Rattle.cb_scan.specs.steps.Cut.{pieces}
 use Rattle.cb_scan.specs.steps.Directives.{code_out, include_out, is_code, macro_call_out}
 use Rattle.cb_scan.specs.steps.Directives.{macro_out, no_range, nothing, range_finish, use_out}
@@ -15,7 +16,7 @@ use Rattle.cb_scan.specs.steps.Typedefs.{typedef_defs_from, typedefs_out}
 use Rattle.cb_scan.proofs.CodeLines.{uses_are}
 use Rattle.cb_scan.proofs.IncludeLines.{includes_are}
 use Rattle.cb_scan.proofs.MacroLines.{macro_calls_are, macro_ranges_are, macros_are}
-use Rattle.cb_scan.proofs.GatherLemmas.{appended, calls_found, code_on, walk_on, functions_found}
+use Rattle.cb_scan.proofs.GatherLemmas.{appended, calls_found, code_off, code_on, kept_on, walk_on, functions_found}
 use Rattle.cb_scan.proofs.GatherLemmas.{ranges_found, structures_found, typedefs_found}
 use Rattle.cb_scan.proofs.scanner.standard.gather.Goals as goal
 
@@ -40,7 +41,9 @@ loop-lined-init c =
           ∙ typedefs_found text;
       structures_found = (λ i. code.structures i
           ++ structures_from Nothing (walk code_out nothing text Start (source i))) ∙ structures_found text;
-      names_found = (λ i. lines.names i ++ walk use_out nothing text Start (source i)) ∙ uses_are text (pieces text);
+      names_found = (λ i. lines.names i
+          ++ kept c.args.uses (walk use_out nothing text Start (source i)))
+          ∙ ap (kept c.args.uses) (uses_are text (pieces text));
       macros_found = (λ i. lines.macros i ++ walk macro_out nothing text Start (source i))
           ∙ macros_are text (pieces text);
       macro_ranges_found = (λ i. lines.ranges i ++ walk no_range range_finish text Start (source i))
@@ -99,7 +102,8 @@ loop-lined-preserved-in-Continue-branch-2 c =
           (sym code.naming))
           so_far.structures_found;
       names_found = appended _ _ _ _ _ _ lines.names
-          (walk_on use_out nothing text _ _ _ _ _ _ all_is is token_is line_is) so_far.names_found;
+          (kept_on c.args.uses _ _ _
+          (walk_on use_out nothing text _ _ _ _ _ _ all_is is token_is line_is)) so_far.names_found;
       macros_found = appended _ _ _ _ _ _ lines.macros
           (walk_on macro_out nothing text _ _ _ _ _ _ all_is is token_is line_is) so_far.macros_found;
       macro_ranges_found = ap (λ l. l ++ walk no_range range_finish text c.add.new.line c.next.new.self) lines.ranges
@@ -112,4 +116,49 @@ loop-lined-preserved-in-Continue-branch-2 c =
       within = (subst (AllByRecursion (Within text)) all_is so_far.within).1;
       room = omega (arith, ap length all_is, code.deep, so_far.room);
       nested = omega (arith, ap length all_is, code.nested, so_far.nested);
+    }
+
+-- a token of a directive adds nothing to the code
+pub loop-lined-preserved-else-is_code : goal.loop-lined-preserved-else-is_code
+loop-lined-preserved-else-is_code c =
+    let text = c.args.text.now in
+    let so_far = c.loop-lined.invariant in
+    let all_is = c.in-Some.ensures.steps in
+    let is : is_significant c.in-Some.lined.piece.class ≡ true =
+    sym c.is_significant.ensures ∙ c.if-is_significant.true in
+    let token_is = c.token_of-token.ensures in
+    let line_is = c.in_ok-add.ensures.line in
+    let code_is : is_code c.add.new.line ≡ false = sym c.is_code.ensures ∙ c.if-is_code.false in
+    let lines = c.in_ok-add.ensures in
+    let off = sym (code_off text c.loop-lined.line c.add.new.line c.token_of-token.result c.in-Some.lined
+    c.loop-lined.lined-iterator c.next.new.self all_is is token_is line_is code_is) in
+    let code = c.loop-lined.code in
+    let state = c.loop-lined.state in
+    record {
+      functions_found = ap (λ ts. code.functions.items ++ defs_from state.machine ts) off
+          ∙ so_far.functions_found;
+      ranges_found = ap (λ ts. code.ranges.items ++ ranges_from (length text) state.machine ts) off
+          ∙ so_far.ranges_found;
+      calls_found = ap (λ ts. code.calls.items ++ calls_from state.machine ts) off
+          ∙ so_far.calls_found;
+      typedefs_found = ap (λ ts. code.typedefs.items
+          ++ typedef_defs_from state.machine state.declared code.pending.items ts) off
+          ∙ so_far.typedefs_found;
+      structures_found = ap (λ ts. code.structures.items ++ structures_from state.naming ts) off
+          ∙ so_far.structures_found;
+      names_found = appended _ _ _ _ _ _ lines.names
+          (kept_on c.args.uses _ _ _
+          (walk_on use_out nothing text _ _ _ _ _ _ all_is is token_is line_is)) so_far.names_found;
+      macros_found = appended _ _ _ _ _ _ lines.macros
+          (walk_on macro_out nothing text _ _ _ _ _ _ all_is is token_is line_is) so_far.macros_found;
+      macro_ranges_found = ap (λ l. l ++ walk no_range range_finish text c.add.new.line c.next.new.self) lines.ranges
+          ∙ ap (λ l. c.loop-lined.lines.ranges.items ++ l)
+          (sym (walk_on no_range range_finish text _ _ _ _ _ _ all_is is token_is line_is)) ∙ so_far.macro_ranges_found;
+      macro_calls_found = appended _ _ _ _ _ _ lines.calls
+          (walk_on macro_call_out nothing text _ _ _ _ _ _ all_is is token_is line_is) so_far.macro_calls_found;
+      includes_found = appended _ _ _ _ _ _ lines.includes
+          (walk_on (include_out text) nothing text _ _ _ _ _ _ all_is is token_is line_is) so_far.includes_found;
+      within = (subst (AllByRecursion (Within text)) all_is so_far.within).1;
+      room = omega (arith, ap length all_is, so_far.room);
+      nested = omega (arith, ap length all_is, so_far.nested);
     }

@@ -5,6 +5,7 @@ use Rattle.cb_scan.specs.steps.Cut.{pieces}
 use Rattle.cb_scan.specs.rules.Code.{code, directives, logical_lines}
 use Rattle.cb_scan.specs.declared.source.TheConstants.{MOST_BYTES}
 use Rattle.cb_scan.specs.Definitions.{function_def, macro_def, structure_def, typedef_def}
+use Rattle.cb_scan.specs.Profiles.{kept}
 use Rattle.cb_scan.specs.rules.Functions.{functions}
 use Rattle.cb_scan.specs.rules.Macros.{macro_names, macros}
 use Rattle.cb_scan.specs.rules.Scope.{function_ranges, macro_ranges}
@@ -35,8 +36,9 @@ invariant-loop-lined l = record {
   structures_found : l.code.structures.items
       ++ structures_from l.state.naming (walk code_out nothing l.text l.line l.lined-iterator)
       ≡ map structure_def (structures (code l.text (pieces l.text)));
-  names_found : l.lines.names.items ++ walk use_out nothing l.text l.line l.lined-iterator
-      ≡ flat_map used (logical_lines l.text (pieces l.text));
+  names_found : l.lines.names.items
+      ++ kept l.uses (walk use_out nothing l.text l.line l.lined-iterator)
+      ≡ kept l.uses (flat_map used (logical_lines l.text (pieces l.text)));
   macros_found : l.lines.macros.items ++ walk macro_out nothing l.text l.line l.lined-iterator
       ≡ map macro_def (macro_names l.text (pieces l.text));
   macro_ranges_found : l.lines.ranges.items ++ walk no_range range_finish l.text l.line l.lined-iterator

@@ -6,6 +6,7 @@ use Rattle.std.specs.Option.{option_to_list}
 use Rattle.cb_scan.specs.declared.facts.Def.{Def}
 use Rattle.cb_scan.specs.declared.rules.directives.Stage.TheVariants.{Start}
 use Rattle.cb_scan.specs.lex.Tokens.{is_significant}
+use Rattle.cb_scan.specs.Profiles.{kept}
 use Rattle.cb_scan.specs.rules.Code.{is_newline}
 use Rattle.cb_scan.specs.steps.Cut.{pieces}
 use Rattle.cb_scan.specs.steps.Directives.{code_out, include_out, is_code, macro_call_out}
@@ -20,7 +21,7 @@ use Rattle.cb_scan.specs.steps.wide.Reading.{held_len, most_left_out, reader_sta
 use Rattle.cb_scan.proofs.CodeLines.{code_is, uses_are}
 use Rattle.cb_scan.proofs.IncludeLines.{includes_are}
 use Rattle.cb_scan.proofs.MacroLines.{macro_calls_are, macro_ranges_are, macros_are}
-use Rattle.cb_scan.proofs.GatherLemmas.{appended, code_off, code_on, walk_end, walk_on}
+use Rattle.cb_scan.proofs.GatherLemmas.{appended, code_off, code_on, kept_on, walk_end, walk_on}
 use Rattle.cb_scan.proofs.WideCallsRead.{calls_read}
 use Rattle.cb_scan.proofs.WideGathered.{beginning, calls_gathered, gathered_at_end}
 use Rattle.cb_scan.proofs.WideWhole.{read_all}
@@ -43,7 +44,9 @@ loop-lined-init c =
       calls_found = (λ i. c.new-calls.ensures.items i ++ calls_read text (reader i) (the_taken (pass i) (found i)) None
           (walk code_out nothing text Start (source i)))
           ∙ ap (calls_read text reader_start beginning None) (code_is text (pieces text));
-      names_found = (λ i. lines.names i ++ walk use_out nothing text Start (source i)) ∙ uses_are text (pieces text);
+      names_found = (λ i. lines.names i
+          ++ kept c.args.uses (walk use_out nothing text Start (source i)))
+          ∙ ap (kept c.args.uses) (uses_are text (pieces text));
       macros_found = (λ i. lines.macros i ++ walk macro_out nothing text Start (source i))
           ∙ macros_are text (pieces text);
       macro_ranges_found = (λ i. lines.ranges i ++ walk no_range range_finish text Start (source i))
@@ -101,7 +104,8 @@ loop-lined-preserved-then-is_code c =
           ++ calls_read text (sym code.reader i) (sym code.taken i) (Some token) rest))
           so_far.calls_found;
       names_found = appended _ _ _ _ _ _ lines.names
-          (walk_on use_out nothing text _ _ _ _ _ _ all_is is token_is line_is) so_far.names_found;
+          (kept_on c.args.uses _ _ _
+          (walk_on use_out nothing text _ _ _ _ _ _ all_is is token_is line_is)) so_far.names_found;
       macros_found = appended _ _ _ _ _ _ lines.macros
           (walk_on macro_out nothing text _ _ _ _ _ _ all_is is token_is line_is) so_far.macros_found;
       macro_ranges_found = ap (λ l. l ++ walk no_range range_finish text c.add.new.line c.next.new.self) lines.ranges
@@ -139,7 +143,8 @@ loop-lined-preserved-else-is_code c =
       calls_found = ap (λ ts. c.loop-lined.calls.items ++ calls_read text r t c.loop-lined.last ts) (sym off)
           ∙ so_far.calls_found;
       names_found = appended _ _ _ _ _ _ lines.names
-          (walk_on use_out nothing text _ _ _ _ _ _ all_is is token_is line_is) so_far.names_found;
+          (kept_on c.args.uses _ _ _
+          (walk_on use_out nothing text _ _ _ _ _ _ all_is is token_is line_is)) so_far.names_found;
       macros_found = appended _ _ _ _ _ _ lines.macros
           (walk_on macro_out nothing text _ _ _ _ _ _ all_is is token_is line_is) so_far.macros_found;
       macro_ranges_found = ap (λ l. l ++ walk no_range range_finish text c.add.new.line c.next.new.self) lines.ranges
@@ -175,8 +180,8 @@ loop-lined-preserved-then-is_newline c =
       read = sym (ap (read_all text r t) off) ∙ so_far.read;
       calls_found = ap (λ ts. c.loop-lined.calls.items ++ calls_read text r t c.loop-lined.last ts) (sym off)
           ∙ so_far.calls_found;
-      names_found = ap (λ l. l.names.items ++ walk use_out nothing text Start rest) same
-          ∙ ap (λ l. c.loop-lined.lines.names.items ++ l)
+      names_found = ap (λ l. l.names.items ++ kept c.args.uses (walk use_out nothing text Start rest)) same
+          ∙ ap (λ l. c.loop-lined.lines.names.items ++ kept c.args.uses l)
           (sym (walk_end use_out nothing text s _ _ rest all_is is)) ∙ so_far.names_found;
       macros_found = ap (λ l. l.macros.items ++ walk macro_out nothing text Start rest) same
           ∙ ap (λ l. c.loop-lined.lines.macros.items ++ l)

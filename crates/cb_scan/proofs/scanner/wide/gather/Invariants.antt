@@ -5,6 +5,7 @@ use Rattle.cb_scan.specs.steps.Cut.{pieces}
 use Rattle.cb_scan.specs.rules.Code.{code, directives, logical_lines}
 use Rattle.cb_scan.specs.declared.source.TheConstants.{MOST_BYTES}
 use Rattle.cb_scan.specs.Definitions.{macro_def}
+use Rattle.cb_scan.specs.Profiles.{kept}
 use Rattle.cb_scan.specs.rules.Macros.{macro_names, macros}
 use Rattle.cb_scan.specs.rules.Scope.{macro_ranges}
 use Rattle.cb_scan.specs.rules.Uses.{include_of, macro_calls, used}
@@ -27,8 +28,9 @@ invariant-loop-lined l = record {
       ++ calls_read l.text l.reader (the_taken l.pass l.found) l.last
       (walk code_out nothing l.text l.line l.lined-iterator)
       ≡ calls_read l.text reader_start beginning None (code l.text (pieces l.text));
-  names_found : l.lines.names.items ++ walk use_out nothing l.text l.line l.lined-iterator
-      ≡ flat_map used (logical_lines l.text (pieces l.text));
+  names_found : l.lines.names.items
+      ++ kept l.uses (walk use_out nothing l.text l.line l.lined-iterator)
+      ≡ kept l.uses (flat_map used (logical_lines l.text (pieces l.text)));
   macros_found : l.lines.macros.items ++ walk macro_out nothing l.text l.line l.lined-iterator
       ≡ map macro_def (macro_names l.text (pieces l.text));
   macro_ranges_found : l.lines.ranges.items ++ walk no_range range_finish l.text l.line l.lined-iterator

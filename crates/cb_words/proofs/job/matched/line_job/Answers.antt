@@ -1,12 +1,12 @@
 use Rattle.std.proofs.Common.{codes, sym}
 use Rattle.cb_words.specs.Commands.{rows_in}
-use Rattle.cb_words.proofs.Bounded.{no_job, no_profile}
+use Rattle.cb_words.proofs.Bounded.{no_job, no_rules}
 use Rattle.cb_words.proofs.job.matched.line_job.Goals as goal
 
 pub returns-in_default : goal.returns-in_default
 returns-in_default c =
     no_job (codes "line", rows_in c.args.found.now) c.in_default.ensures
 
-pub returns-in_default-profile_of : goal.returns-in_default-profile_of
-returns-in_default-profile_of c =
-    no_profile (codes "line", rows_in c.args.found.now) (sym c.in_default-profile_of.ensures)
+pub returns-in_default-rules_of : goal.returns-in_default-rules_of
+returns-in_default-rules_of c =
+    no_rules (codes "line", rows_in c.args.found.now) (sym c.in_default-rules_of.ensures)
