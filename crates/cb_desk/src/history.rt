@@ -24,7 +24,7 @@ use crate::present::Present;
 use crate::record::Record;
 use crate::spot::NumberedPlace;
 use crate::{Bounds, Change, Refusal};
-use cb_index::IndexKind;
+use cb_index::{FactKind, IndexKind};
 use cb_scan::Profile;
 use std::alloc::{AllocError, Global};
 use std::marker::Model;
@@ -95,6 +95,14 @@ impl History {
         ensures { self.new ≡ self.old }
     {
         self.present.settle(kind);
+    }
+
+    /// Puts in order what a question about the facts of a key reads, unless these are few. It
+    /// changes no answer, and takes no memory.
+    pub(crate) fn settle_for(&mut self, kind: FactKind, key: &[u8])
+        ensures { self.new ≡ self.old }
+    {
+        self.present.settle_for(kind, key);
     }
 
     /// The place that a change asks for, if it asks for one and that is there.

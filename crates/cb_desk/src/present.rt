@@ -58,7 +58,7 @@ use crate::place_edits::PlaceEdits;
 use crate::place_list::PlaceList;
 use crate::plan::Plan;
 use crate::record::Record;
-use cb_index::{IndexKind, Room, Shelf, Shown};
+use cb_index::{FactKind, IndexKind, Room, Shelf, Shown};
 use cb_scan::Profile;
 use counts::with_versions;
 use std::alloc::{AllocError, Global};
@@ -259,6 +259,14 @@ impl Present {
         ensures { self.new ≡ self.old }
     {
         self.shelf.flush(kind);
+    }
+
+    /// Puts in order what a question about the facts of a key reads, unless these are few. It
+    /// changes no answer, and takes no memory.
+    pub(crate) fn settle_for(&mut self, kind: FactKind, key: &[u8])
+        ensures { self.new ≡ self.old }
+    {
+        self.shelf.flush_for(kind, key);
     }
 
     /// The room for what a plan brings, for all that is shown and for all that it shows, if its

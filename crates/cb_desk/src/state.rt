@@ -255,6 +255,19 @@ impl Desk {
         }
     }
 
+    /// The same for one question, but not where so few uses or calls answer it that a search of the
+    /// files gives them as soon.
+    pub fn settle_for(&mut self, field: Field, pattern: &[u8])
+        ensures { self.new ≡ self.old }
+    {
+        match field {
+            Field::Symbol => self.history.settle_for(FactKind::Uses, pattern),
+            Field::Called => self.history.settle_for(FactKind::Callers, pattern),
+            Field::Calling => self.history.settle_for(FactKind::Callees, pattern),
+            _ => self.settle(field),
+        }
+    }
+
     /// Puts in order what tags of a format read, where files came in since the last ones, so that
     /// they are given at once. It changes no answer, and takes no memory.
     pub fn settle_tags(&mut self, format: Format)

@@ -349,3 +349,18 @@ impl<'a, 'p> Iterator for FactRows<'a, 'p> {
         Some(spot.row())
     }
 }
+
+/// The most facts that a search gives as soon as an index: each is compared with those of its line.
+const FEW: usize = 512;
+
+/// Whether no more facts than that are left.
+pub(crate) fn are_few(rows: FactRows<'_, '_>) -> bool {
+    let mut left = rows;
+    'facts: for _fact in 0..FEW {
+        match left.next() {
+            Some(_) => {}
+            None => return true,
+        }
+    }
+    false
+}

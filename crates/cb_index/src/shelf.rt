@@ -69,7 +69,7 @@ use crate::archive::{Archive, Version};
 use crate::def_search::{DefSearch, def_kind};
 use crate::entries::Entries;
 use crate::entry::Shown;
-use crate::facts::FactRows;
+use crate::facts::{FactRows, are_few};
 use crate::index::{Index, put_in_each, reserve_each, take_from_each, take_names_from_each};
 use crate::kind::{FactKind, IndexKind};
 use crate::listed::{are_there, ascend, has_any_name};
@@ -500,6 +500,19 @@ impl Shelf {
         ensures { self.new ≡ self.old }
     {
         self.indexes[place_of(kind)].flush(&mut self.archive);
+    }
+
+    /// Puts what is pending in order for a question about the facts of a key, but not where these
+    /// are so few that a search gives them as soon. It changes no answer, and takes no memory.
+    pub fn flush_for(&mut self, kind: FactKind, key: &[u8])
+        ensures { self.new ≡ self.old }
+    {
+        if self.index(IndexKind::Facts(kind)).is_flushed() {
+            return;
+        }
+        if !are_few(self.facts(kind, key)) {
+            self.flush(IndexKind::Facts(kind));
+        }
     }
 
     /// The index of a kind.

@@ -1,4 +1,4 @@
-//! The replies to questions. What a question reads is put in order first.
+//! The replies to questions. What a question reads is put in order first, where it has many rows.
 ghost use Rattle.std.specs.Prelude.{◌≡◌, ◌≢◌, []};
 ghost use Rattle.cb_desk.specs.Answer.{answer};
 ghost use Rattle.cb_desk.specs.Tags.{tags};
@@ -27,7 +27,7 @@ pub(crate) fn put_query<W: Write>(
     ensures written { Puts out.old out.new result
         (answer_lines (answer desk.old.timeline.present field pattern.now)) }
 {
-    desk.settle(field);
+    desk.settle_for(field, pattern);
     put_rows(out, desk.rows(field, pattern))
 }
 

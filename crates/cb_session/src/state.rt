@@ -1,5 +1,6 @@
 //! A session, and its runs.
-ghost use Rattle.std.specs.Prelude.{◌≡◌, Bool, List, ℕ, Some, IfOk, IfSome, MatchResult};
+ghost use Rattle.std.specs.Prelude.{◌≡◌, Bool, List, ℕ, Some, false, IfOk, IfSome, MatchResult};
+ghost use Rattle.cb_session.specs.Output.{prompt};
 ghost use Rattle.cb_desk.specs.Models.{step_of};
 ghost use Rattle.cb_desk.specs.Step.{want};
 ghost use Rattle.cb_tags.specs.Readers.{WhateverFollows};
@@ -26,6 +27,9 @@ use std::marker::Model;
 #[derive(Drop)]
 pub struct Session {
     desk: Desk,
+    /// What the last command asked, if it was a question. What it reads is put in order behind its
+    /// reply.
+    asked: Option<Field>,
 }
 
 impl Model for Session {
@@ -44,6 +48,7 @@ impl Session {
     {
         Session {
             desk: Desk::new(alloc, bounds, profile),
+            asked: None,
         }
     }
 
@@ -51,7 +56,7 @@ impl Session {
     pub(crate) fn over(desk: Desk) -> Session
         ensures { result ≡ state_of desk }
     {
-        Session { desk }
+        Session { desk, asked: None }
     }
 
     /// The session's desk.
@@ -107,7 +112,10 @@ impl Session {
             Input::Command(command) => command,
         };
         match command {
-            Command::Query(field, pattern) => put_query(out, &mut self.desk, field, pattern),
+            Command::Query(field, pattern) => {
+                self.asked = Some(field);
+                put_query(out, &mut self.desk, field, pattern)
+            }
             Command::Change(change) => self.change(alloc, change, out),
             Command::Rebuild => put_move(out, self.desk.rebuild(alloc)),
             Command::Undo => put_move(out, self.desk.undo()),
@@ -117,6 +125,19 @@ impl Session {
             Command::Marks => put_marks(out, &self.desk),
             Command::Stack => put_stack(out, &self.desk),
         }
+    }
+
+    /// Prompts, and then, while nobody waits, puts in order what the last question reads.
+    fn prompt<W: Write>(&mut self, out: &mut Sink<W>) -> Result<(), Fault>
+        ensures same { self.new ≡ self.old }
+        ensures put { Puts out.old out.new result prompt }
+        ensures handed_on { IfOk result (λ _. out.new.pending ≡ false) }
+    {
+        put_prompt(out)?;
+        if let Some(field) = self.asked.take() {
+            self.desk.settle(field);
+        }
+        Ok(())
     }
 
     /// Makes a change, and writes its reply.
@@ -217,7 +238,7 @@ impl Session {
             (HasFailed feed.new out.new) }
         ensures told { Tells feed.old feed.new out.old out.new (fault_in result) }
     {
-        put_prompt(out)?;
+        self.prompt(out)?;
         let input = intake.read(alloc, limits, feed)?;
         let ending = input.ending();
         self.answer(alloc, input, out)?;

@@ -14,7 +14,7 @@ returns-in-Err-flush g c =
     let rows_are : c.rows.result
     ≡ answer c.args.desk.now.timeline.present c.args.field c.args.pattern.now =
     c.rows.ensures ∙ ap (λ (d : DeskState). answer d.timeline.present c.args.field c.args.pattern.now)
-    c.settle.ensures in
+    c.settle_for.ensures in
     let put : PutsAll c.args.out.now c.put_answer.new.out text =
     subst (λ rows. PutsAll c.args.out.now c.put_answer.new.out (flat_map row_line rows)) rows_are
     c.in-Ok.ensures.0 in
