@@ -38,6 +38,7 @@ abbrev pub tag_in : File → Def → Tag
 tag_in f d = record {
   name = bytes_of f.bytes d.name;
   file = f.name;
+  place = d.name.start;
   line = d.line;
   text = line_text f.bytes d.line;
   kind = d.kind;

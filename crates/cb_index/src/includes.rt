@@ -14,7 +14,7 @@ ghost use Rattle.cb_index.specs.steps.Left.{entries_left, fact_of};
 
 use crate::bytes::bytes_at;
 use crate::entries::Entries;
-use crate::rows::{FactRow, shown_line};
+use crate::rows::FactRow;
 use crate::shelf::Shelf;
 use cb_scan::{Include, Source};
 
@@ -45,7 +45,7 @@ fn include_at<'a>(file: &'a [u8], source: &'a Source, include: Include) -> FactR
         name: bytes_at(source.bytes(), Some(include.header)),
         scope,
         line: include.line,
-        text: shown_line(source, include.line),
+        text: source.shown_line(include.line),
     }
 }
 

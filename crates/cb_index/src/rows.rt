@@ -1,7 +1,6 @@
 //! The rows that entries stand for.
 ghost use Rattle.std.specs.Prelude.{◌≡◌};
 ghost use Rattle.std.specs.Option.{option_copied, option_map};
-ghost use Rattle.cb_scan.specs.Lines.{line_text};
 ghost use Rattle.cb_tags.specs.TagLines.{tag_of, scope_of};
 ghost use Rattle.cb_index.specs.steps.Found.{
   fact_at,
@@ -49,22 +48,13 @@ pub struct FactSpot<'a> {
     pub source: &'a Source,
 }
 
-/// A line of a text, without its end; no bytes where there is none. Lines count from 1.
-pub(crate) fn shown_line(source: &Source, line: u32) -> &[u8]
-    ensures { result.now ≡ line_text source.now line }
-{
-    match source.line(line) {
-        Some(text) => text,
-        None => b"",
-    }
-}
-
 fn no_tag(file: &[u8]) -> TagRow<'_>
     ensures { tag_of result ≡ no_tag file.now }
 {
     TagRow {
         name: b"",
         file,
+        place: 0,
         line: 0,
         text: b"",
         kind: Kind::Function,
@@ -91,8 +81,9 @@ fn tag_of_def<'a>(file: &'a [u8], source: &'a Source, def: Option<&Def>) -> TagR
         Some(def) => TagRow {
             name: bytes_at(source.bytes(), Some(def.name)),
             file,
+            place: def.name.start,
             line: def.line,
-            text: shown_line(source, def.line),
+            text: source.shown_line(def.line),
             kind: def.kind,
             local: def.local,
             scope: scope_of(source, def.tag),
@@ -173,7 +164,7 @@ impl<'a> FactSpot<'a> {
             name: self.name,
             scope: self.scope,
             line: self.line,
-            text: shown_line(self.source, self.line),
+            text: self.source.shown_line(self.line),
         }
     }
 }

@@ -20,6 +20,7 @@ pub mod KeptInOrder
 pub mod KeyOrder
 pub mod Lengths
 pub mod LineLemmas
+pub mod LinePlaces
 pub mod LineTable
 pub mod LinedPieces
 pub mod Literals

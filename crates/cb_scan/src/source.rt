@@ -10,13 +10,14 @@ ghost use Rattle.std.specs.Prelude.{
   length,
   vec_len,
   IfOk,
+  nat_le,
   slice_get,
   None,
 };
 ghost use Rattle.cb_scan.specs.declared.source.TheConstants.{MOST_BYTES};
 ghost use Rattle.std.specs.Option.{option_copied};
 ghost use Rattle.bstr.specs.Text.{lines_of, without_terminator};
-ghost use Rattle.cb_scan.specs.Lines.{lines};
+ghost use Rattle.cb_scan.specs.Lines.{lines, line_of, line_start, line_text};
 ghost use Rattle.cb_scan.specs.steps.LineStarts.{line_starts};
 
 use bstr::ByteSlice;
@@ -140,5 +141,56 @@ impl Source {
         let index = n.checked_sub(1)? as usize;
         let line = line_at(self.bytes.as_slice(), self.starts.as_slice(), index)?;
         Some(shown(line))
+    }
+
+    /// The shown line `n`, from 1; no bytes at 0 and past the end. It takes constant time.
+    pub fn shown_line(&self, n: u32) -> &[u8]
+        ensures { result.now ≡ line_text self.now n }
+    {
+        match self.line(n) {
+            Some(text) => text,
+            None => b"",
+        }
+    }
+
+    /// The byte at which the shown line `n` begins, from 0; the end of the text past the last line,
+    /// and 0 at line 0. It takes constant time.
+    pub fn line_start(&self, n: u32) -> u32
+        ensures value { result ≡ line_start self.now n }
+        ensures within { result ≤ length self.now }
+    {
+        let starts = self.starts.as_slice();
+        let index = n.saturating_sub(1) as usize;
+        if index < starts.len() {
+            starts[index]
+        } else {
+            self.bytes().len() as u32
+        }
+    }
+
+    /// The line of a byte of the text, by binary search.
+    fn line_of_byte(&self, place: usize) -> u32
+        requires { place < length self.now }
+        ensures { result ≡ line_of self.now place }
+    {
+        let starts = self.starts.as_slice();
+        starts.partition_point(
+            |start: &u32| -> bool
+                ensures { result ≡ nat_le start.now place }
+            { *start as usize <= place },
+        ) as u32
+    }
+
+    /// The line of a place, a byte from 0: one more than the line feeds before it, also past the
+    /// end. It takes a binary search.
+    pub fn line_of(&self, place: u32) -> u32
+        ensures { result ≡ line_of self.now place }
+    {
+        let bytes = self.bytes();
+        let end = bytes.len().min(place as usize);
+        match end.checked_sub(1) {
+            Some(before) => self.line_of_byte(before) + (bytes[before] == b'\n') as u32,
+            None => 1,
+        }
     }
 }

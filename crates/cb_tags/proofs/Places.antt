@@ -1,11 +1,9 @@
 -- The first line that reads so.
 use Rattle.std.proofs.Common.{◌≡◌, ◌≢◌, ◌∙◌, ℕ, zero, suc, ◌+◌, ◌-◌, ◌<◌, ◌≤◌, Bool, true, false}
-use Rattle.std.proofs.Common.{List, length, get_or, None, Some, find, refl, sym, ap, arith, ⊎_elim}
-use Rattle.std.specs.Prelude.{slice_get}
+use Rattle.std.proofs.Common.{List, length, Some, find, refl, sym, ap, arith, ⊎_elim}
 use Rattle.std.specs.List.{range_with_len}
 use Rattle.std.specs.Str.{bytes_eq}
 use Rattle.std.proofs.lemmas.Bool.{cases_Bool, false≢true, cond-true, cond-false}
-use Rattle.std.proofs.lemmas.Option.{none-some, slice_get-get_or}
 use Rattle.std.proofs.lemmas.Slice.Eq.{bytes_eq-Decides}
 use Rattle.cb_scan.specs.Lines.{lines, line_text}
 use Rattle.cb_tags.specs.Addresses.{finds}
@@ -17,10 +15,6 @@ find-next p a zero some fails = absurd (omega arith)
 find-next p a (suc n) some fails =
     let less : suc n - 1 ≡ n = omega arith in
     cond-false _ _ _ fails ∙ ap (λ k. find p (range_with_len (a + 1) k)) (sym less)
-
--- a list has what stands at its places
-pub not_past : {X : Type 0} (xs : List X) (i : ℕ) (d : X) → i < length xs → None ≢ slice_get xs i
-not_past xs i d h e = none-some (get_or xs i d) (e ∙ slice_get-get_or xs i d h)
 
 -- the first number that passes is at most each that does
 record FirstIs (p : ℕ → Bool) (a k : ℕ) (xs : List ℕ) : Type 0 where

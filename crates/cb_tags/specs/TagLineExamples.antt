@@ -24,6 +24,7 @@ abbrev add : Tag
 add = record {
   name = codes "add";
   file = codes "a.c";
+  place = 11;
   line = 4;
   text = codes "static int add(int a, int b) {";
   kind = Function;
@@ -36,6 +37,7 @@ abbrev start : Tag
 start = record {
   name = codes "main";
   file = codes "src/x.c";
+  place = 4;
   line = 12;
   text = codes "int main(void) {";
   kind = Function;
@@ -48,6 +50,7 @@ abbrev half : Tag
 half = record {
   name = codes "HALF";
   file = codes "m.h";
+  place = 8;
   line = 1;
   text = codes "#define HALF(x) (x/2) \\$";
   kind = Macro;
@@ -60,6 +63,7 @@ abbrev word : Tag
 word = record {
   name = codes "word";
   file = codes "a.c";
+  place = 13;
   line = 3;
   text = codes "\ttypedef int word;";
   kind = Typedef;
@@ -72,6 +76,7 @@ abbrev tagged : Kind → Tag
 tagged kind = record {
   name = codes "n";
   file = codes "a.h";
+  place = 0;
   line = 1;
   text = codes "n {";
   kind = kind;

@@ -17,10 +17,12 @@ pub record TagScope : Type 0 where
   pub name : List ℕ
 
 -- a definition as a tags file has it (tags(5)): its name, its file, its line and the text of that
--- line, its kind, whether it is `static`, and the body that it is in
+-- line, its kind, whether it is `static`, and the body that it is in; and the byte of the text at
+-- which the name begins, from 0, which no line tells
 pub record Tag : Type 0 where
   pub name : List ℕ
   pub file : List ℕ
+  pub place : ℕ
   pub line : ℕ
   pub text : List ℕ
   pub kind : Kind
@@ -36,6 +38,7 @@ abbrev pub tag_of : TagRow → Tag
 tag_of r = record {
   name = r.name.now;
   file = r.file.now;
+  place = r.place;
   line = r.line;
   text = r.text.now;
   kind = r.kind;

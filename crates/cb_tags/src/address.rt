@@ -2,18 +2,15 @@
 ghost use Rattle.std.specs.Prelude.{
   ◌≡◌,
   ◌≢◌,
-  ◌≤◌,
-  ◌<◌,
   ◌++◌,
   ℕ,
   false,
   List,
-  length,
   codes,
   MatchOption,
 };
 ghost use Rattle.std.specs.Str.{bytes_eq};
-ghost use Rattle.cb_scan.specs.Lines.{lines, line_text};
+ghost use Rattle.cb_scan.specs.Lines.{line_text};
 ghost use Rattle.cb_tags.specs.Addresses.{is_escaped, escape, address, IsAddress, finds};
 ghost use Rattle.cb_tags.specs.Writing.{Puts};
 ghost use Rattle.cb_tags.specs.steps.Items.{are_items, unescaped};
@@ -135,14 +132,9 @@ pub fn read_address(bytes: &[u8]) -> Option<Address<'_>>
 impl Address<'_> {
     /// Whether line `n` of the source, from 1, reads as the address says.
     fn is_at(&self, source: &Source, n: u32) -> bool
-        requires above { 0 < n }
-        requires within { n ≤ length (lines source.now) }
         ensures { result ≡ bytes_eq self.now (line_text source.now n) }
     {
-        match source.line(n) {
-            Some(line) => stand_for(self.items, line),
-            None => false,
-        }
+        stand_for(self.items, source.shown_line(n))
     }
 
     /// The first line of the source, from 1, that reads as the address says; `None` where none

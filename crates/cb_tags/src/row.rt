@@ -34,11 +34,12 @@ pub struct Scope<'a> {
 
 /// A definition as a tags file has it: its name, its file, its line (from 1) and the whole shown
 /// text of that line, its kind, whether it is `static`, and the body that it is in, if that has a
-/// tag.
+/// tag; and the byte of the text at which the name begins, from 0, which no line tells.
 #[derive(Clone, Copy, Debug, PartialEq, Eq)]
 pub struct TagRow<'a> {
     pub name: &'a [u8],
     pub file: &'a [u8],
+    pub place: u32,
     pub line: u32,
     pub text: &'a [u8],
     pub kind: Kind,

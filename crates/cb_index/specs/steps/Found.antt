@@ -23,6 +23,7 @@ abbrev pub no_tag : List ℕ → Tag
 no_tag file = record {
   name = [];
   file = file;
+  place = 0;
   line = 0;
   text = [];
   kind = kind.Function;
@@ -38,6 +39,7 @@ tag_of_def file text None = no_tag file
 tag_of_def file text (Some d) = record {
   name = cut text d.name;
   file = file;
+  place = d.name.start;
   line = d.line;
   text = line_text text d.line;
   kind = d.kind;

@@ -50,6 +50,7 @@ fn each_line_takes_a_long_text(rt: HostRuntime) -> Result<(), Fail> {
     let row = TagRow {
         name: b"x",
         file: b"a.c",
+        place: 0,
         line: 7,
         text: text.as_slice(),
         kind: Kind::Macro,

@@ -25,6 +25,34 @@ fn line_has_none_beyond_the_count(rt: HostRuntime) -> Result<(), Fail> {
 }
 
 #[test]
+fn lines_begin_where_their_bytes_do(rt: HostRuntime) -> Result<(), Fail> {
+    // Lines at 0, 3 and 5; the text ends at 7.
+    let source = Source::new(rt.alloc(), b"ab\n\r\ncd".to_vec(rt.alloc())?)?;
+    for (line, start) in [(0, 0), (1, 0), (2, 3), (3, 5), (4, 7), (u32::MAX, 7)] {
+        assert_eq!(rt; source.line_start(line), start);
+    }
+    for (place, line) in [(0, 1), (2, 1), (3, 2), (4, 2), (5, 3), (6, 3), (7, 3)] {
+        assert_eq!(rt; source.line_of(place), line);
+    }
+    assert_eq!(rt; source.line_of(u32::MAX), 3);
+    Ok(())
+}
+
+#[test]
+fn a_line_feed_begins_a_line_also_at_the_end(rt: HostRuntime) -> Result<(), Fail> {
+    let ended = Source::new(rt.alloc(), b"a\n".to_vec(rt.alloc())?)?;
+    for (place, line) in [(0, 1), (1, 1), (2, 2), (3, 2)] {
+        assert_eq!(rt; ended.line_of(place), line);
+    }
+    assert_eq!(rt; ended.line_start(2), 2);
+    let empty = Source::new(rt.alloc(), b"".to_vec(rt.alloc())?)?;
+    assert_eq!(rt; empty.line_of(0), 1);
+    assert_eq!(rt; empty.line_of(9), 1);
+    assert_eq!(rt; empty.line_start(1), 0);
+    Ok(())
+}
+
+#[test]
 fn pieces_cover_a_text(rt: HostRuntime) -> Result<(), Fail> {
     let source = Source::new(rt.alloc(), b"x1 =".to_vec(rt.alloc())?)?;
     let wanted = [

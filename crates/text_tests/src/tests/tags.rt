@@ -49,6 +49,7 @@ fn source(alloc: Global, text: &[u8]) -> Result<Source, Fail> {
 const TWICE: TagRow<'static> = TagRow {
     name: b"TWICE",
     file: b"a.c",
+    place: 0,
     line: 2,
     text: b"#define TWICE(x) ((x) + add(x, 0))",
     kind: Kind::Macro,
@@ -59,6 +60,7 @@ const TWICE: TagRow<'static> = TagRow {
 const ADD: TagRow<'static> = TagRow {
     name: b"add",
     file: b"a.c",
+    place: 0,
     line: 4,
     text: b"static int add(int a, int b) {",
     kind: Kind::Function,
@@ -69,6 +71,7 @@ const ADD: TagRow<'static> = TagRow {
 const MAIN: TagRow<'static> = TagRow {
     name: b"main",
     file: b"a.c",
+    place: 0,
     line: 7,
     text: b"int main(void) {",
     kind: Kind::Function,
@@ -79,6 +82,7 @@ const MAIN: TagRow<'static> = TagRow {
 const WORD: TagRow<'static> = TagRow {
     name: b"word",
     file: b"a.c",
+    place: 0,
     line: 3,
     text: b"\ttypedef unsigned long word; ",
     kind: Kind::Typedef,
@@ -89,6 +93,7 @@ const WORD: TagRow<'static> = TagRow {
 const ESCAPED: TagRow<'static> = TagRow {
     name: b"P",
     file: b"e.c",
+    place: 0,
     line: 4_294_967_295,
     text: b"#define P(x) (x/2) \\$",
     kind: Kind::Macro,
@@ -150,6 +155,7 @@ fn extended_lines(rt: HostRuntime) -> Result<(), Fail> {
         let row = TagRow {
             name: b"n",
             file: b"a.h",
+            place: 0,
             line: 1,
             text: b"n {",
             kind,
