@@ -9,9 +9,10 @@ use Rattle.std.specs.List.{list_any}
 use Rattle.std.specs.Prelude.{nat_eq}
 use Rattle.cb_scan.specs.Order.{goes_first, in_order, put}
 use Rattle.cb_index.specs.Archived.{Archived}
+use Rattle.cb_index.specs.Compact.{shows_version}
 use Rattle.cb_desk.specs.steps.Records.{Numbered, Rooms, Turn, other}
-use Rattle.cb_desk.specs.steps.Walks.{IsAllUsed, LeadsBack, LeadsOn, Recorded, shows_name}
-use Rattle.cb_desk.specs.steps.Walks.{shows_version, turns_back, turns_on, walk}
+use Rattle.cb_desk.specs.steps.Walks.{IsAllUsed, LeadsBack, LeadsOn, Recorded, first_names}
+use Rattle.cb_desk.specs.steps.Walks.{shows_name, turns_back, turns_on, walk}
 
 -- ---- a list in order passes the tests of the list
 module _ {X : Type 0} (p : X → Bool) (key : X → List ℕ) where
@@ -61,9 +62,9 @@ module _ (count : Numbered → ℕ) (shows : ℕ → Numbered → Bool) where
   abbrev AllNew : Numbered → Numbered → Type 0
   AllNew v w = (n : ℕ) → count v ≤ n → n < count w → shows n w ≡ true
 
-  abbrev Back : Numbered → List Numbered → Type 0
-  Back w [] = count w ≡ 0
-  Back w (v ∷ vs) = AllNew v w × Back v vs
+  abbrev Back : ℕ → Numbered → List Numbered → Type 0
+  Back first w [] = (n : ℕ) → first ≤ n → n < count w → shows n w ≡ true
+  Back first w (v ∷ vs) = AllNew v w × Back first v vs
 
   abbrev On : ℕ → Numbered → List Numbered → Type 0
   On all w [] = count w ≡ all
@@ -75,11 +76,13 @@ module _ (count : Numbered → ℕ) (shows : ℕ → Numbered → Bool) where
   both : (a b : Bool) → b ≡ true → (a || b) ≡ true
   both a b is = ap (λ x. a || x) is ∙ or-true a
 
-  used_back : (w : Numbered) (vs : List Numbered) → Back w vs → (n : ℕ) → n < count w
+  used_back : (first : ℕ) (w : Numbered) (vs : List Numbered) → Back first w vs → (n : ℕ)
+      → first ≤ n → n < count w
       → list_any (shows n) (w ∷ vs) ≡ true
-  used_back w [] none n below = absurd (omega (arith, none, below))
-  used_back w (v ∷ vs) back n below =
-      ⊎_elim (λ old. both (shows n w) (list_any (shows n) (v ∷ vs)) (used_back v vs back.1 n old))
+  used_back first w [] own n above below = either (shows n w) false (own n above below)
+  used_back first w (v ∷ vs) back n above below =
+      ⊎_elim (λ old.
+      both (shows n w) (list_any (shows n) (v ∷ vs)) (used_back first v vs back.1 n above old))
       (λ new. either (shows n w) (list_any (shows n) (v ∷ vs)) (back.0 n new below))
       (cases_lt n (count v))
 
@@ -100,14 +103,15 @@ module _ (count : Numbered → ℕ) (shows : ℕ → Numbered → Bool) where
       plain true = refl
       plain false = refl
 
-  used : (all : ℕ) (w : Numbered) (bs os : List Numbered) → Back w bs → On all w os
-      → (n : ℕ) → n < all
+  used : (first all : ℕ) (w : Numbered) (bs os : List Numbered) → Back first w bs → On all w os
+      → (n : ℕ) → first ≤ n → n < all
       → list_any (shows n) (bs ++ w ∷ os) ≡ true
-  used all w bs os back on n below =
+  used first all w bs os back on n above below =
       list_any-append (shows n) bs (w ∷ os)
       ∙ swapped (list_any (shows n) bs) (shows n w) (list_any (shows n) os)
       ∙ ⊎_elim (λ old.
-      either (list_any (shows n) (w ∷ bs)) (list_any (shows n) os) (used_back w bs back n old))
+      either (list_any (shows n) (w ∷ bs)) (list_any (shows n) os)
+      (used_back first w bs back n above old))
       (λ later. both (list_any (shows n) (w ∷ bs)) (list_any (shows n) os)
       (used_on all w os on n later below)) (cases_lt n (count w))
 
@@ -126,15 +130,15 @@ versioned v w = shows_version v w.shown
 
 module _ (r : Rooms) (a : Archived) where
   names_back : (w : Numbered) (ts : List Turn) → LeadsBack r a w ts
-      → Back names_used named w (walk a w ts)
+      → Back names_used named (first_names w.names ts) w (walk a w ts)
   unfolding LeadsBack
-  names_back w [] is = is.1.names
+  names_back w [] is = λ n above below. absurd (omega (arith, above, below))
   names_back w (t ∷ ts) is = (is.2.all_names, names_back (other a t w) ts is.3)
 
   versions_back : (w : Numbered) (ts : List Turn) → LeadsBack r a w ts
-      → Back versions_used versioned w (walk a w ts)
+      → Back versions_used versioned 0 w (walk a w ts)
   unfolding LeadsBack
-  versions_back w [] is = is.1.versions
+  versions_back w [] is = λ v above below. is.1 v below
   versions_back w (t ∷ ts) is = (is.2.all_versions, versions_back (other a t w) ts is.3)
 
   names_on : (w : Numbered) (ts : List Turn) → LeadsOn r a w ts
@@ -157,10 +161,12 @@ all_used h back on =
     let w = h.kept.now in
     record {
       names =
-          used names_used named (length a.names) w (walk a w (turns_back h)) (walk a w (turns_on h))
+          used names_used named (first_names w.names (turns_back h)) (length a.names) w
+          (walk a w (turns_back h)) (walk a w (turns_on h))
           (names_back r a w (turns_back h) back) (names_on r a w (turns_on h) on);
-      versions =
-          used versions_used versioned (length a.texts) w (walk a w (turns_back h))
+      versions = λ v below.
+          used versions_used versioned 0 (length a.texts) w (walk a w (turns_back h))
           (walk a w (turns_on h))
-          (versions_back r a w (turns_back h) back) (versions_on r a w (turns_on h) on);
+          (versions_back r a w (turns_back h) back) (versions_on r a w (turns_on h) on) v
+          (omega arith) below;
     }

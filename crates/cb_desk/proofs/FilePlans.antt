@@ -10,6 +10,7 @@ use Rattle.cb_scan.specs.Order.{in_order}
 use Rattle.cb_scan.proofs.FactsWithin.{all_in_order}
 use Rattle.cb_scan.proofs.FunctionsRise.{all_implied}
 use Rattle.cb_index.specs.Archived.{Archived, name_of}
+use Rattle.cb_index.specs.Compact.{shows_version}
 use Rattle.cb_index.specs.Files.{AreAscending, files_of, shown_name}
 use Rattle.cb_index.specs.Names.{is_among, names_of}
 use Rattle.cb_index.specs.declared.entry.Shown.{Shown}
@@ -24,7 +25,7 @@ use Rattle.cb_desk.specs.steps.Edits.{Edits, IsDifference, each, edited, turned_
 use Rattle.cb_desk.specs.steps.Plans.{IsAmong, IsPlan, Keeps, LeadsTo, Planned, is_of, key_then}
 use Rattle.cb_desk.specs.steps.Plans.{name_then, places_without, renumbered}
 use Rattle.cb_desk.specs.steps.Records.{IsFew, Kept, other_wanted, place_in, without, world_in}
-use Rattle.cb_desk.specs.steps.Walks.{IsKept, shows_name, shows_version}
+use Rattle.cb_desk.specs.steps.Walks.{IsKept, shows_name}
 use Rattle.cb_desk.proofs.AllUsed.{any_shown, none_new, only_new}
 use Rattle.cb_desk.proofs.ArchiveMoves.{Agree, agree_kept, apart_same, below_shown, files_same}
 use Rattle.cb_desk.proofs.ArchiveMoves.{order_same, places_same}

@@ -2,6 +2,7 @@ pub mod AllUsed
 pub mod AnswerRows
 pub mod ArchiveMoves
 pub mod BytesEqual
+pub mod Compacted
 pub mod CountLemmas
 pub mod Counted
 pub mod DefinitionPlaces
@@ -46,6 +47,6 @@ pub mod TextRowsApart
 pub mod TextRowsFew
 pub mod TurnLemmas
 pub mod TurnsCounted
-pub mod Unindented
+pub mod Indents
 pub mod Valid
 pub mod WalkLemmas

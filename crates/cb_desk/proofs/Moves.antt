@@ -8,6 +8,7 @@ use Rattle.cb_desk.specs.World.{World, WorldBounds, IsValidWorld}
 use Rattle.cb_desk.specs.Step.{Step, refusal_of, after, step}
 use Rattle.cb_desk.specs.Timeline.{Timeline, IsValidTimeline, moved_on, advanced, changed, back_to}
 use Rattle.cb_desk.specs.Timeline.{IsValidBeside, undone, on_to, redone, Changes, Moves}
+use Rattle.cb_desk.specs.Timeline.{forgotten}
 use Rattle.cb_desk.specs.Laws.{UndoTakesBack, RedoTakesBack}
 use Rattle.cb_desk.proofs.StepsValid.{step-bounds, step-profile, step_keeps_valid}
 use Rattle.cb_desk.proofs.Valid.{all-along}
@@ -148,6 +149,11 @@ on-valid (w ∷ ws) t u e valid h =
 pub redo_keeps_valid : (t u : Timeline) → IsValidTimeline t → redone t ≡ Ok u → IsValidTimeline u
 unfolding redone
 redo_keeps_valid t u valid h = on-valid t.future t u refl valid h
+
+-- the present alone
+pub forget_keeps_valid : (t : Timeline) → IsValidTimeline t → IsValidTimeline (forgotten t)
+forget_keeps_valid t valid =
+    record { before = tt; now = valid.now; later = tt; bounded = omega arith }
 
 -- ---- what moves as meant stays valid
 pub moves-keep-valid : (meant : Result Timeline Refusal) (t u : Timeline)

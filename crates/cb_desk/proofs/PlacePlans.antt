@@ -7,6 +7,7 @@ use Rattle.std.specs.List.{AllByRecursion}
 use Rattle.cb_scan.specs.Order.{AreOrdered, goes_first, in_order, put}
 use Rattle.cb_scan.proofs.OrderLemmas.{Sorted}
 use Rattle.cb_index.specs.Archived.{Archived}
+use Rattle.cb_index.specs.Compact.{shows_version}
 use Rattle.cb_index.specs.Files.{AreAscending, AreApart, files_of, shown_name}
 use Rattle.cb_index.specs.declared.entry.Shown.{Shown}
 use Rattle.cb_index.proofs.AscendLemmas.{ascending_sorted}
@@ -22,7 +23,7 @@ use Rattle.cb_desk.specs.steps.Edits.{renamed, renaming, turned_edits, with_numb
 use Rattle.cb_desk.specs.steps.Plans.{AreEdits, IsPlan, Keeps, LeadsTo, Planned, with_places}
 use Rattle.cb_desk.specs.steps.Records.{Kept, Numbered, Turn, other, other_wanted, place_in}
 use Rattle.cb_desk.specs.steps.Records.{without, world_in}
-use Rattle.cb_desk.specs.steps.Walks.{IsKept, shows_name, shows_version}
+use Rattle.cb_desk.specs.steps.Walks.{IsKept, shows_name}
 use Rattle.cb_desk.proofs.AllUsed.{none_new}
 use Rattle.cb_desk.proofs.TurnLemmas.{few_small}
 use Rattle.cb_desk.proofs.ArchiveMoves.{Agree, agree_kept, apart_same, below_shown, files_same}

@@ -15,6 +15,7 @@ use Rattle.std.specs.List.Sorted.{IsNonDecreasingBy, IsPermutation}
 use Rattle.std.specs.Prelude.{nat_eq, slice_index_or, ◌||◌}
 use Rattle.cb_scan.specs.Order.{in_order}
 use Rattle.cb_index.specs.Archived.{Archived, name_of}
+use Rattle.cb_index.specs.Compact.{shows_version}
 use Rattle.cb_index.specs.Files.{AreAscending, file_of, files_of, shown_name}
 use Rattle.cb_index.specs.declared.entry.Shown.{Shown}
 use Rattle.cb_desk.specs.declared.present.renewal.Renewal.{Renewal}
@@ -27,7 +28,7 @@ use Rattle.cb_desk.specs.steps.Plans.{IsPlan, Keeps, LeadsTo, Planned}
 use Rattle.cb_desk.specs.steps.Records.{IsFew, Kept, place_in, without, world_in}
 use Rattle.cb_desk.specs.steps.Replaced.{file_then, files_changed, files_then, has_mark, new_of}
 use Rattle.cb_desk.specs.steps.Replaced.{old_of, remaining, renewals, texts_of}
-use Rattle.cb_desk.specs.steps.Walks.{IsKept, shows_name, shows_version}
+use Rattle.cb_desk.specs.steps.Walks.{IsKept, shows_name}
 use Rattle.cb_desk.proofs.AllUsed.{none_new}
 use Rattle.cb_desk.proofs.ArchiveMoves.{Agree, Below, world_same}
 use Rattle.cb_desk.proofs.FilePlans.{agree, all_below, file_leads, same_places, up}

@@ -395,13 +395,9 @@ nothing_recorded b bounds k is names texts = record {
     })
 
     no_past : LeadsBack k.rooms k.archive k.now []
-    no_past = (
-      none,
-      record {
-        names = ap (λ (w : Numbered). w.names) is;
-        versions = ap (λ (w : Numbered). w.versions) is;
-      },
-    )
+    no_past =
+        let unused = ap (λ (w : Numbered). w.versions) is in
+        (none, λ v below. absurd (omega (arith, unused, below)))
 
     no_future : LeadsOn k.rooms k.archive k.now []
     no_future = (

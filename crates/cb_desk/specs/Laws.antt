@@ -3,7 +3,7 @@ use Rattle.std.specs.Prelude.{◌≡◌, ◌∷◌, [], Ok}
 use Rattle.cb_desk.specs.declared.limits.TheConstants.{MOST_BYTES, MOST_FILES, MOST_TEXT}
 use Rattle.cb_desk.specs.World.{World, IsValidWorld}
 use Rattle.cb_desk.specs.Step.{Step, step}
-use Rattle.cb_desk.specs.Timeline.{Timeline, changed, undone, redone, IsValidTimeline}
+use Rattle.cb_desk.specs.Timeline.{Timeline, changed, forgotten, undone, redone, IsValidTimeline}
 
 -- the most bytes and files that bounds allow, and the longest text that is wanted or put in place
 -- of one
@@ -28,9 +28,11 @@ pub record RedoTakesBack : Type 0 where
 abbrev pub StepKeepsValid : Type 0
 StepKeepsValid = (w v : World) (s : Step) → IsValidWorld w → step w s ≡ Ok v → IsValidWorld v
 
--- a valid timeline stays valid by an accepted change, by an undo and by a redo
+-- a valid timeline stays valid by an accepted change, by an undo, by a redo, and without its past
+-- and future
 pub record TimelineStaysValid : Type 0 where
   pub by_change : (t u : Timeline) (s : Step) → IsValidTimeline t
       → changed t s ≡ Ok u → IsValidTimeline u
   pub by_undo : (t u : Timeline) → IsValidTimeline t → undone t ≡ Ok u → IsValidTimeline u
   pub by_redo : (t u : Timeline) → IsValidTimeline t → redone t ≡ Ok u → IsValidTimeline u
+  pub by_forget : (t : Timeline) → IsValidTimeline t → IsValidTimeline (forgotten t)

@@ -8,6 +8,7 @@ pub mod Places
 pub mod Refusals
 pub mod Replacement
 pub mod ReplacementExamples
+pub mod Scanned
 pub mod Search
 pub mod Stack
 pub mod Step

@@ -1,10 +1,12 @@
 -- What the values of the program stand for in the definitions.
 use Rattle.std.specs.Prelude.{ℕ, List}
 use Rattle.std.specs.Borrow.{Bor}
+use Rattle.cb_scan.specs.TextFacts.{TextFacts}
 use Rattle.cb_desk.specs.declared.change.Change.{Change}
 use Rattle.cb_desk.specs.declared.change.Change.TheVariants.{Load, Reload, Unload, Rename, Want}
 use Rattle.cb_desk.specs.declared.change.Change.TheVariants.{Mark, MarkAll, Replace, Tag, Pop}
 use Rattle.cb_desk.specs.declared.rows.RefRow.{RefRow}
+use Rattle.cb_desk.specs.Scanned.{ScannedText}
 use Rattle.cb_desk.specs.World.{File, Place}
 use Rattle.cb_desk.specs.Step.{Step, load, reload, unload, rename, want, mark, mark_all}
 use Rattle.cb_desk.specs.Step.{replace, tag, pop}
@@ -30,6 +32,10 @@ row_of r = record { file = r.file.now; function = r.function.now; line = r.line;
 -- the file that a name and a text stand for
 abbrev pub file_of : Bor (List ℕ) × Bor (List ℕ) → File
 file_of p = record { name = p.0.now; bytes = p.1.now }
+
+-- the text and the facts that a source and what is found in it stand for
+abbrev pub scanned_of : Bor (List ℕ) × Bor TextFacts → ScannedText
+scanned_of p = record { bytes = p.0.now; facts = p.1.now }
 
 -- the place that a name and a line stand for
 abbrev pub place_at : Bor (List ℕ) × ℕ → Place

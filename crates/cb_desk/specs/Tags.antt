@@ -26,6 +26,7 @@ abbrev pub tag_in : File → Def → Tag
 tag_in f d = record {
   name = name_of f.bytes d;
   file = f.name;
+  place = d.name.start;
   line = d.line;
   text = line_text f.bytes d.line;
   kind = d.kind;

@@ -20,6 +20,10 @@ pub record Timeline : Type 0 where
 abbrev pub new_timeline : Profile → WorldBounds → Timeline
 new_timeline p b = record { past = []; present = empty_world p b; future = [] }
 
+-- the timeline without its past and without its future
+abbrev pub forgotten : Timeline → Timeline
+forgotten t = record { past = []; present = t.present; future = [] }
+
 -- a world is valid, and has the profile and the bounds of another one
 abbrev pub IsValidBeside : World → World → Type 0
 IsValidBeside present w =

@@ -1,4 +1,5 @@
 pub mod Asked
+pub mod Compacted
 pub mod Edits
 pub mod Held
 pub mod Lent

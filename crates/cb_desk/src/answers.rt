@@ -13,9 +13,10 @@ mod rows;
 mod tags;
 mod texts;
 
+pub use definitions::Definitions;
 pub(crate) use definitions::nth_definition;
 pub use files::Files;
-pub(crate) use files::{shown_as, source, split_named};
+pub(crate) use files::{scanned, shown_as, source, split_named};
 pub use rows::Rows;
 pub use tags::TagRows;
 pub(crate) use tags::tag_rows;

@@ -1,6 +1,5 @@
 //! What is shown of the facts of a text.
 ghost use Rattle.std.specs.Prelude.{◌≡◌};
-ghost use Rattle.cb_scan.specs.Lines.{line_text};
 ghost use Rattle.cb_desk.specs.Answer.{is_header};
 
 use cb_scan::{Source, Span};
@@ -16,18 +15,8 @@ pub(crate) struct Found {
     pub line: u32,
 }
 
-/// A line of a text, without its end; no bytes where there is none. Lines count from 1.
-pub(crate) fn shown_line(source: &Source, line: u32) -> &[u8]
-    ensures { result.now ≡ line_text source.now line }
-{
-    match source.line(line) {
-        Some(text) => text,
-        None => b"",
-    }
-}
-
 /// Whether a header is the one asked for, or ends in a slash and that one.
-pub(crate) fn is_header(pattern: &[u8], header: &[u8]) -> bool
+pub fn is_header(pattern: &[u8], header: &[u8]) -> bool
     ensures { result ≡ is_header pattern.now header.now }
 {
     if header.len() <= pattern.len() {

@@ -11,6 +11,7 @@ ghost use Rattle.cb_desk.specs.steps.Plans.{IsPlan};
 ghost use Rattle.cb_desk.specs.Timeline.{
   IsValidTimeline,
   Moves,
+  forgotten,
   moved_on,
   new_timeline,
   redone,
@@ -188,5 +189,15 @@ impl History {
             unreachable!()
         }
         Ok(())
+    }
+
+    /// Drops the records of all other worlds, and what only these use. It takes no memory.
+    pub(crate) fn forget(&mut self)
+        ensures timeline { timeline_in self.new ≡ forgotten (timeline_in self.old) }
+        ensures turns { self.new.kept.turns ≡ self.old.kept.turns }
+    {
+        self.records.clear();
+        self.done = 0;
+        self.present.compact();
     }
 }

@@ -30,7 +30,7 @@ pub fn step_keeps_valid()
     ensures { StepKeepsValid }
 {}
 
-/// A valid timeline stays valid by change, undo and redo.
+/// A valid timeline stays valid by change, undo and redo, and without its past and future.
 pub fn timeline_stays_valid()
     ensures { TimelineStaysValid }
 {}

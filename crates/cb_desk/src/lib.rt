@@ -32,13 +32,14 @@ mod spot;
 mod state;
 mod tags;
 
-pub use answers::{Files, Rows, TagRows};
+pub use answers::{Definitions, Files, Rows, TagRows};
 pub use bounds::Bounds;
 pub use change::Change;
+pub use found::is_header;
 pub use limits::{MOST_BYTES, MOST_FILES};
 pub use loading::Loading;
 pub use places::Places;
 pub use refusal::Refusal;
-pub use rows::{Field, RefRow, line_row};
+pub use rows::{Field, RefRow, line_row, unindented};
 pub use state::Desk;
 pub use tags::Format;

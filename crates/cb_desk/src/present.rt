@@ -18,6 +18,7 @@ ghost use Rattle.cb_index.specs.Names.{names_of};
 ghost use Rattle.cb_index.specs.Shelved.{CanShow, KeepsRoom};
 ghost use Rattle.std.specs.List.Sorted.{IsStrictlyIncreasing};
 ghost use Rattle.cb_desk.specs.Desk.{counted};
+ghost use Rattle.cb_desk.specs.steps.Compacted.{IsCompacted};
 ghost use Rattle.cb_desk.specs.steps.Edits.{turned_edits, edited};
 ghost use Rattle.cb_desk.specs.steps.Plans.{HasRoomFor};
 ghost use Rattle.cb_desk.specs.steps.Records.{
@@ -36,6 +37,7 @@ ghost use Rattle.cb_desk.specs.steps.Records.{
 ghost use Rattle.cb_desk.specs.steps.Room.{IsCountable, IsRoomFor};
 ghost use Rattle.cb_desk.specs.steps.Still.{IsStill};
 ghost use Rattle.cb_desk.specs.steps.Texts.{bytes_if, bytes_if_other};
+ghost use Rattle.cb_desk.specs.steps.Walks.{IsKept};
 
 mod changes;
 mod counts;
@@ -339,5 +341,18 @@ impl Present {
         self.shelf.truncate(self.versions, self.names);
         keep_names(&mut self.shelf, names);
         versions.keep_in(&mut self.shelf);
+    }
+
+    /// Drops from the archive each version that this world does not show, and each name that only
+    /// later worlds use. Versions get other numbers, without gaps. It takes no memory.
+    pub(crate) fn compact(&mut self)
+        requires { IsKept self.old.rooms self.old.archive self.old.now }
+        ensures { IsCompacted self.old self.new }
+    {
+        let shelf = &mut self.shelf;
+        shelf.truncate(self.versions, self.names);
+        shelf.compact();
+        let _shown = shelf.shown();
+        self.versions = shelf.archive().version_count() as u32;
     }
 }

@@ -4,7 +4,6 @@ ghost use Rattle.std.specs.List.{prefix_len};
 ghost use Rattle.cb_desk.specs.Answer.{space, tab, unindented, line_row, file_row, field_of_digit};
 ghost use Rattle.cb_desk.specs.Models.{row_of};
 
-use crate::found::shown_line;
 use cb_scan::Source;
 
 /// What is asked: the field of a question.
@@ -62,7 +61,7 @@ pub fn line_row<'a>(file: &'a [u8], source: &'a Source, line: u32) -> RefRow<'a>
         file,
         function: b"<unknown>",
         line,
-        text: unindented(shown_line(source, line)),
+        text: unindented(source.shown_line(line)),
     }
 }
 
@@ -79,7 +78,7 @@ pub(crate) fn file_row(name: &[u8]) -> RefRow<'_>
 }
 
 /// A line without its leading spaces and tabs.
-pub(crate) fn unindented(line: &[u8]) -> &[u8]
+pub fn unindented(line: &[u8]) -> &[u8]
     ensures { result.now ≡ unindented line.now }
 {
     &line[blanks(line)..]

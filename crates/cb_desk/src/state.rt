@@ -1,7 +1,8 @@
 //! The state of a session.
 ghost use Rattle.std.specs.Prelude.{◌≡◌, ◌≢◌, [], IfErr, IfOk, length};
-ghost use Rattle.std.specs.Option.{option_copied};
+ghost use Rattle.std.specs.Option.{option_copied, option_map};
 ghost use Rattle.cb_scan.specs.Profiles.{facts_in};
+ghost use Rattle.cb_index.specs.Rows.{tags_named};
 ghost use Rattle.cb_desk.specs.Answer.{answer};
 ghost use Rattle.cb_desk.specs.Desk.{
   Counts,
@@ -11,12 +12,14 @@ ghost use Rattle.cb_desk.specs.Desk.{
   definitions_in,
   scanned,
 };
-ghost use Rattle.cb_desk.specs.Models.{step_of};
+ghost use Rattle.cb_desk.specs.Models.{scanned_of, step_of};
+ghost use Rattle.cb_desk.specs.Scanned.{scanned_named};
 ghost use Rattle.cb_desk.specs.Tags.{tags};
 ghost use Rattle.cb_desk.specs.Timeline.{
   Changes,
   IsValidTimeline,
   Moves,
+  forgotten,
   new_timeline,
   redone,
   undone,
@@ -26,9 +29,9 @@ ghost use Rattle.cb_desk.specs.World.{IsValidWorld, text_named};
 ghost use Rattle.cb_desk.specs.steps.Walks.{timeline_in};
 
 use crate::history::History;
-use crate::{Bounds, Change, Field, Files, Format, Places, Refusal, Rows, TagRows};
+use crate::{Bounds, Change, Definitions, Field, Files, Format, Places, Refusal, Rows, TagRows};
 use cb_index::{FactKind, IndexKind};
-use cb_scan::{Meter, Profile, Source, scan};
+use cb_scan::{Facts, Meter, Profile, Source, scan};
 use std::alloc::{AllocError, Global};
 use std::marker::Model;
 
@@ -162,6 +165,16 @@ impl Desk {
         self.history.redo()
     }
 
+    /// Forgets the past and the future: nothing can be undone then, and nothing done again. The
+    /// present world stays, and each text goes that it does not show. It takes no memory.
+    pub fn forget(&mut self)
+        ensures timeline { self.new.timeline ≡ forgotten self.old.timeline }
+        ensures meter { self.new.meter ≡ self.old.meter }
+        ensures turns { self.new.turns ≡ self.old.turns }
+    {
+        self.history.forget();
+    }
+
     /// Scans every present file again. The files, their past and their future stay.
     pub fn rebuild(&mut self, alloc: Global) -> Result<(), Refusal>
         ensures timeline { self.new.timeline ≡ self.old.timeline }
@@ -218,6 +231,15 @@ impl Desk {
         ensures { option_copied result ≡ text_named self.now.timeline.present.files name.now }
     {
         self.history.present().source(name)
+    }
+
+    /// The text of the file of that name with what its profile finds in it, if there is one. No
+    /// text is scanned for that: it was as it came in.
+    pub fn scanned(&self, name: &[u8]) -> Option<(&Source, &Facts)>
+        ensures { option_map scanned_of result ≡ scanned_named self.now.timeline.present.profile
+            self.now.timeline.present.files name.now }
+    {
+        self.history.present().scanned(name)
     }
 
     /// The text that is wanted, if one is.
@@ -285,6 +307,15 @@ impl Desk {
         ensures { result ≡ answer self.now.timeline.present field pattern.now }
     {
         self.history.present().rows(field, pattern)
+    }
+
+    /// The definitions of a name in the present world as tags, by file and place: all that the
+    /// profile finds, so that external declarations and prototypes are among them.
+    pub fn definitions<'a, 'p>(&'a self, name: &'p [u8]) -> Definitions<'a, 'p>
+        ensures { result ≡ tags_named self.now.timeline.present.profile name.now
+            self.now.timeline.present.files }
+    {
+        self.history.present().definitions(name)
     }
 
     /// All definitions of the present world as tags, in the order of a format.

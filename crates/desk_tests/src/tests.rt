@@ -1,5 +1,7 @@
 mod bounds;
+mod definitions;
 mod devices;
+mod forget;
 mod inputs;
 mod meters;
 mod sessions;

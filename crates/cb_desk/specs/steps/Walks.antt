@@ -3,6 +3,7 @@ use Rattle.std.specs.Prelude.{◌≡◌, ◌≤◌, ◌<◌, ℕ, Bool, true, Li
 use Rattle.std.specs.Prelude.{nat_eq, take, drop, reverse}
 use Rattle.std.specs.List.{list_any}
 use Rattle.cb_index.specs.Archived.{Archived}
+use Rattle.cb_index.specs.Compact.{shows_version}
 use Rattle.cb_index.specs.declared.entry.Shown.{Shown}
 use Rattle.cb_desk.specs.Timeline.{Timeline, IsValidTimeline}
 use Rattle.cb_desk.specs.World.{World}
@@ -23,12 +24,9 @@ pub record IsKept (rooms : Rooms) (a : Archived) (w : Numbered) : Type 0 where
   pub there : AreThere a w
   pub fits : Fits rooms a w
 
--- a name, and a version, is among what is shown
+-- a name is among what is shown
 abbrev pub shows_name : ℕ → List Shown → Bool
 shows_name n shown = list_any (λ (s : Shown). nat_eq s.name n) shown
-
-abbrev pub shows_version : ℕ → List Shown → Bool
-shows_version v shown = list_any (λ (s : Shown). nat_eq s.version v) shown
 
 -- a world shows each name and each version that it uses and the world before it does not
 pub record IsNext (old new : Numbered) : Type 0 where
@@ -38,19 +36,19 @@ pub record IsNext (old new : Numbered) : Type 0 where
   pub all_versions : (v : ℕ) → old.versions ≤ v → v < new.versions
       → shows_version v new.shown ≡ true
 
--- a world, with those before it, uses nothing of an archive; or all of it
-pub record UsesNothing (w : Numbered) : Type 0 where
-  pub names : w.names ≡ 0
-  pub versions : w.versions ≡ 0
+-- a world shows each version that it uses
+abbrev pub ShowsItsVersions : Numbered → Type 0
+ShowsItsVersions w = (v : ℕ) → v < w.versions → shows_version v w.shown ≡ true
 
+-- a world, with those before it, uses all of an archive
 pub record UsesAll (a : Archived) (w : Numbered) : Type 0 where
   pub names : w.names ≡ length a.names
   pub versions : w.versions ≡ length a.texts
 
--- turns lead back to a world that uses nothing: each can be made, and what a world uses and the one
--- before it does not is shown in it
+-- turns lead back to a world that shows each version that it uses: each can be made, and what a
+-- world uses and the one before it does not is shown in it
 unfoldable pub LeadsBack : Rooms → Archived → Numbered → List Turn → Type 0
-LeadsBack rooms a w [] = IsKept rooms a w × UsesNothing w
+LeadsBack rooms a w [] = IsKept rooms a w × ShowsItsVersions w
 LeadsBack rooms a w (t ∷ ts) =
     IsKept rooms a w × IsTurn a t w × IsNext (other a t w) w × LeadsBack rooms a (other a t w) ts
 
@@ -87,10 +85,17 @@ worlds_of h =
     walk h.kept.archive h.kept.now (turns_back h) ++ h.kept.now
     ∷ walk h.kept.archive h.kept.now (turns_on h)
 
--- the archive holds no name and no version that the timeline does not use: each is shown in one of
--- its worlds
+-- how many names the first world uses: none in a new timeline, and those of all forgotten worlds
+-- after their past is forgotten
+abbrev pub first_names : ℕ → List Turn → ℕ
+first_names names [] = names
+first_names names (t ∷ ts) = first_names t.names ts
+
+-- the archive holds no version that the timeline does not use: each is shown in one of its worlds.
+-- So is each name but those of the first world
 pub record IsAllUsed (h : Recorded) : Type 0 where
-  pub names : (n : ℕ) → n < length h.kept.archive.names
+  pub names : (n : ℕ) → first_names h.kept.now.names (turns_back h) ≤ n
+      → n < length h.kept.archive.names
       → list_any (λ w. shows_name n w.shown) (worlds_of h) ≡ true
   pub versions : (v : ℕ) → v < length h.kept.archive.texts
       → list_any (λ w. shows_version v w.shown) (worlds_of h) ≡ true

@@ -6,12 +6,13 @@ ghost use Rattle.std.specs.Option.{option_copied, option_map};
 ghost use Rattle.cb_index.specs.Files.{AreAscending, IsThere, file_of as shown_file, files_of};
 ghost use Rattle.cb_index.specs.Shelved.{files};
 ghost use Rattle.cb_index.specs.steps.ShownIn.{shown_in};
-ghost use Rattle.cb_desk.specs.Models.{file_of};
+ghost use Rattle.cb_desk.specs.Models.{file_of, scanned_of};
+ghost use Rattle.cb_desk.specs.Scanned.{scanned_named};
 ghost use Rattle.cb_desk.specs.World.{IsAscending, text_named};
 ghost use Rattle.cb_desk.specs.steps.Named.{IsFirst, IsNotFirst, file_named};
 
 use cb_index::{Archive, Entries, Shelf, Shown, ShownFiles};
-use cb_scan::Source;
+use cb_scan::{Facts, Source};
 use std::marker::Model;
 
 /// The files that are shown, name and text, ascending by the bytes of their names.
@@ -43,7 +44,7 @@ impl<'a> Files<'a> {
     }
 
     /// The same files once more.
-    pub(crate) fn again(&self) -> Files<'a>
+    pub fn again(&self) -> Files<'a>
         ensures { result ≡ self.now }
     {
         Files {
@@ -112,4 +113,14 @@ pub(crate) fn source<'a>(shelf: &'a Shelf, name: &[u8]) -> Option<&'a Source>
 {
     let found = shown_as(shelf, name)?;
     Some(shelf.archive().source(found.version))
+}
+
+/// The text of the file of that name with what is found in it, if there is one.
+pub(crate) fn scanned<'a>(shelf: &'a Shelf, name: &[u8]) -> Option<(&'a Source, &'a Facts)>
+    ensures { option_map scanned_of result
+        ≡ scanned_named shelf.now.archive.profile (files shelf.now) name.now }
+{
+    let found = shown_as(shelf, name)?;
+    let archive = shelf.archive();
+    Some((archive.source(found.version), archive.facts(found.version)))
 }

@@ -4,7 +4,6 @@ ghost use Rattle.cb_desk.specs.Models.{row_of};
 ghost use Rattle.cb_desk.specs.steps.Lent.{spot_row, spot_text};
 ghost use Rattle.cb_desk.specs.steps.LookBack.{alike};
 
-use crate::found::shown_line;
 use crate::rows::{RefRow, unindented};
 use cb_scan::Source;
 
@@ -31,7 +30,7 @@ fn text_of<'a>(line: u32, text: SpotText<'a>) -> &'a [u8]
     ensures { result.now ≡ spot_text line text.entry }
 {
     match text {
-        SpotText::LineOf(source) => unindented(shown_line(source, line)),
+        SpotText::LineOf(source) => unindented(source.shown_line(line)),
         SpotText::Whole(text) => text,
     }
 }

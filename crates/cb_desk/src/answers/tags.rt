@@ -29,6 +29,13 @@ impl<'a> Model for TagRows<'a> {
 }
 
 impl<'a> TagRows<'a> {
+    /// The same tags once more.
+    pub fn again(&self) -> TagRows<'a>
+        ensures { result ≡ self.now }
+    {
+        TagRows { rest: self.rest }
+    }
+
     /// How many are left.
     pub fn len(&self) -> usize
         ensures { result ≡ length self.now }

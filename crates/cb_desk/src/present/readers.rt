@@ -1,18 +1,21 @@
 //! What is read of the present world. None of it takes memory.
 ghost use Rattle.std.specs.Prelude.{◌≡◌, ◌≢◌, [], map};
-ghost use Rattle.std.specs.Option.{option_copied};
+ghost use Rattle.std.specs.Option.{option_copied, option_map};
 ghost use Rattle.cb_index.specs.Files.{files_of};
+ghost use Rattle.cb_index.specs.Rows.{tags_named};
 ghost use Rattle.cb_desk.specs.Answer.{answer};
+ghost use Rattle.cb_desk.specs.Models.{scanned_of};
+ghost use Rattle.cb_desk.specs.Scanned.{scanned_named};
 ghost use Rattle.cb_desk.specs.Tags.{tags};
 ghost use Rattle.cb_desk.specs.World.{AreValidFiles, text_named, widest_bounds};
 ghost use Rattle.cb_desk.specs.steps.Records.{place_in, world_in};
 
-use crate::answers::{Files, Rows, TagRows, source, tag_rows};
+use crate::answers::{Definitions, Files, Rows, TagRows, scanned, source, tag_rows};
 use crate::places::Places;
 use crate::present::Present;
 use crate::rows::Field;
 use crate::tags::Format;
-use cb_scan::Source;
+use cb_scan::{Facts, Source};
 
 impl Present {
     /// How often a file was shown or hidden, up to the greatest number.
@@ -35,6 +38,22 @@ impl Present {
             ≡ text_named (files_of self.now.archive self.now.now.shown) name.now }
     {
         source(&self.shelf, name)
+    }
+
+    /// The text of the file of that name with what is found in it, if there is one.
+    pub(crate) fn scanned(&self, name: &[u8]) -> Option<(&Source, &Facts)>
+        ensures { option_map scanned_of result ≡ scanned_named self.now.archive.profile
+            (files_of self.now.archive self.now.now.shown) name.now }
+    {
+        scanned(&self.shelf, name)
+    }
+
+    /// The definitions of a name, by file and place.
+    pub(crate) fn definitions<'a, 'p>(&'a self, name: &'p [u8]) -> Definitions<'a, 'p>
+        ensures { result ≡ tags_named self.now.archive.profile name.now
+            (files_of self.now.archive self.now.now.shown) }
+    {
+        Definitions::new(&self.shelf, name)
     }
 
     /// The wanted text.

@@ -22,7 +22,12 @@ pub(super) fn load(
 }
 
 /// A reload of a text whose bytes may be refused too.
-fn reload(desk: &mut Desk, alloc: Global, name: &[u8], text: &[u8]) -> Result<(), Refusal> {
+pub(super) fn reload(
+    desk: &mut Desk,
+    alloc: Global,
+    name: &[u8],
+    text: &[u8],
+) -> Result<(), Refusal> {
     match Vec::from_slice(alloc, text) {
         Ok(bytes) => desk.change(alloc, Change::Reload(name, bytes)),
         Err(_error) => Err(Refusal::OutOfMemory),

@@ -1,5 +1,5 @@
 use Rattle.std.proofs.lemmas.List.{take_rest}
-use Rattle.cb_desk.proofs.Unindented.{drop-blanks}
+use Rattle.cb_desk.proofs.Indents.{drop-blanks}
 use Rattle.cb_desk.proofs.rows.unindented.Goals as goal
 
 pub returns : goal.returns
