@@ -20,7 +20,8 @@ use Rattle.cb_wire.specs.declared.reply.ErrorCode.TheVariants.{ServerNotInitiali
 use Rattle.cb_wire.specs.declared.reply.ErrorCode.TheVariants.{MethodNotFound, InvalidParams}
 use Rattle.cb_wire.specs.declared.reply.ErrorCode.TheVariants.{RequestFailed}
 use Rattle.cb_wire.specs.Replies.{code_text, error_body, log_body, result_body, show_body}
-use Rattle.cb_wire.specs.Trees.{error_tree, notice_tree, result_tree}
+use Rattle.cb_wire.specs.Trees.{error_reply, error_tree, notice_tree, result_reply, result_tree}
+use Rattle.cb_wire.specs.Values.{value_text}
 
 -- no comma stands before the end of an object
 end_text : (b : Bool) → print_from b (Token.end_object ∷ []) ≡ codes "}"
@@ -36,15 +37,16 @@ print-end j =
     print_from-append false (json_tokens j) (Token.end_object ∷ [])
     ∙ ap (λ l. print (json_tokens j) ++ l) (end_text after)
 
-result-printed : (id : Id) (j : Json)
-    → result_body id (print (json_tokens j)) ≡ print (json_tokens (result_tree id j))
+-- a reply with a result
+pub result-text : (id : Id) (j : Json)
+    → result_body id (value_text j) ≡ value_text (result_reply (id_json id) j)
 unfolding print_from escape_byte
-result-printed (Number s) j =
+result-text (Number s) j =
     let result = print (json_tokens j) ++ codes "}" in
     ap (λ l. codes "{\"jsonrpc\":\"2.0\",\"id\":" ++ l)
     (append_assoc s.now (codes ",\"result\":") result
     ∙ ap (λ l. s.now ++ (codes ",\"result\":" ++ l)) (sym (print-end j)))
-result-printed (Text s) j =
+result-text (Text s) j =
     let result = print (json_tokens j) ++ codes "}" in
     ap (λ l. codes "{\"jsonrpc\":\"2.0\",\"id\":" ++ l)
     (append_assoc (quoted s.now) (codes ",\"result\":") result
@@ -57,7 +59,7 @@ id-depth (Text s) = refl
 pub result-reads : (id : Id) (j : Json) → HasNumbers (id_json id) → HasNumbers j → depth j < max_depth
     → document (result_body id (print (json_tokens j))) ≡ Some (result_tree id j)
 result-reads id j p q deep =
-    ap document (result-printed id j)
+    ap document (result-text id j)
     ∙ document-print (result_tree id j) (tt, (p, (q, tt))) (omega (arith, id-depth id))
 
 -- the end of a string in two objects
@@ -87,13 +89,14 @@ two-number : IsNumber (codes "2")
 unfolding after_number
 two-number = refl
 
-error-printed : (id : Id) (code : ErrorCode) (a b : List ℕ)
-    → error_body id code a b ≡ print (json_tokens (error_tree id code (a ++ b)))
+-- a reply that tells an error
+pub error-text : (id : Id) (code : ErrorCode) (a b : List ℕ)
+    → error_body id code a b ≡ value_text (error_reply (id_json id) code (a ++ b))
 unfolding print_from escape_byte
-error-printed (Number s) code a b =
+error-text (Number s) code a b =
     ap (λ l. codes "{\"jsonrpc\":\"2.0\",\"id\":" ++ (s.now ++ (codes ",\"error\":{\"code\":"
     ++ (code_text code ++ (codes ",\"message\":\"" ++ l))))) (joined a b)
-error-printed (Text s) code a b =
+error-text (Text s) code a b =
     ap (λ l. codes "{\"jsonrpc\":\"2.0\",\"id\":" ++ (quoted s.now
     ++ (codes ",\"error\":{\"code\":" ++ (code_text code ++ (codes ",\"message\":\"" ++ l)))))
     (joined a b)
@@ -101,39 +104,40 @@ error-printed (Text s) code a b =
 pub error-reads : (id : Id) (code : ErrorCode) (a b : List ℕ) → HasNumbers (id_json id)
     → document (error_body id code a b) ≡ Some (error_tree id code (a ++ b))
 error-reads id code a b p =
-    ap document (error-printed id code a b)
+    ap document (error-text id code a b)
     ∙ document-print (error_tree id code (a ++ b)) (tt, (p, ((code-number code, (tt, tt)), tt)))
     (omega (arith, id-depth id))
 
-log-printed : (text : List ℕ) → log_body text
-    ≡ print (json_tokens (notice_tree (codes "window/logMessage") (codes "1")
-    (codes "cbrowse: " ++ text)))
+-- a text that is logged
+pub log-text : (text : List ℕ) → log_body text
+    ≡ value_text (notice_tree (codes "window/logMessage") (codes "1") (codes "cbrowse: " ++ text))
 unfolding print_from escape_byte
-log-printed text =
+log-text text =
     ap (λ l. codes "{\"jsonrpc\":\"2.0\",\"method\":\"window/logMessage\","
     ++ (codes "\"params\":{\"type\":1,\"message\":\"cbrowse: " ++ l)) (closed text)
 
 pub log-reads : (text : List ℕ) → document (log_body text)
     ≡ Some (notice_tree (codes "window/logMessage") (codes "1") (codes "cbrowse: " ++ text))
 log-reads text =
-    ap document (log-printed text)
+    ap document (log-text text)
     ∙ document-print (notice_tree (codes "window/logMessage") (codes "1") (codes "cbrowse: " ++ text))
     (tt, (tt, ((one-number, (tt, tt)), tt))) (omega arith)
 
-show-printed : (name text : List ℕ) → show_body name text
-    ≡ print (json_tokens (notice_tree (codes "window/showMessage") (codes "2")
-    (codes "cbrowse: " ++ (name ++ (codes ": " ++ text)))))
+-- a text on a name that is shown
+pub show-text : (name text : List ℕ) → show_body (escape name) text
+    ≡ value_text (notice_tree (codes "window/showMessage") (codes "2")
+    (codes "cbrowse: " ++ (name ++ (codes ": " ++ text))))
 unfolding print_from escape_byte
-show-printed name text =
+show-text name text =
     ap (λ l. codes "{\"jsonrpc\":\"2.0\",\"method\":\"window/showMessage\","
     ++ (codes "\"params\":{\"type\":2,\"message\":\"cbrowse: " ++ l))
     (joined name (codes ": " ++ text))
 
-pub show-reads : (name text : List ℕ) → document (show_body name text)
+pub show-reads : (name text : List ℕ) → document (show_body (escape name) text)
     ≡ Some (notice_tree (codes "window/showMessage") (codes "2")
     (codes "cbrowse: " ++ (name ++ (codes ": " ++ text))))
 show-reads name text =
-    ap document (show-printed name text)
+    ap document (show-text name text)
     ∙ document-print (notice_tree (codes "window/showMessage") (codes "2")
     (codes "cbrowse: " ++ (name ++ (codes ": " ++ text)))) (tt, (tt, ((two-number, (tt, tt)), tt)))
     (omega arith)

@@ -8,4 +8,9 @@ pub mod Replies
 pub mod Texts
 pub mod Trees
 pub mod Uris
+pub mod Values
+pub mod Locations
+pub mod Lists
+pub mod Symbols
+pub mod Welcome
 pub mod steps

@@ -41,9 +41,9 @@ log_body text =
     ++ (codes "\"params\":{\"type\":1,\"message\":\"cbrowse: "
     ++ (escape text ++ codes "\"}}"))
 
--- a text on a name that is shown
+-- a text on a name that is shown; the name has the escapes of a string of JSON
 abbrev pub show_body : List ℕ → List ℕ → List ℕ
 show_body name text =
     codes "{\"jsonrpc\":\"2.0\",\"method\":\"window/showMessage\","
     ++ (codes "\"params\":{\"type\":2,\"message\":\"cbrowse: "
-    ++ (escape name ++ (codes ": " ++ (escape text ++ codes "\"}}"))))
+    ++ (name ++ (codes ": " ++ (escape text ++ codes "\"}}"))))

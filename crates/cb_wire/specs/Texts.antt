@@ -6,8 +6,12 @@ use Rattle.bstr.specs.Utf8.{decoded}
 use Rattle.json.specs.Print.{escape, quoted}
 use Rattle.cb_wire.specs.declared.part.Part.{Part}
 use Rattle.cb_wire.specs.declared.part.Part.TheVariants.{Raw, Escaped, Source, Id as OfId}
+use Rattle.cb_wire.specs.declared.part.Part.TheVariants.{Number as OfNumber, Uri, Range as OfRange}
+use Rattle.cb_wire.specs.declared.part.Part.TheVariants.{Path}
 use Rattle.cb_wire.specs.declared.message.Id.{Id}
 use Rattle.cb_wire.specs.declared.message.Id.TheVariants.{Number, Text}
+use Rattle.cb_wire.specs.Uris.{escaped, uri_of}
+use Rattle.cb_wire.specs.Values.{range_tree, value_text}
 
 -- the well-formed sequence at the front of some bytes; where none stands there, U+FFFD for a byte
 abbrev pub sequence_text : Option ℕ → ℕ → List ℕ → List ℕ
@@ -42,6 +46,10 @@ part_text (Raw text) = text.now
 part_text (Escaped text) = escape text.now
 part_text (Source bytes) = escape (readable bytes.now)
 part_text (OfId id) = id_text id
+part_text (OfNumber number) = decimal number
+part_text (Uri root name) = escape (uri_of root.now name.now)
+part_text (OfRange range) = value_text (range_tree range)
+part_text (Path path) = escape (escaped path.now)
 
 abbrev pub parts_text : List Part → List ℕ
 parts_text parts = flat_map part_text parts

@@ -1,22 +1,49 @@
 //! What holds of columns, positions and names, as functions that do nothing and whose contracts are
 //! the laws.
-ghost use Rattle.std.specs.Prelude.{◌≡◌, ◌≤◌, ◌<◌, ◌++◌, ℕ, codes, true, All, List, [], Some, option_map};
-ghost use Rattle.json.specs.Json.{Json, document, max_depth};
-ghost use Rattle.json.specs.Print.{print};
+ghost use Rattle.std.specs.Prelude.{
+  ◌≡◌,
+  ◌≤◌,
+  ◌<◌,
+  ◌+◌,
+  ◌++◌,
+  ◌^◌,
+  ℕ,
+  codes,
+  true,
+  All,
+  List,
+  [],
+  map,
+  Some,
+  option_map,
+};
+ghost use Rattle.json.specs.Json.{Json, array, document, max_depth};
+ghost use Rattle.json.specs.Print.{escape, print};
 ghost use Rattle.json.specs.Tree.{HasNumbers, depth, json_tokens};
 ghost use Rattle.cb_wire.specs.declared.message.Id.{Id};
+ghost use Rattle.cb_wire.specs.declared.location.Location.{Location};
 ghost use Rattle.cb_wire.specs.declared.position.Position.{Position};
+ghost use Rattle.cb_wire.specs.declared.position.Range.{Range};
+ghost use Rattle.cb_wire.specs.declared.symbol.Symbol.{Symbol};
+ghost use Rattle.cb_wire.specs.declared.symbol.TreeSymbol.{TreeSymbol};
 ghost use Rattle.cb_wire.specs.declared.units.Encoding.{Encoding};
 ghost use Rattle.cb_wire.specs.Messages.{id_json};
 ghost use Rattle.cb_wire.specs.Positions.{IsPlace, IsPosition, line_feeds, place, position};
 ghost use Rattle.cb_wire.specs.declared.reply.ErrorCode.{ErrorCode};
 ghost use Rattle.cb_wire.specs.Replies.{error_body, log_body, result_body, show_body};
-ghost use Rattle.cb_wire.specs.Trees.{error_tree, notice_tree, result_tree};
+ghost use Rattle.cb_wire.specs.Trees.{
+  error_reply,
+  error_tree,
+  notice_tree,
+  result_reply,
+  result_tree,
+};
 ghost use Rattle.cb_wire.specs.Uris.{
   Below,
   IsBelow,
   IsRoot,
   begins_with_slash,
+  escaped,
   escaped_path,
   name_below,
   of_folder,
@@ -24,6 +51,10 @@ ghost use Rattle.cb_wire.specs.Uris.{
   path_of,
   uri_of,
 };
+ghost use Rattle.cb_wire.specs.Lists.{list_text};
+ghost use Rattle.cb_wire.specs.Locations.{location_tree};
+ghost use Rattle.cb_wire.specs.Symbols.{symbol_tree, tree_symbol_tree};
+ghost use Rattle.cb_wire.specs.Values.{FitsWords, items_of, range_tree, value_text};
 ghost use Rattle.cb_wire.specs.Units.{IsBoundary, IsColumn, column, place_in_line};
 
 /// Within a line: the place of the column of a place is that place, where a character begins there,
@@ -80,7 +111,55 @@ pub fn messages_are_read_back()
         → document (error_body id code text more) ≡ Some (error_tree id code (text ++ more)) }
     ensures log { (text : List ℕ) → document (log_body text)
         ≡ Some (notice_tree (codes "window/logMessage") (codes "1") (codes "cbrowse: " ++ text)) }
-    ensures show { (name text : List ℕ) → document (show_body name text)
+    ensures show { (name text : List ℕ) → document (show_body (escape name) text)
         ≡ Some (notice_tree (codes "window/showMessage") (codes "2")
         (codes "cbrowse: " ++ (name ++ (codes ": " ++ text)))) }
+{}
+
+/// What is written is the text of a value: of a reply with a result, of one that tells an error, of
+/// a text that is logged, and of one that is shown on a name or on a path with escapes.
+pub fn messages_are_texts()
+    ensures result { (id : Id) (j : Json)
+        → result_body id (value_text j) ≡ value_text (result_reply (id_json id) j) }
+    ensures error { (id : Id) (code : ErrorCode) (text more : List ℕ)
+        → error_body id code text more
+        ≡ value_text (error_reply (id_json id) code (text ++ more)) }
+    ensures log { (text : List ℕ) → log_body text
+        ≡ value_text (notice_tree (codes "window/logMessage") (codes "1")
+        (codes "cbrowse: " ++ text)) }
+    ensures show { (name text : List ℕ) → show_body (escape name) text
+        ≡ value_text (notice_tree (codes "window/showMessage") (codes "2")
+        (codes "cbrowse: " ++ (name ++ (codes ": " ++ text)))) }
+    ensures path { (path : List ℕ) → escape (escaped path) ≡ escaped path }
+{}
+
+/// The texts of values with commas between them, in brackets, are the text of their array. A reply
+/// whose result is such a list reads back as the reply with that array.
+pub fn lists_are_arrays()
+    ensures text { (js : List Json) → value_text (array (items_of js))
+        ≡ list_text (codes "[") (codes ",") (codes "]") (map value_text js) }
+    ensures reply { (id : Id) (js : List Json)
+        → result_body id (list_text (codes "[") (codes ",") (codes "]") (map value_text js))
+        ≡ value_text (result_reply (id_json id) (array (items_of js))) }
+    ensures numbers { (js : List Json) → All HasNumbers js → HasNumbers (array (items_of js)) }
+    ensures depth { (js : List Json) (most : ℕ) → All (λ j. depth j ≤ most) js
+        → depth (array (items_of js)) ≤ most + 1 }
+    ensures read_back { (id : Id) (js : List Json) → HasNumbers (id_json id) → All HasNumbers js
+        → All (λ j. depth j + 1 < max_depth) js
+        → document (result_body id
+        (list_text (codes "[") (codes ",") (codes "]") (map value_text js)))
+        ≡ Some (result_tree id (array (items_of js))) }
+{}
+
+/// A range, a location and a symbol are values that can be written and read back.
+pub fn places_are_values()
+    ensures range { (r : Range) → FitsWords r
+        → HasNumbers (range_tree r) × (depth (range_tree r) ≡ 2) }
+    ensures location { (l : Location) → FitsWords l.range
+        → HasNumbers (location_tree l) × (depth (location_tree l) ≡ 3) }
+    ensures symbol { (s : Symbol) → s.kind < 2 ^ 64 → FitsWords s.location.range
+        → HasNumbers (symbol_tree s) × (depth (symbol_tree s) ≡ 4) }
+    ensures tree_symbol { (s : TreeSymbol) → s.kind < 2 ^ 64 → FitsWords s.line
+        → FitsWords s.range
+        → HasNumbers (tree_symbol_tree s) × (depth (tree_symbol_tree s) ≡ 3) }
 {}

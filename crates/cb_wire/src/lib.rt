@@ -7,21 +7,30 @@ mod frame;
 mod head;
 mod header;
 pub mod laws;
+mod list;
+mod location;
 mod message;
 mod part;
 mod position;
+mod range;
 mod reply;
 mod root;
+mod symbol;
 mod units;
 mod uri;
+mod welcome;
 
 pub use frame::{Frame, FrameError, Frames, MOST_BODY};
+pub use list::{Element, Elements, MOST_ELEMENTS, put_list_result};
+pub use location::Location;
 pub use message::{Call, Id, Message, OutOfMemory, message_of, text_of, value_of};
 pub use part::{Part, part_length, parts_length, put_message, put_parts};
-pub use position::{Position, line_at, place_of_position, position_of_place};
+pub use position::{Position, Range, line_at, place_of_position, position_of_place};
 pub use reply::{
     ErrorCode, put_error, put_log, put_result, put_result_end, put_result_head, put_show,
 };
 pub use root::Root;
+pub use symbol::{Symbol, TreeSymbol};
 pub use units::{Encoding, column_of_place, place_of_column};
 pub use uri::{path_of_uri, put_escaped};
+pub use welcome::put_welcome;

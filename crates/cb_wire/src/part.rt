@@ -15,7 +15,9 @@ ghost use Rattle.cb_wire.specs.Texts.{
   sequence_text,
 };
 
-use crate::Id;
+use crate::range::{number_length, put_number, put_range, range_length};
+use crate::uri::escaped_length;
+use crate::{Id, Range, Root, put_escaped};
 use bstr::decode_utf8;
 use cb_tags::{Sink, WriteFault, put_text, put_texts};
 use itoa::Buffer;
@@ -32,6 +34,14 @@ pub enum Part<'a> {
     Source(&'a [u8]),
     /// The id of a request.
     Id(Id<'a>),
+    /// A number.
+    Number(usize),
+    /// The URI of a name below a root, inside a string of JSON.
+    Uri(&'a Root, &'a [u8]),
+    /// A range, as the protocol writes it.
+    Range(Range),
+    /// A path with escapes as in a URI, inside a string of JSON.
+    Path(&'a [u8]),
 }
 
 /// The letter of a short escape, or 0 where a byte has none.
@@ -78,7 +88,7 @@ fn put_byte<W: Write>(out: &mut Sink<W>, byte: u8) -> Result<(), WriteFault>
 }
 
 /// Writes UTF-8 inside a string of JSON.
-fn put_json<W: Write>(out: &mut Sink<W>, text: &[u8]) -> Result<(), WriteFault>
+pub(crate) fn put_json<W: Write>(out: &mut Sink<W>, text: &[u8]) -> Result<(), WriteFault>
     ensures { Puts out.old out.new result (escape text.now) }
 {
     for byte in text {
@@ -103,7 +113,7 @@ fn byte_length(byte: u8) -> u128
 }
 
 /// How many bytes a text takes inside a string of JSON.
-fn json_length(text: &[u8]) -> u128
+pub(crate) fn json_length(text: &[u8]) -> u128
     ensures value { result ≡ length (escape text.now) }
     ensures few { result ≤ 6 * length text.now }
 {
@@ -196,6 +206,10 @@ fn put_part<W: Write>(out: &mut Sink<W>, part: &Part<'_>) -> Result<(), WriteFau
         Part::Escaped(text) => put_json(out, text),
         Part::Source(bytes) => put_source(out, bytes),
         Part::Id(id) => put_id(out, id),
+        Part::Number(number) => put_number(out, *number),
+        Part::Uri(root, name) => root.put_uri_inside(out, name),
+        Part::Range(range) => put_range(out, *range),
+        Part::Path(path) => put_escaped(out, path),
     }
 }
 
@@ -219,6 +233,10 @@ pub fn part_length(part: &Part<'_>) -> u128
         Part::Escaped(text) => json_length(text),
         Part::Source(bytes) => source_length(bytes),
         Part::Id(id) => id_length(id),
+        Part::Number(number) => number_length(*number),
+        Part::Uri(root, name) => root.uri_length_inside(name),
+        Part::Range(range) => range_length(*range),
+        Part::Path(path) => escaped_length(path),
     }
 }
 

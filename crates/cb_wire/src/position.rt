@@ -13,6 +13,13 @@ pub struct Position {
     pub character: usize,
 }
 
+/// What stands from one position up to another.
+#[derive(Clone, Copy, Debug, PartialEq, Eq)]
+pub struct Range {
+    pub start: Position,
+    pub end: Position,
+}
+
 /// A line without its line feed and one carriage return before that.
 fn shown(line: &[u8]) -> &[u8]
     ensures value { result.now ≡ without_terminator line.now }

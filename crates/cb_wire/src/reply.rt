@@ -10,7 +10,7 @@ ghost use Rattle.cb_wire.specs.Replies.{
   result_head,
   show_body,
 };
-ghost use Rattle.cb_wire.specs.Texts.{frame};
+ghost use Rattle.cb_wire.specs.Texts.{frame, part_text};
 
 use crate::part::put_head;
 use crate::{Id, Part, parts_length, put_message, put_parts};
@@ -74,12 +74,24 @@ pub fn put_result_head<W: Write>(
 ) -> Result<(), WriteFault>
     ensures { Puts out.old out.new result (result_head id.entry length) }
 {
+    put_result_front(out, id, length as u128)
+}
+
+/// Writes a reply up to its result, which has so many bytes.
+pub(crate) fn put_result_front<W: Write>(
+    out: &mut Sink<W>,
+    id: Id<'_>,
+    length: u128,
+) -> Result<(), WriteFault>
+    requires { length < 2 ^ 127 }
+    ensures { Puts out.old out.new result (result_head id.entry length) }
+{
     let front = [
         Part::Raw(b"{\"jsonrpc\":\"2.0\",\"id\":"),
         Part::Id(id),
         Part::Raw(b",\"result\":"),
     ];
-    put_head(out, parts_length(&front) + length as u128 + 1)?;
+    put_head(out, parts_length(&front) + length + 1)?;
     put_parts(out, &front)
 }
 
@@ -131,20 +143,21 @@ pub fn put_log<W: Write>(out: &mut Sink<W>, text: &[u8]) -> Result<(), WriteFaul
     )
 }
 
-/// Writes the notification that shows a text on a name.
+/// Writes the notification that shows a text on a name, a part inside a string of JSON.
 pub fn put_show<'a, W: Write>(
     out: &mut Sink<W>,
-    name: &'a [u8],
+    name: Part<'a>,
     text: &'a [u8],
 ) -> Result<(), WriteFault>
-    ensures { Puts out.old out.new result (frame (show_body name.now text.now)) }
+    ensures { Puts out.old out.new result
+        (frame (show_body (part_text name.entry) text.now)) }
 {
     put_message(
         out,
         &[
             Part::Raw(b"{\"jsonrpc\":\"2.0\",\"method\":\"window/showMessage\","),
             Part::Raw(b"\"params\":{\"type\":2,\"message\":\"cbrowse: "),
-            Part::Escaped(name),
+            name,
             Part::Raw(b": "),
             Part::Escaped(text),
             Part::Raw(b"\"}}"),

@@ -1,8 +1,8 @@
 //! The folder that names are relative to.
-ghost use Rattle.std.specs.Prelude.{◌≡◌, ◌++◌, ◌-◌, ◌≤◌, IfOk, length, take};
-ghost use Rattle.std.specs.List.{flat_map};
+ghost use Rattle.std.specs.Prelude.{◌≡◌, ◌++◌, ◌-◌, ◌≤◌, ◌<◌, ◌^◌, IfOk, length, take};
 ghost use Rattle.std.specs.Option.{option_map};
 ghost use Rattle.cb_tags.specs.Writing.{Puts};
+ghost use Rattle.json.specs.Print.{escape};
 ghost use Rattle.cb_wire.specs.Uris.{
   name_below,
   escaped,
@@ -13,8 +13,10 @@ ghost use Rattle.cb_wire.specs.Uris.{
   without_slashes,
 };
 
+use crate::part::{json_length, put_json};
 use crate::uri::{
-    append_escaped, begins_with_slash, below, escaped_path, last_slashes, put_escaped,
+    append_escaped, begins_with_slash, below, escaped_length, escaped_path, last_slashes,
+    put_escaped,
 };
 use cb_tags::{Sink, WriteFault, put_texts};
 use percent_encoding::percent_decode;
@@ -94,14 +96,14 @@ impl Root {
     }
 
     /// What stands before a name in its URI.
-    fn front(&self, name: &[u8]) -> [&[u8]; 2]
-        ensures { flat_map (λ part. part.now) result ++ escaped name.now
+    fn front(&self, name: &[u8]) -> (&[u8], &[u8])
+        ensures { result.0.now ++ (result.1.now ++ escaped name.now)
             ≡ uri_of self.now name.now }
     {
         if begins_with_slash(name) {
-            [b"file://", b""]
+            (b"file://", b"")
         } else {
-            [self.uri.as_slice(), b"/"]
+            (self.uri.as_slice(), b"/")
         }
     }
 
@@ -109,7 +111,31 @@ impl Root {
     pub fn put_uri<W: Write>(&self, out: &mut Sink<W>, name: &[u8]) -> Result<(), WriteFault>
         ensures { Puts out.old out.new result (uri_of self.now name.now) }
     {
-        put_texts(out, &self.front(name))?;
+        let (front, slash) = self.front(name);
+        put_texts(out, &[front, slash])?;
         put_escaped(out, name)
+    }
+
+    /// Writes the URI of a name inside a string of JSON.
+    pub(crate) fn put_uri_inside<W: Write>(
+        &self,
+        out: &mut Sink<W>,
+        name: &[u8],
+    ) -> Result<(), WriteFault>
+        ensures { Puts out.old out.new result (escape (uri_of self.now name.now)) }
+    {
+        let (front, slash) = self.front(name);
+        put_json(out, front)?;
+        put_json(out, slash)?;
+        put_escaped(out, name)
+    }
+
+    /// How many bytes the URI of a name takes inside a string of JSON.
+    pub(crate) fn uri_length_inside(&self, name: &[u8]) -> u128
+        ensures value { result ≡ length (escape (uri_of self.now name.now)) }
+        ensures few { result < 2 ^ 69 }
+    {
+        let (front, slash) = self.front(name);
+        json_length(front) + json_length(slash) + escaped_length(name)
     }
 }

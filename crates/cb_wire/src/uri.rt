@@ -1,5 +1,5 @@
 //! File URIs, and the names of files below a root.
-ghost use Rattle.std.specs.Prelude.{◌≡◌, ◌++◌, ◌-◌, ◌≤◌, IfOk, IfSome, length, take};
+ghost use Rattle.std.specs.Prelude.{◌≡◌, ◌++◌, ◌-◌, ◌*◌, ◌≤◌, IfOk, IfSome, length, take};
 ghost use Rattle.std.specs.Option.{option_copied};
 ghost use Rattle.std.specs.Cow.{cow_slice_items};
 ghost use Rattle.std.specs.Option.{option_map};
@@ -107,6 +107,27 @@ fn put_escaped_byte<W: Write>(out: &mut Sink<W>, byte: u8) -> Result<(), WriteFa
     } else {
         put_text(out, percent_encode_byte(byte).as_bytes())
     }
+}
+
+/// How many bytes a byte of a path takes.
+#[tactic(auto, unfolding(percent_encoding::specs::Percent::percent_encode_byte))]
+fn escaped_byte_length(byte: u8) -> u128
+    ensures value { result ≡ length (escape_byte byte) }
+    ensures few { result ≤ 3 }
+{
+    if is_kept(byte) { 1 } else { 3 }
+}
+
+/// How many bytes a path takes with escapes.
+pub(crate) fn escaped_length(path: &[u8]) -> u128
+    ensures value { result ≡ length (escaped path.now) }
+    ensures few { result ≤ 3 * length path.now }
+{
+    let mut total = 0u128;
+    for byte in path {
+        total += escaped_byte_length(*byte);
+    }
+    total
 }
 
 /// A path with escapes, behind a text.

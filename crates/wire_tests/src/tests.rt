@@ -1,5 +1,6 @@
 mod columns;
 mod frames;
+mod lists;
 mod messages;
 mod replies;
 mod uris;

@@ -1,8 +1,8 @@
 //! The bytes that are written.
 use cb_tags::Sink;
 use cb_wire::{
-    ErrorCode, Id, Part, part_length, parts_length, put_error, put_log, put_message, put_parts,
-    put_result, put_result_end, put_result_head, put_show,
+    Encoding, ErrorCode, Id, Part, part_length, parts_length, put_error, put_log, put_message,
+    put_parts, put_result, put_result_end, put_result_head, put_show, put_welcome,
 };
 
 #[test]
@@ -30,15 +30,40 @@ fn notifications_are_framed(rt: HostRuntime) {
     let mut written = Vec::new(rt.alloc());
     let mut sink = Sink::new(&mut written);
     assert!(rt; put_log(&mut sink, b"not JSON").is_ok());
-    assert!(rt; put_show(&mut sink, b"b.c", b"too large").is_ok());
+    assert!(rt; put_show(&mut sink, Part::Escaped(b"b.c"), b"too large").is_ok());
+    assert!(rt; put_show(&mut sink, Part::Path(b"/x\"y.c"), b"bad name").is_ok());
     assert_eq!(rt;
         written.as_slice(),
         b"Content-Length: 96\r\n\r\n\
           {\"jsonrpc\":\"2.0\",\"method\":\"window/logMessage\",\"params\":{\"type\":1,\"message\":\"cbrowse: not JSON\"}}\
           Content-Length: 103\r\n\r\n\
-          {\"jsonrpc\":\"2.0\",\"method\":\"window/showMessage\",\"params\":{\"type\":2,\"message\":\"cbrowse: b.c: too large\"}}"
+          {\"jsonrpc\":\"2.0\",\"method\":\"window/showMessage\",\"params\":{\"type\":2,\"message\":\"cbrowse: b.c: too large\"}}\
+          Content-Length: 107\r\n\r\n\
+          {\"jsonrpc\":\"2.0\",\"method\":\"window/showMessage\",\"params\":{\"type\":2,\"message\":\"cbrowse: /x%22y.c: bad name\"}}"
             .as_slice()
     );
+}
+
+#[test]
+fn a_client_is_welcomed(rt: HostRuntime) {
+    let mut written = Vec::new(rt.alloc());
+    let mut sink = Sink::new(&mut written);
+    let id = Id::Number("0");
+    assert!(rt; put_welcome(&mut sink, id, Encoding::Utf16, b"1.2\"").is_ok());
+    assert_eq!(rt;
+        written.as_slice(),
+        b"Content-Length: 299\r\n\r\n{\"jsonrpc\":\"2.0\",\"id\":0,\"result\":\
+          {\"capabilities\":{\"positionEncoding\":\"utf-16\",\
+          \"textDocumentSync\":{\"openClose\":true,\"change\":1,\"save\":true},\
+          \"hoverProvider\":true,\"definitionProvider\":true,\
+          \"documentSymbolProvider\":true,\"workspaceSymbolProvider\":true},\
+          \"serverInfo\":{\"name\":\"cbrowse\",\"version\":\"1.2\\\"\"}}}"
+            .as_slice()
+    );
+    let mut again = Vec::new(rt.alloc());
+    let mut sink = Sink::new(&mut again);
+    assert!(rt; put_welcome(&mut sink, Id::Text("i"), Encoding::Utf8, b"1.23").is_ok());
+    assert_eq!(rt; again.len(), written.len());
 }
 
 #[test]

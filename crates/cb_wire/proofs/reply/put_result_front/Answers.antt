@@ -3,7 +3,7 @@ use Rattle.cb_tags.specs.Writing.{Puts}
 use Rattle.cb_tags.proofs.Prefixes.{Puts-after, Puts-fault, PutsPrefix-more}
 use Rattle.cb_wire.specs.Replies.{result_front}
 use Rattle.cb_wire.specs.Texts.{frame_head}
-use Rattle.cb_wire.proofs.reply.put_result_head.Goals as goal
+use Rattle.cb_wire.proofs.reply.put_result_front.Goals as goal
 
 pub returns-in_err-put_head : goal.returns-in_err-put_head
 returns-in_err-put_head g c =

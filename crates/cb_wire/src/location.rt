@@ -1,0 +1,43 @@
+//! Where something stands, as the protocol names it.
+ghost use Rattle.std.specs.Prelude.{◌≡◌};
+ghost use Rattle.cb_wire.specs.Locations.{location_text};
+ghost use Rattle.cb_wire.specs.Texts.{parts_text};
+
+use crate::{Element, Part, Range, Root, parts_length, put_parts};
+use cb_tags::{Sink, WriteFault};
+use std::io::Write;
+
+/// A range in the file of a name below a root.
+#[derive(Clone, Copy, Debug)]
+pub struct Location<'a> {
+    pub root: &'a Root,
+    pub name: &'a [u8],
+    pub range: Range,
+}
+
+impl<'a> Location<'a> {
+    /// The parts of its text.
+    fn parts(&self) -> [Part<'a>; 5]
+        ensures { parts_text result ≡ location_text self.now }
+    {
+        [
+            Part::Raw(b"{\"uri\":\""),
+            Part::Uri(self.root, self.name),
+            Part::Raw(b"\",\"range\":"),
+            Part::Range(self.range),
+            Part::Raw(b"}"),
+        ]
+    }
+}
+
+impl Element for Location<'_> {
+    ghost text = { location_text };
+
+    fn put<W: Write>(&self, out: &mut Sink<W>) -> Result<(), WriteFault> {
+        put_parts(out, &self.parts())
+    }
+
+    fn length(&self) -> u128 {
+        parts_length(&self.parts())
+    }
+}

@@ -1,0 +1,189 @@
+//! Places of files, and replies whose result is a list.
+use cb_tags::{Sink, WriteFault, put_text};
+use cb_wire::{
+    Element, Elements, Id, Location, MOST_ELEMENTS, Part, Position, Range, Root, Symbol,
+    TreeSymbol, part_length, parts_length, put_list_result, put_parts,
+};
+use std::io::Write;
+use std::test::Fail;
+
+/// A line of source, without what JSON escapes.
+#[derive(Clone, Copy, Debug)]
+struct Line<'a>(&'a [u8]);
+
+impl Element for Line<'_> {
+    ghost text = { λ line. line.0.now };
+
+    fn put<W: Write>(&self, out: &mut Sink<W>) -> Result<(), WriteFault> {
+        put_text(out, self.0)
+    }
+
+    fn length(&self) -> u128 {
+        self.0.len() as u128
+    }
+}
+
+/// A part of one line.
+fn on_line(line: usize, start: usize, end: usize) -> Range {
+    Range {
+        start: Position {
+            line,
+            character: start,
+        },
+        end: Position {
+            line,
+            character: end,
+        },
+    }
+}
+
+#[test]
+fn places_are_parts(rt: HostRuntime) -> Result<(), Fail> {
+    let Some(root) = Root::of_uri(rt.alloc(), b"file:///w\"%20x/")? else {
+        return Ok(());
+    };
+    let parts = [
+        Part::Number(1_024),
+        Part::Raw(b" "),
+        Part::Uri(&root, b"a \"b.c"),
+        Part::Raw(b" "),
+        Part::Uri(&root, b"/usr/x+y.h"),
+        Part::Raw(b" "),
+        Part::Range(on_line(12, 0, 255)),
+    ];
+    let mut written = Vec::new(rt.alloc());
+    let mut sink = Sink::new(&mut written);
+    assert!(rt; put_parts(&mut sink, &parts).is_ok());
+    assert_eq!(rt;
+        written.as_slice(),
+        b"1024 file:///w\\\"%20x/a%20%22b.c file:///usr/x%2By.h \
+          {\"start\":{\"line\":12,\"character\":0},\"end\":{\"line\":12,\"character\":255}}"
+            .as_slice()
+    );
+    assert_eq!(rt; part_length(&parts[0]), 4);
+    assert_eq!(rt; part_length(&parts[2]), 26);
+    assert_eq!(rt; part_length(&parts[6]), 69);
+    assert_eq!(rt; parts_length(&parts), 4 + 26 + 19 + 69 + 3);
+    Ok(())
+}
+
+#[test]
+fn locations_are_listed(rt: HostRuntime) -> Result<(), Fail> {
+    let root = Root::of_folder(rt.alloc(), b"/w")?;
+    let locations = [
+        Location {
+            root: &root,
+            name: b"a.c",
+            range: on_line(0, 4, 8),
+        },
+        Location {
+            root: &root,
+            name: b"/b.h",
+            range: on_line(10, 0, 3),
+        },
+    ];
+    let mut written = Vec::new(rt.alloc());
+    let mut sink = Sink::new(&mut written);
+    let id = Id::Number("3");
+    let (all, tail) = (locations.as_slice(), [Part::Raw(b"]")]);
+    assert!(rt; put_list_result(&mut sink, id, b"[", b",", &tail, MOST_ELEMENTS, all).is_ok());
+    assert!(rt; put_list_result(&mut sink, id, b"[", b",", &tail, 1, all).is_ok());
+    let none = &all[2..];
+    assert!(rt; put_list_result(&mut sink, id, b"[", b",", &tail, 1, none.again()).is_ok());
+    assert_eq!(rt;
+        written.as_slice(),
+        b"Content-Length: 231\r\n\r\n{\"jsonrpc\":\"2.0\",\"id\":3,\"result\":[\
+          {\"uri\":\"file:///w/a.c\",\"range\":\
+          {\"start\":{\"line\":0,\"character\":4},\"end\":{\"line\":0,\"character\":8}}},\
+          {\"uri\":\"file:///b.h\",\"range\":\
+          {\"start\":{\"line\":10,\"character\":0},\"end\":{\"line\":10,\"character\":3}}}]}\
+          Content-Length: 133\r\n\r\n{\"jsonrpc\":\"2.0\",\"id\":3,\"result\":[\
+          {\"uri\":\"file:///w/a.c\",\"range\":\
+          {\"start\":{\"line\":0,\"character\":4},\"end\":{\"line\":0,\"character\":8}}}]}\
+          Content-Length: 36\r\n\r\n{\"jsonrpc\":\"2.0\",\"id\":3,\"result\":[]}"
+            .as_slice()
+    );
+    Ok(())
+}
+
+#[test]
+fn an_element_is_put(rt: HostRuntime) -> Result<(), Fail> {
+    let root = Root::of_folder(rt.alloc(), b"")?;
+    let location = Location {
+        root: &root,
+        name: b"w/a.c",
+        range: on_line(1, 2, 3),
+    };
+    let mut written = Vec::new(rt.alloc());
+    let mut sink = Sink::new(&mut written);
+    assert!(rt; location.put(&mut sink).is_ok());
+    assert_eq!(rt;
+        written.as_slice(),
+        b"{\"uri\":\"file:///w/a.c\",\"range\":\
+          {\"start\":{\"line\":1,\"character\":2},\"end\":{\"line\":1,\"character\":3}}}"
+            .as_slice()
+    );
+    assert_eq!(rt; location.length(), 97);
+    Ok(())
+}
+
+#[test]
+fn symbols_are_listed(rt: HostRuntime) -> Result<(), Fail> {
+    let root = Root::of_folder(rt.alloc(), b"/w")?;
+    let flat = [Symbol {
+        name: b"main",
+        kind: 12,
+        location: Location {
+            root: &root,
+            name: b"a b.c",
+            range: on_line(0, 4, 8),
+        },
+    }];
+    let tree = [TreeSymbol {
+        name: b"\xFF\"",
+        kind: 14,
+        line: on_line(7, 0, 20),
+        range: on_line(7, 8, 9),
+    }];
+    let mut written = Vec::new(rt.alloc());
+    let mut sink = Sink::new(&mut written);
+    let (id, tail) = (Id::Number("4"), [Part::Raw(b"]")]);
+    assert!(rt; put_list_result(&mut sink, id, b"[", b",", &tail, MOST_ELEMENTS, flat.as_slice()).is_ok());
+    assert!(rt; put_list_result(&mut sink, id, b"[", b",", &tail, MOST_ELEMENTS, tree.as_slice()).is_ok());
+    assert_eq!(rt;
+        written.as_slice(),
+        b"Content-Length: 174\r\n\r\n{\"jsonrpc\":\"2.0\",\"id\":4,\"result\":[\
+          {\"name\":\"main\",\"kind\":12,\"location\":{\"uri\":\"file:///w/a%20b.c\",\"range\":\
+          {\"start\":{\"line\":0,\"character\":4},\"end\":{\"line\":0,\"character\":8}}}}]}\
+          Content-Length: 220\r\n\r\n{\"jsonrpc\":\"2.0\",\"id\":4,\"result\":[\
+          {\"name\":\"\xEF\xBF\xBD\\\"\",\"kind\":14,\"range\":\
+          {\"start\":{\"line\":7,\"character\":0},\"end\":{\"line\":7,\"character\":20}},\
+          \"selectionRange\":\
+          {\"start\":{\"line\":7,\"character\":8},\"end\":{\"line\":7,\"character\":9}}}]}"
+            .as_slice()
+    );
+    assert_eq!(rt; flat[0].length(), 138);
+    Ok(())
+}
+
+#[test]
+fn texts_are_joined(rt: HostRuntime) {
+    let mut written = Vec::new(rt.alloc());
+    let mut sink = Sink::new(&mut written);
+    let lines = [Line(b"int a;"), Line(b"int b;"), Line(b"")];
+    let tail = [
+        Part::Raw(b"\"},\"range\":"),
+        Part::Range(on_line(3, 1, 2)),
+        Part::Raw(b"}"),
+    ];
+    let (id, head) = (Id::Text("x"), b"{\"contents\":{\"value\":\"".as_slice());
+    assert!(rt; put_list_result(&mut sink, id, head, b"\\n", &tail, MOST_ELEMENTS, lines.as_slice()).is_ok());
+    assert_eq!(rt;
+        written.as_slice(),
+        b"Content-Length: 151\r\n\r\n\
+          {\"jsonrpc\":\"2.0\",\"id\":\"x\",\"result\":{\"contents\":{\"value\":\"int a;\\nint b;\\n\"},\
+          \"range\":\
+          {\"start\":{\"line\":3,\"character\":1},\"end\":{\"line\":3,\"character\":2}}}}"
+            .as_slice()
+    );
+}
