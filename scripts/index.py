@@ -29,6 +29,7 @@ CRATES = [
     "cb_wire",
     "cb_index",
     "cb_desk",
+    "cb_lsp",
     "cb_session",
     "cb_words",
     "cbrowse",

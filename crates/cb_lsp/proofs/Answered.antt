@@ -1,0 +1,78 @@
+-- What is written leaves an outcome.
+use Rattle.std.proofs.Common.{◌≡◌, ◌∙◌, ℕ, Bool, false, List, ap, sym, subst}
+use Rattle.std.proofs.Common.{append-nil}
+use Rattle.std.specs.Prelude.{OnOk, Option, Result, Ok, Err}
+use Rattle.json.specs.Json.{Json}
+use Rattle.cb_tags.specs.Writers.{Writer}
+use Rattle.cb_tags.specs.Writing.{Puts, PutsAll}
+use Rattle.cb_tags.proofs.Prefixes.{PutsAll-none}
+use Rattle.cb_wire.specs.declared.units.Encoding.{Encoding}
+use Rattle.cb_wire.specs.Texts.{frame}
+use Rattle.cb_wire.specs.Trees.{result_reply}
+use Rattle.cb_wire.specs.Values.{value_text}
+use Rattle.cb_wire.specs.Welcome.{welcome}
+use Rattle.cb_lsp.specs.declared.server.Stage.TheVariants.{Running}
+use Rattle.cb_lsp.specs.Messages.{Outcome, Serving, client_of, encoding_for, initialized, replies}
+use Rattle.cb_lsp.specs.Messages.{stays, with_root}
+use Rattle.cb_lsp.specs.Params.{takes_trees}
+use Rattle.cb_lsp.specs.Bodies.{written_text}
+use Rattle.cb_lsp.specs.Bodies.{Does}
+
+-- what holds anyway holds on success
+pub on-ok : {A E P : Type 0} (r : Result A E) → P → OnOk r P
+on-ok (Ok a) p = p
+on-ok (Err e) p = tt
+
+-- one message is written
+pub does-one : {A E : Type 0} (s next : Serving) (j : Json) (old new : Writer) (r : Result A E)
+    → next ≡ s → Puts old new r (frame (value_text j)) → Does (replies s j) next old new r
+does-one s next j old new r stays put =
+    (on-ok r stays, subst (Puts old new r) (sym (append-nil (frame (value_text j)))) put)
+
+-- ---- a client that is initialized
+
+-- a server that is told what its client takes
+abbrev pub told_client : Encoding → Bool → Serving → Serving
+told_client encoding tree s = record s {
+  client = record { root = s.client.root; encoding = encoding; tree = tree };
+  stage = Running;
+}
+
+pub initialized-does : {A E : Type 0} (old next held : Serving) (params : Option Json) (id : Json)
+    (encoding : Encoding) (tree : Bool) (version : List ℕ) (before after : Writer)
+    (r : Result A E)
+    → held ≡ with_root old params → encoding ≡ encoding_for params → tree ≡ takes_trees params
+    → version ≡ held.version → next ≡ told_client encoding tree held
+    → Puts before after r (frame (value_text (result_reply id (welcome encoding version))))
+    → Does (initialized false old id params) next before after r
+initialized-does old next held params id encoding tree version before after r rooted counts forms
+    named is put =
+    let to : Serving = record old { client = client_of old params; stage = Running } in
+    let same : told_client encoding tree held ≡ to =
+    ap (told_client encoding tree) rooted
+    ∙ ap (λ e. told_client e tree (with_root old params)) counts
+    ∙ ap (λ t. told_client (encoding_for params) t (with_root old params)) forms in
+    let says = ap (λ e. welcome e version) counts
+    ∙ ap (λ v. welcome (encoding_for params) v) (named ∙ ap (λ (s : Serving). s.version) rooted) in
+    does-one to next (result_reply id (welcome (encoding_for params) old.version)) before after r
+    (is ∙ same) (subst (λ w. Puts before after r (frame (value_text (result_reply id w)))) says put)
+
+-- ---- outcomes that are the same
+
+-- one message is written, by an outcome that is known
+pub does-as : {A E : Type 0} (o : Outcome) (s next : Serving) (j : Json) (old new : Writer)
+    (r : Result A E) → replies s j ≡ o → next ≡ s → Puts old new r (frame (value_text j))
+    → Does o next old new r
+does-as o s next j old new r is stays put =
+    subst (λ (x : Outcome). Does x next old new r) is (does-one s next j old new r stays put)
+
+pub does-same : {A E : Type 0} (o known : Outcome) (next : Serving) (old new : Writer)
+    (r : Result A E) → known ≡ o → Does known next old new r → Does o next old new r
+does-same o known next old new r is does = subst (λ (x : Outcome). Does x next old new r) is does
+
+-- nothing is done
+pub does-nothing : (o : Outcome) (s next : Serving) (w : Writer) → stays s ≡ o → next ≡ s
+    → (next ≡ o.server) × PutsAll w w (written_text o.written)
+does-nothing o s next w is same =
+    subst (λ (x : Outcome). (next ≡ x.server) × PutsAll w w (written_text x.written)) is
+    (same, PutsAll-none w)

@@ -1,0 +1,164 @@
+-- What is answered to a question.
+use Rattle.std.proofs.Common.{◌≡◌, ◌∙◌, ℕ, Bool, true, false, List, map, ap, refl, sym, subst}
+use Rattle.std.specs.Prelude.{None, Some, Result, Ok, if◌then◌else◌}
+use Rattle.std.specs.Option.{option_map}
+use Rattle.json.specs.Json.{Json, array, null}
+use Rattle.cb_desk.specs.Scanned.{ScannedText, scanned_by, scanned_named}
+use Rattle.cb_desk.specs.World.{File, World, has_file, text_of_file}
+use Rattle.cb_scan.specs.Profiles.{facts_in}
+use Rattle.cb_scan.specs.declared.profile.Profile.{Profile}
+use Rattle.cb_tags.specs.Writers.{Writer}
+use Rattle.cb_tags.specs.Writing.{Puts}
+use Rattle.cb_wire.specs.Texts.{frame}
+use Rattle.cb_wire.specs.Trees.{result_reply}
+use Rattle.cb_wire.specs.Uris.{name_below, path_of}
+use Rattle.cb_wire.specs.Values.{items_of, value_text}
+use Rattle.cb_lsp.specs.Answers.{answer_in, answer_named, name_of_uri}
+use Rattle.cb_lsp.specs.Clients.{Client}
+use Rattle.cb_lsp.specs.Documents.{Work}
+use Rattle.cb_lsp.specs.Messages.{Serving, asked_reply}
+use Rattle.cb_lsp.specs.Questions.{Asked, in_file, workspace_symbols}
+use Rattle.cb_lsp.specs.Searches.{found_by}
+use Rattle.cb_lsp.specs.Symbols.{session_symbol}
+use Rattle.cb_lsp.specs.declared.question.FileQuestion.{FileQuestion}
+
+-- a file that is there, with its text and what is found in it
+abbrev pub IsThere : Profile → List File → List ℕ → ScannedText → Type 0
+IsThere p files name t =
+    (has_file files name ≡ true) × (t.bytes ≡ text_of_file files name)
+    × (t.facts ≡ facts_in p (text_of_file files name))
+
+there : (p : Profile) (files : List File) (name : List ℕ) (t : ScannedText)
+    → Some t ≡ scanned_named p files name → IsThere p files name t
+there p files name t h =
+    let text = text_of_file files name in
+    (elim (has_file files name) as
+    (λ b. Some t ≡ option_map (scanned_by p) (if b then Some text else None)
+    → (b ≡ true) × (t.bytes ≡ text) × (t.facts ≡ facts_in p text)) [
+      | true ↦ λ k.
+          let is : t ≡ scanned_by p text = cc in
+          (refl, ap (λ (x : ScannedText). x.bytes) is, ap (λ (x : ScannedText). x.facts) is)
+      | false ↦ λ k. cc
+    ]) h
+
+-- what is found in a file of a world that is this one
+pub facts-there : (here held world : World) (name : List ℕ) (t : ScannedText)
+    → Some t ≡ scanned_named here.profile here.files name → here ≡ world → held ≡ world
+    → t.facts ≡ facts_in held.profile t.bytes
+facts-there here held world name t found here-is held-is =
+    let is = there here.profile here.files name t found in
+    is.2 ∙ ap (facts_in here.profile) (sym is.1)
+    ∙ ap (λ (w : World). facts_in w.profile t.bytes) (here-is ∙ sym held-is)
+
+-- the file is there
+pub puts-there : {A E : Type 0} (s inside : Serving) (here held : World) (c : Client)
+    (name : List ℕ) (t : ScannedText) (question : FileQuestion) (id : Json)
+    (before after : Writer) (r : Result A E)
+    → inside ≡ s → Some t ≡ scanned_named here.profile here.files name
+    → here ≡ inside.work.world → held ≡ inside.work.world → c ≡ s.client
+    → Puts before after r
+    (frame (value_text (result_reply id (answer_in c held name t.bytes question))))
+    → Puts before after r (frame (value_text (result_reply id
+    (answer_named s.client s.work.world question (Some name)))))
+puts-there s inside here held c name t question id before after r is found here-is held-is c-is
+    put =
+    let file = there here.profile here.files name t found in
+    let named : (if true then answer_in inside.client inside.work.world name
+    (text_of_file inside.work.world.files name) question else null)
+    ≡ answer_named inside.client inside.work.world question (Some name) =
+    ap (λ b. if b then answer_in inside.client inside.work.world name
+    (text_of_file inside.work.world.files name) question else null)
+    (sym (ap (λ (w : World). has_file w.files name) (sym here-is) ∙ file.0)) in
+    let same : answer_in c held name t.bytes question
+    ≡ answer_named s.client s.work.world question (Some name) =
+    ap (λ k. answer_in k held name t.bytes question)
+    (c-is ∙ ap (λ (x : Serving). x.client) (sym is))
+    ∙ ap (λ w. answer_in inside.client w name t.bytes question) held-is
+    ∙ ap (λ b. answer_in inside.client inside.work.world name b question)
+    (file.1 ∙ ap (λ (w : World). text_of_file w.files name) here-is)
+    ∙ named
+    ∙ ap (λ (x : Serving). answer_named x.client x.work.world question (Some name)) is in
+    subst (λ j. Puts before after r (frame (value_text (result_reply id j)))) same put
+
+missing : (p : Profile) (files : List File) (name : List ℕ)
+    → None ≡ scanned_named p files name → has_file files name ≡ false
+missing p files name h =
+    (elim (has_file files name) as
+    (λ b. None ≡ option_map (scanned_by p) (if b then Some (text_of_file files name) else None)
+    → b ≡ false) [
+      | true ↦ λ k. cc
+      | false ↦ λ k. refl
+    ]) h
+
+-- there is no such file
+pub puts-missing : {A E : Type 0} (s inside : Serving) (here : World) (name : List ℕ)
+    (question : FileQuestion) (id : Json) (before after : Writer) (r : Result A E)
+    → inside ≡ s → None ≡ scanned_named here.profile here.files name → here ≡ inside.work.world
+    → Puts before after r (frame (value_text (result_reply id null)))
+    → Puts before after r (frame (value_text (result_reply id
+    (answer_named s.client s.work.world question (Some name)))))
+puts-missing s inside here name question id before after r is found here-is put =
+    let none = ap (λ (w : World). has_file w.files name) (sym (here-is
+    ∙ ap (λ (x : Serving). x.work.world) is)) ∙ missing here.profile here.files name found in
+    let same : null ≡ answer_named s.client s.work.world question (Some name) =
+    ap (λ b. if b then answer_in s.client s.work.world name
+    (text_of_file s.work.world.files name) question else null) (sym none) in
+    subst (λ j. Puts before after r (frame (value_text (result_reply id j)))) same put
+
+-- ---- the file of a URI
+
+pub puts-named : {A E : Type 0} (s : Serving) (uri path name : List ℕ)
+    (question : FileQuestion) (id : Json) (before after : Writer) (r : Result A E)
+    → Some path ≡ path_of uri → name ≡ name_below s.client.root.path path
+    → Puts before after r (frame (value_text (result_reply id
+    (answer_named s.client s.work.world question (Some name)))))
+    → Puts before after r
+    (frame (value_text (asked_reply false s id (Ok (in_file uri question)))))
+puts-named s uri path name question id before after r found is put =
+    let same : Some name ≡ name_of_uri s.client uri =
+    ap Some is ∙ ap (option_map (name_below s.client.root.path)) found in
+    subst (λ n. Puts before after r
+    (frame (value_text (result_reply id (answer_named s.client s.work.world question n))))) same put
+
+pub puts-nowhere : {A E : Type 0} (s : Serving) (uri : List ℕ) (question : FileQuestion)
+    (id : Json) (before after : Writer) (r : Result A E) → None ≡ path_of uri
+    → Puts before after r (frame (value_text (result_reply id null)))
+    → Puts before after r
+    (frame (value_text (asked_reply false s id (Ok (in_file uri question)))))
+puts-nowhere s uri question id before after r none put =
+    let same : None ≡ name_of_uri s.client uri =
+    ap (option_map (name_below s.client.root.path)) none in
+    subst (λ n. Puts before after r
+    (frame (value_text (result_reply id (answer_named s.client s.work.world question n))))) same put
+
+-- ---- a server whose files and documents are the same
+
+pub puts-asked : {A E : Type 0} (s inside : Serving) (work : Work) (no_memory : Bool)
+    (asked to : Asked) (id : Json) (before after : Writer) (r : Result A E)
+    → inside ≡ s → work ≡ inside.work → asked ≡ to
+    → Puts before after r
+    (frame (value_text (asked_reply no_memory (record inside { work = work }) id (Ok asked))))
+    → Puts before after r (frame (value_text (asked_reply no_memory s id (Ok to))))
+puts-asked s inside work no_memory asked to id before after r is work-is asks put =
+    let same : record inside { work = work } ≡ s =
+    ap (λ w. record inside { work = w }) work-is ∙ is in
+    subst (λ a. Puts before after r (frame (value_text (asked_reply no_memory s id (Ok a))))) asks
+    (subst (λ (x : Serving). Puts before after r
+    (frame (value_text (asked_reply no_memory x id (Ok asked))))) same put)
+
+pub puts-symbols : {A E : Type 0} (s inside : Serving) (work : Work) (world : World) (c : Client)
+    (query text : List ℕ) (to : Asked) (id : Json) (before after : Writer) (r : Result A E)
+    → inside ≡ s → work ≡ inside.work → workspace_symbols query ≡ to
+    → world ≡ work.world → c ≡ inside.client → text ≡ query
+    → Puts before after r (frame (value_text (result_reply id
+    (array (items_of (map (session_symbol c world.files) (found_by world text)))))))
+    → Puts before after r (frame (value_text (asked_reply false s id (Ok to))))
+puts-symbols s inside work world c query text to id before after r is work-is asks world-is c-is
+    text-is put =
+    let told : Client → World → List ℕ → Json =
+    λ k w q. array (items_of (map (session_symbol k w.files) (found_by w q))) in
+    let same : told c world text ≡ told inside.client work.world query =
+    ap (λ k. told k world text) c-is ∙ ap (λ w. told inside.client w text) world-is
+    ∙ ap (told inside.client work.world) text-is in
+    puts-asked s inside work false (workspace_symbols query) to id before after r is work-is asks
+    (subst (λ j. Puts before after r (frame (value_text (result_reply id j)))) same put)

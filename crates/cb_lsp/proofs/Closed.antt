@@ -1,0 +1,193 @@
+-- What is told of documents that are changed and closed.
+use Rattle.std.proofs.Common.{◌≡◌, ◌∙◌, sym, ap, refl, subst, ℕ}
+use Rattle.std.proofs.Common.{Bool, true, false, cond, List, [], ◌∷◌}
+use Rattle.std.proofs.Common.{Option, None, Some, Ok, Err, codes}
+use Rattle.std.specs.Option.{option_map}
+use Rattle.cb_desk.specs.declared.refusal.Refusal.{Refusal}
+use Rattle.cb_desk.specs.Refusals.{text_of}
+use Rattle.cb_desk.specs.World.{File, text_of_file}
+use Rattle.cb_lsp.specs.Documents.{Document, Work, after_close, changed, closed}
+use Rattle.cb_lsp.specs.Documents.{closed_to, document_of, if_open, is_open, kept_from, lost}
+use Rattle.cb_lsp.specs.Documents.{nothing, present, taken, text, text_step, told_unless, was_lost}
+use Rattle.cb_lsp.specs.Documents.{with_document, without_document}
+use Rattle.cb_lsp.specs.steps.Noted.{is_present, kept_text, noted, text_again, with_any, with_noted}
+use Rattle.cb_lsp.specs.steps.Works.{kept_before}
+use Rattle.cb_lsp.proofs.DocumentPlaces.{kept-all, same-document}
+use Rattle.cb_lsp.proofs.Opened.{closed-document, document, open-document, told_of}
+
+-- ---- a document that is changed
+
+pub change-unopened : (inner w : Work) (name : List ℕ) (last : Option (Option (List ℕ)))
+    → inner ≡ w → is_open inner.documents name ≡ false
+    → (ms : List Bool) × (told_of w.world w.documents None ≡ changed ms w name last)
+change-unopened inner w name last is no_document =
+    let none : is_open w.documents name ≡ false =
+    ap (λ (x : Work). is_open x.documents name) (sym is) ∙ no_document in
+    ([], rw (closed-document name w.documents none) refl)
+
+-- a document that is lost, and what is told then
+lost-told : (w u : Work) (name said : List ℕ) (told : Option (List ℕ)) (d : Document)
+    → document_of w.documents name ≡ Some d → u.world ≡ w.world
+    → u.documents ≡ with_noted None true name w.documents
+    → told ≡ told_unless (was_lost (document_of w.documents name)) said
+    → told_of u.world u.documents told ≡ lost w d said
+lost-told w u name said told d is world documents tells =
+    let put : u.documents ≡ with_document (noted None true d) w.documents =
+    documents ∙ ap (λ o. with_any (option_map (noted None true) o) w.documents) is in
+    let says : told ≡ told_unless d.lost said =
+    tells ∙ ap (λ o. told_unless (was_lost o) said) is in
+    rw (world, put, says) refl
+
+pub change-unread : (w u : Work) (name said : List ℕ) (told : Option (List ℕ))
+    → is_open w.documents name ≡ true → u.world ≡ w.world
+    → u.documents ≡ with_noted None true name w.documents
+    → told ≡ told_unless (was_lost (document_of w.documents name)) said
+    → said ≡ codes "bad parameters"
+    → (ms : List Bool) × (told_of u.world u.documents told ≡ changed ms w name None)
+change-unread w u name said told opens world documents tells says =
+    let (d, is) = open-document name w.documents opens in
+    let same = lost-told w u name said told d is world documents tells in
+    ([], rw is (same ∙ ap (lost w d) says))
+
+pub change-refused : (m : Bool) (w v u : Work) (name bytes said : List ℕ) (why : Refusal)
+    (told : Option (List ℕ)) → is_open w.documents name ≡ true
+    → (taken m w.world (text_step w.world.files name bytes) ≡ Err why) × (v ≡ w)
+    → u.world ≡ v.world → u.documents ≡ with_noted None true name v.documents
+    → told ≡ told_unless (was_lost (document_of v.documents name)) said → said ≡ text_of why
+    → (ms : List Bool)
+    × (told_of u.world u.documents told ≡ changed ms w name (Some (Some bytes)))
+change-refused m w v u name bytes said why told opens done world documents tells says =
+    let (d, is) = open-document name w.documents opens in
+    let world-is : u.world ≡ w.world = world ∙ ap (λ (x : Work). x.world) done.1 in
+    let documents-are : u.documents ≡ with_noted None true name w.documents =
+    documents ∙ ap (λ (x : Work). with_noted None true name x.documents) done.1 in
+    let tells-are : told ≡ told_unless (was_lost (document_of w.documents name)) said =
+    tells ∙ ap (λ (x : Work). told_unless (was_lost (document_of x.documents name)) said) done.1
+    in
+    let same = lost-told w u name said told d is world-is documents-are tells-are in
+    (m ∷ [], rw (is, same-document name w.documents d is, done.0) (same ∙ ap (lost w d) says))
+
+-- what is kept when a file is given another text
+kept-noted : (files : List File) (d : Document)
+    → noted (kept_before files d.name (Some d)) false d
+    ≡ document d.name (kept_from (text_of_file files d.name) d.kept) false
+kept-noted files d =
+    elim d.kept as
+    (λ k. noted (cond (is_present k) (Some (text (text_of_file files d.name))) None) false
+    (document d.name k d.lost) ≡ document d.name (kept_from (text_of_file files d.name) k) false) [
+      | nothing ↦ refl
+      | present ↦ refl
+      | text bytes ↦ refl
+    ]
+
+change-at : (m : Bool) (w v : Work) (d : Document) (bytes : List ℕ)
+    → document_of w.documents d.name ≡ Some d
+    → (taken m w.world (text_step w.world.files d.name bytes) ≡ Ok v.world)
+    × (v.documents ≡ with_noted (kept_before w.world.files d.name (document_of w.documents d.name))
+    false d.name w.documents)
+    → told_of v.world v.documents None ≡ changed (m ∷ []) w d.name (Some (Some bytes))
+change-at m w v d bytes is done =
+    let put : v.documents ≡ with_document (document d.name (kept_from (text_of_file w.world.files
+    d.name) d.kept) false) w.documents =
+    done.1
+    ∙ ap (λ o. with_any (option_map (noted (kept_before w.world.files d.name o) false) o)
+    w.documents) is
+    ∙ ap (λ e. with_document e w.documents) (kept-noted w.world.files d) in
+    rw (is, done.0, put) refl
+
+pub change-done : (m : Bool) (w v : Work) (name bytes : List ℕ)
+    → is_open w.documents name ≡ true
+    → (taken m w.world (text_step w.world.files name bytes) ≡ Ok v.world)
+    × (v.documents ≡ with_noted (kept_before w.world.files name (document_of w.documents name))
+    false name w.documents)
+    → (ms : List Bool)
+    × (told_of v.world v.documents None ≡ changed ms w name (Some (Some bytes)))
+change-done m w v name bytes opens done =
+    let (d, is) = open-document name w.documents opens in (
+      m ∷ [],
+      subst (λ n. document_of w.documents n ≡ Some d
+          → (taken m w.world (text_step w.world.files n bytes) ≡ Ok v.world)
+          × (v.documents ≡ with_noted (kept_before w.world.files n (document_of w.documents n))
+          false n w.documents)
+          → told_of v.world v.documents None ≡ changed (m ∷ []) w n (Some (Some bytes)))
+          (same-document name w.documents d is) (change-at m w v d bytes) is done,
+    )
+
+-- ---- a document that is closed
+
+pub close-nothing : (inner w : Work) (name : List ℕ) (ds : List Document) → inner ≡ w
+    → ds ≡ without_document name inner.documents
+    → None ≡ text_again (document_of inner.documents name)
+    → (ms : List Bool) × (told_of inner.world ds None ≡ closed ms w name)
+close-nothing inner w name ds is gone none = (
+  [],
+  subst
+      (λ x. told_of inner.world ds None ≡ closed [] x name) is (rw gone (
+      (elim (document_of inner.documents name) as
+      (λ o. document_of inner.documents name ≡ o → None ≡ text_again o
+      → told_of inner.world (without_document name inner.documents) None
+      ≡ if_open (λ d. closed_to false inner name d.kept) inner o) [
+        | None ↦ λ e k. ap (λ xs. told_of inner.world xs None) (kept-all name inner.documents e)
+        | Some d ↦ λ e k.
+            (elim d.kept as (λ q. None ≡ kept_text q
+            → told_of inner.world (without_document name inner.documents) None
+            ≡ closed_to false inner name q) [
+              | nothing ↦ λ h. refl
+              | present ↦ λ h. refl
+              | text bytes ↦ λ h. cc
+            ]) k
+      ]) refl none)),
+)
+
+-- the file is given the text that was kept
+text-kept : (m : Bool) (w : Work) (name bytes : List ℕ) (o : Option Document)
+    → Some bytes ≡ text_again o
+    → if_open (λ d. closed_to m w name d.kept) w o
+    ≡ after_close w name (taken m w.world (text_step w.world.files name bytes))
+text-kept m w name bytes None h = cc
+text-kept m w name bytes (Some d) h =
+    (elim d.kept as (λ q. Some bytes ≡ kept_text q
+    → closed_to m w name q
+    ≡ after_close w name (taken m w.world (text_step w.world.files name bytes))) [
+      | nothing ↦ λ k. cc
+      | present ↦ λ k. cc
+      | text other ↦ λ k.
+          let same : other ≡ bytes = cc in
+          ap (λ x. after_close w name (taken m w.world (text_step w.world.files name x))) same
+    ]) h
+
+pub close-done : (m : Bool) (inner w v : Work) (name bytes : List ℕ) (ds : List Document)
+    → inner ≡ w → ds ≡ without_document name inner.documents
+    → Some bytes ≡ text_again (document_of inner.documents name)
+    → (taken m inner.world (text_step inner.world.files name bytes) ≡ Ok v.world)
+    × (v.documents ≡ ds)
+    → (ms : List Bool) × (told_of v.world v.documents None ≡ closed ms w name)
+close-done m inner w v name bytes ds is gone keeps done = (
+  m ∷ [],
+  subst (λ x. told_of v.world v.documents None ≡ closed (m ∷ []) x name) is
+      (rw (
+        text-kept m inner name bytes (document_of inner.documents name) keeps,
+        done.0,
+        done.1 ∙ gone,
+      ) refl),
+)
+
+pub close-refused : (m : Bool) (inner w v : Work) (name bytes said : List ℕ)
+    (ds : List Document) (why : Refusal) → inner ≡ w
+    → ds ≡ without_document name inner.documents
+    → Some bytes ≡ text_again (document_of inner.documents name)
+    → (taken m inner.world (text_step inner.world.files name bytes) ≡ Err why)
+    × (v ≡ record { world = inner.world; documents = ds })
+    → said ≡ text_of why
+    → (ms : List Bool) × (told_of v.world v.documents (Some said) ≡ closed ms w name)
+close-refused m inner w v name bytes said ds why is gone keeps done says = (
+  m ∷ [],
+  subst (λ x. told_of v.world v.documents (Some said) ≡ closed (m ∷ []) x name) is
+      (rw (
+        text-kept m inner name bytes (document_of inner.documents name) keeps,
+        done.0,
+        done.1,
+        gone,
+        says,
+      ) refl),
+)

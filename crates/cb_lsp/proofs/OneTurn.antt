@@ -1,0 +1,150 @@
+-- What one turn leaves.
+use Rattle.std.proofs.Common.{◌≡◌, ℕ, Bool, true, false, List, [], Option, Some, None, Result}
+use Rattle.std.proofs.Common.{Ok, Err, refl, sym, ap, ◌∙◌, subst, inr, append-nil}
+use Rattle.std.specs.Prelude.{codes}
+use Rattle.std.specs.Io.KnownBytes.{Appends, Keeps}
+use Rattle.std.proofs.KnownBytes.{Appends-nil}
+use Rattle.std.proofs.lemmas.Slice.Eq.{bytes_eq-Decides}
+use Rattle.json.specs.Json.{Json}
+use Rattle.cb_tags.specs.declared.sink.WriteFault.{WriteFault}
+use Rattle.cb_tags.specs.Readers.{Reader}
+use Rattle.cb_tags.specs.Writers.{Writer}
+use Rattle.cb_tags.specs.Writing.{AppendsPrefix, Puts, PutsAll}
+use Rattle.cb_wire.specs.declared.frame.FrameError.{FrameError}
+use Rattle.cb_wire.specs.declared.frame.FrameError.TheVariants.{BadHeader, InputEnded, Read}
+use Rattle.cb_wire.specs.Frames.{First, ReadsFrame, body, too_large as too_long}
+use Rattle.cb_lsp.specs.declared.server.Stage.{Stage}
+use Rattle.cb_lsp.specs.declared.server.Stage.TheVariants.{Fresh, Running, Down}
+use Rattle.cb_lsp.specs.declared.turn.Ending.{Ending}
+use Rattle.cb_lsp.specs.Messages.{Message, Outcome, Serving, does, is_exit, not_json, not_request}
+use Rattle.cb_lsp.specs.Messages.{notification, noticed_by, reply, request, stays, too_large}
+use Rattle.cb_lsp.specs.Bodies.{IsMessage, IsOf, Takes, Turn, is_last, outcome, refused}
+use Rattle.cb_lsp.specs.Bodies.{reply_text, taken, written_text}
+use Rattle.cb_lsp.specs.Endings.{IsClosed, IsEnd, IsNext, LeavesTurn, ending_at}
+use Rattle.cb_lsp.specs.steps.Turns.{GoesOn, ending_of, going_on}
+
+-- ---- the last message
+
+exit-at : (stage : Stage) (refusals : List Bool) (s : Serving) (params : Option Json)
+    → noticed_by stage refusals s (codes "exit") params ≡ stays s
+exit-at Fresh refusals s params = refl
+exit-at Running refusals s params = refl
+exit-at Down refusals s params = refl
+
+exit-stays : (refusals : List Bool) (s : Serving) (m : Message) → is_exit m ≡ true
+    → does refusals s m ≡ stays s
+unfolding does
+exit-stays refusals s (notification method params) e =
+    let is : method ≡ codes "exit" = (bytes_eq-Decides method (codes "exit")).0 e in
+    subst (λ name. noticed_by s.stage refusals s name params ≡ stays s) (sym is)
+    (exit-at s.stage refusals s params)
+exit-stays refusals s not_json e = cc
+exit-stays refusals s not_request e = cc
+exit-stays refusals s reply e = cc
+exit-stays refusals s too_large e = cc
+exit-stays refusals s (request id method params) e = cc
+
+last-stays : (t : Turn) (s : Serving) → is_last t ≡ true → outcome s t ≡ stays s
+last-stays (taken m refusals) s e = exit-stays refusals s m e
+last-stays refused s e = cc
+
+-- the ending by the client
+pub is-end : (f : First) (s : Serving) (left : Reader) (stage : Stage) → s.stage ≡ stage
+    → IsClosed f left → IsEnd f s left (ending_at stage)
+is-end f s left Fresh e closed = (sym (ap ending_at e), closed)
+is-end f s left Running e closed = (sym (ap ending_at e), closed)
+is-end f s left Down e closed = (sym (ap ending_at e), closed)
+
+-- ---- behind a message
+
+Appends-kept : (a b c : Option (List ℕ)) (bytes : List ℕ) → Appends a b bytes → Keeps b c
+    → Appends a c bytes
+Appends-kept None b c bytes p q = tt
+Appends-kept (Some x) None c bytes p q = absurd p
+Appends-kept (Some x) (Some y) None bytes p q = absurd q
+Appends-kept (Some x) (Some y) (Some z) bytes p q = cc
+
+closes : (f : First) (s mid : Serving) (left : Reader) (t : Turn) (rest : List ℕ)
+    (old between : Writer) → IsNext f t rest → left.bytes ≡ Some rest → is_last t ≡ true
+    → mid ≡ (outcome s t).server → PutsAll old between (written_text (outcome s t).written)
+    → LeavesTurn f s mid left old between (Ok (Some (ending_at mid.stage)))
+closes f s mid left t rest old between next is last moved put =
+    let out = last-stays t s last in
+    let same : mid ≡ s = moved ∙ ap (λ (o : Outcome). o.server) out in
+    let none : PutsAll old between [] =
+    subst (PutsAll old between) (ap (λ (o : Outcome). written_text o.written) out) put in (
+      is-end f s left mid.stage (ap (λ (x : Serving). x.stage) (sym same))
+          (inr (t, rest, next, last, is)),
+      same,
+      none.2,
+      none.3 refl,
+    )
+
+pub turn-left : (f : First) (s mid : Serving) (left : Reader) (t : Turn) (rest : List ℕ)
+    (old between new : Writer) (r : Result Bool WriteFault)
+    (result : Result (Option Ending) WriteFault) → IsNext f t rest → left.bytes ≡ Some rest
+    → Takes t s mid old between r → GoesOn mid.stage r between new result
+    → LeavesTurn f s mid left old new result
+turn-left f s mid left t rest old between new (Ok true) result next is takes goes =
+    let all = closes f s mid left t rest old between next is (sym takes.1) takes.0.0 takes.0.1 in
+    subst (λ w. LeavesTurn f s mid left old w result) (sym goes.1)
+    (subst (LeavesTurn f s mid left old between) (sym goes.0) all)
+turn-left f s mid left t rest old between new (Ok false) (Ok None) next is takes goes = (
+  t,
+  rest,
+  next,
+  sym takes.1,
+  is,
+  takes.0.0,
+  Appends-kept old.bytes between.bytes new.bytes (reply_text s t) takes.0.1.2 goes.0,
+  goes.1,
+)
+turn-left f s mid left t rest old between new (Ok false) (Ok (Some how)) next is takes goes =
+    absurd goes
+turn-left f s mid left t rest old between new (Ok false) (Err e) next is takes goes =
+    let part : AppendsPrefix old.bytes new.bytes (reply_text s t) = (
+      reply_text s t,
+      [],
+      sym (append-nil (reply_text s t)),
+      Appends-kept old.bytes between.bytes new.bytes (reply_text s t) takes.0.1.2 goes.1,
+    ) in
+    (goes.0, (t, rest, next, part))
+turn-left f s mid left t rest old between new (Err fault) result next is takes goes =
+    subst (λ w. LeavesTurn f s mid left old w result) (sym goes.1)
+    (subst (LeavesTurn f s mid left old between) (sym goes.0)
+    (takes.0.1.0, (t, rest, next, takes.0.1.2)))
+
+-- ---- by what was read
+
+pub body-next : (f : First) (left : Reader) (text : List ℕ) (t : Turn) (rest : List ℕ)
+    → f ≡ body text rest → IsOf (IsMessage text) t → IsNext f t rest
+body-next f left text (taken m refusals) rest e is =
+    subst (λ f. IsNext f (taken m refusals) rest) (sym e) (is, refl)
+body-next f left text refused rest e is = subst (λ f. IsNext f refused rest) (sym e) refl
+
+pub large-next : (f : First) (rest : List ℕ) → f ≡ too_long rest
+    → IsNext f (taken too_large []) rest
+large-next f rest e = subst (λ f. IsNext f (taken too_large []) rest) (sym e) (refl, refl)
+
+pub refused-next : (f : First) (text rest : List ℕ) → f ≡ body text rest → IsNext f refused rest
+refused-next f text rest e = subst (λ f. IsNext f refused rest) (sym e) refl
+
+-- what could not be read
+pub is-unread : (f : First) (s : Serving) (left : Reader) (e : FrameError)
+    → ReadsFrame f left (Err e) → IsEnd f s left (ending_of e)
+is-unread f s left BadHeader r = r
+is-unread f s left InputEnded r = r
+is-unread f s left Read r = r
+
+-- what was written is all that a turn does
+pub told : (t : Turn) (s : Serving) (old new : Writer) (r : Result (Unit {0}) WriteFault)
+    → is_last t ≡ false → s ≡ (outcome s t).server
+    → Puts old new r (written_text (outcome s t).written) → Takes t s s old new (going_on r)
+told t s old new (Ok u) is same put = ((same, put), sym is)
+told t s old new (Err e) is same put = ((tt, put), tt)
+
+-- a run ends with nothing done
+pub ends-so : (f : First) (s : Serving) (left : Reader) (out : Writer) (how stated : Ending)
+    → how ≡ stated → IsEnd f s left stated → LeavesTurn f s s left out out (Ok (Some how))
+ends-so f s left out how stated e is =
+    (subst (IsEnd f s left) (sym e) is, refl, Appends-nil out.bytes, refl)

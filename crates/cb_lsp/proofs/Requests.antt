@@ -1,0 +1,50 @@
+-- What requests lead to.
+use Rattle.std.proofs.Common.{◌≡◌, ℕ, Bool, true, false, List}
+use Rattle.std.specs.Prelude.{codes, Option, Ok, Err}
+use Rattle.std.specs.Str.{bytes_eq}
+use Rattle.json.specs.Json.{Json, null}
+use Rattle.cb_wire.specs.declared.reply.ErrorCode.TheVariants.{InvalidRequest}
+use Rattle.cb_wire.specs.declared.reply.ErrorCode.TheVariants.{ServerNotInitialized}
+use Rattle.cb_wire.specs.Trees.{error_reply, result_reply}
+use Rattle.cb_lsp.specs.declared.question.Unasked.{Unasked}
+use Rattle.cb_lsp.specs.declared.server.Stage.{Stage}
+use Rattle.cb_lsp.specs.declared.server.Stage.TheVariants.{Fresh, Down}
+use Rattle.cb_lsp.specs.Messages.{Serving, asked_reply, replies, requested, running, unasked_reply}
+use Rattle.cb_lsp.specs.Questions.{Asked, asked_by}
+
+pub running-again : (m : Bool) (s : Serving) (id : Json) (method : List ℕ) (params : Option Json)
+    → bytes_eq method (codes "initialize") ≡ true
+    → replies s (error_reply id InvalidRequest (codes "initialized already"))
+    ≡ running m s id method params
+running-again m s id method params again = rw again
+
+pub running-down : (m : Bool) (s : Serving) (id : Json) (method : List ℕ) (params : Option Json)
+    → bytes_eq method (codes "initialize") ≡ false → bytes_eq method (codes "shutdown") ≡ true
+    → replies (record s { stage = Down }) (result_reply id null) ≡ running m s id method params
+running-down m s id method params other down = rw (other, down)
+
+pub running-unasked : (m : Bool) (s : Serving) (id : Json) (method : List ℕ)
+    (params : Option Json) (why : Unasked)
+    → bytes_eq method (codes "initialize") ≡ false → bytes_eq method (codes "shutdown") ≡ false
+    → Err why ≡ asked_by method params
+    → replies s (unasked_reply id why) ≡ running m s id method params
+running-unasked m s id method params why other up unasked = rw (other, up, ← unasked)
+
+pub running-asked : (m : Bool) (s : Serving) (id : Json) (method : List ℕ)
+    (params : Option Json) (asked : Asked)
+    → bytes_eq method (codes "initialize") ≡ false → bytes_eq method (codes "shutdown") ≡ false
+    → Ok asked ≡ asked_by method params
+    → replies s (asked_reply m s id (Ok asked)) ≡ running m s id method params
+running-asked m s id method params asked other up is = rw (other, up, ← is)
+
+pub requested-early : (stage : Stage) (m : Bool) (s : Serving) (id : Json) (method : List ℕ)
+    (params : Option Json) → stage ≡ Fresh → bytes_eq method (codes "initialize") ≡ false
+    → replies s (error_reply id ServerNotInitialized (codes "not initialized"))
+    ≡ requested stage m s id method params
+requested-early stage m s id method params fresh other = rw (fresh, other)
+
+pub requested-late : (stage : Stage) (m : Bool) (s : Serving) (id : Json) (method : List ℕ)
+    (params : Option Json) → stage ≡ Down
+    → replies s (error_reply id InvalidRequest (codes "shut down"))
+    ≡ requested stage m s id method params
+requested-late stage m s id method params down = rw down

@@ -1,0 +1,63 @@
+use Rattle.std.proofs.Common.{subst, ap, sym, ◌∙◌, map}
+use Rattle.cb_tags.specs.Writing.{Puts}
+use Rattle.cb_wire.specs.Messages.{id_json}
+use Rattle.cb_wire.specs.Positions.{place}
+use Rattle.cb_wire.specs.Texts.{frame}
+use Rattle.cb_wire.specs.Trees.{result_reply}
+use Rattle.cb_wire.specs.Values.{value_text}
+use Rattle.cb_lsp.specs.Answers.{answer_in, definition_at, hover_at, list_of}
+use Rattle.cb_lsp.specs.Headers.{header_at}
+use Rattle.cb_lsp.specs.Symbols.{file_symbol}
+use Rattle.cb_lsp.specs.Words.{word_at}
+use Rattle.cb_lsp.specs.steps.Elements.{client_in}
+use Rattle.cb_lsp.proofs.answers.FileAsked.put_answer.Goals as goal
+
+pub returns-in-Symbols : goal.returns-in-Symbols
+returns-in-Symbols g c =
+    let f = c.args.self.now in
+    let cl = client_in f.forms in
+    subst (λ q. Puts c.args.out.now c.put_symbols.new.out c.put_symbols.result
+    (frame (value_text (result_reply (id_json c.args.id)
+    (answer_in cl f.desk.now.timeline.present f.name.now f.source.now q)))))
+    (sym c.in-Symbols.is)
+    (subst (λ fs. Puts c.args.out.now c.put_symbols.new.out c.put_symbols.result
+    (frame (value_text (result_reply (id_json c.args.id)
+    (list_of (map (file_symbol cl f.name.now f.source.now) fs.defs))))))
+    c.requires c.put_symbols.ensures)
+
+pub returns-in-Definition : goal.returns-in-Definition
+returns-in-Definition g c =
+    let f = c.args.self.now in
+    let w = f.desk.now.timeline.present in
+    let cl = client_in f.forms in
+    let at = c.place_of_position.ensures.value
+    ∙ ap (λ t. place f.forms.encoding t c.in-Definition.position) c.bytes-text.ensures.value in
+    subst (λ q. Puts c.args.out.now c.put_definition.new.out c.put_definition.result
+    (frame (value_text (result_reply (id_json c.args.id)
+    (answer_in cl w f.name.now f.source.now q)))))
+    (sym c.in-Definition.is)
+    (subst (λ fs. Puts c.args.out.now c.put_definition.new.out c.put_definition.result
+    (frame (value_text (result_reply (id_json c.args.id)
+    (let p = place f.forms.encoding f.source.now c.in-Definition.position in
+    definition_at cl w f.name.now f.source.now p (header_at fs.includes p))))))
+    c.requires
+    (subst (λ p. Puts c.args.out.now c.put_definition.new.out c.put_definition.result
+    (frame (value_text (result_reply (id_json c.args.id)
+    (definition_at cl w f.name.now f.source.now p (header_at f.facts.now.includes p))))))
+    at c.put_definition.ensures))
+
+pub returns-in-Hover : goal.returns-in-Hover
+returns-in-Hover g c =
+    let f = c.args.self.now in
+    let w = f.desk.now.timeline.present in
+    let cl = client_in f.forms in
+    let at = c.place_of_position-place.ensures.value
+    ∙ ap (λ t. place f.forms.encoding t c.in-Hover.position) c.bytes-text.ensures.value in
+    subst (λ q. Puts c.args.out.now c.put_hover.new.out c.put_hover.result
+    (frame (value_text (result_reply (id_json c.args.id)
+    (answer_in cl w f.name.now f.source.now q)))))
+    (sym c.in-Hover.is)
+    (subst (λ o. Puts c.args.out.now c.put_hover.new.out c.put_hover.result
+    (frame (value_text (result_reply (id_json c.args.id)
+    (hover_at cl w f.name.now f.source.now o)))))
+    (c.word_at.ensures ∙ ap (word_at f.source.now) at) c.put_hover.ensures)

@@ -1,0 +1,26 @@
+use Rattle.std.proofs.Common.{subst, ap, ap₂, ◌∙◌, List, ◌++◌, map, take, filter}
+use Rattle.json.specs.Json.{array}
+use Rattle.cb_tags.specs.Writing.{Puts}
+use Rattle.cb_wire.specs.Messages.{id_json}
+use Rattle.cb_wire.specs.Texts.{frame}
+use Rattle.cb_wire.specs.Trees.{result_reply}
+use Rattle.cb_wire.specs.Values.{items_of, value_text}
+use Rattle.cb_tags.specs.TagLines.{Tag}
+use Rattle.cb_lsp.specs.Searches.{is_like}
+use Rattle.cb_lsp.specs.Symbols.{session_symbol}
+use Rattle.cb_lsp.specs.declared.symbols.TheConstants.{MOST_SYMBOLS}
+use Rattle.cb_lsp.specs.steps.Elements.{client_in}
+use Rattle.cb_lsp.proofs.Listed.{map-map, take-map}
+use Rattle.cb_lsp.proofs.answers.put_session_symbols.Goals as goal
+
+pub returns : goal.returns
+returns g c =
+    let symbol = session_symbol (client_in c.args.forms) c.args.desk.now.timeline.present.files in
+    let found = c.definitions.result ++ filter (is_like c.args.query.now) c.tag_rows.result in
+    subst (λ js. Puts c.args.out.now c.put_first.new.out c.put_first.result
+    (frame (value_text (result_reply (id_json c.args.id) (array (items_of js))))))
+    (take-map symbol MOST_SYMBOLS found
+    ∙ ap (λ ts. map symbol (take MOST_SYMBOLS ts))
+    (ap₂ (λ (a b : List Tag). a ++ filter (is_like c.args.query.now) b) c.definitions.ensures
+    c.tag_rows.ensures))
+    (c.put_first.ensures (map symbol found) (map-map value_text symbol found))

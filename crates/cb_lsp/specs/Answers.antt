@@ -1,0 +1,84 @@
+-- The answers to questions, as values of JSON.
+use Rattle.std.specs.Prelude.{ℕ, List, [], ◌∷◌, map, Option, None, Some, take, option_map}
+use Rattle.std.specs.Prelude.{if◌then◌else◌}
+use Rattle.json.specs.Json.{Json, array, null}
+use Rattle.cb_desk.specs.World.{World, has_file, text_of_file}
+use Rattle.cb_index.specs.Rows.{tags_named}
+use Rattle.cb_scan.specs.declared.lex.piece.Span.{Span}
+use Rattle.cb_scan.specs.lex.Tokens.{bytes_of}
+use Rattle.cb_scan.specs.Profiles.{facts_in}
+use Rattle.cb_tags.specs.TagLines.{Tag}
+use Rattle.cb_wire.specs.Positions.{place}
+use Rattle.cb_wire.specs.Uris.{name_below, path_of}
+use Rattle.cb_wire.specs.Values.{items_of}
+use Rattle.cb_wire.specs.declared.list.TheConstants.{MOST_ELEMENTS}
+use Rattle.cb_lsp.specs.Clients.{Client}
+use Rattle.cb_lsp.specs.Headers.{header_at, header_files}
+use Rattle.cb_lsp.specs.Hovers.{hover_of, hover_texts}
+use Rattle.cb_lsp.specs.Meaning.{meaning}
+use Rattle.cb_lsp.specs.Places.{range_of}
+use Rattle.cb_lsp.specs.Questions.{Asked, in_file, workspace_symbols}
+use Rattle.cb_lsp.specs.declared.question.FileQuestion.{FileQuestion}
+use Rattle.cb_lsp.specs.declared.question.FileQuestion.TheVariants.{Symbols, Definition, Hover}
+use Rattle.cb_lsp.specs.Searches.{found_by}
+use Rattle.cb_lsp.specs.Symbols.{file_place, file_symbol, place_of, session_symbol}
+use Rattle.cb_lsp.specs.Words.{word_at}
+
+-- a list: the first 2^48 elements, which no memory holds
+abbrev pub list_of : List Json → Json
+list_of js = array (items_of (take MOST_ELEMENTS js))
+
+-- ---- at a place of a file
+
+-- what a word of a file means
+abbrev pub word_meaning : World → (name text : List ℕ) → Span → List Tag
+word_meaning w name text word = meaning (tags_named w.profile (bytes_of text word) w.files) name
+
+abbrev pub places_of_word : Client → World → (name text : List ℕ) → Option Span → Json
+places_of_word c w name text None = list_of []
+places_of_word c w name text (Some word) =
+    list_of (map (place_of c w.files) (word_meaning w name text word))
+
+-- where what stands at a place is defined: the files that a header means, or what a word means
+abbrev pub definition_at : Client → World → (name text : List ℕ) → ℕ → Option Span → Json
+definition_at c w name text at None = places_of_word c w name text (word_at text at)
+definition_at c w name text at (Some header) =
+    list_of (map (file_place c) (header_files w.files name (bytes_of text header)))
+
+-- what a hover shows of a word
+abbrev pub hover_over : Client → List ℕ → Span → List Tag → Json
+hover_over c text word [] = null
+hover_over c text word (t ∷ ts) =
+    hover_of (hover_texts (t ∷ ts)) (range_of c.encoding text word.start word.end)
+
+abbrev pub hover_at : Client → World → (name text : List ℕ) → Option Span → Json
+hover_at c w name text None = null
+hover_at c w name text (Some word) = hover_over c text word (word_meaning w name text word)
+
+-- ---- of a file
+
+-- a question about the file of this name and text
+abbrev pub answer_in : Client → World → (name text : List ℕ) → FileQuestion → Json
+answer_in c w name text Symbols =
+    list_of (map (file_symbol c name text) (facts_in w.profile text).defs)
+answer_in c w name text (Definition p) =
+    let at = place c.encoding text p in
+    definition_at c w name text at (header_at (facts_in w.profile text).includes at)
+answer_in c w name text (Hover p) =
+    hover_at c w name text (word_at text (place c.encoding text p))
+
+-- the same about a file of this name, if there is one
+abbrev pub answer_named : Client → World → FileQuestion → Option (List ℕ) → Json
+answer_named c w question None = null
+answer_named c w question (Some name) =
+    if has_file w.files name then answer_in c w name (text_of_file w.files name) question else null
+
+-- the name of the file of a URI
+abbrev pub name_of_uri : Client → List ℕ → Option (List ℕ)
+name_of_uri c uri = option_map (name_below c.root.path) (path_of uri)
+
+-- the answer to a question
+abbrev pub answer_to : Client → World → Asked → Json
+answer_to c w (in_file uri question) = answer_named c w question (name_of_uri c uri)
+answer_to c w (workspace_symbols query) =
+    array (items_of (map (session_symbol c w.files) (found_by w query)))

@@ -1,0 +1,204 @@
+-- The files of a server and the documents that the editor has open, and what the editor tells of
+-- them.
+use Rattle.std.specs.Prelude.{ℕ, Bool, true, false, not, ◌&&◌, ◌||◌, List, [], ◌∷◌}
+use Rattle.std.specs.Prelude.{codes, Option, None, Some, Result, Ok, Err, if◌then◌else◌}
+use Rattle.std.specs.List.{list_any}
+use Rattle.std.specs.Str.{bytes_eq}
+use Rattle.cb_desk.specs.declared.refusal.Refusal.{Refusal}
+use Rattle.cb_desk.specs.declared.refusal.Refusal.TheVariants.{OutOfMemory}
+use Rattle.cb_desk.specs.Refusals.{text_of}
+use Rattle.cb_desk.specs.Step.{Step, load, reload, step, unload}
+use Rattle.cb_desk.specs.World.{File, World, has_file, text_of_file}
+
+-- the text that a file has again when its document is closed: the one that it has then, another
+-- one, or the one that it had when the document was opened or saved
+pub data Kept : Type 0 where
+  nothing : Kept
+  present : Kept
+  text : List ℕ → Kept
+
+-- a document that is open: the name of its file, what is kept, and whether its last text was
+-- refused
+pub record Document : Type 0 where
+  pub name : List ℕ
+  pub kept : Kept
+  pub lost : Bool
+
+-- the files, and the documents that are open
+pub record Work : Type 0 where
+  pub world : World
+  pub documents : List Document
+
+-- the files and documents after a message, and what the client is told, if anything
+pub record Told : Type 0 where
+  pub work : Work
+  pub told : Option (List ℕ)
+
+-- whether memory was refused first, and what is said of what comes after
+abbrev pub first_refusal : List Bool → Bool
+first_refusal [] = false
+first_refusal (m ∷ ms) = m
+
+abbrev pub later_refusals : List Bool → List Bool
+later_refusals [] = []
+later_refusals (m ∷ ms) = ms
+
+-- ---- documents
+
+abbrev pub is_named : List ℕ → Document → Bool
+is_named name d = bytes_eq d.name name
+
+abbrev pub is_open : List Document → List ℕ → Bool
+is_open ds name = list_any (is_named name) ds
+
+-- the document of a file that is open
+unfoldable pub document_of : List Document → List ℕ → Option Document
+document_of [] name = None
+document_of (d ∷ ds) name = if is_named name d then Some d else document_of ds name
+
+-- a document in place of that of its file, or behind all
+unfoldable pub with_document : Document → List Document → List Document
+with_document d [] = d ∷ []
+with_document d (e ∷ es) = if is_named d.name e then d ∷ es else e ∷ with_document d es
+
+unfoldable pub without_document : List ℕ → List Document → List Document
+without_document name [] = []
+without_document name (d ∷ ds) =
+    if is_named name d then ds else d ∷ without_document name ds
+
+-- ---- texts
+
+-- a file is given a text
+abbrev pub text_step : List File → (name bytes : List ℕ) → Step
+text_step files name bytes = if has_file files name then reload name bytes else load name bytes
+
+-- the files after it, or why they are as they were
+abbrev pub taken : Bool → World → Step → Result World Refusal
+taken true w s = Err OutOfMemory
+taken false w s = step w s
+
+-- a document is lost; that is told, unless it was lost
+abbrev pub told_unless : Bool → List ℕ → Option (List ℕ)
+told_unless true why = None
+told_unless false why = Some why
+
+abbrev pub was_lost : Option Document → Bool
+was_lost None = false
+was_lost (Some d) = d.lost
+
+-- a document is opened with a text: it is kept, or it was refused
+abbrev pub after_open : Work → (name : List ℕ) → Result World Refusal → Told
+after_open w name (Ok next) = record {
+  work = record {
+    world = next;
+    documents = with_document (record { name = name; kept = present; lost = false }) w.documents;
+  };
+  told = None;
+}
+after_open w name (Err why) = record {
+  work = record w {
+    documents = with_document (record { name = name; kept = nothing; lost = true }) w.documents;
+  };
+  told = told_unless (was_lost (document_of w.documents name)) (text_of why);
+}
+
+-- memory is refused to the document, or may be refused to its text
+abbrev pub opened_if : Bool → Bool → Work → (name text : List ℕ) → Told
+opened_if true no_text w name bytes = record { work = w; told = Some (text_of OutOfMemory) }
+opened_if false no_text w name bytes =
+    after_open w name (taken no_text w.world (text_step w.world.files name bytes))
+
+-- a document is opened. Memory may be refused to one that was not open
+abbrev pub opened : List Bool → Work → (name text : List ℕ) → Told
+opened refusals w name bytes =
+    opened_if (first_refusal refusals && not (is_open w.documents name))
+    (first_refusal (later_refusals refusals)) w name bytes
+
+-- a document is lost
+abbrev pub lost : Work → Document → List ℕ → Told
+lost w d why = record {
+  work = record w { documents = with_document (record d { lost = true }) w.documents };
+  told = told_unless d.lost why;
+}
+
+-- what is kept of a document whose file has this text, when the file is given another one
+abbrev pub kept_from : List ℕ → Kept → Kept
+kept_from before nothing = nothing
+kept_from before present = text before
+kept_from before (text other) = text other
+
+-- a document is given another text
+abbrev pub after_change : Work → Document → Result World Refusal → Told
+after_change w d (Ok next) = record {
+  work = record {
+    world = next;
+    documents = with_document (record {
+      name = d.name;
+      kept = kept_from (text_of_file w.world.files d.name) d.kept;
+      lost = false;
+    }) w.documents;
+  };
+  told = None;
+}
+after_change w d (Err why) = lost w d (text_of why)
+
+abbrev pub changed_to : Bool → Work → Document → Option (Option (List ℕ)) → Told
+changed_to no_text w d None = lost w d (codes "bad parameters")
+changed_to no_text w d (Some None) = record { work = w; told = None }
+changed_to no_text w d (Some (Some bytes)) =
+    after_change w d (taken no_text w.world (text_step w.world.files d.name bytes))
+
+-- nothing is done about a document that is not open
+abbrev pub if_open : (Document → Told) → Work → Option Document → Told
+if_open does w None = record { work = w; told = None }
+if_open does w (Some d) = does d
+
+-- a document is changed to the last of some texts, where there is one
+abbrev pub changed : List Bool → Work → List ℕ → Option (Option (List ℕ)) → Told
+changed refusals w name last =
+    if_open (λ d. changed_to (first_refusal refusals) w d last) w (document_of w.documents name)
+
+-- the present text of a document is kept, unless the document is lost
+abbrev pub saved_as : Work → Document → Bool → Told
+saved_as w d true = record { work = w; told = None }
+saved_as w d false = record {
+  work = record w { documents = with_document (record d { kept = present }) w.documents };
+  told = None;
+}
+
+abbrev pub saved : Work → List ℕ → Told
+saved w name = if_open (λ d. saved_as w d d.lost) w (document_of w.documents name)
+
+-- a file is given the text that was kept, or is left as it is
+abbrev pub after_close : Work → List ℕ → Result World Refusal → Told
+after_close w name (Ok next) = record {
+  work = record { world = next; documents = without_document name w.documents };
+  told = None;
+}
+after_close w name (Err why) = record {
+  work = record w { documents = without_document name w.documents };
+  told = Some (text_of why);
+}
+
+abbrev pub closed_to : Bool → Work → List ℕ → Kept → Told
+closed_to no_text w name nothing = after_close w name (Ok w.world)
+closed_to no_text w name present = after_close w name (Ok w.world)
+closed_to no_text w name (text bytes) =
+    after_close w name (taken no_text w.world (text_step w.world.files name bytes))
+
+-- a document is closed
+abbrev pub closed : List Bool → Work → List ℕ → Told
+closed refusals w name =
+    if_open (λ d. closed_to (first_refusal refusals) w name d.kept) w (document_of w.documents name)
+
+-- a file goes away
+abbrev pub after_removal : Work → Result World Refusal → Told
+after_removal w (Ok next) = record { work = record w { world = next }; told = None }
+after_removal w (Err why) = record { work = w; told = Some (text_of why) }
+
+-- a file that is gone is taken away, unless its document is open or there is no such file
+abbrev pub removed : Bool → Work → List ℕ → Told
+removed no_memory w name =
+    if is_open w.documents name || not (has_file w.world.files name)
+    then record { work = w; told = None }
+    else after_removal w (taken no_memory w.world (unload name))

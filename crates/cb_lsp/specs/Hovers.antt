@@ -1,0 +1,26 @@
+-- What a hover shows.
+use Rattle.std.specs.Prelude.{ℕ, ◌++◌, List, codes, decimal, map, take}
+use Rattle.json.specs.Json.{Json, string, object, no_members, member}
+use Rattle.cb_desk.specs.Answer.{unindented}
+use Rattle.cb_tags.specs.TagLines.{Tag}
+use Rattle.cb_wire.specs.declared.position.Range.{Range}
+use Rattle.cb_wire.specs.Lists.{joined}
+use Rattle.cb_wire.specs.Texts.{readable}
+use Rattle.cb_wire.specs.Values.{range_tree}
+use Rattle.cb_lsp.specs.declared.hover.TheConstants.{MOST_HOVERS}
+
+-- a definition: its file and its line, and the text of that line without blanks before it
+abbrev pub hover_text : Tag → List ℕ
+hover_text t =
+    readable t.file ++ codes ":" ++ decimal t.line ++ codes "\n" ++ readable (unindented t.text)
+
+-- the first definitions, with an empty line between two
+abbrev pub hover_texts : List Tag → List ℕ
+hover_texts ts = joined (codes "\n\n") (map hover_text (take MOST_HOVERS ts))
+
+-- a text at a range
+abbrev pub hover_of : List ℕ → Range → Json
+hover_of text range =
+    object (member (codes "contents") (object (member (codes "kind") (string (codes "plaintext"))
+    (member (codes "value") (string text) no_members)))
+    (member (codes "range") (range_tree range) no_members))

@@ -1,0 +1,73 @@
+-- What names mean in files, computed. The expected values are worked out by hand.
+use Rattle.std.specs.Prelude.{◌≡◌, ℕ, Bool, true, false, List, [], ◌∷◌, codes, None, refl}
+use Rattle.cb_scan.specs.declared.facts.Kind.{Kind}
+use Rattle.cb_scan.specs.declared.facts.Kind.TheVariants.{Function, Variable, Prototype}
+use Rattle.cb_tags.specs.TagLines.{Tag}
+use Rattle.cb_lsp.specs.Meaning.{is_private, meaning}
+use Rattle.cb_lsp.specs.Searches.{is_like}
+
+-- the definition of `f` in a file, `static` or not
+abbrev in_file : (file : List ℕ) → Kind → (local : Bool) → Tag
+in_file file kind local = record {
+  name = codes "f";
+  file = file;
+  place = 0;
+  line = 1;
+  text = [];
+  kind = kind;
+  local = local;
+  scope = None;
+}
+
+abbrev in_a : Tag
+in_a = in_file (codes "a.c") Function false
+
+abbrev private_in_b : Tag
+private_in_b = in_file (codes "b.c") Function true
+
+abbrev private_in_c : Tag
+private_in_c = in_file (codes "c.c") Function true
+
+abbrev prototype_in_b : Tag
+prototype_in_b = in_file (codes "b.c") Prototype false
+
+abbrev inline_in_h : Tag
+inline_in_h = in_file (codes "h.h") Function true
+
+-- a file with a private definition means that alone
+pub its_own : meaning (in_a ∷ private_in_b ∷ []) (codes "b.c") ≡ private_in_b ∷ []
+unfolding is_private
+its_own = refl
+
+-- another file does not see it
+pub of_others : meaning (in_a ∷ private_in_b ∷ []) (codes "c.c") ≡ in_a ∷ []
+unfolding is_private
+of_others = refl
+
+-- nor does it see what else that file has
+pub with_its_prototype : meaning (in_a ∷ prototype_in_b ∷ private_in_b ∷ []) (codes "a.c")
+    ≡ in_a ∷ []
+unfolding is_private
+with_its_prototype = refl
+
+-- where all are private to other files, all are told
+pub all_private : meaning (private_in_b ∷ private_in_c ∷ []) (codes "a.c")
+    ≡ private_in_b ∷ private_in_c ∷ []
+unfolding is_private
+all_private = refl
+
+-- a `static` function of a header is private to no file, and neither is a `static` variable
+pub in_a_header : meaning (in_a ∷ inline_in_h ∷ []) (codes "h.h") ≡ in_a ∷ inline_in_h ∷ []
+unfolding is_private
+in_a_header = refl
+
+pub a_variable : is_private (in_file (codes "b.c") Variable true) ≡ false
+unfolding is_private
+a_variable = refl
+
+-- a name that is the query is no other one that holds it
+pub found_once : is_like (codes "f") in_a ≡ false
+found_once = refl
+
+pub found_in_another_case : is_like (codes "F") in_a ≡ true
+found_in_another_case = refl

@@ -1,0 +1,293 @@
+-- What a message does to a server, and what is written.
+use Rattle.std.specs.Prelude.{ℕ, Bool, true, false, ◌&&◌, ◌||◌, ◌++◌, nat_eq, List, [], ◌∷◌}
+use Rattle.std.specs.Prelude.{codes, Option, None, Some, Result, Ok, Err, if◌then◌else◌}
+use Rattle.std.specs.List.{ends_with}
+use Rattle.std.specs.Str.{bytes_eq}
+use Rattle.json.specs.Find.{get}
+use Rattle.json.specs.Json.{Json, Items, no_items, item, null}
+use Rattle.cb_desk.specs.World.{World}
+use Rattle.cb_tags.specs.Names.{is_file_name}
+use Rattle.cb_wire.specs.declared.units.Encoding.{Encoding}
+use Rattle.cb_wire.specs.declared.units.Encoding.TheVariants.{Utf8, Utf16}
+use Rattle.cb_wire.specs.declared.reply.ErrorCode.TheVariants.{ServerNotInitialized, InvalidRequest}
+use Rattle.cb_wire.specs.declared.reply.ErrorCode.TheVariants.{MethodNotFound, InvalidParams}
+use Rattle.cb_wire.specs.declared.reply.ErrorCode.TheVariants.{RequestFailed}
+use Rattle.cb_wire.specs.Trees.{error_reply, notice_tree, result_reply}
+use Rattle.cb_wire.specs.Welcome.{welcome}
+use Rattle.cb_wire.specs.Uris.{Below, escaped, escaped_path, name_below, of_uri, path_of}
+use Rattle.cb_lsp.specs.declared.notice.Notice.{Notice}
+use Rattle.cb_lsp.specs.declared.notice.Notice.TheVariants.{Open, Change, Save, Close, Files}
+use Rattle.cb_lsp.specs.declared.question.Unasked.{Unasked}
+use Rattle.cb_lsp.specs.declared.question.Unasked.TheVariants.{UnknownMethod, BadParameters}
+use Rattle.cb_lsp.specs.declared.server.Stage.{Stage}
+use Rattle.cb_lsp.specs.declared.server.Stage.TheVariants.{Fresh, Running, Down}
+use Rattle.cb_lsp.specs.Answers.{answer_to}
+use Rattle.cb_lsp.specs.Clients.{Client}
+use Rattle.cb_lsp.specs.Documents.{Told, Work, changed, closed, first_refusal, later_refusals}
+use Rattle.cb_lsp.specs.Documents.{opened, removed, saved}
+use Rattle.cb_lsp.specs.Params.{document_text, is_deletion, items_in, last_text, member_of, root_in}
+use Rattle.cb_lsp.specs.Params.{takes_trees, takes_utf8, text_in, uri_in}
+use Rattle.cb_lsp.specs.Questions.{Asked, asked_by}
+
+-- a message that was read
+pub data Message : Type 0 where
+  -- what is no JSON; what is no message of this protocol; a reply to a request of the server
+  not_json : Message
+  not_request : Message
+  reply : Message
+  -- a method and its parameters, if there are any
+  notification : (method : List ℕ) (params : Option Json) → Message
+  request : (id : Json) (method : List ℕ) (params : Option Json) → Message
+  -- a body that was dropped
+  too_large : Message
+
+-- a server: its files and documents, what its client takes, whether its root was given, its version
+-- and how far the client is
+pub record Serving : Type 0 where
+  pub work : Work
+  pub client : Client
+  pub rooted : Bool
+  pub version : List ℕ
+  pub stage : Stage
+
+-- a server after a message, and what is written, a value a message
+pub record Outcome : Type 0 where
+  pub server : Serving
+  pub written : List Json
+
+-- ---- what is written
+
+abbrev pub log_of : List ℕ → Json
+log_of text = notice_tree (codes "window/logMessage") (codes "1") (codes "cbrowse: " ++ text)
+
+abbrev pub show_of : (name text : List ℕ) → Json
+show_of name text =
+    notice_tree (codes "window/showMessage") (codes "2")
+    (codes "cbrowse: " ++ (name ++ (codes ": " ++ text)))
+
+-- a name and what the client is told of its document, if anything
+abbrev pub show_if : List ℕ → Option (List ℕ) → List Json
+show_if name None = []
+show_if name (Some text) = show_of name text ∷ []
+
+abbrev pub out_of_memory : List ℕ
+out_of_memory = codes "out of memory"
+
+abbrev pub out_of_memory_reply : Json → Json
+out_of_memory_reply id = error_reply id RequestFailed out_of_memory
+
+-- ---- requests
+
+-- the root that a URI names, or else the one that was there
+abbrev pub root_of_path : Below → List ℕ → Option (List ℕ) → Below
+root_of_path root uri None = root
+root_of_path root uri (Some path) = of_uri uri path
+
+abbrev pub root_of_uri : Below → Option (List ℕ) → Below
+root_of_uri root None = root
+root_of_uri root (Some uri) = root_of_path root uri (escaped_path uri)
+
+abbrev pub root_for : Bool → Below → Option Json → Below
+root_for true root params = root
+root_for false root params = root_of_uri root (root_in params)
+
+-- a server before `initialize`
+abbrev pub fresh_server : World → Below → (rooted : Bool) → (version : List ℕ) → Serving
+fresh_server w root rooted version = record {
+  work = record { world = w; documents = [] };
+  client = record { root = root; encoding = Utf16; tree = false };
+  rooted = rooted;
+  version = version;
+  stage = Fresh;
+}
+
+-- a server with the root of a client, unless its own was given
+abbrev pub with_root : Serving → Option Json → Serving
+with_root s params = record s {
+  client = record s.client { root = root_for s.rooted s.client.root params };
+}
+
+-- what the columns of a client count
+abbrev pub encoding_for : Option Json → Encoding
+encoding_for params = if takes_utf8 params then Utf8 else Utf16
+
+-- what a client takes that says so of itself
+abbrev pub client_of : Serving → Option Json → Client
+client_of s params = record {
+  root = root_for s.rooted s.client.root params;
+  encoding = encoding_for params;
+  tree = takes_trees params;
+}
+
+abbrev pub replies : Serving → Json → Outcome
+replies s message = record { server = s; written = message ∷ [] }
+
+abbrev pub initialized : Bool → Serving → Json → Option Json → Outcome
+initialized true s id params = replies s (out_of_memory_reply id)
+initialized false s id params =
+    let c = client_of s params in
+    replies (record s { client = c; stage = Running })
+    (result_reply id (welcome c.encoding s.version))
+
+abbrev pub unasked_reply : Json → Unasked → Json
+unasked_reply id UnknownMethod = error_reply id MethodNotFound (codes "unknown method")
+unasked_reply id BadParameters = error_reply id InvalidParams (codes "bad parameters")
+
+abbrev pub asked_reply : Bool → Serving → Json → Result Asked Unasked → Json
+asked_reply no_memory s id (Err why) = unasked_reply id why
+asked_reply true s id (Ok asked) = out_of_memory_reply id
+asked_reply false s id (Ok asked) = result_reply id (answer_to s.client s.work.world asked)
+
+-- a request to a server that runs
+abbrev pub running : Bool → Serving → Json → List ℕ → Option Json → Outcome
+running no_memory s id method params =
+    if bytes_eq method (codes "initialize")
+    then replies s (error_reply id InvalidRequest (codes "initialized already"))
+    else (if bytes_eq method (codes "shutdown")
+    then replies (record s { stage = Down }) (result_reply id null)
+    else replies s (asked_reply no_memory s id (asked_by method params)))
+
+-- a request, by the stage of the client
+abbrev pub requested : Stage → Bool → Serving → Json → List ℕ → Option Json → Outcome
+requested Fresh no_memory s id method params =
+    if bytes_eq method (codes "initialize") then initialized no_memory s id params
+    else replies s (error_reply id ServerNotInitialized (codes "not initialized"))
+requested Running no_memory s id method params = running no_memory s id method params
+requested Down no_memory s id method params =
+    replies s (error_reply id InvalidRequest (codes "shut down"))
+
+-- ---- notifications
+
+abbrev pub stays : Serving → Outcome
+stays s = record { server = s; written = [] }
+
+-- the files and documents after it, and what is told of the document of a file
+abbrev pub moved : Serving → List ℕ → Told → Outcome
+moved s name t = record { server = record s { work = t.work }; written = show_if name t.told }
+
+-- a text of a document is opened, if there is one
+abbrev pub opened_with : List Bool → Work → List ℕ → Option (List ℕ) → Told
+opened_with refusals w name None = record { work = w; told = None }
+opened_with refusals w name (Some text) = opened refusals w name text
+
+-- the notification of a method, if it does something
+abbrev pub notice_of : List ℕ → Option Notice
+notice_of method =
+    if bytes_eq method (codes "textDocument/didOpen") then Some Open
+    else (if bytes_eq method (codes "textDocument/didChange") then Some Change
+    else (if bytes_eq method (codes "textDocument/didSave") then Some Save
+    else (if bytes_eq method (codes "textDocument/didClose") then Some Close
+    else (if bytes_eq method (codes "workspace/didChangeWatchedFiles") then Some Files
+    else None))))
+
+-- one about the document of a file
+abbrev pub told_of : Notice → List Bool → Work → Option Json → List ℕ → Told
+told_of Open refusals w params name = opened_with refusals w name (document_text params)
+told_of Change refusals w params name = changed refusals w name (last_text params)
+told_of Save refusals w params name = saved w name
+told_of Close refusals w params name = closed refusals w name
+told_of Files refusals w params name = record { work = w; told = None }
+
+abbrev pub is_opening : Notice → Bool
+is_opening Open = true
+is_opening _ = false
+
+-- a path ends as the name of a file does
+abbrev pub ends_as_c : List ℕ → Bool
+ends_as_c path = ends_with nat_eq path (codes ".c") || ends_with nat_eq path (codes ".h")
+
+-- what is no name of a file is told where it is opened and ends as one
+abbrev pub bad_name : Serving → Notice → (path : List ℕ) → Outcome
+bad_name s notice path =
+    if ends_as_c path && is_opening notice
+    then replies s (show_of (escaped path) (codes "bad name")) else stays s
+
+abbrev pub noticed_at : Notice → List Bool → Serving → Option Json → List ℕ → Outcome
+noticed_at notice refusals s params path =
+    let name = name_below s.client.root.path path in
+    if is_file_name name then moved s name (told_of notice refusals s.work params name)
+    else bad_name s notice path
+
+abbrev pub noticed_on : Notice → List Bool → Serving → Option Json → Option (List ℕ) → Outcome
+noticed_on notice refusals s params None = stays s
+noticed_on notice refusals s params (Some path) = noticed_at notice refusals s params path
+
+-- memory may be refused to the path of a URI
+abbrev pub unread : Serving → List ℕ → Outcome
+unread s uri = replies s (show_of uri out_of_memory)
+
+abbrev pub noticed_of : Notice → List Bool → Serving → Option Json → Option (List ℕ) → Outcome
+noticed_of notice refusals s params None = stays s
+noticed_of notice refusals s params (Some uri) =
+    if first_refusal refusals then unread s uri
+    else noticed_on notice (later_refusals refusals) s params (path_of uri)
+
+-- ---- file events
+
+abbrev pub removed_at : Bool → Serving → Option (List ℕ) → Outcome
+removed_at no_memory s None = stays s
+removed_at no_memory s (Some path) =
+    let name = name_below s.client.root.path path in
+    moved s name (removed no_memory s.work name)
+
+abbrev pub removed_of : List Bool → Serving → Option (List ℕ) → Outcome
+removed_of refusals s None = stays s
+removed_of refusals s (Some uri) =
+    if first_refusal refusals then unread s uri
+    else removed_at (first_refusal (later_refusals refusals)) s (path_of uri)
+
+-- a file event: of those that say that a file is gone
+abbrev pub happened : List Bool → Serving → Json → Outcome
+happened refusals s event =
+    if is_deletion event then removed_of refusals s (text_in (get (codes "uri") event)) else stays s
+
+-- what comes after an outcome
+abbrev pub and_then : Outcome → Outcome → Outcome
+and_then first next = record { server = next.server; written = first.written ++ next.written }
+
+-- events in turn; what is said of memory has two parts for each
+unfoldable pub all_happened : List Bool → Serving → Items → Outcome
+all_happened refusals s no_items = stays s
+all_happened refusals s (item event more) =
+    let first = happened refusals s event in
+    and_then first
+    (all_happened (later_refusals (later_refusals refusals)) first.server more)
+
+abbrev pub happened_in : List Bool → Serving → Option Items → Outcome
+happened_in refusals s None = stays s
+happened_in refusals s (Some events) = all_happened refusals s events
+
+-- a notification to a server that runs
+abbrev pub noticed_as : Notice → List Bool → Serving → Option Json → Outcome
+noticed_as Files refusals s params =
+    happened_in refusals s (items_in (member_of (codes "changes") params))
+noticed_as notice refusals s params = noticed_of notice refusals s params (uri_in params)
+
+abbrev pub noticed_if : Option Notice → List Bool → Serving → Option Json → Outcome
+noticed_if None refusals s params = stays s
+noticed_if (Some notice) refusals s params = noticed_as notice refusals s params
+
+abbrev pub noticed : List Bool → Serving → (method : List ℕ) → Option Json → Outcome
+noticed refusals s method params = noticed_if (notice_of method) refusals s params
+
+abbrev pub noticed_by : Stage → List Bool → Serving → (method : List ℕ) → Option Json → Outcome
+noticed_by Running refusals s method params = noticed refusals s method params
+noticed_by Fresh refusals s method params = stays s
+noticed_by Down refusals s method params = stays s
+
+-- ---- messages
+
+-- what a message does; the list says where memory was refused to it
+unfoldable pub does : List Bool → Serving → Message → Outcome
+does refusals s not_json = replies s (log_of (codes "not JSON"))
+does refusals s not_request = replies s (log_of (codes "not a request"))
+does refusals s reply = stays s
+does refusals s too_large = replies s (log_of (codes "too large"))
+does refusals s (notification method params) = noticed_by s.stage refusals s method params
+does refusals s (request id method params) =
+    requested s.stage (first_refusal refusals) s id method params
+
+-- the client ends a run by this message
+abbrev pub is_exit : Message → Bool
+is_exit (notification method params) = bytes_eq method (codes "exit")
+is_exit _ = false

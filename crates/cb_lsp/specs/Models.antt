@@ -1,0 +1,42 @@
+-- What the values of the server stand for in the definitions.
+use Rattle.std.specs.Prelude.{Option, Result, Ok, Err}
+use Rattle.std.specs.Option.{option_map}
+use Rattle.cb_lsp.specs.declared.documents.Kept.{Kept as CodeKept}
+use Rattle.cb_lsp.specs.declared.documents.Kept.TheVariants.{Nothing, Present, Text}
+use Rattle.cb_lsp.specs.Documents.{Kept, nothing, present, text}
+use Rattle.cb_lsp.specs.declared.question.Question.{Question}
+use Rattle.cb_lsp.specs.declared.question.Question.TheVariants.{InFile, WorkspaceSymbols}
+use Rattle.cb_lsp.specs.declared.question.Unasked.{Unasked}
+use Rattle.cb_wire.specs.declared.message.Message.{Message as CodeMessage}
+use Rattle.cb_wire.specs.declared.message.Message.TheVariants.{NotRequest, Notification, Reply}
+use Rattle.cb_wire.specs.declared.message.Message.TheVariants.{Request}
+use Rattle.cb_wire.specs.Messages.{id_json}
+use Rattle.cb_lsp.specs.Messages.{Message, not_request, notification, reply, request}
+use Rattle.cb_lsp.specs.steps.Values.{seen}
+use Rattle.cb_lsp.specs.Questions.{Asked, in_file, workspace_symbols}
+
+-- what a question asks
+abbrev pub asked_of : Question → Asked
+asked_of (InFile uri question) = in_file uri.now question
+asked_of (WorkspaceSymbols query) = workspace_symbols query.now
+
+-- what a question asks, where there is one
+abbrev pub asked_in : Result Question Unasked → Result Asked Unasked
+asked_in (Ok question) = Ok (asked_of question)
+asked_in (Err reason) = Err reason
+
+-- the text that is kept
+abbrev pub kept_of : CodeKept → Kept
+kept_of Nothing = nothing
+kept_of Present = present
+kept_of (Text bytes) = text bytes.items
+
+abbrev pub kept_in : Option CodeKept → Option Kept
+kept_in kept = option_map kept_of kept
+
+-- the message that a value was judged to be
+abbrev pub message_in : CodeMessage → Message
+message_in NotRequest = not_request
+message_in Reply = reply
+message_in (Notification call) = notification call.method.now (seen call.params)
+message_in (Request id call) = request (id_json id) call.method.now (seen call.params)

@@ -1,0 +1,160 @@
+-- What requests say, and what they mean, computed. The expected values are worked out by hand.
+use Rattle.std.specs.Prelude.{◌≡◌, ℕ, List, [], true, false, codes, refl}
+use Rattle.std.specs.Prelude.{Option, Some, None, Ok, Err}
+use Rattle.json.specs.Json.{Json, boolean, number, string, array, object, Items, no_items, item}
+use Rattle.json.specs.Json.{no_members, member}
+use Rattle.cb_scan.specs.lex.Lexeme.{is_identifier}
+use Rattle.cb_scan.specs.lex.Reserved.{is_reserved, reserved_words}
+use Rattle.cb_lsp.specs.declared.question.Unasked.TheVariants.{UnknownMethod, BadParameters}
+use Rattle.cb_lsp.specs.Headers.{is_beside, without_dots}
+use Rattle.cb_lsp.specs.Likes.{holds_like}
+use Rattle.cb_lsp.specs.Params.{has_text, last_of, last_text, number_in, root_in, takes_trees}
+use Rattle.cb_lsp.specs.Params.{takes_utf8}
+use Rattle.cb_lsp.specs.Questions.{asked_by, in_file, workspace_symbols}
+use Rattle.cb_lsp.specs.declared.question.FileQuestion.TheVariants.{Hover}
+use Rattle.cb_lsp.specs.Words.{word_at}
+
+-- an object of one member
+abbrev one : List ℕ → Json → Json
+one name value = object (member name value no_members)
+
+-- ---- parameters
+
+-- a number is an integer from 0 up, below 2^64
+pub a_number : number_in (Some (number (codes "12"))) ≡ Some 12
+a_number = refl
+
+pub a_negative_number : number_in (Some (number (codes "-1"))) ≡ None
+a_negative_number = refl
+
+pub a_fraction : number_in (Some (number (codes "1.0"))) ≡ None
+a_fraction = refl
+
+pub a_large_number : number_in (Some (number (codes "18446744073709551616"))) ≡ None
+a_large_number = refl
+
+pub no_number : number_in (Some (string (codes "1"))) ≡ None
+no_number = refl
+
+abbrev whole : List ℕ → Json
+whole text = one (codes "text") (string text)
+
+abbrev part : Json
+part = object (member (codes "range") (object no_members)
+    (member (codes "text") (string (codes "b")) no_members))
+
+abbrev changed : Items → Option Json
+changed changes = Some (one (codes "contentChanges") (array changes))
+
+-- the last of two whole texts counts
+pub two_changes : last_text (changed (item (whole (codes "a")) (item (whole (codes "b")) no_items)))
+    ≡ Some (Some (codes "b"))
+unfolding last_of
+two_changes = refl
+
+-- no change leaves the text as it is
+pub no_changes : last_text (changed no_items) ≡ Some None
+unfolding last_of
+no_changes = refl
+
+-- a change of a part is refused, also behind a whole text
+pub a_part : last_text (changed (item (whole (codes "a")) (item part no_items))) ≡ None
+unfolding last_of
+a_part = refl
+
+abbrev folder : Json
+folder = one (codes "uri") (string (codes "file:///a"))
+
+-- the first folder goes before the root
+pub two_roots : root_in (Some (object (member (codes "rootUri") (string (codes "file:///b"))
+    (member (codes "workspaceFolders") (array (item folder no_items)) no_members))))
+    ≡ Some (codes "file:///a")
+two_roots = refl
+
+pub one_root : root_in (Some (one (codes "rootUri") (string (codes "file:///b"))))
+    ≡ Some (codes "file:///b")
+one_root = refl
+
+abbrev encodings : Items → Option Json
+encodings names =
+    Some (one (codes "capabilities") (one (codes "general")
+    (one (codes "positionEncodings") (array names))))
+
+pub utf8_is_taken : takes_utf8 (encodings (item (string (codes "utf-16"))
+    (item (string (codes "utf-8")) no_items))) ≡ true
+unfolding has_text
+utf8_is_taken = refl
+
+pub utf16_alone : takes_utf8 (encodings (item (string (codes "utf-16")) no_items)) ≡ false
+unfolding has_text
+utf16_alone = refl
+
+pub trees_are_taken : takes_trees (Some (one (codes "capabilities") (one (codes "textDocument")
+    (one (codes "documentSymbol")
+    (one (codes "hierarchicalDocumentSymbolSupport") (boolean true)))))) ≡ true
+trees_are_taken = refl
+
+-- ---- questions
+
+abbrev document : Json
+document = one (codes "uri") (string (codes "file:///a.c"))
+
+abbrev position : Json
+position = object (member (codes "character") (number (codes "5"))
+    (member (codes "line") (number (codes "2")) no_members))
+
+pub what_stands_there : asked_by (codes "textDocument/hover") (Some (object
+    (member (codes "textDocument") document (member (codes "position") position no_members))))
+    ≡ Ok (in_file (codes "file:///a.c") (Hover (record { line = 2; character = 5 })))
+what_stands_there = refl
+
+-- the document is not named at the top
+pub a_misplaced_document : asked_by (codes "textDocument/documentSymbol") (Some document)
+    ≡ Err BadParameters
+a_misplaced_document = refl
+
+pub a_query : asked_by (codes "workspace/symbol") (Some (one (codes "query") (string [])))
+    ≡ Ok (workspace_symbols [])
+a_query = refl
+
+pub a_longer_method : asked_by (codes "workspace/symbols") None ≡ Err UnknownMethod
+a_longer_method = refl
+
+-- ---- words, headers, names
+
+-- a place is in a word, or at its end
+pub inside_a_word : word_at (codes "int x_1;") 5 ≡ Some (record { start = 4; end = 7 })
+unfolding is_identifier is_reserved reserved_words
+inside_a_word = refl
+
+pub behind_a_word : word_at (codes "int x_1;") 7 ≡ Some (record { start = 4; end = 7 })
+unfolding is_identifier is_reserved reserved_words
+behind_a_word = refl
+
+pub a_reserved_word : word_at (codes "int x_1;") 1 ≡ None
+unfolding is_identifier is_reserved reserved_words
+a_reserved_word = refl
+
+pub no_word : word_at (codes "int x_1;") 8 ≡ None
+unfolding is_identifier is_reserved reserved_words
+no_word = refl
+
+pub dots_go : without_dots (codes "../.././a/../b.h") ≡ codes "a/../b.h"
+unfolding without_dots
+dots_go = refl
+
+pub a_hidden_file_stays : without_dots (codes ".b.h") ≡ codes ".b.h"
+unfolding without_dots
+a_hidden_file_stays = refl
+
+pub beside_it : is_beside (codes "src/a.c") (codes "b.h") (codes "src/b.h") ≡ true
+beside_it = refl
+
+pub elsewhere : is_beside (codes "src/a.c") (codes "b.h") (codes "b.h") ≡ false
+elsewhere = refl
+
+pub in_either_case : holds_like (codes "RUN") (codes "do_Run") ≡ true
+in_either_case = refl
+
+pub not_in_it : holds_like (codes "runs") (codes "do_run") ≡ false
+not_in_it = refl

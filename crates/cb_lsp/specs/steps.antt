@@ -1,0 +1,6 @@
+pub mod Elements
+pub mod Meanings
+pub mod Noted
+pub mod Turns
+pub mod Values
+pub mod Works

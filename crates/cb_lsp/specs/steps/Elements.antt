@@ -1,0 +1,69 @@
+-- The elements of lists that are written.
+use Rattle.std.specs.Prelude.{ℕ, ◌++◌, List, [], ◌∷◌, codes, decimal, map, filter}
+use Rattle.std.specs.Prelude.{Option, None, Some, true, false}
+use Rattle.std.specs.Borrow.{Bor}
+use Rattle.json.specs.Print.{escape}
+use Rattle.cb_desk.specs.Answer.{unindented}
+use Rattle.cb_wire.specs.Texts.{readable}
+use Rattle.cb_wire.specs.Values.{value_text}
+use Rattle.cb_lsp.specs.Clients.{Client}
+use Rattle.cb_lsp.specs.Headers.{files_named}
+use Rattle.cb_lsp.specs.Hovers.{hover_text}
+use Rattle.cb_lsp.specs.Searches.{is_like}
+use Rattle.cb_lsp.specs.Symbols.{file_place, file_symbol_as, place_of, session_symbol}
+use Rattle.cb_lsp.specs.declared.hover.Hover.{Hover}
+use Rattle.cb_lsp.specs.declared.hover.Hovers.{Hovers}
+use Rattle.cb_lsp.specs.declared.location.Forms.{Forms}
+use Rattle.cb_lsp.specs.declared.symbols.FlatSymbols.{FlatSymbols}
+use Rattle.cb_lsp.specs.declared.symbols.HeaderFiles.{HeaderFiles}
+use Rattle.cb_lsp.specs.declared.symbols.OneFile.{OneFile}
+use Rattle.cb_lsp.specs.declared.symbols.Places.{Places}
+use Rattle.cb_lsp.specs.declared.symbols.SessionSymbols.{SessionSymbols}
+use Rattle.cb_lsp.specs.declared.symbols.TreeSymbols.{TreeSymbols}
+use Rattle.cb_lsp.specs.steps.Meanings.{meaning_left}
+
+-- what a client takes
+abbrev pub client_in : Forms → Client
+client_in f = record { root = f.root.now; encoding = f.encoding; tree = f.tree }
+
+-- a definition as a hover shows it, inside a string of JSON
+abbrev pub hover_element : Hover → List ℕ
+hover_element h =
+    escape (readable h.file.now ++ codes ":" ++ decimal h.line ++ codes "\n"
+    ++ readable (unindented h.text.now))
+
+-- ---- those that are left
+
+abbrev pub flat_left : FlatSymbols → List (List ℕ)
+flat_left s =
+    map (λ d. value_text (file_symbol_as false (client_in s.defs.forms) s.defs.file.now
+    s.defs.source.now d)) s.defs.rest.now
+
+abbrev pub tree_left : TreeSymbols → List (List ℕ)
+tree_left s =
+    map (λ d. value_text (file_symbol_as true (client_in s.defs.forms) s.defs.file.now
+    s.defs.source.now d)) s.defs.rest.now
+
+abbrev pub places_left : Places → List (List ℕ)
+places_left p =
+    map (λ t. value_text (place_of (client_in p.forms) p.desk.now.timeline.present.files t))
+    (meaning_left p.rest)
+
+abbrev pub session_left : SessionSymbols → List (List ℕ)
+session_left s =
+    map (λ t. value_text (session_symbol (client_in s.forms) s.desk.now.timeline.present.files t))
+    (s.named ++ filter (is_like s.query.now) s.all)
+
+abbrev pub files_left : HeaderFiles → List (List ℕ)
+files_left h =
+    map (λ n. value_text (file_place (client_in h.forms) n)) (files_named h.header.now h.rest)
+
+abbrev pub file_if : Client → Option (Bor (List ℕ)) → List (List ℕ)
+file_if c None = []
+file_if c (Some name) = value_text (file_place c name.now) ∷ []
+
+abbrev pub file_left : OneFile → List (List ℕ)
+file_left f = file_if (client_in f.forms) f.rest
+
+abbrev pub hovers_left : Hovers → List (List ℕ)
+hovers_left h = map (λ t. escape (hover_text t)) (meaning_left h.rest)

@@ -1,0 +1,32 @@
+-- What the steps of a message leave of the files and the documents.
+use Rattle.std.specs.Prelude.{◌≡◌, ◌≤◌, ℕ, false, List, [], Option, None, Some}
+use Rattle.std.specs.Prelude.{Result, Ok, Err, if◌then◌else◌}
+use Rattle.cb_desk.specs.declared.refusal.Refusal.{Refusal}
+use Rattle.cb_desk.specs.Timeline.{Timeline}
+use Rattle.cb_desk.specs.World.{File, World, text_of_file}
+use Rattle.cb_lsp.specs.Documents.{Document, Kept, Work, document_of, text}
+use Rattle.cb_lsp.specs.steps.Noted.{keeps_present, with_noted}
+
+-- no past and no future, and room for one change
+pub record IsForgotten (t : Timeline) : Type 0 where
+  pub past : t.past ≡ []
+  pub future : t.future ≡ []
+  pub room : 1 ≤ t.present.bounds.history
+
+-- the files go to the world that is meant, or all stays for the reason that is meant
+abbrev pub Becomes : Result World Refusal → Work → Work → Result (Unit {0}) Refusal → Type 0
+Becomes meant old new (Ok _) = (meant ≡ Ok new.world) × (new.documents ≡ old.documents)
+Becomes meant old new (Err why) = (meant ≡ Err why) × (new ≡ old)
+
+-- the text of a file that its document keeps from now on, where it kept the present one
+abbrev pub kept_before : List File → List ℕ → Option Document → Option Kept
+kept_before files name d =
+    if keeps_present d then Some (text (text_of_file files name)) else None
+
+-- the document keeps the text before besides
+abbrev pub Reloads : Result World Refusal → List ℕ → Work → Work → Result (Unit {0}) Refusal
+    → Type 0
+Reloads meant name old new (Ok _) = (meant ≡ Ok new.world) × (new.documents
+    ≡ with_noted (kept_before old.world.files name (document_of old.documents name)) false name
+    old.documents)
+Reloads meant name old new (Err why) = (meant ≡ Err why) × (new ≡ old)

@@ -1,0 +1,331 @@
+//! The answers to questions, as replies.
+ghost use Rattle.std.specs.Prelude.{◌≡◌, ◌≤◌, ◌++◌, MatchOption, List, false, length, map, take, true};
+ghost use Rattle.std.specs.Option.{option_map};
+ghost use Rattle.json.specs.Json.{Json, array};
+ghost use Rattle.cb_desk.specs.World.{has_file};
+ghost use Rattle.cb_scan.specs.Profiles.{facts_in};
+ghost use Rattle.cb_tags.specs.Writing.{Puts};
+ghost use Rattle.cb_wire.specs.Messages.{id_json};
+ghost use Rattle.cb_wire.specs.Positions.{place};
+ghost use Rattle.cb_wire.specs.Texts.{frame};
+ghost use Rattle.cb_wire.specs.Trees.{result_reply};
+ghost use Rattle.cb_wire.specs.Values.{items_of, value_text};
+ghost use Rattle.cb_wire.specs.declared.list.TheConstants.{MOST_ELEMENTS};
+ghost use Rattle.cb_lsp.specs.Answers.{
+  answer_in,
+  definition_at,
+  hover_at,
+  hover_over,
+  list_of,
+  places_of_word,
+  word_meaning,
+};
+ghost use Rattle.cb_lsp.specs.Headers.{folder_of, header_at, header_files};
+ghost use Rattle.cb_lsp.specs.Hovers.{hover_of, hover_texts};
+ghost use Rattle.cb_lsp.specs.Searches.{found_by};
+ghost use Rattle.cb_lsp.specs.Symbols.{file_place, file_symbol, session_symbol};
+ghost use Rattle.cb_lsp.specs.Words.{word_at};
+ghost use Rattle.cb_lsp.specs.steps.Elements.{client_in};
+ghost use Rattle.cb_lsp.specs.steps.Meanings.{meaning_left};
+
+use crate::header::{header_at, is_beside, without_dots};
+use crate::hover::{Hovers, MOST_HOVERS};
+use crate::location::{Forms, range_of};
+use crate::meaning::Meaning;
+use crate::place::bytes_of;
+use crate::question::FileQuestion;
+use crate::symbols::{
+    FileDefs, FlatSymbols, HeaderFiles, MOST_SYMBOLS, OneFile, Places, SessionSymbols, TreeSymbols,
+};
+use crate::word::word_at;
+use crate::written::put_null;
+use cb_desk::{Desk, Format};
+use cb_scan::{Facts, Source, Span};
+use cb_tags::{Sink, WriteFault};
+use cb_wire::{Elements, Id, MOST_ELEMENTS, Part, Range, place_of_position, put_list_result};
+use std::io::Write;
+
+/// A file that is asked about, what scanning it gives, and what the client takes.
+#[derive(Clone, Copy)]
+pub(crate) struct FileAsked<'a> {
+    pub(crate) forms: Forms<'a>,
+    pub(crate) desk: &'a Desk,
+    pub(crate) name: &'a [u8],
+    pub(crate) source: &'a Source,
+    pub(crate) facts: &'a Facts,
+}
+
+/// Writes a reply whose result is the first of some elements.
+fn put_first<W: Write, I: Elements>(
+    out: &mut Sink<W>,
+    id: Id<'_>,
+    most: usize,
+    elements: I,
+) -> Result<(), WriteFault>
+    requires { most ≤ MOST_ELEMENTS }
+    ensures { (js : List Json) → I.texts elements ≡ map value_text js
+        → Puts out.old out.new result
+        (frame (value_text (result_reply (id_json id.entry) (array (items_of (take most js)))))) }
+{
+    put_list_result(out, id, b"[", b",", &[Part::Raw(b"]")], most, elements)
+}
+
+/// Writes a reply whose result is a list.
+fn put_list<W: Write, I: Elements>(
+    out: &mut Sink<W>,
+    id: Id<'_>,
+    elements: I,
+) -> Result<(), WriteFault>
+    ensures { (js : List Json) → I.texts elements ≡ map value_text js
+        → Puts out.old out.new result
+        (frame (value_text (result_reply (id_json id.entry) (list_of js)))) }
+{
+    put_first(out, id, MOST_ELEMENTS, elements)
+}
+
+/// Writes a reply that shows definitions, for what stands at a range.
+fn put_hovers<W: Write>(
+    out: &mut Sink<W>,
+    id: Id<'_>,
+    hovers: Hovers<'_, '_>,
+    range: Range,
+) -> Result<(), WriteFault>
+    ensures { Puts out.old out.new result (frame (value_text (result_reply (id_json id.entry)
+        (hover_of (hover_texts (meaning_left hovers.entry.rest)) range)))) }
+{
+    put_list_result(
+        out,
+        id,
+        b"{\"contents\":{\"kind\":\"plaintext\",\"value\":\"",
+        b"\\n\\n",
+        &[
+            Part::Raw(b"\"},\"range\":"),
+            Part::Range(range),
+            Part::Raw(b"}"),
+        ],
+        MOST_HOVERS,
+        hovers,
+    )
+}
+
+impl<'a> FileAsked<'a> {
+    /// Writes the symbols of the file.
+    fn put_symbols<W: Write>(&self, out: &mut Sink<W>, id: Id<'_>) -> Result<(), WriteFault>
+        ensures { Puts out.old out.new result (frame (value_text (result_reply (id_json id.entry)
+            (list_of (map (file_symbol (client_in self.now.forms) self.now.name.now
+            self.now.source.now) self.now.facts.now.defs))))) }
+    {
+        let defs = FileDefs {
+            forms: self.forms,
+            file: self.name,
+            source: self.source,
+            rest: self.facts.defs(),
+        };
+        if self.forms.tree {
+            put_list(out, id, TreeSymbols { defs })
+        } else {
+            put_list(out, id, FlatSymbols { defs })
+        }
+    }
+
+    /// The file of a header in the folder of this file, if it is there.
+    fn beside(&self, header: &[u8]) -> Option<&'a [u8]>
+        ensures { MatchOption result (has_file self.now.desk.now.timeline.present.files
+            (folder_of self.now.name.now ++ header.now) ≡ false)
+            (λ name. (has_file self.now.desk.now.timeline.present.files
+            (folder_of self.now.name.now ++ header.now) ≡ true)
+            × (name.now ≡ folder_of self.now.name.now ++ header.now)) }
+    {
+        let mut files = self.desk.files();
+        'files: while let Some((name, _)) = files.next() {
+            if is_beside(self.name, header, name) {
+                return Some(name);
+            }
+        }
+        None
+    }
+
+    /// Writes the files that a header means.
+    fn put_header<W: Write>(
+        &self,
+        out: &mut Sink<W>,
+        id: Id<'_>,
+        header: &[u8],
+    ) -> Result<(), WriteFault>
+        ensures { Puts out.old out.new result (frame (value_text (result_reply (id_json id.entry)
+            (list_of (map (file_place (client_in self.now.forms))
+            (header_files self.now.desk.now.timeline.present.files self.now.name.now
+            header.now)))))) }
+    {
+        match self.beside(header) {
+            Some(name) => put_list(
+                out,
+                id,
+                OneFile {
+                    forms: self.forms,
+                    rest: Some(name),
+                },
+            ),
+            None => put_list(
+                out,
+                id,
+                HeaderFiles {
+                    forms: self.forms,
+                    header: without_dots(header),
+                    rest: self.desk.files(),
+                },
+            ),
+        }
+    }
+
+    /// What a word of the file means.
+    fn meaning<'p>(&'p self, word: Span) -> Meaning<'a, 'p>
+        ensures { meaning_left result ≡ word_meaning self.now.desk.now.timeline.present
+            self.now.name.now self.now.source.now word }
+    {
+        let _files = self.desk.files();
+        Meaning::new(
+            self.desk.definitions(bytes_of(self.source, word)),
+            self.name,
+        )
+    }
+
+    /// Writes where what a word means is.
+    fn put_places<W: Write>(
+        &self,
+        out: &mut Sink<W>,
+        id: Id<'_>,
+        word: Option<Span>,
+    ) -> Result<(), WriteFault>
+        ensures { Puts out.old out.new result (frame (value_text (result_reply (id_json id.entry)
+            (places_of_word (client_in self.now.forms) self.now.desk.now.timeline.present
+            self.now.name.now self.now.source.now word)))) }
+    {
+        match word {
+            Some(word) => put_list(
+                out,
+                id,
+                Places {
+                    forms: self.forms,
+                    desk: self.desk,
+                    rest: self.meaning(word),
+                },
+            ),
+            None => put_list(
+                out,
+                id,
+                OneFile {
+                    forms: self.forms,
+                    rest: None,
+                },
+            ),
+        }
+    }
+
+    /// Writes where what stands at a place is defined.
+    fn put_definition<W: Write>(
+        &self,
+        out: &mut Sink<W>,
+        id: Id<'_>,
+        place: usize,
+    ) -> Result<(), WriteFault>
+        requires { place ≤ length self.now.source.now }
+        ensures { Puts out.old out.new result (frame (value_text (result_reply (id_json id.entry)
+            (definition_at (client_in self.now.forms) self.now.desk.now.timeline.present
+            self.now.name.now self.now.source.now place
+            (header_at self.now.facts.now.includes place))))) }
+    {
+        match header_at(self.facts.includes(), place) {
+            Some(header) => self.put_header(out, id, bytes_of(self.source, header)),
+            None => self.put_places(out, id, word_at(self.source, place)),
+        }
+    }
+
+    /// Writes what a word means.
+    fn put_word<W: Write>(
+        &self,
+        out: &mut Sink<W>,
+        id: Id<'_>,
+        word: Span,
+    ) -> Result<(), WriteFault>
+        ensures { Puts out.old out.new result (frame (value_text (result_reply (id_json id.entry)
+            (hover_over (client_in self.now.forms) self.now.source.now word (word_meaning
+            self.now.desk.now.timeline.present self.now.name.now self.now.source.now word))))) }
+    {
+        let rest = self.meaning(word);
+        let mut first = rest.again();
+        match first.next() {
+            Some(_) => {
+                let range = range_of(self.forms, self.source, word);
+                put_hovers(out, id, Hovers { rest }, range)
+            }
+            None => put_null(out, id),
+        }
+    }
+
+    /// Writes what stands at a place.
+    fn put_hover<W: Write>(
+        &self,
+        out: &mut Sink<W>,
+        id: Id<'_>,
+        word: Option<Span>,
+    ) -> Result<(), WriteFault>
+        ensures { Puts out.old out.new result (frame (value_text (result_reply (id_json id.entry)
+            (hover_at (client_in self.now.forms) self.now.desk.now.timeline.present
+            self.now.name.now self.now.source.now word)))) }
+    {
+        match word {
+            Some(word) => self.put_word(out, id, word),
+            None => put_null(out, id),
+        }
+    }
+
+    /// Answers a question about the file.
+    pub(crate) fn put_answer<W: Write>(
+        &self,
+        out: &mut Sink<W>,
+        id: Id<'_>,
+        question: FileQuestion,
+    ) -> Result<(), WriteFault>
+        requires { self.now.facts.now
+            ≡ facts_in self.now.desk.now.timeline.present.profile self.now.source.now }
+        ensures { Puts out.old out.new result (frame (value_text (result_reply (id_json id.entry)
+            (answer_in (client_in self.now.forms) self.now.desk.now.timeline.present
+            self.now.name.now self.now.source.now question)))) }
+    {
+        let text = self.source.bytes();
+        let encoding = self.forms.encoding;
+        match question {
+            FileQuestion::Symbols => self.put_symbols(out, id),
+            FileQuestion::Definition(position) => {
+                self.put_definition(out, id, place_of_position(encoding, text, position))
+            }
+            FileQuestion::Hover(position) => {
+                let place = place_of_position(encoding, text, position);
+                self.put_hover(out, id, word_at(self.source, place))
+            }
+        }
+    }
+}
+
+/// Writes the symbols of the session that a query names.
+pub(crate) fn put_session_symbols<W: Write>(
+    forms: Forms<'_>,
+    desk: &Desk,
+    out: &mut Sink<W>,
+    id: Id<'_>,
+    query: &[u8],
+) -> Result<(), WriteFault>
+    ensures { Puts out.old out.new result (frame (value_text (result_reply (id_json id.entry)
+        (array (items_of (map (session_symbol (client_in forms.entry) desk.now.timeline.present.files)
+        (found_by desk.now.timeline.present query.now))))))) }
+{
+    let symbols = SessionSymbols {
+        forms,
+        desk,
+        query,
+        named: desk.definitions(query),
+        all: desk.tag_rows(Format::Extended),
+    };
+    put_first(out, id, MOST_SYMBOLS, symbols)
+}

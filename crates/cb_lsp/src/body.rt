@@ -1,0 +1,112 @@
+//! Bodies of messages, as a server takes them.
+ghost use Rattle.std.specs.Prelude.{◌≡◌};
+ghost use Rattle.cb_lsp.specs.Messages.{is_exit};
+ghost use Rattle.cb_lsp.specs.Models.{message_in};
+ghost use Rattle.cb_lsp.specs.steps.Turns.{going_on};
+
+use crate::Server;
+use crate::written::log;
+use cb_tags::{Sink, WriteFault};
+use cb_wire::{Message, message_of, text_of, value_of};
+use json::{Scratch, Value};
+use std::alloc::Global;
+use std::io::Write;
+
+/// Whether the client ends a run by a message.
+fn is_exit(message: &Message<'_, '_>) -> bool
+    ensures { result ≡ is_exit (message_in message.now) }
+{
+    match message {
+        Message::Notification(call) => call.method == "exit",
+        _ => false,
+    }
+}
+
+/// A run goes on behind what was written.
+pub(crate) fn going_on(written: Result<(), WriteFault>) -> Result<bool, WriteFault>
+    ensures { result ≡ going_on written }
+{
+    match written {
+        Ok(()) => Ok(false),
+        Err(fault) => Err(fault),
+    }
+}
+
+impl Server {
+    ghost use Rattle.std.specs.Prelude.{Bool, List, Some};
+    ghost use Rattle.json.specs.Json.{document};
+    ghost use Rattle.json.specs.Value.{value_view};
+    ghost use Rattle.cb_lsp.specs.Messages.{does};
+    ghost use Rattle.cb_lsp.specs.Bodies.{IsMessage, IsValue};
+    ghost use Rattle.cb_lsp.specs.Bodies.{Does, TakesBody};
+
+    /// Takes a message.
+    fn message<W: Write>(
+        &mut self,
+        alloc: Global,
+        out: &mut Sink<W>,
+        message: Message<'_, '_>,
+    ) -> Result<(), WriteFault>
+        ensures { (refusals : List Bool) × Does (does refusals self.old (message_in message.entry))
+            self.new out.old out.new result }
+    {
+        match message {
+            Message::NotRequest => log(out, b"not a request"),
+            Message::Reply => Ok(()),
+            Message::Notification(call) => self.notice(alloc, out, call),
+            Message::Request(id, call) => self.request(alloc, out, id, call),
+        }
+    }
+
+    /// Takes the value of a message; whether the client ends the run by it.
+    fn value<W: Write>(
+        &mut self,
+        alloc: Global,
+        out: &mut Sink<W>,
+        value: &Value<'_>,
+    ) -> Result<bool, WriteFault>
+        ensures { TakesBody (IsValue (Some (value_view value.now))) self.old self.new
+            out.old out.new result }
+    {
+        let message = message_of(value);
+        let last = is_exit(&message);
+        match self.message(alloc, out, message) {
+            Ok(()) => Ok(last),
+            Err(fault) => Err(fault),
+        }
+    }
+
+    /// Takes the text of a message; whether the client ends the run by it.
+    fn text<W: Write>(
+        &mut self,
+        alloc: Global,
+        out: &mut Sink<W>,
+        scratch: &mut Scratch,
+        text: &str,
+    ) -> Result<bool, WriteFault>
+        ensures { TakesBody (IsValue (document text.now)) self.old self.new
+            out.old out.new result }
+    {
+        match value_of(alloc, text, scratch) {
+            Ok(Some(value)) => self.value(alloc, out, &value),
+            Ok(None) => going_on(log(out, b"not JSON")),
+            Err(_) => going_on(log(out, b"out of memory")),
+        }
+    }
+
+    /// Takes the body of a message; whether the client ends the run by it.
+    pub fn take_body<W: Write>(
+        &mut self,
+        alloc: Global,
+        out: &mut Sink<W>,
+        scratch: &mut Scratch,
+        body: &[u8],
+    ) -> Result<bool, WriteFault>
+        ensures { TakesBody (IsMessage body.now) self.old self.new out.old out.new result }
+    {
+        match text_of(alloc, body) {
+            Ok(text) => self.text(alloc, out, scratch, text.as_str()),
+            Err(_) => going_on(log(out, b"out of memory")),
+        }
+    }
+}

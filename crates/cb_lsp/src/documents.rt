@@ -1,0 +1,230 @@
+//! The documents that the editor has open.
+ghost use Rattle.std.specs.Prelude.{◌≡◌, [], false, IfOk, OnErr, OnOk};
+ghost use Rattle.std.specs.List.{position};
+ghost use Rattle.std.specs.Option.{option_map};
+ghost use Rattle.cb_lsp.specs.Documents.{
+  document_of,
+  is_named,
+  is_open,
+  was_lost,
+  without_document,
+};
+ghost use Rattle.cb_lsp.specs.Models.{kept_in, kept_of};
+ghost use Rattle.cb_lsp.specs.steps.Noted.{
+  is_present,
+  keeps_present,
+  kept_text,
+  new_document,
+  noted,
+  text_again,
+  with_noted,
+  with_opened,
+};
+
+use std::alloc::{AllocError, Global};
+use std::marker::Model;
+
+/// The text that a file has again when its document is closed: the one that it had when the
+/// document was opened or saved.
+#[derive(Debug, Drop)]
+pub(crate) enum Kept {
+    /// None: the file stays as it is.
+    Nothing,
+    /// The one that the file has.
+    Present,
+    /// Another one.
+    Text(Vec<u8>),
+}
+
+impl Kept {
+    /// The text, if it is another one.
+    fn text(self) -> Option<Vec<u8>>
+        ensures { option_map (λ text. text.items) result ≡ kept_text (kept_of self) }
+    {
+        match self {
+            Kept::Text(text) => Some(text),
+            Kept::Nothing => None,
+            Kept::Present => None,
+        }
+    }
+}
+
+/// A document that is open.
+#[derive(Debug, Drop)]
+pub(crate) struct OpenDocument {
+    name: Vec<u8>,
+    kept: Kept,
+    /// Its last text was refused, and the client was told.
+    lost: bool,
+}
+
+impl Model for OpenDocument {
+    ghost use Rattle.cb_lsp.specs.Documents.{Document};
+    ghost use Rattle.cb_lsp.specs.Models.{kept_of};
+
+    ghost Value = { Document };
+
+    ghost view = { λ d. record {
+      name = d.name.items;
+      kept = kept_of d.kept;
+      lost = d.lost;
+    } };
+}
+
+impl OpenDocument {
+    /// The document of a file, with nothing kept.
+    fn new(name: Vec<u8>) -> OpenDocument
+        ensures { result ≡ new_document name.items }
+    {
+        OpenDocument {
+            name,
+            kept: Kept::Nothing,
+            lost: false,
+        }
+    }
+
+    /// Whether it is the document of a file.
+    fn is_named(&self, name: &[u8]) -> bool
+        ensures { result ≡ is_named name.now self.now }
+    {
+        self.name.as_slice() == name
+    }
+
+    /// Whether it keeps the present text of its file.
+    fn keeps_present(&self) -> bool
+        ensures { result ≡ is_present self.now.kept }
+    {
+        matches!(self.kept, Kept::Present)
+    }
+
+    /// Whether its last text was refused.
+    fn is_lost(&self) -> bool
+        ensures { result ≡ self.now.lost }
+    {
+        self.lost
+    }
+
+    /// Notes what it keeps, where that is another text, and whether it is lost; whether it was.
+    fn note(&mut self, kept: Option<Kept>, lost: bool) -> bool
+        ensures document { self.new ≡ noted (kept_in kept) lost self.old }
+        ensures was { result ≡ self.old.lost }
+    {
+        let was = self.lost;
+        if let Some(kept) = kept {
+            self.kept = kept;
+        }
+        self.lost = lost;
+        was
+    }
+}
+
+/// The open documents.
+#[derive(Debug, Drop)]
+pub(crate) struct Documents {
+    open: Vec<OpenDocument>,
+}
+
+impl Model for Documents {
+    ghost use Rattle.std.specs.Prelude.{List};
+    ghost use Rattle.cb_lsp.specs.Documents.{Document};
+
+    ghost Value = { List Document };
+
+    ghost view = { λ d. d.open.items };
+}
+
+/// A copy of a text.
+pub(crate) fn copy_of(alloc: Global, text: &[u8]) -> Result<Vec<u8>, AllocError>
+    ensures { IfOk result (λ copy. copy.items ≡ text.now) }
+{
+    let mut copy = Vec::new(alloc);
+    copy.extend_from_slice(text)?;
+    Ok(copy)
+}
+
+impl Documents {
+    /// None is open. It takes no memory.
+    pub(crate) fn new(alloc: Global) -> Documents
+        ensures { result ≡ [] }
+    {
+        Documents {
+            open: Vec::new(alloc),
+        }
+    }
+
+    /// The place of the document of a file among them, if it is open.
+    fn find(&self, name: &[u8]) -> Option<usize>
+        ensures { result ≡ position (is_named name.now) self.now }
+    {
+        self.open
+            .iter()
+            .position(|document| document.is_named(name))
+    }
+
+    /// Whether the document of a file is open.
+    pub(crate) fn is_open(&self, name: &[u8]) -> bool
+        ensures { result ≡ is_open self.now name.now }
+    {
+        self.open.iter().any(|document| document.is_named(name))
+    }
+
+    /// Whether the present text of its file is what the document of a file keeps.
+    pub(crate) fn keeps_present(&self, name: &[u8]) -> bool
+        ensures { result ≡ keeps_present (document_of self.now name.now) }
+    {
+        match self.find(name) {
+            Some(place) => self.open[place].keeps_present(),
+            None => false,
+        }
+    }
+
+    /// Whether the document of a file is lost.
+    pub(crate) fn is_lost(&self, name: &[u8]) -> bool
+        ensures { result ≡ was_lost (document_of self.now name.now) }
+    {
+        match self.find(name) {
+            Some(place) => self.open[place].is_lost(),
+            None => false,
+        }
+    }
+
+    /// Opens the document of a file, with nothing kept, unless it is open.
+    pub(crate) fn open(&mut self, alloc: Global, name: &[u8]) -> Result<(), AllocError>
+        ensures ok { OnOk result (self.new ≡ with_opened name.now self.old) }
+        ensures err { OnErr result (self.new ≡ self.old) }
+        ensures only { OnErr result (is_open self.old name.now ≡ false) }
+    {
+        if self.is_open(name) {
+            return Ok(());
+        }
+        let name = copy_of(alloc, name)?;
+        self.open.push(OpenDocument::new(name))?;
+        Ok(())
+    }
+
+    /// Notes what the document of a file keeps, where that is another text, and whether it is lost;
+    /// whether it was.
+    pub(crate) fn note(&mut self, name: &[u8], kept: Option<Kept>, lost: bool) -> bool
+        ensures documents { self.new ≡ with_noted (kept_in kept) lost name.now self.old }
+        ensures was { result ≡ was_lost (document_of self.old name.now) }
+    {
+        match self.find(name) {
+            Some(place) => {
+                let document = &mut self.open[place];
+                document.note(kept, lost)
+            }
+            None => false,
+        }
+    }
+
+    /// Closes the document of a file; the text that the file has again, if it is another one.
+    pub(crate) fn close(&mut self, name: &[u8]) -> Option<Vec<u8>>
+        ensures documents { self.new ≡ without_document name.now self.old }
+        ensures text { option_map (λ text. text.items) result
+            ≡ text_again (document_of self.old name.now) }
+    {
+        let place = self.find(name)?;
+        let document = self.open.remove(place);
+        document.kept.text()
+    }
+}

@@ -1,0 +1,75 @@
+//! A definition as a hover shows it.
+ghost use Rattle.std.specs.Prelude.{◌≡◌};
+ghost use Rattle.cb_wire.specs.Texts.{parts_text};
+ghost use Rattle.cb_lsp.specs.steps.Elements.{hover_element, hovers_left};
+
+use crate::meaning::Meaning;
+use cb_desk::unindented;
+use cb_tags::{Sink, WriteFault};
+use cb_wire::{Element, Elements, Part, parts_length, put_parts};
+use std::io::Write;
+
+/// The most definitions that a hover shows.
+pub(crate) const MOST_HOVERS: usize = 8;
+
+/// A definition: its file, its line (from 1) and the text of that line.
+#[derive(Clone, Copy)]
+pub(crate) struct Hover<'a> {
+    file: &'a [u8],
+    line: u32,
+    text: &'a [u8],
+}
+
+impl<'a> Hover<'a> {
+    /// The parts of its text, inside a string of JSON.
+    fn parts(&self) -> [Part<'a>; 5]
+        ensures { parts_text result ≡ hover_element self.now }
+    {
+        [
+            Part::Source(self.file),
+            Part::Raw(b":"),
+            Part::Number(self.line as usize),
+            Part::Raw(b"\\n"),
+            Part::Source(unindented(self.text)),
+        ]
+    }
+}
+
+impl Element for Hover<'_> {
+    ghost text = { hover_element };
+
+    fn put<W: Write>(&self, out: &mut Sink<W>) -> Result<(), WriteFault> {
+        put_parts(out, &self.parts())
+    }
+
+    fn length(&self) -> u128 {
+        parts_length(&self.parts())
+    }
+}
+
+/// What a word means, as a hover shows it.
+#[derive(Drop)]
+pub(crate) struct Hovers<'a, 'p> {
+    pub(crate) rest: Meaning<'a, 'p>,
+}
+
+impl<'a, 'p> Elements for Hovers<'a, 'p> {
+    type Item = Hover<'a>;
+
+    ghost texts = { hovers_left };
+
+    fn again(&self) -> Hovers<'a, 'p> {
+        Hovers {
+            rest: self.rest.again(),
+        }
+    }
+
+    fn next(&mut self) -> Option<Hover<'a>> {
+        let row = self.rest.next()?;
+        Some(Hover {
+            file: row.file,
+            line: row.line,
+            text: row.text,
+        })
+    }
+}

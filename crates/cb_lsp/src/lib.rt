@@ -1,0 +1,32 @@
+//! A language server for C: what editors ask by the Language Server Protocol (LSP 3.17).
+//!
+//! A [`Server`] has the files of a desk and the documents that the editor has open. It reads
+//! messages from a feed, and writes replies to a sink. It stands on `cb_desk` (the files, what they
+//! define) and `cb_wire` (messages, replies, positions, URIs). The layer above uses the contract of
+//! [`Server::serve`].
+#![tactic(auto)]
+
+mod answers;
+mod body;
+mod documents;
+mod header;
+mod hover;
+mod kind;
+mod location;
+mod meaning;
+mod notice;
+mod params;
+mod place;
+mod question;
+mod run;
+mod server;
+mod symbols;
+mod text;
+mod turn;
+mod word;
+mod workspace;
+mod written;
+
+pub use run::RunFault;
+pub use server::Server;
+pub use turn::Ending;

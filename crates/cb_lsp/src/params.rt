@@ -1,0 +1,219 @@
+//! The parameters of requests and notifications.
+ghost use Rattle.std.specs.Prelude.{◌≡◌, MatchOption};
+ghost use Rattle.std.specs.Option.{option_map};
+ghost use Rattle.json.specs.Value.{items_view, value_view};
+ghost use Rattle.cb_lsp.specs.Params.{
+  document_text,
+  first_of,
+  has_text,
+  is_deletion,
+  is_text,
+  is_true,
+  items_in,
+  last_of,
+  last_text,
+  member_of,
+  number_in,
+  position_in,
+  query_in,
+  root_in,
+  takes_trees,
+  takes_utf8,
+  text_in,
+  uri_in,
+  whole_text,
+};
+ghost use Rattle.cb_lsp.specs.steps.Values.{seen};
+
+use cb_wire::Position;
+use json::Value;
+
+/// A member of a value, if it has one.
+pub(crate) fn member<'v, 'a>(value: Option<&'v Value<'a>>, name: &str) -> Option<&'v Value<'a>>
+    ensures { seen result ≡ member_of name.now (seen value.entry) }
+{
+    match value {
+        Some(value) => value.get(name),
+        None => None,
+    }
+}
+
+/// The text of a value, if it is one.
+pub(crate) fn text_in<'v, 'a>(value: Option<&'v Value<'a>>) -> Option<&'a str>
+    ensures { option_map (λ s. s.now) result ≡ text_in (seen value.entry) }
+{
+    match value {
+        Some(value) => value.as_str(),
+        None => None,
+    }
+}
+
+/// The number of a value, if it is an integer from 0 up.
+fn number_in<'v, 'a>(value: Option<&'v Value<'a>>) -> Option<usize>
+    ensures { result ≡ number_in (seen value.entry) }
+{
+    match value {
+        Some(value) => match value.as_u64() {
+            Some(number) => Some(number as usize),
+            None => None,
+        },
+        None => None,
+    }
+}
+
+/// The items of a value, if it is a list.
+pub(crate) fn items_in<'v, 'a>(value: Option<&'v Value<'a>>) -> Option<&'v [Value<'a>]>
+    ensures { option_map (λ items. items_view items.now) result ≡ items_in (seen value.entry) }
+{
+    match value {
+        Some(Value::Array(items)) => Some(items.as_slice()),
+        _ => None,
+    }
+}
+
+/// Whether a value is `true`.
+fn is_true<'v, 'a>(value: Option<&'v Value<'a>>) -> bool
+    ensures { result ≡ is_true (seen value.entry) }
+{
+    match value {
+        Some(value) => matches!(value.as_bool(), Some(true)),
+        None => false,
+    }
+}
+
+/// `textDocument.uri`.
+pub(crate) fn uri_of<'v, 'a>(params: Option<&'v Value<'a>>) -> Option<&'a str>
+    ensures { option_map (λ s. s.now) result ≡ uri_in (seen params.entry) }
+{
+    text_in(member(member(params, "textDocument"), "uri"))
+}
+
+/// `textDocument.text`.
+pub(crate) fn text_of<'v, 'a>(params: Option<&'v Value<'a>>) -> Option<&'a str>
+    ensures { option_map (λ s. s.now) result ≡ document_text (seen params.entry) }
+{
+    text_in(member(member(params, "textDocument"), "text"))
+}
+
+/// `query`.
+pub(crate) fn query_of<'v, 'a>(params: Option<&'v Value<'a>>) -> Option<&'a str>
+    ensures { option_map (λ s. s.now) result ≡ query_in (seen params.entry) }
+{
+    text_in(member(params, "query"))
+}
+
+/// `position`: a line and a character, integers from 0 up.
+pub(crate) fn position_of<'v, 'a>(params: Option<&'v Value<'a>>) -> Option<Position>
+    ensures { result ≡ position_in (seen params.entry) }
+{
+    let position = member(params, "position");
+    let line = number_in(member(position, "line"))?;
+    let character = number_in(member(position, "character"))?;
+    Some(Position { line, character })
+}
+
+/// Whether the client takes symbols of a document as a tree.
+pub(crate) fn takes_trees<'v, 'a>(params: Option<&'v Value<'a>>) -> bool
+    ensures { result ≡ takes_trees (seen params.entry) }
+{
+    let document = member(member(params, "capabilities"), "textDocument");
+    let symbol = member(document, "documentSymbol");
+    is_true(member(symbol, "hierarchicalDocumentSymbolSupport"))
+}
+
+/// Whether a value is this text.
+fn is_text<'v, 'a>(value: &'v Value<'a>, text: &str) -> bool
+    ensures { result ≡ is_text text.now (value_view value.now) }
+{
+    match value.as_str() {
+        Some(other) => other == text,
+        None => false,
+    }
+}
+
+/// Whether one of these values is a text.
+fn has_text(values: &[Value<'_>], text: &str) -> bool
+    ensures { result ≡ has_text text.now (items_view values.now) }
+{
+    'values: for value in values {
+        if is_text(value, text) {
+            return true;
+        }
+    }
+    false
+}
+
+/// Whether the client takes positions in UTF-8.
+pub(crate) fn takes_utf8<'v, 'a>(params: Option<&'v Value<'a>>) -> bool
+    ensures { result ≡ takes_utf8 (seen params.entry) }
+{
+    let general = member(member(params, "capabilities"), "general");
+    match items_in(member(general, "positionEncodings")) {
+        Some(encodings) => has_text(encodings, "utf-8"),
+        None => false,
+    }
+}
+
+/// The first item of a value, if it is a list and has one.
+fn first_in<'v, 'a>(value: Option<&'v Value<'a>>) -> Option<&'v Value<'a>>
+    ensures { seen result ≡ first_of (seen value.entry) }
+{
+    match value {
+        Some(value) => value.at(0),
+        None => None,
+    }
+}
+
+/// The URI of the first folder, or else of the root, if the client names one.
+pub(crate) fn root_of<'v, 'a>(params: Option<&'v Value<'a>>) -> Option<&'a str>
+    ensures { option_map (λ s. s.now) result ≡ root_in (seen params.entry) }
+{
+    let folder = first_in(member(params, "workspaceFolders"));
+    match text_in(member(folder, "uri")) {
+        Some(uri) => Some(uri),
+        None => text_in(member(params, "rootUri")),
+    }
+}
+
+/// The text of a change, if it is a whole text.
+fn whole_text<'v, 'a>(change: &'v Value<'a>) -> Option<&'a str>
+    ensures { option_map (λ s. s.now) result ≡ whole_text (value_view change.now) }
+{
+    if change.get("range").is_some() {
+        return None;
+    }
+    text_in(change.get("text"))
+}
+
+/// The last text of some changes, each of which is a whole text: none where there is no change;
+/// `None` where one is no such change.
+fn last_of<'v, 'a>(changes: &'v [Value<'a>]) -> Option<Option<&'a str>>
+    ensures { option_map (option_map (λ s. s.now)) result
+        ≡ last_of (items_view changes.now) None }
+{
+    let mut last = None;
+    'changes: for change in changes {
+        match whole_text(change) {
+            Some(text) => last = Some(text),
+            None => return None,
+        }
+    }
+    Some(last)
+}
+
+/// The last text of the changes of a document, as [`last_of`] tells it.
+pub(crate) fn last_text<'v, 'a>(params: Option<&'v Value<'a>>) -> Option<Option<&'a str>>
+    ensures { option_map (option_map (λ s. s.now)) result ≡ last_text (seen params.entry) }
+{
+    match items_in(member(params, "contentChanges")) {
+        Some(changes) => last_of(changes),
+        None => None,
+    }
+}
+
+/// Whether a file event says that the file is gone.
+pub(crate) fn is_deletion(event: &Value<'_>) -> bool
+    ensures { result ≡ is_deletion (value_view event.now) }
+{
+    number_in(event.get("type")) == Some(3)
+}

@@ -1,0 +1,102 @@
+//! What requests ask of the files.
+ghost use Rattle.std.specs.Prelude.{◌≡◌, MatchResult};
+ghost use Rattle.std.specs.Option.{option_map};
+ghost use Rattle.cb_lsp.specs.Models.{asked_in, asked_of};
+ghost use Rattle.cb_lsp.specs.Questions.{
+  asked_by,
+  at_place,
+  in_file,
+  or_bad,
+  workspace_symbols,
+};
+ghost use Rattle.cb_lsp.specs.Params.{position_in, query_in, uri_in};
+ghost use Rattle.cb_lsp.specs.steps.Values.{seen};
+
+use crate::params::{position_of, query_of, uri_of};
+use cb_wire::{Call, Position};
+
+/// A question about one file.
+#[derive(Clone, Copy, Debug, PartialEq, Eq)]
+pub(crate) enum FileQuestion {
+    /// Its symbols.
+    Symbols,
+    /// Where what stands at a position is defined.
+    Definition(Position),
+    /// What stands at a position.
+    Hover(Position),
+}
+
+/// A question about the files.
+#[derive(Clone, Copy, Debug, PartialEq, Eq)]
+pub(crate) enum Question<'a> {
+    /// About the file of a URI.
+    InFile(&'a str, FileQuestion),
+    /// The symbols of the session that a query names.
+    WorkspaceSymbols(&'a str),
+}
+
+/// Why a request asks nothing.
+#[derive(Clone, Copy, Debug, PartialEq, Eq)]
+pub(crate) enum Unasked {
+    UnknownMethod,
+    BadParameters,
+}
+
+/// The question that is made, if there is one.
+fn or_bad(question: Option<Question<'_>>) -> Result<Question<'_>, Unasked>
+    ensures { asked_in result ≡ or_bad (option_map asked_of question.entry) }
+{
+    match question {
+        Some(question) => Ok(question),
+        None => Err(Unasked::BadParameters),
+    }
+}
+
+fn document_symbols<'v, 'a>(call: Call<'v, 'a>) -> Option<Question<'a>>
+    ensures { option_map asked_of result ≡ option_map (λ uri. in_file uri FileQuestion.Symbols)
+        (uri_in (seen call.entry.params)) }
+{
+    Some(Question::InFile(uri_of(call.params)?, FileQuestion::Symbols))
+}
+
+fn definition<'v, 'a>(call: Call<'v, 'a>) -> Option<Question<'a>>
+    ensures { option_map asked_of result ≡ at_place FileQuestion.Definition
+        (uri_in (seen call.entry.params)) (position_in (seen call.entry.params)) }
+{
+    let uri = uri_of(call.params)?;
+    let position = position_of(call.params)?;
+    Some(Question::InFile(uri, FileQuestion::Definition(position)))
+}
+
+fn hover<'v, 'a>(call: Call<'v, 'a>) -> Option<Question<'a>>
+    ensures { option_map asked_of result ≡ at_place FileQuestion.Hover
+        (uri_in (seen call.entry.params)) (position_in (seen call.entry.params)) }
+{
+    let uri = uri_of(call.params)?;
+    let position = position_of(call.params)?;
+    Some(Question::InFile(uri, FileQuestion::Hover(position)))
+}
+
+fn workspace_symbols<'v, 'a>(call: Call<'v, 'a>) -> Option<Question<'a>>
+    ensures { option_map asked_of result
+        ≡ option_map workspace_symbols (query_in (seen call.entry.params)) }
+{
+    Some(Question::WorkspaceSymbols(query_of(call.params)?))
+}
+
+/// What a call asks.
+pub(crate) fn question_of<'v, 'a>(call: Call<'v, 'a>) -> Result<Question<'a>, Unasked>
+    ensures { asked_in result ≡ asked_by call.entry.method.now (seen call.entry.params) }
+{
+    if call.method == "textDocument/documentSymbol" {
+        or_bad(document_symbols(call))
+    } else if call.method == "textDocument/definition" {
+        or_bad(definition(call))
+    } else if call.method == "textDocument/hover" {
+        or_bad(hover(call))
+    } else if call.method == "workspace/symbol" {
+        or_bad(workspace_symbols(call))
+    } else {
+        Err(Unasked::UnknownMethod)
+    }
+}

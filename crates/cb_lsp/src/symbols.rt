@@ -1,0 +1,284 @@
+//! The symbols of a document, of the whole session, and where they are.
+ghost use Rattle.std.specs.Prelude.{◌≡◌, ◌∷◌, [], MatchOption, false, filter, true};
+ghost use Rattle.cb_tags.specs.TagLines.{tag_of};
+ghost use Rattle.cb_wire.specs.Symbols.{symbol_text, tree_symbol_text};
+ghost use Rattle.cb_wire.specs.Values.{value_text};
+ghost use Rattle.cb_lsp.specs.Headers.{files_named};
+ghost use Rattle.cb_lsp.specs.Searches.{is_like};
+ghost use Rattle.cb_lsp.specs.Symbols.{file_symbol_as, session_symbol};
+ghost use Rattle.cb_lsp.specs.steps.Elements.{
+  client_in,
+  file_left,
+  files_left,
+  flat_left,
+  places_left,
+  session_left,
+  tree_left,
+};
+
+use crate::kind::kind_number;
+use crate::location::{Forms, file_place, place_of, range_of};
+use crate::meaning::Meaning;
+use crate::place::{bytes_of, line_range};
+use crate::text::holds_like;
+use cb_desk::{Definitions, Desk, Files, TagRows, is_header};
+use cb_scan::{Def, Source};
+use cb_tags::TagRow;
+use cb_wire::{Elements, Location, Symbol, TreeSymbol};
+
+/// The most symbols of a session that are told.
+pub(crate) const MOST_SYMBOLS: usize = 1_000;
+
+/// The definitions of a file.
+#[derive(Clone, Copy)]
+pub(crate) struct FileDefs<'a> {
+    pub(crate) forms: Forms<'a>,
+    pub(crate) file: &'a [u8],
+    pub(crate) source: &'a Source,
+    pub(crate) rest: &'a [Def],
+}
+
+impl<'a> FileDefs<'a> {
+    /// A definition in the flat form.
+    fn flat(&self, def: &Def) -> Symbol<'a>
+        ensures { symbol_text result ≡ value_text (file_symbol_as false (client_in self.now.forms)
+            self.now.file.now self.now.source.now def.now) }
+    {
+        Symbol {
+            name: bytes_of(self.source, def.name),
+            kind: kind_number(def.kind),
+            location: Location {
+                root: self.forms.root,
+                name: self.file,
+                range: range_of(self.forms, self.source, def.name),
+            },
+        }
+    }
+
+    /// A definition in the tree form.
+    fn tree(&self, def: &Def) -> TreeSymbol<'a>
+        ensures { tree_symbol_text result ≡ value_text (file_symbol_as true
+            (client_in self.now.forms) self.now.file.now self.now.source.now def.now) }
+    {
+        let line = line_range(self.forms.encoding, self.source, def.name.start);
+        let range = range_of(self.forms, self.source, def.name);
+        TreeSymbol {
+            name: bytes_of(self.source, def.name),
+            kind: kind_number(def.kind),
+            line,
+            range,
+        }
+    }
+}
+
+/// As symbols of the flat form.
+#[derive(Clone, Copy)]
+pub(crate) struct FlatSymbols<'a> {
+    pub(crate) defs: FileDefs<'a>,
+}
+
+impl<'a> Elements for FlatSymbols<'a> {
+    type Item = Symbol<'a>;
+
+    ghost texts = { flat_left };
+
+    fn again(&self) -> FlatSymbols<'a> {
+        *self
+    }
+
+    fn next(&mut self) -> Option<Symbol<'a>> {
+        match self.defs.rest {
+            [def, rest @ ..] => {
+                self.defs.rest = rest;
+                Some(self.defs.flat(def))
+            }
+            [] => None,
+        }
+    }
+}
+
+/// As symbols of the tree form.
+#[derive(Clone, Copy)]
+pub(crate) struct TreeSymbols<'a> {
+    pub(crate) defs: FileDefs<'a>,
+}
+
+impl<'a> Elements for TreeSymbols<'a> {
+    type Item = TreeSymbol<'a>;
+
+    ghost texts = { tree_left };
+
+    fn again(&self) -> TreeSymbols<'a> {
+        *self
+    }
+
+    fn next(&mut self) -> Option<TreeSymbol<'a>> {
+        match self.defs.rest {
+            [def, rest @ ..] => {
+                self.defs.rest = rest;
+                Some(self.defs.tree(def))
+            }
+            [] => None,
+        }
+    }
+}
+
+/// Where what a word means is.
+#[derive(Drop)]
+pub(crate) struct Places<'a, 'p> {
+    pub(crate) forms: Forms<'a>,
+    pub(crate) desk: &'a Desk,
+    pub(crate) rest: Meaning<'a, 'p>,
+}
+
+impl<'a, 'p> Elements for Places<'a, 'p> {
+    type Item = Location<'a>;
+
+    ghost texts = { places_left };
+
+    fn again(&self) -> Places<'a, 'p> {
+        Places {
+            forms: self.forms,
+            desk: self.desk,
+            rest: self.rest.again(),
+        }
+    }
+
+    fn next(&mut self) -> Option<Location<'a>> {
+        let row = self.rest.next()?;
+        Some(place_of(self.forms, self.desk, &row))
+    }
+}
+
+/// A definition of the session.
+fn session_symbol<'a>(forms: Forms<'a>, desk: &'a Desk, row: &TagRow<'a>) -> Symbol<'a>
+    ensures { symbol_text result ≡ value_text (session_symbol (client_in forms.entry)
+        desk.entry.now.timeline.present.files (tag_of row.now)) }
+{
+    Symbol {
+        name: row.name,
+        kind: kind_number(row.kind),
+        location: place_of(forms, desk, row),
+    }
+}
+
+/// Whether the name of a definition holds the query, and is not it.
+fn is_like(query: &[u8], row: &TagRow<'_>) -> bool
+    ensures { result ≡ is_like query.now (tag_of row.now) }
+{
+    row.name != query && holds_like(query, row.name)
+}
+
+/// The next definition whose name holds the query, and is not it.
+fn next_like<'a>(rows: &mut TagRows<'a>, query: &[u8]) -> Option<TagRow<'a>>
+    ensures { MatchOption result (filter (is_like query.now) rows.old ≡ [])
+        (λ row. filter (is_like query.now) rows.old
+        ≡ tag_of row ∷ filter (is_like query.now) rows.new) }
+{
+    'rows: while let Some(row) = rows.next() {
+        if is_like(query, &row) {
+            return Some(row);
+        }
+    }
+    None
+}
+
+/// The definitions of the session whose name is a text, and then those whose name holds it.
+#[derive(Drop)]
+pub(crate) struct SessionSymbols<'a, 'p> {
+    pub(crate) forms: Forms<'a>,
+    pub(crate) desk: &'a Desk,
+    pub(crate) query: &'p [u8],
+    pub(crate) named: Definitions<'a, 'p>,
+    pub(crate) all: TagRows<'a>,
+}
+
+impl<'a, 'p> Elements for SessionSymbols<'a, 'p> {
+    type Item = Symbol<'a>;
+
+    ghost texts = { session_left };
+
+    fn again(&self) -> SessionSymbols<'a, 'p> {
+        SessionSymbols {
+            forms: self.forms,
+            desk: self.desk,
+            query: self.query,
+            named: self.named.again(),
+            all: self.all.again(),
+        }
+    }
+
+    fn next(&mut self) -> Option<Symbol<'a>> {
+        match self.named.next() {
+            Some(row) => Some(session_symbol(self.forms, self.desk, &row)),
+            None => {
+                let row = next_like(&mut self.all, self.query)?;
+                Some(session_symbol(self.forms, self.desk, &row))
+            }
+        }
+    }
+}
+
+/// The next file whose name is the header, or ends in a slash and that.
+fn next_named<'a>(files: &mut Files<'a>, header: &[u8]) -> Option<&'a [u8]>
+    ensures { MatchOption result (files_named header.now files.old ≡ [])
+        (λ name. files_named header.now files.old
+        ≡ name.now ∷ files_named header.now files.new) }
+{
+    'files: while let Some((name, _)) = files.next() {
+        if is_header(header, name) {
+            return Some(name);
+        }
+    }
+    None
+}
+
+/// Where the files that a header means are: those whose name is the header, or ends in a slash and
+/// that.
+#[derive(Drop)]
+pub(crate) struct HeaderFiles<'a, 'p> {
+    pub(crate) forms: Forms<'a>,
+    pub(crate) header: &'p [u8],
+    pub(crate) rest: Files<'a>,
+}
+
+impl<'a, 'p> Elements for HeaderFiles<'a, 'p> {
+    type Item = Location<'a>;
+
+    ghost texts = { files_left };
+
+    fn again(&self) -> HeaderFiles<'a, 'p> {
+        HeaderFiles {
+            forms: self.forms,
+            header: self.header,
+            rest: self.rest.again(),
+        }
+    }
+
+    fn next(&mut self) -> Option<Location<'a>> {
+        let name = next_named(&mut self.rest, self.header)?;
+        Some(file_place(self.forms, name))
+    }
+}
+
+/// Where the files of a name are: one, or none.
+#[derive(Clone, Copy)]
+pub(crate) struct OneFile<'a> {
+    pub(crate) forms: Forms<'a>,
+    pub(crate) rest: Option<&'a [u8]>,
+}
+
+impl<'a> Elements for OneFile<'a> {
+    type Item = Location<'a>;
+
+    ghost texts = { file_left };
+
+    fn again(&self) -> OneFile<'a> {
+        *self
+    }
+
+    fn next(&mut self) -> Option<Location<'a>> {
+        let name = self.rest.take()?;
+        Some(file_place(self.forms, name))
+    }
+}

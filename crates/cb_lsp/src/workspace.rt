@@ -1,0 +1,290 @@
+//! The files of a server, and the documents that the editor has open.
+ghost use Rattle.std.specs.Prelude.{
+  ◌≡◌,
+  ◌<◌,
+  ◌≤◌,
+  Bool,
+  true,
+  List,
+  [],
+  length,
+  ◌⊎◌,
+  IfErr,
+  IfOk,
+};
+ghost use Rattle.std.specs.Option.{option_copied, option_map};
+ghost use Rattle.cb_tags.specs.Names.{is_file_name};
+ghost use Rattle.cb_desk.specs.Models.{step_of};
+ghost use Rattle.cb_lsp.specs.Documents.{
+  changed,
+  closed,
+  document_of,
+  opened,
+  removed,
+  saved,
+  taken,
+  text_step,
+  told_unless,
+  was_lost,
+};
+ghost use Rattle.cb_lsp.specs.Messages.{told_of};
+ghost use Rattle.cb_lsp.specs.Models.{kept_in};
+ghost use Rattle.cb_lsp.specs.steps.Noted.{with_noted};
+ghost use Rattle.cb_lsp.specs.steps.Values.{seen};
+ghost use Rattle.cb_lsp.specs.steps.Works.{Becomes, Reloads, kept_before};
+
+use crate::documents::{Documents, Kept, copy_of};
+use crate::notice::Notice;
+use crate::params;
+use cb_desk::{Change, Desk, Field, Refusal};
+use json::Value;
+use std::alloc::{AllocError, Global};
+use std::marker::Model;
+
+/// The files, and the documents that are open. No change of a file can be undone.
+#[derive(Drop)]
+pub(crate) struct Workspace {
+    desk: Desk,
+    documents: Documents,
+}
+
+impl Model for Workspace {
+    ghost use Rattle.cb_lsp.specs.Documents.{Work};
+    ghost use Rattle.cb_lsp.specs.steps.Works.{IsForgotten};
+
+    ghost Value = { Work };
+
+    ghost view = { λ w. record {
+      world = w.desk.timeline.present;
+      documents = w.documents;
+    } };
+
+    ghost invariant = { λ w. IsForgotten w.desk.timeline };
+}
+
+/// What is told of a document that is lost, unless it was lost.
+fn told_unless(was_lost: bool, why: &'static str) -> Option<&'static str>
+    ensures { option_copied result ≡ told_unless was_lost why.now }
+{
+    if was_lost { None } else { Some(why) }
+}
+
+impl Workspace {
+    /// The files of a desk, with no document open. It takes no memory.
+    pub(crate) fn new(alloc: Global, desk: Desk) -> Workspace
+        requires { 1 ≤ desk.timeline.present.bounds.history }
+        ensures world { result.world ≡ desk.timeline.present }
+        ensures documents { result.documents ≡ [] }
+    {
+        let mut desk = desk;
+        desk.forget();
+        Workspace {
+            desk,
+            documents: Documents::new(alloc),
+        }
+    }
+
+    /// The files.
+    pub(crate) fn desk(&self) -> &Desk
+        ensures { result.now.timeline.present ≡ self.now.world }
+    {
+        &self.desk
+    }
+
+    /// Puts in order what questions about definitions read. It changes no answer.
+    pub(crate) fn settle(&mut self)
+        ensures { self.new ≡ self.old }
+    {
+        self.desk.settle(Field::Definition);
+    }
+
+    /// Makes a change, and forgets what was before it.
+    fn make(&mut self, alloc: Global, change: Change<'_>) -> Result<(), Refusal>
+        ensures { (no_memory : Bool) × Becomes
+            (taken no_memory self.old.world (step_of change.entry)) self.old self.new result }
+    {
+        self.desk.change(alloc, change)?;
+        self.desk.forget();
+        Ok(())
+    }
+
+    /// Gives a file a text.
+    fn take(&mut self, alloc: Global, name: &[u8], text: Vec<u8>) -> Result<(), Refusal>
+        ensures { (no_text : Bool) × Becomes (taken no_text self.old.world
+            (text_step self.old.world.files name.now text.items)) self.old self.new result }
+    {
+        if self.desk.source(name).is_some() {
+            self.make(alloc, Change::Reload(name, text))
+        } else {
+            self.make(alloc, Change::Load(name, text))
+        }
+    }
+
+    /// A copy of a text, unless it is larger than a file may be.
+    fn copy(&self, alloc: Global, text: &[u8]) -> Result<Vec<u8>, Refusal>
+        ensures text { IfOk result (λ copy. copy.items ≡ text.now) }
+        ensures refusal { IfErr result (λ r. (r ≡ Refusal.OutOfMemory) ⊎ ((r ≡ Refusal.TooLarge)
+            × (self.now.world.bounds.file_bytes < length text.now))) }
+    {
+        if text.len() > self.desk.bounds().file_bytes() as usize {
+            return Err(Refusal::TooLarge);
+        }
+        Ok(copy_of(alloc, text)?)
+    }
+
+    /// The text of a file, where its document keeps it when it is given another one.
+    fn before(&self, alloc: Global, name: &[u8]) -> Result<Option<Kept>, AllocError>
+        ensures { IfOk result (λ kept. kept_in kept ≡ kept_before self.now.world.files name.now
+            (document_of self.now.documents name.now)) }
+    {
+        if !self.documents.keeps_present(name) {
+            return Ok(None);
+        }
+        match self.desk.source(name) {
+            Some(source) => Ok(Some(Kept::Text(copy_of(alloc, source.bytes())?))),
+            None => Ok(Some(Kept::Text(Vec::new(alloc)))),
+        }
+    }
+
+    /// Gives the file of a document that is opened its text.
+    fn load(&mut self, alloc: Global, name: &[u8], text: &[u8]) -> Result<(), Refusal>
+        requires { is_file_name name.now ≡ true }
+        ensures { (no_text : Bool) × Becomes (taken no_text self.old.world
+            (text_step self.old.world.files name.now text.now)) self.old self.new result }
+    {
+        let text = self.copy(alloc, text)?;
+        self.take(alloc, name, text)
+    }
+
+    /// A document is lost; what the client is told.
+    fn lose(&mut self, name: &[u8], why: &'static str) -> Option<&'static str>
+        ensures world { self.new.world ≡ self.old.world }
+        ensures documents { self.new.documents
+            ≡ with_noted None true name.now self.old.documents }
+        ensures told { option_copied result
+            ≡ told_unless (was_lost (document_of self.old.documents name.now)) why.now }
+    {
+        told_unless(self.documents.note(name, None, true), why)
+    }
+
+    /// Opens a document with a text; what the client is told.
+    pub(crate) fn open(&mut self, alloc: Global, name: &[u8], text: &[u8]) -> Option<&'static str>
+        requires { is_file_name name.now ≡ true }
+        ensures { (refusals : List Bool) × (record { work = self.new; told = option_copied result }
+            ≡ opened refusals self.old name.now text.now) }
+    {
+        match self.documents.open(alloc, name) {
+            Ok(()) => {}
+            Err(_) => return Some(Refusal::OutOfMemory.text()),
+        }
+        match self.load(alloc, name, text) {
+            Ok(()) => {
+                self.documents.note(name, Some(Kept::Present), false);
+                None
+            }
+            Err(refusal) => {
+                let was_lost = self.documents.note(name, Some(Kept::Nothing), true);
+                told_unless(was_lost, refusal.text())
+            }
+        }
+    }
+
+    /// Gives the file of an open document another text.
+    fn reload(&mut self, alloc: Global, name: &[u8], text: &[u8]) -> Result<(), Refusal>
+        requires { is_file_name name.now ≡ true }
+        ensures { (no_text : Bool) × Reloads (taken no_text self.old.world
+            (text_step self.old.world.files name.now text.now)) name.now self.old self.new result }
+    {
+        let text = self.copy(alloc, text)?;
+        let kept = self.before(alloc, name)?;
+        self.take(alloc, name, text)?;
+        self.documents.note(name, kept, false);
+        Ok(())
+    }
+
+    /// Changes a document to the last of some texts; what the client is told.
+    pub(crate) fn change(
+        &mut self,
+        alloc: Global,
+        name: &[u8],
+        last: Option<Option<&str>>,
+    ) -> Option<&'static str>
+        requires { is_file_name name.now ≡ true }
+        ensures { (refusals : List Bool) × (record { work = self.new; told = option_copied result }
+            ≡ changed refusals self.old name.now (option_map option_copied last.entry)) }
+    {
+        if !self.documents.is_open(name) {
+            return None;
+        }
+        match last {
+            None => self.lose(name, "bad parameters"),
+            Some(None) => None,
+            Some(Some(text)) => match self.reload(alloc, name, text.as_bytes()) {
+                Ok(()) => None,
+                Err(refusal) => self.lose(name, refusal.text()),
+            },
+        }
+    }
+
+    /// Keeps the present text of a document, unless it is lost.
+    pub(crate) fn save(&mut self, name: &[u8])
+        ensures { record { work = self.new; told = None } ≡ saved self.old name.now }
+    {
+        if !self.documents.is_lost(name) {
+            self.documents.note(name, Some(Kept::Present), false);
+        }
+    }
+
+    /// Closes a document, whose file has again the text that was kept; what the client is told.
+    pub(crate) fn close(&mut self, alloc: Global, name: &[u8]) -> Option<&'static str>
+        ensures { (refusals : List Bool) × (record { work = self.new; told = option_copied result }
+            ≡ closed refusals self.old name.now) }
+    {
+        let text = self.documents.close(name)?;
+        match self.take(alloc, name, text) {
+            Ok(()) => None,
+            Err(refusal) => Some(refusal.text()),
+        }
+    }
+
+    /// Takes a file away that is gone, unless its document is open; what the client is told.
+    pub(crate) fn remove(&mut self, alloc: Global, name: &[u8]) -> Option<&'static str>
+        ensures { (no_memory : Bool) × (record { work = self.new; told = option_copied result }
+            ≡ removed no_memory self.old name.now) }
+    {
+        if self.documents.is_open(name) || self.desk.source(name).is_none() {
+            return None;
+        }
+        match self.make(alloc, Change::Unload(name)) {
+            Ok(()) => None,
+            Err(refusal) => Some(refusal.text()),
+        }
+    }
+
+    /// Takes a notification about the document of a file; what the client is told.
+    pub(crate) fn take_notice(
+        &mut self,
+        alloc: Global,
+        notice: Notice,
+        params: Option<&Value<'_>>,
+        name: &[u8],
+    ) -> Option<&'static str>
+        requires { is_file_name name.now ≡ true }
+        ensures { (refusals : List Bool) × (record { work = self.new; told = option_copied result }
+            ≡ told_of notice refusals self.old (seen params.entry) name.now) }
+    {
+        match notice {
+            Notice::Open => match params::text_of(params) {
+                Some(text) => self.open(alloc, name, text.as_bytes()),
+                None => None,
+            },
+            Notice::Change => self.change(alloc, name, params::last_text(params)),
+            Notice::Save => {
+                self.save(name);
+                None
+            }
+            Notice::Close => self.close(alloc, name),
+            Notice::Files => None,
+        }
+    }
+}
