@@ -5,7 +5,7 @@ use Rattle.std.specs.Borrow.{Bor}
 use Rattle.clap.specs.Words.{App, Row, Text, found_of, new_app, rows_of, with_rule, with_subcommand}
 use Rattle.clap.specs.declared.builder.ValueParser.TheVariants.{Names}
 use Rattle.clap.specs.declared.ArgMatches.{ArgMatches}
-use Rattle.cb_words.specs.Jobs.{find_app, format_rule, line_app}
+use Rattle.cb_words.specs.Jobs.{find_app, format_rule, line_app, lsp_app}
 use Rattle.cb_words.specs.Jobs.{listing_rule, tagsfile_rule, with_bounds, with_files}
 use Rattle.cb_words.specs.Jobs.{with_profile, with_version}
 
@@ -22,8 +22,9 @@ tags_app_of choices =
 -- the program's command, whose formats are these texts
 abbrev pub browse_app_of : Bor (List (Bor Text)) → App
 browse_app_of choices =
-    with_subcommand (with_subcommand (with_subcommand (with_version (new_app (codes "cbrowse")))
-    line_app.top) find_app.top) (tags_app_of choices).top
+    with_subcommand (with_subcommand (with_subcommand (with_subcommand
+    (with_version (new_app (codes "cbrowse"))) line_app.top) find_app.top)
+    (tags_app_of choices).top) lsp_app.top
 
 -- the command is the one whose formats are the texts 1 and 2
 abbrev pub TakesFormats : (Bor (List (Bor Text)) → App) → App → Type 0

@@ -1,6 +1,7 @@
 -- The command line: its subcommands, and the job that the words give.
 use Rattle.std.specs.Prelude.{◌≡◌, ◌≢◌, ◌+◌, ◌-◌, ℕ, Bool, List, [], ◌∷◌, Option, None, Some}
-use Rattle.std.specs.Prelude.{true, false, ◌||◌, codes, is_some, map, string_bytes, unwrap_or}
+use Rattle.std.specs.Prelude.{true, false, ◌||◌, codes, is_some, map, nat_eq, string_bytes, unwrap_or}
+use Rattle.std.specs.List.{starts_with}
 use Rattle.std.specs.Option.{option_map}
 use Rattle.std.specs.Str.{bytes_eq}
 use Rattle.std.specs.Str.Parse.{digits_value, without_leading_plus}
@@ -16,7 +17,7 @@ use Rattle.cb_desk.specs.declared.tags.Format.{Format}
 use Rattle.cb_desk.specs.declared.tags.Format.TheVariants.{Plain, Extended}
 use Rattle.cb_desk.specs.World.{WorldBounds, standard_bounds}
 use Rattle.cb_words.specs.declared.job.Job.{Job}
-use Rattle.cb_words.specs.declared.job.Job.TheVariants.{Line, Find, Tags}
+use Rattle.cb_words.specs.declared.job.Job.TheVariants.{Line, Find, Tags, Lsp}
 
 -- `FILE..`
 abbrev pub files_rule : Rule
@@ -112,6 +113,16 @@ tags_app =
     with_files (with_bounds (with_profile (with_rule (with_rule (with_rule (new_app (codes "tags"))
     listing_rule) tagsfile_rule) format_rule)))
 
+-- `--root DIR`
+abbrev pub root_rule : Rule
+root_rule = record (new_rule (codes "root")) { long = Some (codes "root"); value_names = 1 }
+
+-- `lsp [--root DIR] [--wide] [--prototypes] [--max-files N] [--max-file-bytes N]
+-- [--files-from LIST] [FILE..]`: a language server over standard input and output
+abbrev pub lsp_app : App
+lsp_app =
+    with_files (with_bounds (with_profile (with_rule (new_app (codes "lsp")) root_rule)))
+
 -- a command that needs one of its subcommands and tells its version
 abbrev pub with_version : App → App
 with_version a = record a { top = record a.top { subcommand_required = true; has_version = true } }
@@ -119,8 +130,9 @@ with_version a = record a { top = record a.top { subcommand_required = true; has
 -- the program's command
 abbrev pub browse_app : App
 browse_app =
-    with_subcommand (with_subcommand (with_subcommand (with_version (new_app (codes "cbrowse")))
-    line_app.top) find_app.top) tags_app.top
+    with_subcommand (with_subcommand (with_subcommand (with_subcommand
+    (with_version (new_app (codes "cbrowse"))) line_app.top) find_app.top) tags_app.top)
+    lsp_app.top
 
 -- the first value of an argument, or this text where it has none
 abbrev pub first_or : Text → Text → List Row → Text
@@ -189,8 +201,17 @@ reads_input (Some name) = is_standard_input name
 abbrev pub names_files : List Row → Bool
 names_files rows = is_some (all_of (codes "files") rows) || is_some (list_in rows)
 
+-- the root that was found, if there is one
+abbrev pub root_in : List Row → Option Text
+root_in rows = first_of (codes "root") rows
+
+-- a root is a path from `/`, if there is one
+abbrev pub is_absolute : Option Text → Bool
+is_absolute None = true
+is_absolute (Some path) = starts_with nat_eq path (codes "/")
+
 -- the job is the one of the subcommand that was found, and of what was found for its arguments; a
--- session reads its commands from standard input, and so no list
+-- session reads its commands from standard input, and a server its messages, and so no list
 abbrev pub IsJobOf : Option (Text × List Row) → Job → Type 0
 IsJobOf None job = ⊥
 IsJobOf (Some found) (Line bounds rules list files) =
@@ -219,4 +240,13 @@ IsJobOf (Some found) (Tags bounds rules listing tagsfile format list files) =
     × (listing ≡ is_set (codes "listing") found.1)
     × (string_bytes tagsfile ≡ first_or (codes "tagsfile") (codes "tags") found.1)
     × (format_number format ≡ first_or (codes "format") (codes "1") found.1)
+    × (map string_bytes files.items ≡ all_or_none (codes "files") found.1)
+IsJobOf (Some found) (Lsp bounds rules root list files) =
+    (found.0 ≡ codes "lsp")
+    × AreBoundsOf found.1 bounds
+    × (rules_in found.1 ≡ Some rules)
+    × (reads_input (list_in found.1) ≡ false)
+    × (is_absolute (root_in found.1) ≡ true)
+    × (option_map string_bytes root ≡ root_in found.1)
+    × (option_map string_bytes list ≡ list_in found.1)
     × (map string_bytes files.items ≡ all_or_none (codes "files") found.1)

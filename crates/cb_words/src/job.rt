@@ -13,6 +13,9 @@ use clap::error::ErrorKind;
 use clap::{ArgMatches, Error};
 use std::alloc::{AllocError, Global};
 
+/// The version of the program.
+pub const VERSION: &str = "0.1.0";
+
 /// What the program is to do, within which bounds, and by which rules. A list is a file with the
 /// names of more files, one a line.
 #[derive(Debug, Drop)]
@@ -42,6 +45,16 @@ pub enum Job {
         listing: bool,
         tagsfile: String,
         format: Format,
+        list: Option<String>,
+        files: Vec<String>,
+    },
+    /// A language server over standard input and output, with these files loaded first. Their names
+    /// are relative to the root, whose path begins with a slash; without one, to that of the
+    /// client. Its list is not `-`.
+    Lsp {
+        bounds: Bounds,
+        rules: Rules,
+        root: Option<String>,
         list: Option<String>,
         files: Vec<String>,
     },
@@ -93,14 +106,18 @@ pub fn job_of(alloc: Global, words: &[String]) -> Result<Job, Usage>
 }
 
 /// What is said of words that clap takes and that give no job: clap refuses other formats and
-/// bounds, so what they lack is `--wide` or a file, or they ask for a session and a list on one
-/// input.
+/// bounds, so what they lack is `--wide` or a file, or they ask for a list on an input that has
+/// commands or messages, or for a root that is no path from `/`.
 fn no_job_text(matches: &ArgMatches<'_>) -> &'static str {
     match matches.subcommand() {
         Some((_, found)) if matched::rules_of(found).is_none() =>
             "error: the following required arguments were not provided:\n  --wide\n\nFor more information, try '--help'.\n",
         Some(("line", _)) =>
             "error: invalid value '-' for '--files-from <LIST>': standard input has the commands\n\nFor more information, try '--help'.\n",
+        Some(("lsp", found)) if matched::reads_input(found) =>
+            "error: invalid value '-' for '--files-from <LIST>': standard input has the messages\n\nFor more information, try '--help'.\n",
+        Some(("lsp", _)) =>
+            "error: invalid value for '--root <DIR>': it must begin with '/'\n\nFor more information, try '--help'.\n",
         _ =>
             "error: the following required arguments were not provided:\n  <FILE>... or --files-from <LIST>\n\nFor more information, try '--help'.\n",
     }

@@ -7,4 +7,4 @@
 
 mod job;
 
-pub use job::{Job, Usage, job_of};
+pub use job::{Job, Usage, VERSION, job_of};

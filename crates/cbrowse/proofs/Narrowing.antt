@@ -24,11 +24,13 @@ use Rattle.cb_session.specs.Operands.{Loads, LoadsAll, RefusedOperand, all_loade
 use Rattle.cb_session.specs.Operands.{first_refused, memory_refused}
 use Rattle.cb_session.specs.Output.{row_line}
 use Rattle.cb_session.specs.States.{State}
-use Rattle.cb_session.specs.declared.input.Ended.{Ended}
 use Rattle.cb_tags.specs.Readers.{Reader}
 use Rattle.cb_tags.specs.Writers.{Writer}
+use Rattle.cbrowse.specs.declared.execute.finish.Finish.{Finish}
+use Rattle.cbrowse.specs.declared.execute.finish.Finish.TheVariants.{Ran, Served, Unreadable}
+use Rattle.cbrowse.specs.declared.execute.finish.Finish.TheVariants.{Unlisted, Unwritable}
 use Rattle.cb_words.specs.declared.job.Job.{Job}
-use Rattle.cb_words.specs.declared.job.Job.TheVariants.{Line, Find, Tags}
+use Rattle.cb_words.specs.declared.job.Job.TheVariants.{Line, Find, Tags, Lsp}
 use Rattle.cbrowse.specs.Messages.{profile_of}
 use Rattle.cbrowse.specs.Needs.{asked_by, needed_of, only}
 use Rattle.cbrowse.specs.Program.{DoesJob, WritesText, file_text, output_format, output_text}
@@ -97,34 +99,36 @@ loads_by p place t (f ∷ fs) end (memory_refused would) =
     still (Ok u) is = is
     still (Err e) is = is
 
--- loads keep the profile
-kept_by_load : (t u : Timeline) (name bytes : List ℕ) → changed t (load name bytes) ≡ Ok u
-    → u.present.profile ≡ t.present.profile
-unfolding changed step
-kept_by_load t u name bytes made =
-    (elim (load_refusal t.present name bytes) as (λ o.
-    advanced t (unless_refused o (loaded t.present name bytes)) ≡ Ok u
-    → u.present.profile ≡ t.present.profile) [
-      | Some r ↦ λ is. cc
-      | None ↦ elim (nat_le t.present.bounds.history (length t.past)) as (λ full.
-          cond full (Err HistoryFull) (Ok (moved_on t (loaded t.present name bytes))) ≡ Ok u
-          → u.present.profile ≡ t.present.profile) [
-            | true ↦ λ is. cc
-            | false ↦ λ is.
-                let same : moved_on t (loaded t.present name bytes) ≡ u = cc in
-                sym (ap (λ (v : Timeline). v.present.profile) same)
-          ]
-    ]) made
+-- loads keep what does not depend on the files of a world, as its profile and its bounds
+module _ {X : Type 0} (part : World → X)
+    (keeps : (w : World) (name bytes : List ℕ) → part (loaded w name bytes) ≡ part w) where
+  kept_by_load : (t u : Timeline) (name bytes : List ℕ) → changed t (load name bytes) ≡ Ok u
+      → part u.present ≡ part t.present
+  unfolding changed step
+  kept_by_load t u name bytes made =
+      (elim (load_refusal t.present name bytes) as (λ o.
+      advanced t (unless_refused o (loaded t.present name bytes)) ≡ Ok u
+      → part u.present ≡ part t.present) [
+        | Some r ↦ λ is. cc
+        | None ↦ elim (nat_le t.present.bounds.history (length t.past)) as (λ full.
+            cond full (Err HistoryFull) (Ok (moved_on t (loaded t.present name bytes))) ≡ Ok u
+            → part u.present ≡ part t.present) [
+              | true ↦ λ is. cc
+              | false ↦ λ is.
+                  let same : moved_on t (loaded t.present name bytes) ≡ u = cc in
+                  sym (ap (λ (v : Timeline). part v.present) same) ∙ keeps t.present name bytes
+            ]
+      ]) made
 
-pub kept_by_loads : (place : ℕ) (t u : Timeline) (fs : List File)
-    (end : Result Timeline RefusedOperand) → end ≡ Ok u → Loads place t fs end
-    → u.present.profile ≡ t.present.profile
-kept_by_loads place t u [] end is all_loaded =
-    let same : t ≡ u = cc in sym (ap (λ (v : Timeline). v.present.profile) same)
-kept_by_loads place t u (f ∷ fs) end is (first_loaded {u = v} made rest) =
-    kept_by_loads (place + 1) v u fs end is rest ∙ kept_by_load t v f.name f.bytes made
-kept_by_loads place t u (f ∷ fs) end is (first_refused why) = cc
-kept_by_loads place t u (f ∷ fs) end is (memory_refused would) = cc
+  pub kept_by_loads : (place : ℕ) (t u : Timeline) (fs : List File)
+      (end : Result Timeline RefusedOperand) → end ≡ Ok u → Loads place t fs end
+      → part u.present ≡ part t.present
+  kept_by_loads place t u [] end is all_loaded =
+      let same : t ≡ u = cc in sym (ap (λ (v : Timeline). part v.present) same)
+  kept_by_loads place t u (f ∷ fs) end is (first_loaded {u = v} made rest) =
+      kept_by_loads (place + 1) v u fs end is rest ∙ kept_by_load t v f.name f.bytes made
+  kept_by_loads place t u (f ∷ fs) end is (first_refused why) = cc
+  kept_by_loads place t u (f ∷ fs) end is (memory_refused would) = cc
 
 -- ---- what a job gives
 
@@ -168,6 +172,7 @@ meant (Find bounds rules field pattern list files) s =
     record s { timeline = timeline_by (all_by rules) s.timeline }
 meant (Tags bounds rules listing tagsfile format list files) s =
     record s { timeline = timeline_by (all_by rules) s.timeline }
+meant (Lsp bounds rules root list files) s = s
 
 abbrev pub meant_end : Job → Result State RefusedOperand → Result State RefusedOperand
 meant_end job (Ok s) = Ok (meant job s)
@@ -186,6 +191,8 @@ loads_meant (Tags bounds rules listing tagsfile format list files) b fs (Ok s) l
     (loads_by (all_by rules) 0 _ fs _ loads.0, loads.1, loads.2)
 loads_meant (Tags bounds rules listing tagsfile format list files) b fs (Err stop) loads =
     loads_by (all_by rules) 0 _ fs _ loads
+loads_meant (Lsp bounds rules root list files) b fs (Ok s) loads = loads
+loads_meant (Lsp bounds rules root list files) b fs (Err stop) loads = loads
 
 pub text_meant : (job : Job) (s : State) → s.timeline.present.profile ≡ needed_of job
     → file_text job s.timeline.present ≡ file_text job (meant job s).timeline.present
@@ -193,20 +200,39 @@ text_meant (Line bounds rules list files) s by = refl
 text_meant (Find bounds rules field pattern list files) s by = refl
 text_meant (Tags bounds rules listing tagsfile format list files) s by =
     tags_by rules listing format s.timeline.present by
+text_meant (Lsp bounds rules root list files) s by = refl
 
 pub does_meant : (job : Job) (lines limit : ℕ) (s : State) (feed feed' : Reader)
-    (old new : Writer) (ended : Ended) → s.timeline.present.profile ≡ needed_of job
-    → DoesJob job lines limit s feed feed' old new ended
-    → DoesJob job lines limit (meant job s) feed feed' old new ended
-does_meant (Line bounds rules list files) lines limit s feed feed' old new ended by does = does
-does_meant (Find bounds rules field pattern list files) lines limit s feed feed' old new ended by does = (
-  does.0,
-  subst (λ rows. WritesText (flat_map row_line rows) old new ended)
-      (answer_by rules field (string_bytes pattern) s.timeline.present by) does.1,
-)
-does_meant (Tags bounds rules listing tagsfile format list files) lines limit s feed feed' old new ended
+    (old new : Writer) (end : Finish) → s.timeline.present.profile ≡ needed_of job
+    → DoesJob job lines limit s feed feed' old new end
+    → DoesJob job lines limit (meant job s) feed feed' old new end
+does_meant (Line bounds rules list files) lines limit s feed feed' old new end by does = does
+does_meant (Find bounds rules field pattern list files) lines limit s feed feed' old new (Ran ended)
     by does = (
+      does.0,
+      subst (λ rows. WritesText (flat_map row_line rows) old new ended)
+          (answer_by rules field (string_bytes pattern) s.timeline.present by) does.1,
+    )
+does_meant (Find bounds rules field pattern list files) lines limit s feed feed' old new (Served end)
+    by does = absurd does
+does_meant (Find bounds rules field pattern list files) lines limit s feed feed' old new (Unreadable place)
+    by does = absurd does
+does_meant (Find bounds rules field pattern list files) lines limit s feed feed' old new Unlisted
+    by does = absurd does
+does_meant (Find bounds rules field pattern list files) lines limit s feed feed' old new Unwritable
+    by does = absurd does
+does_meant (Tags bounds rules listing tagsfile format list files) lines limit s feed feed' old new
+    (Ran ended) by does = (
       does.0,
       subst (λ text. WritesText text old new ended)
           (tags_by rules listing format s.timeline.present by) does.1,
     )
+does_meant (Tags bounds rules listing tagsfile format list files) lines limit s feed feed' old new
+    (Served end) by does = absurd does
+does_meant (Tags bounds rules listing tagsfile format list files) lines limit s feed feed' old new
+    (Unreadable place) by does = absurd does
+does_meant (Tags bounds rules listing tagsfile format list files) lines limit s feed feed' old new
+    Unlisted by does = absurd does
+does_meant (Tags bounds rules listing tagsfile format list files) lines limit s feed feed' old new
+    Unwritable by does = absurd does
+does_meant (Lsp bounds rules root list files) lines limit s feed feed' old new end by does = does

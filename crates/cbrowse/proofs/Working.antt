@@ -7,7 +7,7 @@ use Rattle.std.proofs.lemmas.List.{length-map, take-map}
 use Rattle.std.specs.Global.{Global}
 use Rattle.cb_scan.specs.declared.profile.Profile.{Profile}
 use Rattle.cb_desk.specs.Timeline.{new_timeline}
-use Rattle.cb_desk.specs.World.{WorldBounds}
+use Rattle.cb_desk.specs.World.{World, WorldBounds}
 use Rattle.cb_session.specs.declared.input.Ended.{Ended}
 use Rattle.cb_session.specs.declared.input.Fault.{Fault as WhatFailed}
 use Rattle.cb_session.specs.declared.input.Fault.TheVariants.{Write}
@@ -19,10 +19,10 @@ use Rattle.cb_session.specs.Operands.{LoadsAll, Prepares, RefusedOperand, file_o
 use Rattle.cb_session.specs.States.{State}
 use Rattle.cb_tags.specs.Writers.{Writer}
 use Rattle.cbrowse.specs.declared.execute.finish.Finish.{Finish}
-use Rattle.cbrowse.specs.declared.execute.finish.Finish.TheVariants.{Ran, Unreadable, Unlisted}
-use Rattle.cbrowse.specs.declared.execute.finish.Finish.TheVariants.{Unwritable}
+use Rattle.cbrowse.specs.declared.execute.finish.Finish.TheVariants.{Ran, Served, Unreadable}
+use Rattle.cbrowse.specs.declared.execute.finish.Finish.TheVariants.{Unlisted, Unwritable}
 use Rattle.cb_words.specs.declared.job.Job.{Job}
-use Rattle.cb_words.specs.declared.job.Job.TheVariants.{Line, Find, Tags}
+use Rattle.cb_words.specs.declared.job.Job.TheVariants.{Line, Find, Tags, Lsp}
 use Rattle.cbrowse.specs.Messages.{bounds_of, files_of, most_line_bytes}
 use Rattle.cbrowse.specs.Needs.{needed_of}
 use Rattle.cbrowse.specs.Program.{DoesFrom, DoesInto, DoesJob, DoesLoaded, MakesFile, Reaches}
@@ -55,9 +55,18 @@ pub by_needed : (job : Job) (ops : List Operand) (b : WorldBounds) (p : Profile)
     → p ≡ needed_of job → LoadsAll p b (map file_of_operand ops) (Ok s)
     → s.timeline.present.profile ≡ needed_of job
 by_needed job ops b p s alike loads =
-    kept_by_loads 0 (new_timeline p b) s.timeline (map file_of_operand ops) (Ok s.timeline) refl
-    loads.0
+    kept_by_loads (λ (w : World). w.profile) (λ w name bytes. refl) 0 (new_timeline p b) s.timeline
+    (map file_of_operand ops) (Ok s.timeline) refl loads.0
     ∙ alike
+
+-- and the bounds of the loads
+pub within_bounds : (job : Job) (ops : List Operand) (b : WorldBounds) (p : Profile) (s : State)
+    → b ≡ bounds_of job → LoadsAll p b (map file_of_operand ops) (Ok s)
+    → s.timeline.present.bounds ≡ bounds_of job
+within_bounds job ops b p s same loads =
+    kept_by_loads (λ (w : World). w.bounds) (λ w name bytes. refl) 0 (new_timeline p b) s.timeline
+    (map file_of_operand ops) (Ok s.timeline) refl loads.0
+    ∙ same
 
 -- an operand was refused
 pub stopped : (job : Job) (ops : List Operand) (b : WorldBounds) (p : Profile) (feed : Reader)
@@ -78,7 +87,7 @@ stopped job ops b p feed out (Fault fault) same alike named at = absurd at
 -- a job that writes a tags file writes its text, and leaves the reader alone
 pub file_written : (job : Job) (lines limit : ℕ) (t : State) (feed feed' : Reader)
     (old new : Writer) (ended : Ended) → writes_file job ≡ true
-    → DoesJob job lines limit t feed feed' old new ended
+    → DoesJob job lines limit t feed feed' old new (Ran ended)
     → (feed' ≡ feed) × WritesText (file_text job t.timeline.present) old new ended
 file_written (Line bounds rules list files) lines limit t feed feed' old new ended writes does =
     absurd (true≢false (sym writes))
@@ -86,11 +95,13 @@ file_written (Find bounds rules field pattern list files) lines limit t feed fee
     absurd (true≢false (sym writes))
 file_written (Tags bounds rules listing tagsfile format list files) lines limit t feed feed' old new
     ended writes does = does
+file_written (Lsp bounds rules root list files) lines limit t feed feed' old new ended writes does =
+    absurd (true≢false (sym writes))
 
 -- where a write failed the file can't be written
 pub failed_file : (job : Job) (lines limit : ℕ) (t : State) (feed feed' : Reader) (old new : Writer)
     (why : WhatFailed) → writes_file job ≡ true
-    → DoesJob job lines limit t feed feed' old new (Fault why) → why ≡ Write
+    → DoesJob job lines limit t feed feed' old new (Ran (Fault why)) → why ≡ Write
     → WritesFile (file_text job t.timeline.present) old new Unwritable
 failed_file job lines limit t feed feed' old new why writes does is =
     subst (λ fault. WritesText (file_text job t.timeline.present) old new (Fault fault)) is
@@ -104,11 +115,13 @@ goes job t feed feed' out (Ran ended) file writes reached makes same =
     inr (
       Ok t,
       reached,
-      subst (λ b. DoesInto b t job feed feed' out out ended file) (sym writes)
+      subst (λ b. DoesInto b t job feed feed' out out (Ran ended) file) (sym writes)
           (makes, (same, refl)),
     )
 goes job t feed feed' out Unwritable file writes reached makes same =
     (writes, (t, reached, makes), (same, refl))
+goes job t feed feed' out (Served end) (Some file) writes reached makes same = absurd makes.1
+goes job t feed feed' out (Served end) None writes reached makes same = absurd makes
 goes job t feed feed' out (Unreadable place) (Some file) writes reached makes same =
     absurd makes.1
 goes job t feed feed' out (Unreadable place) None writes reached makes same = absurd makes
@@ -127,37 +140,82 @@ into_file job s feed feed' out f file writes reached by makes same =
 
 -- a job over the input and the output
 pub over_both : (job : Job) (b : WorldBounds) (lines limit : ℕ) (t : State) (feed feed' : Reader)
-    (out out' : Writer) (ended : Ended) → b ≡ bounds_of job → lines ≡ most_lines
+    (out out' : Writer) (end : Finish) → b ≡ bounds_of job → lines ≡ most_lines
     → limit ≡ most_line_bytes b → writes_file job ≡ false
     → t.timeline.present.profile ≡ needed_of job
-    → DoesJob job lines limit t feed feed' out out' ended
-    → DoesFrom (meant job t) job feed feed' out out' ended None
-over_both job b lines limit t feed feed' out out' ended same all most writes by done =
+    → DoesJob job lines limit t feed feed' out out' end
+    → DoesFrom (meant job t) job feed feed' out out' end None
+over_both job b lines limit t feed feed' out out' end same all most writes by done =
     let most_of = most_line_bytes (bounds_of job) in
-    let does = does_meant job lines limit t feed feed' out out' ended by done in
-    subst (λ x. DoesInto x (meant job t) job feed feed' out out' ended None) (sym writes) (
-      subst (λ n. DoesJob job n most_of (meant job t) feed feed' out out' ended) all
-          (subst (λ m. DoesJob job lines m (meant job t) feed feed' out out' ended)
+    let does = does_meant job lines limit t feed feed' out out' end by done in
+    subst (λ x. DoesInto x (meant job t) job feed feed' out out' end None) (sym writes) (
+      subst (λ n. DoesJob job n most_of (meant job t) feed feed' out out' end) all
+          (subst (λ m. DoesJob job lines m (meant job t) feed feed' out out' end)
           (most ∙ ap most_line_bytes same) does),
       refl,
     )
 
+-- a job that is done has run
+HasRun : Finish → Type 0
+HasRun (Ran ended) = Unit {0}
+HasRun (Served end) = Unit {0}
+HasRun (Unreadable place) = ⊥
+HasRun Unlisted = ⊥
+HasRun Unwritable = ⊥
+
+has_run : (job : Job) (lines limit : ℕ) (t : State) (feed feed' : Reader) (out out' : Writer)
+    (end : Finish) → DoesJob job lines limit t feed feed' out out' end → HasRun end
+has_run job lines limit t feed feed' out out' (Ran ended) does = tt
+has_run job lines limit t feed feed' out out' (Served end) does = tt
+has_run (Line bounds rules list files) lines limit t feed feed' out out' (Unreadable place) does =
+    does
+has_run (Find bounds rules field pattern list files) lines limit t feed feed' out out' (Unreadable place) does =
+    does
+has_run (Tags bounds rules listing tagsfile format list files) lines limit t feed feed' out out' (Unreadable place) does =
+    does
+has_run (Lsp bounds rules root list files) lines limit t feed feed' out out' (Unreadable place) does =
+    does
+has_run (Line bounds rules list files) lines limit t feed feed' out out' Unlisted does =
+    does
+has_run (Find bounds rules field pattern list files) lines limit t feed feed' out out' Unlisted does =
+    does
+has_run (Tags bounds rules listing tagsfile format list files) lines limit t feed feed' out out' Unlisted does =
+    does
+has_run (Lsp bounds rules root list files) lines limit t feed feed' out out' Unlisted does =
+    does
+has_run (Line bounds rules list files) lines limit t feed feed' out out' Unwritable does =
+    does
+has_run (Find bounds rules field pattern list files) lines limit t feed feed' out out' Unwritable does =
+    does
+has_run (Tags bounds rules listing tagsfile format list files) lines limit t feed feed' out out' Unwritable does =
+    does
+has_run (Lsp bounds rules root list files) lines limit t feed feed' out out' Unwritable does =
+    does
+
 -- the same, from where the loads of the operands lead
 pub from_loads : (job : Job) (ops : List Operand) (b : WorldBounds) (p : Profile) (lines limit : ℕ)
-    (t : State) (feed feed' : Reader) (out out' : Writer) (ended : Ended) → b ≡ bounds_of job
+    (t : State) (feed feed' : Reader) (out out' : Writer) (end : Finish) → b ≡ bounds_of job
     → p ≡ needed_of job → map (λ o. o.name.items) ops ≡ files_of job
     → LoadsAll p b (map file_of_operand ops) (Ok t) → lines ≡ most_lines
     → limit ≡ most_line_bytes b → writes_file job ≡ false
-    → DoesJob job lines limit t feed feed' out out' ended
-    → Works job feed feed' out out' (Ran ended) None
-from_loads job ops b p lines limit t feed feed' out out' ended same alike named loads all most writes
+    → DoesJob job lines limit t feed feed' out out' end
+    → Works job feed feed' out out' end None
+from_loads job ops b p lines limit t feed feed' out out' end same alike named loads all most writes
     does =
-    inr (
-      Ok (meant job t),
-      reaches job ops b p (Ok t) same alike named loads,
-      over_both job b lines limit t feed feed' out out' ended same all most writes
-          (by_needed job ops b p t alike loads) does,
-    )
+    go end (has_run job lines limit t feed feed' out out' end does)
+    (over_both job b lines limit t feed feed' out out' end same all most writes
+    (by_needed job ops b p t alike loads) does)
+  where
+    reached : Reaches job (Ok (meant job t))
+    reached = reaches job ops b p (Ok t) same alike named loads
+
+    go : (e : Finish) → HasRun e → DoesFrom (meant job t) job feed feed' out out' e None
+        → Works job feed feed' out out' e None
+    go (Ran ended) ran from = inr (Ok (meant job t), reached, from)
+    go (Served how) ran from = (meant job t, reached, from)
+    go (Unreadable place) ran from = absurd ran
+    go Unlisted ran from = absurd ran
+    go Unwritable ran from = absurd ran
 
 -- a file that can't be read, behind those that were
 pub stops_at : (names : List (List ℕ)) (files : List (String Global)) (idx place : ℕ) → place ≡ idx

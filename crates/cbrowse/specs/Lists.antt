@@ -9,12 +9,12 @@ use Rattle.cb_tags.specs.declared.feed.Stage.TheVariants.{Ended}
 use Rattle.cb_tags.specs.Writers.{Writer}
 use Rattle.cb_words.specs.Jobs.{is_standard_input, most_file_bytes}
 use Rattle.cb_words.specs.declared.job.Job.{Job}
-use Rattle.cb_words.specs.declared.job.Job.TheVariants.{Line, Find, Tags}
+use Rattle.cb_words.specs.declared.job.Job.TheVariants.{Line, Find, Tags, Lsp}
 use Rattle.cbrowse.specs.Messages.{list_of}
 use Rattle.cbrowse.specs.Program.{Works}
 use Rattle.cbrowse.specs.declared.execute.finish.Finish.{Finish}
-use Rattle.cbrowse.specs.declared.execute.finish.Finish.TheVariants.{Ran, Unreadable, Unlisted}
-use Rattle.cbrowse.specs.declared.execute.finish.Finish.TheVariants.{Unwritable}
+use Rattle.cbrowse.specs.declared.execute.finish.Finish.TheVariants.{Ran, Served, Unreadable}
+use Rattle.cbrowse.specs.declared.execute.finish.Finish.TheVariants.{Unlisted, Unwritable}
 
 -- the names in a list: its lines, each without its LF and a CR before that
 abbrev pub names_in : List ℕ → List (List ℕ)
@@ -34,6 +34,7 @@ IsListText false feed feed' text = (length text ≤ most_file_bytes) × (feed' �
 -- there is no list: memory was refused, or it can't be read
 abbrev pub IsNoList : Finish → Type 0
 IsNoList (Ran ended) = ended ≡ Fault Memory
+IsNoList (Served end) = ⊥
 IsNoList (Unreadable place) = ⊥
 IsNoList Unlisted = Unit {0}
 IsNoList Unwritable = ⊥
@@ -56,6 +57,9 @@ HasMore (Tags bounds rules listing tagsfile format list files) names
     (Tags bounds' rules' listing' tagsfile' format' list' files') =
     (bounds' ≡ bounds) × (rules' ≡ rules) × (listing' ≡ listing) × (tagsfile' ≡ tagsfile)
     × (format' ≡ format) × (list' ≡ list)
+    × (map string_bytes files'.items ≡ map string_bytes files.items ++ names)
+HasMore (Lsp bounds rules root list files) names (Lsp bounds' rules' root' list' files') =
+    (bounds' ≡ bounds) × (rules' ≡ rules) × (root' ≡ root) × (list' ≡ list)
     × (map string_bytes files'.items ≡ map string_bytes files.items ++ names)
 HasMore _ names _ = ⊥
 

@@ -1,7 +1,7 @@
 -- How the program ends: its exit status and what it says on standard error.
 use Rattle.std.specs.Prelude.{◌≡◌, ◌==◌, ◌&&◌, ◌+◌, ◌/◌, ◌%◌, ℕ, Bool, false, not, nat_lt, List, []}
 use Rattle.std.specs.Prelude.{◌∷◌, ◌++◌, codes, decimal, map, max, string_bytes, if◌then◌else◌}
-use Rattle.std.specs.Prelude.{Option, unwrap_or}
+use Rattle.std.specs.Prelude.{Option, Result, Ok, Err, unwrap_or}
 use Rattle.std.specs.Io.KnownBytes.{Appends}
 use Rattle.std.specs.List.{flat_map, slice_index_or}
 use Rattle.std.specs.Option.{option_map}
@@ -10,6 +10,10 @@ use Rattle.cb_scan.specs.declared.profile.Rules.{Rules}
 use Rattle.cb_scan.specs.Profiles.{all_by}
 use Rattle.cb_desk.specs.Refusals.{text_of}
 use Rattle.cb_desk.specs.World.{WorldBounds}
+use Rattle.cb_lsp.specs.declared.run.RunFault.{RunFault}
+use Rattle.cb_lsp.specs.declared.run.RunFault.TheVariants as fault
+use Rattle.cb_lsp.specs.declared.turn.Ending.{Ending}
+use Rattle.cb_lsp.specs.declared.turn.Ending.TheVariants as ending
 use Rattle.cb_session.specs.declared.input.Ended.{Ended}
 use Rattle.cb_session.specs.declared.input.Ended.TheVariants.{Done, Cut, Fault, Operand}
 use Rattle.cb_session.specs.declared.input.Fault.{Fault as Reason}
@@ -18,10 +22,10 @@ use Rattle.cb_session.specs.declared.input.Fault.TheVariants.{ManyLines}
 use Rattle.cb_tags.specs.Writers.{Writer}
 use Rattle.cb_tags.specs.Writing.{AppendsPrefix}
 use Rattle.cbrowse.specs.declared.execute.finish.Finish.{Finish}
-use Rattle.cbrowse.specs.declared.execute.finish.Finish.TheVariants.{Ran, Unreadable, Unlisted}
-use Rattle.cbrowse.specs.declared.execute.finish.Finish.TheVariants.{Unwritable}
+use Rattle.cbrowse.specs.declared.execute.finish.Finish.TheVariants.{Ran, Served, Unreadable}
+use Rattle.cbrowse.specs.declared.execute.finish.Finish.TheVariants.{Unlisted, Unwritable}
 use Rattle.cb_words.specs.declared.job.Job.{Job}
-use Rattle.cb_words.specs.declared.job.Job.TheVariants.{Line, Find, Tags}
+use Rattle.cb_words.specs.declared.job.Job.TheVariants.{Line, Find, Tags, Lsp}
 use Rattle.cb_words.specs.declared.job.Usage.{Usage}
 use Rattle.cb_words.specs.declared.job.Usage.TheVariants.{Help, Wrong, BadField, NoPattern}
 use Rattle.cb_words.specs.declared.job.Usage.TheVariants.{Memory as NoMemory}
@@ -31,12 +35,14 @@ abbrev pub files_of : Job → List (List ℕ)
 files_of (Line bounds rules list files) = map string_bytes files.items
 files_of (Find bounds rules field pattern list files) = map string_bytes files.items
 files_of (Tags bounds rules listing tagsfile format list files) = map string_bytes files.items
+files_of (Lsp bounds rules root list files) = map string_bytes files.items
 
 -- the name of a job's list of files
 abbrev pub list_of : Job → Option (List ℕ)
 list_of (Line bounds rules list files) = option_map string_bytes list
 list_of (Find bounds rules field pattern list files) = option_map string_bytes list
 list_of (Tags bounds rules listing tagsfile format list files) = option_map string_bytes list
+list_of (Lsp bounds rules root list files) = option_map string_bytes list
 
 -- the same, or nothing
 abbrev pub list_name : Job → List ℕ
@@ -47,12 +53,14 @@ abbrev pub bounds_of : Job → WorldBounds
 bounds_of (Line bounds rules list files) = bounds
 bounds_of (Find bounds rules field pattern list files) = bounds
 bounds_of (Tags bounds rules listing tagsfile format list files) = bounds
+bounds_of (Lsp bounds rules root list files) = bounds
 
 -- the rules of a job
 abbrev pub rules_of : Job → Rules
 rules_of (Line bounds rules list files) = rules
 rules_of (Find bounds rules field pattern list files) = rules
 rules_of (Tags bounds rules listing tagsfile format list files) = rules
+rules_of (Lsp bounds rules root list files) = rules
 
 -- the profile of a job: all facts by its rules
 abbrev pub profile_of : Job → Profile
@@ -67,6 +75,7 @@ abbrev pub tagsfile_of : Job → List ℕ
 tagsfile_of (Line bounds rules list files) = []
 tagsfile_of (Find bounds rules field pattern list files) = []
 tagsfile_of (Tags bounds rules listing tagsfile format list files) = string_bytes tagsfile
+tagsfile_of (Lsp bounds rules root list files) = []
 
 -- a line that names the program
 abbrev pub error_line : List ℕ → List ℕ
@@ -110,9 +119,21 @@ run_said limit files Cut = error_line (codes "input ended")
 run_said limit files (Fault fault) = fault_line limit fault
 run_said limit files (Operand place why) = file_line (slice_index_or files place []) (text_of why)
 
+-- what is said of a run of a language server
+abbrev pub server_said : Result Ending RunFault → List ℕ
+server_said (Ok ending.Down) = []
+server_said (Ok ending.Early) = []
+server_said (Ok ending.BadHeader) = error_line (codes "bad header")
+server_said (Ok ending.InputEnded) = error_line (codes "input ended")
+server_said (Ok ending.Read) = error_line (codes "read fault")
+server_said (Err fault.Memory) = error_line (codes "out of memory")
+server_said (Err fault.Write) = error_line (codes "write fault")
+server_said (Err fault.ManyMessages) = error_line (codes "too many messages")
+
 -- what is said of a job
 abbrev pub said_of : Job → Finish → List ℕ
 said_of job (Ran ended) = run_said (most_line_bytes (bounds_of job)) (files_of job) ended
+said_of job (Served end) = server_said end
 said_of job (Unreadable place) =
     file_line (slice_index_or (files_of job) place []) (codes "cannot be read")
 said_of job Unlisted = file_line (list_name job) (codes "cannot be read")
@@ -125,9 +146,19 @@ run_status Cut = 1
 run_status (Fault fault) = 1
 run_status (Operand place why) = 1
 
+-- the exit status of a run of a language server: its client has to shut it down before the end
+abbrev pub server_status : Result Ending RunFault → ℕ
+server_status (Ok ending.Down) = 0
+server_status (Ok ending.Early) = 1
+server_status (Ok ending.BadHeader) = 1
+server_status (Ok ending.InputEnded) = 1
+server_status (Ok ending.Read) = 1
+server_status (Err why) = 1
+
 -- the exit status of a job
 abbrev pub status_of : Finish → ℕ
 status_of (Ran ended) = run_status ended
+status_of (Served end) = server_status end
 status_of (Unreadable place) = 1
 status_of Unlisted = 1
 status_of Unwritable = 1

@@ -1,9 +1,10 @@
 -- What the program does: the files of a job are read and loaded, and then the job is done.
-use Rattle.std.specs.Prelude.{◌≡◌, ◌≢◌, ◌⊎◌, ◌||◌, ℕ, ◌<◌, ◌+◌, Bool, true, false, not, nat_eq}
+use Rattle.std.specs.Prelude.{◌≡◌, ◌≢◌, ◌⊎◌, ◌||◌, ℕ, ◌≤◌, ◌<◌, ◌+◌, Bool, true, false, not, nat_eq}
 use Rattle.std.specs.Prelude.{List, [], IsTrue, length, take, Option, None, Some, Result, Ok, Err}
-use Rattle.std.specs.Prelude.{codes, map, string_bytes}
+use Rattle.std.specs.Prelude.{codes, is_some, map, string_bytes, unwrap_or}
 use Rattle.std.specs.Fs.{metadata_len, new_options, with_create, with_truncate, with_write}
 use Rattle.std.specs.List.{ends_with, flat_map}
+use Rattle.std.specs.Option.{option_map}
 use Rattle.std.specs.Str.{bytes_eq}
 use Rattle.std.specs.declared.fs.attrs.Metadata.{Metadata}
 use Rattle.std.specs.declared.fs.options.OpenOptions.{OpenOptions}
@@ -13,11 +14,15 @@ use Rattle.cb_desk.specs.declared.tags.Format.{Format}
 use Rattle.cb_desk.specs.declared.tags.Format.TheVariants.{Extended}
 use Rattle.cb_desk.specs.Tags.{tags, tags_text, listing_text}
 use Rattle.cb_desk.specs.World.{World, WorldBounds, File}
+use Rattle.cb_lsp.specs.declared.run.RunFault.{RunFault}
+use Rattle.cb_lsp.specs.declared.turn.Ending.{Ending}
+use Rattle.cb_lsp.specs.Messages.{Serving, fresh_server}
+use Rattle.cb_lsp.specs.Runs.{LeavesRun}
 use Rattle.cb_session.specs.declared.input.Ended.{Ended}
 use Rattle.cb_session.specs.declared.input.Ended.TheVariants.{Done, Fault, Operand as StoppedAt}
 use Rattle.cb_session.specs.declared.input.Fault.TheVariants.{Write, Memory}
 use Rattle.cb_session.specs.declared.operands.Operand.{Operand}
-use Rattle.cb_tags.specs.Readers.{Reader}
+use Rattle.cb_tags.specs.Readers.{Reader, WhateverFollows}
 use Rattle.cb_session.specs.Output.{row_line}
 use Rattle.cb_session.specs.Operands.{LoadsAll, RefusedOperand}
 use Rattle.cb_session.specs.Serving.{Serves}
@@ -26,10 +31,11 @@ use Rattle.cb_tags.specs.TagLines.{Tag}
 use Rattle.cb_tags.specs.Writers.{Writer}
 use Rattle.cb_tags.specs.Writing.{AppendsPrefix}
 use Rattle.cbrowse.specs.declared.execute.finish.Finish.{Finish}
-use Rattle.cbrowse.specs.declared.execute.finish.Finish.TheVariants.{Ran, Unreadable, Unlisted}
-use Rattle.cbrowse.specs.declared.execute.finish.Finish.TheVariants.{Unwritable}
+use Rattle.cbrowse.specs.declared.execute.finish.Finish.TheVariants.{Ran, Served, Unreadable}
+use Rattle.cbrowse.specs.declared.execute.finish.Finish.TheVariants.{Unlisted, Unwritable}
+use Rattle.cb_wire.specs.Uris.{of_folder}
 use Rattle.cb_words.specs.declared.job.Job.{Job}
-use Rattle.cb_words.specs.declared.job.Job.TheVariants.{Line, Find, Tags}
+use Rattle.cb_words.specs.declared.job.Job.TheVariants.{Line, Find, Tags, Lsp}
 use Rattle.cbrowse.specs.Messages.{bounds_of, files_of, most_line_bytes, profile_of}
 
 -- the most lines that a session of the program reads
@@ -63,26 +69,48 @@ WritesText text old new Done =
 WritesText text old new (Fault Write) = (new.failed ≡ true) × AppendsPrefix old.bytes new.bytes text
 WritesText text old new _ = ⊥
 
+-- ---- a language server
+
+-- the version that the program tells
+abbrev pub version : List ℕ
+version = codes "0.1.0"
+
+-- a server of the files of a world that no client has spoken to: its root is the one that was
+-- given, or else none before the client's
+abbrev pub server_of : Option (List ℕ) → World → Serving
+server_of root w = fresh_server w (of_folder (unwrap_or root [])) (is_some root) version
+
+-- the server has run over the input and output, whatever follows the bytes that were read
+abbrev pub RunsServer : Option (List ℕ) → World → Reader → Reader → Writer → Writer
+    → Result Ending RunFault → Type 0
+RunsServer root w feed feed' old new end =
+    (next : Serving) × WhateverFollows feed feed' (λ bytes left.
+    LeavesRun bytes (server_of root w) next left old new end)
+
 -- ---- a job over a session
 
--- a search has a pattern
-abbrev pub HasPattern : Job → Type 0
-HasPattern (Find bounds rules field pattern list files) = string_bytes pattern ≢ []
-HasPattern _ = Unit {0}
+-- a search has a pattern, and a server can take a change
+abbrev pub IsReady : Job → Type 0
+IsReady (Find bounds rules field pattern list files) = string_bytes pattern ≢ []
+IsReady (Lsp bounds rules root list files) = 1 ≤ bounds.history
+IsReady _ = Unit {0}
 
--- a job is done from a timeline: a session is served; the rows of a search and tags are written,
--- and the reader is left alone
+-- a job is done from a timeline: a session or an editor is served; the rows of a search and tags
+-- are written, and the reader is left alone
 abbrev pub DoesJob : Job → (lines limit : ℕ) → State → Reader → Reader → Writer → Writer
-    → Ended → Type 0
-DoesJob (Line bounds rules list files) lines limit s feed feed' old new ended =
+    → Finish → Type 0
+DoesJob (Line bounds rules list files) lines limit s feed feed' old new (Ran ended) =
     (next : State) × Serves lines limit s next feed feed' old new ended
-DoesJob (Find bounds rules field pattern list files) lines limit s feed feed' old new ended =
+DoesJob (Find bounds rules field pattern list files) lines limit s feed feed' old new (Ran ended) =
     (feed' ≡ feed)
     × WritesText (flat_map row_line (answer s.timeline.present field (string_bytes pattern)))
     old new ended
 DoesJob (Tags bounds rules listing tagsfile format list files)
-    lines limit s feed feed' old new ended =
+    lines limit s feed feed' old new (Ran ended) =
     (feed' ≡ feed) × WritesText (tags_output listing format s.timeline.present) old new ended
+DoesJob (Lsp bounds rules root list files) lines limit s feed feed' old new (Served end) =
+    RunsServer (option_map string_bytes root) s.timeline.present feed feed' old new end
+DoesJob _ lines limit s feed feed' old new _ = ⊥
 
 -- ---- a job over files
 
@@ -96,6 +124,7 @@ writes_file (Line bounds rules list files) = false
 writes_file (Find bounds rules field pattern list files) = false
 writes_file (Tags bounds rules listing tagsfile format list files) =
     not (listing || is_standard_output (string_bytes tagsfile))
+writes_file (Lsp bounds rules root list files) = false
 
 -- a file of this name may be a C source
 abbrev pub is_source_name : List ℕ → Bool
@@ -120,6 +149,7 @@ abbrev pub file_text : Job → World → List ℕ
 file_text (Line bounds rules list files) w = []
 file_text (Find bounds rules field pattern list files) w = []
 file_text (Tags bounds rules listing tagsfile format list files) w = tags_output listing format w
+file_text (Lsp bounds rules root list files) w = []
 
 -- a writer that has taken nothing yet
 abbrev pub fresh : Option (List ℕ) → Writer
@@ -130,6 +160,7 @@ fresh bytes = record { bytes = bytes; failed = false; pending = false }
 abbrev pub WritesFile : List ℕ → Writer → Writer → Finish → Type 0
 WritesFile text old new (Ran ended) = (ended ≡ Done) × WritesText text old new Done
 WritesFile text old new Unwritable = WritesText text old new (Fault Write)
+WritesFile text old new (Served end) = ⊥
 WritesFile text old new (Unreadable place) = ⊥
 WritesFile text old new Unlisted = ⊥
 
@@ -137,6 +168,7 @@ WritesFile text old new Unlisted = ⊥
 abbrev pub MakesNone : Finish → Type 0
 MakesNone (Ran ended) = ended ≡ Fault Memory
 MakesNone Unwritable = Unit {0}
+MakesNone (Served end) = ⊥
 MakesNone (Unreadable place) = ⊥
 MakesNone Unlisted = ⊥
 
@@ -162,6 +194,7 @@ abbrev pub StopsReading : List (List ℕ) → (read : List (List ℕ)) → Finis
 StopsReading files read (Ran ended) = ended ≡ Fault Memory
 StopsReading files read (Unreadable place) =
     (place < length files) × (read ≡ take place files)
+StopsReading files read (Served end) = ⊥
 StopsReading files read Unlisted = ⊥
 StopsReading files read Unwritable = ⊥
 
@@ -174,26 +207,27 @@ Reaches job end =
 
 -- the job is done from a state: into a tags file, which leaves standard output alone, or over the
 -- input and output, and then no file is made
-abbrev pub DoesInto : (file : Bool) → State → Job → Reader → Reader → Writer → Writer → Ended
+abbrev pub DoesInto : (file : Bool) → State → Job → Reader → Reader → Writer → Writer → Finish
     → Option Writer → Type 0
-DoesInto true s job feed feed' out out' ended made =
-    MakesFile (file_text job s.timeline.present) made (Ran ended) × LeavesAlone feed feed' out out'
-DoesInto false s job feed feed' out out' ended made =
-    DoesJob job most_lines (most_line_bytes (bounds_of job)) s feed feed' out out' ended
+DoesInto true s job feed feed' out out' end made =
+    MakesFile (file_text job s.timeline.present) made end × LeavesAlone feed feed' out out'
+DoesInto false s job feed feed' out out' end made =
+    DoesJob job most_lines (most_line_bytes (bounds_of job)) s feed feed' out out' end
     × (made ≡ None)
 
 -- the same, as the words of the job ask for
-abbrev pub DoesFrom : State → Job → Reader → Reader → Writer → Writer → Ended
+abbrev pub DoesFrom : State → Job → Reader → Reader → Writer → Writer → Finish
     → Option Writer → Type 0
-DoesFrom s job feed feed' out out' ended made =
-    DoesInto (writes_file job) s job feed feed' out out' ended made
+DoesFrom s job feed feed' out out' end made =
+    DoesInto (writes_file job) s job feed feed' out out' end made
 
 -- the job is done from where the loads lead; where one is refused nothing is done
 abbrev pub DoesLoaded : Job → Result State RefusedOperand → Reader → Reader → Writer
     → Writer → Ended → Option Writer → Type 0
 DoesLoaded job (Err stop) feed feed' out out' ended file =
     (ended ≡ StoppedAt stop.place stop.why) × LeavesAlone feed feed' out out' × (file ≡ None)
-DoesLoaded job (Ok s) feed feed' out out' ended file = DoesFrom s job feed feed' out out' ended file
+DoesLoaded job (Ok s) feed feed' out out' ended file =
+    DoesFrom s job feed feed' out out' (Ran ended) file
 
 -- a job is done, for some contents of its files; or memory was refused before their loads; or one
 -- of them can't be read, or its tags file can't be written; a tags file is made only from where the
@@ -203,6 +237,8 @@ Works job feed feed' out out' (Ran ended) file =
     ((ended ≡ Fault Memory) × LeavesAlone feed feed' out out' × (file ≡ None))
     ⊎ ((end : Result State RefusedOperand) × Reaches job end
     × DoesLoaded job end feed feed' out out' ended file)
+Works job feed feed' out out' (Served end) file =
+    (s : State) × Reaches job (Ok s) × DoesFrom s job feed feed' out out' (Served end) file
 Works job feed feed' out out' (Unreadable place) file =
     (place < length (files_of job)) × LeavesAlone feed feed' out out' × (file ≡ None)
 Works job feed feed' out out' Unlisted file = ⊥

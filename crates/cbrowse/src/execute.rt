@@ -1,15 +1,16 @@
 //! The program behind its entry: words in, a job done, an exit status out.
-ghost use Rattle.std.specs.Prelude.{◌≡◌, ◌≢◌, ◌⊎◌, [], true, false, IfOk, map, string_bytes};
+ghost use Rattle.std.specs.Prelude.{◌≡◌, ◌≢◌, ◌≤◌, ◌⊎◌, [], true, false, IfOk, map, string_bytes};
 ghost use Rattle.std.specs.Vec.Iter.{into_iter_items};
 ghost use Rattle.std.specs.List.{flat_map};
-ghost use Rattle.std.specs.Option.{MatchOption};
+ghost use Rattle.std.specs.Option.{MatchOption, option_map};
 ghost use Rattle.cb_desk.specs.Answer.{answer};
 ghost use Rattle.cb_session.specs.Output.{row_line};
 ghost use Rattle.cbrowse.specs.Endings.{EndsJob, EndsProcess, EndsUsage, TakesWords};
 ghost use Rattle.cbrowse.specs.Lists.{WorksListed};
-ghost use Rattle.cbrowse.specs.Messages.{most_line_bytes, tagsfile_of};
+ghost use Rattle.cbrowse.specs.Messages.{bounds_of, most_line_bytes, tagsfile_of};
 ghost use Rattle.cbrowse.specs.Program.{
-  HasPattern,
+  IsReady,
+  RunsServer,
   output_format,
   output_text,
   tags_output,
@@ -21,6 +22,7 @@ ghost use Rattle.cbrowse.specs.Program.{
   fresh,
   Works,
   most_lines,
+  server_of,
 };
 ghost use Rattle.cb_session.specs.Writing.{Puts};
 
@@ -34,11 +36,13 @@ use crate::execute::finish::{Finish, bounds_of, conclude, files_of, most_line_by
 use crate::execute::list::take_list;
 use crate::execute::needs::needed_of;
 use cb_desk::{Bounds, Desk, Field, Format, TagRows};
+use cb_lsp::{Ending, RunFault, Server};
 use cb_session::{
     Ended, Fault, Limits, Session, prepare, put_answer, put_listing_file, put_tags_file,
 };
 use cb_tags::{Feed, Sink};
-use cb_words::{Job, Usage, job_of};
+use cb_wire::Root;
+use cb_words::{Job, Usage, VERSION, job_of};
 pub(crate) use finish::refuse;
 use std::alloc::{AllocError, Global};
 use std::env::Args;
@@ -138,6 +142,38 @@ fn tags_of<W: Write>(session: Session, listing: bool, format: Format, out: &mut 
     ended
 }
 
+/// Serves an editor from the files of a session, and leaves their memory to the end of the process.
+fn serve_editor<R: BufRead, W: Write>(
+    alloc: Global,
+    root: Option<&str>,
+    session: Session,
+    feed: &mut Feed<R>,
+    out: &mut Sink<W>,
+) -> Result<Ending, RunFault>
+    requires { 1 ≤ session.timeline.present.bounds.history }
+    ensures { RunsServer (option_map (λ folder. folder.now) root) session.timeline.present
+        feed.old feed.new out.old out.new result }
+{
+    let mut server = match server_of(alloc, root, session.into_desk()) {
+        Ok(server) => server,
+        Err(_) => return Err(RunFault::Memory),
+    };
+    let end = server.serve(alloc, feed, out);
+    forget(server);
+    end
+}
+
+/// A language server of the files of a desk, below this root; below none, if it is not given,
+/// before the client names one.
+fn server_of(alloc: Global, root: Option<&str>, desk: Desk) -> Result<Server, AllocError>
+    requires { 1 ≤ desk.timeline.present.bounds.history }
+    ensures { IfOk result (λ server.
+        server ≡ server_of (option_map (λ folder. folder.now) root) desk.timeline.present) }
+{
+    let folder = Root::of_folder(alloc, root.unwrap_or("").as_bytes())?;
+    Ok(Server::new(alloc, desk, folder, root.is_some(), VERSION))
+}
+
 /// Does a job over input and output, from a session in which its files are loaded. A job is the
 /// last that a process does, so the memory of the session is not given back.
 pub fn run_job<R: BufRead, W: Write>(
@@ -147,8 +183,9 @@ pub fn run_job<R: BufRead, W: Write>(
     mut session: Session,
     feed: &mut Feed<R>,
     out: &mut Sink<W>,
-) -> Ended
-    requires { HasPattern job.now }
+) -> Finish
+    requires ready { IsReady job.now }
+    requires bounds { session.timeline.present.bounds ≡ bounds_of job.now }
     ensures { DoesJob job.now limits.now.lines limits.now.line session feed.old feed.new
         out.old out.new result }
 {
@@ -156,14 +193,19 @@ pub fn run_job<R: BufRead, W: Write>(
         Job::Line { .. } => {
             let ended = session.serve(alloc, limits, feed, out);
             forget(session);
-            ended
+            Finish::Ran(ended)
         }
-        Job::Find { field, pattern, .. } => find_in(session, *field, pattern.as_bytes(), out),
+        Job::Find { field, pattern, .. } => {
+            Finish::Ran(find_in(session, *field, pattern.as_bytes(), out))
+        }
         Job::Tags {
             listing,
             format,
             ..
-        } => tags_of(session, *listing, *format, out),
+        } => Finish::Ran(tags_of(session, *listing, *format, out)),
+        Job::Lsp { root, .. } => {
+            Finish::Served(serve_editor(alloc, root.as_deref(), session, feed, out))
+        }
     }
 }
 
@@ -184,6 +226,7 @@ fn output_file(job: &Job) -> Option<&str>
         } else {
             Some(tagsfile.as_str())
         },
+        Job::Lsp { .. } => None,
     }
 }
 
@@ -197,14 +240,15 @@ fn run_job_over<I: BufRead, W: Write>(
     out: &mut Sink<W>,
 ) -> Finish
     requires file { writes_file job.now ≡ true }
-    requires pattern { HasPattern job.now }
+    requires ready { IsReady job.now }
+    requires bounds { session.timeline.present.bounds ≡ bounds_of job.now }
     ensures written { WritesFile (file_text job.now session.timeline.present)
         out.old out.new result }
     ensures feed { feed.new ≡ feed.old }
 {
     match run_job(alloc, job, &limits(bounds_of(job)), session, feed, out) {
-        Ended::Fault(Fault::Write) => Finish::Unwritable,
-        ended => Finish::Ran(ended),
+        Finish::Ran(Ended::Fault(Fault::Write)) => Finish::Unwritable,
+        end => end,
     }
 }
 
@@ -217,7 +261,8 @@ fn run_job_into<I: BufRead, W: Write>(
     writer: W,
 ) -> (Finish, Sink<W>)
     requires file { writes_file job.now ≡ true }
-    requires pattern { HasPattern job.now }
+    requires ready { IsReady job.now }
+    requires bounds { session.timeline.present.bounds ≡ bounds_of job.now }
     ensures written { WritesFile (file_text job.now session.timeline.present)
         (fresh (W.contents writer)) result.1 result.0 }
     ensures feed { feed.new ≡ feed.old }
@@ -236,7 +281,7 @@ fn work<R: Files + AllocGlobal, I: BufRead, O: Write>(
     feed: &mut Feed<I>,
     out: &mut Sink<O>,
 ) -> (Finish, Option<Sink<TagsFile<R::File>>>)
-    requires { HasPattern job.now }
+    requires { IsReady job.now }
     ensures { Works job.now feed.old feed.new out.old out.new result.0 result.1 }
 {
     let bounds = bounds_of(job);
@@ -259,8 +304,7 @@ fn work<R: Files + AllocGlobal, I: BufRead, O: Write>(
         },
         None => {
             let limits = limits(bounds);
-            let ended = run_job(rt.alloc(), job, &limits, session, feed, out);
-            (Finish::Ran(ended), None)
+            (run_job(rt.alloc(), job, &limits, session, feed, out), None)
         }
     }
 }
@@ -273,7 +317,7 @@ fn work_listed<R: Files + AllocGlobal, I: BufRead, O: Write>(
     feed: &mut Feed<I>,
     out: &mut Sink<O>,
 ) -> (Finish, Option<Sink<TagsFile<R::File>>>)
-    requires { HasPattern job.old }
+    requires { IsReady job.old }
     ensures { WorksListed job.old job.new feed.old feed.new out.old out.new result.0 result.1 }
 {
     match take_list(rt, folder, job, feed) {

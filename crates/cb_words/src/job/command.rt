@@ -7,10 +7,12 @@ ghost use Rattle.cb_words.specs.Jobs.{
   line_app,
   list_rule,
   listing_rule,
+  lsp_app,
   most_rule,
   num_rule,
   pattern_rule,
   prototypes_rule,
+  root_rule,
   tagsfile_rule,
   wide_rule,
   with_bounds,
@@ -19,13 +21,11 @@ ghost use Rattle.cb_words.specs.Jobs.{
 };
 ghost use Rattle.cb_words.specs.Commands.{TakesFormats, browse_app_of, tags_app_of, with_format};
 
+use crate::job::VERSION;
 use cb_desk::{MOST_BYTES, MOST_FILES};
 use clap::builder::ValueParser;
 use clap::{Arg, ArgAction, Command};
 use std::alloc::{AllocError, Global};
-
-/// The version of the program.
-const VERSION: &str = "0.1.0";
 
 /// The numbers of the formats.
 static FORMATS: [&str; 2] = ["1", "2"];
@@ -45,7 +45,8 @@ pub(crate) fn browse_command<'a>(alloc: Global) -> Result<Command<'a>, AllocErro
         .subcommand_required(true)
         .subcommand(line_command(alloc)?)?
         .subcommand(find_command(alloc)?)?
-        .subcommand(tags_command(alloc)?)
+        .subcommand(tags_command(alloc)?)?
+        .subcommand(lsp_command(alloc)?)
 }
 
 /// `line`: a session over standard input and output.
@@ -92,6 +93,30 @@ fn tags_command<'a>(alloc: Global) -> Result<Command<'a>, AllocError>
         LIST_OR_INPUT,
         "C source to write the tags of",
     )
+}
+
+/// `lsp`: a language server.
+fn lsp_command<'a>(alloc: Global) -> Result<Command<'a>, AllocError>
+    ensures { IfOk result (λ command. app_of command ≡ lsp_app) }
+{
+    let command = Command::new(alloc, "lsp")
+        .about("Serves an editor by the Language Server Protocol, over standard input and output")
+        .after_help("Example: cbrowse lsp --root /home/me/project a.c");
+    let command = with_root(alloc, command)?;
+    let command = with_profile(alloc, command)?;
+    let command = with_bounds(alloc, command)?;
+    with_files(alloc, command, LIST, "C source to load first")
+}
+
+/// Adds `--root`.
+fn with_root<'a>(alloc: Global, command: Command<'a>) -> Result<Command<'a>, AllocError>
+    ensures { IfOk result (λ more. app_of more ≡ with_rule (app_of command.entry) root_rule) }
+{
+    let root = Arg::new(alloc, "root")
+        .long("root")
+        .value_name("DIR")
+        .help("Folder that the names of files are relative to; that of the editor if not given");
+    command.arg(root)
 }
 
 /// Adds the number of the field.

@@ -12,7 +12,7 @@ ghost use Rattle.std.specs.Prelude.{
   string_bytes,
 };
 ghost use Rattle.std.specs.Option.{MatchOption, option_map};
-ghost use Rattle.clap.specs.Words.{all_of, subcommand_rows_of};
+ghost use Rattle.clap.specs.Words.{all_of, first_of, subcommand_rows_of};
 ghost use Rattle.cb_desk.specs.World.{WorldBounds};
 ghost use Rattle.cb_words.specs.Jobs.{
   AreBoundsOf,
@@ -23,6 +23,7 @@ ghost use Rattle.cb_words.specs.Jobs.{
   first_or,
   format_number,
   history_of,
+  is_absolute,
   is_set,
   list_in,
   most_files,
@@ -53,6 +54,7 @@ pub(crate) fn found_job(alloc: Global, matches: &ArgMatches<'_>) -> Result<Optio
         Some(("line", found)) => Ok(line_job(alloc, found)?),
         Some(("find", found)) => find_job(alloc, found),
         Some(("tags", found)) => Ok(tags_job(alloc, found)?),
+        Some(("lsp", found)) => Ok(lsp_job(alloc, found)?),
         _ => Ok(None),
     }
 }
@@ -86,7 +88,7 @@ fn find_job(alloc: Global, found: &ArgMatches<'_>) -> Result<Option<Job>, Usage>
         rules,
         field,
         pattern: String::from_str(alloc, pattern)?,
-        list: list_of(alloc, found)?,
+        list: text_of(alloc, found, "files_from")?,
         files: files_of(alloc, found)?,
     }))
 }
@@ -120,7 +122,7 @@ fn line_job(alloc: Global, found: &ArgMatches<'_>) -> Result<Option<Job>, AllocE
     Ok(Some(Job::Line {
         bounds,
         rules,
-        list: list_of(alloc, found)?,
+        list: text_of(alloc, found, "files_from")?,
         files: files_of(alloc, found)?,
     }))
 }
@@ -150,7 +152,35 @@ fn tags_job(alloc: Global, found: &ArgMatches<'_>) -> Result<Option<Job>, AllocE
         listing: is_set(found, "listing"),
         tagsfile: String::from_str(alloc, value_or(found, "tagsfile", "tags"))?,
         format,
-        list: list_of(alloc, found)?,
+        list: text_of(alloc, found, "files_from")?,
+        files: files_of(alloc, found)?,
+    }))
+}
+
+/// The language server that was asked for, or `None` where its list would be standard input, its
+/// root is no path from `/`, or there is no such bound or rules.
+fn lsp_job(alloc: Global, found: &ArgMatches<'_>) -> Result<Option<Job>, AllocError>
+    ensures { IfOk result (λ job. MatchOption job
+        ((job : Job) → IsJobOf (Some (codes "lsp", rows_in found.now)) job → ⊥)
+        (IsJobOf (Some (codes "lsp", rows_in found.now)))) }
+{
+    if reads_input(found) {
+        return Ok(None);
+    }
+    if !has_absolute_root(found) {
+        return Ok(None);
+    }
+    let Some(bounds) = bounds_of(found) else {
+        return Ok(None);
+    };
+    let Some(rules) = rules_of(found) else {
+        return Ok(None);
+    };
+    Ok(Some(Job::Lsp {
+        bounds,
+        rules,
+        root: text_of(alloc, found, "root")?,
+        list: text_of(alloc, found, "files_from")?,
         files: files_of(alloc, found)?,
     }))
 }
@@ -222,11 +252,11 @@ fn value_or<'a>(found: &ArgMatches<'a>, id: &str, text: &'a str) -> &'a str
     found.get_str(id).unwrap_or(text)
 }
 
-/// The name of the list of files that was given.
-fn list_name<'a>(found: &ArgMatches<'a>) -> Option<&'a str>
-    ensures { option_map (λ list. list.now) result ≡ list_in (rows_in found.now) }
+/// The first value of an argument, if it has one.
+fn value_of<'a>(found: &ArgMatches<'a>, id: &str) -> Option<&'a str>
+    ensures { option_map (λ value. value.now) result ≡ first_of id.now (rows_in found.now) }
 {
-    found.get_str("files_from")
+    found.get_str(id)
 }
 
 /// Whether a file was given.
@@ -240,25 +270,36 @@ fn has_files(found: &ArgMatches<'_>) -> bool
 fn names_files(found: &ArgMatches<'_>) -> bool
     ensures { result ≡ names_files (rows_in found.now) }
 {
-    has_files(found) || list_name(found).is_some()
+    has_files(found) || value_of(found, "files_from").is_some()
 }
 
 /// Whether the list of files that was given is standard input.
-fn reads_input(found: &ArgMatches<'_>) -> bool
+pub(crate) fn reads_input(found: &ArgMatches<'_>) -> bool
     ensures { result ≡ reads_input (list_in (rows_in found.now)) }
 {
-    match list_name(found) {
+    match value_of(found, "files_from") {
         Some(list) => list == "-",
         None => false,
     }
 }
 
-/// The list of files that was given.
-fn list_of(alloc: Global, found: &ArgMatches<'_>) -> Result<Option<String>, AllocError>
-    ensures { IfOk result (λ list. option_map string_bytes list ≡ list_in (rows_in found.now)) }
+/// Whether the root is a path from `/`, if one was given.
+fn has_absolute_root(found: &ArgMatches<'_>) -> bool
+    ensures { result ≡ is_absolute (first_of (codes "root") (rows_in found.now)) }
 {
-    match list_name(found) {
-        Some(list) => Ok(Some(String::from_str(alloc, list)?)),
+    match value_of(found, "root") {
+        Some(root) => root.as_bytes().starts_with(b"/"),
+        None => true,
+    }
+}
+
+/// The first value of an argument, if it has one, in memory of its own.
+fn text_of(alloc: Global, found: &ArgMatches<'_>, id: &str) -> Result<Option<String>, AllocError>
+    ensures { IfOk result
+        (λ text. option_map string_bytes text ≡ first_of id.now (rows_in found.now)) }
+{
+    match value_of(found, id) {
+        Some(text) => Ok(Some(String::from_str(alloc, text)?)),
         None => Ok(None),
     }
 }

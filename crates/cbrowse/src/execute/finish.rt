@@ -20,6 +20,8 @@ ghost use Rattle.cbrowse.specs.Messages.{
   tagsfile_of,
   run_said,
   said_of,
+  server_said,
+  server_status,
   run_status,
   status_of,
   usage_status,
@@ -27,6 +29,7 @@ ghost use Rattle.cbrowse.specs.Messages.{
 };
 
 use cb_desk::Bounds;
+use cb_lsp::{Ending, RunFault};
 use cb_session::{Ended, Fault};
 use cb_tags::{Sink, WriteFault, put_text, put_texts};
 use cb_words::{Job, Usage};
@@ -38,6 +41,8 @@ use std::io::Write;
 pub(crate) enum Finish {
     /// Its run ended so.
     Ran(Ended),
+    /// Its run as a language server ended so.
+    Served(Result<Ending, RunFault>),
     /// The file at this place of its files, counted from 0, cannot be read.
     Unreadable(usize),
     /// Its list of files cannot be read.
@@ -54,6 +59,7 @@ pub(crate) fn files_of(job: &Job) -> &[String]
         Job::Line { files, .. } => files.as_slice(),
         Job::Find { files, .. } => files.as_slice(),
         Job::Tags { files, .. } => files.as_slice(),
+        Job::Lsp { files, .. } => files.as_slice(),
     }
 }
 
@@ -65,6 +71,7 @@ pub(crate) fn list_of(job: &Job) -> Option<&str>
         Job::Line { list, .. } => list.as_deref(),
         Job::Find { list, .. } => list.as_deref(),
         Job::Tags { list, .. } => list.as_deref(),
+        Job::Lsp { list, .. } => list.as_deref(),
     }
 }
 
@@ -86,6 +93,7 @@ pub(crate) fn bounds_of(job: &Job) -> Bounds
         Job::Line { bounds, .. } => *bounds,
         Job::Find { bounds, .. } => *bounds,
         Job::Tags { bounds, .. } => *bounds,
+        Job::Lsp { bounds, .. } => *bounds,
     }
 }
 
@@ -104,6 +112,7 @@ fn tagsfile_of(job: &Job) -> &[u8]
         Job::Line { .. } => b"",
         Job::Find { .. } => b"",
         Job::Tags { tagsfile, .. } => tagsfile.as_bytes(),
+        Job::Lsp { .. } => b"",
     }
 }
 
@@ -128,11 +137,25 @@ fn run_status(ended: Ended) -> u8
     }
 }
 
+fn server_status(end: Result<Ending, RunFault>) -> u8
+    ensures { result ≡ server_status end }
+{
+    match end {
+        Ok(Ending::Down) => 0,
+        Ok(Ending::Early) => 1,
+        Ok(Ending::BadHeader) => 1,
+        Ok(Ending::InputEnded) => 1,
+        Ok(Ending::Read) => 1,
+        Err(_) => 1,
+    }
+}
+
 fn status(finish: Finish) -> u8
     ensures { result ≡ status_of finish }
 {
     match finish {
         Finish::Ran(ended) => run_status(ended),
+        Finish::Served(end) => server_status(end),
         Finish::Unreadable(_) => 1,
         Finish::Unlisted => 1,
         Finish::Unwritable => 1,
@@ -255,6 +278,25 @@ fn put_run<E: Write>(
     }
 }
 
+/// Says how a run of a language server ended, if not by its client.
+fn put_served<E: Write>(
+    errors: &mut Sink<E>,
+    end: Result<Ending, RunFault>,
+) -> Result<(), WriteFault>
+    ensures { Puts errors.old errors.new result (server_said end) }
+{
+    match end {
+        Ok(Ending::Down) => Ok(()),
+        Ok(Ending::Early) => Ok(()),
+        Ok(Ending::BadHeader) => put_error(errors, b"bad header"),
+        Ok(Ending::InputEnded) => put_error(errors, b"input ended"),
+        Ok(Ending::Read) => put_error(errors, b"read fault"),
+        Err(RunFault::Memory) => put_error(errors, b"out of memory"),
+        Err(RunFault::Write) => put_error(errors, b"write fault"),
+        Err(RunFault::ManyMessages) => put_error(errors, b"too many messages"),
+    }
+}
+
 /// Says how a job ended, if not as it should.
 fn put_finish<E: Write>(errors: &mut Sink<E>, job: &Job, finish: Finish) -> Result<(), WriteFault>
     ensures { Puts errors.old errors.new result (said_of job.now finish) }
@@ -268,6 +310,7 @@ fn put_finish<E: Write>(errors: &mut Sink<E>, job: &Job, finish: Finish) -> Resu
                 ended,
             )
         }
+        Finish::Served(end) => put_served(errors, end),
         Finish::Unreadable(place) => {
             put_file_error(errors, name_at(files_of(job), place), b"cannot be read")
         }

@@ -138,6 +138,7 @@ fn add_to(alloc: Global, text: &[u8], job: &mut Job) -> Result<(), Finish>
         Job::Line { files, .. } => add_names(alloc, text, files),
         Job::Find { files, .. } => add_names(alloc, text, files),
         Job::Tags { files, .. } => add_names(alloc, text, files),
+        Job::Lsp { files, .. } => add_names(alloc, text, files),
     }
 }
 

@@ -40,6 +40,7 @@ fn needed_by(job: &Job) -> Wanted
         Job::Line { .. } => Wanted::all(),
         Job::Find { field, .. } => asked_by(*field),
         Job::Tags { .. } => only(true, false, false, false),
+        Job::Lsp { .. } => Wanted::all(),
     }
 }
 
@@ -51,6 +52,7 @@ fn rules_of(job: &Job) -> Rules
         Job::Line { rules, .. } => *rules,
         Job::Find { rules, .. } => *rules,
         Job::Tags { rules, .. } => *rules,
+        Job::Lsp { rules, .. } => *rules,
     }
 }
 

@@ -5,6 +5,7 @@ use Rattle.cb_desk.specs.Answer.{answer}
 use Rattle.cb_session.specs.Output.{row_line}
 use Rattle.cb_words.specs.declared.job.Job.TheVariants.{Find}
 use Rattle.cbrowse.specs.Program.{DoesJob, WritesText}
+use Rattle.cbrowse.specs.declared.execute.finish.Finish.TheVariants.{Ran}
 use Rattle.cbrowse.proofs.execute.run_job.Goals as goal
 
 pub returns-in-Find : goal.returns-in-Find
@@ -16,6 +17,6 @@ returns-in-Find g c =
     c.find_in.ensures in
     let does : DoesJob (Find c.in-Find.bounds c.in-Find.rules c.in-Find.field c.in-Find.pattern
     c.in-Find.list c.in-Find.files) c.args.limits.now.lines c.args.limits.now.line c.args.session
-    c.args.feed.now c.args.feed.now c.args.out.now c.find_in.new.out c.find_in.result =
+    c.args.feed.now c.args.feed.now c.args.out.now c.find_in.new.out (Ran c.find_in.result) =
     (refl, put) in
     rw c.in-Find.is does

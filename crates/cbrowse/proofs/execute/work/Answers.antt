@@ -27,4 +27,4 @@ pub returns-in-None : goal.returns-in-None
 returns-in-None g c =
     from_loads _ _ _ _ _ _ _ _ _ _ _ _ c.bounds_of-bounds.ensures c.needed_of.ensures
     (c.in-Ok.ensures ∙ c.files_of.ensures) c.in-Ok-prepare.ensures c.limits-limits.ensures.lines
-    c.limits-limits.ensures.line c.in-None.ensures c.run_job-ended.ensures
+    c.limits-limits.ensures.line c.in-None.ensures c.run_job.ensures

@@ -12,17 +12,21 @@ returns c =
     let top : app_of c.subcommand_required.result ≡ with_version (new_app (codes "cbrowse")) =
     search rules in
     let find = c.in_ok-find_command.ensures in
+    let lsp = c.in_ok-lsp_command.ensures in
     let first =
     c.in_ok-subcommand.ensures.shape (third-false _ _ _ _ (ap (λ (a : App). a.top.is_plain) line))
     ∙ ap₂ with_subcommand top (ap (λ (a : App). a.top) line) in
     let second =
     c.in_ok-subcommand-2.ensures.shape (third-false _ _ _ _ (ap (λ (a : App). a.top.is_plain) find))
     ∙ ap₂ with_subcommand first (ap (λ (a : App). a.top) find) in
-    IfOk-weaker c.subcommand-3.result _ _
+    let third =
+    c.in_ok-subcommand-3.ensures.shape (third-false _ _ _ _ (ap (λ (a : App). a.top.is_plain) tags.2))
+    ∙ ap₂ with_subcommand second (ap (λ (a : App). a.top) tags.2) in
+    IfOk-weaker c.subcommand-4.result _ _
     (λ command h. (
       tags.0,
       tags.1,
-      h.shape (third-false _ _ _ _ (ap (λ (a : App). a.top.is_plain) tags.2))
-          ∙ ap₂ with_subcommand second (ap (λ (a : App). a.top) tags.2),
+      h.shape (third-false _ _ _ _ (ap (λ (a : App). a.top.is_plain) lsp))
+          ∙ ap₂ with_subcommand third (ap (λ (a : App). a.top) lsp),
     ))
-    c.subcommand-3.ensures
+    c.subcommand-4.ensures
