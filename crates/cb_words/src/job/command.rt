@@ -112,10 +112,9 @@ fn lsp_command<'a>(alloc: Global) -> Result<Command<'a>, AllocError>
 fn with_root<'a>(alloc: Global, command: Command<'a>) -> Result<Command<'a>, AllocError>
     ensures { IfOk result (λ more. app_of more ≡ with_rule (app_of command.entry) root_rule) }
 {
-    let root = Arg::new(alloc, "root")
-        .long("root")
-        .value_name("DIR")
-        .help("Folder that the names of files are relative to; that of the editor if not given");
+    let root = Arg::new(alloc, "root").long("root").value_name("DIR").help(
+        "Folder that the names of files are relative to; that of the editor if not given",
+    );
     command.arg(root)
 }
 

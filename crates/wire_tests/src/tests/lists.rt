@@ -148,8 +148,30 @@ fn symbols_are_listed(rt: HostRuntime) -> Result<(), Fail> {
     let mut written = Vec::new(rt.alloc());
     let mut sink = Sink::new(&mut written);
     let (id, tail) = (Id::Number("4"), [Part::Raw(b"]")]);
-    assert!(rt; put_list_result(&mut sink, id, b"[", b",", &tail, MOST_ELEMENTS, flat.as_slice()).is_ok());
-    assert!(rt; put_list_result(&mut sink, id, b"[", b",", &tail, MOST_ELEMENTS, tree.as_slice()).is_ok());
+    assert!(rt;
+        put_list_result(
+            &mut sink,
+            id,
+            b"[",
+            b",",
+            &tail,
+            MOST_ELEMENTS,
+            flat.as_slice()
+        )
+        .is_ok()
+    );
+    assert!(rt;
+        put_list_result(
+            &mut sink,
+            id,
+            b"[",
+            b",",
+            &tail,
+            MOST_ELEMENTS,
+            tree.as_slice()
+        )
+        .is_ok()
+    );
     assert_eq!(rt;
         written.as_slice(),
         b"Content-Length: 174\r\n\r\n{\"jsonrpc\":\"2.0\",\"id\":4,\"result\":[\
@@ -177,7 +199,18 @@ fn texts_are_joined(rt: HostRuntime) {
         Part::Raw(b"}"),
     ];
     let (id, head) = (Id::Text("x"), b"{\"contents\":{\"value\":\"".as_slice());
-    assert!(rt; put_list_result(&mut sink, id, head, b"\\n", &tail, MOST_ELEMENTS, lines.as_slice()).is_ok());
+    assert!(rt;
+        put_list_result(
+            &mut sink,
+            id,
+            head,
+            b"\\n",
+            &tail,
+            MOST_ELEMENTS,
+            lines.as_slice()
+        )
+        .is_ok()
+    );
     assert_eq!(rt;
         written.as_slice(),
         b"Content-Length: 151\r\n\r\n\
