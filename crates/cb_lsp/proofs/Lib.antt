@@ -17,6 +17,7 @@ pub mod OneTurn
 pub mod Opened
 pub mod Reaches
 pub mod Requests
+pub mod Synced
 pub mod TagsByFile
 pub mod Turned
 pub mod WorkSteps

@@ -19,4 +19,5 @@ pub mod Runs
 pub mod Searches
 pub mod steps
 pub mod Symbols
+pub mod Sync
 pub mod Words

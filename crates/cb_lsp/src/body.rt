@@ -95,7 +95,7 @@ impl Server {
     }
 
     /// Takes the body of a message; whether the client ends the run by it.
-    pub fn take_body<W: Write>(
+    pub(crate) fn take_body<W: Write>(
         &mut self,
         alloc: Global,
         out: &mut Sink<W>,

@@ -12,6 +12,7 @@ mod documents;
 mod header;
 mod hover;
 mod kind;
+pub mod laws;
 mod location;
 mod meaning;
 mod notice;

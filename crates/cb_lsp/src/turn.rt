@@ -75,7 +75,7 @@ impl Server {
     }
 
     /// Reads a message, and takes it; the ending of the run, if it ends.
-    pub fn turn<R: BufRead, W: Write>(
+    pub(crate) fn turn<R: BufRead, W: Write>(
         &mut self,
         alloc: Global,
         frames: &mut Frames,

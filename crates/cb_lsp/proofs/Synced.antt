@@ -1,0 +1,536 @@
+-- Each open document has the text that its client has.
+use Rattle.std.proofs.Common.{◌≡◌, ◌∙◌, sym, ap, refl, subst, ◌&&◌, ◌||◌, ℕ, not}
+use Rattle.std.proofs.Common.{Bool, true, false, cond, List, [], ◌∷◌, codes}
+use Rattle.std.proofs.Common.{Option, None, Some, Result, Ok, Err}
+use Rattle.std.proofs.lemmas.Bool.{true≢false}
+use Rattle.std.specs.Str.{bytes_eq}
+use Rattle.json.specs.Json.{Json, Items, no_items, item, null}
+use Rattle.json.specs.Find.{get}
+use Rattle.cb_tags.specs.Names.{is_file_name}
+use Rattle.cb_wire.specs.declared.reply.ErrorCode.TheVariants.{InvalidRequest}
+use Rattle.cb_wire.specs.declared.reply.ErrorCode.TheVariants.{ServerNotInitialized}
+use Rattle.cb_wire.specs.Trees.{error_reply, result_reply}
+use Rattle.cb_wire.specs.Uris.{Below, escaped, name_below, path_of}
+use Rattle.cb_desk.specs.declared.refusal.Refusal.{Refusal}
+use Rattle.cb_desk.specs.Files.{load_refusal, loaded, reload_refusal, reloaded, unload_refusal}
+use Rattle.cb_desk.specs.Files.{unloaded, without_file}
+use Rattle.cb_desk.specs.Refusals.{text_of}
+use Rattle.cb_desk.specs.Step.{load, reload, step, unless_refused, unload}
+use Rattle.cb_desk.specs.World.{File, World, has_file, text_of_file}
+use Rattle.cb_desk.proofs.PlaceLemmas.{is-gone, name-same, same-name, text-with, text-with-here}
+use Rattle.cb_desk.proofs.PlaceLemmas.{text-without}
+use Rattle.cb_lsp.specs.declared.notice.Notice.{Notice}
+use Rattle.cb_lsp.specs.declared.notice.Notice.TheVariants.{Open, Change, Save, Close, Files}
+use Rattle.cb_lsp.specs.declared.server.Stage.{Stage}
+use Rattle.cb_lsp.specs.declared.server.Stage.TheVariants.{Fresh, Running, Down}
+use Rattle.cb_lsp.specs.Documents.{Document, Kept, Told, Work, after_change, after_close, after_open}
+use Rattle.cb_lsp.specs.Documents.{after_removal, changed, changed_to, closed, closed_to, document_of}
+use Rattle.cb_lsp.specs.Documents.{if_open, is_named, is_open, kept_from, lost, nothing, opened}
+use Rattle.cb_lsp.specs.Documents.{present, removed, saved, saved_as, text, text_step}
+use Rattle.cb_lsp.specs.Documents.{with_document, without_document}
+use Rattle.cb_lsp.specs.Messages.{Message, Outcome, Serving, all_happened, bad_name, does}
+use Rattle.cb_lsp.specs.Messages.{ends_as_c, fresh_server, happened, happened_in}
+use Rattle.cb_lsp.specs.Messages.{is_opening, moved, notice_of, noticed_as, noticed_at, noticed_by}
+use Rattle.cb_lsp.specs.Messages.{noticed_if, noticed_of, noticed_on, not_json, not_request}
+use Rattle.cb_lsp.specs.Messages.{notification, opened_with, removed_at, removed_of, reply, replies}
+use Rattle.cb_lsp.specs.Messages.{asked_reply, initialized, request, requested, running, show_of}
+use Rattle.cb_lsp.specs.Messages.{stays, told_of, too_large}
+use Rattle.cb_lsp.specs.Questions.{asked_by}
+use Rattle.cb_lsp.specs.Params.{document_text, is_deletion, items_in, last_text, member_of}
+use Rattle.cb_lsp.specs.Params.{text_in, uri_in}
+use Rattle.cb_lsp.specs.Sync.{AreInSync, DocumentsStayInSync, Sent, after_all, last_or, name_at}
+use Rattle.cb_lsp.specs.Sync.{name_of, nothing_sent, sent_after, sent_at, sent_if, sent_in_all}
+use Rattle.cb_lsp.specs.Sync.{sent_of, text_after, text_or, with_text}
+use Rattle.cb_lsp.proofs.Opened.{closed-document}
+
+-- ---- documents of different names
+
+other-way : (a b : List ℕ) → bytes_eq a b ≡ false → bytes_eq b a ≡ false
+other-way a b e =
+    (elim (bytes_eq b a) as (λ t. bytes_eq b a ≡ t → t ≡ false) [
+      | true ↦ λ h. absurd (true≢false (sym (name-same a)
+          ∙ ap (bytes_eq a) (sym (same-name b a h)) ∙ e))
+      | false ↦ λ h. refl
+    ]) refl
+
+put-here : (d : Document) (ds : List Document) → document_of (with_document d ds) d.name ≡ Some d
+unfolding document_of with_document
+put-here d [] = rw (name-same d.name) refl
+put-here d (e ∷ es) =
+    (elim (is_named d.name e) as (λ b. is_named d.name e ≡ b
+    → document_of (cond b (d ∷ es) (e ∷ with_document d es)) d.name ≡ Some d) [
+      | true ↦ λ h. rw (name-same d.name) refl
+      | false ↦ λ h. rw h (put-here d es)
+    ]) refl
+
+put-other : (d : Document) (ds : List Document) (name : List ℕ) → bytes_eq d.name name ≡ false
+    → document_of (with_document d ds) name ≡ document_of ds name
+unfolding document_of with_document
+put-other d [] name other = rw other refl
+put-other d (e ∷ es) name other =
+    (elim (is_named d.name e) as (λ b. is_named d.name e ≡ b
+    → document_of (cond b (d ∷ es) (e ∷ with_document d es)) name
+    ≡ cond (is_named name e) (Some e) (document_of es name)) [
+      | true ↦ λ h.
+          let apart : is_named name e ≡ false =
+          ap (λ n. bytes_eq n name) (same-name e.name d.name h) ∙ other in
+          rw (other, apart) refl
+      | false ↦ λ h.
+          ap (cond (is_named name e) (Some e)) (put-other d es name other)
+    ]) refl
+
+gone-other : (gone : List ℕ) (ds : List Document) (name : List ℕ) → bytes_eq gone name ≡ false
+    → document_of (without_document gone ds) name ≡ document_of ds name
+unfolding document_of without_document
+gone-other gone [] name other = refl
+gone-other gone (e ∷ es) name other =
+    (elim (is_named gone e) as (λ b. is_named gone e ≡ b
+    → document_of (cond b es (e ∷ without_document gone es)) name
+    ≡ cond (is_named name e) (Some e) (document_of es name)) [
+      | true ↦ λ h.
+          let apart : is_named name e ≡ false =
+          ap (λ n. bytes_eq n name) (same-name e.name gone h) ∙ other in
+          rw apart refl
+      | false ↦ λ h. ap (cond (is_named name e) (Some e)) (gone-other gone es name other)
+    ]) refl
+
+-- no two documents are of one file
+Distinct : List Document → Type 0
+Distinct [] = Unit {0}
+Distinct (d ∷ ds) = (document_of ds d.name ≡ None) × Distinct ds
+
+gone-here : (name : List ℕ) (ds : List Document) → Distinct ds
+    → document_of (without_document name ds) name ≡ None
+unfolding document_of without_document Distinct
+gone-here name [] apart = refl
+gone-here name (e ∷ es) apart =
+    (elim (is_named name e) as (λ b. is_named name e ≡ b
+    → document_of (cond b es (e ∷ without_document name es)) name ≡ None) [
+      | true ↦ λ h. subst (λ n. document_of es n ≡ None) (same-name e.name name h) apart.0
+      | false ↦ λ h. rw h (gone-here name es apart.1)
+    ]) refl
+
+put-distinct : (d : Document) (ds : List Document) → Distinct ds → Distinct (with_document d ds)
+unfolding document_of with_document Distinct
+put-distinct d [] apart = (refl, tt)
+put-distinct d (e ∷ es) apart =
+    (elim (is_named d.name e) as (λ b. is_named d.name e ≡ b
+    → Distinct (cond b (d ∷ es) (e ∷ with_document d es))) [
+      | true ↦ λ h.
+          (subst (λ n. document_of es n ≡ None) (same-name e.name d.name h) apart.0, apart.1)
+      | false ↦ λ h. (
+          put-other d es e.name (other-way e.name d.name h) ∙ apart.0,
+          put-distinct d es apart.1,
+        )
+    ]) refl
+
+gone-distinct : (name : List ℕ) (ds : List Document) → Distinct ds
+    → Distinct (without_document name ds)
+unfolding document_of without_document Distinct
+gone-distinct name [] apart = tt
+gone-distinct name (e ∷ es) apart =
+    (elim (is_named name e) as (λ b. is_named name e ≡ b
+    → Distinct (cond b es (e ∷ without_document name es))) [
+      | true ↦ λ h. apart.1
+      | false ↦ λ h. (
+          gone-other name es e.name (other-way e.name name h) ∙ apart.0,
+          gone-distinct name es apart.1,
+        )
+    ]) refl
+
+-- the document of a name has that name
+found-name : (ds : List Document) (name : List ℕ) (d : Document) → document_of ds name ≡ Some d
+    → d.name ≡ name
+unfolding document_of
+found-name [] name d e = cc
+found-name (x ∷ xs) name d e =
+    (elim (is_named name x) as (λ b. is_named name x ≡ b
+    → cond b (Some x) (document_of xs name) ≡ Some d → d.name ≡ name) [
+      | true ↦ λ h k. let same : x ≡ d = cc in
+          subst (λ (y : Document). y.name ≡ name) same (same-name x.name name h)
+      | false ↦ λ h k. found-name xs name d k
+    ]) refl e
+
+-- ---- a file that is given a text
+
+is-after : (o : Option Refusal) (v u : World) → unless_refused o v ≡ Ok u → v ≡ u
+is-after None v u e = cc
+is-after (Some r) v u e = cc
+
+record Given (w u : World) (name bytes : List ℕ) : Type 0 where
+  here : text_of_file u.files name ≡ bytes
+  others : (n : List ℕ) → bytes_eq name n ≡ false
+      → text_of_file u.files n ≡ text_of_file w.files n
+
+module _ (w u : World) (name bytes : List ℕ) where
+  file : File
+  file = record { name = name; bytes = bytes }
+
+  reloaded-so : Given w (reloaded w name bytes) name bytes
+  reloaded-so = record {
+    here = text-with-here (record { name = name; bytes = bytes }) (without_file name w.files)
+        (is-gone w.files name);
+    others = λ n other.
+        text-with (record { name = name; bytes = bytes }) (without_file name w.files) n other
+        ∙ text-without w.files name n (other-way name n other);
+  }
+
+  loaded-so : has_file w.files name ≡ false → Given w (loaded w name bytes) name bytes
+  loaded-so fresh = record {
+    here = text-with-here (record { name = name; bytes = bytes }) w.files fresh;
+    others = λ n other. text-with (record { name = name; bytes = bytes }) w.files n other;
+  }
+
+  given : step w (text_step w.files name bytes) ≡ Ok u → Given w u name bytes
+  unfolding step
+  given made =
+      (elim (has_file w.files name) as (λ b. has_file w.files name ≡ b
+      → step w (cond b (reload name bytes) (load name bytes)) ≡ Ok u → Given w u name bytes) [
+        | true ↦ λ h k.
+            subst (λ v. Given w v name bytes)
+            (is-after (reload_refusal w name bytes) (reloaded w name bytes) u k) reloaded-so
+        | false ↦ λ h k.
+            subst (λ v. Given w v name bytes)
+            (is-after (load_refusal w name bytes) (loaded w name bytes) u k) (loaded-so h)
+      ]) refl made
+
+-- ---- what keeps in step
+
+record Good (w : Work) (sent : Sent) : Type 0 where
+  synced : AreInSync w sent
+  apart : Distinct w.documents
+
+module _ (w : Work) (sent : Sent) (good : Good w sent) where
+  -- nothing happens
+  same-good : (name : List ℕ) (t : Option (List ℕ)) → t ≡ sent name
+      → Good w (with_text name t sent)
+  same-good name t is = record {
+    synced = λ n d found kept.
+        (elim (bytes_eq name n) as (λ b. bytes_eq name n ≡ b
+        → cond b t (sent n) ≡ Some (text_of_file w.world.files n)) [
+          | true ↦ λ h. is ∙ ap sent (same-name name n h) ∙ good.synced n d found kept
+          | false ↦ λ h. good.synced n d found kept
+        ]) refl;
+    apart = good.apart;
+  }
+
+  -- of a document that is not open a client may have any text
+  closed-good : (name : List ℕ) (t : Option (List ℕ)) → document_of w.documents name ≡ None
+      → Good w (with_text name t sent)
+  closed-good name t none = record {
+    synced = λ n d found kept.
+        (elim (bytes_eq name n) as (λ b. bytes_eq name n ≡ b
+        → cond b t (sent n) ≡ Some (text_of_file w.world.files n)) [
+          | true ↦ λ h.
+              let missing : document_of w.documents n ≡ None =
+              subst (λ m. document_of w.documents m ≡ None) (same-name name n h) none in cc
+          | false ↦ λ h. good.synced n d found kept
+        ]) refl;
+    apart = good.apart;
+  }
+
+  -- a document is put in place of that of its file, and its text with it
+  put-good : (d : Document) (u : World) (t : Option (List ℕ))
+      → ((n : List ℕ) → bytes_eq d.name n ≡ false
+      → text_of_file u.files n ≡ text_of_file w.world.files n)
+      → (d.lost ≡ false → t ≡ Some (text_of_file u.files d.name))
+      → Good (record { world = u; documents = with_document d w.documents })
+      (with_text d.name t sent)
+  put-good d u t others here = record {
+    synced = λ n e found kept.
+        (elim (bytes_eq d.name n) as (λ b. bytes_eq d.name n ≡ b
+        → cond b t (sent n) ≡ Some (text_of_file u.files n)) [
+          | true ↦ λ h.
+              let name : d.name ≡ n = same-name d.name n h in
+              let there : document_of (with_document d w.documents) n ≡ Some d =
+              subst (λ m. document_of (with_document d w.documents) m ≡ Some d) name
+              (put-here d w.documents) in
+              let same : d ≡ e = cc in
+              here (ap (λ (x : Document). x.lost) same ∙ kept)
+              ∙ ap (λ m. Some (text_of_file u.files m)) name
+          | false ↦ λ h.
+              good.synced n e (sym (put-other d w.documents n h) ∙ found) kept
+              ∙ ap Some (sym (others n h))
+        ]) refl;
+    apart = put-distinct d w.documents good.apart;
+  }
+
+  -- a document is closed
+  drop-good : (name : List ℕ) (u : World)
+      → ((n : List ℕ) → bytes_eq name n ≡ false
+      → text_of_file u.files n ≡ text_of_file w.world.files n)
+      → Good (record { world = u; documents = without_document name w.documents })
+      (with_text name None sent)
+  drop-good name u others = record {
+    synced = λ n e found kept.
+        (elim (bytes_eq name n) as (λ b. bytes_eq name n ≡ b
+        → cond b None (sent n) ≡ Some (text_of_file u.files n)) [
+          | true ↦ λ h.
+              let missing : document_of (without_document name w.documents) n ≡ None =
+              subst (λ m. document_of (without_document name w.documents) m ≡ None)
+              (same-name name n h) (gone-here name w.documents good.apart) in cc
+          | false ↦ λ h.
+              good.synced n e (sym (gone-other name w.documents n h) ∙ found) kept
+              ∙ ap Some (sym (others n h))
+        ]) refl;
+    apart = gone-distinct name w.documents good.apart;
+  }
+
+  -- ---- what notifications do
+
+  opens : (name bytes : List ℕ) (r : Result World Refusal)
+      → step w.world (text_step w.world.files name bytes) ≡ r
+      → Good (after_open w name r).work (with_text name (Some bytes) sent)
+  opens name bytes (Ok u) made =
+      let g = given w.world u name bytes made in
+      put-good (record { name = name; kept = present; lost = false }) u (Some bytes) g.others
+      (λ _. ap Some (sym g.here))
+  opens name bytes (Err why) made =
+      put-good (record { name = name; kept = nothing; lost = true }) w.world (Some bytes)
+      (λ n other. refl) (λ e. absurd (true≢false e))
+
+  opens-if : (name : List ℕ) (o : Option (List ℕ))
+      → Good (opened_with [] w name o).work (with_text name (text_or (sent name) o) sent)
+  opens-if name None = same-good name (sent name) refl
+  opens-if name (Some bytes) = opens name bytes _ refl
+
+  loses : (d : Document) (why : List ℕ) (t : Option (List ℕ))
+      → Good (lost w d why).work (with_text d.name t sent)
+  loses d why t =
+      put-good (record d { lost = true }) w.world t (λ n other. refl)
+      (λ e. absurd (true≢false e))
+
+  changes : (d : Document) (bytes : List ℕ) (r : Result World Refusal)
+      → step w.world (text_step w.world.files d.name bytes) ≡ r
+      → Good (after_change w d r).work (with_text d.name (Some bytes) sent)
+  changes d bytes (Ok u) made =
+      let g = given w.world u d.name bytes made in
+      put-good (record {
+        name = d.name;
+        kept = kept_from (text_of_file w.world.files d.name) d.kept;
+        lost = false;
+      }) u (Some bytes) g.others (λ _. ap Some (sym g.here))
+  changes d bytes (Err why) made = loses d (text_of why) (Some bytes)
+
+  changes-to : (d : Document) (last : Option (Option (List ℕ)))
+      → Good (changed_to false w d last).work (with_text d.name (last_or (sent d.name) last) sent)
+  changes-to d None = loses d (codes "bad parameters") (sent d.name)
+  changes-to d (Some None) = same-good d.name (sent d.name) refl
+  changes-to d (Some (Some bytes)) = changes d bytes _ refl
+
+  changes-if : (name : List ℕ) (last : Option (Option (List ℕ))) (o : Option Document)
+      → document_of w.documents name ≡ o
+      → Good (if_open (λ d. changed_to false w d last) w o).work
+      (with_text name (last_or (sent name) last) sent)
+  changes-if name last None found = closed-good name (last_or (sent name) last) found
+  changes-if name last (Some d) found =
+      subst (λ n. Good (changed_to false w d last).work (with_text n (last_or (sent n) last) sent))
+      (found-name w.documents name d found) (changes-to d last)
+
+  saves-as : (d : Document) (b : Bool) → d.lost ≡ b → document_of w.documents d.name ≡ Some d
+      → Good (saved_as w d b).work (with_text d.name (sent d.name) sent)
+  saves-as d true is found = same-good d.name (sent d.name) refl
+  saves-as d false is found =
+      put-good (record d { kept = present }) w.world (sent d.name) (λ n other. refl)
+      (λ _. good.synced d.name d found is)
+
+  saves-if : (name : List ℕ) (o : Option Document) → document_of w.documents name ≡ o
+      → Good (if_open (λ d. saved_as w d d.lost) w o).work (with_text name (sent name) sent)
+  saves-if name None found = same-good name (sent name) refl
+  saves-if name (Some d) found =
+      let named = found-name w.documents name d found in
+      subst (λ n. Good (saved_as w d d.lost).work (with_text n (sent n) sent)) named
+      (saves-as d d.lost refl (subst (λ n. document_of w.documents n ≡ Some d) (sym named) found))
+
+  closes : (name bytes : List ℕ) (r : Result World Refusal)
+      → step w.world (text_step w.world.files name bytes) ≡ r
+      → Good (after_close w name r).work (with_text name None sent)
+  closes name bytes (Ok u) made = drop-good name u (given w.world u name bytes made).others
+  closes name bytes (Err why) made = drop-good name w.world (λ n other. refl)
+
+  closes-to : (name : List ℕ) (k : Kept)
+      → Good (closed_to false w name k).work (with_text name None sent)
+  closes-to name nothing = drop-good name w.world (λ n other. refl)
+  closes-to name present = drop-good name w.world (λ n other. refl)
+  closes-to name (text bytes) = closes name bytes _ refl
+
+  closes-if : (name : List ℕ) (o : Option Document) → document_of w.documents name ≡ o
+      → Good (if_open (λ d. closed_to false w name d.kept) w o).work (with_text name None sent)
+  closes-if name None found = closed-good name None found
+  closes-if name (Some d) found = closes-to name d.kept
+
+  tells : (notice : Notice) (params : Option Json) (name : List ℕ)
+      → Good (told_of notice [] w params name).work
+      (with_text name (text_after notice params (sent name)) sent)
+  tells Open params name = opens-if name (document_text params)
+  tells Change params name = changes-if name (last_text params) _ refl
+  tells Save params name = saves-if name _ refl
+  tells Close params name = closes-if name _ refl
+  tells Files params name = same-good name (sent name) refl
+
+  -- a file without a document goes away
+  goes : (name : List ℕ) (r : Result World Refusal) → step w.world (unload name) ≡ r
+      → document_of w.documents name ≡ None → Good (after_removal w r).work sent
+  unfolding step
+  goes name (Ok u) made none = record {
+    synced = λ n d found kept.
+        (elim (bytes_eq name n) as (λ b. bytes_eq name n ≡ b
+        → sent n ≡ Some (text_of_file u.files n)) [
+          | true ↦ λ h.
+              let missing : document_of w.documents n ≡ None =
+              subst (λ m. document_of w.documents m ≡ None) (same-name name n h) none in cc
+          | false ↦ λ h.
+              let is : unloaded w.world name ≡ u =
+              is-after (unload_refusal w.world name) (unloaded w.world name) u made in
+              good.synced n d found kept
+              ∙ ap Some (sym (text-without w.world.files name n (other-way name n h))
+              ∙ ap (λ (v : World). text_of_file v.files n) is)
+        ]) refl;
+    apart = good.apart;
+  }
+  goes name (Err why) made none = good
+
+  goes-if : (name : List ℕ) → Good (removed false w name).work sent
+  goes-if name =
+      (elim (is_open w.documents name) as (λ b. is_open w.documents name ≡ b
+      → Good (cond (b || not (has_file w.world.files name)) (record { work = w; told = None })
+      (after_removal w (step w.world (unload name)))).work sent) [
+        | true ↦ λ h. good
+        | false ↦ λ h.
+            elim (not (has_file w.world.files name)) as (λ b. Good (cond b
+            (record { work = w; told = None })
+            (after_removal w (step w.world (unload name)))).work sent) [
+              | true ↦ good
+              | false ↦ goes name _ refl (closed-document name w.documents h)
+            ]
+      ]) refl
+
+-- ---- what messages do
+
+module _ (s : Serving) (sent : Sent) (good : Good s.work sent) where
+  removed-good : (o : Option (List ℕ)) → Good (removed_at false s o).server.work sent
+  removed-good None = good
+  removed-good (Some path) = goes-if s.work sent good (name_below s.client.root.path path)
+
+  removed-of-good : (o : Option (List ℕ)) → Good (removed_of [] s o).server.work sent
+  removed-of-good None = good
+  removed-of-good (Some uri) = removed-good (path_of uri)
+
+  happened-good : (event : Json) → Good (happened [] s event).server.work sent
+  happened-good event =
+      elim (is_deletion event) as (λ b. Good (cond b
+      (removed_of [] s (text_in (get (codes "uri") event))) (stays s)).server.work sent) [
+        | true ↦ removed-of-good (text_in (get (codes "uri") event))
+        | false ↦ good
+      ]
+
+  at-good : (notice : Notice) (params : Option Json) (o : Option (List ℕ))
+      → Good (noticed_on notice [] s params o).server.work
+      (sent_of sent notice params (name_at s.client.root.path o))
+  at-good notice params None = good
+  at-good notice params (Some path) =
+      let name = name_below s.client.root.path path in
+      elim (is_file_name name) as (λ b. Good
+      (cond b (moved s name (told_of notice [] s.work params name))
+      (bad_name s notice path)).server.work
+      (sent_of sent notice params (cond b (Some name) None))) [
+        | true ↦ tells s.work sent good notice params name
+        | false ↦ elim (ends_as_c path && is_opening notice) as (λ b. Good (cond b
+            (replies s (show_of (escaped path) (codes "bad name"))) (stays s)).server.work sent)
+            [ true ↦ good | false ↦ good ]
+      ]
+
+  of-good : (notice : Notice) (params : Option Json) (o : Option (List ℕ))
+      → Good (noticed_of notice [] s params o).server.work
+      (sent_of sent notice params (name_of s.client.root.path o))
+  of-good notice params None = good
+  of-good notice params (Some uri) = at-good notice params (path_of uri)
+
+all-good : (s : Serving) (sent : Sent) → Good s.work sent → (events : Items)
+    → Good (all_happened [] s events).server.work sent
+unfolding all_happened
+all-good s sent good no_items = good
+all-good s sent good (item event more) =
+    all-good (happened [] s event).server sent (happened-good s sent good event) more
+
+happened-in-good : (s : Serving) (sent : Sent) → Good s.work sent → (o : Option Items)
+    → Good (happened_in [] s o).server.work sent
+happened-in-good s sent good None = good
+happened-in-good s sent good (Some events) = all-good s sent good events
+
+module _ (s : Serving) (sent : Sent) (good : Good s.work sent) where
+  -- what a client has does not change by file events
+  files-good : (params : Option Json) (w : Work) → Good w sent → (o : Option (List ℕ))
+      → Good w (sent_of sent Files params o)
+  files-good params w so None = so
+  files-good params w so (Some name) = same-good w sent so name (sent name) refl
+
+  as-good : (notice : Notice) (params : Option Json)
+      → Good (noticed_as notice [] s params).server.work
+      (sent_of sent notice params (name_of s.client.root.path (uri_in params)))
+  as-good Open params = of-good s sent good Open params (uri_in params)
+  as-good Change params = of-good s sent good Change params (uri_in params)
+  as-good Save params = of-good s sent good Save params (uri_in params)
+  as-good Close params = of-good s sent good Close params (uri_in params)
+  as-good Files params =
+      files-good params (noticed_as Files [] s params).server.work
+      (happened-in-good s sent good (items_in (member_of (codes "changes") params)))
+      (name_of s.client.root.path (uri_in params))
+
+  if-good : (o : Option Notice) (params : Option Json)
+      → Good (noticed_if o [] s params).server.work (sent_if sent s.client.root.path o params)
+  if-good None params = good
+  if-good (Some notice) params = as-good notice params
+
+  by-good : (stage : Stage) (method : List ℕ) (params : Option Json)
+      → Good (noticed_by stage [] s method params).server.work
+      (sent_at stage sent s.client.root.path method params)
+  by-good Running method params = if-good (notice_of method) params
+  by-good Fresh method params = good
+  by-good Down method params = good
+
+  -- requests change no file and no document
+  runs-good : (id : Json) (method : List ℕ) (params : Option Json)
+      → Good (running false s id method params).server.work sent
+  runs-good id method params =
+      let again = replies s (error_reply id InvalidRequest (codes "initialized already")) in
+      let down = replies (record s { stage = Down }) (result_reply id null) in
+      let answer = replies s (asked_reply false s id (asked_by method params)) in
+      elim (bytes_eq method (codes "initialize")) as (λ b. Good
+      (cond b again (cond (bytes_eq method (codes "shutdown")) down answer)).server.work sent) [
+        | true ↦ good
+        | false ↦ elim (bytes_eq method (codes "shutdown")) as
+            (λ b. Good (cond b down answer).server.work sent) [ true ↦ good | false ↦ good ]
+      ]
+
+  asks-good : (stage : Stage) (id : Json) (method : List ℕ) (params : Option Json)
+      → Good (requested stage false s id method params).server.work sent
+  asks-good Running id method params = runs-good id method params
+  asks-good Fresh id method params =
+      let early = replies s (error_reply id ServerNotInitialized (codes "not initialized")) in
+      elim (bytes_eq method (codes "initialize")) as
+      (λ b. Good (cond b (initialized false s id params) early).server.work sent)
+      [ true ↦ good | false ↦ good ]
+  asks-good Down id method params = good
+
+  message-good : (m : Message) → Good (does [] s m).server.work (sent_after s sent m)
+  unfolding does
+  message-good not_json = good
+  message-good not_request = good
+  message-good reply = good
+  message-good too_large = good
+  message-good (notification method params) = by-good s.stage method params
+  message-good (request id method params) = asks-good s.stage id method params
+
+all-messages : (s : Serving) (sent : Sent) → Good s.work sent → (ms : List Message)
+    → Good (after_all s ms).work (sent_in_all s sent ms)
+unfolding after_all sent_in_all
+all-messages s sent good [] = good
+all-messages s sent good (m ∷ ms) =
+    all-messages (does [] s m).server (sent_after s sent m) (message-good s sent good m) ms
+
+pub documents_stay_in_sync : DocumentsStayInSync
+unfolding document_of Distinct
+documents_stay_in_sync w root rooted version ms =
+    (all-messages (fresh_server w root rooted version) nothing_sent
+    (record { synced = λ name d found kept. cc; apart = tt }) ms).synced

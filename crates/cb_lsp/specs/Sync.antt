@@ -1,0 +1,93 @@
+-- What a client has of the documents that it opened, and that the server has the same.
+use Rattle.std.specs.Prelude.{◌≡◌, ℕ, Bool, true, false, List, [], ◌∷◌, Option, None, Some}
+use Rattle.std.specs.Prelude.{if◌then◌else◌}
+use Rattle.std.specs.Str.{bytes_eq}
+use Rattle.json.specs.Json.{Json}
+use Rattle.cb_tags.specs.Names.{is_file_name}
+use Rattle.cb_wire.specs.Uris.{Below, name_below, path_of}
+use Rattle.cb_desk.specs.World.{World, text_of_file}
+use Rattle.cb_lsp.specs.declared.notice.Notice.{Notice}
+use Rattle.cb_lsp.specs.declared.notice.Notice.TheVariants.{Open, Change, Save, Close, Files}
+use Rattle.cb_lsp.specs.declared.server.Stage.{Stage}
+use Rattle.cb_lsp.specs.declared.server.Stage.TheVariants.{Fresh, Running, Down}
+use Rattle.cb_lsp.specs.Documents.{Document, Work, document_of}
+use Rattle.cb_lsp.specs.Messages.{Message, Serving, does, fresh_server, notice_of, notification}
+use Rattle.cb_lsp.specs.Params.{document_text, last_text, uri_in}
+
+-- the text that a client has of the document of a name, if that is open
+abbrev pub Sent : Type 0
+Sent = List ℕ → Option (List ℕ)
+
+abbrev pub nothing_sent : Sent
+nothing_sent name = None
+
+-- the same with another text of one name, or none
+abbrev pub with_text : List ℕ → Option (List ℕ) → Sent → Sent
+with_text name text sent other = if bytes_eq name other then text else sent other
+
+-- the name of a file below a root: of a path, and of a URI
+abbrev pub name_at : (root : List ℕ) → Option (List ℕ) → Option (List ℕ)
+name_at root None = None
+name_at root (Some path) =
+    let name = name_below root path in if is_file_name name then Some name else None
+
+abbrev pub name_of : (root : List ℕ) → Option (List ℕ) → Option (List ℕ)
+name_of root None = None
+name_of root (Some uri) = name_at root (path_of uri)
+
+-- a text, or else the one before
+abbrev pub text_or : (before : Option (List ℕ)) → Option (List ℕ) → Option (List ℕ)
+text_or before None = before
+text_or before (Some text) = Some text
+
+abbrev pub last_or : (before : Option (List ℕ)) → Option (Option (List ℕ)) → Option (List ℕ)
+last_or before None = before
+last_or before (Some last) = text_or before last
+
+-- the text that a client has of a document after its notification
+abbrev pub text_after : Notice → Option Json → Option (List ℕ) → Option (List ℕ)
+text_after Open params before = text_or before (document_text params)
+text_after Change params before = last_or before (last_text params)
+text_after Save params before = before
+text_after Close params before = None
+text_after Files params before = before
+
+abbrev pub sent_of : Sent → Notice → Option Json → (name : Option (List ℕ)) → Sent
+sent_of sent notice params None = sent
+sent_of sent notice params (Some name) =
+    with_text name (text_after notice params (sent name)) sent
+
+abbrev pub sent_if : Sent → (root : List ℕ) → Option Notice → Option Json → Sent
+sent_if sent root None params = sent
+sent_if sent root (Some notice) params = sent_of sent notice params (name_of root (uri_in params))
+
+abbrev pub sent_at : Stage → Sent → (root : List ℕ) → (method : List ℕ) → Option Json → Sent
+sent_at Running sent root method params = sent_if sent root (notice_of method) params
+sent_at Fresh sent root method params = sent
+sent_at Down sent root method params = sent
+
+-- what a client has after a message to a server, which takes notifications as long as it runs
+abbrev pub sent_after : Serving → Sent → Message → Sent
+sent_after s sent (notification method params) =
+    sent_at s.stage sent s.client.root.path method params
+sent_after s sent _ = sent
+
+-- each open document that is not lost has the text that the client has
+abbrev pub AreInSync : Work → Sent → Type 0
+AreInSync w sent = (name : List ℕ) (d : Document) → document_of w.documents name ≡ Some d
+    → d.lost ≡ false → sent name ≡ Some (text_of_file w.world.files name)
+
+-- a server, and what its client has, after messages to which no memory was refused
+unfoldable pub after_all : Serving → List Message → Serving
+after_all s [] = s
+after_all s (m ∷ ms) = after_all (does [] s m).server ms
+
+unfoldable pub sent_in_all : Serving → Sent → List Message → Sent
+sent_in_all s sent [] = sent
+sent_in_all s sent (m ∷ ms) = sent_in_all (does [] s m).server (sent_after s sent m) ms
+
+-- after any messages the documents of a server and of its client are the same
+abbrev pub DocumentsStayInSync : Type 0
+DocumentsStayInSync = (w : World) (root : Below) (rooted : Bool) (version : List ℕ)
+    (ms : List Message) → let s = fresh_server w root rooted version in
+    AreInSync (after_all s ms).work (sent_in_all s nothing_sent ms)
