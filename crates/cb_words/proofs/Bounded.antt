@@ -24,7 +24,7 @@ abbrev first : Text → ℕ
 first [] = 0
 first (b ∷ bs) = b
 
-second : Text → ℕ
+abbrev second : Text → ℕ
 second [] = 0
 second (b ∷ bs) = first bs
 
