@@ -20,4 +20,5 @@ pub mod Requests
 pub mod Synced
 pub mod TagsByFile
 pub mod Turned
+pub mod Untouched
 pub mod WorkSteps

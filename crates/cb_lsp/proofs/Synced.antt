@@ -4,12 +4,9 @@ use Rattle.std.proofs.Common.{Bool, true, false, cond, List, [], ◌∷◌, code
 use Rattle.std.proofs.Common.{Option, None, Some, Result, Ok, Err}
 use Rattle.std.proofs.lemmas.Bool.{true≢false}
 use Rattle.std.specs.Str.{bytes_eq}
-use Rattle.json.specs.Json.{Json, Items, no_items, item, null}
+use Rattle.json.specs.Json.{Json, Items, no_items, item}
 use Rattle.json.specs.Find.{get}
 use Rattle.cb_tags.specs.Names.{is_file_name}
-use Rattle.cb_wire.specs.declared.reply.ErrorCode.TheVariants.{InvalidRequest}
-use Rattle.cb_wire.specs.declared.reply.ErrorCode.TheVariants.{ServerNotInitialized}
-use Rattle.cb_wire.specs.Trees.{error_reply, result_reply}
 use Rattle.cb_wire.specs.Uris.{Below, escaped, name_below, path_of}
 use Rattle.cb_desk.specs.declared.refusal.Refusal.{Refusal}
 use Rattle.cb_desk.specs.Files.{load_refusal, loaded, reload_refusal, reloaded, unload_refusal}
@@ -33,15 +30,14 @@ use Rattle.cb_lsp.specs.Messages.{ends_as_c, fresh_server, happened, happened_in
 use Rattle.cb_lsp.specs.Messages.{is_opening, moved, notice_of, noticed_as, noticed_at, noticed_by}
 use Rattle.cb_lsp.specs.Messages.{noticed_if, noticed_of, noticed_on, not_json, not_request}
 use Rattle.cb_lsp.specs.Messages.{notification, opened_with, removed_at, removed_of, reply, replies}
-use Rattle.cb_lsp.specs.Messages.{asked_reply, initialized, request, requested, running, show_of}
-use Rattle.cb_lsp.specs.Messages.{stays, told_of, too_large}
-use Rattle.cb_lsp.specs.Questions.{asked_by}
+use Rattle.cb_lsp.specs.Messages.{request, show_of, stays, told_of, too_large}
 use Rattle.cb_lsp.specs.Params.{document_text, is_deletion, items_in, last_text, member_of}
 use Rattle.cb_lsp.specs.Params.{text_in, uri_in}
 use Rattle.cb_lsp.specs.Sync.{AreInSync, DocumentsStayInSync, Sent, after_all, last_or, name_at}
 use Rattle.cb_lsp.specs.Sync.{name_of, nothing_sent, sent_after, sent_at, sent_if, sent_in_all}
 use Rattle.cb_lsp.specs.Sync.{sent_of, text_after, text_or, with_text}
 use Rattle.cb_lsp.proofs.Opened.{closed-document}
+use Rattle.cb_lsp.proofs.Untouched.{requests_change_nothing}
 
 -- ---- documents of different names
 
@@ -489,30 +485,6 @@ module _ (s : Serving) (sent : Sent) (good : Good s.work sent) where
   by-good Fresh method params = good
   by-good Down method params = good
 
-  -- requests change no file and no document
-  runs-good : (id : Json) (method : List ℕ) (params : Option Json)
-      → Good (running false s id method params).server.work sent
-  runs-good id method params =
-      let again = replies s (error_reply id InvalidRequest (codes "initialized already")) in
-      let down = replies (record s { stage = Down }) (result_reply id null) in
-      let answer = replies s (asked_reply false s id (asked_by method params)) in
-      elim (bytes_eq method (codes "initialize")) as (λ b. Good
-      (cond b again (cond (bytes_eq method (codes "shutdown")) down answer)).server.work sent) [
-        | true ↦ good
-        | false ↦ elim (bytes_eq method (codes "shutdown")) as
-            (λ b. Good (cond b down answer).server.work sent) [ true ↦ good | false ↦ good ]
-      ]
-
-  asks-good : (stage : Stage) (id : Json) (method : List ℕ) (params : Option Json)
-      → Good (requested stage false s id method params).server.work sent
-  asks-good Running id method params = runs-good id method params
-  asks-good Fresh id method params =
-      let early = replies s (error_reply id ServerNotInitialized (codes "not initialized")) in
-      elim (bytes_eq method (codes "initialize")) as
-      (λ b. Good (cond b (initialized false s id params) early).server.work sent)
-      [ true ↦ good | false ↦ good ]
-  asks-good Down id method params = good
-
   message-good : (m : Message) → Good (does [] s m).server.work (sent_after s sent m)
   unfolding does
   message-good not_json = good
@@ -520,7 +492,9 @@ module _ (s : Serving) (sent : Sent) (good : Good s.work sent) where
   message-good reply = good
   message-good too_large = good
   message-good (notification method params) = by-good s.stage method params
-  message-good (request id method params) = asks-good s.stage id method params
+  message-good (request id method params) =
+      subst (λ w. Good w sent)
+      (sym (requests_change_nothing [] s id method params)) good
 
 all-messages : (s : Serving) (sent : Sent) → Good s.work sent → (ms : List Message)
     → Good (after_all s ms).work (sent_in_all s sent ms)

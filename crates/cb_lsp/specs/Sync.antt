@@ -12,6 +12,7 @@ use Rattle.cb_lsp.specs.declared.server.Stage.{Stage}
 use Rattle.cb_lsp.specs.declared.server.Stage.TheVariants.{Fresh, Running, Down}
 use Rattle.cb_lsp.specs.Documents.{Document, Work, document_of}
 use Rattle.cb_lsp.specs.Messages.{Message, Serving, does, fresh_server, notice_of, notification}
+use Rattle.cb_lsp.specs.Messages.{request, told_of}
 use Rattle.cb_lsp.specs.Params.{document_text, last_text, uri_in}
 
 -- the text that a client has of the document of a name, if that is open
@@ -91,3 +92,17 @@ abbrev pub DocumentsStayInSync : Type 0
 DocumentsStayInSync = (w : World) (root : Below) (rooted : Bool) (version : List ℕ)
     (ms : List Message) → let s = fresh_server w root rooted version in
     AreInSync (after_all s ms).work (sent_in_all s nothing_sent ms)
+
+-- ---- what changes no file
+
+-- what is told of a document is told of a file that is as it was
+abbrev pub WhatIsToldChangedNothing : Type 0
+WhatIsToldChangedNothing = (notice : Notice) (refusals : List Bool) (w : Work)
+    (params : Option Json) (name why : List ℕ)
+    → (told_of notice refusals w params name).told ≡ Some why
+    → (told_of notice refusals w params name).work.world ≡ w.world
+
+-- a request leaves the files and the documents as they are
+abbrev pub RequestsChangeNothing : Type 0
+RequestsChangeNothing = (refusals : List Bool) (s : Serving) (id : Json) (method : List ℕ)
+    (params : Option Json) → (does refusals s (request id method params)).server.work ≡ s.work
