@@ -7,7 +7,7 @@ use Rattle.std.specs.Str.{bytes_eq}
 use Rattle.json.specs.Json.{Json, Items, no_items, item}
 use Rattle.json.specs.Find.{get}
 use Rattle.cb_tags.specs.Names.{is_file_name}
-use Rattle.cb_wire.specs.Uris.{Below, escaped, name_below, path_of}
+use Rattle.cb_wire.specs.Uris.{escaped, name_below, path_of}
 use Rattle.cb_desk.specs.declared.refusal.Refusal.{Refusal}
 use Rattle.cb_desk.specs.Files.{load_refusal, loaded, reload_refusal, reloaded, unload_refusal}
 use Rattle.cb_desk.specs.Files.{unloaded, without_file}
@@ -20,14 +20,14 @@ use Rattle.cb_lsp.specs.declared.notice.Notice.{Notice}
 use Rattle.cb_lsp.specs.declared.notice.Notice.TheVariants.{Open, Change, Save, Close, Files}
 use Rattle.cb_lsp.specs.declared.server.Stage.{Stage}
 use Rattle.cb_lsp.specs.declared.server.Stage.TheVariants.{Fresh, Running, Down}
-use Rattle.cb_lsp.specs.Documents.{Document, Kept, Told, Work, after_change, after_close, after_open}
-use Rattle.cb_lsp.specs.Documents.{after_removal, changed, changed_to, closed, closed_to, document_of}
-use Rattle.cb_lsp.specs.Documents.{if_open, is_named, is_open, kept_from, lost, nothing, opened}
-use Rattle.cb_lsp.specs.Documents.{present, removed, saved, saved_as, text, text_step}
+use Rattle.cb_lsp.specs.Documents.{Document, Kept, Work, after_change, after_close, after_open}
+use Rattle.cb_lsp.specs.Documents.{after_removal, changed_to, closed_to, document_of}
+use Rattle.cb_lsp.specs.Documents.{if_open, is_named, is_open, kept_from, lost, nothing}
+use Rattle.cb_lsp.specs.Documents.{present, removed, saved_as, text, text_step}
 use Rattle.cb_lsp.specs.Documents.{with_document, without_document}
-use Rattle.cb_lsp.specs.Messages.{Message, Outcome, Serving, all_happened, bad_name, does}
+use Rattle.cb_lsp.specs.Messages.{Message, Serving, all_happened, bad_name, does}
 use Rattle.cb_lsp.specs.Messages.{ends_as_c, fresh_server, happened, happened_in}
-use Rattle.cb_lsp.specs.Messages.{is_opening, moved, notice_of, noticed_as, noticed_at, noticed_by}
+use Rattle.cb_lsp.specs.Messages.{is_opening, moved, notice_of, noticed_as, noticed_by}
 use Rattle.cb_lsp.specs.Messages.{noticed_if, noticed_of, noticed_on, not_json, not_request}
 use Rattle.cb_lsp.specs.Messages.{notification, opened_with, removed_at, removed_of, reply, replies}
 use Rattle.cb_lsp.specs.Messages.{request, show_of, stays, told_of, too_large}
@@ -115,9 +115,9 @@ put-distinct d (e ∷ es) apart =
       | true ↦ λ h.
           (subst (λ n. document_of es n ≡ None) (same-name e.name d.name h) apart.0, apart.1)
       | false ↦ λ h. (
-          put-other d es e.name (other-way e.name d.name h) ∙ apart.0,
-          put-distinct d es apart.1,
-        )
+        put-other d es e.name (other-way e.name d.name h) ∙ apart.0,
+        put-distinct d es apart.1,
+      )
     ]) refl
 
 gone-distinct : (name : List ℕ) (ds : List Document) → Distinct ds
@@ -129,9 +129,9 @@ gone-distinct name (e ∷ es) apart =
     → Distinct (cond b es (e ∷ without_document name es))) [
       | true ↦ λ h. apart.1
       | false ↦ λ h. (
-          gone-other name es e.name (other-way e.name name h) ∙ apart.0,
-          gone-distinct name es apart.1,
-        )
+        gone-other name es e.name (other-way e.name name h) ∙ apart.0,
+        gone-distinct name es apart.1,
+      )
     ]) refl
 
 -- the document of a name has that name

@@ -1,5 +1,5 @@
 -- What is told of a document, and requests, change no file.
-use Rattle.std.proofs.Common.{◌≡◌, refl, ap, ◌&&◌, not, ℕ, Bool, true, false, cond, List, codes}
+use Rattle.std.proofs.Common.{◌≡◌, refl, ◌&&◌, not, ℕ, Bool, true, false, cond, List, codes}
 use Rattle.std.proofs.Common.{Option, None, Some, Result, Ok, Err}
 use Rattle.std.specs.Str.{bytes_eq}
 use Rattle.json.specs.Json.{Json, null}
@@ -8,7 +8,6 @@ use Rattle.cb_wire.specs.declared.reply.ErrorCode.TheVariants.{ServerNotInitiali
 use Rattle.cb_wire.specs.Trees.{error_reply, result_reply}
 use Rattle.cb_desk.specs.declared.refusal.Refusal.{Refusal}
 use Rattle.cb_desk.specs.World.{World}
-use Rattle.cb_lsp.specs.declared.notice.Notice.{Notice}
 use Rattle.cb_lsp.specs.declared.notice.Notice.TheVariants.{Open, Change, Save, Close, Files}
 use Rattle.cb_lsp.specs.declared.server.Stage.{Stage}
 use Rattle.cb_lsp.specs.declared.server.Stage.TheVariants.{Fresh, Running, Down}
@@ -16,8 +15,8 @@ use Rattle.cb_lsp.specs.Documents.{Document, Kept, Told, Work, after_change, aft
 use Rattle.cb_lsp.specs.Documents.{changed_to, closed_to, document_of, first_refusal, if_open}
 use Rattle.cb_lsp.specs.Documents.{is_open, later_refusals, nothing, opened_if, present, saved_as}
 use Rattle.cb_lsp.specs.Documents.{taken, text, text_step}
-use Rattle.cb_lsp.specs.Messages.{Outcome, Serving, asked_reply, does, initialized, opened_with}
-use Rattle.cb_lsp.specs.Messages.{replies, request, requested, running}
+use Rattle.cb_lsp.specs.Messages.{Serving, asked_reply, does, initialized, opened_with}
+use Rattle.cb_lsp.specs.Messages.{replies, requested, running}
 use Rattle.cb_lsp.specs.Params.{document_text, last_text}
 use Rattle.cb_lsp.specs.Questions.{asked_by}
 use Rattle.cb_lsp.specs.Sync.{RequestsChangeNothing, WhatIsToldChangedNothing}

@@ -1,3 +1,4 @@
+pub mod Editors
 pub mod Narrowing
 mod Process
 pub mod Working

@@ -1,6 +1,6 @@
 -- Loads by a profile that seeks only what a job reads lead to where those by all facts lead, and
 -- the job gives the same there.
-use Rattle.std.proofs.Common.{◌≡◌, ◌∙◌, ℕ, ◌+◌, Bool, true, false, List, [], ◌∷◌, length, map, Option}
+use Rattle.std.proofs.Common.{◌≡◌, ◌∙◌, ℕ, ◌+◌, Bool, true, false, List, [], ◌∷◌, length, map}
 use Rattle.std.proofs.Common.{Some, None, Result, Ok, Err, IsOk, refl, ap, sym, subst, string_bytes}
 use Rattle.std.proofs.lemmas.List.{length-map}
 use Rattle.std.specs.Prelude.{nat_le, cond}
@@ -8,11 +8,11 @@ use Rattle.std.specs.List.{flat_map}
 use Rattle.cb_scan.specs.declared.profile.Profile.{Profile}
 use Rattle.cb_scan.specs.declared.profile.Rules.{Rules}
 use Rattle.cb_scan.specs.Profiles.{all_by}
-use Rattle.cb_desk.specs.Answer.{AnswerRow, answer, distinct, field_rows}
+use Rattle.cb_desk.specs.Answer.{answer, distinct, field_rows}
 use Rattle.cb_desk.specs.Files.{load_refusal, loaded}
 use Rattle.cb_desk.specs.Step.{load, step, unless_refused}
-use Rattle.cb_desk.specs.Tags.{file_tags, tags}
-use Rattle.cb_desk.specs.Timeline.{Timeline, advanced, changed, moved_on, new_timeline}
+use Rattle.cb_desk.specs.Tags.{tags}
+use Rattle.cb_desk.specs.Timeline.{Timeline, advanced, changed, moved_on}
 use Rattle.cb_desk.specs.World.{File, World, WorldBounds}
 use Rattle.cb_desk.specs.declared.refusal.Refusal.{Refusal}
 use Rattle.cb_desk.specs.declared.refusal.Refusal.TheVariants.{HistoryFull}

@@ -156,7 +156,7 @@ over_both job b lines limit t feed feed' out out' end same all most writes by do
     )
 
 -- a job that is done has run
-HasRun : Finish → Type 0
+abbrev HasRun : Finish → Type 0
 HasRun (Ran ended) = Unit {0}
 HasRun (Served end) = Unit {0}
 HasRun (Unreadable place) = ⊥

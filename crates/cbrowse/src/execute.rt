@@ -151,7 +151,7 @@ fn serve_editor<R: BufRead, W: Write>(
     out: &mut Sink<W>,
 ) -> Result<Ending, RunFault>
     requires { 1 ≤ session.timeline.present.bounds.history }
-    ensures { RunsServer (option_map (λ folder. folder.now) root) session.timeline.present
+    ensures { RunsServer (option_map (λ folder. folder.now) root.entry) session.timeline.present
         feed.old feed.new out.old out.new result }
 {
     let mut server = match server_of(alloc, root, session.into_desk()) {
@@ -168,7 +168,7 @@ fn serve_editor<R: BufRead, W: Write>(
 fn server_of(alloc: Global, root: Option<&str>, desk: Desk) -> Result<Server, AllocError>
     requires { 1 ≤ desk.timeline.present.bounds.history }
     ensures { IfOk result (λ server.
-        server ≡ server_of (option_map (λ folder. folder.now) root) desk.timeline.present) }
+        server ≡ server_of (option_map (λ folder. folder.now) root.entry) desk.timeline.present) }
 {
     let folder = Root::of_folder(alloc, root.unwrap_or("").as_bytes())?;
     Ok(Server::new(alloc, desk, folder, root.is_some(), VERSION))

@@ -1,4 +1,5 @@
 use Rattle.std.proofs.Common.{inl, inr, refl}
+use Rattle.cbrowse.proofs.Editors.{ready}
 use Rattle.cbrowse.proofs.execute.execute.Goals as goal
 
 pub returns-in-Ok : goal.returns-in-Ok
@@ -23,3 +24,6 @@ returns-in-Err g c =
       c.refuse.ensures.status,
       c.refuse.ensures.said,
     )
+
+pub work_listed-end-requires : goal.work_listed-end-requires
+work_listed-end-requires g c = ready _ c.in-Ok.job c.in-Ok.ensures

@@ -1,5 +1,6 @@
 use Rattle.std.proofs.Common.{◌∙◌, inr, refl, Ok, Some, None}
 use Rattle.cbrowse.proofs.Working.{by_needed, from_loads, into_file, reaches, stopped}
+use Rattle.cbrowse.proofs.Working.{within_bounds}
 use Rattle.cbrowse.proofs.execute.work.Goals as goal
 
 pub returns-in-Err-prepare : goal.returns-in-Err-prepare
@@ -28,3 +29,11 @@ returns-in-None g c =
     from_loads _ _ _ _ _ _ _ _ _ _ _ _ c.bounds_of-bounds.ensures c.needed_of.ensures
     (c.in-Ok.ensures ∙ c.files_of.ensures) c.in-Ok-prepare.ensures c.limits-limits.ensures.lines
     c.limits-limits.ensures.line c.in-None.ensures c.run_job.ensures
+
+pub run_job_into-end-requires-clause-bounds : goal.run_job_into-end-requires-clause-bounds
+run_job_into-end-requires-clause-bounds g c =
+    within_bounds c.args.job.now _ _ _ _ c.bounds_of-bounds.ensures c.in-Ok-prepare.ensures
+
+pub run_job-requires-clause-bounds : goal.run_job-requires-clause-bounds
+run_job-requires-clause-bounds g c =
+    within_bounds c.args.job.now _ _ _ _ c.bounds_of-bounds.ensures c.in-Ok-prepare.ensures
