@@ -7,9 +7,9 @@
 top how they are written, and some that are made here, have files, words, messages, and what
 standard output, standard error and the status are. Each row is run with its input whole and in
 pieces that the program reads one by one: of 1 byte and of 7 bytes, of a large input longer ones.
-Then come devices: input that ends and input that fails after each byte of a short session, a bound
-on the size of the output at each byte, a full device, and a client that goes away while a reply is
-written. The exit status is 1 where a check failed.
+Then come a client that waits for each reply, and devices: input that ends and input that fails
+after each byte of a short session, a bound on the size of the output at each byte, a full device,
+and a client that goes away while a reply is written. The exit status is 1 where a check failed.
 """
 
 from __future__ import annotations
@@ -21,6 +21,7 @@ import os
 import pathlib
 import re
 import resource
+import select
 import subprocess
 import sys
 import tempfile
@@ -393,6 +394,26 @@ class Checks:
             what = f"{row.name}, in pieces of {piece}" if piece else row.name
             self.expect(what, (status, out, said), (row.status, row.out, row.said))
 
+    def waits(self, row: Row) -> None:
+        """A client that sends a message after it read what the ones before made."""
+        pipes = {it: subprocess.PIPE for it in ("stdin", "stdout", "stderr")}
+        run = self.start(row, folder=self.place(row), bufsize=0, **pipes)
+        for number, (sent, written) in enumerate(row.turns):
+            run.stdin.write(sent)
+            got = b""
+            while len(got) < len(written):
+                is_ready, _, _ = select.select([run.stdout], [], [], PATIENCE)
+                more = run.stdout.read(len(written) - len(got)) if is_ready else b""
+                if not more:
+                    break
+                got += more
+            self.expect(f"a client that waits, message {number}", (got,), (written,))
+        # it ends by itself, while the client still listens
+        left, said = run.stdout.read(), run.stderr.read()
+        self.expect("its end", (run.wait(PATIENCE), left, said), (row.status, b"", row.said))
+        for file in (run.stdin, run.stdout, run.stderr):
+            file.close()
+
     def ends(self, row: Row) -> None:
         """Input that ends after each byte."""
         folder, size, out = self.place(row), 0, b""
@@ -482,7 +503,7 @@ def main() -> int:
             checks.row(row)
         short = row_of(SHORT.split("\n"))
         checks.row(short)
-        for check in (checks.ends, checks.fails, checks.bounds):
+        for check in (checks.waits, checks.ends, checks.fails, checks.bounds):
             check(short)
         checks.goes_away(made[0])
     print(f"sessions of editors: {checks.runs - checks.failed} passed, {checks.failed} failed")
