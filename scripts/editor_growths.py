@@ -4,8 +4,8 @@ A message whose growth is refused is told by a log, by an error as its reply, or
 for its document. After a log, an error and a show of the URI all goes on as if the message had not
 been sent. After a show of the file's name it goes on as if the text had been too large, and of a
 document that was closed, as if it had been saved before; one that was opened may not be open then
-either. So runs in which nothing is refused give each outcome that may be. At the start the program
-says that memory was refused, and ends.
+either, and a file that was deleted stays. So runs in which nothing is refused give each outcome
+that may be. At the start the program says that memory was refused, and ends.
 """
 
 from __future__ import annotations
@@ -62,6 +62,11 @@ def closed(name: str) -> Step:
     return Step(instead[-1], instead)
 
 
+def gone(name: str) -> Step:
+    changes = [{"uri": uri_of(name), "type": 3}]
+    return Step({"method": "workspace/didChangeWatchedFiles", "params": {"changes": changes}})
+
+
 def asked(number: int, method: str, name: str, line: int, column: int) -> Step:
     place = {"line": line, "character": column} if method in OTHERS else None
     return Step({"id": number, **document(method, name, position=place)})
@@ -92,6 +97,9 @@ def session() -> list[Step]:
         asked(8, "documentSymbol", "a.c", 0, 0),
         closed("new.c"),
         asked(9, "documentSymbol", "new.c", 0, 0),
+        gone("b.h"),
+        opened("a.c", "int m(void) {\n}\n"),
+        opened("a.c", "int n(void) {\n}\n"),
         Step({"id": 10, "method": "workspace/symbol", "params": {"query": ""}}),
         Step({"id": 11, "method": "shutdown"}),
         Step({"method": "exit"}),
@@ -106,6 +114,13 @@ def frame(message: dict) -> bytes:
 def told_by(method: str, kind: int, text: str) -> bytes:
     params = {"type": kind, "message": f"cbrowse: {text}out of memory"}
     return frame({"method": f"window/{method}", "params": params})
+
+
+def told_uri(message: dict) -> str:
+    """The URI of the file that a notification is about; nothing of other messages."""
+    params = message.get("params", {})
+    about = params.get("textDocument") or params.get("changes", [{}])[0]
+    return "" if "id" in message else about.get("uri", "")
 
 
 def error_to(number) -> bytes:
@@ -162,11 +177,11 @@ class Editing:
             tells = [told_by("logMessage", 1, "")]
             if "id" in step.message:
                 tells.append(error_to(step.message["id"]))
-            uri = step.message.get("params", {}).get("textDocument", {}).get("uri", "")
+            uri = told_uri(step.message)
             name = uri.split("/")[-1]
-            if uri and "id" not in step.message:
+            if uri:
                 tells.append(told_by("showMessage", 2, uri + ": "))
-            if step.message["method"].endswith("didOpen"):
+            if step.message["method"].endswith(("didOpen", "didChangeWatchedFiles")):
                 tells.append(told_by("showMessage", 2, name + ": "))
             for tell in tells:
                 found[status, out + tell + rest] = f"message {number}"
